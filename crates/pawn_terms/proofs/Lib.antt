@@ -1,0 +1,4 @@
+pub mod CalendarLemmas
+pub mod SixMonths
+pub mod TextLemmas
+pub mod RefusalLemmas

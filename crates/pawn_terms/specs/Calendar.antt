@@ -1,0 +1,91 @@
+-- The calendar: a day is a number, and its year, month and day are found by turning pages from 2000-01-01.
+use Rattle.std.specs.Prelude.{ℕ, zero, suc, ◌+◌, ◌-◌, ◌≤◌, ◌<◌, ◌/◌, ◌%◌, nat_lt, nat_le, min, max, pos, if◌then◌else◌, List, [], ◌∷◌, Option, Some, None, unsigned_abs}
+use Rattle.std.specs.Int.{IsInRange}
+use Rattle.jiff_core.specs.Calendar.{days_in_month, days_from_civil}
+
+-- a day as a calendar names it
+pub record Civil : Type 0 where
+  pub year : ℕ
+  pub month : ℕ
+  pub day : ℕ
+
+-- the days of a month, by the Gregorian rule
+abbrev pub month_length : ℕ → ℕ → ℕ
+month_length y m = days_in_month (pos y) m
+
+-- the next page
+abbrev pub next_day : Civil → Civil
+next_day c =
+    if nat_lt c.day (month_length c.year c.month) then record { year = c.year; month = c.month; day = c.day + 1 }
+    else if nat_lt c.month 12 then record { year = c.year; month = c.month + 1; day = 1 }
+    else record { year = c.year + 1; month = 1; day = 1 }
+
+-- the day so many days after 2000-01-01
+unfoldable pub civil_after : ℕ → Civil
+civil_after zero = record { year = 2000; month = 1; day = 1 }
+civil_after (suc n) = next_day (civil_after n)
+
+-- the number of 2000-01-01, of 2199-12-31 and of 2299-12-31, counted from 1970-01-01
+abbrev pub first_day : ℕ
+first_day = 10957
+
+abbrev pub last_stamp_day : ℕ
+last_stamp_day = 84005
+
+abbrev pub final_day : ℕ
+final_day = 120529
+
+-- a number that is a day's
+abbrev pub IsDayNumber : ℕ → Type 0
+IsDayNumber n = (first_day ≤ n) × (n ≤ final_day)
+
+-- the year, month and day of a day number
+abbrev pub civil_of : ℕ → Civil
+civil_of n = civil_after (n - first_day)
+
+-- the same day six months later, or that month's last day where it is shorter
+abbrev pub six_months_later : Civil → Civil
+six_months_later c =
+    if nat_le c.month 6
+    then record { year = c.year; month = c.month + 6; day = min c.day (month_length c.year (c.month + 6)) }
+    else record { year = c.year + 1; month = c.month - 6; day = min c.day (month_length (c.year + 1) (c.month - 6)) }
+
+-- the number of a day, counted from 1970-01-01 by the library's calendar
+abbrev pub day_number : Civil → ℕ
+day_number c = unsigned_abs (days_from_civil (pos c.year) c.month c.day)
+
+-- the day number six calendar months later
+abbrev pub six_months : ℕ → ℕ
+six_months n = day_number (six_months_later (civil_of n))
+
+-- the later of six months after the day taken and the agreed end
+abbrev pub period_end : ℕ → Option ℕ → ℕ
+period_end taken None = six_months taken
+period_end taken (Some agreed) = max (six_months taken) agreed
+
+-- the calendar has the day, and a request may name it
+abbrev pub IsStampCivil : Civil → Type 0
+IsStampCivil c =
+    IsInRange 2000 2199 c.year × IsInRange 1 12 c.month × IsInRange 1 (month_length c.year c.month) c.day
+
+-- a day's number that a request may name
+abbrev pub IsStampDay : ℕ → Type 0
+IsStampDay n = (first_day ≤ n) × (n ≤ last_stamp_day)
+
+-- the character of the last digit of a number
+abbrev pub digit : ℕ → ℕ
+digit n = 48 + n % 10
+
+-- four digits are enough for the year, and two for the month and the day
+abbrev pub IsWritable : Civil → Type 0
+IsWritable c = (c.year < 10000) × (c.month < 100) × (c.day < 100)
+
+-- `2024-01-31`
+abbrev pub civil_text : Civil → List ℕ
+civil_text c =
+    digit (c.year / 1000) ∷ digit (c.year / 100) ∷ digit (c.year / 10) ∷ digit c.year ∷ 45
+    ∷ digit (c.month / 10) ∷ digit c.month ∷ 45 ∷ digit (c.day / 10) ∷ digit c.day ∷ []
+
+-- the text of a day number
+abbrev pub day_text : ℕ → List ℕ
+day_text n = civil_text (civil_of n)

@@ -1,0 +1,4 @@
+pub mod Calendar
+pub mod Refusals
+pub mod Terms
+pub mod TermsFault

@@ -1,0 +1,12 @@
+-- Refusals in order.
+use Rattle.std.specs.Prelude.{◌≡◌, Bool, false, if◌then◌else◌, List, [], ◌∷◌, Result, Err}
+
+-- the first refusal whose condition holds, or else the answer
+abbrev pub first_of : {V E : Type 0} → List (Bool × E) → Result V E → Result V E
+first_of [] answer = answer
+first_of (row ∷ rows) answer = if row.0 then Err row.1 else first_of rows answer
+
+-- no condition of the list holds
+abbrev pub NoneApplies : {E : Type 0} → List (Bool × E) → Type 0
+NoneApplies [] = Unit {0}
+NoneApplies (row ∷ rows) = (row.0 ≡ false) × NoneApplies rows

@@ -1,0 +1,52 @@
+ghost use Rattle.std.specs.Prelude.{◌≡◌, ◌↔◌, ℕ, IsOk, IfOk};
+ghost use Rattle.pawn_terms.specs.Calendar.{IsStampDay, day_text};
+
+use crate::day::{BadDay, Day};
+use std::marker::Model;
+
+/// A day that a request, a stamp or a record may name, from 2000-01-01 to 2199-12-31. A clause sees
+/// its number, counted from 1970-01-01.
+#[derive(Clone, Copy, Debug, PartialEq, Eq, PartialOrd, Ord, Hash)]
+pub struct RequestDay {
+    day: Day,
+}
+
+impl Model for RequestDay {
+    ghost Value = { ℕ };
+
+    ghost view = { λ d. d.day };
+
+    ghost invariant = { λ d. IsStampDay d.day };
+
+    ghost inverse = { λ n. record { day = n } };
+}
+
+impl RequestDay {
+    /// The same day, where it is not past 2199-12-31.
+    pub fn of_day(day: Day) -> Result<RequestDay, BadDay>
+        ensures ok { IfOk result (λ d. d ≡ day) }
+        ensures succeeds { IsOk result ↔ IsStampDay day }
+    {
+        if day.count() > 84005 {
+            return Err(BadDay);
+        }
+        Ok(RequestDay { day })
+    }
+
+    /// The day of a text `2024-01-31`, of exactly this form.
+    pub fn of_text(text: &[u8]) -> Result<RequestDay, BadDay>
+        ensures ok { IfOk result (λ d. text.now ≡ day_text d) }
+        ensures succeeds { IsOk result ↔ ((n : ℕ) × IsStampDay n × (text.now ≡ day_text n)) }
+    {
+        let day = Day::of_text(text)?;
+        Ok(RequestDay { day })
+    }
+
+    /// The same day among all days.
+    pub fn day(self) -> Day
+        ensures value { result ≡ self }
+        ensures in_range { IsStampDay self }
+    {
+        self.day
+    }
+}
