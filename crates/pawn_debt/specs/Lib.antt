@@ -1,0 +1,6 @@
+pub mod Due
+pub mod Owing
+pub mod DebtFault
+pub mod Answers
+pub mod Kept
+pub mod Replay

@@ -1,0 +1,16 @@
+-- What is owed, in whole pence.
+use Rattle.std.specs.Prelude.{ℕ, ◌+◌, ◌/◌}
+use Rattle.pawn_debt.specs.declared.owing.Owing.{Owing}
+use Rattle.pawn_debt.specs.Due.{Due, penny}
+
+-- charges are rounded down to whole pence
+abbrev pub whole_pence : ℕ → ℕ
+whole_pence charges = charges / penny
+
+-- principal and charges together
+abbrev pub total_of : Due → ℕ
+total_of owed = owed.principal + whole_pence owed.charges
+
+-- what is owed, as a caller is told
+abbrev pub owing_of : Due → Owing
+owing_of owed = record { principal = owed.principal; charges = whole_pence owed.charges; total = total_of owed }

@@ -1,0 +1,29 @@
+-- Entries that the rules accept in turn.
+use Rattle.std.specs.Prelude.{ℕ, ◌+◌, ◌==◌, if◌then◌else◌, List, [], ◌∷◌, ◌++◌, length, Result, Err, IsOk, ◌≤◌}
+use Rattle.pawn_debt.specs.declared.entry.Entry.{Entry}
+use Rattle.pawn_debt.specs.declared.entry.Sort.{Sort}
+use Rattle.pawn_debt.specs.declared.entry.Sort.TheVariants.{Draw, Repay}
+use Rattle.pawn_debt.specs.declared.fault.DebtFault.{DebtFault}
+use Rattle.pawn_debt.specs.declared.fault.DebtFault.TheVariants.{BadAmount}
+use Rattle.pawn_debt.specs.Due.{DebtValue, credit_of}
+use Rattle.pawn_debt.specs.Answers.{draw_answer, repay_answer, most_pence}
+
+-- what the rules answer to a drawing or a repayment
+abbrev pub sort_answer : Sort → DebtValue → ℕ → ℕ → Result DebtValue DebtFault
+sort_answer Draw p day pence = draw_answer p day pence
+sort_answer Repay p day pence = repay_answer p day pence
+
+-- what the rules answer to an entry that comes with its number
+abbrev pub entry_answer : DebtValue → Entry → Result DebtValue DebtFault
+entry_answer p e =
+    if e.seq == length p.entries + 1 then sort_answer e.sort p e.day e.pence else Err BadAmount
+
+-- the rules accept each entry in turn, after those before it
+abbrev pub AreAccepted : DebtValue → List Entry → List Entry → Type 0
+AreAccepted debt prior [] = Unit {0}
+AreAccepted debt prior (e ∷ es) =
+    IsOk (entry_answer (record debt { entries = prior }) e) × AreAccepted debt (prior ++ e ∷ []) es
+
+-- a debt that can have come about
+abbrev pub CanStand : DebtValue → Type 0
+CanStand p = (1 ≤ credit_of p.kind) × (credit_of p.kind ≤ most_pence) × AreAccepted p [] p.entries

@@ -1,0 +1,318 @@
+ghost use Rattle.std.specs.Prelude.{find, ◌==◌, ◌≡◌, ◌-◌, ◌*◌, ◌≤◌, ◌<◌, length, OnOk, OnErr, IfOk, IfErr};
+ghost use Rattle.pawn_terms.specs.Calendar.{IsDayNumber};
+ghost use Rattle.pawn_debt.specs.Due.{due, last_of, credit_of, after_sort};
+ghost use Rattle.pawn_debt.specs.Owing.{owing_of};
+ghost use Rattle.pawn_debt.specs.Answers.{most_pence, most_entries, start_answer, draw_answer, repay_answer, with_entry, IsAnswer};
+ghost use Rattle.pawn_debt.specs.Kept.{IsKept, owed_of, totals_of, most_a_day, most_charges};
+ghost use Rattle.pawn_debt.specs.Replay.{CanStand};
+
+use crate::entry::{Entries, Entry, Kind, Sort};
+use crate::fault::DebtFault;
+use crate::owing::{Owing, Totals, after_draw, after_repay, carry, owing_after};
+use crate::replay::replay_entries;
+use pawn_terms::{Day, Terms};
+use std::alloc::{AllocError, Global};
+use std::marker::Model;
+
+pub(crate) const MOST_PENCE: u64 = 100_000_000;
+
+pub(crate) const MOST_ENTRIES: usize = 9_999;
+
+/// What is owed on a pledge, by its entries.
+#[derive(Drop)]
+pub struct Debt {
+    kind: Kind,
+    terms: Terms,
+    taken: Day,
+    ends: Day,
+    entries: Entries,
+    totals: Totals,
+}
+
+impl Model for Debt {
+    ghost use Rattle.pawn_debt.specs.Due.{DebtValue};
+    ghost use Rattle.pawn_debt.specs.Kept.{IsKept};
+
+    ghost Value = { DebtValue };
+
+    ghost view = { λ a. record { kind = a.kind; terms = a.terms; taken = a.taken; ends = a.ends; entries = a.entries } };
+
+    ghost invariant = { λ a. IsKept (record { kind = a.kind; terms = a.terms; taken = a.taken; ends = a.ends; entries = a.entries }) a.totals };
+}
+
+impl Debt {
+    /// A debt with no entries.
+    pub fn start(
+        alloc: Global,
+        kind: Kind,
+        terms: Terms,
+        taken: Day,
+        ends: Day,
+    ) -> Result<Debt, DebtFault>
+        ensures { result ≡ start_answer kind terms taken ends }
+    {
+        if kind.credit() == 0 || kind.credit() > MOST_PENCE {
+            return Err(DebtFault::BadAmount);
+        }
+        let _ = taken.count();
+        Ok(Debt {
+            kind,
+            terms,
+            taken,
+            ends,
+            entries: Entries::new(alloc),
+            totals: Totals {
+                day: taken,
+                principal: kind.first_principal(),
+                charges: 0,
+            },
+        })
+    }
+
+    /// A debt of its entries and what is owed after them.
+    pub fn with_totals(
+        kind: Kind,
+        terms: Terms,
+        taken: Day,
+        ends: Day,
+        entries: Entries,
+        totals: Totals,
+    ) -> Debt
+        requires { IsKept (record { kind = kind; terms = terms; taken = taken; ends = ends; entries = entries }) totals }
+        ensures { result ≡ record { kind = kind; terms = terms; taken = taken; ends = ends; entries = entries } }
+    {
+        Debt {
+            kind,
+            terms,
+            taken,
+            ends,
+            entries,
+            totals,
+        }
+    }
+
+    /// A debt of its entries, or they are handed back where the rules don't accept them in turn.
+    pub fn of_entries(
+        kind: Kind,
+        terms: Terms,
+        taken: Day,
+        ends: Day,
+        entries: Entries,
+    ) -> Result<Debt, Entries>
+        ensures ok { IfOk result (λ d. (d ≡ record { kind = kind; terms = terms; taken = taken; ends = ends; entries = entries }) × CanStand d) }
+        ensures err { IfErr result (λ e. e ≡ entries) }
+        ensures refused { OnErr result (CanStand (record { kind = kind; terms = terms; taken = taken; ends = ends; entries = entries }) → ⊥) }
+    {
+        if kind.credit() == 0 || kind.credit() > MOST_PENCE {
+            return Err(entries);
+        }
+        match replay_entries(kind, terms, taken, ends, entries.as_slice()) {
+            Some(totals) => Ok(Debt {
+                kind,
+                terms,
+                taken,
+                ends,
+                entries,
+                totals,
+            }),
+            None => Err(entries),
+        }
+    }
+
+    // What is owed on a day from the last entry's on.
+    fn owed_on(&self, day: Day) -> Totals
+        requires { last_of self.now.taken self.now.entries ≤ day }
+        ensures day { result.day ≡ day }
+        ensures owed { owed_of result ≡ due self.now day }
+        ensures principal_in { result.principal ≤ most_pence }
+        ensures charges_in { result.charges ≤ (day - self.now.taken) * most_a_day }
+        ensures in_range { IsDayNumber day }
+    {
+        carry(&self.totals, self.terms, self.ends, day)
+    }
+
+    /// What is owed on a day that is not before the last entry or the day taken.
+    pub fn owing(&self, day: Day) -> Owing
+        requires { last_of self.now.taken self.now.entries ≤ day }
+        ensures { result ≡ owing_of (due self.now day) }
+    {
+        owing_after(&self.owed_on(day))
+    }
+
+    /// The two numbers on the later of the day taken and the last entry's day.
+    pub fn totals(&self) -> Totals
+        ensures value { result ≡ totals_of self.now }
+        ensures principal_in { result.principal ≤ most_pence }
+        ensures charges_in { result.charges ≤ most_charges }
+    {
+        self.totals
+    }
+
+    /// A drawing on a running account.
+    pub fn draw(&mut self, day: Day, pence: u64) -> Result<(), DebtFault>
+        ensures answer { IsAnswer DebtFault.Memory (draw_answer self.old day pence) self.old result self.new }
+        ensures entered { OnOk result (self.new ≡ with_entry self.old day Sort.Draw pence) }
+        ensures last { OnOk result (last_of self.new.taken self.new.entries ≡ day) }
+    {
+        if day < self.last() {
+            return Err(DebtFault::EarlierDay);
+        }
+        let Kind::Running(limit) = self.kind() else {
+            return Err(DebtFault::FixedSum);
+        };
+        if pence == 0 || pence > MOST_PENCE {
+            return Err(DebtFault::BadAmount);
+        }
+        if self.count() >= MOST_ENTRIES {
+            return Err(DebtFault::EntriesFull);
+        }
+        let owed = self.owed_on(day);
+        if owed.principal + pence > limit {
+            return Err(DebtFault::OverLimit);
+        }
+        let after = after_draw(owed, pence);
+        self.enter(Sort::Draw, pence, after)
+    }
+
+    /// A repayment: whole pence of charges first, then principal.
+    pub fn repay(&mut self, day: Day, pence: u64) -> Result<(), DebtFault>
+        ensures answer { IsAnswer DebtFault.Memory (repay_answer self.old day pence) self.old result self.new }
+        ensures entered { OnOk result (self.new ≡ with_entry self.old day Sort.Repay pence) }
+        ensures last { OnOk result (last_of self.new.taken self.new.entries ≡ day) }
+    {
+        if day < self.last() {
+            return Err(DebtFault::EarlierDay);
+        }
+        if pence == 0 || pence > MOST_PENCE {
+            return Err(DebtFault::BadAmount);
+        }
+        if self.count() >= MOST_ENTRIES {
+            return Err(DebtFault::EntriesFull);
+        }
+        let owed = self.owed_on(day);
+        let total = owing_after(&owed).total;
+        if pence > total {
+            return Err(DebtFault::OverOwing { total });
+        }
+        let after = after_repay(owed, pence);
+        self.enter(Sort::Repay, pence, after)
+    }
+
+    /// The same debt again.
+    pub fn copy(&self) -> Result<Debt, AllocError>
+        ensures { IfOk result (λ d. d ≡ self.now) }
+    {
+        let entries = self.entries.copy()?;
+        Ok(Debt {
+            kind: self.kind,
+            terms: self.terms,
+            taken: self.taken,
+            ends: self.ends,
+            entries,
+            totals: self.totals,
+        })
+    }
+
+    /// A longer period, agreed before the old one has ended or an entry came after it.
+    pub fn extend(&mut self, ends: Day)
+        requires later { self.old.ends ≤ ends }
+        requires inside { last_of self.old.taken self.old.entries ≤ self.old.ends }
+        ensures { self.new ≡ record self.old { ends = ends } }
+    {
+        self.ends = ends;
+    }
+
+    /// The day of the last entry, or else the day taken.
+    pub fn last(&self) -> Day
+        ensures { result ≡ last_of self.now.taken self.now.entries }
+    {
+        self.totals.day
+    }
+
+    /// The credit.
+    pub fn kind(&self) -> Kind
+        ensures value { result ≡ self.now.kind }
+        ensures small { credit_of result ≤ most_pence }
+    {
+        self.kind
+    }
+
+    /// The terms of the agreement.
+    pub fn terms(&self) -> Terms
+        ensures { result ≡ self.now.terms }
+    {
+        self.terms
+    }
+
+    /// The entries, in order.
+    pub fn entries(&self) -> &[Entry]
+        ensures { result.now ≡ self.now.entries }
+    {
+        self.entries.as_slice()
+    }
+
+    /// The entries again, in order.
+    pub fn copy_entries(&self) -> Result<Entries, AllocError>
+        ensures { IfOk result (λ e. e ≡ self.now.entries) }
+    {
+        self.entries.copy()
+    }
+
+    /// The entry of a number.
+    pub fn entry(&self, seq: u64) -> Option<Entry>
+        ensures { result ≡ find (λ e. e.seq == seq) self.now.entries }
+    {
+        self.entries.find(seq)
+    }
+
+    /// The day taken.
+    pub fn taken(&self) -> Day
+        ensures value { result ≡ self.now.taken }
+        ensures before { result ≤ last_of result self.now.entries }
+    {
+        self.taken
+    }
+
+    /// The end of the period.
+    pub fn ends(&self) -> Day
+        ensures { result ≡ self.now.ends }
+    {
+        self.ends
+    }
+
+    /// How many entries there are.
+    pub fn count(&self) -> usize
+        ensures value { result ≡ length self.now.entries }
+        ensures few { result ≤ most_entries }
+    {
+        self.entries.len()
+    }
+
+    // One more entry, with what is owed after it.
+    fn enter(&mut self, sort: Sort, pence: u64, after: Totals) -> Result<(), DebtFault>
+        requires later { last_of self.old.taken self.old.entries ≤ after.day }
+        requires few { length self.old.entries < most_entries }
+        requires owed { owed_of after ≡ after_sort sort pence (due self.old after.day) }
+        requires principal_in { after.principal ≤ most_pence }
+        requires charges_in { after.charges ≤ (after.day - self.old.taken) * most_a_day }
+        requires in_range { IsDayNumber after.day }
+        ensures ok { OnOk result (self.new ≡ with_entry self.old after.day sort pence) }
+        ensures last { OnOk result (last_of self.new.taken self.new.entries ≡ after.day) }
+        ensures err { IfErr result (λ e. e ≡ DebtFault.Memory) }
+        ensures unchanged { OnErr result (self.new ≡ self.old) }
+    {
+        let entry = Entry {
+            seq: self.entries.len() as u64 + 1,
+            day: after.day,
+            sort,
+            pence,
+        };
+        match self.entries.push(entry) {
+            Ok(()) => {
+                self.totals = after;
+                Ok(())
+            }
+            Err(_) => Err(DebtFault::Memory),
+        }
+    }
+}

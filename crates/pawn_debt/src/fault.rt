@@ -1,0 +1,80 @@
+ghost use Rattle.std.specs.Prelude.{◌≡◌};
+
+use std::error::Error;
+use std::fmt;
+
+/// Why a call on a debt is refused.
+#[derive(Clone, Copy, Debug, PartialEq, Eq, Hash)]
+pub enum DebtFault {
+    /// A sum of 0, or above 100,000,000 pence.
+    BadAmount,
+    /// A drawing on a fixed sum.
+    FixedSum,
+    /// A drawing that takes the principal above the limit.
+    OverLimit,
+    /// A repayment of more than is owing, with what is owing.
+    OverOwing { total: u64 },
+    /// A day before the last entry's, or before the day taken.
+    EarlierDay,
+    /// As many entries stand as a debt may have.
+    EntriesFull,
+    /// A growth was refused.
+    Memory,
+}
+
+impl DebtFault {
+    ghost use Rattle.pawn_debt.specs.DebtFault.{code_of, name_of, fault_total};
+
+    /// The number of the fault, as replies carry it.
+    pub fn code(self) -> u16
+        ensures { result ≡ code_of self }
+    {
+        match self {
+            DebtFault::BadAmount => 201,
+            DebtFault::FixedSum => 202,
+            DebtFault::OverLimit => 203,
+            DebtFault::OverOwing { .. } => 204,
+            DebtFault::EarlierDay => 205,
+            DebtFault::EntriesFull => 206,
+            DebtFault::Memory => 491,
+        }
+    }
+
+    /// The name of the fault, as replies carry it.
+    pub fn name(self) -> &'static str
+        ensures { result.now ≡ name_of self }
+    {
+        match self {
+            DebtFault::BadAmount => "BadAmount",
+            DebtFault::FixedSum => "FixedSum",
+            DebtFault::OverLimit => "OverLimit",
+            DebtFault::OverOwing { .. } => "OverOwing",
+            DebtFault::EarlierDay => "EarlierDay",
+            DebtFault::EntriesFull => "EntriesFull",
+            DebtFault::Memory => "Memory",
+        }
+    }
+
+    /// What was owing, in pence, where more was paid.
+    pub fn total(self) -> Option<u64>
+        ensures { result ≡ fault_total self }
+    {
+        match self {
+            DebtFault::OverOwing { total } => Some(total),
+            DebtFault::BadAmount
+            | DebtFault::FixedSum
+            | DebtFault::OverLimit
+            | DebtFault::EarlierDay
+            | DebtFault::EntriesFull
+            | DebtFault::Memory => None,
+        }
+    }
+}
+
+impl fmt::Display for DebtFault {
+    fn fmt<W: fmt::Write>(&self, f: &mut fmt::Formatter<W>) -> fmt::Result {
+        f.write_str(self.name())
+    }
+}
+
+impl Error for DebtFault {}

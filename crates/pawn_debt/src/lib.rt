@@ -1,0 +1,18 @@
+//! What is owed on a pledge.
+#![tactic(auto)]
+
+mod debt;
+mod entry;
+mod fault;
+mod owing;
+mod replay;
+
+pub use debt::Debt;
+pub use entry::{Entries, Entry, Kind, Sort};
+pub use fault::DebtFault;
+pub use owing::{Owing, Totals, owing_from};
+pub use pawn_terms::{Day, Terms};
+pub use replay::{owing_at, replay_entries};
+
+#[cfg(test)]
+mod tests;

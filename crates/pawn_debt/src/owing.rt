@@ -1,0 +1,106 @@
+ghost use Rattle.std.specs.Prelude.{◌≡◌, ◌+◌, ◌-◌, ◌*◌, ◌≤◌};
+ghost use Rattle.pawn_terms.specs.Calendar.{IsDayNumber};
+ghost use Rattle.pawn_debt.specs.declared.entry.Sort.TheVariants.{Draw, Repay};
+ghost use Rattle.pawn_debt.specs.Due.{carried, after_sort};
+ghost use Rattle.pawn_debt.specs.Owing.{total_of, owing_of};
+ghost use Rattle.pawn_debt.specs.Answers.{most_pence};
+ghost use Rattle.pawn_debt.specs.Kept.{owed_of, most_a_day, most_charges};
+
+use pawn_terms::{Day, Terms};
+
+// A penny, in millionths of it.
+const PENNY: u64 = 1_000_000;
+
+/// What is owed, in whole pence.
+#[derive(Clone, Copy, Debug, PartialEq, Eq, Hash)]
+pub struct Owing {
+    pub principal: u64,
+    pub charges: u64,
+    pub total: u64,
+}
+
+/// What is owed on a day: the principal in pence, and the charges in millionths of a penny.
+#[derive(Clone, Copy, Debug, PartialEq, Eq, Hash)]
+pub struct Totals {
+    pub day: Day,
+    pub principal: u64,
+    pub charges: u64,
+}
+
+// What is owed on a later day, from what was owed on an earlier one, where no entries come in between.
+pub(crate) fn carry(totals: &Totals, terms: Terms, ends: Day, day: Day) -> Totals
+    requires later { totals.now.day ≤ day }
+    requires principal_in { totals.now.principal ≤ most_pence }
+    requires charges_in { totals.now.charges ≤ most_charges }
+    ensures day { result.day ≡ day }
+    ensures owed { owed_of result ≡ carried terms ends totals.now.day (day - totals.now.day) (owed_of totals.now) }
+    ensures principal { result.principal ≡ totals.now.principal }
+    ensures small { result.charges ≤ totals.now.charges + (day - totals.now.day) * most_a_day }
+    ensures in_range { IsDayNumber result.day }
+{
+    let start = totals.day.count();
+    let days = (day.count() - start) as u64;
+    let inside = (day.count().min(ends.count()).saturating_sub(start)) as u64;
+    let interest = days * (totals.principal * terms.rate());
+    let keep = inside * terms.keep_before() + (days - inside) * terms.keep_after();
+    Totals {
+        day,
+        principal: totals.principal,
+        charges: totals.charges + interest + keep,
+    }
+}
+
+/// What is owed on a day, from what was owed on an earlier one, where no entries come in between.
+pub fn owing_from(totals: &Totals, terms: &Terms, ends: Day, day: Day) -> Owing
+    requires later { totals.now.day ≤ day }
+    requires principal_in { totals.now.principal ≤ most_pence }
+    requires charges_in { totals.now.charges ≤ most_charges }
+    ensures { result ≡ owing_of (carried terms.now ends totals.now.day (day - totals.now.day) (owed_of totals.now)) }
+{
+    owing_after(&carry(totals, *terms, ends, day))
+}
+
+// The pence that are owed.
+pub(crate) fn owing_after(totals: &Totals) -> Owing
+    requires { totals.now.principal ≤ most_pence }
+    ensures { result ≡ owing_of (owed_of totals.now) }
+{
+    let charges = totals.charges / PENNY;
+    Owing {
+        principal: totals.principal,
+        charges,
+        total: totals.principal + charges,
+    }
+}
+
+// What is owed after a drawing.
+pub(crate) fn after_draw(owed: Totals, pence: u64) -> Totals
+    requires { owed.principal + pence ≤ most_pence }
+    ensures day { result.day ≡ owed.day }
+    ensures owed { owed_of result ≡ after_sort Draw pence (owed_of owed) }
+    ensures principal_in { result.principal ≤ most_pence }
+    ensures charges_in { result.charges ≤ owed.charges }
+{
+    Totals {
+        day: owed.day,
+        principal: owed.principal + pence,
+        charges: owed.charges,
+    }
+}
+
+// What is owed after a repayment.
+pub(crate) fn after_repay(owed: Totals, pence: u64) -> Totals
+    requires total { pence ≤ total_of (owed_of owed) }
+    requires principal_in { owed.principal ≤ most_pence }
+    ensures day { result.day ≡ owed.day }
+    ensures owed { owed_of result ≡ after_sort Repay pence (owed_of owed) }
+    ensures principal_in { result.principal ≤ most_pence }
+    ensures charges_in { result.charges ≤ owed.charges }
+{
+    let paid = pence.min(owed.charges / PENNY);
+    Totals {
+        day: owed.day,
+        principal: owed.principal - (pence - paid),
+        charges: owed.charges - paid * PENNY,
+    }
+}

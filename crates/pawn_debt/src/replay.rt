@@ -1,0 +1,136 @@
+ghost use Rattle.std.specs.Prelude.{◌≡◌, ◌-◌, ◌*◌, ◌≤◌, [], ◌∷◌, ◌++◌, IfSome, IfNone, IsOk, IsErr};
+ghost use Rattle.pawn_terms.specs.Calendar.{IsDayNumber};
+ghost use Rattle.pawn_debt.specs.Due.{credit_of, due};
+ghost use Rattle.pawn_debt.specs.Owing.{owing_of};
+ghost use Rattle.pawn_debt.specs.Answers.{most_pence};
+ghost use Rattle.pawn_debt.specs.Kept.{IsKept, owed_of, most_a_day};
+ghost use Rattle.pawn_debt.specs.Replay.{entry_answer, AreAccepted};
+
+use crate::debt::{MOST_ENTRIES, MOST_PENCE};
+use crate::entry::{Entry, Kind, Sort};
+use crate::owing::{Owing, Totals, after_draw, after_repay, carry, owing_after};
+use pawn_terms::{Day, Terms};
+
+// What is owed on a day from the last entry's on.
+fn owed_at(
+    kind: Kind,
+    terms: Terms,
+    taken: Day,
+    ends: Day,
+    prior: &[Entry],
+    totals: &Totals,
+    day: Day,
+) -> Totals
+    requires kept { IsKept (record { kind = kind; terms = terms; taken = taken; ends = ends; entries = prior.now }) totals.now }
+    requires later { totals.now.day ≤ day }
+    ensures day { result.day ≡ day }
+    ensures owed { owed_of result ≡ due (record { kind = kind; terms = terms; taken = taken; ends = ends; entries = prior.now }) day }
+    ensures principal_in { result.principal ≤ most_pence }
+    ensures charges_in { result.charges ≤ (day - taken) * most_a_day }
+    ensures in_range { IsDayNumber day }
+    ensures later { totals.now.day ≤ day }
+{
+    carry(totals, terms, ends, day)
+}
+
+/// What is owed after one more entry, if the rules accept it.
+fn accept(
+    kind: Kind,
+    terms: Terms,
+    taken: Day,
+    ends: Day,
+    prior: &[Entry],
+    totals: &Totals,
+    e: &Entry,
+) -> Option<Totals>
+    requires { IsKept (record { kind = kind; terms = terms; taken = taken; ends = ends; entries = prior.now }) totals.now }
+    ensures some { IfSome result (λ t. IsOk (entry_answer (record { kind = kind; terms = terms; taken = taken; ends = ends; entries = prior.now }) e.now)) }
+    ensures kept { IfSome result (λ t. IsKept (record { kind = kind; terms = terms; taken = taken; ends = ends; entries = prior.now ++ e.now ∷ [] }) t) }
+    ensures none { IfNone result (IsErr (entry_answer (record { kind = kind; terms = terms; taken = taken; ends = ends; entries = prior.now }) e.now)) }
+{
+    if e.seq != prior.len() as u64 + 1 || e.day < totals.day {
+        return None;
+    }
+    if e.pence == 0 || e.pence > MOST_PENCE || prior.len() >= MOST_ENTRIES {
+        return None;
+    }
+    let owed = owed_at(kind, terms, taken, ends, prior, totals, e.day);
+    match e.sort {
+        Sort::Draw => {
+            let Kind::Running(limit) = kind else {
+                return None;
+            };
+            if owed.principal + e.pence > limit {
+                return None;
+            }
+            Some(after_draw(owed, e.pence))
+        }
+        Sort::Repay => {
+            if e.pence > owing_after(&owed).total {
+                return None;
+            }
+            Some(after_repay(owed, e.pence))
+        }
+    }
+}
+
+// What is owed before there are entries.
+fn first_totals(kind: Kind, terms: Terms, taken: Day, ends: Day) -> Totals
+    requires { credit_of kind ≤ most_pence }
+    ensures { IsKept (record { kind = kind; terms = terms; taken = taken; ends = ends; entries = [] }) result }
+{
+    let _ = taken.count();
+    Totals {
+        day: taken,
+        principal: kind.first_principal(),
+        charges: 0,
+    }
+}
+
+/// What is owed after the entries, if the rules accept each in turn.
+pub fn replay_entries(
+    kind: Kind,
+    terms: Terms,
+    taken: Day,
+    ends: Day,
+    entries: &[Entry],
+) -> Option<Totals>
+    requires { credit_of kind ≤ most_pence }
+    ensures kept { IfSome result (λ t. IsKept (record { kind = kind; terms = terms; taken = taken; ends = ends; entries = entries.now }) t) }
+    ensures accepted { IfSome result (λ t. AreAccepted (record { kind = kind; terms = terms; taken = taken; ends = ends; entries = entries.now }) [] entries.now) }
+    ensures refused { IfNone result (AreAccepted (record { kind = kind; terms = terms; taken = taken; ends = ends; entries = entries.now }) [] entries.now → ⊥) }
+{
+    let mut totals = first_totals(kind, terms, taken, ends);
+    for i in 0..entries.len() {
+        let Some(next) = accept(
+            kind,
+            terms,
+            taken,
+            ends,
+            &entries[..i],
+            &totals,
+            &entries[i],
+        ) else {
+            return None;
+        };
+        totals = next;
+    }
+    Some(totals)
+}
+
+/// What is owed on a day, from what is owed after the entries.
+pub fn owing_at(
+    kind: Kind,
+    terms: Terms,
+    taken: Day,
+    ends: Day,
+    entries: &[Entry],
+    totals: &Totals,
+    day: Day,
+) -> Owing
+    requires kept { IsKept (record { kind = kind; terms = terms; taken = taken; ends = ends; entries = entries.now }) totals.now }
+    requires later { totals.now.day ≤ day }
+    ensures { result ≡ owing_of (due (record { kind = kind; terms = terms; taken = taken; ends = ends; entries = entries.now }) day) }
+{
+    owing_after(&owed_at(kind, terms, taken, ends, entries, totals, day))
+}
