@@ -1,0 +1,9 @@
+pub mod Moves
+pub mod Pushes
+pub mod Replays
+pub mod Starts
+pub mod Receipts
+pub mod Keeping
+pub mod Stands
+pub mod NumberLemmas
+pub mod TextLemmas

@@ -1,0 +1,118 @@
+-- What the tests on parts find makes a record that can stand.
+use Rattle.std.proofs.Common.{◌≡◌, ℕ, ◌+◌, ◌≤◌, ◌==◌, nat_le, Bool, true, false, ◌&&◌, if◌then◌else◌, List, [], ◌∷◌, ◌++◌, length, Result, Err, IsOk, refl, sym, ◌∙◌, arith, length-append}
+use Rattle.std.proofs.lemmas.Bool.{false≢true}
+use Rattle.std.proofs.lemmas.Bool.Decides.{nat_tests}
+use Rattle.pawn_pledge.specs.Parts.{IsTyped, IsLimited, AreIssuedIn}
+use Rattle.pawn_terms.specs.Terms.{IsChecked}
+use Rattle.pawn_debt.specs.declared.entry.Entry.{Entry}
+use Rattle.pawn_debt.specs.declared.owing.Totals.{Totals}
+use Rattle.pawn_debt.specs.declared.fault.DebtFault.{DebtFault}
+use Rattle.pawn_debt.specs.declared.fault.DebtFault.TheVariants.{BadAmount}
+use Rattle.pawn_debt.specs.Due.{DebtValue, last_of}
+use Rattle.pawn_debt.specs.Kept.{IsKept}
+use Rattle.pawn_debt.specs.Replay.{sort_answer, AreAccepted}
+use Rattle.pawn_pledge.specs.declared.record.Issued.{Issued}
+use Rattle.pawn_pledge.specs.declared.record.Status.TheVariants as Status
+use Rattle.pawn_pledge.specs.Pledge.{PledgeValue, end_of, is_six, is_small, debt_of, first_end, is_passed}
+use Rattle.pawn_pledge.specs.Replayable.{Each, IsNotPassed, DoNotFall, last_issue, AreNumbered, IsDrawnBy, AreExtended, last_extension, IsClosed, IsBooked, IsStanding}
+use Rattle.pawn_pledge.proofs.Pushes.{Each-map, AreOrdered-each}
+
+-- what is not passed on a day was not passed before
+early : (a b c d s : Bool) → (a ≡ true → c ≡ true) → (b ≡ true → d ≡ true)
+    → is_passed (if a then Status.Inside else if b then Status.Grace else if s then Status.Passed else Status.Realisable) ≡ false
+    → is_passed (if c then Status.Inside else if d then Status.Grace else if s then Status.Passed else Status.Realisable) ≡ false
+early a b true d s f g h = refl
+early a b false true s f g h = refl
+early a b false false false f g h = refl
+early true b false false true f g h = absurd (false≢true (f refl))
+early false true false false true f g h = absurd (false≢true (g refl))
+early false false false false true f g h = h
+
+le_earlier : (d x e : ℕ) → d ≤ x → nat_le x e ≡ true → nat_le d e ≡ true
+le_earlier d x e before h = grind (arith, nat_tests, before, h)
+
+grace_earlier : (five : Bool) (d x e : ℕ) → d ≤ x → (five && nat_le x e) ≡ true → (five && nat_le d e) ≡ true
+grace_earlier true d x e before h = le_earlier d x e before h
+grace_earlier false d x e before h = h
+
+pub not_passed-earlier : (p : PledgeValue) (d x : ℕ) → d ≤ x → IsNotPassed p x → IsNotPassed p d
+not_passed-earlier p d x before h =
+    early (nat_le x (end_of p)) (p.five_days && nat_le x (end_of p + 5)) (nat_le d (end_of p)) (p.five_days && nat_le d (end_of p + 5)) (is_six p && is_small p)
+    (le_earlier d x (end_of p) before) (grace_earlier p.five_days d x (end_of p + 5) before) h
+
+last_issue-le : (day : ℕ) (is : List Issued) → DoNotFall day is → day ≤ last_issue day is
+last_issue-le day [] h = omega arith
+last_issue-le day (i ∷ is) h = omega (arith, h.0, last_issue-le i.day is h.1)
+
+issued-before : (p : PledgeValue) (day : ℕ) (is : List Issued) → DoNotFall day is → last_issue day is ≤ p.last → IsNotPassed p p.last → Each (λ i. IsNotPassed p i.day) is
+issued-before p day [] h before live = tt
+issued-before p day (i ∷ is) h before live =
+    (not_passed-earlier p i.day p.last (omega (arith, before, last_issue-le i.day is h.1)) live, issued-before p i.day is h.1 before live)
+
+-- accepted entries are numbered
+seq_is : (n m : ℕ) (r : Result DebtValue DebtFault) → IsOk (if n == m then r else Err BadAmount) → n ≡ m
+seq_is n m r h = by (n == m) refl h
+  where
+    by : (b : Bool) → (n == m) ≡ b → IsOk (if b then r else Err BadAmount) → n ≡ m
+    by true e k = grind (arith, nat_tests, e)
+    by false e k = absurd (false≢true k)
+
+pub accepted-numbered : (d : DebtValue) (prior es : List Entry) (n : ℕ) → n ≡ length prior + 1 → AreAccepted d prior es → AreNumbered n es
+accepted-numbered d prior [] n is h = tt
+accepted-numbered d prior (e ∷ es) n is h = (
+  seq_is e.seq (length prior + 1) (sort_answer e.sort (record d { entries = prior }) e.day e.pence) h.0 ∙ sym is,
+  accepted-numbered d (prior ++ e ∷ []) es (n + 1) (omega (arith, is, length-append prior (e ∷ []))) h.1,
+)
+
+-- what the tests find
+pub record IsFound (v : PledgeValue) (t : Totals) : Type 0 where
+  pub terms : IsChecked v.terms
+  pub typed : IsTyped v
+  pub limited : IsLimited v
+  pub taken : v.taken ≤ v.last
+  pub extended : AreExtended v.taken (first_end v) v.extensions × (last_extension v.taken v.extensions ≤ v.last)
+  pub kept : IsKept (debt_of v) t
+  pub accepted : AreAccepted (debt_of v) [] v.entries
+  pub entered : t.day ≤ v.last
+  pub drawn : Each (λ e. IsDrawnBy (end_of v) e.sort e.day) v.entries
+  pub live : IsNotPassed v v.last
+  pub issued : AreIssuedIn v
+  pub booked : IsBooked v v.booking
+  pub closed : IsClosed v v.closing
+
+pub stands : (v : PledgeValue) (t : Totals) → IsFound v t → IsStanding v
+stands v t f =
+    let before : last_of v.taken v.entries ≤ v.last = omega (arith, f.kept.day, f.entered) in
+    let days = AreOrdered-each v.taken v.taken v.last v.entries (omega arith) f.kept.ordered before in
+    record {
+      terms = f.terms;
+      replayable = record {
+        credit = (f.limited.some, f.limited.credit);
+        issued = record { sorts = f.issued.sorts; distinct = f.issued.distinct; ordered = f.issued.ordered; before = f.issued.before; not_passed = issued-before v v.taken v.secrets f.issued.ordered f.issued.before f.live };
+        entered = record {
+          numbered = accepted-numbered (debt_of v) [] v.entries 1 (omega arith) f.accepted;
+          ordered = f.kept.ordered;
+          before = before;
+          accepted = f.accepted;
+          not_passed = Each-map _ (λ (e : Entry). IsNotPassed v e.day) v.entries (λ e k. not_passed-earlier v e.day v.last k.1 f.live) days;
+          drawn = f.drawn;
+        };
+        last_in = f.taken;
+        last_open = f.live;
+        closed = f.closed;
+        booked = f.booked;
+        extended = record { each = f.extended.0; before = f.extended.1 };
+      };
+      within = record {
+        number = f.typed.number;
+        reference = f.typed.reference;
+        article = f.typed.article;
+        agreed = f.typed.agreed;
+        entries = f.kept.few;
+        secrets = f.limited.secrets;
+        extensions = f.limited.extensions;
+        untils = f.limited.untils;
+        booking = f.limited.booking;
+        last = f.limited.last;
+      };
+    }

@@ -1,0 +1,101 @@
+-- What holds of every pledge, whatever is sent.
+use Rattle.std.specs.Prelude.{◌≡◌, ◌≤◌, ◌<◌, ◌^◌, ◌==◌, ℕ, true, false, List, [], ◌∷◌, ◌++◌, Some, Ok, ◌⊎◌}
+use Rattle.std.specs.List.{list_any}
+use Rattle.pawn_terms.specs.Calendar.{IsStampDay}
+use Rattle.pawn_terms.specs.Terms.{TermsValue, IsChecked}
+use Rattle.pawn_debt.specs.Due.{due, last_of}
+use Rattle.pawn_debt.specs.Owing.{owing_of}
+use Rattle.pawn_pledge.specs.declared.record.Opening.{Opening}
+use Rattle.pawn_pledge.specs.declared.record.Issued.{Issued}
+use Rattle.pawn_pledge.specs.declared.command.Stamp.{Stamp}
+use Rattle.pawn_pledge.specs.declared.command.Command.{Command}
+use Rattle.pawn_pledge.specs.declared.command.Done.{Done}
+use Rattle.pawn_pledge.specs.declared.receipt.Receipt.{Receipt}
+use Rattle.pawn_pledge.specs.Number.{IsNumber}
+use Rattle.pawn_pledge.specs.Pledge.{PledgeValue, debt_of, live_of}
+use Rattle.pawn_pledge.specs.Step.{Changed, is_open, pledge_step, pledge_after, started}
+use Rattle.pawn_pledge.specs.Replayable.{IsOpening, IsCommand, IsReplayable, IsWithin, IsStanding}
+use Rattle.pawn_pledge.specs.Brief.{brief_of, brief_owing}
+use Rattle.pawn_pledge.specs.Secret.{secret_text, secret_of_text}
+use Rattle.pawn_pledge.specs.Receipt.{receipt_text, IsReceiptText}
+
+-- a pledge begins as one that can have come about, within the limits
+abbrev pub StartsStanding : Type 0
+StartsStanding =
+    (number : ℕ) (opening : Opening) (version : ℕ) (terms : TermsValue) (stamp : Stamp) (p : PledgeValue)
+    → IsNumber number → IsOpening opening → IsChecked terms → IsStampDay stamp.day
+    → started number opening version terms stamp ≡ Ok p → IsStanding p
+
+-- a change makes one that can have come about of one that can
+abbrev pub StaysReplayable : Type 0
+StaysReplayable =
+    (p next : PledgeValue) (stamp : Stamp) (command : Command) (done : Done)
+    → IsReplayable p → pledge_step p stamp command ≡ Changed next done → IsReplayable next
+
+-- a change keeps the limits
+abbrev pub StaysWithin : Type 0
+StaysWithin =
+    (p next : PledgeValue) (stamp : Stamp) (command : Command) (done : Done)
+    → IsStampDay stamp.day → IsCommand command → IsWithin p → pledge_step p stamp command ≡ Changed next done → IsWithin next
+
+-- so a pledge stays one that can stand
+abbrev pub StaysStanding : Type 0
+StaysStanding =
+    (p next : PledgeValue) (stamp : Stamp) (command : Command) (done : Done)
+    → IsStampDay stamp.day → IsCommand command → IsStanding p → pledge_step p stamp command ≡ Changed next done → IsStanding next
+
+-- a change changes something
+abbrev pub ChangesDiffer : Type 0
+ChangesDiffer =
+    (p next : PledgeValue) (stamp : Stamp) (command : Command) (done : Done)
+    → pledge_step p stamp command ≡ Changed next done → next ≡ p → ⊥
+
+-- once a pledge is redeemed or sold nothing changes
+abbrev pub ClosedStays : Type 0
+ClosedStays =
+    (p next : PledgeValue) (stamp : Stamp) (command : Command) (done : Done)
+    → is_open p.closing ≡ false → pledge_step p stamp command ≡ Changed next done → ⊥
+
+-- the list of secrets stays, or grows at its end by one that is not in it
+abbrev pub SecretsGrow : Type 0
+SecretsGrow =
+    (p next : PledgeValue) (stamp : Stamp) (command : Command) (done : Done)
+    → pledge_step p stamp command ≡ Changed next done
+    → (next.secrets ≡ p.secrets)
+    ⊎ ((issued : Issued) × (next.secrets ≡ p.secrets ++ issued ∷ []) × (list_any (λ i. i.secret == issued.secret) p.secrets ≡ false))
+
+-- the pledge after a list of commands, each with its stamp
+abbrev pub pledge_after_all : PledgeValue → List (Stamp × Command) → PledgeValue
+pledge_after_all p [] = p
+pledge_after_all p (c ∷ cs) = pledge_after_all (pledge_after p (pledge_step p c.0 c.1)) cs
+
+-- after any list of commands at most one receipt of a pledge is live
+abbrev pub OneIsLive : Type 0
+OneIsLive =
+    (p : PledgeValue) (commands : List (Stamp × Command)) (one other : ℕ)
+    → live_of (pledge_after_all p commands) ≡ Some one → live_of (pledge_after_all p commands) ≡ Some other → one ≡ other
+
+-- a secret that was issued and is not live, declared away or surrendered, is never live again
+abbrev pub NeverLiveAgain : Type 0
+NeverLiveAgain =
+    (p : PledgeValue) (commands : List (Stamp × Command)) (secret : ℕ)
+    → list_any (λ i. i.secret == secret) p.secrets ≡ true → (live_of p ≡ Some secret → ⊥)
+    → live_of (pledge_after_all p commands) ≡ Some secret → ⊥
+
+-- a brief tells what its pledge owes
+abbrev pub BriefOwes : Type 0
+BriefOwes =
+    (p : PledgeValue) (x : ℕ)
+    → IsReplayable p → last_of p.taken p.entries ≤ x → brief_owing (brief_of p) x ≡ owing_of (due (debt_of p) x)
+
+-- a secret's text reads as the secret
+abbrev pub SecretTextsReadBack : Type 0
+SecretTextsReadBack = (word : ℕ) → word < 2 ^ 128 → secret_of_text (secret_text word) ≡ Some word
+
+-- a receipt's text reads as the receipt
+abbrev pub ReceiptTextsReadBack : Type 0
+ReceiptTextsReadBack = (r : Receipt) → IsNumber r.number → r.secret < 2 ^ 128 → IsReceiptText (receipt_text r) r
+
+-- and no text reads as two receipts
+abbrev pub ReceiptTextsAreOne : Type 0
+ReceiptTextsAreOne = (text : List ℕ) (one other : Receipt) → IsReceiptText text one → IsReceiptText text other → one ≡ other

@@ -1,0 +1,12 @@
+pub mod Number
+pub mod Text
+pub mod Secret
+pub mod Receipt
+pub mod Refusal
+pub mod Pledge
+pub mod Step
+pub mod Kept
+pub mod Replayable
+pub mod Parts
+pub mod Brief
+pub mod Laws

@@ -1,0 +1,343 @@
+-- What a command comes to: the first refusal that applies, or an answer and the pledge after it.
+use Rattle.std.specs.Prelude.{◌≡◌, ℕ, ◌+◌, ◌-◌, nat_lt, nat_le, ◌==◌, ◌&&◌, not, Bool, true, false, if◌then◌else◌, List, [], ◌∷◌, ◌++◌, length, find, Option, Some, None, Result, Ok, Err, IsOk, ◌⊎◌}
+use Rattle.std.specs.List.{list_any}
+use Rattle.pawn_terms.specs.Terms.{TermsValue}
+use Rattle.pawn_terms.specs.Refusals.{first_of}
+use Rattle.pawn_debt.specs.declared.entry.Entry.{Entry}
+use Rattle.pawn_debt.specs.declared.entry.Sort.{Sort}
+use Rattle.pawn_debt.specs.declared.entry.Sort.TheVariants.{Draw, Repay}
+use Rattle.pawn_debt.specs.declared.fault.DebtFault.{DebtFault}
+use Rattle.pawn_debt.specs.declared.fault.DebtFault.TheVariants.{EarlierDay, BadAmount}
+use Rattle.pawn_debt.specs.Due.{DebtValue, credit_of}
+use Rattle.pawn_debt.specs.Answers.{draw_answer, repay_answer, is_bad_amount, most_pence}
+use Rattle.pawn_pledge.specs.declared.record.Opening.{Opening}
+use Rattle.pawn_pledge.specs.declared.record.Issued.{Issued}
+use Rattle.pawn_pledge.specs.declared.record.Issue.{Issue}
+use Rattle.pawn_pledge.specs.declared.record.Extension.{Extension}
+use Rattle.pawn_pledge.specs.declared.record.Booking.{Booking}
+use Rattle.pawn_pledge.specs.declared.record.BookingState.{BookingState}
+use Rattle.pawn_pledge.specs.declared.record.Closing.{Closing}
+use Rattle.pawn_pledge.specs.declared.command.Stamp.{Stamp}
+use Rattle.pawn_pledge.specs.declared.command.Paper.{Paper}
+use Rattle.pawn_pledge.specs.declared.command.Decision.{Decision}
+use Rattle.pawn_pledge.specs.declared.command.Decision.TheVariants.{Confirm, Refuse}
+use Rattle.pawn_pledge.specs.declared.command.Command.{Command}
+use Rattle.pawn_pledge.specs.declared.command.Done.{Done}
+use Rattle.pawn_pledge.specs.declared.command.Applied.{Applied}
+use Rattle.pawn_pledge.specs.declared.refusal.Refusal.{Refusal}
+use Rattle.pawn_pledge.specs.Refusal.{refusal_of}
+use Rattle.pawn_pledge.specs.Pledge.{PledgeValue, end_of, is_small, debt_of, total_on, open_status, is_passed, is_realisable}
+
+abbrev pub most_secrets : ℕ
+most_secrets = 101
+
+abbrev pub most_extensions : ℕ
+most_extensions = 99
+
+abbrev pub last_window : ℕ
+last_window = 15
+
+-- a pledge as it is taken: its one secret is the stamp's word
+abbrev pub started : ℕ → Opening → ℕ → TermsValue → Stamp → Result PledgeValue Refusal
+started number opening version terms stamp =
+    first_of
+    ((is_bad_amount (credit_of opening.kind), Refusal.Debt BadAmount) ∷ [])
+    (Ok (record {
+      number = number;
+      reference = opening.reference;
+      article = opening.article;
+      kind = opening.kind;
+      taken = stamp.day;
+      agreed = opening.agreed;
+      five_days = opening.five_days;
+      version = version;
+      terms = terms;
+      entries = [];
+      secrets = record { day = stamp.day; sort = Issue.Opening; secret = stamp.word } ∷ [];
+      extensions = [];
+      held = false;
+      booking = None;
+      last = stamp.day;
+      closing = Closing.Open;
+    }))
+
+-- what a command comes to
+pub data Judged : Type 0 where
+  Refused : (why : Refusal) → Judged
+  -- an answer without a change
+  Answered : (done : Done) → Judged
+  -- the pledge after a change, and an answer
+  Changed : (pledge : PledgeValue) (done : Done) → Judged
+
+-- where nothing is refused, what follows
+abbrev pub past : Result (Unit {0}) Refusal → Judged → Judged
+past (Ok clear) judged = judged
+past (Err why) judged = Refused why
+
+-- refused for the first condition that holds, or else what follows
+abbrev pub unless : List (Bool × Refusal) → Judged → Judged
+unless rows judged = past (first_of rows (Ok tt)) judged
+
+abbrev pub is_open : Closing → Bool
+is_open Closing.Open = true
+is_open (Closing.Redeemed day paid) = false
+is_open (Closing.Sold day net) = false
+
+-- what bars every command on the day x
+abbrev pub bars : PledgeValue → ℕ → List (Bool × Refusal)
+bars p x =
+    (nat_lt x p.last, Refusal.Debt EarlierDay)
+    ∷ (not (is_open p.closing), Refusal.Closed)
+    ∷ (is_passed (open_status p x), Refusal.Passed)
+    ∷ []
+
+-- drawings and repayments
+
+abbrev pub same_sort : Sort → Sort → Bool
+same_sort Draw Draw = true
+same_sort Draw Repay = false
+same_sort Repay Draw = false
+same_sort Repay Repay = true
+
+-- an entry is asked for again
+abbrev pub is_repeat : Entry → Sort → ℕ → Bool
+is_repeat e sort pence = same_sort e.sort sort && (e.pence == pence)
+
+-- an entry's number is at most the next
+abbrev pub is_ahead : PledgeValue → ℕ → Bool
+is_ahead p seq = if seq == 0 then true else nat_lt (length p.entries + 1) seq
+
+-- the next entry
+abbrev pub new_entry : PledgeValue → ℕ → Sort → ℕ → Entry
+new_entry p x sort pence = record { seq = length p.entries + 1; day = x; sort = sort; pence = pence }
+
+-- what the debt answers
+abbrev pub entered : PledgeValue → ℕ → Sort → ℕ → Result DebtValue DebtFault → Judged
+entered p x sort pence (Ok debt) =
+    Changed (record p { entries = debt.entries; last = x }) (Done.Entered (new_entry p x sort pence))
+entered p x sort pence (Err fault) = Refused (refusal_of fault)
+
+-- a drawing is made in the period; the other refusals are the debt's
+abbrev pub entry_step : PledgeValue → ℕ → Sort → ℕ → Judged
+entry_step p x Draw pence =
+    unless ((nat_lt (end_of p) x, Refusal.PeriodOver) ∷ []) (entered p x Draw pence (draw_answer (debt_of p) x pence))
+entry_step p x Repay pence = entered p x Repay pence (repay_answer (debt_of p) x pence)
+
+-- an entry whose number stands is answered as the first time, whatever the day and the pledge's state
+abbrev pub numbered_step : PledgeValue → ℕ → ℕ → Sort → ℕ → Option Entry → Judged
+numbered_step p x seq sort pence (Some e) =
+    unless ((not (is_repeat e sort pence), Refusal.SeqTaken) ∷ []) (Answered (Done.Entered e))
+numbered_step p x seq sort pence None =
+    unless ((is_ahead p seq, Refusal.SeqAhead) ∷ []) (unless (bars p x) (entry_step p x sort pence))
+
+-- the entry of a number, if it stands
+abbrev pub entry_of : PledgeValue → ℕ → Option Entry
+entry_of p seq = find (λ e. e.seq == seq) p.entries
+
+-- the flag that bars redemption
+
+abbrev pub same_flag : Bool → Bool → Bool
+same_flag true flag = flag
+same_flag false flag = not flag
+
+abbrev pub hold_step : PledgeValue → ℕ → Bool → Judged
+hold_step p x flag =
+    if same_flag p.held flag then Answered (Done.Held flag)
+    else Changed (record p { held = flag; last = x }) (Done.Held flag)
+
+-- declarations
+
+abbrev pub is_written : Paper → Bool
+is_written Paper.Sworn = false
+is_written Paper.Written = true
+
+abbrev pub issue_of : Paper → Issue
+issue_of Paper.Sworn = Issue.Sworn
+issue_of Paper.Written = Issue.Written
+
+abbrev pub declare_bars : PledgeValue → Stamp → Paper → List (Bool × Refusal)
+declare_bars p stamp paper =
+    (is_written paper && not (is_small p), Refusal.NotSmall)
+    ∷ (nat_le most_secrets (length p.secrets), Refusal.DeclarationsFull)
+    ∷ (list_any (λ issued. issued.secret == stamp.word) p.secrets, Refusal.SecretUsed)
+    ∷ []
+
+-- the pledge with one more secret
+abbrev pub with_secret : PledgeValue → Issued → PledgeValue
+with_secret p issued = record p { secrets = p.secrets ++ issued ∷ []; last = issued.day }
+
+-- the stamp's word is the new and only live secret
+abbrev pub declare_step : PledgeValue → Stamp → Paper → Judged
+declare_step p stamp paper =
+    unless (declare_bars p stamp paper)
+    (Changed (with_secret p (record { day = stamp.day; sort = issue_of paper; secret = stamp.word })) (Done.Declared stamp.word))
+
+-- bookings
+
+-- the pledge with that booking
+abbrev pub books : PledgeValue → ℕ → Booking → Judged
+books p x booking = Changed (record p { booking = Some booking; last = x }) (Done.Booked booking)
+
+abbrev pub in_state : Booking → BookingState → Booking
+in_state booking state = record { day = booking.day; window = booking.window; state = state }
+
+-- asked for or confirmed
+abbrev pub is_standing : BookingState → Bool
+is_standing BookingState.Asked = true
+is_standing BookingState.Confirmed = true
+is_standing BookingState.Refused = false
+is_standing BookingState.Cancelled = false
+
+abbrev pub stands_for : Booking → ℕ → ℕ → Bool
+stands_for booking day window = (booking.day == day) && (booking.window == window) && is_standing booking.state
+
+-- a booking takes the place of any other; one that stands is answered again
+abbrev pub asked : PledgeValue → ℕ → ℕ → ℕ → Option Booking → Judged
+asked p x day window None = books p x (record { day = day; window = window; state = BookingState.Asked })
+asked p x day window (Some booking) =
+    if stands_for booking day window then Answered (Done.Booked booking)
+    else books p x (record { day = day; window = window; state = BookingState.Asked })
+
+abbrev pub ask_step : PledgeValue → ℕ → ℕ → ℕ → Judged
+ask_step p x day window =
+    unless
+    ((nat_lt last_window window, Refusal.BadWindow)
+    ∷ (nat_lt day x, Refusal.BookingDay)
+    ∷ (is_passed (open_status p day), Refusal.BookingDay)
+    ∷ [])
+    (asked p x day window p.booking)
+
+-- cancelling by the booking's state
+abbrev pub cancelled : PledgeValue → ℕ → Booking → BookingState → Judged
+cancelled p x booking BookingState.Asked = books p x (in_state booking BookingState.Cancelled)
+cancelled p x booking BookingState.Confirmed = books p x (in_state booking BookingState.Cancelled)
+cancelled p x booking BookingState.Refused = Refused Refusal.NoBooking
+cancelled p x booking BookingState.Cancelled = Answered (Done.Booked booking)
+
+abbrev pub cancel_step : PledgeValue → ℕ → Option Booking → Judged
+cancel_step p x None = Refused Refusal.NoBooking
+cancel_step p x (Some booking) = cancelled p x booking booking.state
+
+-- confirming by the booking's state; one that is asked for is not to be over
+abbrev pub confirmed : PledgeValue → ℕ → Booking → BookingState → Judged
+confirmed p x booking BookingState.Asked =
+    unless ((nat_lt booking.day x, Refusal.BookingDay) ∷ []) (books p x (in_state booking BookingState.Confirmed))
+confirmed p x booking BookingState.Confirmed = Answered (Done.Booked booking)
+confirmed p x booking BookingState.Refused = Refused Refusal.NoBooking
+confirmed p x booking BookingState.Cancelled = Refused Refusal.NoBooking
+
+-- refusing by the booking's state
+abbrev pub declined : PledgeValue → ℕ → Booking → BookingState → Judged
+declined p x booking BookingState.Asked = books p x (in_state booking BookingState.Refused)
+declined p x booking BookingState.Confirmed = books p x (in_state booking BookingState.Refused)
+declined p x booking BookingState.Refused = Answered (Done.Booked booking)
+declined p x booking BookingState.Cancelled = Refused Refusal.NoBooking
+
+abbrev pub decide_step : PledgeValue → ℕ → Decision → Option Booking → Judged
+decide_step p x decision None = Refused Refusal.NoBooking
+decide_step p x Confirm (Some booking) = confirmed p x booking booking.state
+decide_step p x Refuse (Some booking) = declined p x booking booking.state
+
+-- closing a pledge
+
+-- a closing cancels a booking that stands
+abbrev pub state_after : BookingState → BookingState
+state_after BookingState.Asked = BookingState.Cancelled
+state_after BookingState.Confirmed = BookingState.Cancelled
+state_after BookingState.Refused = BookingState.Refused
+state_after BookingState.Cancelled = BookingState.Cancelled
+
+abbrev pub booking_after : Option Booking → Option Booking
+booking_after None = None
+booking_after (Some booking) = Some (in_state booking (state_after booking.state))
+
+-- the pledge closed on the day x
+abbrev pub closed : PledgeValue → ℕ → Closing → PledgeValue
+closed p x closing = record p { booking = booking_after p.booking; last = x; closing = closing }
+
+abbrev pub redeem_step : PledgeValue → ℕ → ℕ → Judged
+redeem_step p x paid =
+    unless
+    ((p.held, Refusal.Held)
+    ∷ (not (paid == total_on p x), Refusal.WrongAmount (total_on p x))
+    ∷ [])
+    (Changed (closed p x (Closing.Redeemed x paid)) (Done.Redeemed x paid))
+
+-- with what the sale brought above what is owing, and below it
+abbrev pub sell_step : PledgeValue → ℕ → ℕ → Judged
+sell_step p x net =
+    unless
+    ((not (is_realisable (open_status p x)), Refusal.NotRealisable)
+    ∷ (nat_lt most_pence net, Refusal.Debt BadAmount)
+    ∷ [])
+    (Changed (closed p x (Closing.Sold x net)) (Done.Sold net (net - total_on p x) (total_on p x - net)))
+
+-- longer periods
+
+-- the pledge with one more extension
+abbrev pub with_extension : PledgeValue → Extension → PledgeValue
+with_extension p e = record p { extensions = p.extensions ++ e ∷ []; last = e.day }
+
+-- an extension to the end that stands is answered again
+abbrev pub extend_step : PledgeValue → ℕ → ℕ → Judged
+extend_step p x until =
+    unless ((nat_lt (end_of p) x, Refusal.PeriodOver) ∷ [])
+    (if until == end_of p then Answered (Done.Extended until)
+    else
+    unless
+    ((nat_lt until (end_of p), Refusal.NotLater)
+    ∷ (nat_le most_extensions (length p.extensions), Refusal.ExtensionsFull)
+    ∷ [])
+    (Changed (with_extension p (record { day = x; until = until })) (Done.Extended until)))
+
+-- what a command comes to
+abbrev pub pledge_step : PledgeValue → Stamp → Command → Judged
+pledge_step p stamp (Command.Draw seq pence) = numbered_step p stamp.day seq Draw pence (entry_of p seq)
+pledge_step p stamp (Command.Repay seq pence) = numbered_step p stamp.day seq Repay pence (entry_of p seq)
+pledge_step p stamp Command.Hold = unless (bars p stamp.day) (hold_step p stamp.day true)
+pledge_step p stamp Command.Release = unless (bars p stamp.day) (hold_step p stamp.day false)
+pledge_step p stamp (Command.Declare paper) = unless (bars p stamp.day) (declare_step p stamp paper)
+pledge_step p stamp (Command.AskBooking day window) = unless (bars p stamp.day) (ask_step p stamp.day day window)
+pledge_step p stamp Command.CancelBooking = unless (bars p stamp.day) (cancel_step p stamp.day p.booking)
+pledge_step p stamp (Command.DecideBooking decision) =
+    unless (bars p stamp.day) (decide_step p stamp.day decision p.booking)
+pledge_step p stamp (Command.Redeem paid) = unless (bars p stamp.day) (redeem_step p stamp.day paid)
+pledge_step p stamp (Command.Sell net) = unless (bars p stamp.day) (sell_step p stamp.day net)
+pledge_step p stamp (Command.Extend until) = unless (bars p stamp.day) (extend_step p stamp.day until)
+
+-- what the caller is told
+abbrev pub reply_of : Judged → Result Done Refusal
+reply_of (Refused why) = Err why
+reply_of (Answered done) = Ok done
+reply_of (Changed pledge done) = Ok done
+
+-- the pledge afterwards
+abbrev pub pledge_after : PledgeValue → Judged → PledgeValue
+pledge_after p (Refused why) = p
+pledge_after p (Answered done) = p
+pledge_after p (Changed pledge done) = pledge
+
+-- it makes a change
+abbrev pub IsChange : Judged → Type 0
+IsChange (Refused why) = ⊥
+IsChange (Answered done) = ⊥
+IsChange (Changed pledge done) = Unit {0}
+
+-- the call does what the step says, or wants memory for a change and makes none
+abbrev pub IsStep : Judged → PledgeValue → Result Done Refusal → PledgeValue → Type 0
+IsStep judged old (Ok done) new = (reply_of judged ≡ Ok done) × (new ≡ pledge_after old judged)
+IsStep judged old (Err fault) new = (new ≡ old) × ((judged ≡ Refused fault) ⊎ ((fault ≡ Refusal.Memory) × IsChange judged))
+
+-- what a call told, as a step
+abbrev pub judged_by : Applied → PledgeValue → Judged
+judged_by applied new = if applied.changed then Changed new applied.done else Answered applied.done
+
+-- the same, where the call also tells whether there was a change
+abbrev pub IsApplied : Judged → PledgeValue → Result Applied Refusal → PledgeValue → Type 0
+IsApplied judged old (Ok applied) new = (judged ≡ judged_by applied new) × (new ≡ pledge_after old judged)
+IsApplied judged old (Err fault) new = (new ≡ old) × ((judged ≡ Refused fault) ⊎ ((fault ≡ Refusal.Memory) × IsChange judged))
+
+-- a new pledge is what the rules say, or memory was wanted
+abbrev pub IsStarted : Result PledgeValue Refusal → Result PledgeValue Refusal → Type 0
+IsStarted answer (Ok new) = answer ≡ Ok new
+IsStarted answer (Err fault) = (answer ≡ Err fault) ⊎ ((fault ≡ Refusal.Memory) × IsOk answer)

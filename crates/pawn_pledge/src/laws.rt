@@ -1,0 +1,30 @@
+ghost use Rattle.pawn_pledge.specs.Laws.{StartsStanding, StaysReplayable, StaysWithin, StaysStanding, ChangesDiffer, ClosedStays, SecretsGrow, OneIsLive, NeverLiveAgain, BriefOwes, SecretTextsReadBack, ReceiptTextsReadBack, ReceiptTextsAreOne};
+
+/// Whatever is sent, a pledge stays one that can have come about, and a change changes something.
+pub fn laws_of_steps()
+    ensures starts { StartsStanding }
+    ensures replayable { StaysReplayable }
+    ensures within { StaysWithin }
+    ensures standing { StaysStanding }
+    ensures differ { ChangesDiffer }
+    ensures closed { ClosedStays }
+{}
+
+/// At most one receipt of a pledge is live, and none that was replaced or surrendered ever again.
+pub fn laws_of_receipts()
+    ensures grow { SecretsGrow }
+    ensures one { OneIsLive }
+    ensures never_again { NeverLiveAgain }
+{}
+
+/// A brief owes what its pledge owes.
+pub fn laws_of_briefs()
+    ensures owes { BriefOwes }
+{}
+
+/// The texts of secrets and receipts are read back, and no text is of two receipts.
+pub fn laws_of_texts()
+    ensures secrets { SecretTextsReadBack }
+    ensures receipts { ReceiptTextsReadBack }
+    ensures one { ReceiptTextsAreOne }
+{}

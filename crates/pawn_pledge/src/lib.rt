@@ -1,0 +1,35 @@
+//! One pledge: its record, its status, the commands on it, and its receipts.
+#![tactic(auto)]
+
+mod brief;
+mod command;
+mod laws;
+mod lists;
+mod number;
+mod parts;
+mod pledge;
+mod receipt;
+mod record;
+mod refusal;
+mod secret;
+mod text;
+
+pub use brief::Brief;
+pub use command::{Applied, Command, Decision, Done, Paper, Stamp};
+pub use laws::{laws_of_briefs, laws_of_receipts, laws_of_steps, laws_of_texts};
+pub use lists::{Extensions, Secrets};
+pub use number::Number;
+pub use parts::Parts;
+pub use pawn_debt::{Day, DebtFault, Entries, Entry, Kind, Owing, Sort, Terms, Totals};
+pub use pawn_terms::{BadDay, RequestDay};
+pub use pledge::Pledge;
+pub use receipt::{BadReceipt, Receipt};
+pub use record::{
+    Article, Booking, BookingState, Closing, Extension, Issue, Issued, Opening, Reference, Status,
+};
+pub use refusal::Refusal;
+pub use secret::Secret;
+pub use text::Text;
+
+#[cfg(test)]
+mod tests;

@@ -1,0 +1,382 @@
+ghost use Rattle.std.specs.Prelude.{◌≡◌, ◌≤◌, ◌==◌, ◌↔◌, IsTrue, IfSome, IfNone};
+ghost use Rattle.std.specs.List.{list_any};
+ghost use Rattle.pawn_terms.specs.Calendar.{last_stamp_day};
+ghost use Rattle.pawn_debt.specs.Kept.{IsKept as IsOwed};
+ghost use Rattle.pawn_pledge.specs.Pledge.{debt_of, end_of, end_after, open_status, is_passed};
+ghost use Rattle.pawn_pledge.specs.Parts.{value_of, IsTyped, IsLimited, AreIssuedIn};
+ghost use Rattle.pawn_pledge.specs.Replayable.{Each, IsLaterIssue, AreIssued, AreDistinct, DoNotFall, last_issue, IsDrawnBy, AreExtended, last_extension, IsOverUnder, IsBooked, IsClosed, IsStanding};
+
+use crate::lists::{Extensions, Secrets};
+use crate::number::Number;
+use crate::pledge::{SMALL_CREDIT, agreed_end, status_in};
+use crate::record::{
+    Article, Booking, BookingState, Closing, Extension, Issue, Issued, Reference, Status,
+};
+use pawn_debt::{Day, Entries, Entry, Kind, Sort, Terms, Totals, owing_at, replay_entries};
+use pawn_terms::{RequestDay, last_day};
+
+const MOST_PENCE: u64 = 100_000_000;
+
+const MOST_SECRETS: usize = 101;
+
+const MOST_EXTENSIONS: usize = 99;
+
+const LAST_WINDOW: u64 = 15;
+
+const LAST_DAY: u32 = 84_005;
+
+/// The record of a pledge as plain fields, be it one that a pledge can have or not.
+#[derive(Drop)]
+pub struct Parts {
+    pub number: Number,
+    pub reference: Reference,
+    pub article: Article,
+    pub kind: Kind,
+    pub taken: Day,
+    pub agreed: Option<RequestDay>,
+    pub five_days: bool,
+    pub version: u64,
+    pub rate: u64,
+    pub keep_before: u64,
+    pub keep_after: u64,
+    pub entries: Entries,
+    pub secrets: Secrets,
+    pub extensions: Extensions,
+    pub held: bool,
+    pub booking: Option<Booking>,
+    pub last: Day,
+    pub closing: Closing,
+}
+
+/// The end of the period after extensions, if each was agreed in the period as it then was, for a later end.
+pub(crate) fn extended_to(
+    taken: Day,
+    first_end: Day,
+    last: Day,
+    extensions: &[Extension],
+) -> Option<Day>
+    ensures ends { IfSome result (λ ends. ends ≡ end_after first_end extensions.now) }
+    ensures some { IfSome result (λ ends. AreExtended taken first_end extensions.now × (last_extension taken extensions.now ≤ last)) }
+    ensures none { IfNone result (AreExtended taken first_end extensions.now → last_extension taken extensions.now ≤ last → ⊥) }
+{
+    let mut day = taken;
+    let mut ends = first_end;
+    for e in extensions {
+        if e.day < day || e.day > ends || e.until <= ends {
+            return None;
+        }
+        day = e.day;
+        ends = e.until;
+    }
+    if day > last {
+        return None;
+    }
+    Some(ends)
+}
+
+// Whether each drawing is in the period.
+fn are_drawn(ends: Day, entries: &[Entry]) -> bool
+    ensures { IsTrue result ↔ Each (λ e. IsDrawnBy ends e.sort e.day) entries.now }
+{
+    for e in entries {
+        if let Sort::Draw = e.sort {
+            if e.day > ends {
+                return false;
+            }
+        }
+    }
+    true
+}
+
+// Whether an issue after the first is of its sort.
+fn is_later_issue(credit: u64, sort: Issue) -> bool
+    ensures { IsTrue result ↔ IsLaterIssue credit sort }
+{
+    match sort {
+        Issue::Opening => false,
+        Issue::Sworn => true,
+        Issue::Written => credit <= SMALL_CREDIT,
+    }
+}
+
+fn are_later_issues(credit: u64, issued: &[Issued]) -> bool
+    ensures { IsTrue result ↔ Each (λ j. IsLaterIssue credit j.sort) issued.now }
+{
+    for i in issued {
+        if !is_later_issue(credit, i.sort) {
+            return false;
+        }
+    }
+    true
+}
+
+// Whether a secret is among others.
+fn is_among(issued: &Issued, others: &[Issued]) -> bool
+    ensures { result ≡ list_any (λ i. i.secret == issued.now.secret) others.now }
+{
+    let word = issued.secret.word();
+    others.iter().any(|other| other.secret.word() == word)
+}
+
+// Whether no secret stands twice.
+fn are_distinct(issued: &[Issued]) -> bool
+    ensures { IsTrue result ↔ AreDistinct issued.now }
+{
+    for i in 0..issued.len() {
+        if is_among(&issued[i], &issued[i + 1..]) {
+            return false;
+        }
+    }
+    true
+}
+
+// Whether days don't fall, from the day taken to the last.
+fn do_not_fall(taken: Day, last: Day, issued: &[Issued]) -> bool
+    ensures { IsTrue result ↔ (DoNotFall taken issued.now × (last_issue taken issued.now ≤ last)) }
+{
+    let mut day = taken;
+    for i in issued {
+        if i.day < day {
+            return false;
+        }
+        day = i.day;
+    }
+    day <= last
+}
+
+// The status on a day, the closing aside.
+fn open_status_on(parts: &Parts, ends: Day, day: Day) -> Status
+    requires ends { ends ≡ end_of (value_of parts.now) }
+    requires taken { parts.now.taken ≤ last_stamp_day }
+    ensures { result ≡ open_status (value_of parts.now) day }
+{
+    let six = ends == parts.taken.six_months_after();
+    let passes = six && parts.kind.credit() <= SMALL_CREDIT;
+    status_in(ends, parts.five_days, passes, day)
+}
+
+// Whether the property had passed on a day.
+fn is_passed_on(parts: &Parts, ends: Day, day: Day) -> bool
+    requires ends { ends ≡ end_of (value_of parts.now) }
+    requires taken { parts.now.taken ≤ last_stamp_day }
+    ensures { result ≡ is_passed (open_status (value_of parts.now) day) }
+{
+    match open_status_on(parts, ends, day) {
+        Status::Passed => true,
+        Status::Inside | Status::Grace | Status::Realisable | Status::Redeemed | Status::Sold =>
+            false,
+    }
+}
+
+// Whether a booking may have that state under that closing.
+fn is_over_under(closing: Closing, state: BookingState) -> bool
+    ensures { IsTrue result ↔ IsOverUnder closing state }
+{
+    match closing {
+        Closing::Open => true,
+        Closing::Redeemed { .. } | Closing::Sold { .. } => match state {
+            BookingState::Asked | BookingState::Confirmed => false,
+            BookingState::Refused | BookingState::Cancelled => true,
+        },
+    }
+}
+
+// Whether the booking is one that can have come about.
+fn is_booked(parts: &Parts, ends: Day) -> bool
+    requires ends { ends ≡ end_of (value_of parts.now) }
+    requires taken { parts.now.taken ≤ last_stamp_day }
+    ensures { IsTrue result ↔ IsBooked (value_of parts.now) parts.now.booking }
+{
+    let Some(b) = parts.booking else {
+        return true;
+    };
+    if b.day < parts.taken {
+        return false;
+    }
+    if is_passed_on(parts, ends, b.day) {
+        return false;
+    }
+    if b.window > LAST_WINDOW {
+        return false;
+    }
+    is_over_under(parts.closing, b.state)
+}
+
+// Whether the pledge was closed as it can be.
+fn is_closed(parts: &Parts, terms: Terms, ends: Day, totals: &Totals) -> bool
+    requires terms { terms ≡ (value_of parts.now).terms }
+    requires ends { ends ≡ end_of (value_of parts.now) }
+    requires taken { parts.now.taken ≤ last_stamp_day }
+    requires kept { IsOwed (debt_of (value_of parts.now)) totals.now }
+    requires later { totals.now.day ≤ parts.now.last }
+    ensures { IsTrue result ↔ IsClosed (value_of parts.now) parts.now.closing }
+{
+    match parts.closing {
+        Closing::Open => true,
+        Closing::Redeemed { day, paid } => {
+            let entries = parts.entries.as_slice();
+            let owing = owing_at(
+                parts.kind,
+                terms,
+                parts.taken,
+                ends,
+                entries,
+                totals,
+                parts.last,
+            );
+            if day != parts.last {
+                return false;
+            }
+            if parts.held {
+                return false;
+            }
+            paid == owing.total
+        }
+        Closing::Sold { day, net } => {
+            if day != parts.last {
+                return false;
+            }
+            let Status::Realisable = open_status_on(parts, ends, day) else {
+                return false;
+            };
+            net <= MOST_PENCE
+        }
+    }
+}
+
+// Whether the first secret is the opening's, and no later one is.
+fn are_issued(taken: Day, credit: u64, issued: &[Issued]) -> bool
+    ensures { IsTrue result ↔ AreIssued taken credit issued.now }
+{
+    let [first, rest @ ..] = issued else {
+        return false;
+    };
+    let Issue::Opening = first.sort else {
+        return false;
+    };
+    if first.day != taken {
+        return false;
+    }
+    are_later_issues(credit, rest)
+}
+
+// The same of parts.
+fn are_drawn_in(parts: &Parts, ends: Day) -> bool
+    requires ends { ends ≡ end_of (value_of parts.now) }
+    ensures { IsTrue result ↔ Each (λ e. IsDrawnBy (end_of (value_of parts.now)) e.sort e.day) parts.now.entries }
+{
+    are_drawn(ends, parts.entries.as_slice())
+}
+
+// Whether each extension is to a day that a request may name.
+fn are_named(extensions: &[Extension]) -> bool
+    ensures { IsTrue result ↔ Each (λ e. e.until ≤ last_stamp_day) extensions.now }
+{
+    for extension in extensions {
+        if extension.until.count() > LAST_DAY {
+            return false;
+        }
+    }
+    true
+}
+
+// Whether the booking is for a day that a request may name.
+fn is_named(booking: Option<Booking>) -> bool
+    ensures { IsTrue result ↔ IfSome booking (λ b. b.day ≤ last_stamp_day) }
+{
+    match booking {
+        Some(booking) => booking.day.count() <= LAST_DAY,
+        None => true,
+    }
+}
+
+// What a pledge of the parts holds besides them.
+#[derive(Clone, Copy)]
+pub(crate) struct Found {
+    pub terms: Terms,
+    pub ends: Day,
+    pub totals: Totals,
+}
+
+// What a pledge of the parts holds besides them, if there can be one.
+pub(crate) fn judge(parts: &Parts) -> Option<Found>
+    ensures standing { IfSome result (λ f. IsStanding (value_of parts.now)) }
+    ensures terms { IfSome result (λ f. f.terms ≡ (value_of parts.now).terms) }
+    ensures ends { IfSome result (λ f. f.ends ≡ end_of (value_of parts.now)) }
+    ensures kept { IfSome result (λ f. IsOwed (debt_of (value_of parts.now)) f.totals) }
+    ensures none { IfNone result (IsStanding (value_of parts.now) → ⊥) }
+{
+    let Ok(terms) = Terms::check(parts.rate, parts.keep_before, parts.keep_after) else {
+        return None;
+    };
+    let _ = terms.rate();
+    if !is_limited(parts) {
+        return None;
+    }
+    if parts.last < parts.taken {
+        return None;
+    }
+    let first = last_day(parts.taken, agreed_end(parts.agreed));
+    let ends = extended_to(parts.taken, first, parts.last, parts.extensions.as_slice())?;
+    let entries = parts.entries.as_slice();
+    let totals = replay_entries(parts.kind, terms, parts.taken, ends, entries)?;
+    if totals.day > parts.last {
+        return None;
+    }
+    if !are_drawn_in(parts, ends) {
+        return None;
+    }
+    if is_passed_on(parts, ends, parts.last) {
+        return None;
+    }
+    if !are_issued_in(parts) {
+        return None;
+    }
+    if !is_booked(parts, ends) {
+        return None;
+    }
+    if !is_closed(parts, terms, ends, &totals) {
+        return None;
+    }
+    Some(Found {
+        terms,
+        ends,
+        totals,
+    })
+}
+
+// Whether the parts keep the limits, the number of entries aside.
+fn is_limited(parts: &Parts) -> bool
+    ensures limits { IsTrue result ↔ IsLimited (value_of parts.now) }
+    ensures types { IsTyped (value_of parts.now) }
+{
+    let _ = parts.number.get();
+    let _ = parts.reference.as_str();
+    let _ = parts.article.as_str();
+    let _ = agreed_end(parts.agreed);
+    let credit = parts.kind.credit();
+    if credit == 0 || credit > MOST_PENCE {
+        return false;
+    }
+    if parts.last.count() > LAST_DAY {
+        return false;
+    }
+    if parts.secrets.len() > MOST_SECRETS {
+        return false;
+    }
+    if parts.extensions.len() > MOST_EXTENSIONS {
+        return false;
+    }
+    are_named(parts.extensions.as_slice()) && is_named(parts.booking)
+}
+
+// Whether the secrets are ones that can have been issued.
+fn are_issued_in(parts: &Parts) -> bool
+    ensures { IsTrue result ↔ AreIssuedIn (value_of parts.now) }
+{
+    let issued = parts.secrets.as_slice();
+    if !are_issued(parts.taken, parts.kind.credit(), issued) {
+        return false;
+    }
+    are_distinct(issued) && do_not_fall(parts.taken, parts.last, issued)
+}

@@ -1,0 +1,461 @@
+ghost use Rattle.std.specs.Prelude.{◌≡◌, ◌≤◌, ◌<◌, length, Ok, OnOk};
+ghost use Rattle.pawn_terms.specs.Refusals.{first_of};
+ghost use Rattle.pawn_debt.specs.declared.entry.Entry.{Entry};
+ghost use Rattle.pawn_pledge.specs.Pledge.{end_of};
+ghost use Rattle.pawn_pledge.specs.Step.{Changed, unless, bars, declare_bars, most_secrets, pledge_step, numbered_step, entry_of, entry_step, hold_step, declare_step, ask_step, asked, cancel_step, decide_step, confirmed, declined, redeem_step, sell_step, extend_step, books, in_state, is_standing, state_after, booking_after, with_secret, with_extension, issue_of, is_ahead, is_repeat, IsStep, IsApplied};
+
+use super::{Pledge, SMALL_CREDIT};
+use crate::command::{Applied, Command, Decision, Done, Paper, Stamp};
+use crate::record::{Booking, BookingState, Closing, Extension, Issue, Issued, Status};
+use crate::refusal::Refusal;
+use crate::secret::Secret;
+use pawn_debt::{Day, DebtFault, Entry, Sort};
+
+const MOST_SECRETS: usize = 101;
+
+const MOST_EXTENSIONS: usize = 99;
+
+const LAST_WINDOW: u64 = 15;
+
+const MOST_PENCE: u64 = 100_000_000;
+
+impl Pledge {
+    /// One command: what it answers, or the first refusal that applies. Where it is refused, the
+    /// pledge is unchanged.
+    pub fn apply(&mut self, stamp: &Stamp, command: &Command) -> Result<Done, Refusal>
+        ensures { IsStep (pledge_step self.old stamp.now command.now) self.old result self.new }
+    {
+        match self.apply_telling(stamp, command) {
+            Ok(applied) => Ok(applied.done),
+            Err(refusal) => Err(refusal),
+        }
+    }
+
+    /// The same, and whether the command changed the pledge: one that was made already is answered
+    /// again and changes nothing.
+    pub fn apply_telling(&mut self, stamp: &Stamp, command: &Command) -> Result<Applied, Refusal>
+        ensures { IsApplied (pledge_step self.old stamp.now command.now) self.old result self.new }
+    {
+        let day = stamp.day.day();
+        match *command {
+            Command::Draw { seq, pence } => self.enter(day, seq, Sort::Draw, pence),
+            Command::Repay { seq, pence } => self.enter(day, seq, Sort::Repay, pence),
+            Command::Hold => self.hold(day, true),
+            Command::Release => self.hold(day, false),
+            Command::Declare(paper) => self.declare(stamp, paper),
+            Command::AskBooking {
+                day: wanted,
+                window,
+            } => self.ask(day, wanted.day(), window),
+            Command::CancelBooking => self.cancel(day),
+            Command::DecideBooking(decision) => self.decide(day, decision),
+            Command::Redeem { paid } => self.redeem(day, paid),
+            Command::Sell { net } => self.sell(day, net),
+            Command::Extend { until } => self.extend(day, until.day()),
+        }
+    }
+
+    // What bars every command.
+    fn gate(&self, day: Day) -> Result<(), Refusal>
+        ensures answer { result ≡ first_of (bars self.now day) (Ok tt) }
+        ensures later { OnOk result (self.now.last ≤ day) }
+    {
+        if day < self.last {
+            return Err(Refusal::Debt(DebtFault::EarlierDay));
+        }
+        let Closing::Open = self.closing else {
+            return Err(Refusal::Closed);
+        };
+        if let Status::Passed = self.open_status(day) {
+            return Err(Refusal::Passed);
+        }
+        Ok(())
+    }
+
+    // A drawing or a repayment. One whose number stands already is answered as the first time.
+    fn enter(&mut self, day: Day, seq: u64, sort: Sort, pence: u64) -> Result<Applied, Refusal>
+        ensures { IsApplied (numbered_step self.old day seq sort pence (entry_of self.old seq)) self.old result self.new }
+    {
+        let standing = self.debt.entry(seq);
+        self.enter_once(standing, day, seq, sort, pence)
+    }
+
+    // The same, with the entry of that number, if there is one.
+    fn enter_once(
+        &mut self,
+        standing: Option<Entry>,
+        day: Day,
+        seq: u64,
+        sort: Sort,
+        pence: u64,
+    ) -> Result<Applied, Refusal>
+        ensures { IsApplied (numbered_step self.old day seq sort pence standing) self.old result self.new }
+    {
+        if let Some(entry) = standing {
+            if !is_repeat(&entry, sort, pence) {
+                return Err(Refusal::SeqTaken);
+            }
+            return Ok(Applied::answered(Done::Entered(entry)));
+        }
+        if self.is_ahead(seq) {
+            return Err(Refusal::SeqAhead);
+        }
+        self.gate(day)?;
+        match sort {
+            Sort::Draw => self.draw(day, pence),
+            Sort::Repay => self.repay(day, pence),
+        }
+    }
+
+    // Whether an entry's number is 0, or past the next.
+    fn is_ahead(&self, seq: u64) -> bool
+        ensures { result ≡ is_ahead self.now seq }
+    {
+        seq == 0 || seq > self.debt.count() as u64 + 1
+    }
+
+    fn draw(&mut self, day: Day, pence: u64) -> Result<Applied, Refusal>
+        requires { self.old.last ≤ day }
+        ensures { IsApplied (entry_step self.old day Sort.Draw pence) self.old result self.new }
+    {
+        if day > self.debt.ends() {
+            return Err(Refusal::PeriodOver);
+        }
+        let entry = Entry {
+            seq: self.debt.count() as u64 + 1,
+            day,
+            sort: Sort::Draw,
+            pence,
+        };
+        self.debt.draw(day, pence)?;
+        self.last = day;
+        Ok(Applied::changed(Done::Entered(entry)))
+    }
+
+    fn repay(&mut self, day: Day, pence: u64) -> Result<Applied, Refusal>
+        requires { self.old.last ≤ day }
+        ensures { IsApplied (entry_step self.old day Sort.Repay pence) self.old result self.new }
+    {
+        let entry = Entry {
+            seq: self.debt.count() as u64 + 1,
+            day,
+            sort: Sort::Repay,
+            pence,
+        };
+        self.debt.repay(day, pence)?;
+        self.last = day;
+        Ok(Applied::changed(Done::Entered(entry)))
+    }
+
+    // Sets the flag that bars redemption.
+    fn hold(&mut self, day: Day, flag: bool) -> Result<Applied, Refusal>
+        ensures { IsApplied (unless (bars self.old day) (hold_step self.old day flag)) self.old result self.new }
+    {
+        self.gate(day)?;
+        if self.held == flag {
+            return Ok(Applied::answered(Done::Held(flag)));
+        }
+        self.held = flag;
+        self.last = day;
+        Ok(Applied::changed(Done::Held(flag)))
+    }
+
+    // Issues the stamp's word as the new secret.
+    fn declare(&mut self, stamp: &Stamp, paper: Paper) -> Result<Applied, Refusal>
+        ensures { IsApplied (unless (bars self.old stamp.now.day) (declare_step self.old stamp.now paper)) self.old result self.new }
+    {
+        let day = stamp.day.day();
+        self.gate(day)?;
+        self.may_declare(stamp, paper)?;
+        let issued = Issued {
+            day,
+            sort: paper.issue(),
+            secret: Secret::of_word(stamp.word),
+        };
+        self.issue(issued)
+    }
+
+    // What is refused for a declaration alone.
+    fn may_declare(&self, stamp: &Stamp, paper: Paper) -> Result<(), Refusal>
+        ensures answer { result ≡ first_of (declare_bars self.now stamp.now paper) (Ok tt) }
+        ensures few { OnOk result (length self.now.secrets < most_secrets) }
+    {
+        if paper == Paper::Written && self.debt.kind().credit() > SMALL_CREDIT {
+            return Err(Refusal::NotSmall);
+        }
+        if self.secrets.len() >= MOST_SECRETS {
+            return Err(Refusal::DeclarationsFull);
+        }
+        if self.secrets.holds(Secret::of_word(stamp.word)) {
+            return Err(Refusal::SecretUsed);
+        }
+        Ok(())
+    }
+
+    // Issues a secret.
+    fn issue(&mut self, issued: Issued) -> Result<Applied, Refusal>
+        requires few { length self.old.secrets < most_secrets }
+        requires later { self.old.last ≤ issued.day }
+        ensures { IsApplied (Changed (with_secret self.old issued) (Done.Declared issued.secret)) self.old result self.new }
+    {
+        let day = issued.day;
+        let secret = issued.secret;
+        match self.secrets.push(issued) {
+            Ok(()) => {
+                self.last = day;
+                Ok(Applied::changed(Done::Declared(secret)))
+            }
+            Err(_) => Err(Refusal::Memory),
+        }
+    }
+
+    // Keeps a booking.
+    fn book(&mut self, day: Day, booking: &Booking) -> Result<Applied, Refusal>
+        requires { self.old.last ≤ day }
+        ensures { IsApplied (books self.old day booking.now) self.old result self.new }
+    {
+        self.booking = Some(*booking);
+        self.last = day;
+        Ok(Applied::changed(Done::Booked(*booking)))
+    }
+
+    // Asks for a day and a window.
+    fn ask(&mut self, day: Day, wanted: Day, window: u64) -> Result<Applied, Refusal>
+        ensures { IsApplied (unless (bars self.old day) (ask_step self.old day wanted window)) self.old result self.new }
+    {
+        self.gate(day)?;
+        if window > LAST_WINDOW {
+            return Err(Refusal::BadWindow);
+        }
+        if wanted < day {
+            return Err(Refusal::BookingDay);
+        }
+        if let Status::Passed = self.open_status(wanted) {
+            return Err(Refusal::BookingDay);
+        }
+        self.ask_once(day, wanted, window)
+    }
+
+    // The same, where nothing is to be refused any more.
+    fn ask_once(&mut self, day: Day, wanted: Day, window: u64) -> Result<Applied, Refusal>
+        requires { self.old.last ≤ day }
+        ensures { IsApplied (asked self.old day wanted window self.old.booking) self.old result self.new }
+    {
+        let asked = Booking {
+            day: wanted,
+            window,
+            state: BookingState::Asked,
+        };
+        if let Some(booking) = self.booking {
+            if booking.day == wanted && booking.window == window && booking.state.is_standing() {
+                return Ok(Applied::answered(Done::Booked(booking)));
+            }
+        }
+        self.book(day, &asked)
+    }
+
+    // Gives a booking up.
+    fn cancel(&mut self, day: Day) -> Result<Applied, Refusal>
+        ensures { IsApplied (unless (bars self.old day) (cancel_step self.old day self.old.booking)) self.old result self.new }
+    {
+        self.gate(day)?;
+        let Some(booking) = self.booking else {
+            return Err(Refusal::NoBooking);
+        };
+        match booking.state {
+            BookingState::Asked | BookingState::Confirmed => {
+                self.book(day, &booking.in_state(BookingState::Cancelled))
+            }
+            BookingState::Refused => Err(Refusal::NoBooking),
+            BookingState::Cancelled => Ok(Applied::answered(Done::Booked(booking))),
+        }
+    }
+
+    // Confirms or refuses a booking.
+    fn decide(&mut self, day: Day, decision: Decision) -> Result<Applied, Refusal>
+        ensures { IsApplied (unless (bars self.old day) (decide_step self.old day decision self.old.booking)) self.old result self.new }
+    {
+        self.gate(day)?;
+        let Some(booking) = self.booking else {
+            return Err(Refusal::NoBooking);
+        };
+        match decision {
+            Decision::Confirm => self.confirm(day, &booking),
+            Decision::Refuse => self.decline(day, &booking),
+        }
+    }
+
+    fn confirm(&mut self, day: Day, booking: &Booking) -> Result<Applied, Refusal>
+        requires { self.old.last ≤ day }
+        ensures { IsApplied (confirmed self.old day booking.now booking.now.state) self.old result self.new }
+    {
+        match booking.state {
+            BookingState::Asked => {
+                if booking.day < day {
+                    return Err(Refusal::BookingDay);
+                }
+                self.book(day, &booking.in_state(BookingState::Confirmed))
+            }
+            BookingState::Confirmed => Ok(Applied::answered(Done::Booked(*booking))),
+            BookingState::Refused | BookingState::Cancelled => Err(Refusal::NoBooking),
+        }
+    }
+
+    fn decline(&mut self, day: Day, booking: &Booking) -> Result<Applied, Refusal>
+        requires { self.old.last ≤ day }
+        ensures { IsApplied (declined self.old day booking.now booking.now.state) self.old result self.new }
+    {
+        match booking.state {
+            BookingState::Asked | BookingState::Confirmed => {
+                self.book(day, &booking.in_state(BookingState::Refused))
+            }
+            BookingState::Refused => Ok(Applied::answered(Done::Booked(*booking))),
+            BookingState::Cancelled => Err(Refusal::NoBooking),
+        }
+    }
+
+    // Closes the pledge on payment of what is owed.
+    fn redeem(&mut self, day: Day, paid: u64) -> Result<Applied, Refusal>
+        ensures { IsApplied (unless (bars self.old day) (redeem_step self.old day paid)) self.old result self.new }
+    {
+        self.gate(day)?;
+        if self.held {
+            return Err(Refusal::Held);
+        }
+        let total = self.debt.owing(day).total;
+        if paid != total {
+            return Err(Refusal::WrongAmount { total });
+        }
+        self.booking = booking_after(self.booking);
+        self.closing = Closing::Redeemed { day, paid };
+        self.last = day;
+        Ok(Applied::changed(Done::Redeemed { day, paid }))
+    }
+
+    // Closes the pledge by sale.
+    fn sell(&mut self, day: Day, net: u64) -> Result<Applied, Refusal>
+        ensures { IsApplied (unless (bars self.old day) (sell_step self.old day net)) self.old result self.new }
+    {
+        self.gate(day)?;
+        let Status::Realisable = self.open_status(day) else {
+            return Err(Refusal::NotRealisable);
+        };
+        if net > MOST_PENCE {
+            return Err(Refusal::Debt(DebtFault::BadAmount));
+        }
+        let total = self.debt.owing(day).total;
+        self.booking = booking_after(self.booking);
+        self.closing = Closing::Sold { day, net };
+        self.last = day;
+        Ok(Applied::changed(Done::Sold {
+            net,
+            surplus: net.saturating_sub(total),
+            shortfall: total.saturating_sub(net),
+        }))
+    }
+
+    // Agrees on a later end of the period.
+    fn extend(&mut self, day: Day, until: Day) -> Result<Applied, Refusal>
+        ensures { IsApplied (unless (bars self.old day) (extend_step self.old day until)) self.old result self.new }
+    {
+        self.gate(day)?;
+        let ends = self.debt.ends();
+        if day > ends {
+            return Err(Refusal::PeriodOver);
+        }
+        if until == ends {
+            return Ok(Applied::answered(Done::Extended { until }));
+        }
+        if until < ends {
+            return Err(Refusal::NotLater);
+        }
+        if self.extensions.len() >= MOST_EXTENSIONS {
+            return Err(Refusal::ExtensionsFull);
+        }
+        self.extend_once(Extension { day, until })
+    }
+
+    // The same, where nothing is to be refused any more.
+    fn extend_once(&mut self, extension: Extension) -> Result<Applied, Refusal>
+        requires later { self.old.last ≤ extension.day }
+        requires inside { extension.day ≤ end_of self.old }
+        requires longer { end_of self.old < extension.until }
+        ensures { IsApplied (Changed (with_extension self.old extension) (Done.Extended extension.until)) self.old result self.new }
+    {
+        let day = extension.day;
+        let until = extension.until;
+        match self.extensions.push(extension) {
+            Ok(()) => {
+                self.debt.extend(until);
+                self.last = day;
+                Ok(Applied::changed(Done::Extended { until }))
+            }
+            Err(_) => Err(Refusal::Memory),
+        }
+    }
+}
+
+impl Booking {
+    // The same booking in another state.
+    fn in_state(self, state: BookingState) -> Booking
+        ensures { result ≡ in_state self state }
+    {
+        Booking {
+            day: self.day,
+            window: self.window,
+            state,
+        }
+    }
+}
+
+impl BookingState {
+    // Whether a booking is asked for or confirmed.
+    fn is_standing(self) -> bool
+        ensures { result ≡ is_standing self }
+    {
+        match self {
+            BookingState::Asked | BookingState::Confirmed => true,
+            BookingState::Refused | BookingState::Cancelled => false,
+        }
+    }
+
+    // The state once the pledge is closed.
+    fn after_closing(self) -> BookingState
+        ensures { result ≡ state_after self }
+    {
+        match self {
+            BookingState::Asked | BookingState::Confirmed => BookingState::Cancelled,
+            BookingState::Refused => BookingState::Refused,
+            BookingState::Cancelled => BookingState::Cancelled,
+        }
+    }
+}
+
+impl Paper {
+    // How a secret is issued on the paper.
+    fn issue(self) -> Issue
+        ensures { result ≡ issue_of self }
+    {
+        match self {
+            Paper::Sworn => Issue::Sworn,
+            Paper::Written => Issue::Written,
+        }
+    }
+}
+
+// A booking once its pledge is closed.
+fn booking_after(booking: Option<Booking>) -> Option<Booking>
+    ensures { result ≡ booking_after booking }
+{
+    match booking {
+        None => None,
+        Some(booking) => Some(booking.in_state(booking.state.after_closing())),
+    }
+}
+
+// Whether an entry that stands is asked for again.
+fn is_repeat(entry: &Entry, sort: Sort, pence: u64) -> bool
+    ensures { result ≡ is_repeat entry.now sort pence }
+{
+    entry.sort == sort && entry.pence == pence
+}

@@ -1,0 +1,149 @@
+ghost use Rattle.std.specs.Prelude.{◌≡◌};
+
+use pawn_debt::DebtFault;
+use std::error::Error;
+use std::fmt;
+
+/// Why a command on a pledge is refused.
+#[derive(Clone, Copy, Debug, PartialEq, Eq, Hash)]
+pub enum Refusal {
+    /// The debt's own refusals.
+    Debt(DebtFault),
+    /// An entry of this number stands, of another sort or sum.
+    SeqTaken,
+    /// An entry's number that is 0, or past the next.
+    SeqAhead,
+    /// Redemption of a pledge that is held.
+    Held,
+    /// The property has passed to the pawnbroker.
+    Passed,
+    /// The pledge is redeemed or sold.
+    Closed,
+    /// A sale before the pledge is realisable.
+    NotRealisable,
+    /// A written statement on a credit that is not small.
+    NotSmall,
+    /// The new secret is one of the pledge's already.
+    SecretUsed,
+    /// As many secrets stand as a pledge may have.
+    DeclarationsFull,
+    /// Another sum than what is owing, with what is owing.
+    WrongAmount { total: u64 },
+    /// No booking that the command could be on.
+    NoBooking,
+    /// A booking's day that is over, or on which the property will have passed.
+    BookingDay,
+    /// A window above 15.
+    BadWindow,
+    /// A drawing or an extension after the end of the period.
+    PeriodOver,
+    /// An extension to an earlier end.
+    NotLater,
+    /// As many extensions stand as a pledge may have.
+    ExtensionsFull,
+    /// A growth was refused.
+    Memory,
+}
+
+impl Refusal {
+    ghost use Rattle.pawn_pledge.specs.Refusal.{code_of, name_of, refusal_total};
+
+    /// The number of the refusal, as replies carry it.
+    pub fn code(self) -> u16
+        ensures { result ≡ code_of self }
+    {
+        match self {
+            Refusal::Debt(fault) => fault.code(),
+            Refusal::SeqTaken => 301,
+            Refusal::SeqAhead => 302,
+            Refusal::Held => 303,
+            Refusal::Passed => 304,
+            Refusal::Closed => 305,
+            Refusal::NotRealisable => 306,
+            Refusal::NotSmall => 307,
+            Refusal::SecretUsed => 308,
+            Refusal::DeclarationsFull => 309,
+            Refusal::WrongAmount { .. } => 310,
+            Refusal::NoBooking => 311,
+            Refusal::BookingDay => 312,
+            Refusal::BadWindow => 313,
+            Refusal::PeriodOver => 314,
+            Refusal::NotLater => 315,
+            Refusal::ExtensionsFull => 316,
+            Refusal::Memory => 491,
+        }
+    }
+
+    /// The name of the refusal, as replies carry it.
+    pub fn name(self) -> &'static str
+        ensures { result.now ≡ name_of self }
+    {
+        match self {
+            Refusal::Debt(fault) => fault.name(),
+            Refusal::SeqTaken => "SeqTaken",
+            Refusal::SeqAhead => "SeqAhead",
+            Refusal::Held => "Held",
+            Refusal::Passed => "Passed",
+            Refusal::Closed => "Closed",
+            Refusal::NotRealisable => "NotRealisable",
+            Refusal::NotSmall => "NotSmall",
+            Refusal::SecretUsed => "SecretUsed",
+            Refusal::DeclarationsFull => "DeclarationsFull",
+            Refusal::WrongAmount { .. } => "WrongAmount",
+            Refusal::NoBooking => "NoBooking",
+            Refusal::BookingDay => "BookingDay",
+            Refusal::BadWindow => "BadWindow",
+            Refusal::PeriodOver => "PeriodOver",
+            Refusal::NotLater => "NotLater",
+            Refusal::ExtensionsFull => "ExtensionsFull",
+            Refusal::Memory => "Memory",
+        }
+    }
+
+    /// What is owing, in pence, where another sum was paid.
+    pub fn total(self) -> Option<u64>
+        ensures { result ≡ refusal_total self }
+    {
+        match self {
+            Refusal::Debt(fault) => fault.total(),
+            Refusal::WrongAmount { total } => Some(total),
+            Refusal::SeqTaken
+            | Refusal::SeqAhead
+            | Refusal::Held
+            | Refusal::Passed
+            | Refusal::Closed
+            | Refusal::NotRealisable
+            | Refusal::NotSmall
+            | Refusal::SecretUsed
+            | Refusal::DeclarationsFull
+            | Refusal::NoBooking
+            | Refusal::BookingDay
+            | Refusal::BadWindow
+            | Refusal::PeriodOver
+            | Refusal::NotLater
+            | Refusal::ExtensionsFull
+            | Refusal::Memory => None,
+        }
+    }
+}
+
+impl fmt::Display for Refusal {
+    fn fmt<W: fmt::Write>(&self, f: &mut fmt::Formatter<W>) -> fmt::Result {
+        f.write_str(self.name())
+    }
+}
+
+impl Error for Refusal {}
+
+impl From<DebtFault> for Refusal {
+    ghost use Rattle.pawn_pledge.specs.Refusal.{refusal_of};
+
+    ghost from_gives = { λ fault refusal. refusal ≡ refusal_of fault };
+
+    fn from(fault: DebtFault) -> Refusal {
+        match fault {
+            DebtFault::Memory => Refusal::Memory,
+            _ => Refusal::Debt(fault),
+        }
+    }
+}

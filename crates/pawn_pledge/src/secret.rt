@@ -1,0 +1,57 @@
+ghost use Rattle.std.specs.Prelude.{◌≡◌, ◌^◌, ◌<◌, ℕ, IfOk, string_bytes};
+ghost use Rattle.pawn_pledge.specs.Secret.{secret_text, secret_of_text};
+
+use std::alloc::{AllocError, Global};
+use std::marker::Model;
+use uuid::Uuid;
+
+/// A secret of 128 bits. A clause sees its number.
+#[derive(Clone, Copy, Debug, PartialEq, Eq, Hash)]
+pub struct Secret {
+    word: u128,
+}
+
+impl Model for Secret {
+    ghost Value = { ℕ };
+
+    ghost view = { λ s. s.word };
+
+    ghost inverse = { λ n. record { word = n } };
+}
+
+impl Secret {
+    /// The secret of a word.
+    pub fn of_word(word: u128) -> Secret
+        ensures { result ≡ word }
+    {
+        Secret { word }
+    }
+
+    /// The word of the secret.
+    pub fn word(self) -> u128
+        ensures { result ≡ self }
+    {
+        self.word
+    }
+
+    /// The secret of a text in any of the four forms of a UUID.
+    pub fn of_text(text: &[u8]) -> Option<Secret>
+        ensures { result ≡ secret_of_text text.now }
+    {
+        match Uuid::try_parse_ascii(text) {
+            Ok(id) => Some(Secret { word: id.as_u128() }),
+            Err(_) => None,
+        }
+    }
+
+    /// The hyphenated text of the secret, with small letters.
+    pub fn text(self, alloc: Global) -> Result<String, AllocError>
+        ensures { IfOk result (λ t. string_bytes t ≡ secret_text self) }
+    {
+        let mut buffer = Uuid::encode_buffer();
+        let text = Uuid::from_u128(self.word)
+            .hyphenated()
+            .encode_lower(&mut buffer);
+        String::from_str(alloc, text)
+    }
+}
