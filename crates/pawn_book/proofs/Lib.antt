@@ -1,0 +1,10 @@
+pub mod RowSums
+pub mod Places
+pub mod VisitLemmas
+pub mod Reading
+pub mod Sounds
+pub mod Plans
+pub mod ActLemmas
+pub mod ListReads
+pub mod ListSaves
+pub mod ListKeeping

@@ -1,0 +1,179 @@
+-- A plan by a keeper's answers is the book's step.
+use Rattle.std.proofs.Common.{◌≡◌, ◌≢◌, ℕ, ◌+◌, ◌<◌, ◌≤◌, zero, suc, List, [], ◌∷◌, ◌++◌, length, Some, None, Ok, Err, refl, ◌∙◌, ap, sym, subst, arith, inl, inr}
+use Rattle.std.specs.Prelude.{if◌then◌else◌, Option, Result, ◌==◌, Bool, true, false, nat_lt, nat_le, ◌⊎◌, IfSome, IfOk, slice_get, find, option_map}
+use Rattle.std.specs.FinMap.{get}
+use Rattle.std.proofs.lemmas.Bool.Decides.{nat_tests}
+use Rattle.pawn_terms.specs.Terms.{TermsValue, IsChecked}
+use Rattle.pawn_pledge.specs.Pledge.{PledgeValue}
+use Rattle.pawn_debt.specs.Answers.{is_bad_amount}
+use Rattle.pawn_debt.specs.Due.{credit_of}
+use Rattle.pawn_pledge.specs.declared.refusal.Refusal.{Refusal as PledgeRefusal}
+use Rattle.pawn_pledge.specs.Replayable.{IsStanding}
+use Rattle.pawn_pledge.specs.Step.{started}
+use Rattle.std.specs.Result.{result_unwrap_or}
+use Rattle.pawn_pledge.specs.declared.record.Opening.{Opening}
+use Rattle.pawn_pledge.specs.declared.command.Stamp.{Stamp}
+use Rattle.pawn_book.specs.declared.request.NewBook.{NewBook}
+use Rattle.pawn_book.specs.declared.request.NewTerms.{NewTerms}
+use Rattle.pawn_book.specs.declared.reply.Reply.TheVariants.{BookMade, TermsPut, Opened}
+use Rattle.pawn_book.specs.declared.refusal.Refusal.{Refusal}
+use Rattle.pawn_book.specs.declared.refusal.Refusal.TheVariants.{PledgesFull, TermsFull, TermsSeq}
+use Rattle.pawn_book.specs.declared.change.Change.{Change}
+use Rattle.pawn_book.specs.declared.change.Change.TheVariants.{MakeBook, AddTerms, PutPledge}
+use Rattle.pawn_book.specs.declared.change.Head.{Head}
+use Rattle.pawn_book.specs.declared.change.Planned.{Planned}
+use Rattle.pawn_book.specs.BookStep.{BookValue, Outcome, Makes, created, made, made_book, next_terms, put_terms, take_pledge, taken_under, under_pledge, with_room, terms_at, newest, with_reference, head_of, first_receipt, changed_book, pledge_from, pledge_in, put_from, is_text}
+use Rattle.pawn_book.specs.HostStep.{Host, with_book}
+use Rattle.pawn_book.specs.Limits.{most_terms, most_pledges}
+use Rattle.pawn_book.specs.Sound.{IsSound, IsSoundBook, AreSound, AreNumberedFrom}
+use Rattle.pawn_book.specs.Keeping.{Reads, Plans, CanSave, Follows, book_of, changed, number_of, pledges_of, terms_of}
+use Rattle.pawn_book.proofs.Sounds.{sound_with, sound_made, sound_terms, sound_next, some_is, absurd_none}
+use Rattle.pawn_book.proofs.ListReads.{pledge_from_place}
+
+-- the book of a change, set in the host
+changed_is : (h : Host) (b : ℕ) (change : Change) (book : BookValue) → book_of change ≡ b → changed_book (get h.books b) change ≡ Some book → changed h change ≡ with_book h b (Some book)
+changed_is h b change book named is = ap (λ (c : ℕ). with_book h c (changed_book (get h.books c) change)) named ∙ ap (with_book h b) is
+
+-- a row that did not apply
+past_row : {V E : Type 0} (test : Bool) (why : E) (rest : Result V E) (v : V) → (if test then Err why else rest) ≡ Ok v → (test ≡ false) × (rest ≡ Ok v)
+past_row true why rest v is = cc is
+past_row false why rest v is = (refl, is)
+
+-- a book that doesn't stand is made
+pub book_plans : (h : Host) (b : ℕ) (new : NewBook) → IsSound h → get h.books b ≡ None
+    → Plans h b (created (get h.books b) b new) (Ok (record { change = Some (MakeBook b new); reply = BookMade b }))
+book_plans h b new sound none =
+    (ap (λ o. created o b new) none, (refl, record { follows = none; sound = sound_with h b (made_book new) sound.books (sound_made new) }))
+
+-- the next version of terms is added
+pub terms_plans : (h : Host) (b : ℕ) (at : BookValue) (new : NewTerms) (terms : TermsValue) → IsSound h → get h.books b ≡ Some at
+    → terms_at at.terms new.version ≡ None → next_terms (length at.terms) new ≡ Ok terms → new.version ≡ length at.terms + 1 → length at.terms < most_terms → IsChecked terms
+    → Plans h b (put_terms at b new (terms_at at.terms new.version)) (Ok (record { change = Some (AddTerms b new.version terms); reply = TermsPut new.version }))
+terms_plans h b at new terms sound is none answer version few checked =
+    let book : BookValue = record at { terms = at.terms ++ terms ∷ [] } in
+    let same : changed h (AddTerms b new.version terms) ≡ with_book h b (Some book) =
+        changed_is h b (AddTerms b new.version terms) book refl (ap (λ o. changed_book o (AddTerms b new.version terms)) is) in
+    (ap (put_terms at b new) none ∙ ap (λ r. made r (λ terms. Makes (AddTerms b new.version terms) (TermsPut new.version))) answer,
+    (refl, record {
+      follows = (at, is, version);
+      sound = subst AreSound (sym same) (sound_with h b book sound.books (sound_terms at terms (sound.books b at is) checked few));
+    }))
+
+-- the next pledge is taken
+pub pledge_plans : (h : Host) (b : ℕ) (at : BookValue) (opening : Opening) (stamp : Stamp) (p : PledgeValue) → IsSound h → get h.books b ≡ Some at
+    → with_reference at.pledges opening.reference ≡ None → taken_under (head_of at) opening stamp (newest at.terms) ≡ Ok p
+    → p.number ≡ length at.pledges + 1 → length at.pledges < most_pledges → IsStanding p
+    → Plans h b (take_pledge at b opening stamp (with_reference at.pledges opening.reference)) (Ok (record { change = Some (PutPledge b p); reply = Opened (first_receipt p) }))
+pledge_plans h b at opening stamp p sound is none answer number few standing =
+    let book : BookValue = record at { pledges = put_from 1 at.pledges p.number p } in
+    let same : changed h (PutPledge b p) ≡ with_book h b (Some book) =
+        changed_is h b (PutPledge b p) book refl (ap (λ o. changed_book o (PutPledge b p)) is) in
+    (ap (take_pledge at b opening stamp) none ∙ ap (λ r. made r (λ p. Makes (PutPledge b p) (Opened (first_receipt p)))) answer,
+    (refl, record {
+      follows = (at, is, inl number);
+      sound = subst AreSound (sym same) (sound_with h b book sound.books (sound_next at p (sound.books b at is) number standing few));
+    }))
+
+-- a pledge that is found by its reference stands under its number
+reference_from : (k : ℕ) (ps : List PledgeValue) (reference : List ℕ) (p : PledgeValue) → AreNumberedFrom k ps → with_reference ps reference ≡ Some p
+    → (k ≤ p.number) × (pledge_from k ps p.number ≡ Some p)
+reference_from k [] reference p numbered is = absurd_none is
+reference_from k (r ∷ ps) reference p numbered is =
+    elim (is_text r.reference reference) as (λ v. (if v then Some r else with_reference ps reference) ≡ Some p → (k ≤ p.number) × (pledge_from k (r ∷ ps) p.number ≡ Some p)) [
+      | true ↦ λ here.
+          let same = some_is r p here in
+          let at_k : p.number ≡ k = ap (λ (q : PledgeValue). q.number) (sym same) ∙ numbered.0 in
+          let yes : (p.number == k) ≡ true = grind (arith, nat_tests, at_k) in
+          (omega (arith, at_k), ap (λ v. if v then Some r else pledge_from (k + 1) ps p.number) yes ∙ here)
+      | false ↦ λ there.
+          let rest = reference_from (k + 1) ps reference p numbered.1 there in
+          let past : k + 1 ≤ p.number = rest.0 in
+          let apart : p.number ≢ k = λ same. absurd (omega (arith, same, past)) in
+          let no : (p.number == k) ≡ false = grind (arith, nat_tests, apart) in
+          (omega (arith, past), ap (λ v. if v then Some r else pledge_from (k + 1) ps p.number) no ∙ rest.1)
+    ] is
+
+-- the number of a reference leads to its pledge
+pub found_by_number : (h : Host) (b n : ℕ) (reference : List ℕ) → IsSound h → Some n ≡ number_of (get h.books b) reference
+    → pledge_in (get h.books b) n ≡ with_reference (pledges_of (get h.books b)) reference
+found_by_number h b n reference sound is = from (get h.books b) refl is
+  where
+    at : (book : BookValue) → AreNumberedFrom 1 book.pledges → (o : Option PledgeValue) → with_reference book.pledges reference ≡ o → Some n ≡ option_map (λ p. p.number) o
+        → pledge_from 1 book.pledges n ≡ o
+    at book numbered None e is = absurd_none (sym is)
+    at book numbered (Some p) e is =
+        let same : n ≡ p.number = some_is n p.number is in
+        ap (pledge_from 1 book.pledges) same ∙ (reference_from 1 book.pledges reference p numbered e).1
+
+    from : (o : Option BookValue) → get h.books b ≡ o → Some n ≡ number_of o reference → pledge_in o n ≡ with_reference (pledges_of o) reference
+    from None e is = refl
+    from (Some book) e is = at book (sound.books b book e).numbered (with_reference book.pledges reference) refl is ∙ refl
+
+-- a reference that no number has
+pub no_number : (h : Host) (b : ℕ) (reference : List ℕ) → None ≡ number_of (get h.books b) reference → with_reference (pledges_of (get h.books b)) reference ≡ None
+no_number h b reference is = from (with_reference (pledges_of (get h.books b)) reference) is
+  where
+    from : (o : Option PledgeValue) → None ≡ option_map (λ p. p.number) o → o ≡ None
+    from None is = refl
+    from (Some p) is = absurd_none is
+
+-- terms that are not refused have the next version, and there is room for them
+next_is : (standing : ℕ) (new : NewTerms) (terms : TermsValue) → next_terms standing new ≡ Ok terms
+    → (1 ≤ new.version) × (new.version ≤ standing + 1) × (standing < most_terms)
+next_is standing new terms is =
+    let zero_free = past_row (new.version == 0) TermsSeq _ terms is in
+    let not_ahead = past_row (nat_lt (standing + 1) new.version) TermsSeq _ terms zero_free.1 in
+    let not_full = past_row (nat_le most_terms standing) TermsFull _ terms not_ahead.1 in
+    (grind (arith, nat_tests, zero_free.0), grind (arith, nat_tests, not_ahead.0), grind (arith, nat_tests, not_full.0))
+
+-- a version that doesn't stand is past those that do
+not_standing : (terms : List TermsValue) (version : ℕ) → terms_at terms version ≡ None → 1 ≤ version → length terms < version
+not_standing terms zero none low = absurd (omega (arith, low))
+not_standing [] (suc n) none low = omega arith
+not_standing (t ∷ ts) (suc zero) none low = absurd_none (sym none)
+not_standing (t ∷ ts) (suc (suc n)) none low = let rest = not_standing ts (suc n) none (omega arith) in omega (arith, rest)
+
+-- the next version of terms, as a keeper tells of them
+pub next_plans : (h : Host) (b : ℕ) (at : BookValue) (head : Head) (new : NewTerms) (terms : TermsValue) → IsSound h → get h.books b ≡ Some at → head ≡ head_of at
+    → None ≡ terms_at (terms_of (get h.books b)) new.version → next_terms head.terms new ≡ Ok terms → IsChecked terms
+    → Plans h b (put_terms at b new (terms_at at.terms new.version)) (Ok (record { change = Some (AddTerms b new.version terms); reply = TermsPut new.version }))
+next_plans h b at head new terms sound is heads none answer checked =
+    let absent : terms_at at.terms new.version ≡ None = sym (none ∙ ap (λ o. terms_at (terms_of o) new.version) is) in
+    let next : next_terms (length at.terms) new ≡ Ok terms = ap (λ (q : Head). next_terms q.terms new) (sym heads) ∙ answer in
+    let bounds = next_is (length at.terms) new terms next in
+    let past = not_standing at.terms new.version absent bounds.0 in
+    let high = bounds.1 in
+    terms_plans h b at new terms sound is absent next (omega (arith, past, high)) bounds.2 checked
+
+-- where a keeper tells of no head, there is no book
+pub no_head : (book : Option BookValue) → None ≡ option_map head_of book → book ≡ None
+no_head None is = refl
+no_head (Some book) is = absurd_none is
+
+-- a pledge that is taken is one past the book's last, and there is room for it
+taken_is : (head : Head) (opening : Opening) (stamp : Stamp) (terms : Option TermsValue) (p : PledgeValue) → taken_under head opening stamp terms ≡ Ok p
+    → (p.number ≡ head.pledges + 1) × (head.pledges < most_pledges)
+taken_is head opening stamp None p is = cc is
+taken_is head opening stamp (Some terms) p is = from (started (head.pledges + 1) opening head.terms terms stamp) (λ q same. named q same) is
+  where
+    named : (q : PledgeValue) → started (head.pledges + 1) opening head.terms terms stamp ≡ Ok q → q.number ≡ head.pledges + 1
+    named q same = let row = past_row (is_bad_amount (credit_of opening.kind)) _ _ q same in
+        sym (ap (λ (r : Result PledgeValue PledgeRefusal). (result_unwrap_or r q).number) row.1)
+
+    from : (r : Result PledgeValue PledgeRefusal) → ((q : PledgeValue) → r ≡ Ok q → q.number ≡ head.pledges + 1)
+        → with_room head.pledges (under_pledge r) ≡ Ok p → (p.number ≡ head.pledges + 1) × (head.pledges < most_pledges)
+    from (Err why) named is = cc is
+    from (Ok q) named is =
+        let row = past_row (nat_le most_pledges head.pledges) PledgesFull _ p is in
+        let same : q ≡ p = ap (λ (r : Result PledgeValue Refusal). result_unwrap_or r q) row.1 in
+        (ap (λ (x : PledgeValue). x.number) (sym same) ∙ named q refl, grind (arith, nat_tests, row.0))
+
+-- the next pledge, as a keeper tells of the book
+pub taken_plans : (h : Host) (b : ℕ) (at : BookValue) (head : Head) (opening : Opening) (stamp : Stamp) (p : PledgeValue) → IsSound h → get h.books b ≡ Some at → head ≡ head_of at
+    → None ≡ with_reference (pledges_of (get h.books b)) opening.reference → taken_under head opening stamp (newest at.terms) ≡ Ok p → IsStanding p
+    → Plans h b (take_pledge at b opening stamp (with_reference at.pledges opening.reference)) (Ok (record { change = Some (PutPledge b p); reply = Opened (first_receipt p) }))
+taken_plans h b at head opening stamp p sound is heads none answer standing =
+    let absent : with_reference at.pledges opening.reference ≡ None = sym (none ∙ ap (λ o. with_reference (pledges_of o) opening.reference) is) in
+    let next : taken_under (head_of at) opening stamp (newest at.terms) ≡ Ok p = ap (λ (q : Head). taken_under q opening stamp (newest at.terms)) (sym heads) ∙ answer in
+    let bounds = taken_is (head_of at) opening stamp (newest at.terms) p next in
+    pledge_plans h b at opening stamp p sound is absent next bounds.0 bounds.1 standing

@@ -1,0 +1,122 @@
+-- A host stays sound with a book that is.
+use Rattle.std.proofs.Common.{◌≡◌, ◌≢◌, ℕ, ◌+◌, ◌<◌, ◌≤◌, List, [], ◌∷◌, ◌++◌, length, Some, None, suc, refl, ◌∙◌, ap, sym, subst, arith, length-append}
+use Rattle.std.specs.Prelude.{if◌then◌else◌, Option, Bool, true, false, ◌==◌, unwrap_or}
+use Rattle.std.specs.Ordering.{nat_cmp}
+use Rattle.std.specs.Cmp.{unsigned_tied}
+use Rattle.std.specs.FinMap.{get, get-insert}
+use Rattle.std.proofs.lemmas.Cmp.{nat_cmp_total}
+use Rattle.std.proofs.lemmas.Bool.Decides.{nat_tests}
+use Rattle.pawn_terms.specs.Terms.{TermsValue, IsChecked}
+use Rattle.pawn_pledge.specs.Pledge.{PledgeValue}
+use Rattle.pawn_pledge.specs.Replayable.{IsStanding}
+use Rattle.pawn_book.specs.declared.request.NewBook.{NewBook}
+use Rattle.pawn_book.specs.BookStep.{BookValue, made_book, pledge_from, pledge_in, put_from}
+use Rattle.pawn_book.specs.HostStep.{Host, with_book}
+use Rattle.pawn_book.specs.Limits.{most_terms, most_pledges}
+use Rattle.pawn_book.specs.Sound.{Each, AreNumberedFrom, IsSoundBook, AreSound, IsSound}
+
+-- the book at a number, once a book is set
+pub get-with_book : (h : Host) (b : ℕ) (book : BookValue) (q : ℕ) → get (with_book h b (Some book)).books q ≡ (if q == b then Some book else get h.books q)
+get-with_book h b book q = get-insert nat_cmp_total h.books b book q ∙ ap (λ v. if v then Some book else get h.books q) (unsigned_tied q b)
+
+pub some_is : {A : Type 0} (x y : A) → Some x ≡ Some y → x ≡ y
+some_is {A} x y is = ap (λ (o : Option A). unwrap_or o x) is
+
+pub absurd_none : {A : Type 0} {P : Type 0} {x : A} → (let none : Option A = None in none ≡ Some x) → P
+absurd_none is = cc is
+
+pub sound_with : (h : Host) (b : ℕ) (book : BookValue) → AreSound h → IsSoundBook book → AreSound (with_book h b (Some book))
+sound_with h b book sound one q other is = from (q == b) (sym (get-with_book h b book q) ∙ is)
+  where
+    from : (v : Bool) → (if v then Some book else get h.books q) ≡ Some other → IsSoundBook other
+    from true is = subst IsSoundBook (some_is book other is) one
+    from false is = sound q other is
+
+pub sound_made : (new : NewBook) → IsSoundBook (made_book new)
+sound_made new = record { numbered = tt; standing = tt; checked = tt; terms = omega arith; pledges = omega arith }
+
+each_push : {A : Type 0} (P : A → Type 0) (xs : List A) (x : A) → Each P xs → P x → Each P (xs ++ x ∷ [])
+each_push P [] x all one = (one, tt)
+each_push P (y ∷ ys) x all one = (all.0, each_push P ys x all.1 one)
+
+pub sound_terms : (book : BookValue) (terms : TermsValue) → IsSoundBook book → IsChecked terms → length book.terms < most_terms
+    → IsSoundBook (record book { terms = book.terms ++ terms ∷ [] })
+sound_terms book terms sound checked few = record {
+  numbered = sound.numbered;
+  standing = sound.standing;
+  checked = each_push IsChecked book.terms terms sound.checked checked;
+  terms = omega (arith, few, length-append book.terms (terms ∷ []));
+  pledges = sound.pledges;
+}
+
+numbered_put : (k : ℕ) (ps : List PledgeValue) (n : ℕ) (p : PledgeValue) → AreNumberedFrom k ps → p.number ≡ n → k ≤ n → n ≤ k + length ps → AreNumberedFrom k (put_from k ps n p)
+numbered_put k [] n p all named low high = let is : n ≡ k = omega arith in (named ∙ is, tt)
+numbered_put k (r ∷ ps) n p all named low high =
+    elim (n == k) as (λ v. n == k ≡ v → AreNumberedFrom k (if v then p ∷ ps else r ∷ put_from (k + 1) ps n p)) [
+      | true ↦ λ e. let is : n ≡ k = grind (arith, nat_tests, e) in (named ∙ is, all.1)
+      | false ↦ λ e. let ne : n ≢ k = grind (arith, nat_tests, e) in let more : k + 1 ≤ n = omega arith in let less : n ≤ (k + 1) + length ps = omega arith in (all.0, numbered_put (k + 1) ps n p all.1 named more less)
+    ] refl
+
+each_put : (P : PledgeValue → Type 0) (k : ℕ) (ps : List PledgeValue) (n : ℕ) (p : PledgeValue) → Each P ps → P p → Each P (put_from k ps n p)
+each_put P k [] n p all one = (one, tt)
+each_put P k (r ∷ ps) n p all one =
+    elim (n == k) as (λ v. Each P (if v then p ∷ ps else r ∷ put_from (k + 1) ps n p)) [ true ↦ (one, all.1) | false ↦ (all.0, each_put P (k + 1) ps n p all.1 one) ]
+
+-- the next pledge comes to the end
+pub put_next : (k : ℕ) (ps : List PledgeValue) (n : ℕ) (p : PledgeValue) → n ≡ k + length ps → put_from k ps n p ≡ ps ++ p ∷ []
+put_next k [] n p is = refl
+put_next k (r ∷ ps) n p is =
+    let past : n ≢ k = λ same. absurd (omega (arith, same, is)) in
+    let no : (n == k) ≡ false = grind (arith, nat_tests, past) in
+    let rest : n ≡ (k + 1) + length ps = omega (arith, is) in
+    ap (λ v. if v then p ∷ ps else r ∷ put_from (k + 1) ps n p) no ∙ ap (λ qs. r ∷ qs) (put_next (k + 1) ps n p rest)
+
+-- one that stands keeps their number
+pub length-put : (k : ℕ) (ps : List PledgeValue) (n : ℕ) (p : PledgeValue) → k ≤ n → n < k + length ps → length (put_from k ps n p) ≡ length ps
+length-put k [] n p low high = absurd (omega arith)
+length-put k (r ∷ ps) n p low high =
+    elim (n == k) as (λ v. n == k ≡ v → length (if v then p ∷ ps else r ∷ put_from (k + 1) ps n p) ≡ length (r ∷ ps)) [
+      | true ↦ λ e. refl
+      | false ↦ λ e. let ne : n ≢ k = grind (arith, nat_tests, e) in let more : k + 1 ≤ n = omega arith in let less : n < (k + 1) + length ps = omega arith in ap suc (length-put (k + 1) ps n p more less)
+    ] refl
+
+-- a book with one pledge more
+pub sound_next : (book : BookValue) (p : PledgeValue) → IsSoundBook book → p.number ≡ length book.pledges + 1 → IsStanding p → length book.pledges < most_pledges
+    → IsSoundBook (record book { pledges = put_from 1 book.pledges p.number p })
+sound_next book p sound named standing few =
+    let low : 1 ≤ p.number = omega (arith, named) in
+    let high : p.number ≤ 1 + length book.pledges = omega (arith, named) in
+    let next : p.number ≡ 1 + length book.pledges = omega (arith, named) in
+    record {
+      numbered = numbered_put 1 book.pledges p.number p sound.numbered refl low high;
+      standing = each_put IsStanding 1 book.pledges p.number p sound.standing standing;
+      checked = sound.checked;
+      terms = sound.terms;
+      pledges = omega (arith, few, ap length (put_next 1 book.pledges p.number p next), length-append book.pledges (p ∷ []));
+    }
+
+each_at : (P : PledgeValue → Type 0) (k : ℕ) (ps : List PledgeValue) (n : ℕ) (p : PledgeValue) → Each P ps → pledge_from k ps n ≡ Some p → P p
+each_at P k [] n p all is = absurd_none is
+each_at P k (r ∷ ps) n p all is =
+    elim (n == k) as (λ v. (if v then Some r else pledge_from (k + 1) ps n) ≡ Some p → P p) [
+      | true ↦ λ here. subst P (some_is r p here) all.0
+      | false ↦ λ there. each_at P (k + 1) ps n p all.1 there
+    ] is
+
+numbered_at : (k : ℕ) (ps : List PledgeValue) (n : ℕ) (p : PledgeValue) → AreNumberedFrom k ps → pledge_from k ps n ≡ Some p → p.number ≡ n
+numbered_at k [] n p all is = absurd_none is
+numbered_at k (r ∷ ps) n p all is =
+    elim (n == k) as (λ v. n == k ≡ v → (if v then Some r else pledge_from (k + 1) ps n) ≡ Some p → p.number ≡ n) [
+      | true ↦ λ same here. ap (λ (q : PledgeValue). q.number) (sym (some_is r p here)) ∙ all.0 ∙ sym (grind (arith, nat_tests, same))
+      | false ↦ λ other there. numbered_at (k + 1) ps n p all.1 there
+    ] refl is
+
+-- a pledge of a sound host stands, under its number
+pub standing_at : (h : Host) (b n : ℕ) (p : PledgeValue) → IsSound h → pledge_in (get h.books b) n ≡ Some p → IsStanding p × (p.number ≡ n)
+standing_at h b n p sound is = from (get h.books b) refl is
+  where
+    from : (o : Option BookValue) → get h.books b ≡ o → pledge_in o n ≡ Some p → IsStanding p × (p.number ≡ n)
+    from None e is = absurd_none is
+    from (Some book) e is =
+        let one = sound.books b book e in
+        (each_at IsStanding 1 book.pledges n p one.standing is, numbered_at 1 book.pledges n p one.numbered is)

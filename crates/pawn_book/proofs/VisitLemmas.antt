@@ -1,0 +1,33 @@
+-- What a visitor was handed, item by item.
+use Rattle.std.proofs.Common.{◌≡◌, ◌∙◌, ℕ, Bool, true, false, List, [], ◌∷◌, ◌++◌, refl, sym, ap, subst, inl, inr, ◌<◌, ◌+◌, length, take, drop, get_or, append_assoc}
+use Rattle.std.proofs.lemmas.List.{take_more, drop_more, take-append-drop}
+use Rattle.pawn_book.specs.declared.visit.Flow.{Flow}
+use Rattle.pawn_book.specs.declared.visit.Flow.TheVariants.{Go, Stop}
+use Rattle.pawn_book.specs.Visits.{Handed, IsShare, Visits}
+
+-- a list, cut at a place
+pub cut_at : {X : Type 0} (xs : List X) (i : ℕ) (d : X) → i < length xs → take i xs ++ get_or xs i d ∷ drop (i + 1) xs ≡ xs
+cut_at xs i d lt = ap (λ t. take i xs ++ t) (sym (drop_more xs i d lt)) ∙ take-append-drop i xs
+
+-- one item more, after items at none of which it stopped
+pub handed-snoc : {V T : Type 0} (step : V → T → Flow → V → Type 0) (v u w : V) (xs : List T) (x : T) (flow : Flow)
+    → Handed step v xs Go u → step u x flow w → Handed step v (xs ++ x ∷ []) flow w
+handed-snoc step v u w [] x Go before here = inl (w, subst (λ (s : _). step s x Go w) (sym before.1) here, (refl, refl))
+handed-snoc step v u w [] x Stop before here = inr (refl, refl, subst (λ (s : _). step s x Stop w) (sym before.1) here)
+handed-snoc step v u w (y ∷ xs) x flow before here = elim before [
+  | inl going ↦ inl (going.0, going.1, handed-snoc step going.0 u w xs x flow going.2 here)
+  | inr stopped ↦ cc
+]
+
+-- it stopped at the item at this place
+pub visits_stopped : {V T : Type 0} (step : V → T → Flow → V → Type 0) (v u w : V) (xs : List T) (i : ℕ) (x : T) → i < length xs → x ≡ get_or xs i x
+    → Handed step v (take i xs) Go u → step u x Stop w → Visits step v w (λ given flow. IsShare given flow true xs)
+visits_stopped step v u w xs i x lt is before here =
+    (take i xs ++ x ∷ [], Stop, handed-snoc step v u w (take i xs) x Stop before here,
+      (drop (i + 1) xs, append_assoc (take i xs) (x ∷ []) (drop (i + 1) xs) ∙ ap (λ y. take i xs ++ y ∷ drop (i + 1) xs) is ∙ cut_at xs i x lt, λ e. cc e))
+
+-- it goes on after the item at this place
+pub visits_more : {V T : Type 0} (step : V → T → Flow → V → Type 0) (v u w : V) (xs : List T) (i : ℕ) (x : T) → i < length xs → x ≡ get_or xs i x
+    → Handed step v (take i xs) Go u → step u x Go w → Handed step v (take (i + 1) xs) Go w
+visits_more step v u w xs i x lt is before here =
+    subst (λ ys. Handed step v ys Go w) (ap (λ y. take i xs ++ y ∷ []) is ∙ sym (take_more xs i x lt)) (handed-snoc step v u w (take i xs) x Go before here)

@@ -1,0 +1,259 @@
+-- One step of a book: what comes of a request.
+use Rattle.std.specs.Prelude.{ℕ, zero, suc, ◌+◌, ◌-◌, List, [], ◌∷◌, ◌++◌, Bool, true, false, ◌&&◌, ◌||◌, Option, Some, None, Result, Ok, Err, if◌then◌else◌, ◌==◌, nat_eq, nat_le, nat_lt, length, map, find, slice_get, option_map, unwrap_or}
+use Rattle.std.specs.Cmp.Lexicographic.{pointwise}
+use Rattle.pawn_terms.specs.Refusals.{first_of}
+use Rattle.pawn_terms.specs.Terms.{TermsValue}
+use Rattle.pawn_terms.specs.TermsFault.{terms_answer}
+use Rattle.pawn_terms.specs.declared.terms.TermsFault.{TermsFault}
+use Rattle.pawn_debt.specs.declared.entry.Kind.{Kind}
+use Rattle.pawn_debt.specs.declared.entry.Kind.TheVariants.{Fixed, Running}
+use Rattle.pawn_pledge.specs.declared.command.Stamp.{Stamp}
+use Rattle.pawn_pledge.specs.declared.record.Opening.{Opening}
+use Rattle.pawn_pledge.specs.declared.receipt.Receipt.{Receipt}
+use Rattle.pawn_pledge.specs.declared.record.Issued.{Issued}
+use Rattle.pawn_pledge.specs.Pledge.{PledgeValue, live_of}
+use Rattle.pawn_pledge.specs.Step.{started}
+use Rattle.pawn_pledge.specs.declared.refusal.Refusal.{Refusal as PledgeRefusal}
+use Rattle.pawn_book.specs.declared.refusal.Refusal.{Refusal}
+use Rattle.pawn_book.specs.declared.refusal.Refusal.TheVariants.{Pledge, Terms, NoSuchBook, NoSuchReceipt, BookTaken, NoTerms, TermsSeq, RefTaken, NotOperator, TermsFull, PledgesFull}
+use Rattle.pawn_book.specs.declared.reply.Reply.{Reply}
+use Rattle.pawn_book.specs.declared.reply.Reply.TheVariants.{BookMade, TermsPut, Opened}
+use Rattle.pawn_book.specs.declared.request.NewBook.{NewBook}
+use Rattle.pawn_book.specs.declared.request.NewTerms.{NewTerms}
+use Rattle.pawn_book.specs.declared.request.Caller.{Caller}
+use Rattle.pawn_book.specs.declared.request.Caller.TheVariants.{Operator, Broker, Bearer}
+use Rattle.pawn_book.specs.declared.request.BrokerRequest.{BrokerRequest}
+use Rattle.pawn_book.specs.declared.request.BrokerRequest.TheVariants.{PutTerms, TakePledge}
+use Rattle.pawn_book.specs.declared.request.BearerRequest.{BearerRequest}
+use Rattle.pawn_book.specs.declared.request.BearerRequest.TheVariants.{Held}
+use Rattle.pawn_book.specs.declared.change.Imported.{Imported}
+use Rattle.pawn_book.specs.declared.change.Head.{Head}
+use Rattle.pawn_book.specs.declared.change.Change.{Change}
+use Rattle.pawn_book.specs.declared.change.Change.TheVariants.{MakeBook, AddTerms, PutPledge}
+use Rattle.pawn_book.specs.Limits.{most_terms, most_pledges}
+
+-- a book
+pub record BookValue : Type 0 where
+  pub key : ℕ
+  pub name : List ℕ
+  pub capacity : ℕ
+  -- versions 1, 2, .. in order
+  pub terms : List TermsValue
+  -- pledges 1, 2, .. in order
+  pub pledges : List PledgeValue
+  -- the import key, with the number of pledges that came with it
+  pub imported : Option Imported
+
+-- what is told, before it is text
+pub data Out : Type 0 where
+  Told : (reply : Reply) → Out
+  Denied : (why : Refusal) → Out
+  -- on a day, a statement or the unknown line for each receipt
+  Shown : (day : ℕ) (pledges : List (Option PledgeValue)) → Out
+
+-- what comes of a request
+pub data Outcome : Type 0 where
+  Refuses : (why : Refusal) → Outcome
+  -- answered without a change
+  Says : (out : Out) → Outcome
+  Makes : (change : Change) (reply : Reply) → Outcome
+
+abbrev pub out_of : Outcome → Out
+out_of (Refuses why) = Denied why
+out_of (Says out) = out
+out_of (Makes change reply) = Told reply
+
+-- a text is the same
+abbrev pub is_text : List ℕ → List ℕ → Bool
+is_text a b = pointwise nat_eq a b
+
+-- the terms that stand under a version; none under 0
+abbrev pub terms_at : List TermsValue → ℕ → Option TermsValue
+terms_at terms zero = None
+terms_at terms (suc n) = slice_get terms n
+
+-- the newest terms
+abbrev pub newest : List TermsValue → Option TermsValue
+newest terms = terms_at terms (length terms)
+
+-- the pledge that stands at a number, where the list's first has the number k
+abbrev pub pledge_from : ℕ → List PledgeValue → ℕ → Option PledgeValue
+pledge_from k [] n = None
+pledge_from k (p ∷ ps) n = if n == k then Some p else pledge_from (k + 1) ps n
+
+abbrev pub pledge_in : Option BookValue → ℕ → Option PledgeValue
+pledge_in None n = None
+pledge_in (Some book) n = pledge_from 1 book.pledges n
+
+-- the list with this pledge at a number that stands or is the next
+abbrev pub put_from : ℕ → List PledgeValue → ℕ → PledgeValue → List PledgeValue
+put_from k [] n p = p ∷ []
+put_from k (q ∷ ps) n p = if n == k then p ∷ ps else q ∷ put_from (k + 1) ps n p
+
+-- the pledge with this reference
+abbrev pub with_reference : List PledgeValue → List ℕ → Option PledgeValue
+with_reference pledges reference = find (λ p. is_text p.reference reference) pledges
+
+-- the book that a change makes
+abbrev pub made_book : NewBook → BookValue
+made_book new = record { key = new.key; name = new.name; capacity = new.capacity; terms = []; pledges = []; imported = None }
+
+abbrev pub changed_book : Option BookValue → Change → Option BookValue
+changed_book before (MakeBook b new) = Some (made_book new)
+changed_book None (AddTerms b version terms) = None
+changed_book (Some book) (AddTerms b version terms) = Some (record book { terms = book.terms ++ terms ∷ [] })
+changed_book None (PutPledge b p) = None
+changed_book (Some book) (PutPledge b p) = Some (record book { pledges = put_from 1 book.pledges p.number p })
+
+-- the book after an outcome
+abbrev pub book_after : Option BookValue → Outcome → Option BookValue
+book_after before (Refuses why) = before
+book_after before (Says out) = before
+book_after before (Makes change reply) = changed_book before change
+
+-- a change that stands unless it was refused
+abbrev pub made : {V : Type 0} → Result V Refusal → (V → Outcome) → Outcome
+made (Ok v) makes = makes v
+made (Err why) makes = Refuses why
+
+-- what a book has beside its terms and pledges
+abbrev pub head_of : BookValue → Head
+head_of book = record {
+  key = book.key;
+  name = book.name;
+  capacity = book.capacity;
+  terms = length book.terms;
+  pledges = length book.pledges;
+  imported = book.imported;
+}
+
+-- the same key, name and capacity
+abbrev pub is_book : Head → NewBook → Bool
+is_book head new = (head.key == new.key) && is_text head.name new.name && (head.capacity == new.capacity)
+
+-- Create: an equal book is told again
+abbrev pub created : Option BookValue → ℕ → NewBook → Outcome
+created None b new = Makes (MakeBook b new) (BookMade b)
+created (Some book) b new = if is_book (head_of book) new then Says (Told (BookMade b)) else Refuses BookTaken
+
+-- by the operator's key
+abbrev pub operated : ℕ → ℕ → Outcome → Outcome
+operated operator key step = if key == operator then step else Refuses NotOperator
+
+-- the same three numbers
+abbrev pub are_terms : TermsValue → NewTerms → Bool
+are_terms terms new = (terms.rate == new.rate) && (terms.keep_before == new.keep_before) && (terms.keep_after == new.keep_after)
+
+abbrev pub under_terms : Result TermsValue TermsFault → Result TermsValue Refusal
+under_terms (Ok terms) = Ok terms
+under_terms (Err fault) = Err (Terms fault)
+
+-- the terms of a version that doesn't stand, where so many do
+abbrev pub next_terms : ℕ → NewTerms → Result TermsValue Refusal
+next_terms standing new =
+    first_of
+        ((new.version == 0, TermsSeq)
+        ∷ (nat_lt (standing + 1) new.version, TermsSeq)
+        ∷ (nat_le most_terms standing, TermsFull)
+        ∷ [])
+        (under_terms (terms_answer new.rate new.keep_before new.keep_after))
+
+-- PutTerms: equal terms that stand are told again
+abbrev pub put_terms : BookValue → ℕ → NewTerms → Option TermsValue → Outcome
+put_terms book b new (Some terms) = if are_terms terms new then Says (Told (TermsPut new.version)) else Refuses TermsSeq
+put_terms book b new None = made (next_terms (length book.terms) new) (λ terms. Makes (AddTerms b new.version terms) (TermsPut new.version))
+
+-- the secret that came with the opening
+abbrev pub first_secret : List Issued → ℕ
+first_secret [] = 0
+first_secret (i ∷ is) = i.secret
+
+abbrev pub first_receipt : PledgeValue → Receipt
+first_receipt p = record { number = p.number; secret = first_secret p.secrets }
+
+abbrev pub is_kind : Kind → Kind → Bool
+is_kind (Fixed a) (Fixed b) = a == b
+is_kind (Running a) (Running b) = a == b
+is_kind (Fixed a) (Running b) = false
+is_kind (Running a) (Fixed b) = false
+
+abbrev pub is_agreed : Option ℕ → Option ℕ → Bool
+is_agreed None None = true
+is_agreed (Some a) (Some b) = a == b
+is_agreed None (Some b) = false
+is_agreed (Some a) None = false
+
+abbrev pub is_flag : Bool → Bool → Bool
+is_flag true b = b
+is_flag false true = false
+is_flag false false = true
+
+-- what was asked for at the opening, its reference aside
+abbrev pub is_opening : PledgeValue → Opening → Bool
+is_opening p opening =
+    is_text p.article opening.article && is_kind p.kind opening.kind && is_agreed p.agreed opening.agreed && is_flag p.five_days opening.five_days
+
+abbrev pub under_pledge : Result PledgeValue PledgeRefusal → Result PledgeValue Refusal
+under_pledge (Ok p) = Ok p
+under_pledge (Err refusal) = Err (Pledge refusal)
+
+-- a pledge for which a book of so many has room
+abbrev pub with_room : ℕ → Result PledgeValue Refusal → Result PledgeValue Refusal
+with_room standing (Ok p) = first_of ((nat_le most_pledges standing, PledgesFull) ∷ []) (Ok p)
+with_room standing (Err why) = Err why
+
+-- a pledge under the newest terms, one past the book's last
+abbrev pub taken_under : Head → Opening → Stamp → Option TermsValue → Result PledgeValue Refusal
+taken_under head opening stamp None = Err NoTerms
+taken_under head opening stamp (Some terms) =
+    with_room head.pledges (under_pledge (started (head.pledges + 1) opening head.terms terms stamp))
+
+-- TakePledge: an equal opening is answered as the first time
+abbrev pub take_pledge : BookValue → ℕ → Opening → Stamp → Option PledgeValue → Outcome
+take_pledge book b opening stamp (Some p) = if is_opening p opening then Says (Told (Opened (first_receipt p))) else Refuses RefTaken
+take_pledge book b opening stamp None =
+    made (taken_under (head_of book) opening stamp (newest book.terms)) (λ p. Makes (PutPledge b p) (Opened (first_receipt p)))
+
+-- what a broker asks of the book
+abbrev pub broker_step : BookValue → ℕ → Stamp → BrokerRequest → Outcome
+broker_step book b stamp (PutTerms new) = put_terms book b new (terms_at book.terms new.version)
+broker_step book b stamp (TakePledge opening) = take_pledge book b opening stamp (with_reference book.pledges opening.reference)
+
+-- for a caller with the book's key
+abbrev pub gated : Option BookValue → ℕ → (BookValue → Outcome) → Outcome
+gated None key step = Refuses NoSuchBook
+gated (Some book) key step = if book.key == key then step book else Refuses NoSuchBook
+
+abbrev pub is_secret : ℕ → Option ℕ → Bool
+is_secret s None = false
+is_secret s (Some t) = t == s
+
+-- the secret is the pledge's live one
+abbrev pub is_live : ℕ → PledgeValue → Bool
+is_live s p = is_secret s (live_of p)
+
+abbrev pub only_live : ℕ → Option PledgeValue → Option PledgeValue
+only_live s None = None
+only_live s (Some p) = if is_live s p then Some p else None
+
+-- the pledge of a receipt, if the receipt is live
+abbrev pub live_at : (ℕ → Option PledgeValue) → Receipt → Option PledgeValue
+live_at pledges r = only_live r.secret (pledges r.number)
+
+abbrev pub are_unknown : List (Option PledgeValue) → Bool
+are_unknown [] = true
+are_unknown (None ∷ ps) = are_unknown ps
+are_unknown (Some p ∷ ps) = false
+
+-- Held: refused where none of the receipts is live
+abbrev pub held_out : Stamp → List (Option PledgeValue) → Outcome
+held_out stamp pledges = if are_unknown pledges then Refuses NoSuchReceipt else Says (Shown stamp.day pledges)
+
+-- what a bearer asks, where pledges are looked up so
+abbrev pub bearer_step : (ℕ → Option PledgeValue) → Stamp → BearerRequest → Outcome
+bearer_step pledges stamp (Held receipts) = held_out stamp (map (live_at pledges) receipts)
+
+abbrev pub book_step : Option BookValue → ℕ → ℕ → Stamp → Caller → Outcome
+book_step before operator b stamp (Operator key new) = operated operator key (created before b new)
+book_step before operator b stamp (Broker key asked) = gated before key (λ book. broker_step book b stamp asked)
+book_step before operator b stamp (Bearer asked) = bearer_step (pledge_in before) stamp asked

@@ -1,0 +1,53 @@
+-- One step of a host: many books, and a limit on their rows.
+use Rattle.std.specs.Prelude.{ℕ, ◌+◌, List, [], ◌∷◌, Bool, true, false, Option, Some, None, if◌then◌else◌, nat_lt, length, sum_by}
+use Rattle.std.specs.Ordering.{nat_cmp}
+use Rattle.std.specs.FinMap.{FinMap, get, insert, values}
+use Rattle.pawn_pledge.specs.declared.command.Stamp.{Stamp}
+use Rattle.pawn_pledge.specs.declared.record.Booking.{Booking}
+use Rattle.pawn_pledge.specs.Pledge.{PledgeValue}
+use Rattle.pawn_book.specs.declared.request.Request.{Request}
+use Rattle.pawn_book.specs.declared.refusal.Refusal.TheVariants.{Full}
+use Rattle.pawn_book.specs.BookStep.{BookValue, Outcome, Refuses, Says, Makes, changed_book, book_step}
+
+pub record Host : Type 0 where
+  pub books : FinMap nat_cmp BookValue
+  pub limit : ℕ
+
+-- one row for a booking
+abbrev pub booking_rows : Option Booking → ℕ
+booking_rows None = 0
+booking_rows (Some booking) = 1
+
+-- one for the pledge, and one for each entry and secret
+abbrev pub pledge_rows : PledgeValue → ℕ
+pledge_rows p = 1 + length p.entries + length p.secrets + booking_rows p.booking
+
+-- one for the book, and one for each version of its terms
+abbrev pub book_rows : BookValue → ℕ
+book_rows book = 1 + length book.terms + sum_by pledge_rows book.pledges
+
+abbrev pub rows : Host → ℕ
+rows h = sum_by book_rows (values h.books)
+
+-- the host with that book at a number
+abbrev pub with_book : Host → ℕ → Option BookValue → Host
+with_book h b None = h
+with_book h b (Some book) = record h { books = insert h.books b book }
+
+-- the host after an outcome of book b
+abbrev pub host_after : Host → ℕ → Outcome → Host
+host_after h b (Refuses why) = h
+host_after h b (Says out) = h
+host_after h b (Makes change reply) = with_book h b (changed_book (get h.books b) change)
+
+-- a change that would bring the rows above the limit is refused, after everything else
+abbrev pub limited : Host → ℕ → Outcome → Outcome
+limited h b (Refuses why) = Refuses why
+limited h b (Says out) = Says out
+limited h b (Makes change reply) =
+    if nat_lt h.limit (rows (with_book h b (changed_book (get h.books b) change))) then Refuses Full else Makes change reply
+
+-- the book's step, within the limit
+abbrev pub host_step : Host → ℕ → Stamp → Request → Outcome
+host_step h operator stamp request =
+    limited h request.book (book_step (get h.books request.book) operator request.book stamp request.caller)

@@ -1,0 +1,10 @@
+pub mod Limits
+pub mod Refusals
+pub mod BookStep
+pub mod HostStep
+pub mod Runs
+pub mod Visits
+pub mod Keeping
+pub mod Sound
+pub mod Books
+pub mod Listed

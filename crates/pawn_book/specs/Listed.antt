@@ -1,0 +1,57 @@
+-- The host of books in a list.
+use Rattle.std.specs.Prelude.{◌≡◌, ◌≢◌, ℕ, zero, suc, ◌≤◌, ◌<◌, List, [], ◌∷◌, Option, Some, None, Result, Ok, Err, ◌==◌, if◌then◌else◌}
+use Rattle.std.specs.FinMap.{from_entries}
+use Rattle.pawn_book.specs.declared.list.Kept.{Kept}
+use Rattle.pawn_book.specs.declared.change.Change.{Change}
+use Rattle.pawn_book.specs.declared.fault.SaveError.{SaveError}
+use Rattle.pawn_book.specs.declared.fault.SaveError.TheVariants.{Full, Memory, Store}
+use Rattle.pawn_book.specs.BookStep.{BookValue}
+use Rattle.pawn_pledge.specs.Pledge.{PledgeValue}
+use Rattle.pawn_book.specs.HostStep.{Host, rows, pledge_rows}
+use Rattle.pawn_book.specs.Sound.{IsSound}
+use Rattle.pawn_book.specs.Keeping.{changed}
+use Rattle.pawn_book.specs.Books.{Books}
+
+-- a book of the list, with its number
+abbrev pub entry_of : Kept → ℕ × BookValue
+entry_of k = (k.number, record {
+  key = k.made.key;
+  name = k.made.name;
+  capacity = k.made.capacity;
+  terms = k.terms.items;
+  pledges = k.pledges.items;
+  imported = k.imported;
+})
+
+-- the book at a number: the first of that number
+abbrev pub book_at : List (ℕ × BookValue) → ℕ → Option BookValue
+book_at [] b = None
+book_at (e ∷ es) b = if b == e.0 then Some e.1 else book_at es b
+
+-- the place of the first book of a number
+abbrev pub IsPlace : List (ℕ × BookValue) → ℕ → ℕ → Type 0
+IsPlace [] b i = ⊥
+IsPlace (e ∷ es) b zero = b ≡ e.0
+IsPlace (e ∷ es) b (suc i) = (b ≢ e.0) × IsPlace es b i
+
+-- the rows of the pledge that stands
+abbrev pub standing_rows : Option PledgeValue → ℕ
+standing_rows None = 0
+standing_rows (Some p) = pledge_rows p
+
+-- the host that the list stands for
+abbrev pub host_of : Books → Host
+host_of k = record { books = from_entries k.books; limit = k.limit }
+
+-- the host is sound, and its rows are counted
+pub record IsKept (k : Books) (count : ℕ) : Type 0 where
+  pub sound : IsSound (host_of k)
+  pub counted : count ≡ rows (host_of k)
+  pub limit : k.limit ≤ 10000000
+
+-- the change is made, or nothing is, and then for want of rows or of memory
+abbrev pub Saves : Books → Change → Result (Unit {0}) SaveError → Books → Type 0
+Saves old change (Ok done) new = (host_of new ≡ changed (host_of old) change) × (rows (changed (host_of old) change) ≤ old.limit)
+Saves old change (Err Full) new = (new ≡ old) × (old.limit < rows (changed (host_of old) change))
+Saves old change (Err Memory) new = new ≡ old
+Saves old change (Err (Store fault)) new = ⊥

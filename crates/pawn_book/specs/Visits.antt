@@ -1,0 +1,18 @@
+-- What a visitor was handed.
+use Rattle.std.specs.Prelude.{Bool, true, List, [], ◌∷◌, ◌++◌, ◌≡◌, ◌⊎◌}
+use Rattle.pawn_book.specs.declared.visit.Flow.{Flow}
+use Rattle.pawn_book.specs.declared.visit.Flow.TheVariants.{Go, Stop}
+
+-- the visitor became w by its own step over these items in turn; it answered Stop at the last alone, or never
+abbrev pub Handed : {V T : Type 0} → (V → T → Flow → V → Type 0) → V → List T → Flow → V → Type 0
+Handed step v [] flow w = (flow ≡ Go) × (v ≡ w)
+Handed {V = V} step v (x ∷ xs) flow w =
+    ((u : V) × step v x Go u × Handed step u xs flow w) ⊎ ((flow ≡ Stop) × (xs ≡ []) × step v x Stop w)
+
+-- what was handed is a front of the list, and all of it where the visitor never answered Stop and the call answered Ok
+abbrev pub IsShare : {T : Type 0} → List T → Flow → Bool → List T → Type 0
+IsShare {T = T} given flow ok items = (left : List T) × (given ++ left ≡ items) × (flow ≡ Go → ok ≡ true → left ≡ [])
+
+-- the visitor was handed some items, of which a fact holds
+abbrev pub Visits : {V T : Type 0} → (V → T → Flow → V → Type 0) → V → V → (List T → Flow → Type 0) → Type 0
+Visits {T = T} step old new P = (given : List T) × (flow : Flow) × Handed step old given flow new × P given flow

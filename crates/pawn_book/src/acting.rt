@@ -1,0 +1,54 @@
+ghost use Rattle.std.specs.Prelude.{◌≡◌, IfSome};
+ghost use Rattle.pawn_book.specs.Keeping.{Acts, CanSave, Commits, IsQuiet, IsWritten, Of};
+
+use crate::change::Planned;
+use crate::fault::SaveError;
+use crate::keep::Keep;
+use crate::planning::plan;
+use crate::refusal::Refusal;
+use crate::reply::Reply;
+use crate::request::Request;
+use pawn_pledge::{Secret, Stamp};
+use std::alloc::Global;
+
+/// Makes what was planned. Refused as `Full` where the rows would be above the limit.
+pub fn commit<K: Keep>(keep: &mut K, planned: &Planned) -> Result<(), Refusal>
+    requires saves { Of K.stands K.honest keep.old keep.old (λ h. IfSome planned.now.change (CanSave h)) }
+    ensures past { K.honest keep.new → K.honest keep.old }
+    ensures commits { Of K.stands K.honest keep.old keep.new (λ h. Commits h planned.now.change result (K.stands keep.new)) }
+    ensures steady { IsQuiet K.steady keep.old keep.new result }
+{
+    match &planned.change {
+        None => Ok(()),
+        Some(change) => match keep.save(change) {
+            Ok(()) => Ok(()),
+            Err(SaveError::Full) => Err(Refusal::Full),
+            Err(SaveError::Memory) => Err(Refusal::Memory),
+            Err(SaveError::Store(_)) => Err(Refusal::Store),
+        },
+    }
+}
+
+/// One step of the host: what `plan` says, made.
+pub fn act<K: Keep>(
+    alloc: Global,
+    keep: &mut K,
+    operator: Secret,
+    stamp: &Stamp,
+    request: &Request,
+) -> Result<Reply, Refusal>
+    requires written { IsWritten request.now.caller }
+    ensures past { K.honest keep.new → K.honest keep.old }
+    ensures acts { Of K.stands K.honest keep.old keep.new (λ h. Acts h operator stamp.now request.now result (K.stands keep.new)) }
+    ensures steady { IsQuiet K.steady keep.old keep.new result }
+{
+    let planned = match plan(alloc, keep, operator, stamp, request) {
+        Err(refusal) => return Err(refusal),
+        Ok(planned) => planned,
+    };
+    match commit(keep, &planned) {
+        Err(refusal) => return Err(refusal),
+        Ok(()) => {}
+    }
+    Ok(planned.reply)
+}

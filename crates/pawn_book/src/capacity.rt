@@ -1,0 +1,41 @@
+ghost use Rattle.std.specs.Prelude.{◌≡◌, ℕ, ◌≤◌, IfSome, IsSome, ◌↔◌};
+ghost use Rattle.pawn_book.specs.Limits.{IsCapacity};
+
+use std::marker::Model;
+
+/// How many bookings of one window a book confirms: 1 to 1,000. A contract sees the number.
+#[derive(Clone, Copy, Debug, PartialEq, Eq)]
+pub struct Capacity {
+    bookings: u32,
+}
+
+impl Model for Capacity {
+    ghost Value = { ℕ };
+
+    ghost view = { λ c. c.bookings };
+
+    ghost invariant = { λ c. IsCapacity c.bookings };
+
+    ghost inverse = { λ n. record { bookings = n } };
+}
+
+impl Capacity {
+    /// The capacity of that many bookings, if it is 1 to 1,000.
+    pub fn new(bookings: u64) -> Option<Capacity>
+        ensures value { IfSome result (λ c. c ≡ bookings) }
+        ensures some { IsSome result ↔ IsCapacity bookings }
+    {
+        match u32::try_from(bookings) {
+            Ok(bookings) if (1..=1000).contains(&bookings) => Some(Capacity { bookings }),
+            _ => None,
+        }
+    }
+
+    /// How many bookings.
+    pub fn get(self) -> u32
+        ensures value { result ≡ self }
+        ensures in_range { IsCapacity self }
+    {
+        self.bookings
+    }
+}

@@ -1,0 +1,40 @@
+use crate::capacity::Capacity;
+use crate::reply::Reply;
+use crate::request::{Name, NewBook};
+use pawn_pledge::{Number, Pledge, Secret, Terms};
+
+/// The key of the import that filled a book, and how many pledges came with it.
+#[derive(Clone, Copy, Debug, PartialEq, Eq)]
+pub struct Imported {
+    pub key: Secret,
+    pub pledges: u64,
+}
+
+/// What a book has beside its terms and pledges, with their counts.
+#[derive(Drop)]
+pub struct Head {
+    pub key: Secret,
+    pub name: Name,
+    pub capacity: Capacity,
+    pub terms: u64,
+    pub pledges: u64,
+    pub imported: Option<Imported>,
+}
+
+/// A change of one book.
+#[derive(Drop)]
+pub enum Change {
+    /// A new book without terms and pledges.
+    MakeBook { book: Number, new_book: NewBook },
+    /// The next version of its terms.
+    AddTerms { book: Number, version: u64, terms: Terms },
+    /// The next pledge, or one that stands, as it is now.
+    PutPledge { book: Number, pledge: Pledge },
+}
+
+/// What a request would do, and what is then replied; no change where nothing changes.
+#[derive(Drop)]
+pub struct Planned {
+    pub change: Option<Change>,
+    pub reply: Reply,
+}

@@ -1,0 +1,24 @@
+/// Why a store failed.
+#[derive(Clone, Copy, Debug, PartialEq, Eq)]
+pub enum StoreFault {
+    /// A stored row is no record.
+    NoRecord,
+    /// The database refused.
+    Database,
+}
+
+/// Why a keeper did not answer.
+#[derive(Clone, Copy, Debug, PartialEq, Eq)]
+pub enum KeepError {
+    Memory,
+    Store(StoreFault),
+}
+
+/// Why a keeper did not save a change.
+#[derive(Clone, Copy, Debug, PartialEq, Eq)]
+pub enum SaveError {
+    /// The rows would be above the limit.
+    Full,
+    Memory,
+    Store(StoreFault),
+}

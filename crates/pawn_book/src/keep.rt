@@ -1,0 +1,71 @@
+ghost use Rattle.std.specs.Prelude.{◌≡◌, ◌≤◌, ◌<◌, IfOk, OnOk, OnErr, IfErr, is_ok, option_map};
+ghost use Rattle.std.specs.FinMap.{get};
+ghost use Rattle.pawn_pledge.specs.Brief.{brief_of};
+ghost use Rattle.pawn_book.specs.BookStep.{head_of, pledge_in, terms_at};
+ghost use Rattle.pawn_book.specs.HostStep.{Host, rows};
+ghost use Rattle.pawn_book.specs.Keeping.{Reads, Of, IsSteady, CanSave, changed, terms_of, number_of, entries_of, extensions_of, IsWant};
+ghost use Rattle.pawn_book.specs.Visits.{Visits, IsShare};
+
+use crate::change::{Change, Head};
+use crate::fault::{KeepError, SaveError};
+use crate::visit::{EntryVisitor, ExtensionVisitor};
+use pawn_pledge::{Brief, Number, Pledge, Reference, Terms};
+
+/// What keeps a host, however it is kept. Only `save` changes the host.
+pub trait Keep {
+    /// The hosts that it stands for.
+    ghost stands: { Self → Host → Type 0 };
+
+    /// Its store has returned what was written.
+    ghost honest: { Self → Type 0 };
+
+    /// Its store never fails.
+    ghost steady: { Self → Type 0 };
+
+    /// The head of a book, if the book stands.
+    fn head(&mut self, book: Number) -> Result<Option<Head>, KeepError>
+        ensures reads { Reads stands honest self.old self.new (λ h. IfOk result (λ head. head ≡ option_map head_of (get h.books book))) }
+        ensures steady { IsSteady steady self.old self.new result };
+
+    /// The terms of a version.
+    fn terms(&mut self, book: Number, version: u64) -> Result<Option<Terms>, KeepError>
+        ensures reads { Reads stands honest self.old self.new (λ h. IfOk result (λ terms. terms ≡ terms_at (terms_of (get h.books book)) version)) }
+        ensures steady { IsSteady steady self.old self.new result };
+
+    /// The pledge of a number.
+    fn pledge(&mut self, book: Number, number: Number) -> Result<Option<Pledge>, KeepError>
+        ensures reads { Reads stands honest self.old self.new (λ h. IfOk result (λ pledge. pledge ≡ pledge_in (get h.books book) number)) }
+        ensures steady { IsSteady steady self.old self.new result };
+
+    /// The number of the pledge with a reference.
+    fn find_ref(&mut self, book: Number, reference: &Reference) -> Result<Option<Number>, KeepError>
+        ensures reads { Reads stands honest self.old self.new (λ h. IfOk result (λ number. number ≡ number_of (get h.books book) reference.now)) }
+        ensures steady { IsSteady steady self.old self.new result };
+
+    /// The pledge of a number without its lists.
+    fn brief(&mut self, book: Number, number: Number) -> Result<Option<Brief>, KeepError>
+        ensures reads { Reads stands honest self.old self.new (λ h. IfOk result (λ brief. brief ≡ option_map brief_of (pledge_in (get h.books book) number))) }
+        ensures steady { IsSteady steady self.old self.new result };
+
+    /// Hands the visitor the entries of a pledge in order, until it wants no more.
+    fn entries<V: EntryVisitor>(&mut self, book: Number, number: Number, visitor: &mut V) -> Result<(), KeepError>
+        ensures reads { Visits V.step visitor.old visitor.new (λ given flow.
+            Reads stands honest self.old self.new (λ h. IsShare given flow (is_ok result) (entries_of (pledge_in (get h.books book) number)))) }
+        ensures steady { IsSteady steady self.old self.new result };
+
+    /// Hands the visitor the extensions of a pledge in order, until it wants no more.
+    fn extensions<V: ExtensionVisitor>(&mut self, book: Number, number: Number, visitor: &mut V) -> Result<(), KeepError>
+        ensures reads { Visits V.step visitor.old visitor.new (λ given flow.
+            Reads stands honest self.old self.new (λ h. IsShare given flow (is_ok result) (extensions_of (pledge_in (get h.books book) number)))) }
+        ensures steady { IsSteady steady self.old self.new result };
+
+    /// Makes a change, unless the rows would be above the limit.
+    fn save(&mut self, change: &Change) -> Result<(), SaveError>
+        requires { Of stands honest self.old self.old (λ h. CanSave h change.now) }
+        ensures past { honest self.new → honest self.old }
+        ensures ok { OnOk result (Of stands honest self.old self.new (λ h. stands self.new (changed h change.now) × (rows (changed h change.now) ≤ h.limit))) }
+        ensures full { result ≡ Err SaveError.Full → Of stands honest self.old self.new (λ h. h.limit < rows (changed h change.now)) }
+        ensures err { OnErr result (Of stands honest self.old self.new (λ h. stands self.new h)) }
+        ensures stays { steady self.old → steady self.new }
+        ensures never { steady self.old → IfErr result (λ e. IsWant e) };
+}

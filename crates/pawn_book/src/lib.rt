@@ -1,0 +1,35 @@
+//! The books of many brokers: what may be asked of a book, what comes of it, and what keeps the books.
+#![tactic(auto)]
+
+mod acting;
+mod capacity;
+mod change;
+mod fault;
+mod keep;
+mod list;
+mod planning;
+mod receipts;
+mod refusal;
+mod reply;
+mod request;
+mod visit;
+
+pub use capacity::Capacity;
+pub use change::{Change, Head, Imported, Planned};
+pub use fault::{KeepError, SaveError, StoreFault};
+pub use keep::Keep;
+pub use list::{ListKeep, MOST_ROWS};
+pub use acting::{act, commit};
+pub use planning::{find_live, gate, plan};
+pub use pawn_pledge::{
+    Applied, Article, BadDay, BadReceipt, Booking, BookingState, Brief, Closing, Command, Day,
+    Decision, Done, Entry, Extension, Issue, Issued, Kind, Number, Opening, Owing, Paper, Pledge,
+    Receipt, Reference, RequestDay, Secret, Sort, Stamp, Status, Terms, Text,
+};
+pub use pawn_pledge::Refusal as PledgeRefusal;
+pub use pawn_terms::TermsFault;
+pub use receipts::Receipts;
+pub use refusal::Refusal;
+pub use reply::Reply;
+pub use request::{BearerRequest, BrokerRequest, Caller, Name, NewBook, NewTerms, Request};
+pub use visit::{EntryVisitor, ExtensionVisitor, Flow};

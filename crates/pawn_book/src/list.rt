@@ -1,0 +1,428 @@
+ghost use Rattle.std.specs.Prelude.{[], ◌≡◌, ◌<◌, ◌≤◌, ◌+◌, IfNone, IfOk, IfSome, MatchOption, None, OnErr, OnOk, Some, length, map, option_map, true};
+ghost use Rattle.pawn_pledge.specs.Brief.{brief_of};
+ghost use Rattle.pawn_book.specs.BookStep.{head_of, pledge_from, pledge_in, put_from, terms_at, with_reference};
+ghost use Rattle.pawn_book.specs.HostStep.{pledge_rows};
+ghost use Rattle.pawn_book.specs.Keeping.{CanSave, entries_of, extensions_of, number_of, terms_of};
+ghost use Rattle.pawn_book.specs.Listed.{IsPlace, Saves, book_at, entry_of, host_of, standing_rows};
+ghost use Rattle.pawn_book.specs.Visits.{Visits, IsShare};
+
+use crate::change::{Change, Head, Imported};
+use crate::fault::{KeepError, SaveError};
+use crate::keep::Keep;
+use crate::request::NewBook;
+use crate::visit::{EntryVisitor, ExtensionVisitor, Flow};
+use pawn_pledge::{Brief, Entry, Extension, Number, Pledge, Reference, Terms};
+use std::alloc::{AllocError, Global};
+use std::marker::Model;
+
+/// At most as many rows are kept.
+pub const MOST_ROWS: u64 = 10_000_000;
+
+/// A book in the list.
+#[derive(Drop)]
+pub struct Kept {
+    number: Number,
+    made: NewBook,
+    terms: Vec<Terms>,
+    pledges: Vec<Pledge>,
+    imported: Option<Imported>,
+}
+
+/// Books in a list, in the order in which they were made: the plain keeper, which never fails but
+/// for want of memory. A contract sees the books by number, and the limit on their rows.
+#[derive(Drop)]
+pub struct ListKeep {
+    alloc: Global,
+    books: Vec<Kept>,
+    rows: u64,
+    limit: u64,
+}
+
+impl Model for ListKeep {
+    ghost use Rattle.std.specs.Prelude.{map};
+    ghost use Rattle.pawn_book.specs.Books.{Books};
+
+    ghost Value = { Books };
+
+    ghost use Rattle.pawn_book.specs.Listed.{entry_of, IsKept};
+
+    ghost view = { λ k. record { books = map entry_of k.books.items; limit = k.limit } };
+
+    ghost invariant = { λ k. IsKept (record { books = map entry_of k.books.items; limit = k.limit }) k.rows };
+}
+
+impl ListKeep {
+    /// A keeper of no books. The limit on rows is 1 to 10,000,000.
+    pub fn new(alloc: Global, limit: u64) -> ListKeep
+        requires few { limit ≤ MOST_ROWS }
+        ensures empty { result ≡ record { books = []; limit = limit } }
+    {
+        ListKeep {
+            alloc,
+            books: Vec::new(alloc),
+            rows: 0,
+            limit,
+        }
+    }
+
+    // Makes a book.
+    fn make_book(&mut self, book: Number, new_book: &NewBook) -> Result<(), SaveError>
+        requires { CanSave (host_of self.old) (Change.MakeBook book new_book.now) }
+        ensures { Saves self.old (Change.MakeBook book new_book.now) result self.new }
+    {
+        let rows = self.rows + 1;
+        if rows > self.limit {
+            return Err(SaveError::Full);
+        }
+        let Ok(made) = new_book.copy() else {
+            return Err(SaveError::Memory);
+        };
+        let kept = Kept {
+            number: book,
+            made,
+            terms: Vec::new(self.alloc),
+            pledges: Vec::new(self.alloc),
+            imported: None,
+        };
+        match self.books.push(kept) {
+            Ok(()) => {}
+            Err(_) => return Err(SaveError::Memory),
+        }
+        self.rows = rows;
+        Ok(())
+    }
+
+    // Adds the next version of a book's terms.
+    fn add_terms(&mut self, book: Number, version: u64, terms: Terms) -> Result<(), SaveError>
+        requires { CanSave (host_of self.old) (Change.AddTerms book version terms) }
+        ensures { Saves self.old (Change.AddTerms book version terms) result self.new }
+    {
+        let rows = self.rows + 1;
+        if rows > self.limit {
+            return Err(SaveError::Full);
+        }
+        let Some(place) = place_of(&self.books, book) else {
+            unreachable!();
+        };
+        let kept = &mut self.books[place];
+        match kept.terms.push(terms) {
+            Ok(()) => {}
+            Err(_) => return Err(SaveError::Memory),
+        }
+        self.rows = rows;
+        Ok(())
+    }
+
+    // Puts the next pledge, or one that stands.
+    fn put_pledge(&mut self, book: Number, pledge: &Pledge) -> Result<(), SaveError>
+        requires { CanSave (host_of self.old) (Change.PutPledge book pledge.now) }
+        ensures { Saves self.old (Change.PutPledge book pledge.now) result self.new }
+    {
+        let Some(place) = place_of(&self.books, book) else {
+            unreachable!();
+        };
+        let standing = rows_at(&self.books[place].pledges, pledge.number());
+        let rows = u128::from(self.rows) + u128::from(rows_of(pledge)) - u128::from(standing);
+        if rows > u128::from(self.limit) {
+            return Err(SaveError::Full);
+        }
+        let Ok(pledge) = pledge.copy() else {
+            return Err(SaveError::Memory);
+        };
+        let kept = &mut self.books[place];
+        match put(&mut kept.pledges, pledge) {
+            Ok(()) => {}
+            Err(_) => return Err(SaveError::Memory),
+        }
+        self.rows = rows as u64;
+        Ok(())
+    }
+}
+
+impl Keep for ListKeep {
+    ghost use Rattle.std.specs.Prelude.{◌≡◌, ⊤};
+    ghost use Rattle.pawn_book.specs.Listed.{host_of};
+
+    ghost stands = { λ k h. h ≡ host_of k };
+
+    ghost honest = { λ k. ⊤ };
+
+    ghost steady = { λ k. ⊤ };
+
+    fn head(&mut self, book: Number) -> Result<Option<Head>, KeepError> {
+        let Ok(head) = head_in(&self.books, book) else {
+            return Err(KeepError::Memory);
+        };
+        Ok(head)
+    }
+
+    fn terms(&mut self, book: Number, version: u64) -> Result<Option<Terms>, KeepError> {
+        let terms = terms_in(&self.books, book, version);
+        Ok(terms)
+    }
+
+    fn pledge(&mut self, book: Number, number: Number) -> Result<Option<Pledge>, KeepError> {
+        let Ok(pledge) = pledge_copy(&self.books, book, number) else {
+            return Err(KeepError::Memory);
+        };
+        Ok(pledge)
+    }
+
+    fn find_ref(
+        &mut self,
+        book: Number,
+        reference: &Reference,
+    ) -> Result<Option<Number>, KeepError> {
+        let number = number_in(&self.books, book, reference);
+        Ok(number)
+    }
+
+    fn brief(&mut self, book: Number, number: Number) -> Result<Option<Brief>, KeepError> {
+        let Ok(brief) = brief_in(&self.books, book, number) else {
+            return Err(KeepError::Memory);
+        };
+        Ok(brief)
+    }
+
+    fn entries<V: EntryVisitor>(
+        &mut self,
+        book: Number,
+        number: Number,
+        visitor: &mut V,
+    ) -> Result<(), KeepError> {
+        hand_entries(entries_in(&self.books, book, number), visitor);
+        Ok(())
+    }
+
+    fn extensions<V: ExtensionVisitor>(
+        &mut self,
+        book: Number,
+        number: Number,
+        visitor: &mut V,
+    ) -> Result<(), KeepError> {
+        hand_extensions(extensions_in(&self.books, book, number), visitor);
+        Ok(())
+    }
+
+    fn save(&mut self, change: &Change) -> Result<(), SaveError> {
+        // Whoever holds a list knows that its host is sound.
+        let _ = &self.rows;
+        match change {
+            Change::MakeBook { book, new_book } => self.make_book(*book, new_book),
+            Change::AddTerms {
+                book,
+                version,
+                terms,
+            } => self.add_terms(*book, *version, *terms),
+            Change::PutPledge { book, pledge } => self.put_pledge(*book, pledge),
+        }
+    }
+}
+
+// Where the book of a number stands.
+fn place_of(books: &[Kept], book: Number) -> Option<usize>
+    ensures within { IfSome result (λ place. place < length books.now) }
+    ensures some { IfSome result (IsPlace (map entry_of books.now) book) }
+    ensures none { IfNone result (book_at (map entry_of books.now) book ≡ None) }
+{
+    for (place, kept) in books.iter().enumerate() {
+        if kept.number == book {
+            return Some(place);
+        }
+    }
+    None
+}
+
+// The book of a number.
+fn kept_at(books: &[Kept], book: Number) -> Option<&Kept>
+    ensures { MatchOption result (book_at (map entry_of books.now) book ≡ None) (λ kept. book_at (map entry_of books.now) book ≡ Some (entry_of kept.now).1) }
+{
+    match place_of(books, book) {
+        None => None,
+        Some(place) => Some(&books[place]),
+    }
+}
+
+// The terms of a version.
+fn standing_terms(terms: &[Terms], version: u64) -> Option<Terms>
+    ensures { result ≡ terms_at terms.now version }
+{
+    if version == 0 || version > terms.len() as u64 {
+        return None;
+    }
+    Some(terms[version as usize - 1])
+}
+
+// The pledge of a number.
+fn pledge_at(pledges: &[Pledge], number: Number) -> Option<&Pledge>
+    ensures { MatchOption result (pledge_from 1 pledges.now number ≡ None) (λ pledge. pledge_from 1 pledges.now number ≡ Some pledge.now) }
+{
+    let place = number.get() as usize - 1;
+    if place < pledges.len() {
+        Some(&pledges[place])
+    } else {
+        None
+    }
+}
+
+// The pledge of a number in a book.
+fn standing_pledge(books: &[Kept], book: Number, number: Number) -> Option<&Pledge>
+    ensures { MatchOption result (pledge_in (book_at (map entry_of books.now) book) number ≡ None) (λ pledge. pledge_in (book_at (map entry_of books.now) book) number ≡ Some pledge.now) }
+{
+    match kept_at(books, book) {
+        None => None,
+        Some(kept) => pledge_at(&kept.pledges, number),
+    }
+}
+
+// The number of the pledge with a reference.
+fn number_with(pledges: &[Pledge], reference: &Reference) -> Option<Number>
+    ensures { result ≡ option_map (λ p. p.number) (with_reference pledges.now reference.now) }
+{
+    for pledge in pledges {
+        if pledge.reference().as_str() == reference.as_str() {
+            return Some(pledge.number());
+        }
+    }
+    None
+}
+
+// What a book has beside its terms and pledges.
+fn head_in(books: &[Kept], book: Number) -> Result<Option<Head>, AllocError>
+    ensures { IfOk result (λ head. head ≡ option_map head_of (book_at (map entry_of books.now) book)) }
+{
+    let Some(kept) = kept_at(books, book) else {
+        return Ok(None);
+    };
+    let name = kept.made.name.copy()?;
+    Ok(Some(Head {
+        key: kept.made.key,
+        name,
+        capacity: kept.made.capacity,
+        terms: kept.terms.len() as u64,
+        pledges: kept.pledges.len() as u64,
+        imported: kept.imported,
+    }))
+}
+
+// The terms of a version of a book.
+fn terms_in(books: &[Kept], book: Number, version: u64) -> Option<Terms>
+    ensures { result ≡ terms_at (terms_of (book_at (map entry_of books.now) book)) version }
+{
+    let Some(kept) = kept_at(books, book) else {
+        return None;
+    };
+    standing_terms(&kept.terms, version)
+}
+
+// The number of the pledge with a reference in a book.
+fn number_in(books: &[Kept], book: Number, reference: &Reference) -> Option<Number>
+    ensures { result ≡ number_of (book_at (map entry_of books.now) book) reference.now }
+{
+    let Some(kept) = kept_at(books, book) else {
+        return None;
+    };
+    number_with(&kept.pledges, reference)
+}
+
+// The pledge of a number in a book, as a value of its own.
+fn pledge_copy(books: &[Kept], book: Number, number: Number) -> Result<Option<Pledge>, AllocError>
+    ensures { IfOk result (λ pledge. pledge ≡ pledge_in (book_at (map entry_of books.now) book) number) }
+{
+    let Some(pledge) = standing_pledge(books, book, number) else {
+        return Ok(None);
+    };
+    let copy = pledge.copy()?;
+    Ok(Some(copy))
+}
+
+// The pledge of a number in a book, without its lists.
+fn brief_in(books: &[Kept], book: Number, number: Number) -> Result<Option<Brief>, AllocError>
+    ensures { IfOk result (λ brief. brief ≡ option_map brief_of (pledge_in (book_at (map entry_of books.now) book) number)) }
+{
+    let Some(pledge) = standing_pledge(books, book, number) else {
+        return Ok(None);
+    };
+    let brief = pledge.brief()?;
+    Ok(Some(brief))
+}
+
+// The entries of a pledge in a book.
+fn entries_in(books: &[Kept], book: Number, number: Number) -> &[Entry]
+    ensures { result.now ≡ entries_of (pledge_in (book_at (map entry_of books.now) book) number) }
+{
+    match standing_pledge(books, book, number) {
+        None => &[],
+        Some(pledge) => pledge.entries(),
+    }
+}
+
+// The extensions of a pledge in a book.
+fn extensions_in(books: &[Kept], book: Number, number: Number) -> &[Extension]
+    ensures { result.now ≡ extensions_of (pledge_in (book_at (map entry_of books.now) book) number) }
+{
+    match standing_pledge(books, book, number) {
+        None => &[],
+        Some(pledge) => pledge.extensions(),
+    }
+}
+
+// Hands the entries to the visitor until it wants no more.
+fn hand_entries<V: EntryVisitor>(entries: &[Entry], visitor: &mut V)
+    ensures { Visits V.step visitor.old visitor.new (λ given flow. IsShare given flow true entries.now) }
+{
+    for entry in entries {
+        match visitor.visit(entry) {
+            Flow::Go => {}
+            Flow::Stop => return,
+        }
+    }
+}
+
+// Hands the extensions to the visitor until it wants no more.
+fn hand_extensions<V: ExtensionVisitor>(extensions: &[Extension], visitor: &mut V)
+    ensures { Visits V.step visitor.old visitor.new (λ given flow. IsShare given flow true extensions.now) }
+{
+    for extension in extensions {
+        match visitor.visit(extension) {
+            Flow::Go => {}
+            Flow::Stop => return,
+        }
+    }
+}
+
+// The rows of a pledge.
+fn rows_of(pledge: &Pledge) -> u64
+    ensures { result ≡ pledge_rows pledge.now }
+{
+    let booking = match pledge.booking() {
+        None => 0,
+        Some(_) => 1,
+    };
+    1 + pledge.entries().len() as u64 + pledge.secrets().len() as u64 + booking
+}
+
+// The rows of the pledge that stands at a number.
+fn rows_at(pledges: &[Pledge], number: Number) -> u64
+    ensures { result ≡ standing_rows (pledge_from 1 pledges.now number) }
+{
+    match pledge_at(pledges, number) {
+        None => 0,
+        Some(pledge) => rows_of(pledge),
+    }
+}
+
+// Puts the next pledge, or one that stands.
+fn put(pledges: &mut Vec<Pledge>, pledge: Pledge) -> Result<(), AllocError>
+    requires { pledge.number ≤ 1 + length pledges.old.items }
+    ensures ok { OnOk result (pledges.new.items ≡ put_from 1 pledges.old.items pledge.number pledge) }
+    ensures err { OnErr result (pledges.new.items ≡ pledges.old.items) }
+{
+    let place = pledge.number().get() as usize - 1;
+    if place < pledges.len() {
+        pledges[place] = pledge;
+        return Ok(());
+    }
+    pledges.push(pledge)?;
+    Ok(())
+}

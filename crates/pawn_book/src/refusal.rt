@@ -1,0 +1,94 @@
+ghost use Rattle.std.specs.Prelude.{◌≡◌};
+ghost use Rattle.pawn_book.specs.Refusals.{code_of, name_of, total_of};
+
+use pawn_pledge::Refusal as PledgeRefusal;
+use pawn_terms::TermsFault;
+
+/// Why a request is refused.
+#[derive(Clone, Copy, Debug, PartialEq, Eq)]
+pub enum Refusal {
+    /// By the rules of a pledge.
+    Pledge(PledgeRefusal),
+    /// By the limits of terms.
+    Terms(TermsFault),
+    /// There is no such book, or the key is another's.
+    NoSuchBook,
+    /// No receipt that was presented is live.
+    NoSuchReceipt,
+    /// The book stands with another key, name or capacity.
+    BookTaken,
+    /// The book has no terms yet.
+    NoTerms,
+    /// The version is neither the next nor one with these terms.
+    TermsSeq,
+    /// The reference stands for another opening.
+    RefTaken,
+    /// The key is not the operator's.
+    NotOperator,
+    /// The book has 99 versions of terms.
+    TermsFull,
+    /// The book has 1,000,000 pledges.
+    PledgesFull,
+    /// There is no row left.
+    Full,
+    /// Memory was wanted.
+    Memory,
+    /// The store failed.
+    Store,
+}
+
+impl Refusal {
+    /// The refusal's number.
+    pub fn code(self) -> u16
+        ensures { result ≡ code_of self }
+    {
+        match self {
+            Refusal::Pledge(refusal) => refusal.code(),
+            Refusal::Terms(fault) => fault.code(),
+            Refusal::NoSuchBook => 401,
+            Refusal::NoSuchReceipt => 402,
+            Refusal::BookTaken => 404,
+            Refusal::NoTerms => 405,
+            Refusal::TermsSeq => 406,
+            Refusal::RefTaken => 407,
+            Refusal::NotOperator => 410,
+            Refusal::TermsFull => 411,
+            Refusal::PledgesFull => 412,
+            Refusal::Full => 490,
+            Refusal::Memory => 491,
+            Refusal::Store => 492,
+        }
+    }
+
+    /// The refusal's name.
+    pub fn name(self) -> &'static str
+        ensures { result.now ≡ name_of self }
+    {
+        match self {
+            Refusal::Pledge(refusal) => refusal.name(),
+            Refusal::Terms(fault) => fault.name(),
+            Refusal::NoSuchBook => "NoSuchBook",
+            Refusal::NoSuchReceipt => "NoSuchReceipt",
+            Refusal::BookTaken => "BookTaken",
+            Refusal::NoTerms => "NoTerms",
+            Refusal::TermsSeq => "TermsSeq",
+            Refusal::RefTaken => "RefTaken",
+            Refusal::NotOperator => "NotOperator",
+            Refusal::TermsFull => "TermsFull",
+            Refusal::PledgesFull => "PledgesFull",
+            Refusal::Full => "Full",
+            Refusal::Memory => "Memory",
+            Refusal::Store => "Store",
+        }
+    }
+
+    /// The total owing in pence, where the refusal tells it.
+    pub fn total(self) -> Option<u64>
+        ensures { result ≡ total_of self }
+    {
+        match self {
+            Refusal::Pledge(refusal) => refusal.total(),
+            _ => None,
+        }
+    }
+}

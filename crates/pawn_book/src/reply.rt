@@ -1,0 +1,12 @@
+use pawn_pledge::{Number, Receipt};
+
+/// What is answered to a request that is not refused.
+#[derive(Clone, Copy, Debug, PartialEq, Eq)]
+pub enum Reply {
+    /// The book stands.
+    BookMade(Number),
+    /// The terms stand under this version.
+    TermsPut(u64),
+    /// The pledge stands, and this is its first receipt.
+    Opened(Receipt),
+}
