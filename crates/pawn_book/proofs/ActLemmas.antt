@@ -57,7 +57,7 @@ made_acts h operator stamp request stands (Some change) reply sound plans made =
     let is : host_step h operator stamp request ≡ Makes change reply = ap (limited h request.book) plans.0 ∙ fitting h request.book change reply plans.1.0 made.1 in
     let after : stepped h operator stamp request ≡ changed h change = ap (host_after h request.book) is ∙ same_change h request.book change plans.1.0 in
     let fits : rows (changed h change) ≤ (changed h change).limit =
-        subst (λ (n : ℕ). rows (changed h change) ≤ n) (sym (same_limit h (book_of change) (changed_book (get h.books (book_of change)) change))) made.1 in
+    subst (λ (n : ℕ). rows (changed h change) ≤ n) (sym (same_limit h (book_of change) (changed_book (get h.books (book_of change)) change))) made.1 in
     (ap out_of is, subst stands (sym after) made.0, subst IsSound (sym after) (record { books = plans.1.1.sound; fits = fits }))
 
 -- a plan that was not made

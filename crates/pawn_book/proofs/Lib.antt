@@ -5,6 +5,7 @@ pub mod Reading
 pub mod Sounds
 pub mod Plans
 pub mod ActLemmas
+pub mod LawLemmas
 pub mod ListReads
 pub mod ListSaves
 pub mod ListKeeping

@@ -103,7 +103,7 @@ pub found_place : (ks : List Kept) (b i : ℕ) (k : Kept) → i < length ks → 
 found_place ks b i k less is named on =
     let within : i < length (map entry_of ks) = omega (arith, less, length-map ks entry_of) in
     let number : b ≡ (get_or (map entry_of ks) i (entry_of k)).0 =
-        sym named ∙ ap (λ (q : Kept). q.number) is ∙ sym (ap (λ (e : ℕ × BookValue). e.0) (get_or-map entry_of ks i k (entry_of k) less)) in
+    sym named ∙ ap (λ (q : Kept). q.number) is ∙ sym (ap (λ (e : ℕ × BookValue). e.0) (get_or-map entry_of ks i k (entry_of k) less)) in
     let zero_on : i + 0 ≡ i = omega arith in
     subst (λ (n : ℕ). IsPlace (map entry_of ks) b n) zero_on (on 0 (place_here (map entry_of ks) b i (entry_of k) within number))
 
@@ -114,7 +114,7 @@ pub next_place : (ks : List Kept) (b i : ℕ) (k : Kept) → i < length ks → k
 next_place ks b i k less is other on j at =
     let within : i < length (map entry_of ks) = omega (arith, less, length-map ks entry_of) in
     let apart : b ≢ (get_or (map entry_of ks) i (entry_of k)).0 =
-        λ same. other (ap (λ (q : Kept). q.number) is ∙ sym (ap (λ (e : ℕ × BookValue). e.0) (get_or-map entry_of ks i k (entry_of k) less)) ∙ sym same) in
+    λ same. other (ap (λ (q : Kept). q.number) is ∙ sym (ap (λ (e : ℕ × BookValue). e.0) (get_or-map entry_of ks i k (entry_of k) less)) ∙ sym same) in
     let moved : i + suc j ≡ i + 1 + j = omega arith in
     subst (λ (n : ℕ). IsPlace (map entry_of ks) b n) moved (on (suc j) (place_on (map entry_of ks) b i j (entry_of k) within apart at))
 
@@ -123,7 +123,7 @@ pub next_book : (ks : List Kept) (b i : ℕ) (k : Kept) → i < length ks → k 
 next_book ks b i k less is other rest =
     let within : i < length (map entry_of ks) = omega (arith, less, length-map ks entry_of) in
     let apart : b ≢ (get_or (map entry_of ks) i (entry_of k)).0 =
-        λ same. other (ap (λ (q : Kept). q.number) is ∙ sym (ap (λ (e : ℕ × BookValue). e.0) (get_or-map entry_of ks i k (entry_of k) less)) ∙ sym same) in
+    λ same. other (ap (λ (q : Kept). q.number) is ∙ sym (ap (λ (e : ℕ × BookValue). e.0) (get_or-map entry_of ks i k (entry_of k) less)) ∙ sym same) in
     sym (missed (map entry_of ks) b i (entry_of k) within apart) ∙ rest
 
 pub no_book : (ks : List Kept) (b i : ℕ) → length ks ≤ i → book_at (drop i (map entry_of ks)) b ≡ book_at (map entry_of ks) b → book_at (map entry_of ks) b ≡ None
@@ -153,7 +153,7 @@ pub entry_made : (b : ℕ) (new made : NewBook) (terms : List TermsValue) (pledg
     → ◌≡◌ {A = ℕ × BookValue} (b, record { key = made.key; name = made.name; capacity = made.capacity; terms = terms; pledges = pledges; imported = None }) (b, made_book new)
 entry_made b new made terms pledges same no_terms no_pledges =
     let f : NewBook → List TermsValue → List PledgeValue → ℕ × BookValue =
-        λ m t p. (b, record { key = m.key; name = m.name; capacity = m.capacity; terms = t; pledges = p; imported = None }) in
+    λ m t p. (b, record { key = m.key; name = m.name; capacity = m.capacity; terms = t; pledges = p; imported = None }) in
     ap (λ m. f m terms pledges) same ∙ ap (λ t. f new t pledges) no_terms ∙ ap (λ p. f new [] p) no_pledges
 
 -- a book of the list, by its parts
@@ -162,6 +162,6 @@ pub entry_is : (k : Kept) (n : ℕ) (m : NewBook) (ts : List TermsValue) (ps : L
     → entry_of k ≡ (n, record { key = m.key; name = m.name; capacity = m.capacity; terms = ts; pledges = ps; imported = i })
 entry_is k n m ts ps i number made terms pledges imported =
     let f : ℕ → NewBook → List TermsValue → List PledgeValue → Option Imported → ℕ × BookValue =
-        λ n m ts ps i. (n, record { key = m.key; name = m.name; capacity = m.capacity; terms = ts; pledges = ps; imported = i }) in
+    λ n m ts ps i. (n, record { key = m.key; name = m.name; capacity = m.capacity; terms = ts; pledges = ps; imported = i }) in
     ap (λ x. f x k.made k.terms.items k.pledges.items k.imported) number ∙ ap (λ x. f n x k.terms.items k.pledges.items k.imported) made
     ∙ ap (λ x. f n m x k.pledges.items k.imported) terms ∙ ap (λ x. f n m ts x k.imported) pledges ∙ ap (λ x. f n m ts ps x) imported

@@ -133,14 +133,14 @@ pub make_saved : (k old next : Books) (count b : ℕ) (new : NewBook) → IsKept
 make_saved k old next count b new kept is can list limit room =
     let P : Books → Type 0 = λ old. CanSave (host_of old) (MakeBook b new) → IsKept next (count + 1) × Saves old (MakeBook b new) (Ok tt) next in
     subst P is (λ can.
-      let same : host_of next ≡ changed (host_of k) (MakeBook b new) =
-          ap (λ (es : List (ℕ × BookValue)). record { books = from_entries es; limit = next.limit }) list
-          ∙ ap (λ n. record { books = from_entries (k.books ++ (b, made_book new) ∷ []); limit = n }) limit
-          ∙ made_host k b new can.follows in
-      let more = made_rows (host_of k) b new can.follows in
-      let counted = kept.counted in
-      let count_is : count + 1 ≡ rows (changed (host_of k) (MakeBook b new)) = omega (arith, more, counted) in
-      (kept_changed k next (count + 1) (MakeBook b new) kept.limit limit same can.sound count_is room, (same, omega (arith, count_is, room)))) can
+    let same : host_of next ≡ changed (host_of k) (MakeBook b new) =
+    ap (λ (es : List (ℕ × BookValue)). record { books = from_entries es; limit = next.limit }) list
+    ∙ ap (λ n. record { books = from_entries (k.books ++ (b, made_book new) ∷ []); limit = n }) limit
+    ∙ made_host k b new can.follows in
+    let more = made_rows (host_of k) b new can.follows in
+    let counted = kept.counted in
+    let count_is : count + 1 ≡ rows (changed (host_of k) (MakeBook b new)) = omega (arith, more, counted) in
+    (kept_changed k next (count + 1) (MakeBook b new) kept.limit limit same can.sound count_is room, (same, omega (arith, count_is, room)))) can
 
 -- .. for which there is no room
 pub make_full : (k old : Books) (count b : ℕ) (new : NewBook) → IsKept k count → k ≡ old → CanSave (host_of old) (MakeBook b new) → k.limit < count + 1
@@ -148,9 +148,9 @@ pub make_full : (k old : Books) (count b : ℕ) (new : NewBook) → IsKept k cou
 make_full k old count b new kept is can over =
     let P : Books → Type 0 = λ old. CanSave (host_of old) (MakeBook b new) → Saves old (MakeBook b new) (Err Full) old in
     subst P is (λ can.
-      let more = made_rows (host_of k) b new can.follows in
-      let counted = kept.counted in
-      (refl, omega (arith, more, counted, over))) can
+    let more = made_rows (host_of k) b new can.follows in
+    let counted = kept.counted in
+    (refl, omega (arith, more, counted, over))) can
 
 -- the next terms, put at the book's place
 pub terms_saved : (k old next : Books) (count b version : ℕ) (terms : TermsValue) (i : ℕ) (at : BookValue) → IsKept k count → k ≡ old → CanSave (host_of old) (AddTerms b version terms)
@@ -159,25 +159,25 @@ pub terms_saved : (k old next : Books) (count b version : ℕ) (terms : TermsVal
 terms_saved k old next count b version terms i at kept is can place stands list limit room =
     let P : Books → Type 0 = λ old. CanSave (host_of old) (AddTerms b version terms) → IsKept next (count + 1) × Saves old (AddTerms b version terms) (Ok tt) next in
     subst P is (λ can.
-      let found : get (host_of k).books b ≡ Some at = get-book_at k.books b ∙ stands in
-      let book : BookValue = record at { terms = at.terms ++ terms ∷ [] } in
-      let same : host_of next ≡ changed (host_of k) (AddTerms b version terms) =
-          ap (λ (es : List (ℕ × BookValue)). record { books = from_entries es; limit = next.limit }) list
-          ∙ ap (λ n. record { books = from_entries (set k.books i (b, book)); limit = n }) limit
-          ∙ put_host k b i at book (λ o. changed_book o (AddTerms b version terms)) place found refl in
-      let more = terms_rows (host_of k) b at version terms found in
-      let counted = kept.counted in
-      let count_is : count + 1 ≡ rows (changed (host_of k) (AddTerms b version terms)) = omega (arith, more, counted) in
-      (kept_changed k next (count + 1) (AddTerms b version terms) kept.limit limit same can.sound count_is room, (same, omega (arith, count_is, room)))) can
+    let found : get (host_of k).books b ≡ Some at = get-book_at k.books b ∙ stands in
+    let book : BookValue = record at { terms = at.terms ++ terms ∷ [] } in
+    let same : host_of next ≡ changed (host_of k) (AddTerms b version terms) =
+    ap (λ (es : List (ℕ × BookValue)). record { books = from_entries es; limit = next.limit }) list
+    ∙ ap (λ n. record { books = from_entries (set k.books i (b, book)); limit = n }) limit
+    ∙ put_host k b i at book (λ o. changed_book o (AddTerms b version terms)) place found refl in
+    let more = terms_rows (host_of k) b at version terms found in
+    let counted = kept.counted in
+    let count_is : count + 1 ≡ rows (changed (host_of k) (AddTerms b version terms)) = omega (arith, more, counted) in
+    (kept_changed k next (count + 1) (AddTerms b version terms) kept.limit limit same can.sound count_is room, (same, omega (arith, count_is, room)))) can
 
 pub terms_full : (k old : Books) (count b version : ℕ) (terms : TermsValue) → IsKept k count → k ≡ old → CanSave (host_of old) (AddTerms b version terms) → k.limit < count + 1
     → Saves old (AddTerms b version terms) (Err Full) old
 terms_full k old count b version terms kept is can over =
     let P : Books → Type 0 = λ old. CanSave (host_of old) (AddTerms b version terms) → Saves old (AddTerms b version terms) (Err Full) old in
     subst P is (λ can.
-      let more = terms_rows (host_of k) b can.follows.0 version terms can.follows.1 in
-      let counted = kept.counted in
-      (refl, omega (arith, more, counted, over))) can
+    let more = terms_rows (host_of k) b can.follows.0 version terms can.follows.1 in
+    let counted = kept.counted in
+    (refl, omega (arith, more, counted, over))) can
 
 -- a book that a change needs stands
 pub needed : (k old : Books) (b : ℕ) (at : BookValue) → k ≡ old → get (host_of old).books b ≡ Some at → book_at k.books b ≡ Some at
@@ -191,17 +191,17 @@ pub pledge_saved : (k old next : Books) (count after b : ℕ) (p : PledgeValue) 
 pledge_saved k old next count after b p i at kept is can place stands list limit sums room =
     let P : Books → Type 0 = λ old. CanSave (host_of old) (PutPledge b p) → IsKept next after × Saves old (PutPledge b p) (Ok tt) next in
     subst P is (λ can.
-      let found : get (host_of k).books b ≡ Some at = get-book_at k.books b ∙ stands in
-      let book : BookValue = record at { pledges = put_from 1 at.pledges p.number p } in
-      let same : host_of next ≡ changed (host_of k) (PutPledge b p) =
-          ap (λ (es : List (ℕ × BookValue)). record { books = from_entries es; limit = next.limit }) list
-          ∙ ap (λ n. record { books = from_entries (set k.books i (b, book)); limit = n }) limit
-          ∙ put_host k b i at book (λ o. changed_book o (PutPledge b p)) place found refl in
-      let bounds = follows_low (host_of k) b p at can.follows found in
-      let more = put_rows (host_of k) b at p found bounds.0 bounds.1 in
-      let counted = kept.counted in
-      let after_is : after ≡ rows (changed (host_of k) (PutPledge b p)) = omega (arith, more, counted, sums) in
-      (kept_changed k next after (PutPledge b p) kept.limit limit same can.sound after_is room, (same, omega (arith, after_is, room)))) can
+    let found : get (host_of k).books b ≡ Some at = get-book_at k.books b ∙ stands in
+    let book : BookValue = record at { pledges = put_from 1 at.pledges p.number p } in
+    let same : host_of next ≡ changed (host_of k) (PutPledge b p) =
+    ap (λ (es : List (ℕ × BookValue)). record { books = from_entries es; limit = next.limit }) list
+    ∙ ap (λ n. record { books = from_entries (set k.books i (b, book)); limit = n }) limit
+    ∙ put_host k b i at book (λ o. changed_book o (PutPledge b p)) place found refl in
+    let bounds = follows_low (host_of k) b p at can.follows found in
+    let more = put_rows (host_of k) b at p found bounds.0 bounds.1 in
+    let counted = kept.counted in
+    let after_is : after ≡ rows (changed (host_of k) (PutPledge b p)) = omega (arith, more, counted, sums) in
+    (kept_changed k next after (PutPledge b p) kept.limit limit same can.sound after_is room, (same, omega (arith, after_is, room)))) can
 
 pub pledge_full : (k old : Books) (count after b : ℕ) (p : PledgeValue) (at : BookValue) → IsKept k count → k ≡ old → CanSave (host_of old) (PutPledge b p)
     → book_at k.books b ≡ Some at → after + standing_rows (pledge_from 1 at.pledges p.number) ≡ count + pledge_rows p → k.limit < after
@@ -209,11 +209,11 @@ pub pledge_full : (k old : Books) (count after b : ℕ) (p : PledgeValue) (at : 
 pledge_full k old count after b p at kept is can stands sums over =
     let P : Books → Type 0 = λ old. CanSave (host_of old) (PutPledge b p) → Saves old (PutPledge b p) (Err Full) old in
     subst P is (λ can.
-      let found : get (host_of k).books b ≡ Some at = get-book_at k.books b ∙ stands in
-      let bounds = follows_low (host_of k) b p at can.follows found in
-      let more = put_rows (host_of k) b at p found bounds.0 bounds.1 in
-      let counted = kept.counted in
-      (refl, omega (arith, more, counted, sums, over))) can
+    let found : get (host_of k).books b ≡ Some at = get-book_at k.books b ∙ stands in
+    let bounds = follows_low (host_of k) b p at can.follows found in
+    let more = put_rows (host_of k) b at p found bounds.0 bounds.1 in
+    let counted = kept.counted in
+    (refl, omega (arith, more, counted, sums, over))) can
 
 -- the rows of a standing pledge are counted
 pub standing_counted : (k old : Books) (count b : ℕ) (p : PledgeValue) (at : BookValue) → IsKept k count → k ≡ old → CanSave (host_of old) (PutPledge b p)
@@ -221,8 +221,8 @@ pub standing_counted : (k old : Books) (count b : ℕ) (p : PledgeValue) (at : B
 standing_counted k old count b p at kept is can stands =
     let P : Books → Type 0 = λ old. CanSave (host_of old) (PutPledge b p) → (standing_rows (pledge_from 1 at.pledges p.number) ≤ count + pledge_rows p) × (1 ≤ p.number) × (p.number ≤ 1 + length at.pledges) in
     subst P is (λ can.
-      let found : get (host_of k).books b ≡ Some at = get-book_at k.books b ∙ stands in
-      let bounds = follows_low (host_of k) b p at can.follows found in
-      let more = put_rows (host_of k) b at p found bounds.0 bounds.1 in
-      let counted = kept.counted in
-      (omega (arith, more, counted), bounds.0, bounds.1)) can
+    let found : get (host_of k).books b ≡ Some at = get-book_at k.books b ∙ stands in
+    let bounds = follows_low (host_of k) b p at can.follows found in
+    let more = put_rows (host_of k) b at p found bounds.0 bounds.1 in
+    let counted = kept.counted in
+    (omega (arith, more, counted), bounds.0, bounds.1)) can

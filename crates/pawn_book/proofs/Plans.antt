@@ -35,7 +35,7 @@ changed_is : (h : Host) (b : ℕ) (change : Change) (book : BookValue) → book_
 changed_is h b change book named is = ap (λ (c : ℕ). with_book h c (changed_book (get h.books c) change)) named ∙ ap (with_book h b) is
 
 -- a row that did not apply
-past_row : {V E : Type 0} (test : Bool) (why : E) (rest : Result V E) (v : V) → (if test then Err why else rest) ≡ Ok v → (test ≡ false) × (rest ≡ Ok v)
+pub past_row : {V E : Type 0} (test : Bool) (why : E) (rest : Result V E) (v : V) → (if test then Err why else rest) ≡ Ok v → (test ≡ false) × (rest ≡ Ok v)
 past_row true why rest v is = cc is
 past_row false why rest v is = (refl, is)
 
@@ -52,12 +52,16 @@ pub terms_plans : (h : Host) (b : ℕ) (at : BookValue) (new : NewTerms) (terms 
 terms_plans h b at new terms sound is none answer version few checked =
     let book : BookValue = record at { terms = at.terms ++ terms ∷ [] } in
     let same : changed h (AddTerms b new.version terms) ≡ with_book h b (Some book) =
-        changed_is h b (AddTerms b new.version terms) book refl (ap (λ o. changed_book o (AddTerms b new.version terms)) is) in
-    (ap (put_terms at b new) none ∙ ap (λ r. made r (λ terms. Makes (AddTerms b new.version terms) (TermsPut new.version))) answer,
-    (refl, record {
-      follows = (at, is, version);
-      sound = subst AreSound (sym same) (sound_with h b book sound.books (sound_terms at terms (sound.books b at is) checked few));
-    }))
+    changed_is h b (AddTerms b new.version terms) book refl (ap (λ o. changed_book o (AddTerms b new.version terms)) is) in (
+      ap (put_terms at b new) none ∙ ap (λ r. made r (λ terms. Makes (AddTerms b new.version terms) (TermsPut new.version))) answer,
+      (
+        refl,
+        record {
+          follows = (at, is, version);
+          sound = subst AreSound (sym same) (sound_with h b book sound.books (sound_terms at terms (sound.books b at is) checked few));
+        },
+      ),
+    )
 
 -- the next pledge is taken
 pub pledge_plans : (h : Host) (b : ℕ) (at : BookValue) (opening : Opening) (stamp : Stamp) (p : PledgeValue) → IsSound h → get h.books b ≡ Some at
@@ -67,12 +71,16 @@ pub pledge_plans : (h : Host) (b : ℕ) (at : BookValue) (opening : Opening) (st
 pledge_plans h b at opening stamp p sound is none answer number few standing =
     let book : BookValue = record at { pledges = put_from 1 at.pledges p.number p } in
     let same : changed h (PutPledge b p) ≡ with_book h b (Some book) =
-        changed_is h b (PutPledge b p) book refl (ap (λ o. changed_book o (PutPledge b p)) is) in
-    (ap (take_pledge at b opening stamp) none ∙ ap (λ r. made r (λ p. Makes (PutPledge b p) (Opened (first_receipt p)))) answer,
-    (refl, record {
-      follows = (at, is, inl number);
-      sound = subst AreSound (sym same) (sound_with h b book sound.books (sound_next at p (sound.books b at is) number standing few));
-    }))
+    changed_is h b (PutPledge b p) book refl (ap (λ o. changed_book o (PutPledge b p)) is) in (
+      ap (take_pledge at b opening stamp) none ∙ ap (λ r. made r (λ p. Makes (PutPledge b p) (Opened (first_receipt p)))) answer,
+      (
+        refl,
+        record {
+          follows = (at, is, inl number);
+          sound = subst AreSound (sym same) (sound_with h b book sound.books (sound_next at p (sound.books b at is) number standing few));
+        },
+      ),
+    )
 
 -- a pledge that is found by its reference stands under its number
 reference_from : (k : ℕ) (ps : List PledgeValue) (reference : List ℕ) (p : PledgeValue) → AreNumberedFrom k ps → with_reference ps reference ≡ Some p
@@ -118,7 +126,7 @@ no_number h b reference is = from (with_reference (pledges_of (get h.books b)) r
     from (Some p) is = absurd_none is
 
 -- terms that are not refused have the next version, and there is room for them
-next_is : (standing : ℕ) (new : NewTerms) (terms : TermsValue) → next_terms standing new ≡ Ok terms
+pub next_is : (standing : ℕ) (new : NewTerms) (terms : TermsValue) → next_terms standing new ≡ Ok terms
     → (1 ≤ new.version) × (new.version ≤ standing + 1) × (standing < most_terms)
 next_is standing new terms is =
     let zero_free = past_row (new.version == 0) TermsSeq _ terms is in
@@ -127,7 +135,7 @@ next_is standing new terms is =
     (grind (arith, nat_tests, zero_free.0), grind (arith, nat_tests, not_ahead.0), grind (arith, nat_tests, not_full.0))
 
 -- a version that doesn't stand is past those that do
-not_standing : (terms : List TermsValue) (version : ℕ) → terms_at terms version ≡ None → 1 ≤ version → length terms < version
+pub not_standing : (terms : List TermsValue) (version : ℕ) → terms_at terms version ≡ None → 1 ≤ version → length terms < version
 not_standing terms zero none low = absurd (omega (arith, low))
 not_standing [] (suc n) none low = omega arith
 not_standing (t ∷ ts) (suc zero) none low = absurd_none (sym none)
@@ -151,7 +159,7 @@ no_head None is = refl
 no_head (Some book) is = absurd_none is
 
 -- a pledge that is taken is one past the book's last, and there is room for it
-taken_is : (head : Head) (opening : Opening) (stamp : Stamp) (terms : Option TermsValue) (p : PledgeValue) → taken_under head opening stamp terms ≡ Ok p
+pub taken_is : (head : Head) (opening : Opening) (stamp : Stamp) (terms : Option TermsValue) (p : PledgeValue) → taken_under head opening stamp terms ≡ Ok p
     → (p.number ≡ head.pledges + 1) × (head.pledges < most_pledges)
 taken_is head opening stamp None p is = cc is
 taken_is head opening stamp (Some terms) p is = from (started (head.pledges + 1) opening head.terms terms stamp) (λ q same. named q same) is

@@ -22,9 +22,12 @@ handed-snoc step v u w (y ∷ xs) x flow before here = elim before [
 -- it stopped at the item at this place
 pub visits_stopped : {V T : Type 0} (step : V → T → Flow → V → Type 0) (v u w : V) (xs : List T) (i : ℕ) (x : T) → i < length xs → x ≡ get_or xs i x
     → Handed step v (take i xs) Go u → step u x Stop w → Visits step v w (λ given flow. IsShare given flow true xs)
-visits_stopped step v u w xs i x lt is before here =
-    (take i xs ++ x ∷ [], Stop, handed-snoc step v u w (take i xs) x Stop before here,
-      (drop (i + 1) xs, append_assoc (take i xs) (x ∷ []) (drop (i + 1) xs) ∙ ap (λ y. take i xs ++ y ∷ drop (i + 1) xs) is ∙ cut_at xs i x lt, λ e. cc e))
+visits_stopped step v u w xs i x lt is before here = (
+  take i xs ++ x ∷ [],
+  Stop,
+  handed-snoc step v u w (take i xs) x Stop before here,
+  (drop (i + 1) xs, append_assoc (take i xs) (x ∷ []) (drop (i + 1) xs) ∙ ap (λ y. take i xs ++ y ∷ drop (i + 1) xs) is ∙ cut_at xs i x lt, λ e. cc e),
+)
 
 -- it goes on after the item at this place
 pub visits_more : {V T : Type 0} (step : V → T → Flow → V → Type 0) (v u w : V) (xs : List T) (i : ℕ) (x : T) → i < length xs → x ≡ get_or xs i x

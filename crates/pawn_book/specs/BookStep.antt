@@ -152,11 +152,11 @@ under_terms (Err fault) = Err (Terms fault)
 abbrev pub next_terms : ℕ → NewTerms → Result TermsValue Refusal
 next_terms standing new =
     first_of
-        ((new.version == 0, TermsSeq)
-        ∷ (nat_lt (standing + 1) new.version, TermsSeq)
-        ∷ (nat_le most_terms standing, TermsFull)
-        ∷ [])
-        (under_terms (terms_answer new.rate new.keep_before new.keep_after))
+    ((new.version == 0, TermsSeq)
+    ∷ (nat_lt (standing + 1) new.version, TermsSeq)
+    ∷ (nat_le most_terms standing, TermsFull)
+    ∷ [])
+    (under_terms (terms_answer new.rate new.keep_before new.keep_after))
 
 -- PutTerms: equal terms that stand are told again
 abbrev pub put_terms : BookValue → ℕ → NewTerms → Option TermsValue → Outcome

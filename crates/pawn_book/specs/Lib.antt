@@ -8,3 +8,4 @@ pub mod Keeping
 pub mod Sound
 pub mod Books
 pub mod Listed
+pub mod Laws

@@ -14,14 +14,17 @@ use Rattle.pawn_book.specs.Books.{Books}
 
 -- a book of the list, with its number
 abbrev pub entry_of : Kept → ℕ × BookValue
-entry_of k = (k.number, record {
-  key = k.made.key;
-  name = k.made.name;
-  capacity = k.made.capacity;
-  terms = k.terms.items;
-  pledges = k.pledges.items;
-  imported = k.imported;
-})
+entry_of k = (
+  k.number,
+  record {
+    key = k.made.key;
+    name = k.made.name;
+    capacity = k.made.capacity;
+    terms = k.terms.items;
+    pledges = k.pledges.items;
+    imported = k.imported;
+  },
+)
 
 -- the book at a number: the first of that number
 abbrev pub book_at : List (ℕ × BookValue) → ℕ → Option BookValue

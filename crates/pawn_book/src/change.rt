@@ -25,11 +25,21 @@ pub struct Head {
 #[derive(Drop)]
 pub enum Change {
     /// A new book without terms and pledges.
-    MakeBook { book: Number, new_book: NewBook },
+    MakeBook {
+        book: Number,
+        new_book: NewBook,
+    },
     /// The next version of its terms.
-    AddTerms { book: Number, version: u64, terms: Terms },
+    AddTerms {
+        book: Number,
+        version: u64,
+        terms: Terms,
+    },
     /// The next pledge, or one that stands, as it is now.
-    PutPledge { book: Number, pledge: Pledge },
+    PutPledge {
+        book: Number,
+        pledge: Pledge,
+    },
 }
 
 /// What a request would do, and what is then replied; no change where nothing changes.

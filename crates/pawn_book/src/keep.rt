@@ -48,13 +48,23 @@ pub trait Keep {
         ensures steady { IsSteady steady self.old self.new result };
 
     /// Hands the visitor the entries of a pledge in order, until it wants no more.
-    fn entries<V: EntryVisitor>(&mut self, book: Number, number: Number, visitor: &mut V) -> Result<(), KeepError>
+    fn entries<V: EntryVisitor>(
+        &mut self,
+        book: Number,
+        number: Number,
+        visitor: &mut V,
+    ) -> Result<(), KeepError>
         ensures reads { Visits V.step visitor.old visitor.new (λ given flow.
             Reads stands honest self.old self.new (λ h. IsShare given flow (is_ok result) (entries_of (pledge_in (get h.books book) number)))) }
         ensures steady { IsSteady steady self.old self.new result };
 
     /// Hands the visitor the extensions of a pledge in order, until it wants no more.
-    fn extensions<V: ExtensionVisitor>(&mut self, book: Number, number: Number, visitor: &mut V) -> Result<(), KeepError>
+    fn extensions<V: ExtensionVisitor>(
+        &mut self,
+        book: Number,
+        number: Number,
+        visitor: &mut V,
+    ) -> Result<(), KeepError>
         ensures reads { Visits V.step visitor.old visitor.new (λ given flow.
             Reads stands honest self.old self.new (λ h. IsShare given flow (is_ok result) (extensions_of (pledge_in (get h.books book) number)))) }
         ensures steady { IsSteady steady self.old self.new result };

@@ -6,6 +6,7 @@ mod capacity;
 mod change;
 mod fault;
 mod keep;
+mod laws;
 mod list;
 mod planning;
 mod receipts;
@@ -14,21 +15,22 @@ mod reply;
 mod request;
 mod visit;
 
+pub use acting::{act, commit};
 pub use capacity::Capacity;
 pub use change::{Change, Head, Imported, Planned};
 pub use fault::{KeepError, SaveError, StoreFault};
 pub use keep::Keep;
+pub use laws::{changes_differ, repeats_act_once};
 pub use list::{ListKeep, MOST_ROWS};
-pub use acting::{act, commit};
-pub use planning::{find_live, gate, plan};
 pub use pawn_pledge::{
     Applied, Article, BadDay, BadReceipt, Booking, BookingState, Brief, Closing, Command, Day,
     Decision, Done, Entry, Extension, Issue, Issued, Kind, Number, Opening, Owing, Paper, Pledge,
-    Receipt, Reference, RequestDay, Secret, Sort, Stamp, Status, Terms, Text,
+    Receipt, Reference, Refusal as PledgeRefusal, RequestDay, Secret, Sort, Stamp, Status, Terms,
+    Text,
 };
-pub use pawn_pledge::Refusal as PledgeRefusal;
 pub use pawn_terms::TermsFault;
-pub use receipts::Receipts;
+pub use planning::{find_live, gate, plan};
+pub use receipts::{MOST_RECEIPTS, Receipts};
 pub use refusal::Refusal;
 pub use reply::Reply;
 pub use request::{BearerRequest, BrokerRequest, Caller, Name, NewBook, NewTerms, Request};

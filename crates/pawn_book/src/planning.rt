@@ -13,8 +13,8 @@ use crate::refusal::Refusal;
 use crate::reply::Reply;
 use crate::request::{BrokerRequest, Caller, NewBook, NewTerms, Request};
 use pawn_pledge::{
-    Number, Opening, Pledge, Receipt, Reference, Refusal as PledgeRefusal, RequestDay,
-    Secret, Stamp, Terms,
+    Number, Opening, Pledge, Receipt, Reference, Refusal as PledgeRefusal, RequestDay, Secret,
+    Stamp, Terms,
 };
 use std::alloc::{AllocError, Global};
 
@@ -112,11 +112,7 @@ fn unwell(error: KeepError) -> Refusal
 }
 
 // A book that is to be made, or stands with the same key, name and capacity.
-fn plan_book<K: Keep>(
-    keep: &mut K,
-    book: Number,
-    new_book: &NewBook,
-) -> Result<Planned, Refusal>
+fn plan_book<K: Keep>(keep: &mut K, book: Number, new_book: &NewBook) -> Result<Planned, Refusal>
     ensures reads { Reads K.stands K.honest keep.old keep.new (λ h. Plans h book (created (get h.books book) book new_book.now) result) }
     ensures steady { IsQuiet K.steady keep.old keep.new result }
 {

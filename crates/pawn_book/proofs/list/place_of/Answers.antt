@@ -10,6 +10,7 @@ returns-then-eq-clause-some c =
 
 pub loop-place-preserved : goal.loop-place-preserved
 loop-place-preserved c =
-    let other : c.index-books-place.result.number ≢ c.args.book = grind (arith, nat_tests, sym c.eq.ensures ∙ c.if-eq.false) in
-    (next_book c.args.books.now c.args.book c.loop-place.place c.index-books-place.result c.loop-place-test.true c.index-books-place.is other c.loop-place.invariant.0,
-    next_place c.args.books.now c.args.book c.loop-place.place c.index-books-place.result c.loop-place-test.true c.index-books-place.is other c.loop-place.invariant.1)
+    let other : c.index-books-place.result.number ≢ c.args.book = grind (arith, nat_tests, sym c.eq.ensures ∙ c.if-eq.false) in (
+      next_book c.args.books.now c.args.book c.loop-place.place c.index-books-place.result c.loop-place-test.true c.index-books-place.is other c.loop-place.invariant.0,
+      next_place c.args.books.now c.args.book c.loop-place.place c.index-books-place.result c.loop-place-test.true c.index-books-place.is other c.loop-place.invariant.1,
+    )

@@ -11,7 +11,7 @@ pub returns-in-Ok-clause-reads : goal.returns-in-Ok-clause-reads
 returns-in-Ok-clause-reads g c = reads_then c.find_reference.ensures.reads c.take.ensures.reads (λ h sound found taken at is heads.
     let answer = subst (IsTaken (taken_under c.args.head.now c.args.opening.now c.args.stamp.now (newest at.terms))) c.in-Ok.is (taken at is heads) in
     subst (λ r. Plans h c.args.book (take_pledge at c.args.book c.args.opening.now c.args.stamp.now (with_reference at.pledges c.args.opening.now.reference))
-        (Ok (record { change = Some (PutPledge c.args.book c.in-Ok.pledge); reply = Opened r })))
-      (sym c.first_receipt-in-Ok.ensures)
-      (taken_plans h c.args.book at c.args.head.now c.args.opening.now c.args.stamp.now c.in-Ok.pledge sound is heads
-        (ok_is (c.in-Ok-None.is ∙ ap Ok c.in-Ok-None.field-0-is) found) answer c.in-Ok.ensures.standing))
+    (Ok (record { change = Some (PutPledge c.args.book c.in-Ok.pledge); reply = Opened r })))
+    (sym c.first_receipt-in-Ok.ensures)
+    (taken_plans h c.args.book at c.args.head.now c.args.opening.now c.args.stamp.now c.in-Ok.pledge sound is heads
+    (ok_is (c.in-Ok-None.is ∙ ap Ok c.in-Ok-None.field-0-is) found) answer c.in-Ok.ensures.standing))

@@ -22,7 +22,7 @@ invariant_of-self c =
     let kept = c.index_mut-kept.result.now in
     let next : Kept = record { number = kept.number; made = kept.made; terms = c.push.new.self; pledges = kept.pledges; imported = kept.imported } in
     let same = kept_same c.self.inside.books.items c.in-Some.place kept next c.index_mut-kept.ensures.value
-        (entry_is next kept.number kept.made kept.terms.items kept.pledges.items kept.imported refl refl c.in-Err.ensures.items refl refl) in
+    (entry_is next kept.number kept.made kept.terms.items kept.pledges.items kept.imported refl refl c.in-Err.ensures.items refl refl) in
     subst (λ (es : List (ℕ × BookValue)). IsKept (record { books = es; limit = c.self.inside.limit }) c.self.inside.rows) (sym same) c.self.invariant
 
 pub returns-in-Err : goal.returns-in-Err
@@ -30,7 +30,7 @@ returns-in-Err c =
     let kept = c.index_mut-kept.result.now in
     let next : Kept = record { number = kept.number; made = kept.made; terms = c.push.new.self; pledges = kept.pledges; imported = kept.imported } in
     let same = kept_same c.self.inside.books.items c.in-Some.place kept next c.index_mut-kept.ensures.value
-        (entry_is next kept.number kept.made kept.terms.items kept.pledges.items kept.imported refl refl c.in-Err.ensures.items refl refl) in
+    (entry_is next kept.number kept.made kept.terms.items kept.pledges.items kept.imported refl refl c.in-Err.ensures.items refl refl) in
     ap (λ (es : List (ℕ × BookValue)). let k : Books = record { books = es; limit = c.self.inside.limit } in k) same ∙ c.self.view_is
 
 pub invariant_of-self-2 : goal.invariant_of-self-2
@@ -39,15 +39,15 @@ invariant_of-self-2 c =
     let next : Kept = record { number = kept.number; made = kept.made; terms = c.push.new.self; pledges = kept.pledges; imported = kept.imported } in
     let ks = c.self.inside.books.items in
     let place : IsPlace (map entry_of ks) c.args.book c.in-Some.place =
-        subst (λ qs. IsPlace (map entry_of qs) c.args.book c.in-Some.place) c.deref.ensures.value c.in-Some.ensures.some in
+    subst (λ qs. IsPlace (map entry_of qs) c.args.book c.in-Some.place) c.deref.ensures.value c.in-Some.ensures.some in
     let within : c.in-Some.place < length ks = subst (λ (qs : List Kept). c.in-Some.place < length qs) c.deref.ensures.value c.in-Some.ensures.within in
     let number = kept_number ks c.args.book c.in-Some.place kept within c.index_mut-kept.ensures.value place in
     let stands = kept_is ks c.args.book c.in-Some.place kept within c.index_mut-kept.ensures.value place in
     let list = map-set entry_of ks c.in-Some.place next
-        ∙ ap (set (map entry_of ks) c.in-Some.place)
-          (entry_is next c.args.book kept.made (kept.terms.items ++ c.args.terms ∷ []) kept.pledges.items kept.imported number refl c.in-Ok.ensures.items refl refl) in
+    ∙ ap (set (map entry_of ks) c.in-Some.place)
+    (entry_is next c.args.book kept.made (kept.terms.items ++ c.args.terms ∷ []) kept.pledges.items kept.imported number refl c.in-Ok.ensures.items refl refl) in
     (terms_saved _ c.args.self.now (record { books = map entry_of (set ks c.in-Some.place next); limit = c.self.inside.limit }) _ c.args.book c.args.version c.args.terms
-      c.in-Some.place (entry_of kept).1 c.self.invariant c.self.view_is c.requires place stands list refl c.if-rows-self.false).0
+    c.in-Some.place (entry_of kept).1 c.self.invariant c.self.view_is c.requires place stands list refl c.if-rows-self.false).0
 
 pub returns : goal.returns
 returns c =
@@ -55,12 +55,12 @@ returns c =
     let next : Kept = record { number = kept.number; made = kept.made; terms = c.push.new.self; pledges = kept.pledges; imported = kept.imported } in
     let ks = c.self.inside.books.items in
     let place : IsPlace (map entry_of ks) c.args.book c.in-Some.place =
-        subst (λ qs. IsPlace (map entry_of qs) c.args.book c.in-Some.place) c.deref.ensures.value c.in-Some.ensures.some in
+    subst (λ qs. IsPlace (map entry_of qs) c.args.book c.in-Some.place) c.deref.ensures.value c.in-Some.ensures.some in
     let within : c.in-Some.place < length ks = subst (λ (qs : List Kept). c.in-Some.place < length qs) c.deref.ensures.value c.in-Some.ensures.within in
     let number = kept_number ks c.args.book c.in-Some.place kept within c.index_mut-kept.ensures.value place in
     let stands = kept_is ks c.args.book c.in-Some.place kept within c.index_mut-kept.ensures.value place in
     let list = map-set entry_of ks c.in-Some.place next
-        ∙ ap (set (map entry_of ks) c.in-Some.place)
-          (entry_is next c.args.book kept.made (kept.terms.items ++ c.args.terms ∷ []) kept.pledges.items kept.imported number refl c.in-Ok.ensures.items refl refl) in
+    ∙ ap (set (map entry_of ks) c.in-Some.place)
+    (entry_is next c.args.book kept.made (kept.terms.items ++ c.args.terms ∷ []) kept.pledges.items kept.imported number refl c.in-Ok.ensures.items refl refl) in
     (terms_saved _ c.args.self.now (record { books = map entry_of (set ks c.in-Some.place next); limit = c.self.inside.limit }) _ c.args.book c.args.version c.args.terms
-      c.in-Some.place (entry_of kept).1 c.self.invariant c.self.view_is c.requires place stands list refl c.if-rows-self.false).1
+    c.in-Some.place (entry_of kept).1 c.self.invariant c.self.view_is c.requires place stands list refl c.if-rows-self.false).1

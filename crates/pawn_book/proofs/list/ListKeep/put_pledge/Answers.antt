@@ -23,15 +23,15 @@ pub overflow_sub-rows : goal.overflow_sub-rows
 overflow_sub-rows c =
     let ks = c.self.inside.books.items in
     let place : IsPlace (map entry_of ks) c.args.book c.in-Some.place =
-        subst (λ qs. IsPlace (map entry_of qs) c.args.book c.in-Some.place) c.deref.ensures.value c.in-Some.ensures.some in
+    subst (λ qs. IsPlace (map entry_of qs) c.args.book c.in-Some.place) c.deref.ensures.value c.in-Some.ensures.some in
     let within : c.in-Some.place < length ks = subst (λ (qs : List Kept). c.in-Some.place < length qs) c.deref.ensures.value c.in-Some.ensures.within in
     let read = c.index.result.now in
     let at = (entry_of read).1 in
     let stands = kept_is ks c.args.book c.in-Some.place read within c.index.ensures place in
     let counted = standing_counted _ c.args.self.now _ c.args.book c.args.pledge.now at c.self.invariant c.self.view_is c.requires stands in
     let standing : c.rows_at-standing.result ≡ standing_rows (pledge_from 1 at.pledges c.args.pledge.now.number) =
-        c.rows_at-standing.ensures ∙ ap (λ ps. standing_rows (pledge_from 1 ps c.number.result)) c.deref-2.ensures.value
-        ∙ ap (λ n. standing_rows (pledge_from 1 at.pledges n)) c.number.ensures in
+    c.rows_at-standing.ensures ∙ ap (λ ps. standing_rows (pledge_from 1 ps c.number.result)) c.deref-2.ensures.value
+    ∙ ap (λ n. standing_rows (pledge_from 1 at.pledges n)) c.number.ensures in
     let count = c.from.ensures in let added = c.rows_of.ensures in let wide = c.from-2.ensures in let taken = c.from-3.ensures in
     let low = counted.0 in
     omega (arith, low, standing, count, added, wide, taken)
@@ -40,22 +40,22 @@ pub returns-then-rows-from : goal.returns-then-rows-from
 returns-then-rows-from c =
     let ks = c.self.inside.books.items in
     let place : IsPlace (map entry_of ks) c.args.book c.in-Some.place =
-        subst (λ qs. IsPlace (map entry_of qs) c.args.book c.in-Some.place) c.deref.ensures.value c.in-Some.ensures.some in
+    subst (λ qs. IsPlace (map entry_of qs) c.args.book c.in-Some.place) c.deref.ensures.value c.in-Some.ensures.some in
     let within : c.in-Some.place < length ks = subst (λ (qs : List Kept). c.in-Some.place < length qs) c.deref.ensures.value c.in-Some.ensures.within in
     let read = c.index.result.now in
     let at = (entry_of read).1 in
     let stands = kept_is ks c.args.book c.in-Some.place read within c.index.ensures place in
     let counted = standing_counted _ c.args.self.now _ c.args.book c.args.pledge.now at c.self.invariant c.self.view_is c.requires stands in
     let standing : c.rows_at-standing.result ≡ standing_rows (pledge_from 1 at.pledges c.args.pledge.now.number) =
-        c.rows_at-standing.ensures ∙ ap (λ ps. standing_rows (pledge_from 1 ps c.number.result)) c.deref-2.ensures.value
-        ∙ ap (λ n. standing_rows (pledge_from 1 at.pledges n)) c.number.ensures in
+    c.rows_at-standing.ensures ∙ ap (λ ps. standing_rows (pledge_from 1 ps c.number.result)) c.deref-2.ensures.value
+    ∙ ap (λ n. standing_rows (pledge_from 1 at.pledges n)) c.number.ensures in
     let count = c.from.ensures in let added = c.rows_of.ensures in let wide = c.from-2.ensures in let taken = c.from-3.ensures in
     let low = counted.0 in
     let sums : ((c.from.result + c.from-2.result) - c.from-3.result) + standing_rows (pledge_from 1 at.pledges c.args.pledge.now.number) ≡ c.self.inside.rows + pledge_rows c.args.pledge.now =
-        omega (arith, low, standing, count, added, wide, taken) in
+    omega (arith, low, standing, count, added, wide, taken) in
     let limit = c.from-4.ensures in let over = c.if-rows-from.true in
     pledge_full _ c.args.self.now _ ((c.from.result + c.from-2.result) - c.from-3.result) c.args.book c.args.pledge.now at c.self.invariant c.self.view_is c.requires stands sums
-      (omega (arith, over, limit))
+    (omega (arith, over, limit))
 
 pub index_mut-kept-requires : goal.index_mut-kept-requires
 index_mut-kept-requires c = let within = c.in-Some.ensures.within in let len = c.deref.ensures.len in omega (arith, within, len)
@@ -64,15 +64,15 @@ pub put-requires : goal.put-requires
 put-requires c =
     let ks = c.self.inside.books.items in
     let place : IsPlace (map entry_of ks) c.args.book c.in-Some.place =
-        subst (λ qs. IsPlace (map entry_of qs) c.args.book c.in-Some.place) c.deref.ensures.value c.in-Some.ensures.some in
+    subst (λ qs. IsPlace (map entry_of qs) c.args.book c.in-Some.place) c.deref.ensures.value c.in-Some.ensures.some in
     let within : c.in-Some.place < length ks = subst (λ (qs : List Kept). c.in-Some.place < length qs) c.deref.ensures.value c.in-Some.ensures.within in
     let read = c.index.result.now in
     let at = (entry_of read).1 in
     let stands = kept_is ks c.args.book c.in-Some.place read within c.index.ensures place in
     let counted = standing_counted _ c.args.self.now _ c.args.book c.args.pledge.now at c.self.invariant c.self.view_is c.requires stands in
     let standing : c.rows_at-standing.result ≡ standing_rows (pledge_from 1 at.pledges c.args.pledge.now.number) =
-        c.rows_at-standing.ensures ∙ ap (λ ps. standing_rows (pledge_from 1 ps c.number.result)) c.deref-2.ensures.value
-        ∙ ap (λ n. standing_rows (pledge_from 1 at.pledges n)) c.number.ensures in
+    c.rows_at-standing.ensures ∙ ap (λ ps. standing_rows (pledge_from 1 ps c.number.result)) c.deref-2.ensures.value
+    ∙ ap (λ n. standing_rows (pledge_from 1 at.pledges n)) c.number.ensures in
     let count = c.from.ensures in let added = c.rows_of.ensures in let wide = c.from-2.ensures in let taken = c.from-3.ensures in
     let kept = c.index_mut-kept.result.now in
     let found = kept_is ks c.args.book c.in-Some.place kept within c.index_mut-kept.ensures.value place in
@@ -85,7 +85,7 @@ invariant_of-self c =
     let kept = c.index_mut-kept.result.now in
     let next : Kept = record { number = kept.number; made = kept.made; terms = kept.terms; pledges = c.put.new.pledges; imported = kept.imported } in
     let same = kept_same c.self.inside.books.items c.in-Some.place kept next c.index_mut-kept.ensures.value
-        (entry_is next kept.number kept.made kept.terms.items kept.pledges.items kept.imported refl refl refl c.in-Err.ensures.err refl) in
+    (entry_is next kept.number kept.made kept.terms.items kept.pledges.items kept.imported refl refl refl c.in-Err.ensures.err refl) in
     subst (λ (es : List (ℕ × BookValue)). IsKept (record { books = es; limit = c.self.inside.limit }) c.self.inside.rows) (sym same) c.self.invariant
 
 pub returns-in-Err : goal.returns-in-Err
@@ -93,26 +93,26 @@ returns-in-Err c =
     let kept = c.index_mut-kept.result.now in
     let next : Kept = record { number = kept.number; made = kept.made; terms = kept.terms; pledges = c.put.new.pledges; imported = kept.imported } in
     let same = kept_same c.self.inside.books.items c.in-Some.place kept next c.index_mut-kept.ensures.value
-        (entry_is next kept.number kept.made kept.terms.items kept.pledges.items kept.imported refl refl refl c.in-Err.ensures.err refl) in
+    (entry_is next kept.number kept.made kept.terms.items kept.pledges.items kept.imported refl refl refl c.in-Err.ensures.err refl) in
     ap (λ (es : List (ℕ × BookValue)). let k : Books = record { books = es; limit = c.self.inside.limit } in k) same ∙ c.self.view_is
 
 pub invariant_of-self-2 : goal.invariant_of-self-2
 invariant_of-self-2 c =
     let ks = c.self.inside.books.items in
     let place : IsPlace (map entry_of ks) c.args.book c.in-Some.place =
-        subst (λ qs. IsPlace (map entry_of qs) c.args.book c.in-Some.place) c.deref.ensures.value c.in-Some.ensures.some in
+    subst (λ qs. IsPlace (map entry_of qs) c.args.book c.in-Some.place) c.deref.ensures.value c.in-Some.ensures.some in
     let within : c.in-Some.place < length ks = subst (λ (qs : List Kept). c.in-Some.place < length qs) c.deref.ensures.value c.in-Some.ensures.within in
     let read = c.index.result.now in
     let at = (entry_of read).1 in
     let stands = kept_is ks c.args.book c.in-Some.place read within c.index.ensures place in
     let counted = standing_counted _ c.args.self.now _ c.args.book c.args.pledge.now at c.self.invariant c.self.view_is c.requires stands in
     let standing : c.rows_at-standing.result ≡ standing_rows (pledge_from 1 at.pledges c.args.pledge.now.number) =
-        c.rows_at-standing.ensures ∙ ap (λ ps. standing_rows (pledge_from 1 ps c.number.result)) c.deref-2.ensures.value
-        ∙ ap (λ n. standing_rows (pledge_from 1 at.pledges n)) c.number.ensures in
+    c.rows_at-standing.ensures ∙ ap (λ ps. standing_rows (pledge_from 1 ps c.number.result)) c.deref-2.ensures.value
+    ∙ ap (λ n. standing_rows (pledge_from 1 at.pledges n)) c.number.ensures in
     let count = c.from.ensures in let added = c.rows_of.ensures in let wide = c.from-2.ensures in let taken = c.from-3.ensures in
     let low = counted.0 in
     let sums : ((c.from.result + c.from-2.result) - c.from-3.result) + standing_rows (pledge_from 1 at.pledges c.args.pledge.now.number) ≡ c.self.inside.rows + pledge_rows c.args.pledge.now =
-        omega (arith, low, standing, count, added, wide, taken) in
+    omega (arith, low, standing, count, added, wide, taken) in
     let limit = c.from-4.ensures in let room = c.if-rows-from.false in
     let kept = c.index_mut-kept.result.now in
     let next : Kept = record { number = kept.number; made = kept.made; terms = kept.terms; pledges = c.put.new.pledges; imported = kept.imported } in
@@ -120,31 +120,31 @@ invariant_of-self-2 c =
     let found = kept_is ks c.args.book c.in-Some.place kept within c.index_mut-kept.ensures.value place in
     let same : at ≡ (entry_of kept).1 = some_is at (entry_of kept).1 (sym stands ∙ found) in
     let list = map-set entry_of ks c.in-Some.place next
-        ∙ ap (set (map entry_of ks) c.in-Some.place)
-          (entry_is next c.args.book kept.made kept.terms.items (put_from 1 kept.pledges.items c.args.pledge.now.number c.args.pledge.now) kept.imported number refl refl
-            (c.in-Ok-put.ensures.ok ∙ ap (λ (q : PledgeValue). put_from 1 kept.pledges.items q.number q) c.in-Ok.ensures) refl) in
+    ∙ ap (set (map entry_of ks) c.in-Some.place)
+    (entry_is next c.args.book kept.made kept.terms.items (put_from 1 kept.pledges.items c.args.pledge.now.number c.args.pledge.now) kept.imported number refl refl
+    (c.in-Ok-put.ensures.ok ∙ ap (λ (q : PledgeValue). put_from 1 kept.pledges.items q.number q) c.in-Ok.ensures) refl) in
     (pledge_saved _ c.args.self.now (record { books = map entry_of (set ks c.in-Some.place next); limit = c.self.inside.limit }) _ ((c.from.result + c.from-2.result) - c.from-3.result)
-      c.args.book c.args.pledge.now c.in-Some.place (entry_of kept).1 c.self.invariant c.self.view_is c.requires place found list refl
-      (subst (λ (k : BookValue). ((c.from.result + c.from-2.result) - c.from-3.result) + standing_rows (pledge_from 1 k.pledges c.args.pledge.now.number) ≡ c.self.inside.rows + pledge_rows c.args.pledge.now) same sums)
-      (omega (arith, room, limit))).0
+    c.args.book c.args.pledge.now c.in-Some.place (entry_of kept).1 c.self.invariant c.self.view_is c.requires place found list refl
+    (subst (λ (k : BookValue). ((c.from.result + c.from-2.result) - c.from-3.result) + standing_rows (pledge_from 1 k.pledges c.args.pledge.now.number) ≡ c.self.inside.rows + pledge_rows c.args.pledge.now) same sums)
+    (omega (arith, room, limit))).0
 
 pub returns : goal.returns
 returns c =
     let ks = c.self.inside.books.items in
     let place : IsPlace (map entry_of ks) c.args.book c.in-Some.place =
-        subst (λ qs. IsPlace (map entry_of qs) c.args.book c.in-Some.place) c.deref.ensures.value c.in-Some.ensures.some in
+    subst (λ qs. IsPlace (map entry_of qs) c.args.book c.in-Some.place) c.deref.ensures.value c.in-Some.ensures.some in
     let within : c.in-Some.place < length ks = subst (λ (qs : List Kept). c.in-Some.place < length qs) c.deref.ensures.value c.in-Some.ensures.within in
     let read = c.index.result.now in
     let at = (entry_of read).1 in
     let stands = kept_is ks c.args.book c.in-Some.place read within c.index.ensures place in
     let counted = standing_counted _ c.args.self.now _ c.args.book c.args.pledge.now at c.self.invariant c.self.view_is c.requires stands in
     let standing : c.rows_at-standing.result ≡ standing_rows (pledge_from 1 at.pledges c.args.pledge.now.number) =
-        c.rows_at-standing.ensures ∙ ap (λ ps. standing_rows (pledge_from 1 ps c.number.result)) c.deref-2.ensures.value
-        ∙ ap (λ n. standing_rows (pledge_from 1 at.pledges n)) c.number.ensures in
+    c.rows_at-standing.ensures ∙ ap (λ ps. standing_rows (pledge_from 1 ps c.number.result)) c.deref-2.ensures.value
+    ∙ ap (λ n. standing_rows (pledge_from 1 at.pledges n)) c.number.ensures in
     let count = c.from.ensures in let added = c.rows_of.ensures in let wide = c.from-2.ensures in let taken = c.from-3.ensures in
     let low = counted.0 in
     let sums : ((c.from.result + c.from-2.result) - c.from-3.result) + standing_rows (pledge_from 1 at.pledges c.args.pledge.now.number) ≡ c.self.inside.rows + pledge_rows c.args.pledge.now =
-        omega (arith, low, standing, count, added, wide, taken) in
+    omega (arith, low, standing, count, added, wide, taken) in
     let limit = c.from-4.ensures in let room = c.if-rows-from.false in
     let kept = c.index_mut-kept.result.now in
     let next : Kept = record { number = kept.number; made = kept.made; terms = kept.terms; pledges = c.put.new.pledges; imported = kept.imported } in
@@ -152,10 +152,10 @@ returns c =
     let found = kept_is ks c.args.book c.in-Some.place kept within c.index_mut-kept.ensures.value place in
     let same : at ≡ (entry_of kept).1 = some_is at (entry_of kept).1 (sym stands ∙ found) in
     let list = map-set entry_of ks c.in-Some.place next
-        ∙ ap (set (map entry_of ks) c.in-Some.place)
-          (entry_is next c.args.book kept.made kept.terms.items (put_from 1 kept.pledges.items c.args.pledge.now.number c.args.pledge.now) kept.imported number refl refl
-            (c.in-Ok-put.ensures.ok ∙ ap (λ (q : PledgeValue). put_from 1 kept.pledges.items q.number q) c.in-Ok.ensures) refl) in
+    ∙ ap (set (map entry_of ks) c.in-Some.place)
+    (entry_is next c.args.book kept.made kept.terms.items (put_from 1 kept.pledges.items c.args.pledge.now.number c.args.pledge.now) kept.imported number refl refl
+    (c.in-Ok-put.ensures.ok ∙ ap (λ (q : PledgeValue). put_from 1 kept.pledges.items q.number q) c.in-Ok.ensures) refl) in
     (pledge_saved _ c.args.self.now (record { books = map entry_of (set ks c.in-Some.place next); limit = c.self.inside.limit }) _ ((c.from.result + c.from-2.result) - c.from-3.result)
-      c.args.book c.args.pledge.now c.in-Some.place (entry_of kept).1 c.self.invariant c.self.view_is c.requires place found list refl
-      (subst (λ (k : BookValue). ((c.from.result + c.from-2.result) - c.from-3.result) + standing_rows (pledge_from 1 k.pledges c.args.pledge.now.number) ≡ c.self.inside.rows + pledge_rows c.args.pledge.now) same sums)
-      (omega (arith, room, limit))).1
+    c.args.book c.args.pledge.now c.in-Some.place (entry_of kept).1 c.self.invariant c.self.view_is c.requires place found list refl
+    (subst (λ (k : BookValue). ((c.from.result + c.from-2.result) - c.from-3.result) + standing_rows (pledge_from 1 k.pledges c.args.pledge.now.number) ≡ c.self.inside.rows + pledge_rows c.args.pledge.now) same sums)
+    (omega (arith, room, limit))).1
