@@ -35,3 +35,6 @@ pub use refusal::Refusal;
 pub use reply::Reply;
 pub use request::{BearerRequest, BrokerRequest, Caller, Name, NewBook, NewTerms, Request};
 pub use visit::{EntryVisitor, ExtensionVisitor, Flow};
+
+#[cfg(test)]
+mod tests;
