@@ -1,5 +1,5 @@
 -- Entries that the rules accept in turn.
-use Rattle.std.proofs.Common.{◌≡◌, ℕ, ◌+◌, ◌<◌, ◌≤◌, List, [], ◌∷◌, ◌++◌, take, drop, get_or, length, Result, Ok, Err, IsOk, IsErr, sym, ap, subst, ◌∙◌, arith, true, false, nat_lt, nat_le, ◌==◌, Bool, if◌then◌else◌}
+use Rattle.std.proofs.Common.{◌≡◌, ℕ, ◌+◌, ◌<◌, ◌≤◌, List, [], ◌∷◌, ◌++◌, take, drop, get_or, length, Ok, IsOk, sym, ap, subst, ◌∙◌, arith, false, nat_lt, nat_le}
 use Rattle.std.proofs.lemmas.Bool.Decides.{nat_tests}
 use Rattle.std.proofs.lemmas.List.{append-nil, append_assoc, take_more, take-append-drop, drop_more}
 use Rattle.pawn_debt.specs.declared.entry.Entry.{Entry}
@@ -8,10 +8,9 @@ use Rattle.pawn_debt.specs.declared.entry.Sort.TheVariants.{Draw, Repay}
 use Rattle.pawn_terms.proofs.RefusalLemmas.{first_of-ok, first_of-is_ok, first_of-accepts}
 use Rattle.pawn_debt.specs.Due.{Due, DebtValue, due, credit_of, last_of, AreOrdered}
 use Rattle.pawn_debt.specs.Owing.{total_of}
-use Rattle.pawn_debt.specs.declared.fault.DebtFault.TheVariants.{BadAmount}
 use Rattle.pawn_debt.proofs.EntryLemmas.{last-le, due-extended}
 use Rattle.pawn_debt.specs.Answers.{draw_rows, repay_rows, with_entry, most_entries}
-use Rattle.pawn_debt.specs.Replay.{sort_answer, entry_answer, AreAccepted}
+use Rattle.pawn_debt.specs.Replay.{sort_answer, IsAccepted, AreAccepted}
 
 -- tests on numbers
 not_below : (a b : ℕ) → nat_lt a b ≡ false → b ≤ a
@@ -30,25 +29,25 @@ sort_answer-ok Repay p v x pence h =
     (not_below x (last_of p.taken p.entries) a.0.0, not_most most_entries (length p.entries) a.0.1.1.0, cc)
 
 -- entries that are accepted in turn, and then one more
-pub AreAccepted-push : (d : DebtValue) (prior es : List Entry) (e : Entry) → AreAccepted d prior es → IsOk (entry_answer (record d { entries = prior ++ es }) e) → AreAccepted d prior (es ++ e ∷ [])
+pub AreAccepted-push : (d : DebtValue) (prior es : List Entry) (e : Entry) → AreAccepted d prior es → IsAccepted (record d { entries = prior ++ es }) e → AreAccepted d prior (es ++ e ∷ [])
 AreAccepted-push d prior [] e h last =
-    let P : List Entry → Type 0 = λ l. IsOk (entry_answer (record d { entries = l }) e) in
+    let P : List Entry → Type 0 = λ l. IsAccepted (record d { entries = l }) e in
     (subst P (append-nil prior) last, tt)
 AreAccepted-push d prior (f ∷ es) e h last =
-    let P : List Entry → Type 0 = λ l. IsOk (entry_answer (record d { entries = l }) e) in
+    let P : List Entry → Type 0 = λ l. IsAccepted (record d { entries = l }) e in
     (h.0, AreAccepted-push d (prior ++ f ∷ []) es e h.1 (subst P (sym (append_assoc prior (f ∷ []) es)) last))
 
 -- so the entry after some is accepted after them
-pub AreAccepted-next : (d : DebtValue) (prior es : List Entry) (e : Entry) (rest : List Entry) → AreAccepted d prior (es ++ e ∷ rest) → IsOk (entry_answer (record d { entries = prior ++ es }) e)
+pub AreAccepted-next : (d : DebtValue) (prior es : List Entry) (e : Entry) (rest : List Entry) → AreAccepted d prior (es ++ e ∷ rest) → IsAccepted (record d { entries = prior ++ es }) e
 AreAccepted-next d prior [] e rest h =
-    let P : List Entry → Type 0 = λ l. IsOk (entry_answer (record d { entries = l }) e) in
+    let P : List Entry → Type 0 = λ l. IsAccepted (record d { entries = l }) e in
     subst P (sym (append-nil prior)) h.0
 AreAccepted-next d prior (f ∷ es) e rest h =
-    let P : List Entry → Type 0 = λ l. IsOk (entry_answer (record d { entries = l }) e) in
+    let P : List Entry → Type 0 = λ l. IsAccepted (record d { entries = l }) e in
     subst P (append_assoc prior (f ∷ []) es) (AreAccepted-next d (prior ++ f ∷ []) es e rest h.1)
 
 -- one more of a list
-pub AreAccepted-more : (d : DebtValue) (es : List Entry) (i : ℕ) (x : Entry) → i < length es → AreAccepted d [] (take i es) → IsOk (entry_answer (record d { entries = take i es }) (get_or es i x)) → AreAccepted d [] (take (i + 1) es)
+pub AreAccepted-more : (d : DebtValue) (es : List Entry) (i : ℕ) (x : Entry) → i < length es → AreAccepted d [] (take i es) → IsAccepted (record d { entries = take i es }) (get_or es i x) → AreAccepted d [] (take (i + 1) es)
 AreAccepted-more d es i x lt h last =
     let P : List Entry → Type 0 = λ l. AreAccepted d [] l in
     subst P (sym (take_more es i x lt)) (AreAccepted-push d [] (take i es) (get_or es i x) h last)
@@ -56,28 +55,24 @@ AreAccepted-more d es i x lt h last =
 split : (es : List Entry) (i : ℕ) (x : Entry) → i < length es → take i es ++ get_or es i x ∷ drop (i + 1) es ≡ es
 split es i x lt = ap (λ (l : List Entry). take i es ++ l) (sym (drop_more es i x lt)) ∙ take-append-drop i es
 
-not_both : {A E : Type 0} (r : Result A E) → IsOk r → IsErr r → ⊥
-not_both (Ok a) h k = cc
-not_both (Err e) h k = cc
-
 -- one that is refused
-pub AreAccepted-not : (d : DebtValue) (es : List Entry) (i : ℕ) (x : Entry) → i < length es → IsErr (entry_answer (record d { entries = take i es }) (get_or es i x)) → AreAccepted d [] es → ⊥
+pub AreAccepted-not : (d : DebtValue) (es : List Entry) (i : ℕ) (x : Entry) → i < length es → (IsAccepted (record d { entries = take i es }) (get_or es i x) → ⊥) → AreAccepted d [] es → ⊥
 AreAccepted-not d es i x lt refused h =
     let P : List Entry → Type 0 = λ l. AreAccepted d [] l in
-    not_both _ (AreAccepted-next d [] (take i es) (get_or es i x) (drop (i + 1) es) (subst P (sym (split es i x lt)) h)) refused
+    refused (AreAccepted-next d [] (take i es) (get_or es i x) (drop (i + 1) es) (subst P (sym (split es i x lt)) h))
 
 -- the same of an element that was read
 pub taken-more : (es : List Entry) (i : ℕ) (e : Entry) → i < length es → e ≡ get_or es i e → take i es ++ e ∷ [] ≡ take (i + 1) es
 taken-more es i e lt is = ap (λ (x : Entry). take i es ++ x ∷ []) is ∙ sym (take_more es i e lt)
 
-pub accepted-more : (d : DebtValue) (es : List Entry) (i : ℕ) (e : Entry) → i < length es → e ≡ get_or es i e → AreAccepted d [] (take i es) → IsOk (entry_answer (record d { entries = take i es }) e) → AreAccepted d [] (take (i + 1) es)
+pub accepted-more : (d : DebtValue) (es : List Entry) (i : ℕ) (e : Entry) → i < length es → e ≡ get_or es i e → AreAccepted d [] (take i es) → IsAccepted (record d { entries = take i es }) e → AreAccepted d [] (take (i + 1) es)
 accepted-more d es i e lt is h last =
     let P : List Entry → Type 0 = λ l. AreAccepted d [] l in
     subst P (taken-more es i e lt is) (AreAccepted-push d [] (take i es) e h last)
 
-pub accepted-not : (d : DebtValue) (es : List Entry) (i : ℕ) (e : Entry) → i < length es → e ≡ get_or es i e → IsErr (entry_answer (record d { entries = take i es }) e) → AreAccepted d [] es → ⊥
+pub accepted-not : (d : DebtValue) (es : List Entry) (i : ℕ) (e : Entry) → i < length es → e ≡ get_or es i e → (IsAccepted (record d { entries = take i es }) e → ⊥) → AreAccepted d [] es → ⊥
 accepted-not d es i e lt is refused h =
-    let P : Entry → Type 0 = λ x. IsErr (entry_answer (record d { entries = take i es }) x) in
+    let P : Entry → Type 0 = λ x. (IsAccepted (record d { entries = take i es }) x → ⊥) in
     AreAccepted-not d es i e lt (subst P is refused) h
 
 -- a later end changes no answer on a day inside the old one
@@ -93,13 +88,8 @@ sort_answer-ended Repay d ends x pence same h =
     let e : nat_lt (total_of (due p x)) pence ≡ false = ap (λ (o : Due). nat_lt (total_of o) pence) same ∙ a.1.1.1.0 in
     first_of-accepts (repay_rows p x pence) (with_entry p x Repay pence) (a.0, (a.1.0, (a.1.1.0, (e, tt))))
 
-entry_answer-ended : (d : DebtValue) (ends : ℕ) (e : Entry) → d.ends ≤ ends → d.taken ≤ e.day → e.day ≤ d.ends → IsOk (entry_answer d e) → IsOk (entry_answer (record d { ends = ends }) e)
-entry_answer-ended d ends e later low high h =
-    by (e.seq == length d.entries + 1) h
-  where
-    by : (b : Bool) → IsOk (if b then sort_answer e.sort d e.day e.pence else Err BadAmount) → IsOk (if b then sort_answer e.sort (record d { ends = ends }) e.day e.pence else Err BadAmount)
-    by true k = sort_answer-ended e.sort d ends e.day e.pence (due-extended d ends e.day later high low) k
-    by false k = k
+IsAccepted-ended : (d : DebtValue) (ends : ℕ) (e : Entry) → d.ends ≤ ends → d.taken ≤ e.day → e.day ≤ d.ends → IsAccepted d e → IsAccepted (record d { ends = ends }) e
+IsAccepted-ended d ends e later low high h = (h.0, sort_answer-ended e.sort d ends e.day e.pence (due-extended d ends e.day later high low) h.1)
 
 -- each entry's day is from the day taken to the end
 abbrev pub AreInside : DebtValue → List Entry → Type 0
@@ -110,7 +100,7 @@ AreInside d (e ∷ es) = ((d.taken ≤ e.day) × (e.day ≤ d.ends)) × AreInsid
 pub AreAccepted-ended : (d : DebtValue) (ends : ℕ) (prior es : List Entry) → d.ends ≤ ends → AreInside d es → AreAccepted d prior es → AreAccepted (record d { ends = ends }) prior es
 AreAccepted-ended d ends prior [] later days h = tt
 AreAccepted-ended d ends prior (e ∷ es) later days h = (
-  entry_answer-ended (record d { entries = prior }) ends e later days.0.0 days.0.1 h.0,
+  IsAccepted-ended (record d { entries = prior }) ends e later days.0.0 days.0.1 h.0,
   AreAccepted-ended d ends (prior ++ e ∷ []) es later days.1 h.1,
 )
 

@@ -1,10 +1,9 @@
 -- Entries that the rules accept in turn.
-use Rattle.std.specs.Prelude.{ℕ, ◌+◌, ◌==◌, if◌then◌else◌, List, [], ◌∷◌, ◌++◌, length, Result, Err, IsOk, ◌≤◌}
+use Rattle.std.specs.Prelude.{◌≡◌, ℕ, ◌+◌, ◌≤◌, List, [], ◌∷◌, ◌++◌, length, Result, IsOk}
 use Rattle.pawn_debt.specs.declared.entry.Entry.{Entry}
 use Rattle.pawn_debt.specs.declared.entry.Sort.{Sort}
 use Rattle.pawn_debt.specs.declared.entry.Sort.TheVariants.{Draw, Repay}
 use Rattle.pawn_debt.specs.declared.fault.DebtFault.{DebtFault}
-use Rattle.pawn_debt.specs.declared.fault.DebtFault.TheVariants.{BadAmount}
 use Rattle.pawn_debt.specs.Due.{DebtValue, credit_of}
 use Rattle.pawn_debt.specs.Answers.{draw_answer, repay_answer, most_pence}
 
@@ -13,16 +12,15 @@ abbrev pub sort_answer : Sort → DebtValue → ℕ → ℕ → Result DebtValue
 sort_answer Draw p day pence = draw_answer p day pence
 sort_answer Repay p day pence = repay_answer p day pence
 
--- what the rules answer to an entry that comes with its number
-abbrev pub entry_answer : DebtValue → Entry → Result DebtValue DebtFault
-entry_answer p e =
-    if e.seq == length p.entries + 1 then sort_answer e.sort p e.day e.pence else Err BadAmount
+-- the rules accept an entry: it has the next number and is not refused
+abbrev pub IsAccepted : DebtValue → Entry → Type 0
+IsAccepted p e = (e.seq ≡ length p.entries + 1) × IsOk (sort_answer e.sort p e.day e.pence)
 
 -- the rules accept each entry in turn, after those before it
 abbrev pub AreAccepted : DebtValue → List Entry → List Entry → Type 0
 AreAccepted debt prior [] = Unit {0}
 AreAccepted debt prior (e ∷ es) =
-    IsOk (entry_answer (record debt { entries = prior }) e) × AreAccepted debt (prior ++ e ∷ []) es
+    IsAccepted (record debt { entries = prior }) e × AreAccepted debt (prior ++ e ∷ []) es
 
 -- a debt that can have come about
 abbrev pub CanStand : DebtValue → Type 0

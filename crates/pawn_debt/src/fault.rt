@@ -72,6 +72,11 @@ impl DebtFault {
 }
 
 impl fmt::Display for DebtFault {
+    ghost use Rattle.std.specs.Prelude.{Some};
+    ghost use Rattle.pawn_debt.specs.DebtFault.{name_of};
+
+    ghost output = { λ fault. Some (name_of fault) };
+
     fn fmt<W: fmt::Write>(&self, f: &mut fmt::Formatter<W>) -> fmt::Result {
         f.write_str(self.name())
     }

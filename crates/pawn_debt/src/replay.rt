@@ -1,10 +1,10 @@
-ghost use Rattle.std.specs.Prelude.{◌≡◌, ◌-◌, ◌*◌, ◌≤◌, [], ◌∷◌, ◌++◌, IfSome, IfNone, IsOk, IsErr};
+ghost use Rattle.std.specs.Prelude.{◌≡◌, ◌-◌, ◌*◌, ◌≤◌, [], ◌∷◌, ◌++◌, IfSome, IfNone};
 ghost use Rattle.pawn_terms.specs.Calendar.{IsDayNumber};
 ghost use Rattle.pawn_debt.specs.Due.{credit_of, due};
 ghost use Rattle.pawn_debt.specs.Owing.{owing_of};
 ghost use Rattle.pawn_debt.specs.Answers.{most_pence};
 ghost use Rattle.pawn_debt.specs.Kept.{IsKept, owed_of, most_a_day};
-ghost use Rattle.pawn_debt.specs.Replay.{entry_answer, AreAccepted};
+ghost use Rattle.pawn_debt.specs.Replay.{IsAccepted, AreAccepted};
 
 use crate::debt::{MOST_ENTRIES, MOST_PENCE};
 use crate::entry::{Entry, Kind, Sort};
@@ -44,14 +44,20 @@ fn accept(
     e: &Entry,
 ) -> Option<Totals>
     requires { IsKept (record { kind = kind; terms = terms; taken = taken; ends = ends; entries = prior.now }) totals.now }
-    ensures some { IfSome result (λ t. IsOk (entry_answer (record { kind = kind; terms = terms; taken = taken; ends = ends; entries = prior.now }) e.now)) }
+    ensures accepted { IfSome result (λ t. IsAccepted (record { kind = kind; terms = terms; taken = taken; ends = ends; entries = prior.now }) e.now) }
     ensures kept { IfSome result (λ t. IsKept (record { kind = kind; terms = terms; taken = taken; ends = ends; entries = prior.now ++ e.now ∷ [] }) t) }
-    ensures none { IfNone result (IsErr (entry_answer (record { kind = kind; terms = terms; taken = taken; ends = ends; entries = prior.now }) e.now)) }
+    ensures refused { IfNone result (IsAccepted (record { kind = kind; terms = terms; taken = taken; ends = ends; entries = prior.now }) e.now → ⊥) }
 {
-    if e.seq != prior.len() as u64 + 1 || e.day < totals.day {
+    if e.seq != prior.len() as u64 + 1 {
         return None;
     }
-    if e.pence == 0 || e.pence > MOST_PENCE || prior.len() >= MOST_ENTRIES {
+    if e.day < totals.day {
+        return None;
+    }
+    if e.pence == 0 || e.pence > MOST_PENCE {
+        return None;
+    }
+    if prior.len() >= MOST_ENTRIES {
         return None;
     }
     let owed = owed_at(kind, terms, taken, ends, prior, totals, e.day);

@@ -1,90 +1,102 @@
 use crate::{Debt, DebtFault, Kind, owing_from};
-use pawn_terms::{Day, Terms, last_day};
+use pawn_terms::{Day, RequestDay, Terms, last_day};
 use std::alloc::Global;
 use std::test::Fail;
 
-fn day(year: u16, month: u8, day: u8) -> Result<Day, Fail> {
-    Ok(Day::from_ymd(year, month, day)?)
+fn day(text: &[u8]) -> Result<Day, Fail> {
+    Ok(RequestDay::of_text(text)?.day())
 }
 
-fn terms(rate: u64, before: u64, after: u64) -> Result<Terms, Fail> {
-    Ok(Terms::check(rate, before, after)?)
-}
-
-fn fixed(alloc: Global, sum: u64, terms: Terms, taken: Day) -> Result<Debt, Fail> {
-    if taken.count() > 84005 {
-        return Err("too late a day".into());
-    }
-    let ends = last_day(taken, None);
-    Ok(Debt::start(alloc, Kind::Fixed(sum), terms, taken, ends)?)
+// A debt without an agreed end.
+fn debt(alloc: Global, kind: Kind, terms: [u64; 3], taken: &[u8]) -> Result<Debt, Fail> {
+    let [rate, keep_before, keep_after] = terms;
+    let terms = Terms::check(rate, keep_before, keep_after)?;
+    let taken = RequestDay::of_text(taken)?.day();
+    Ok(Debt::start(alloc, kind, terms, taken, last_day(taken, None))?)
 }
 
 #[test]
 fn charges_and_a_repayment(rt: HostRuntime) -> Result<(), Fail> {
-    let mut debt = fixed(rt.alloc(), 10_000, terms(2667, 0, 0)?, day(2024, 1, 1)?)?;
-    let second = day(2024, 1, 2)?;
+    let mut debt = debt(rt.alloc(), Kind::Fixed(10_000), [2667, 0, 0], b"2024-01-01")?;
+    let second = day(b"2024-01-02")?;
     assert!(rt; debt.last() <= second);
     assert_eq!(rt; debt.owing(second).charges, 26);
-    let end = day(2024, 1, 31)?;
+    let end = day(b"2024-01-31")?;
     assert!(rt; debt.last() <= end);
     assert_eq!(rt; debt.owing(end).charges, 800);
     assert_eq!(rt; debt.owing(end).total, 10_800);
     assert_eq!(rt; debt.repay(end, 1000), Ok(()));
-    let later = day(2024, 3, 1)?;
+    let later = day(b"2024-03-01")?;
     assert!(rt; debt.last() <= later);
     assert_eq!(rt; debt.owing(later).principal, 9800);
     assert_eq!(rt; debt.owing(later).charges, 784);
     assert_eq!(rt; debt.owing(later).total, 10_584);
     let totals = debt.totals();
     assert_eq!(rt; totals.day.number(), 19753);
+    assert_eq!(rt; totals.principal, 9800);
     assert_eq!(rt; totals.charges, 100_000);
     assert!(rt; totals.day <= later);
+    let terms = debt.terms();
     assert_eq!(rt;
-        owing_from(&totals, &terms(2667, 0, 0)?, day(2024, 7, 1)?, later).total,
+        owing_from(&totals, &terms, debt.ends(), later).total,
         10_584
     );
+    let copy = debt.copy()?;
+    assert_eq!(rt; copy.entries(), debt.entries());
     Ok(())
 }
 
 #[test]
 fn keeping_before_and_after_the_end(rt: HostRuntime) -> Result<(), Fail> {
-    let mut debt = fixed(
-        rt.alloc(),
-        10_000,
-        terms(0, 1_000_000, 500_000)?,
-        day(2024, 1, 31)?,
-    )?;
-    let end = day(2024, 7, 31)?;
+    let terms = [0, 1_000_000, 500_000];
+    let mut debt = debt(rt.alloc(), Kind::Fixed(10_000), terms, b"2024-01-31")?;
+    let end = day(b"2024-07-31")?;
     assert!(rt; debt.last() <= end);
     assert_eq!(rt; debt.owing(end).charges, 182);
-    let later = day(2024, 8, 10)?;
+    let later = day(b"2024-08-10")?;
     assert!(rt; debt.last() <= later);
+    assert_eq!(rt; debt.owing(later).charges, 187);
     assert_eq!(rt; debt.owing(later).total, 10_187);
-    assert_eq!(rt;
-        debt.repay(later, 10_188),
-        Err(DebtFault::OverOwing { total: 10_187 })
-    );
+    let over = Err(DebtFault::OverOwing { total: 10_187 });
+    assert_eq!(rt; debt.repay(later, 10_188), over);
     Ok(())
 }
 
 #[test]
 fn drawings_up_to_the_limit(rt: HostRuntime) -> Result<(), Fail> {
-    let taken = day(2024, 1, 31)?;
-    let ends = day(2024, 7, 31)?;
-    let started = Debt::start(
-        rt.alloc(),
-        Kind::Running(5000),
-        terms(0, 0, 0)?,
-        taken,
-        ends,
-    );
-    let Ok(mut debt) = started else {
-        return Err("no debt".into());
-    };
+    let taken = day(b"2024-01-31")?;
+    let mut debt = debt(rt.alloc(), Kind::Running(5000), [0, 0, 0], b"2024-01-31")?;
     assert_eq!(rt; debt.draw(taken, 3000), Ok(()));
     assert_eq!(rt; debt.draw(taken, 2001), Err(DebtFault::OverLimit));
     assert_eq!(rt; debt.draw(taken, 2000), Ok(()));
     assert!(rt; debt.last() <= taken);
     assert_eq!(rt; debt.owing(taken).principal, 5000);
+    assert_eq!(rt; debt.repay(taken, 0), Err(DebtFault::BadAmount));
+    Ok(())
+}
+
+#[test]
+fn drawings_on_a_fixed_sum(rt: HostRuntime) -> Result<(), Fail> {
+    let mut fixed = debt(rt.alloc(), Kind::Fixed(5000), [0, 0, 0], b"2024-01-31")?;
+    let taken = day(b"2024-01-31")?;
+    assert_eq!(rt; fixed.draw(taken, 1), Err(DebtFault::FixedSum));
+    assert_eq!(rt;
+        fixed.draw(day(b"2024-01-30")?, 1),
+        Err(DebtFault::EarlierDay)
+    );
+    let terms = Terms::check(0, 0, 0)?;
+    let none = Debt::start(rt.alloc(), Kind::Fixed(0), terms, taken, taken);
+    assert!(rt; none.is_err());
+    Ok(())
+}
+
+#[test]
+fn as_many_entries_as_may_be(rt: HostRuntime) -> Result<(), Fail> {
+    let mut debt = debt(rt.alloc(), Kind::Fixed(100_000), [0, 0, 0], b"2024-01-31")?;
+    let taken = day(b"2024-01-31")?;
+    for _ in 0..9_999 {
+        debt.repay(taken, 1)?;
+    }
+    assert_eq!(rt; debt.repay(taken, 1), Err(DebtFault::EntriesFull));
     Ok(())
 }

@@ -1,5 +1,5 @@
 -- A step keeps a pledge one that can have come about.
-use Rattle.std.proofs.Common.{◌≡◌, ℕ, ◌+◌, ◌<◌, ◌≤◌, ◌==◌, max, nat_le, Bool, true, false, not, ◌&&◌, if◌then◌else◌, List, [], ◌∷◌, ◌++◌, length, Option, Some, None, Ok, IsOk, refl, sym, ap, subst, ◌∙◌, arith, length-append, IfSome}
+use Rattle.std.proofs.Common.{◌≡◌, ℕ, ◌+◌, ◌<◌, ◌≤◌, ◌==◌, max, nat_le, Bool, true, false, not, ◌&&◌, if◌then◌else◌, List, [], ◌∷◌, ◌++◌, length, Option, Some, None, Ok, refl, sym, ap, subst, ◌∙◌, arith, length-append, IfSome}
 use Rattle.std.proofs.lemmas.Bool.{true≢false, false≢true}
 use Rattle.std.proofs.lemmas.Bool.Decides.{nat_tests}
 use Rattle.pawn_terms.specs.Calendar.{period_end, six_months, last_stamp_day}
@@ -9,7 +9,7 @@ use Rattle.pawn_debt.specs.declared.entry.Sort.{Sort}
 use Rattle.pawn_debt.specs.declared.entry.Sort.TheVariants.{Draw, Repay}
 use Rattle.pawn_debt.specs.Due.{last_of, credit_of}
 use Rattle.pawn_debt.specs.Answers.{with_entry}
-use Rattle.pawn_debt.specs.Replay.{sort_answer, entry_answer}
+use Rattle.pawn_debt.specs.Replay.{sort_answer, IsAccepted}
 use Rattle.pawn_debt.proofs.EntryLemmas.{last_of-push, AreOrdered-push}
 use Rattle.pawn_debt.proofs.ReplayLemmas.{AreAccepted-push, AreAccepted-ended, AreInside-ordered}
 use Rattle.pawn_pledge.specs.declared.record.Issued.{Issued}
@@ -65,16 +65,13 @@ stays-settled p x held booking closing h later live closed booked =
       extended = record { each = h.extended.each; before = omega (arith, h.extended.before, later) };
     }
 
-number_same : (n : ℕ) → (n == n) ≡ true
-number_same n = grind (arith, nat_tests)
-
 -- one more entry
 pub stays-entered : (p : PledgeValue) (x pence : ℕ) (sort : Sort) → IsReplayable p → IsGated p x → sort_answer sort (debt_of p) x pence ≡ Ok (with_entry (debt_of p) x sort pence) → last_of p.taken p.entries ≤ x → IsDrawnBy (end_of p) sort x
     → IsReplayable (record p { entries = p.entries ++ record { seq = length p.entries + 1; day = x; sort = sort; pence = pence } ∷ []; last = x })
 stays-entered p x pence sort h g ok late drawn =
     let e : Entry = record { seq = length p.entries + 1; day = x; sort = sort; pence = pence } in
     let q : PledgeValue = record p { entries = p.entries ++ e ∷ []; last = x } in
-    let accepted : IsOk (entry_answer (debt_of p) e) = rw (number_same (length p.entries + 1), ok) refl in
+    let accepted : IsAccepted (debt_of p) e = (refl, rw ok refl) in
     record {
       credit = h.credit;
       issued = record { sorts = h.issued.sorts; distinct = h.issued.distinct; ordered = h.issued.ordered; before = omega (arith, h.issued.before, g.later); not_passed = h.issued.not_passed };

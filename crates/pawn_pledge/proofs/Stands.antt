@@ -1,16 +1,14 @@
 -- What the tests on parts find makes a record that can stand.
-use Rattle.std.proofs.Common.{◌≡◌, ℕ, ◌+◌, ◌≤◌, ◌==◌, nat_le, Bool, true, false, ◌&&◌, if◌then◌else◌, List, [], ◌∷◌, ◌++◌, length, Result, Err, IsOk, refl, sym, ◌∙◌, arith, length-append}
+use Rattle.std.proofs.Common.{◌≡◌, ℕ, ◌+◌, ◌≤◌, nat_le, Bool, true, false, ◌&&◌, if◌then◌else◌, List, [], ◌∷◌, ◌++◌, length, refl, sym, ◌∙◌, arith, length-append}
 use Rattle.std.proofs.lemmas.Bool.{false≢true}
 use Rattle.std.proofs.lemmas.Bool.Decides.{nat_tests}
 use Rattle.pawn_pledge.specs.Parts.{IsTyped, IsLimited, AreIssuedIn}
 use Rattle.pawn_terms.specs.Terms.{IsChecked}
 use Rattle.pawn_debt.specs.declared.entry.Entry.{Entry}
 use Rattle.pawn_debt.specs.declared.owing.Totals.{Totals}
-use Rattle.pawn_debt.specs.declared.fault.DebtFault.{DebtFault}
-use Rattle.pawn_debt.specs.declared.fault.DebtFault.TheVariants.{BadAmount}
 use Rattle.pawn_debt.specs.Due.{DebtValue, last_of}
 use Rattle.pawn_debt.specs.Kept.{IsKept}
-use Rattle.pawn_debt.specs.Replay.{sort_answer, AreAccepted}
+use Rattle.pawn_debt.specs.Replay.{AreAccepted}
 use Rattle.pawn_pledge.specs.declared.record.Issued.{Issued}
 use Rattle.pawn_pledge.specs.declared.record.Status.TheVariants as Status
 use Rattle.pawn_pledge.specs.Pledge.{PledgeValue, end_of, is_six, is_small, debt_of, first_end, is_passed}
@@ -50,17 +48,10 @@ issued-before p day (i ∷ is) h before live =
     (not_passed-earlier p i.day p.last (omega (arith, before, last_issue-le i.day is h.1)) live, issued-before p i.day is h.1 before live)
 
 -- accepted entries are numbered
-seq_is : (n m : ℕ) (r : Result DebtValue DebtFault) → IsOk (if n == m then r else Err BadAmount) → n ≡ m
-seq_is n m r h = by (n == m) refl h
-  where
-    by : (b : Bool) → (n == m) ≡ b → IsOk (if b then r else Err BadAmount) → n ≡ m
-    by true e k = grind (arith, nat_tests, e)
-    by false e k = absurd (false≢true k)
-
 pub accepted-numbered : (d : DebtValue) (prior es : List Entry) (n : ℕ) → n ≡ length prior + 1 → AreAccepted d prior es → AreNumbered n es
 accepted-numbered d prior [] n is h = tt
 accepted-numbered d prior (e ∷ es) n is h = (
-  seq_is e.seq (length prior + 1) (sort_answer e.sort (record d { entries = prior }) e.day e.pence) h.0 ∙ sym is,
+  h.0.0 ∙ sym is,
   accepted-numbered d (prior ++ e ∷ []) es (n + 1) (omega (arith, is, length-append prior (e ∷ []))) h.1,
 )
 

@@ -1,5 +1,5 @@
 -- What a command comes to: the first refusal that applies, or an answer and the pledge after it.
-use Rattle.std.specs.Prelude.{◌≡◌, ℕ, ◌+◌, ◌-◌, nat_lt, nat_le, ◌==◌, ◌&&◌, not, Bool, true, false, if◌then◌else◌, List, [], ◌∷◌, ◌++◌, length, find, Option, Some, None, Result, Ok, Err, IsOk, ◌⊎◌}
+use Rattle.std.specs.Prelude.{◌≡◌, ℕ, ◌+◌, ◌-◌, nat_lt, nat_le, ◌==◌, ◌&&◌, ◌||◌, not, Bool, true, false, if◌then◌else◌, List, [], ◌∷◌, ◌++◌, length, find, Option, Some, None, Result, Ok, Err, IsOk, ◌⊎◌}
 use Rattle.std.specs.List.{list_any}
 use Rattle.pawn_terms.specs.Terms.{TermsValue}
 use Rattle.pawn_terms.specs.Refusals.{first_of}
@@ -103,9 +103,9 @@ same_sort Repay Repay = true
 abbrev pub is_repeat : Entry → Sort → ℕ → Bool
 is_repeat e sort pence = same_sort e.sort sort && (e.pence == pence)
 
--- an entry's number is at most the next
+-- an entry's number is 0, or past the next
 abbrev pub is_ahead : PledgeValue → ℕ → Bool
-is_ahead p seq = if seq == 0 then true else nat_lt (length p.entries + 1) seq
+is_ahead p seq = (seq == 0) || nat_lt (length p.entries + 1) seq
 
 -- the next entry
 abbrev pub new_entry : PledgeValue → ℕ → Sort → ℕ → Entry
@@ -278,17 +278,20 @@ sell_step p x net =
 abbrev pub with_extension : PledgeValue → Extension → PledgeValue
 with_extension p e = record p { extensions = p.extensions ++ e ∷ []; last = e.day }
 
--- an extension to the end that stands is answered again
-abbrev pub extend_step : PledgeValue → ℕ → ℕ → Judged
-extend_step p x until =
-    unless ((nat_lt (end_of p) x, Refusal.PeriodOver) ∷ [])
-    (if until == end_of p then Answered (Done.Extended until)
-    else
+-- an extension to another end than the one that stands
+abbrev pub new_end_step : PledgeValue → ℕ → ℕ → Judged
+new_end_step p x until =
     unless
     ((nat_lt until (end_of p), Refusal.NotLater)
     ∷ (nat_le most_extensions (length p.extensions), Refusal.ExtensionsFull)
     ∷ [])
-    (Changed (with_extension p (record { day = x; until = until })) (Done.Extended until)))
+    (Changed (with_extension p (record { day = x; until = until })) (Done.Extended until))
+
+-- an extension to the end that stands is answered again
+abbrev pub extend_step : PledgeValue → ℕ → ℕ → Judged
+extend_step p x until =
+    unless ((nat_lt (end_of p) x, Refusal.PeriodOver) ∷ [])
+    (if until == end_of p then Answered (Done.Extended until) else new_end_step p x until)
 
 -- what a command comes to
 abbrev pub pledge_step : PledgeValue → Stamp → Command → Judged

@@ -1,8 +1,9 @@
 ghost use Rattle.std.specs.Prelude.{◌≡◌, ◌≤◌};
 ghost use Rattle.pawn_pledge.specs.Brief.{brief_status, brief_owing};
 
+use crate::limits::SMALL_CREDIT;
 use crate::number::Number;
-use crate::pledge::{SMALL_CREDIT, status_in};
+use crate::pledge::status_in;
 use crate::record::{Article, Booking, Closing, Reference, Status};
 use crate::secret::Secret;
 use pawn_debt::{Day, Kind, Owing, Terms, Totals, owing_from};

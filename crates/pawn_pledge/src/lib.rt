@@ -4,6 +4,7 @@
 mod brief;
 mod command;
 mod laws;
+mod limits;
 mod lists;
 mod number;
 mod parts;

@@ -6,24 +6,17 @@ ghost use Rattle.pawn_pledge.specs.Pledge.{debt_of, end_of, end_after, open_stat
 ghost use Rattle.pawn_pledge.specs.Parts.{value_of, IsTyped, IsLimited, AreIssuedIn};
 ghost use Rattle.pawn_pledge.specs.Replayable.{Each, IsLaterIssue, AreIssued, AreDistinct, DoNotFall, last_issue, IsDrawnBy, AreExtended, last_extension, IsOverUnder, IsBooked, IsClosed, IsStanding};
 
+use crate::limits::{
+    LAST_DAY, LAST_WINDOW, MOST_EXTENSIONS, MOST_PENCE, MOST_SECRETS, SMALL_CREDIT,
+};
 use crate::lists::{Extensions, Secrets};
 use crate::number::Number;
-use crate::pledge::{SMALL_CREDIT, agreed_end, status_in};
+use crate::pledge::{agreed_end, status_in};
 use crate::record::{
     Article, Booking, BookingState, Closing, Extension, Issue, Issued, Reference, Status,
 };
 use pawn_debt::{Day, Entries, Entry, Kind, Sort, Terms, Totals, owing_at, replay_entries};
 use pawn_terms::{RequestDay, last_day};
-
-const MOST_PENCE: u64 = 100_000_000;
-
-const MOST_SECRETS: usize = 101;
-
-const MOST_EXTENSIONS: usize = 99;
-
-const LAST_WINDOW: u64 = 15;
-
-const LAST_DAY: u32 = 84_005;
 
 /// The record of a pledge as plain fields, be it one that a pledge can have or not.
 #[derive(Drop)]

@@ -13,6 +13,7 @@ mod steps;
 
 use crate::brief::Brief;
 use crate::command::Stamp;
+use crate::limits::SMALL_CREDIT;
 use crate::lists::{Extensions, Secrets};
 use crate::number::Number;
 use crate::parts::{Parts, judge};
@@ -25,9 +26,6 @@ use pawn_debt::{Day, Debt, Entry, Kind, Owing, Terms, Totals};
 use pawn_terms::{RequestDay, last_day};
 use std::alloc::{AllocError, Global};
 use std::marker::Model;
-
-// A credit up to this is small, in pence.
-pub(crate) const SMALL_CREDIT: u64 = 7_500;
 
 /// One pledge. A clause sees its record.
 #[derive(Drop)]

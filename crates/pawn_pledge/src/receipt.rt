@@ -35,6 +35,10 @@ impl BadReceipt {
 }
 
 impl fmt::Display for BadReceipt {
+    ghost use Rattle.std.specs.Prelude.{Some, codes};
+
+    ghost output = { λ fault. Some (codes "BadReceipt") };
+
     fn fmt<W: fmt::Write>(&self, f: &mut fmt::Formatter<W>) -> fmt::Result {
         f.write_str(self.name())
     }

@@ -12,6 +12,11 @@ use std::error::Error;
 use std::fmt;
 use std::marker::Model;
 
+// The numbers of 2000-01-01 and of 2299-12-31.
+const FIRST: i32 = 10_957;
+
+const FINAL: i32 = 120_529;
+
 /// No day, or a day out of range.
 #[derive(Clone, Copy, Debug, PartialEq, Eq, Hash)]
 pub struct BadDay;
@@ -33,6 +38,10 @@ impl BadDay {
 }
 
 impl fmt::Display for BadDay {
+    ghost use Rattle.std.specs.Prelude.{Some, codes};
+
+    ghost output = { λ fault. Some (codes "BadDay") };
+
     fn fmt<W: fmt::Write>(&self, f: &mut fmt::Formatter<W>) -> fmt::Result {
         f.write_str(self.name())
     }
@@ -78,7 +87,7 @@ impl Day {
         ensures ok { IfOk result (λ d. pos d ≡ number) }
         ensures succeeds { IsOk result ↔ ((n : ℕ) × (number ≡ pos n) × IsDayNumber n) }
     {
-        if number < 10957 || number > 120529 {
+        if number < FIRST || number > FINAL {
             return Err(BadDay);
         }
         Ok(Day {

@@ -4,6 +4,9 @@ ghost use Rattle.pawn_terms.specs.Calendar.{IsStampDay, day_text};
 use crate::day::{BadDay, Day};
 use std::marker::Model;
 
+// The number of 2199-12-31.
+const LAST: u32 = 84_005;
+
 /// A day that a request, a stamp or a record may name, from 2000-01-01 to 2199-12-31. A clause sees
 /// its number, counted from 1970-01-01.
 #[derive(Clone, Copy, Debug, PartialEq, Eq, PartialOrd, Ord, Hash)]
@@ -27,7 +30,7 @@ impl RequestDay {
         ensures ok { IfOk result (λ d. d ≡ day) }
         ensures succeeds { IsOk result ↔ IsStampDay day }
     {
-        if day.count() > 84005 {
+        if day.count() > LAST {
             return Err(BadDay);
         }
         Ok(RequestDay { day })

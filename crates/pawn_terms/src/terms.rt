@@ -47,6 +47,11 @@ impl TermsFault {
 }
 
 impl fmt::Display for TermsFault {
+    ghost use Rattle.std.specs.Prelude.{Some};
+    ghost use Rattle.pawn_terms.specs.TermsFault.{name_of};
+
+    ghost output = { λ fault. Some (name_of fault) };
+
     fn fmt<W: fmt::Write>(&self, f: &mut fmt::Formatter<W>) -> fmt::Result {
         f.write_str(self.name())
     }

@@ -4,20 +4,13 @@ ghost use Rattle.pawn_debt.specs.declared.entry.Entry.{Entry};
 ghost use Rattle.pawn_pledge.specs.Pledge.{end_of};
 ghost use Rattle.pawn_pledge.specs.Step.{Changed, unless, bars, declare_bars, most_secrets, pledge_step, numbered_step, entry_of, entry_step, hold_step, declare_step, ask_step, asked, cancel_step, decide_step, confirmed, declined, redeem_step, sell_step, extend_step, books, in_state, is_standing, state_after, booking_after, with_secret, with_extension, issue_of, is_ahead, is_repeat, IsStep, IsApplied};
 
-use super::{Pledge, SMALL_CREDIT};
+use super::Pledge;
 use crate::command::{Applied, Command, Decision, Done, Paper, Stamp};
+use crate::limits::{LAST_WINDOW, MOST_EXTENSIONS, MOST_PENCE, MOST_SECRETS, SMALL_CREDIT};
 use crate::record::{Booking, BookingState, Closing, Extension, Issue, Issued, Status};
 use crate::refusal::Refusal;
 use crate::secret::Secret;
 use pawn_debt::{Day, DebtFault, Entry, Sort};
-
-const MOST_SECRETS: usize = 101;
-
-const MOST_EXTENSIONS: usize = 99;
-
-const LAST_WINDOW: u64 = 15;
-
-const MOST_PENCE: u64 = 100_000_000;
 
 impl Pledge {
     /// One command: what it answers, or the first refusal that applies. Where it is refused, the

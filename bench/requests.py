@@ -1,0 +1,87 @@
+#!/usr/bin/env python3
+"""Prints requests a second and peak memory of openings and views through `pawnd answer :memory:`.
+
+usage: bench/requests.py [PROGRAM]     (default: the program that `rt run` built in crates/pawnd)
+
+A stream has at most 1,000 requests, so a run is one book, its terms, and up to 998 openings or
+views. What a view costs is the time of 499 openings and 499 views less that of 499 openings; start
+and the reading of the stream are included where nothing is taken off.
+"""
+import glob
+import os
+import resource
+import subprocess
+import sys
+import time
+
+OPERATOR = "11111111-1111-1111-1111-111111111111"
+BOOK = "22222222-2222-2222-2222-222222222222"
+SEED = "0" * 64
+RUNS = 5
+
+
+def request(method, target, fields, body=""):
+    lines = [f"{method} {target} HTTP/1.1", "Host: x"]
+    lines += [f"{name}: {value}" for name, value in fields]
+    if body:
+        lines.append(f"Content-Length: {len(body)}")
+    return ("\r\n".join(lines) + "\r\n\r\n" + body).encode()
+
+
+def start():
+    yield request("POST", "/books/7", [("Pledge-Key", OPERATOR)],
+                  f'{{"capacity":2,"key":"{BOOK}","name":"High Street"}}')
+    yield request("POST", "/books/7/terms", [("Pledge-Key", BOOK)],
+                  '{"keep_after":0,"keep_before":0,"rate":0,"version":1}')
+
+
+def opening(n):
+    return request("POST", "/books/7/pledges", [("Pledge-Key", BOOK)],
+                   '{"article":"Gold ring","five_days":false,"kind":"fixed","pence":10000,'
+                   f'"ref":"A{n}"}}')
+
+
+def view(receipt):
+    return request("GET", "/books/7/held", [("Pledge-Receipt", receipt)])
+
+
+def answer(program, stream):
+    """The replies and the best time of some runs."""
+    best, replies = None, b""
+    for _ in range(RUNS):
+        begun = time.perf_counter()
+        replies = subprocess.run([program, "answer", ":memory:", "2024-01-31", SEED, OPERATOR],
+                                 input=stream, stdout=subprocess.PIPE, check=True).stdout
+        taken = time.perf_counter() - begun
+        best = taken if best is None else min(best, taken)
+    return replies, best
+
+
+def receipts(replies):
+    return [part.split(b'"')[0].decode() for part in replies.split(b'"receipt":"')[1:]]
+
+
+def line(name, count, seconds):
+    print(f"{name:32}{count / seconds:12.0f} a second{seconds / count * 1e6:10.1f} microseconds each")
+
+
+def main():
+    built = glob.glob(os.path.join(os.path.dirname(__file__), "../crates/pawnd/out/**/pawnd"), recursive=True)
+    program = sys.argv[1] if len(sys.argv) > 1 else next(iter(built), None)
+    if program is None:
+        sys.exit("no program: run `rt run` in crates/pawnd first, or name one")
+    _, nothing = answer(program, b"".join(start()))
+    many, openings = answer(program, b"".join(start()) + b"".join(map(opening, range(998))))
+    assert many.count(b"200 OK") == 1000
+    half = b"".join(start()) + b"".join(map(opening, range(499)))
+    replies, half_time = answer(program, half)
+    shown, viewed = answer(program, half + b"".join(map(view, receipts(replies))))
+    assert shown.count(b"Status inside") == 499
+    print(f"start, a book and its terms: {nothing * 1e3:.1f} ms")
+    line("openings, start included", 998, openings)
+    line("views in a book of 499 pledges", 499, viewed - half_time)
+    peak = resource.getrusage(resource.RUSAGE_CHILDREN).ru_maxrss
+    print(f"peak memory: {peak} KiB")
+
+
+main()

@@ -1,0 +1,166 @@
+-- Lemmas on one item of a run.
+use Rattle.std.proofs.Common.{◌≡◌, ◌∙◌, ℕ, Bool, true, false, List, [], ◌++◌, ◌⊎◌, inl, inr, refl, ap, sym, subst, Option, Some, None, Result, Ok, Err, codes, if◌then◌else◌}
+use Rattle.std.specs.Prelude.{unwrap_or}
+use Rattle.pawn_pledge.specs.declared.command.Stamp.{Stamp}
+use Rattle.pawn_pledge.specs.declared.receipt.Receipt.{Receipt}
+use Rattle.pawn_book.specs.declared.request.Request.{Request}
+use Rattle.pawn_book.specs.declared.request.Caller.{Caller}
+use Rattle.pawn_book.specs.declared.request.Caller.TheVariants.{Bearer}
+use Rattle.pawn_book.specs.declared.request.BearerRequest.{BearerRequest}
+use Rattle.pawn_book.specs.declared.request.BearerRequest.TheVariants.{Held}
+use Rattle.pawn_book.specs.declared.reply.Reply.{Reply}
+use Rattle.pawn_book.specs.declared.refusal.Refusal.{Refusal}
+use Rattle.pawn_book.specs.declared.refusal.Refusal.TheVariants as No
+use Rattle.pawn_book.specs.BookStep.{Out, Told, Denied, Shown, Outcome, Refuses, Says, out_of, are_unknown}
+use Rattle.pawn_book.specs.HostStep.{Host, limited, host_step, host_after}
+use Rattle.pawn_book.specs.Sound.{IsSound}
+use Rattle.pawn_book.specs.Runs.{read_as, no_memory, no_store, Answered}
+use Rattle.pawn_book.specs.Keeping.{Acts, IsUnwell, stepped}
+use Rattle.pawn_view.specs.Text.{held_text}
+use Rattle.pawn_view.specs.Shown.{live_pledges, held_of}
+use Rattle.pawn_wire.specs.Request.{Reads}
+use Rattle.pawn_wire.specs.Reply.{out_text, reply_text, fault_text, memory_text}
+use Rattle.pawn_wire.specs.declared.reply.Out.TheVariants as wire
+use Rattle.pawn_wire.specs.declared.fault.WireFault.{WireFault}
+use Rattle.pawn_wire.specs.declared.fault.WireFault.TheVariants as f
+use Rattle.pawn_host.specs.declared.service.Answer.{Answer}
+use Rattle.pawn_host.specs.declared.service.Answer.TheVariants.{Bytes, Memory}
+use Rattle.pawn_host.specs.Run.{said_text}
+use Rattle.pawn_host.specs.Keeps.{answer_bytes, Tells, IsActed}
+
+-- memory was wanting, and nothing changed
+pub acted_memory : (Steady : Type 0) (operator : ℕ) (h : Host) (stamp : Stamp) (bytes reply : List ℕ) (at : Host → Type 0) → reply ≡ memory_text → at h → IsSound h
+    → IsActed Steady operator h stamp bytes reply at
+acted_memory Steady operator h stamp bytes reply at is stands sound = record { mark = no_memory; marked = tt; text = is; stands_for = stands; sound = sound }
+
+-- the store failed, and nothing changed
+acted_store : (Steady : Type 0) (operator : ℕ) (h : Host) (stamp : Stamp) (bytes reply : List ℕ) (at : Host → Type 0) → reply ≡ out_text (wire.Refused No.Store) → at h → IsSound h → (Steady → ⊥)
+    → IsActed Steady operator h stamp bytes reply at
+acted_store Steady operator h stamp bytes reply at is stands sound unsteady = record { mark = no_store; marked = unsteady; text = is; stands_for = stands; sound = sound }
+
+-- ---- bytes that are no request
+
+is_memory : (e : WireFault) → (e ≡ f.Memory) ⊎ (e ≡ f.Memory → ⊥)
+is_memory f.BadHead = inr (λ m. cc)
+is_memory f.Transfer = inr (λ m. cc)
+is_memory f.BadLength = inr (λ m. cc)
+is_memory f.BodyTooLong = inr (λ m. cc)
+is_memory f.NoRoute = inr (λ m. cc)
+is_memory f.WrongMethod = inr (λ m. cc)
+is_memory f.BadKey = inr (λ m. cc)
+is_memory f.NoReceipt = inr (λ m. cc)
+is_memory f.TooManyReceipts = inr (λ m. cc)
+is_memory f.BadReceipt = inr (λ m. cc)
+is_memory f.BadBody = inr (λ m. cc)
+is_memory f.Memory = inl refl
+
+err_same : (a b : WireFault) → ◌≡◌ {A = Result Request WireFault} (Err a) (Err b) → a ≡ b
+err_same a b e = cc
+
+faulted_bytes : (Steady : Type 0) (operator : ℕ) (h : Host) (stamp : Stamp) (bytes reply : List ℕ) (at : Host → Type 0) (e : WireFault)
+    → (e ≡ f.Memory) ⊎ Reads bytes (Err e) → reply ≡ fault_text e → at h → IsSound h → IsActed Steady operator h stamp bytes reply at
+faulted_bytes Steady operator h stamp bytes reply at e (inl m) is stands sound = acted_memory Steady operator h stamp bytes reply at (is ∙ ap fault_text m) stands sound
+faulted_bytes Steady operator h stamp bytes reply at e (inr x) is stands sound = elim (is_memory e) [
+  | inl m ↦ acted_memory Steady operator h stamp bytes reply at (is ∙ ap fault_text m) stands sound
+  | inr other ↦ record { mark = read_as (Err e); marked = (x, λ m. other (err_same e f.Memory m)); text = is; stands_for = stands; sound = sound }
+]
+
+pub acted_fault : (Steady : Type 0) (operator : ℕ) (h : Host) (stamp : Stamp) (bytes : List ℕ) (answer : Answer) (at : Host → Type 0) (e : WireFault)
+    → (e ≡ f.Memory) ⊎ Reads bytes (Err e) → Tells answer (out_text (wire.Fault e)) → at h → IsSound h → IsActed Steady operator h stamp bytes (answer_bytes answer) at
+acted_fault Steady operator h stamp bytes (Bytes v) at e read is stands sound = faulted_bytes Steady operator h stamp bytes v.items at e read is stands sound
+acted_fault Steady operator h stamp bytes Memory at e read is stands sound = acted_memory Steady operator h stamp bytes memory_text at refl stands sound
+
+-- ---- requests
+
+-- the step of the host was told
+acted_said : (Steady : Type 0) (operator : ℕ) (h : Host) (stamp : Stamp) (bytes reply : List ℕ) (at : Host → Type 0) (request : Request) (out : Out)
+    → Reads bytes (Ok request) → out_of (host_step h operator stamp request) ≡ out → reply ≡ said_text (Answered out)
+    → at (stepped h operator stamp request) → IsSound (stepped h operator stamp request) → IsActed Steady operator h stamp bytes reply at
+acted_said Steady operator h stamp bytes reply at request out read is text stands sound = record {
+  mark = read_as (Ok request);
+  marked = (read, λ m. cc);
+  text = text ∙ ap (λ (o : Out). said_text (Answered o)) (sym is);
+  stands_for = stands;
+  sound = sound;
+}
+
+-- it was refused, and that was told
+pub acted_refused : (Steady : Type 0) (operator : ℕ) (h : Host) (stamp : Stamp) (bytes : List ℕ) (answer : Answer) (at : Host → Type 0) (request : Request) (why : Refusal)
+    → Reads bytes (Ok request) → Tells answer (out_text (wire.Refused why)) → at h → IsSound h → IsUnwell why ⊎ (host_step h operator stamp request ≡ Refuses why) → (Steady → why ≡ No.Store → ⊥)
+    → IsActed Steady operator h stamp bytes (answer_bytes answer) at
+acted_refused Steady operator h stamp bytes Memory at request why read is stands sound refused calm = acted_memory Steady operator h stamp bytes memory_text at refl stands sound
+acted_refused Steady operator h stamp bytes (Bytes v) at request why read is stands sound (inl (inl memory)) calm =
+    acted_memory Steady operator h stamp bytes v.items at (is ∙ ap (λ (w : Refusal). out_text (wire.Refused w)) memory) stands sound
+acted_refused Steady operator h stamp bytes (Bytes v) at request why read is stands sound (inl (inr store)) calm =
+    acted_store Steady operator h stamp bytes v.items at (is ∙ ap (λ (w : Refusal). out_text (wire.Refused w)) store) stands sound (λ steady. calm steady store)
+acted_refused Steady operator h stamp bytes (Bytes v) at request why read is stands sound (inr step) calm =
+    let after : stepped h operator stamp request ≡ h = ap (λ (o : Outcome). host_after h request.book o) step in
+    acted_said Steady operator h stamp bytes v.items at request (Denied why) read (ap out_of step) is (subst at (sym after) stands) (subst IsSound (sym after) sound)
+
+-- it was acted on, and that was told
+pub acted_done : (Steady : Type 0) (operator : ℕ) (h : Host) (stamp : Stamp) (bytes text : List ℕ) (at : Host → Type 0) (request : Request) (reply : Reply)
+    → Reads bytes (Ok request) → text ≡ out_text (wire.Done reply) → Acts h operator stamp request (Ok reply) at → IsActed Steady operator h stamp bytes text at
+acted_done Steady operator h stamp bytes text at request reply read is acts = acted_said Steady operator h stamp bytes text at request (Told reply) read acts.0 is acts.1 acts.2
+
+pub err_is : {V : Type 0} (r : Result V Refusal) (why : Refusal) → r ≡ Err why → why ≡ No.Store → r ≡ Err No.Store
+err_is r why is store = is ∙ ap (λ (w : Refusal). Err w) store
+
+-- ---- receipts
+
+abbrev pub held_request : ℕ → List Receipt → Request
+held_request book receipts = record { book = book; caller = Bearer (Held receipts) }
+
+-- what comes of receipts, by whether one of them is live
+step_unknown : (h : Host) (operator : ℕ) (stamp : Stamp) (book : ℕ) (receipts : List Receipt) → are_unknown (live_pledges h book receipts) ≡ true
+    → host_step h operator stamp (held_request book receipts) ≡ Refuses No.NoSuchReceipt
+step_unknown h operator stamp book receipts is =
+    ap (λ (b : Bool). limited h book (if b then Refuses No.NoSuchReceipt else Says (Shown stamp.day (live_pledges h book receipts)))) is
+
+step_known : (h : Host) (operator : ℕ) (stamp : Stamp) (book : ℕ) (receipts : List Receipt) → are_unknown (live_pledges h book receipts) ≡ false
+    → host_step h operator stamp (held_request book receipts) ≡ Says (Shown stamp.day (live_pledges h book receipts))
+step_known h operator stamp book receipts is =
+    ap (λ (b : Bool). limited h book (if b then Refuses No.NoSuchReceipt else Says (Shown stamp.day (live_pledges h book receipts)))) is
+
+some_same : {A : Type 0} {a b : A} → Some a ≡ Some b → a ≡ b
+some_same {a = a} e = ap (λ (o : Option _). unwrap_or o a) e
+
+text_known : (u : Bool) (shown text : List ℕ) → (if u then None else Some shown) ≡ Some text → (u ≡ false) × (text ≡ shown)
+text_known true shown text is = cc
+text_known false shown text is = (refl, sym (some_same is))
+
+text_unknown : (u : Bool) (shown : List ℕ) → (let none : Option (List ℕ) = None in (if u then None else Some shown) ≡ none) → u ≡ true
+text_unknown true shown is = refl
+text_unknown false shown is = cc
+
+-- nothing was to show
+pub nothing_shown : (h : Host) (operator : ℕ) (stamp : Stamp) (book day : ℕ) (receipts : List Receipt) → held_of h book receipts day ≡ None
+    → host_step h operator stamp (held_request book receipts) ≡ Refuses No.NoSuchReceipt
+nothing_shown h operator stamp book day receipts is =
+    step_unknown h operator stamp book receipts (text_unknown (are_unknown (live_pledges h book receipts)) (held_text day (live_pledges h book receipts)) is)
+
+-- the text of the receipts was told
+pub acted_shown : (Steady : Type 0) (operator : ℕ) (h : Host) (stamp : Stamp) (bytes : List ℕ) (answer : Answer) (at : Host → Type 0) (book day : ℕ) (receipts : List Receipt) (text out : List ℕ)
+    → Reads bytes (Ok (held_request book receipts)) → day ≡ stamp.day → held_of h book receipts day ≡ Some text → text ≡ out
+    → Tells answer (reply_text 200 (codes "text/plain; charset=utf-8") out) → at h → IsSound h
+    → IsActed Steady operator h stamp bytes (answer_bytes answer) at
+acted_shown Steady operator h stamp bytes Memory at book day receipts text out read day_is is all tells stands sound = acted_memory Steady operator h stamp bytes memory_text at refl stands sound
+acted_shown Steady operator h stamp bytes (Bytes v) at book day receipts text out read day_is is all tells stands sound =
+    let shown = live_pledges h book receipts in
+    let known = text_known (are_unknown shown) (held_text day shown) text is in
+    let step = step_known h operator stamp book receipts known.0 in
+    let request : Request = held_request book receipts in
+    let after : stepped h operator stamp request ≡ h = ap (λ (o : Outcome). host_after h book o) step in
+    let same : out ≡ held_text stamp.day shown = sym all ∙ known.1 ∙ ap (λ (x : ℕ). held_text x shown) day_is in
+    acted_said Steady operator h stamp bytes v.items at request (Shown stamp.day shown) read (ap out_of step) (tells ∙ ap (reply_text 200 (codes "text/plain; charset=utf-8")) same)
+    (subst at (sym after) stands) (subst IsSound (sym after) sound)
+
+-- what was written into an empty buffer
+pub all_written : (old new out text : List ℕ) → out ≡ new → new ≡ old ++ text → old ≡ [] → text ≡ out
+all_written old new out text same written empty = sym (same ∙ written ∙ ap (λ (x : List ℕ). x ++ text) empty)
+
+-- a bearer's request, by its parts
+pub read_bearer : (bytes : List ℕ) (request : Request) (asked : BearerRequest) → request.caller ≡ Bearer asked → Reads bytes (Ok request) → Reads bytes (Ok (record { book = request.book; caller = Bearer asked }))
+read_bearer bytes request asked is read = subst (λ (caller : Caller). Reads bytes (Ok (record { book = request.book; caller = caller }))) is read
+
+pub read_held : (bytes : List ℕ) (book : ℕ) (asked : BearerRequest) (receipts : List Receipt) → asked ≡ Held receipts → Reads bytes (Ok (record { book = book; caller = Bearer asked })) → Reads bytes (Ok (held_request book receipts))
+read_held bytes book asked receipts is read = subst (λ (a : BearerRequest). Reads bytes (Ok (record { book = book; caller = Bearer a }))) is read

@@ -1,0 +1,58 @@
+use Rattle.std.proofs.Common.{arith, ℕ, drop, ap, ◌∙◌, take, ◌+◌}
+use Rattle.pawn_host.proofs.SessionLemmas.{ended_at_end, ended_cut, ended_limit, ended_dry, broken_off, finished_faulty, finished_memory, broken_write, ended_closed, goes_on, acted_at}
+use Rattle.pawn_host.specs.Keeps.{service_operator}
+use Rattle.pawn_host.specs.Run.{host_after}
+use Rattle.pawn_host.proofs.service.Service.answer_all.Goals as goal
+
+pub returns-in-AtEnd-clause-session : goal.returns-in-AtEnd-clause-session
+returns-in-AtEnd-clause-session g c = λ honest h sound at. ended_at_end (c.loop-acted.invariant.so_far honest h sound at) c.loop-acted-test.true c.in-AtEnd.ensures.found
+
+pub returns-in-CutOff-clause-session : goal.returns-in-CutOff-clause-session
+returns-in-CutOff-clause-session g c = λ honest h sound at. ended_cut (c.loop-acted.invariant.so_far honest h sound at) c.loop-acted-test.true c.in-CutOff.ensures.found
+
+pub returns-in-Faulty-clause-session : goal.returns-in-Faulty-clause-session
+returns-in-Faulty-clause-session g c = λ honest h sound at. finished_faulty _ c.in-Faulty.fault _ _ (c.loop-acted.invariant.so_far honest h sound at) c.loop-acted-test.true c.fault_reply.ensures.text c.in-Faulty.ensures.found c.finish.ensures.finished
+
+pub returns-in-NoMemory-clause-session : goal.returns-in-NoMemory-clause-session
+returns-in-NoMemory-clause-session g c = λ honest h sound at. finished_memory _ _ _ (c.loop-acted.invariant.so_far honest h sound at) c.loop-acted-test.true c.memory_reply.ensures.text c.finish-in-NoMemory.ensures.finished
+
+pub returns-in-Stopped-clause-session : goal.returns-in-Stopped-clause-session
+returns-in-Stopped-clause-session g c = λ honest h sound at. broken_off c.in-Stopped.cause (c.loop-acted.invariant.so_far honest h sound at) c.loop-acted-test.true
+
+pub returns-in_default-clause-session : goal.returns-in_default-clause-session
+returns-in_default-clause-session g c = λ honest h sound at. ended_dry c.in-Request.head (c.loop-acted.invariant.so_far honest h sound at) c.loop-acted-test.true c.in_default.ensures.steps c.in-Request.ensures.found
+
+pub returns-then-count-text-clause-session : goal.returns-then-count-text-clause-session
+returns-then-count-text-clause-session g c = λ honest h sound at.
+    let so = c.loop-acted.invariant.so_far (c.answer_one-answer.ensures.honest honest) h sound at in
+    let operator = service_operator c.args.self.now in
+    let mid = host_after h operator so.items in
+    let acted = acted_at _ _ _ operator mid c.in-Some.stamp _ (take (c.in-Request.head.len + c.in-Request.head.body) c.next_request.new.buffer.items) _ c.answer_slice-text.result.now _ (c.answer_one-answer.ensures.acted honest mid so.sound so.stands_for) c.loop-acted.invariant.steady c.loop-acted.invariant.operator (ap (take c.request_len-needed.result) c.deref.ensures.value ∙ ap (λ (k : ℕ). take k c.next_request.new.buffer.items) c.request_len-needed.ensures.answer) c.answer_slice-text.ensures.bytes in
+    broken_write _ _ _ _ c.in-Some.stamp c.in-Request.head c.send-count.result c.answer_slice-text.result.now c.next_request.new.buffer.items so c.loop-acted-test.true c.in-Some.ensures.steps acted c.in-Request.ensures.found c.in-Request.ensures.kept (omega (arith, c.in-Request.ensures.buffered, c.next_request.new.buffer.ok.0)) c.if-count-text.true c.send-count.ensures.bytes
+
+pub returns-then-head-clause-session : goal.returns-then-head-clause-session
+returns-then-head-clause-session g c = λ honest h sound at.
+    let so = c.loop-acted.invariant.so_far (c.answer_one-answer.ensures.honest honest) h sound at in
+    let operator = service_operator c.args.self.now in
+    let mid = host_after h operator so.items in
+    let acted = acted_at _ _ _ operator mid c.in-Some.stamp _ (take (c.in-Request.head.len + c.in-Request.head.body) c.next_request.new.buffer.items) _ c.answer_slice-text.result.now _ (c.answer_one-answer.ensures.acted honest mid so.sound so.stands_for) c.loop-acted.invariant.steady c.loop-acted.invariant.operator (ap (take c.request_len-needed.result) c.deref.ensures.value ∙ ap (λ (k : ℕ). take k c.next_request.new.buffer.items) c.request_len-needed.ensures.answer) c.answer_slice-text.ensures.bytes in
+    ended_closed _ _ _ _ c.in-Some.stamp c.in-Request.head c.send-count.result c.answer_slice-text.result.now c.next_request.new.buffer.items so c.loop-acted-test.true c.in-Some.ensures.steps acted c.in-Request.ensures.found c.in-Request.ensures.kept (omega (arith, c.in-Request.ensures.buffered, c.next_request.new.buffer.ok.0)) (omega (arith, c.send-count.ensures.bound, c.if-count-text.false)) c.send-count.ensures.bytes c.if-head.true
+
+pub loop-acted-preserved : goal.loop-acted-preserved
+loop-acted-preserved g c = record {
+  fine = c.send-count.ensures.done (omega (arith, c.send-count.ensures.bound, c.if-count-text.false));
+  can = c.in-Some.ensures.goes.keeps;
+  room = omega (arith, c.loop-acted.invariant.room);
+  honest = λ honest. c.loop-acted.invariant.honest (c.answer_one-answer.ensures.honest honest);
+  steady = λ steady. c.answer_one-answer.ensures.steady (c.loop-acted.invariant.steady steady);
+  operator = c.answer_one-answer.ensures.operator ∙ c.loop-acted.invariant.operator;
+  so_far = λ honest h sound at.
+      let so = c.loop-acted.invariant.so_far (c.answer_one-answer.ensures.honest honest) h sound at in
+      let operator = service_operator c.args.self.now in
+      let mid = host_after h operator so.items in
+      let acted = acted_at _ _ _ operator mid c.in-Some.stamp _ (take (c.in-Request.head.len + c.in-Request.head.body) c.next_request.new.buffer.items) _ c.answer_slice-text.result.now _ (c.answer_one-answer.ensures.acted honest mid so.sound so.stands_for) c.loop-acted.invariant.steady c.loop-acted.invariant.operator (ap (take c.request_len-needed.result) c.deref.ensures.value ∙ ap (λ (k : ℕ). take k c.next_request.new.buffer.items) c.request_len-needed.ensures.answer) c.answer_slice-text.ensures.bytes in
+      goes_on _ _ _ _ c.in-Some.stamp c.in-Request.head c.send-count.result c.answer_slice-text.result.now c.next_request.new.buffer.items _ so c.loop-acted-test.true c.in-Some.ensures.steps acted c.in-Request.ensures.found c.in-Request.ensures.kept (omega (arith, c.in-Request.ensures.buffered, c.next_request.new.buffer.ok.0)) (omega (arith, c.send-count.ensures.bound, c.if-count-text.false)) c.send-count.ensures.bytes c.if-head.false (c.drop_front.ensures.rest ∙ ap (λ (k : ℕ). drop k c.next_request.new.buffer.items) c.request_len-needed.ensures.answer);
+}
+
+pub returns-clause-session : goal.returns-clause-session
+returns-clause-session g c = λ honest h sound at. ended_limit (c.loop-acted.invariant.so_far honest h sound at) (omega arith)

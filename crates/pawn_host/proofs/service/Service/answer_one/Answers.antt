@@ -1,0 +1,21 @@
+use Rattle.pawn_host.specs.Keeps.{service_keep, service_operator}
+use Rattle.pawn_host.proofs.RunLemmas.{acted_fault, read_bearer}
+use Rattle.pawn_host.proofs.service.Service.answer_one.Goals as goal
+
+pub returns-in-Err-clause-acted : goal.returns-in-Err-clause-acted
+returns-in-Err-clause-acted g c = λ honest h sound at.
+    acted_fault (g.K.Keep.steady (service_keep c.args.self.now)) (service_operator c.args.self.now) h c.args.stamp.now c.args.bytes.now c.told.result (g.K.Keep.stands (service_keep c.args.self.now)) c.in-Err.fault
+    (rw c.in-Err.is at c.read_request.ensures.read) c.told.ensures.tells at sound
+
+pub returns-in-Operator-clause-acted : goal.returns-in-Operator-clause-acted
+returns-in-Operator-clause-acted g c = λ honest h sound at.
+    c.act.ensures.acted honest h sound at c.args.bytes.now (rw c.in-Ok.is at c.read_request.ensures.read)
+
+pub returns-in-Broker-clause-acted : goal.returns-in-Broker-clause-acted
+returns-in-Broker-clause-acted g c = λ honest h sound at.
+    c.act-in-Broker.ensures.acted honest h sound at c.args.bytes.now (rw c.in-Ok.is at c.read_request.ensures.read)
+
+pub returns-clause-acted : goal.returns-clause-acted
+returns-clause-acted g c = λ honest h sound at.
+    c.answer_bearer.ensures.acted honest h sound at c.args.bytes.now
+    (read_bearer c.args.bytes.now c.in-Ok.request c.in-Bearer.asked c.in-Bearer.is (rw c.in-Ok.is at c.read_request.ensures.read))

@@ -1,0 +1,19 @@
+-- What clauses read of a `Reading`.
+use Rattle.std.specs.Prelude.{ℕ, Bool, List, Option}
+use Rattle.pawn_host.specs.declared.reading.Reading.{Reading}
+
+-- the reader inside
+abbrev pub reading_inner : {R : Type 0} → Reading R → R
+reading_inner r = r.inner
+
+-- how many reads were made
+abbrev pub reads : {R : Type 0} → Reading R → ℕ
+reads r = r.count
+
+-- a read gave an error
+abbrev pub read_failed : {R : Type 0} → Reading R → Bool
+read_failed r = r.failed
+
+-- the bytes that are left to read, where the reader tells them
+abbrev pub left_of : {R : Type 0} → (R → Option (List ℕ)) → Reading R → Option (List ℕ)
+left_of remaining r = remaining r.inner

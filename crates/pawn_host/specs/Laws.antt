@@ -1,0 +1,94 @@
+-- Laws of the split and of runs.
+use Rattle.std.specs.Prelude.{◌≡◌, ℕ, ◌<◌, ◌≤◌, ◌⊎◌, All, Bool, List, [], ◌∷◌, ◌++◌, length, map}
+use Rattle.std.specs.List.{concat}
+use Rattle.httparse.specs.Grammar.{RequestHead, ReadsRequest, EndsInTarget, HasNoRequest}
+use Rattle.httparse.specs.Spans.{RequestOverflows}
+use Rattle.pawn_wire.specs.Head.{max_fields, max_head}
+use Rattle.pawn_wire.specs.declared.fault.HeadFault.{HeadFault}
+use Rattle.pawn_wire.specs.declared.fault.HeadFault.TheVariants.{BadHead}
+use Rattle.pawn_wire.specs.declared.fault.WireFault.{WireFault}
+use Rattle.pawn_host.specs.Split.{Ending, cut, faulted, most_requests, IsCutHead, IsRequest, HasFault, Passes, StopsAt, Splits, Begins, BeginsAndGoesOn}
+use Rattle.pawn_book.specs.HostStep.{Host}
+use Rattle.pawn_book.specs.Runs.{Mark, read_as, no_memory, no_store}
+use Rattle.pawn_host.specs.Run.{Item, IsMarked, handed, events, host_after, replies}
+
+-- the rest has begun with a head that may go on, and no head of so few fields can come of it
+abbrev pub IsOpen : List ℕ → Type 0
+IsOpen rest = IsCutHead rest × RequestOverflows max_fields rest
+
+-- one of the two is a cut, and the other the fault of a bad head
+abbrev pub AreCutAndFault : Ending → Ending → Type 0
+AreCutAndFault e f = ((e ≡ cut) × (f ≡ faulted BadHead)) ⊎ ((e ≡ faulted BadHead) × (f ≡ cut))
+
+-- the two endings are left open by what is left after these requests
+abbrev pub IsLeftOpen : List ℕ → List (List ℕ) → Ending → Ending → Type 0
+IsLeftOpen stream requests e f = (rest : List ℕ) × Passes stream requests rest × IsOpen rest × AreCutAndFault e f
+
+-- a stream has one split, but for the ending in a rest that is open
+abbrev pub SplitIsUnique : Type 0
+SplitIsUnique =
+    (stream : List ℕ) (a b : List (List ℕ)) (e f : Ending) → Splits stream a e → Splits stream b f
+    → (a ≡ b) × ((e ≡ f) ⊎ IsLeftOpen stream a e f)
+
+-- what is open ends in its target, or may go on as a head of too many fields alone
+abbrev pub OpenEnds : Type 0
+OpenEnds =
+    (rest : List ℕ) → IsOpen rest
+    → ((more : List ℕ) × (h : RequestHead) × ReadsRequest (rest ++ more) h [] × (max_fields < length h.fields)) ⊎ EndsInTarget rest
+
+-- where the split ends before the limit, no whole request is a prefix of the rest
+abbrev pub SplitEndsEarly : Type 0
+SplitEndsEarly =
+    (e : Ending) (n : ℕ) (rest : List ℕ) → StopsAt e n rest → n < most_requests
+    → (request more : List ℕ) (closes : Bool) → rest ≡ request ++ more → IsRequest request closes → ⊥
+
+-- what a split begins with are its first requests, and one more where it goes on
+abbrev pub SplitBegins : Type 0
+SplitBegins =
+    (stream : List ℕ) (requests all : List (List ℕ)) (e : Ending) → Splits stream all e
+    → (Begins stream requests → (more : List (List ℕ)) × (all ≡ requests ++ more))
+    × (BeginsAndGoesOn stream requests → (next : List ℕ) × (more : List (List ℕ)) × (all ≡ requests ++ next ∷ more))
+
+-- the requests are the front of the stream, and no more than the limit
+abbrev pub SplitIsFront : Type 0
+SplitIsFront =
+    (stream : List ℕ) (requests : List (List ℕ)) (e : Ending) → Splits stream requests e
+    → (length requests ≤ most_requests) × ((rest : List ℕ) × (stream ≡ concat requests ++ rest))
+
+-- whether an item was refused, and by what
+pub data Refusal : Type 0 where
+  unrefused : Refusal
+  for_memory : Refusal
+  by_store : Refusal
+
+abbrev pub refusal_of : Mark WireFault → Refusal
+refusal_of (read_as said) = unrefused
+refusal_of no_memory = for_memory
+refusal_of no_store = by_store
+
+abbrev pub refusals : List Item → List Refusal
+refusals items = map (λ i. refusal_of i.mark) items
+
+-- what was handed in, and which items were refused, decide the items
+abbrev pub ItemsAreUnique : Type 0
+ItemsAreUnique =
+    (a b : List Item) → All (IsMarked ⊥) a → All (IsMarked ⊥) b → map handed a ≡ map handed b → refusals a ≡ refusals b → a ≡ b
+
+-- items that say the same lead to the same host and the same replies, whatever their bytes
+abbrev pub RunReadsEvents : Type 0
+RunReadsEvents =
+    (h : Host) (operator : ℕ) (a b : List Item) → events a ≡ events b
+    → (host_after h operator a ≡ host_after h operator b) × (replies h operator a ≡ replies h operator b)
+
+-- a head of no more fields than allowed can still come of the rest, how long it grows aside
+abbrev pub MayGoOn : List ℕ → Type 0
+MayGoOn rest =
+    (length rest < max_head)
+    × ((more : List ℕ) × (h : RequestHead) × (after : List ℕ) × ReadsRequest (rest ++ more) h after × (length h.fields ≤ max_fields))
+
+-- where a head can still come of the rest, and none stands in it, no fault is answered; where none can, it is that of a bad head
+abbrev pub FaultIsExact : Type 0
+FaultIsExact =
+    (rest : List ℕ)
+    → (MayGoOn rest → HasNoRequest rest → (f : HeadFault) → HasFault rest f → ⊥)
+    × ((MayGoOn rest → ⊥) → (length rest < max_head) → HasFault rest BadHead)

@@ -1,0 +1,54 @@
+-- A run of the service: requests as bytes, each with how it was answered.
+use Rattle.std.specs.Prelude.{◌≢◌, ℕ, List, map, codes, Err}
+use Rattle.pawn_pledge.specs.declared.command.Stamp.{Stamp}
+use Rattle.pawn_book.specs.BookStep.{Told, Denied, Shown}
+use Rattle.pawn_book.specs.HostStep.{Host}
+use Rattle.pawn_book.specs.Runs.{Mark, read_as, no_memory, no_store, Event, Said, Answered, Faulted, run_host, run_said}
+use Rattle.pawn_view.specs.Text.{held_text}
+use Rattle.pawn_wire.specs.Request.{Reads}
+use Rattle.pawn_wire.specs.Reply.{out_text, reply_text, fault_text}
+use Rattle.pawn_wire.specs.declared.reply.Out.TheVariants as wire
+use Rattle.pawn_wire.specs.declared.fault.WireFault.{WireFault}
+use Rattle.pawn_wire.specs.declared.fault.WireFault.TheVariants.{Memory}
+
+-- an item of a run: when it came, its bytes, and how it was answered
+pub record Item : Type 0 where
+  pub stamp : Stamp
+  pub bytes : List ℕ
+  pub mark : Mark WireFault
+
+-- the mark tells what the bytes say, where they were answered for that; want of memory is nothing that bytes say,
+-- and a fault of the store is met over a keeper alone that isn't steady
+abbrev pub IsMarkOf : Type 0 → List ℕ → Mark WireFault → Type 0
+IsMarkOf Steady bytes (read_as said) = Reads bytes said × (said ≢ Err Memory)
+IsMarkOf Steady bytes no_memory = Unit {0}
+IsMarkOf Steady bytes no_store = Steady → ⊥
+
+abbrev pub IsMarked : Type 0 → Item → Type 0
+IsMarked Steady item = IsMarkOf Steady item.bytes item.mark
+
+-- what was handed in with an item
+abbrev pub handed : Item → Stamp × List ℕ
+handed item = (item.stamp, item.bytes)
+
+-- what an item is to the books: its bytes no longer count
+abbrev pub event_of : Item → Event WireFault
+event_of item = record { stamp = item.stamp; mark = item.mark }
+
+abbrev pub events : List Item → List (Event WireFault)
+events items = map event_of items
+
+-- the bytes of what is told
+abbrev pub said_text : Said WireFault → List ℕ
+said_text (Answered (Told reply)) = out_text (wire.Done reply)
+said_text (Answered (Denied why)) = out_text (wire.Refused why)
+said_text (Answered (Shown day pledges)) = reply_text 200 (codes "text/plain; charset=utf-8") (held_text day pledges)
+said_text (Faulted fault) = fault_text fault
+
+-- the host after a run
+abbrev pub host_after : Host → ℕ → List Item → Host
+host_after h operator items = run_host h operator (events items)
+
+-- the replies of a run, in order
+abbrev pub replies : Host → ℕ → List Item → List (List ℕ)
+replies h operator items = map said_text (run_said h operator (events items))

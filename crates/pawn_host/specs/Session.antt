@@ -1,0 +1,83 @@
+-- What a session over a reader and a writer did.
+use Rattle.std.specs.Prelude.{◌≡◌, ◌≢◌, ℕ, ◌+◌, ◌<◌, ◌≤◌, ◌⊎◌, All, List, [], ◌++◌, length, take, map, Option, None, IfSome, Result, Ok, Err}
+use Rattle.std.specs.List.{concat}
+use Rattle.std.specs.Iterator.{Yields}
+use Rattle.std.specs.Io.KnownBytes.{Appends}
+use Rattle.pawn_host.specs.Split.{at_end, cut, closed, faulted, at_limit, Splits, Begins, BeginsAndGoesOn}
+use Rattle.pawn_pledge.specs.declared.command.Stamp.{Stamp}
+use Rattle.pawn_book.specs.HostStep.{Host}
+use Rattle.pawn_book.specs.Sound.{IsSound}
+use Rattle.pawn_wire.specs.Fault.{wire_fault}
+use Rattle.pawn_wire.specs.Reply.{memory_text, fault_text}
+use Rattle.pawn_wire.specs.declared.fault.HeadFault.{HeadFault}
+use Rattle.pawn_host.specs.Run.{Item, IsMarked, host_after, replies}
+use Rattle.pawn_host.specs.declared.session.How.{How}
+use Rattle.pawn_host.specs.declared.session.How.TheVariants.{End, Cut, Closed, Faulted, Limit, NoStamp, Memory}
+use Rattle.pawn_host.specs.declared.session.Ended.{Ended}
+use Rattle.pawn_host.specs.declared.session.IoFault.{IoFault}
+use Rattle.pawn_host.specs.declared.session.Cause.TheVariants.{Write}
+
+abbrev pub stamps_of : List Item → List Stamp
+stamps_of items = map (λ i. i.stamp) items
+
+abbrev pub requests_of : List Item → List (List ℕ)
+requests_of items = map (λ i. i.bytes) items
+
+-- all that is answered to these items
+abbrev pub answer_text : Host → ℕ → List Item → List ℕ
+answer_text h operator items = concat (replies h operator items)
+
+-- how a session ended, and what was written after the replies
+abbrev pub EndsAs : How → Option (List ℕ) → List (List ℕ) → List ℕ → Type 0 → Type 0
+EndsAs End left requests tail Dry = (tail ≡ []) × IfSome left (λ s. Splits s requests at_end)
+EndsAs Cut left requests tail Dry = (tail ≡ []) × IfSome left (λ s. Splits s requests cut)
+EndsAs Closed left requests tail Dry = (tail ≡ []) × IfSome left (λ s. Splits s requests closed)
+EndsAs Limit left requests tail Dry = (tail ≡ []) × IfSome left (λ s. Splits s requests at_limit)
+EndsAs Faulted left requests tail Dry = (f : HeadFault) × (tail ≡ fault_text (wire_fault f)) × IfSome left (λ s. Splits s requests (faulted f))
+EndsAs NoStamp left requests tail Dry = (tail ≡ []) × Dry × IfSome left (λ s. BeginsAndGoesOn s requests)
+EndsAs Memory left requests tail Dry = (tail ≡ memory_text) × IfSome left (λ s. Begins s requests)
+
+-- what was due after the replies where a session was broken off
+abbrev pub DueAfter : Option (List ℕ) → List (List ℕ) → List ℕ → Type 0
+DueAfter left requests tail = ((tail ≡ []) × IfSome left (λ s. Begins s requests))
+    ⊎ ((tail ≡ memory_text) × IfSome left (λ s. Begins s requests))
+    ⊎ ((f : HeadFault) × (tail ≡ fault_text (wire_fault f)) × IfSome left (λ s. Splits s requests (faulted f)))
+
+module _ {S : Type 0} (steps : S → Option Stamp → S → Type 0) (from : S) (Steady : Type 0) (operator : ℕ) (h : Host) where
+  -- items with the stamps that the iterator gave; the keeper stands for the host after them, which is sound
+  pub record IsServed (items : List Item) (to : S) (stands : Host → Type 0) : Type 0 where
+    pub marked : All (IsMarked Steady) items
+    pub taken : Yields steps from (stamps_of items) to
+    pub stands_for : stands (host_after h operator items)
+    pub sound : IsSound (host_after h operator items)
+
+  -- the session ended, having acted on its stream's first requests and written their replies
+  pub record HasEnded (left : Option (List ℕ)) (stands : Host → Type 0) (old new : Option (List ℕ)) (ended : Ended) : Type 0 where
+    pub items : List Item
+    pub to : S
+    pub tail : List ℕ
+    pub served : IsServed items to stands
+    pub count : length items ≡ ended.acted
+    pub wrote : Appends old new (answer_text h operator items ++ tail)
+    pub ends : EndsAs ended.how left (requests_of items) tail ((u : S) × steps to None u)
+
+  -- the session was broken off
+  pub record IsBrokenOff (left : Option (List ℕ)) (stands : Host → Type 0) (old new : Option (List ℕ)) (fault : IoFault) : Type 0 where
+    pub items : List Item
+    pub to : S
+    pub tail : List ℕ
+    pub served : IsServed items to stands
+    pub count : length items ≡ fault.acted
+    pub sent : fault.sent ≤ length (answer_text h operator items ++ tail)
+    pub all_sent : fault.cause ≢ Write → fault.sent ≡ length (answer_text h operator items ++ tail)
+    pub wrote : Appends old new (take fault.sent (answer_text h operator items ++ tail))
+    pub due : DueAfter left (requests_of items) tail
+
+  abbrev pub IsSession : Option (List ℕ) → (Host → Type 0) → Option (List ℕ) → Option (List ℕ) → Result Ended IoFault → Type 0
+  IsSession left stands old new (Ok ended) = HasEnded left stands old new ended
+  IsSession left stands old new (Err fault) = IsBrokenOff left stands old new fault
+
+-- the last text was written, or a part of it
+abbrev pub IsFinished : How → ℕ → ℕ → List ℕ → Option (List ℕ) → Option (List ℕ) → Result Ended IoFault → Type 0
+IsFinished how acted sent text old new (Ok ended) = (ended.how ≡ how) × (ended.acted ≡ acted) × Appends old new text
+IsFinished how acted sent text old new (Err fault) = (n : ℕ) × (n < length text) × (fault.cause ≡ Write) × (fault.acted ≡ acted) × (fault.sent ≡ sent + n) × Appends old new (take n text)

@@ -1,0 +1,83 @@
+-- A stream as whole requests and a rest.
+use Rattle.std.specs.Prelude.{◌≡◌, ◌≢◌, ℕ, ◌<◌, ◌≤◌, ◌⊎◌, Bool, true, false, List, [], ◌∷◌, ◌++◌, length, Ok, Err}
+use Rattle.httparse.specs.Grammar.{RequestHead, HasNoRequest, MayBecomeRequest}
+use Rattle.pawn_wire.specs.Head.{ReadsHead, IsBadHead, fields_of, body_length, closes_by, max_head}
+use Rattle.pawn_wire.specs.declared.fault.HeadFault.{HeadFault}
+use Rattle.pawn_wire.specs.declared.fault.HeadFault.TheVariants.{BadHead}
+
+-- how a stream ends
+pub data Ending : Type 0 where
+  at_end : Ending
+  cut : Ending
+  closed : Ending
+  faulted : HeadFault → Ending
+  at_limit : Ending
+
+-- at most so many requests are taken
+abbrev pub most_requests : ℕ
+most_requests = 1000
+
+-- the bytes are one whole request: a head, and as many bytes as it says
+pub record IsRequest (bytes : List ℕ) (closes : Bool) : Type 0 where
+  pub head : RequestHead
+  pub body : List ℕ
+  pub reads : ReadsHead bytes head body
+  pub framed : body_length (fields_of head) ≡ Ok (length body)
+  pub closes_is : closes ≡ closes_by head.minor (fields_of head)
+
+-- the rest has begun with a head, which may still go on (how long it grows aside)
+abbrev pub IsCutHead : List ℕ → Type 0
+IsCutHead rest = (rest ≢ []) × (length rest < max_head) × HasNoRequest rest × MayBecomeRequest rest
+
+-- the rest is a head and a part of its body
+abbrev pub IsCutBody : List ℕ → Type 0
+IsCutBody rest =
+    (h : RequestHead) × (body : List ℕ) × (n : ℕ)
+    × ReadsHead rest h body × (body_length (fields_of h) ≡ Ok n) × (length body < n)
+
+-- the rest is a part of a request
+abbrev pub IsCut : List ℕ → Type 0
+IsCut rest = IsCutHead rest ⊎ IsCutBody rest
+
+-- no request can begin with the rest: there is no head, or the head has a fault
+abbrev pub HasFault : List ℕ → HeadFault → Type 0
+HasFault rest f =
+    (IsBadHead rest × (f ≡ BadHead))
+    ⊎ ((h : RequestHead) × (body : List ℕ) × ReadsHead rest h body × (body_length (fields_of h) ≡ Err f))
+
+-- the stream is these requests, after none of which the connection closes, and then the rest
+abbrev pub Passes : List ℕ → List (List ℕ) → List ℕ → Type 0
+Passes stream [] rest = stream ≡ rest
+Passes stream (r ∷ rs) rest = (next : List ℕ) × (stream ≡ r ++ next) × IsRequest r false × Passes next rs rest
+
+-- after n requests no further one is taken from the rest
+abbrev pub StopsAt : Ending → ℕ → List ℕ → Type 0
+StopsAt at_end n rest = (n < most_requests) × (rest ≡ [])
+StopsAt cut n rest = (n < most_requests) × IsCut rest
+StopsAt (faulted f) n rest = (n < most_requests) × HasFault rest f
+StopsAt at_limit n rest = n ≡ most_requests
+StopsAt closed n rest = ⊥
+
+-- the stream begins with these requests, after the last of which, and no other, the connection closes
+abbrev pub ClosesAfter : List ℕ → List (List ℕ) → Type 0
+ClosesAfter stream requests =
+    (passed : List (List ℕ)) × (last : List ℕ) × (rest : List ℕ)
+    × Passes stream passed (last ++ rest) × IsRequest last true
+    × (length passed < most_requests) × (requests ≡ passed ++ last ∷ [])
+
+-- the split of the stream: its requests, and how it ends
+abbrev pub Splits : List ℕ → List (List ℕ) → Ending → Type 0
+Splits stream requests ending =
+    ((rest : List ℕ) × Passes stream requests rest × StopsAt ending (length requests) rest)
+    ⊎ (ClosesAfter stream requests × (ending ≡ closed))
+
+-- the split of the stream begins with these requests
+abbrev pub Begins : List ℕ → List (List ℕ) → Type 0
+Begins stream requests =
+    ((rest : List ℕ) × Passes stream requests rest × (length requests ≤ most_requests)) ⊎ ClosesAfter stream requests
+
+-- the same, and a further request is there
+abbrev pub BeginsAndGoesOn : List ℕ → List (List ℕ) → Type 0
+BeginsAndGoesOn stream requests =
+    (next : List ℕ) × (more : List ℕ) × (closes : Bool)
+    × Passes stream requests (next ++ more) × IsRequest next closes × (length requests < most_requests)

@@ -1,0 +1,42 @@
+//! Laws of the definitions.
+ghost use Rattle.pawn_host.specs.Laws.{SplitIsUnique, OpenEnds, SplitEndsEarly, SplitBegins, SplitIsFront, ItemsAreUnique, RunReadsEvents, FaultIsExact};
+
+/// A stream has one split, but for its ending in a head that can't be completed.
+pub fn split_is_unique()
+    ensures law { SplitIsUnique }
+{}
+
+/// Where two endings stand for one stream it ends in a target, or past the last field allowed.
+pub fn open_ends()
+    ensures law { OpenEnds }
+{}
+
+/// Where a split ends before the limit, no whole request begins the rest.
+pub fn split_ends_early()
+    ensures law { SplitEndsEarly }
+{}
+
+/// Requests that a split begins with are its first.
+pub fn split_begins()
+    ensures law { SplitBegins }
+{}
+
+/// The requests of a split are the front of the stream.
+pub fn split_is_front()
+    ensures law { SplitIsFront }
+{}
+
+/// What is handed in and the refusals decide a run's items.
+pub fn items_are_unique()
+    ensures law { ItemsAreUnique }
+{}
+
+/// The machine reads of an item its stamp and its mark.
+pub fn run_reads_events()
+    ensures law { RunReadsEvents }
+{}
+
+/// A rest that can still become a head is not faulted, and one that can't is.
+pub fn fault_is_exact()
+    ensures law { FaultIsExact }
+{}

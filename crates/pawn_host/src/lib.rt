@@ -1,0 +1,20 @@
+//! The service: requests as bytes to replies as bytes, one by one, as a list or from a stream.
+#![tactic(auto)]
+
+mod laws;
+mod reading;
+mod service;
+mod session;
+
+pub use laws::{
+    fault_is_exact, items_are_unique, open_ends, run_reads_events, split_begins, split_ends_early,
+    split_is_front, split_is_unique,
+};
+pub use pawn_book::{Keep, ListKeep, RequestDay, Secret, Stamp};
+pub use pawn_view::Writing;
+pub use reading::{MOST_READS, Reading};
+pub use service::{Answer, Service};
+pub use session::{Cause, Ended, How, IoFault, MOST_REQUESTS};
+
+#[cfg(test)]
+mod tests;

@@ -1,0 +1,154 @@
+//! The service over a keeper: one request, or a list of them.
+ghost use Rattle.std.specs.Prelude.{◌≡◌, ℕ, List, IfOk, OnErr, Ok, map, vec_len, vec_capacity, length};
+ghost use Rattle.pawn_book.specs.declared.request.Request.{Request};
+ghost use Rattle.pawn_book.specs.declared.request.Caller.TheVariants.{Bearer};
+ghost use Rattle.pawn_book.specs.declared.request.BearerRequest.TheVariants.{Held};
+ghost use Rattle.pawn_book.specs.Keeping.{IsWritten, Of};
+ghost use Rattle.pawn_wire.specs.Reply.{out_text};
+ghost use Rattle.pawn_wire.specs.Request.{Reads};
+ghost use Rattle.pawn_host.specs.Keeps.{service_keep, service_operator, answer_bytes, Tells, IsActed, IsRun};
+
+use pawn_book::{
+    BearerRequest, Caller, Keep, Number, Receipts, Refusal, Request, Secret, Stamp, commit, plan,
+};
+use pawn_view::{ViewFault, Writing, held};
+use pawn_wire::{Out, Router, read_request, write_reply};
+use std::alloc::{AllocError, Global};
+
+/// The answer to one request: the bytes of its reply, or want of memory, which stands for the reply that says so.
+#[derive(Drop)]
+pub enum Answer {
+    Bytes(Vec<u8>),
+    Memory,
+}
+
+/// The service over a keeper of books, for the operator with a key.
+#[derive(Drop)]
+pub struct Service<K> {
+    keep: K,
+    operator: Secret,
+    router: Router,
+    pub(crate) alloc: Global,
+}
+
+// The answer that tells this.
+fn told(alloc: Global, out: &Out) -> Answer
+    ensures tells { Tells result (out_text out.now) }
+{
+    match write_reply(alloc, out) {
+        Ok(bytes) => Answer::Bytes(bytes),
+        Err(_) => Answer::Memory,
+    }
+}
+
+impl<K: Keep> Service<K> {
+    /// A service over this keeper. Refused only where memory is wanting.
+    pub fn new(alloc: Global, keep: K, operator: Secret) -> Result<Service<K>, AllocError>
+    where
+        K: Drop,
+        ensures keep { IfOk result (λ s. service_keep s ≡ keep) }
+        ensures operator { IfOk result (λ s. service_operator s ≡ operator) }
+    {
+        match Router::new(alloc) {
+            Ok(router) => Ok(Service {
+                keep,
+                operator,
+                router,
+                alloc,
+            }),
+            Err(_) => Err(AllocError),
+        }
+    }
+
+    // Shows what receipts stand for.
+    fn show(&mut self, stamp: &Stamp, book: Number, receipts: &Receipts) -> Answer
+        ensures honest { K.honest (service_keep self.new) → K.honest (service_keep self.old) }
+        ensures acted { Of K.stands K.honest (service_keep self.old) (service_keep self.new) (λ h. (bytes : List ℕ) → Reads bytes (Ok (record { book = book; caller = Bearer (Held receipts.now) }))
+            → IsActed (K.steady (service_keep self.old)) (service_operator self.old) h stamp.now bytes (answer_bytes result) (K.stands (service_keep self.new))) }
+        ensures steady { K.steady (service_keep self.old) → K.steady (service_keep self.new) }
+        ensures operator { service_operator self.new ≡ service_operator self.old }
+    {
+        let mut writer = Writing::new(Vec::new(self.alloc));
+        let day = stamp.day.day();
+        match held(&mut self.keep, book, receipts.as_slice(), day, &mut writer) {
+            Ok(()) => told(self.alloc, &Out::Plain(writer.into_inner())),
+            Err(ViewFault::NoSuchPledge) => Answer::Memory,
+            Err(ViewFault::NoSuchReceipt) => {
+                told(self.alloc, &Out::Refused(Refusal::NoSuchReceipt))
+            }
+            Err(ViewFault::Store) => told(self.alloc, &Out::Refused(Refusal::Store)),
+            // The text is built in memory, so a failed write is want of it.
+            Err(ViewFault::Memory) => Answer::Memory,
+            Err(ViewFault::Write) => Answer::Memory,
+        }
+    }
+
+    // Answers what a bearer asks.
+    fn answer_bearer(&mut self, stamp: &Stamp, book: Number, asked: &BearerRequest) -> Answer
+        ensures honest { K.honest (service_keep self.new) → K.honest (service_keep self.old) }
+        ensures acted { Of K.stands K.honest (service_keep self.old) (service_keep self.new) (λ h. (bytes : List ℕ) → Reads bytes (Ok (record { book = book; caller = Bearer asked.now }))
+            → IsActed (K.steady (service_keep self.old)) (service_operator self.old) h stamp.now bytes (answer_bytes result) (K.stands (service_keep self.new))) }
+        ensures steady { K.steady (service_keep self.old) → K.steady (service_keep self.new) }
+        ensures operator { service_operator self.new ≡ service_operator self.old }
+    {
+        match asked {
+            BearerRequest::Held(receipts) => self.show(stamp, book, receipts),
+        }
+    }
+
+    // Acts on a request that may change its book. The reply is built before the change is made.
+    fn act(&mut self, stamp: &Stamp, request: &Request) -> Answer
+        requires written { IsWritten request.now.caller }
+        ensures honest { K.honest (service_keep self.new) → K.honest (service_keep self.old) }
+        ensures acted { Of K.stands K.honest (service_keep self.old) (service_keep self.new) (λ h. (bytes : List ℕ) → Reads bytes (Ok request.now)
+            → IsActed (K.steady (service_keep self.old)) (service_operator self.old) h stamp.now bytes (answer_bytes result) (K.stands (service_keep self.new))) }
+        ensures steady { K.steady (service_keep self.old) → K.steady (service_keep self.new) }
+        ensures operator { service_operator self.new ≡ service_operator self.old }
+    {
+        match plan(self.alloc, &mut self.keep, self.operator, stamp, request) {
+            Err(refusal) => told(self.alloc, &Out::Refused(refusal)),
+            Ok(planned) => match write_reply(self.alloc, &Out::Done(planned.reply)) {
+                Err(_) => Answer::Memory,
+                Ok(reply) => match commit(&mut self.keep, &planned) {
+                    Ok(()) => Answer::Bytes(reply),
+                    Err(refusal) => told(self.alloc, &Out::Refused(refusal)),
+                },
+            },
+        }
+    }
+
+    /// Answers one whole request.
+    pub fn answer_one(&mut self, stamp: &Stamp, bytes: &[u8]) -> Answer
+        ensures honest { K.honest (service_keep self.new) → K.honest (service_keep self.old) }
+        ensures acted { Of K.stands K.honest (service_keep self.old) (service_keep self.new) (λ h.
+            IsActed (K.steady (service_keep self.old)) (service_operator self.old) h stamp.now bytes.now (answer_bytes result) (K.stands (service_keep self.new))) }
+        ensures steady { K.steady (service_keep self.old) → K.steady (service_keep self.new) }
+        ensures operator { service_operator self.new ≡ service_operator self.old }
+    {
+        let request = match read_request(self.alloc, &self.router, bytes) {
+            Ok(request) => request,
+            Err(fault) => return told(self.alloc, &Out::Fault(fault)),
+        };
+        match &request.caller {
+            Caller::Operator { .. } => self.act(stamp, &request),
+            Caller::Broker { .. } => self.act(stamp, &request),
+            Caller::Bearer(asked) => self.answer_bearer(stamp, request.book, asked),
+        }
+    }
+
+    /// Answers these items in their order. Where there is no room for the answers, nothing was done.
+    pub fn run(&mut self, items: &[(Stamp, Vec<u8>)]) -> Result<Vec<Answer>, AllocError>
+        ensures honest { K.honest (service_keep self.new) → K.honest (service_keep self.old) }
+        ensures run { IfOk result (λ answers. Of K.stands K.honest (service_keep self.old) (service_keep self.new) (λ h.
+            IsRun (K.steady (service_keep self.old)) (service_operator self.old) h (map (λ p. (p.0, p.1.items)) items.now) (map answer_bytes answers.items) (K.stands (service_keep self.new)))) }
+        ensures steady { K.steady (service_keep self.old) → K.steady (service_keep self.new) }
+        ensures err { OnErr result (self.new ≡ self.old) }
+    {
+        let mut answers = Vec::with_capacity(self.alloc, items.len())?;
+        for item in items {
+            let answer = self.answer_one(&item.0, item.1.as_slice());
+            answers.push_reserved(answer);
+        }
+        Ok(answers)
+    }
+}

@@ -1,0 +1,297 @@
+//! One connection: requests are read, answered and their replies written, one after the other.
+ghost use Rattle.std.specs.Prelude.{◌≡◌, ◌≢◌, ◌+◌, ◌<◌, ◌≤◌, ◌++◌, [], true, false, length, drop, IfSome, IfErr, IfOk, vec_len, ◌*◌, ◌^◌};
+ghost use Rattle.std.specs.Io.KnownBytes.{Keeps, prepend_known};
+ghost use Rattle.pawn_book.specs.Keeping.{Of};
+ghost use Rattle.pawn_view.specs.Ends.{write_failed, written_of};
+ghost use Rattle.pawn_host.specs.Ends.{reads, read_failed, left_of};
+ghost use Rattle.pawn_host.specs.Finding.{IsFilled, Finds, FindsRest, HasHead, IfRequest, IsCausedBy, StopsBy, FilledBy};
+ghost use Rattle.pawn_host.specs.Session.{IsSession, IsFinished};
+ghost use Rattle.pawn_host.specs.Keeps.{service_keep, service_operator, answer_bytes};
+
+use crate::reading::{MOST_READS, Reading};
+use crate::service::{Answer, Service};
+use pawn_book::{Keep, Stamp};
+use pawn_view::{Writing, send};
+use pawn_wire::{HeadFacts, HeadFault, HeadRead, fault_reply, memory_reply, read_head};
+use std::io::{Read, Write};
+
+/// How a session ended.
+#[derive(Clone, Copy, Debug, PartialEq, Eq)]
+pub enum How {
+    /// The stream ended between two requests.
+    End,
+    /// The stream ended inside a request.
+    Cut,
+    /// A request asked for the connection to be closed after its reply, or was one of HTTP/1.0.
+    Closed,
+    /// No request can begin with the rest, and its fault was replied.
+    Faulted,
+    /// 1,000 requests were answered.
+    Limit,
+    /// A further request is there, and no stamp for it.
+    NoStamp,
+    /// There is no memory for a further request, and that was replied.
+    Memory,
+}
+
+/// A session that ended: how, and after how many requests.
+#[derive(Clone, Copy, Debug, PartialEq, Eq)]
+pub struct Ended {
+    pub how: How,
+    pub acted: u32,
+}
+
+/// Why a session was broken off.
+#[derive(Clone, Copy, Debug, PartialEq, Eq)]
+pub enum Cause {
+    /// A read failed.
+    Read,
+    /// A write failed.
+    Write,
+    /// 100,000 reads were made.
+    Reads,
+}
+
+/// A session that was broken off: why, after how many requests, and how many bytes of what was due went out.
+#[derive(Clone, Copy, Debug, PartialEq, Eq)]
+pub struct IoFault {
+    pub cause: Cause,
+    pub acted: u32,
+    pub sent: u128,
+}
+
+// What a read into the buffer did.
+#[derive(Clone, Copy)]
+enum Filled {
+    More,
+    Done,
+    Failed,
+    OutOfReads,
+    NoRoom,
+}
+
+// What was found on the stream.
+#[derive(Clone, Copy)]
+enum Found {
+    Request(HeadFacts),
+    AtEnd,
+    CutOff,
+    Faulty(HeadFault),
+    NoMemory,
+    Stopped(Cause),
+}
+
+// One read, added to the buffer.
+fn fill<R: Read>(reader: &mut Reading<R>, buffer: &mut Vec<u8>) -> Filled
+    ensures filled { IsFilled result (left_of R.remaining reader.old) (left_of R.remaining reader.new) buffer.old.items buffer.new.items }
+    ensures by { FilledBy result (read_failed reader.new) (reads reader.old) (reads reader.new) }
+{
+    if reader.reads() >= MOST_READS {
+        return Filled::OutOfReads;
+    }
+    let mut piece = [0u8; 8192];
+    let Ok(n) = reader.read(&mut piece) else {
+        return Filled::Failed;
+    };
+    if n == 0 {
+        return Filled::Done;
+    }
+    match buffer.extend_from_slice(&piece[..n]) {
+        Ok(()) => Filled::More,
+        Err(_) => Filled::NoRoom,
+    }
+}
+
+// Reads until a whole head is in the buffer.
+fn await_head<R: Read>(reader: &mut Reading<R>, buffer: &mut Vec<u8>) -> Found
+    ensures head { IfRequest result (HasHead buffer.new.items) }
+    ensures small { IfRequest result (λ h. h.len + h.body ≤ 1056768) }
+    ensures kept { IfRequest result (λ _. Keeps (prepend_known buffer.old.items (left_of R.remaining reader.old)) (prepend_known buffer.new.items (left_of R.remaining reader.new))) }
+    ensures rest { IfSome (prepend_known buffer.old.items (left_of R.remaining reader.old)) (λ s. FindsRest s result) }
+    ensures stops { StopsBy result (read_failed reader.new) (reads reader.new) }
+{
+    loop {
+        match read_head(buffer.as_slice()) {
+            HeadRead::Whole(head) => return Found::Request(head),
+            HeadRead::Fault(fault) => return Found::Faulty(fault),
+            HeadRead::Partial => (),
+        }
+        match fill(reader, buffer) {
+            Filled::More => (),
+            Filled::Done => {
+                return if buffer.is_empty() {
+                    Found::AtEnd
+                } else {
+                    Found::CutOff
+                };
+            }
+            Filled::Failed => return Found::Stopped(Cause::Read),
+            Filled::OutOfReads => return Found::Stopped(Cause::Reads),
+            Filled::NoRoom => return Found::NoMemory,
+        }
+    }
+}
+
+// The length of a request with this head.
+fn request_len(head: &HeadFacts) -> usize
+    requires small { head.now.len + head.now.body ≤ 1056768 }
+    ensures answer { result ≡ head.now.len + head.now.body }
+{
+    head.len + head.body
+}
+
+// Reads until the request with this head is in the buffer.
+fn await_body<R: Read>(reader: &mut Reading<R>, buffer: &mut Vec<u8>, head: HeadFacts) -> Found
+    requires head { HasHead buffer.old.items head }
+    requires small { head.len + head.body ≤ 1056768 }
+    ensures small { IfRequest result (λ h. h.len + h.body ≤ 1056768) }
+    ensures buffered { IfRequest result (λ h. h.len + h.body ≤ vec_len buffer.new) }
+    ensures kept { IfRequest result (λ _. Keeps (prepend_known buffer.old.items (left_of R.remaining reader.old)) (prepend_known buffer.new.items (left_of R.remaining reader.new))) }
+    ensures found { IfSome (prepend_known buffer.old.items (left_of R.remaining reader.old)) (λ s. Finds s result) }
+    ensures stops { StopsBy result (read_failed reader.new) (reads reader.new) }
+{
+    let needed = request_len(&head);
+    while buffer.len() < needed {
+        match fill(reader, buffer) {
+            Filled::More => (),
+            Filled::Done => return Found::CutOff,
+            Filled::Failed => return Found::Stopped(Cause::Read),
+            Filled::OutOfReads => return Found::Stopped(Cause::Reads),
+            Filled::NoRoom => return Found::NoMemory,
+        }
+    }
+    Found::Request(head)
+}
+
+// Reads until the next request is in the buffer.
+fn next_request<R: Read>(reader: &mut Reading<R>, buffer: &mut Vec<u8>) -> Found
+    ensures small { IfRequest result (λ h. h.len + h.body ≤ 1056768) }
+    ensures buffered { IfRequest result (λ h. h.len + h.body ≤ vec_len buffer.new) }
+    ensures kept { IfRequest result (λ _. Keeps (prepend_known buffer.old.items (left_of R.remaining reader.old)) (prepend_known buffer.new.items (left_of R.remaining reader.new))) }
+    ensures found { IfSome (prepend_known buffer.old.items (left_of R.remaining reader.old)) (λ s. Finds s result) }
+    ensures stops { StopsBy result (read_failed reader.new) (reads reader.new) }
+{
+    match await_head(reader, buffer) {
+        Found::Request(head) => await_body(reader, buffer, head),
+        other => other,
+    }
+}
+
+// Takes the front off the buffer.
+fn drop_front(buffer: &mut Vec<u8>, n: usize)
+    requires within { n ≤ vec_len buffer.old }
+    ensures rest { buffer.new.items ≡ drop n buffer.old.items }
+{
+    drop(buffer.drain(..n));
+}
+
+/// At most so many requests are answered.
+pub const MOST_REQUESTS: u32 = 1000;
+
+// What is written for an answer.
+fn answer_slice(answer: &Answer) -> &[u8]
+    ensures bytes { result.now ≡ answer_bytes answer.now }
+{
+    match answer {
+        Answer::Bytes(bytes) => bytes.as_slice(),
+        Answer::Memory => memory_reply(),
+    }
+}
+
+// Writes the last text of a session.
+fn finish<W: Write>(
+    writer: &mut Writing<W>,
+    text: &[u8],
+    how: How,
+    acted: u32,
+    sent: u128,
+) -> Result<Ended, IoFault>
+    requires fine { write_failed writer.old ≡ false }
+    requires room { sent ≤ acted * 2 ^ 64 }
+    ensures finished { IsFinished how acted sent text.now (written_of W.contents writer.old) (written_of W.contents writer.new) result }
+    ensures failed { IfErr result (λ fault. write_failed writer.new ≡ true) }
+{
+    let count = send(writer, text);
+    if count < text.len() {
+        return Err(IoFault {
+            cause: Cause::Write,
+            acted,
+            sent: sent + count as u128,
+        });
+    }
+    Ok(Ended { how, acted })
+}
+
+impl<K: Keep> Service<K> {
+    /// Answers the requests of a stream in their order, and writes each reply before the next request is read. A stamp is
+    /// taken for each request once its last byte is there. At most 1,000 requests are answered and 100,000 reads made; no
+    /// failed read or write is tried again.
+    ///
+    /// The caller's conditions: the reader is new, and the writer has not failed.
+    pub fn answer_all<R: Read, W: Write, I: Iterator<Item = Stamp> + Drop>(
+        &mut self,
+        reader: &mut Reading<R>,
+        writer: &mut Writing<W>,
+        mut stamps: I,
+    ) -> Result<Ended, IoFault>
+        requires fresh { reads reader.old ≡ 0 }
+        requires fine { write_failed writer.old ≡ false }
+        requires can { I.can_next stamps }
+        ensures honest { K.honest (service_keep self.new) → K.honest (service_keep self.old) }
+        ensures session { Of K.stands K.honest (service_keep self.old) (service_keep self.new) (λ h. IsSession I.next_gives stamps (K.steady (service_keep self.old)) (service_operator self.old) h
+            (left_of R.remaining reader.old) (K.stands (service_keep self.new)) (written_of W.contents writer.old) (written_of W.contents writer.new) result) }
+        ensures steady { K.steady (service_keep self.old) → K.steady (service_keep self.new) }
+        ensures most { IfOk result (λ ended. ended.acted ≤ 1000) }
+        ensures cause { IfErr result (λ fault. IsCausedBy fault.cause (read_failed reader.new) (reads reader.new) (write_failed writer.new)) }
+    {
+        let mut buffer = Vec::new(self.alloc);
+        let mut sent = 0u128;
+        for acted in 0..MOST_REQUESTS {
+            let head = match next_request(reader, &mut buffer) {
+                Found::Request(head) => head,
+                Found::AtEnd => return Ok(Ended {
+                    how: How::End,
+                    acted,
+                }),
+                Found::CutOff => return Ok(Ended {
+                    how: How::Cut,
+                    acted,
+                }),
+                Found::Faulty(fault) => {
+                    return finish(writer, fault_reply(fault), How::Faulted, acted, sent);
+                }
+                Found::NoMemory => return finish(writer, memory_reply(), How::Memory, acted, sent),
+                Found::Stopped(cause) => return Err(IoFault { cause, acted, sent }),
+            };
+            let Some(stamp) = stamps.next() else {
+                return Ok(Ended {
+                    how: How::NoStamp,
+                    acted,
+                });
+            };
+            let needed = request_len(&head);
+            let answer = self.answer_one(&stamp, &buffer[..needed]);
+            let text = answer_slice(&answer);
+            let count = send(writer, text);
+            sent += count as u128;
+            if count < text.len() {
+                return Err(IoFault {
+                    cause: Cause::Write,
+                    acted: acted + 1,
+                    sent,
+                });
+            }
+            if head.closes {
+                return Ok(Ended {
+                    how: How::Closed,
+                    acted: acted + 1,
+                });
+            }
+            drop_front(&mut buffer, needed);
+        }
+        Ok(Ended {
+            how: How::Limit,
+            acted: MOST_REQUESTS,
+        })
+    }
+}

@@ -1,0 +1,6 @@
+pub mod EndsLemmas
+pub mod PutLemmas
+pub mod ShareLemmas
+pub mod SoundLemmas
+pub mod StatementLemmas
+pub mod HeldLemmas

@@ -1,0 +1,18 @@
+use Rattle.std.specs.FinMap.{get}
+use Rattle.std.specs.Prelude.{is_ok}
+use Rattle.pawn_book.specs.BookStep.{pledge_in, live_at}
+use Rattle.pawn_book.proofs.Reading.{reads_as, reads_then}
+use Rattle.pawn_view.proofs.HeldLemmas.{held_goes_on, held_stops}
+use Rattle.pawn_view.proofs.receipts.put_held.Goals as goal
+
+pub returns-in-Ok-clause-shares : goal.returns-in-Ok-clause-shares
+returns-in-Ok-clause-shares g c =
+    reads_then c.put_shown.ensures.shares c.put_further.ensures.shares (λ h sound first rest.
+    held_goes_on g.W.Write.contents c.args.writer.now c.put_shown.new.writer c.put_further.new.writer c.args.day (live_at (pledge_in (get h.books c.args.book))) c.args.receipts.now c.first-item.result (is_ok c.put_further.result)
+    c.in-len1-up.len_at_least c.first-item.is (rw c.in-Ok.is at first) rest)
+
+pub returns-in-Err-clause-shares : goal.returns-in-Err-clause-shares
+returns-in-Err-clause-shares g c =
+    reads_as c.put_shown.ensures.shares (λ h sound first.
+    held_stops g.W.Write.contents c.args.writer.now c.put_shown.new.writer c.args.day (live_at (pledge_in (get h.books c.args.book))) c.args.receipts.now c.first-item.result
+    c.in-len1-up.len_at_least c.first-item.is (rw c.in-Err.is at first))

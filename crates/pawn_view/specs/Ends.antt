@@ -1,0 +1,40 @@
+-- What clauses read of a `Writing`, and what it is to have written a text.
+use Rattle.std.specs.Prelude.{ℕ, Bool, true, false, not, List, [], ◌∷◌, ◌++◌, ◌==◌, ◌≡◌, Option, Result, Ok, Err}
+use Rattle.std.specs.Io.KnownBytes.{Appends}
+use Rattle.pawn_view.specs.declared.writing.Writing.{Writing}
+
+-- the writer inside
+abbrev pub writing_inner : {W : Type 0} → Writing W → W
+writing_inner w = w.inner
+
+-- a write gave an error, or took none of some bytes
+abbrev pub write_failed : {W : Type 0} → Writing W → Bool
+write_failed w = w.failed
+
+-- the bytes that were written, where the writer tells them
+abbrev pub written_of : {W : Type 0} → (W → Option (List ℕ)) → Writing W → Option (List ℕ)
+written_of contents w = contents w.inner
+
+-- an error, or none of some bytes taken
+abbrev pub is_write_failure : {E : Type 0} → Result ℕ E → List ℕ → Bool
+is_write_failure (Err e) bytes = true
+is_write_failure (Ok n) [] = false
+is_write_failure (Ok n) (b ∷ bytes) = n == 0
+
+-- a front of the text went out, and this is what the writer is then
+abbrev pub PutFront : {W : Type 0} → (W → Option (List ℕ)) → Writing W → List ℕ → Bool → Writing W → Type 0
+PutFront contents old text failed new =
+    (out : List ℕ) × (rest : List ℕ) × (out ++ rest ≡ text) × Appends (written_of contents old) (written_of contents new) out × (write_failed new ≡ failed)
+
+-- the text went out, or a front of it where the writer failed
+abbrev pub Written : {W : Type 0} → (W → Option (List ℕ)) → Writing W → List ℕ → Bool → Writing W → Type 0
+Written contents old text true new = Appends (written_of contents old) (written_of contents new) text × (write_failed new ≡ false)
+Written contents old text false new = PutFront contents old text true new
+
+-- the text went out, or a front of it where the writer failed; nothing was written by one that had failed before
+abbrev pub PutsFrom : {W : Type 0} → Bool → (W → Option (List ℕ)) → Writing W → List ℕ → Writing W → Type 0
+PutsFrom true contents old text new = new ≡ old
+PutsFrom false contents old text new = Written contents old text (not (write_failed new)) new
+
+abbrev pub Puts : {W : Type 0} → (W → Option (List ℕ)) → Writing W → List ℕ → Writing W → Type 0
+Puts contents old text new = PutsFrom (write_failed old) contents old text new

@@ -1,0 +1,17 @@
+-- How a text ends.
+use Rattle.std.specs.Prelude.{Bool, true, false, Result, Ok, Err}
+use Rattle.pawn_book.specs.declared.fault.KeepError.{KeepError}
+use Rattle.pawn_book.specs.declared.fault.KeepError.TheVariants as error
+use Rattle.pawn_view.specs.declared.fault.ViewFault.{ViewFault}
+use Rattle.pawn_view.specs.declared.fault.ViewFault.TheVariants as fault
+
+-- the fault of a text whose keeper did not answer
+abbrev pub view_fault : KeepError → ViewFault
+view_fault error.Memory = fault.Memory
+view_fault (error.Store why) = fault.Store
+
+-- how a text ends, by the keeper's last answer and by whether the writer failed
+abbrev pub ending_of : Result (Unit {0}) KeepError → Bool → Result (Unit {0}) ViewFault
+ending_of done true = Err fault.Write
+ending_of (Ok u) false = Ok u
+ending_of (Err error) false = Err (view_fault error)

@@ -1,0 +1,4 @@
+pub mod Ends
+pub mod Fault
+pub mod Text
+pub mod Shown

@@ -1,0 +1,63 @@
+-- What a call that writes a text answers.
+use Rattle.std.specs.Prelude.{ℕ, Bool, true, false, max, List, [], ◌++◌, Option, Some, None, Result, Ok, Err, ◌≡◌, map, option_map, unwrap_or, if◌then◌else◌}
+use Rattle.std.specs.FinMap.{get}
+use Rattle.pawn_pledge.specs.declared.receipt.Receipt.{Receipt}
+use Rattle.pawn_pledge.specs.declared.record.Closing.{Closing}
+use Rattle.pawn_pledge.specs.declared.record.Closing.TheVariants.{Open, Redeemed, Sold}
+use Rattle.pawn_pledge.specs.Pledge.{PledgeValue}
+use Rattle.pawn_book.specs.declared.visit.Flow.{Flow}
+use Rattle.pawn_book.specs.declared.visit.Flow.TheVariants.{Go, Stop}
+use Rattle.pawn_book.specs.BookStep.{pledge_in, live_at, are_unknown}
+use Rattle.pawn_book.specs.HostStep.{Host}
+use Rattle.pawn_view.specs.declared.writing.Writing.{Writing}
+use Rattle.pawn_view.specs.declared.fault.ViewFault.{ViewFault}
+use Rattle.pawn_view.specs.declared.fault.ViewFault.TheVariants as fault
+use Rattle.pawn_view.specs.Ends.{PutFront, Written, Puts, write_failed}
+use Rattle.pawn_view.specs.Text.{statement_text, held_text}
+
+-- a visitor that is a writer: it puts a line for each item, and stops once it failed
+abbrev pub PutsLine : {W T : Type 0} → (W → Option (List ℕ)) → (T → List ℕ) → Writing W → T → Flow → Writing W → Type 0
+PutsLine contents line v x flow w = Puts contents v (line x) w × (flow ≡ (if write_failed w then Stop else Go))
+
+-- the day that is shown, where a closed pledge was closed by its last change
+abbrev pub open_or_last : Closing → ℕ → ℕ → ℕ
+open_or_last Open last day = max day last
+open_or_last (Redeemed closed paid) last day = last
+open_or_last (Sold closed net) last day = last
+
+-- a front of the text was put, and all of it where the calls on the way succeeded and the writer has not failed
+abbrev pub PutsShare : {W : Type 0} → (W → Option (List ℕ)) → Writing W → List ℕ → Bool → Writing W → Type 0
+PutsShare contents old text ok new =
+    (out : List ℕ) × (rest : List ℕ) × (out ++ rest ≡ text) × Puts contents old out new × (write_failed new ≡ false → ok ≡ true → rest ≡ [])
+
+-- the pledge of a number in a book of the host
+abbrev pub pledge_at : Host → ℕ → ℕ → Option PledgeValue
+pledge_at h book number = pledge_in (get h.books book) number
+
+-- the pledges of these receipts, as far as the receipts are live in the book
+abbrev pub live_pledges : Host → ℕ → List Receipt → List (Option PledgeValue)
+live_pledges h book receipts = map (live_at (pledge_in (get h.books book))) receipts
+
+-- the statement of a pledge, if it stands
+abbrev pub statement_of : Host → ℕ → ℕ → ℕ → Option (List ℕ)
+statement_of h book number day = option_map (statement_text day) (pledge_at h book number)
+
+-- what is shown for receipts, if one of them is live
+abbrev pub held_of : Host → ℕ → List Receipt → ℕ → Option (List ℕ)
+held_of h book receipts day =
+    if are_unknown (live_pledges h book receipts) then None else Some (held_text day (live_pledges h book receipts))
+
+-- the text went out, or why not all of it. A refusal writes nothing, and comes just where there is nothing to show;
+-- where the writer failed, or the keeper wanted memory or failed, a front of the text went out
+abbrev pub Shows : {W U : Type 0} → (W → Option (List ℕ)) → ViewFault → Writing W → Option (List ℕ) → Result U ViewFault → Writing W → Type 0
+Shows contents missing old text (Ok u) new = (t : List ℕ) × (text ≡ Some t) × Written contents old t true new
+Shows contents missing old text (Err fault.Write) new = (t : List ℕ) × (text ≡ Some t) × Written contents old t false new
+Shows contents missing old text (Err fault.Memory) new = PutFront contents old (unwrap_or text []) false new
+Shows contents missing old text (Err fault.Store) new = PutFront contents old (unwrap_or text []) false new
+Shows contents missing old text (Err fault.NoSuchPledge) new = (missing ≡ fault.NoSuchPledge) × (text ≡ None) × (new ≡ old)
+Shows contents missing old text (Err fault.NoSuchReceipt) new = (missing ≡ fault.NoSuchReceipt) × (text ≡ None) × (new ≡ old)
+
+-- over a steady keeper no text is refused by a fault of the store
+pub record IsQuietView {K U : Type 0} (steady : K → Type 0) (old new : K) (result : Result U ViewFault) : Type 0 where
+  pub stays : steady old → steady new
+  pub never : steady old → result ≡ Err fault.Store → ⊥

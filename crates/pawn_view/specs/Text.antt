@@ -1,0 +1,149 @@
+-- The texts, line by line. Days are day numbers, amounts are pence.
+use Rattle.std.specs.Prelude.{ℕ, ◌/◌, ◌-◌, max, Bool, true, false, List, [], ◌∷◌, ◌++◌, Option, Some, None, codes, decimal}
+use Rattle.std.specs.List.{flat_map}
+use Rattle.pawn_terms.specs.Calendar.{digit, day_text}
+use Rattle.pawn_debt.specs.declared.entry.Kind.{Kind}
+use Rattle.pawn_debt.specs.declared.entry.Kind.TheVariants.{Fixed, Running}
+use Rattle.pawn_debt.specs.declared.entry.Entry.{Entry}
+use Rattle.pawn_debt.specs.declared.entry.Sort.{Sort}
+use Rattle.pawn_debt.specs.declared.entry.Sort.TheVariants.{Draw, Repay}
+use Rattle.pawn_debt.specs.declared.owing.Owing.{Owing}
+use Rattle.pawn_debt.specs.Due.{due}
+use Rattle.pawn_debt.specs.Owing.{owing_of}
+use Rattle.pawn_pledge.specs.declared.record.Extension.{Extension}
+use Rattle.pawn_pledge.specs.declared.record.Booking.{Booking}
+use Rattle.pawn_pledge.specs.declared.record.BookingState.{BookingState}
+use Rattle.pawn_pledge.specs.declared.record.BookingState.TheVariants as state
+use Rattle.pawn_pledge.specs.declared.record.Closing.{Closing}
+use Rattle.pawn_pledge.specs.declared.record.Closing.TheVariants.{Open, Redeemed, Sold}
+use Rattle.pawn_pledge.specs.declared.record.Status.{Status}
+use Rattle.pawn_pledge.specs.declared.record.Status.TheVariants as status
+use Rattle.pawn_pledge.specs.Pledge.{PledgeValue, end_of, debt_of, status_of}
+
+-- pounds, a point and two digits of pence
+abbrev pub money : ℕ → List ℕ
+money pence = decimal (pence / 100) ++ (codes "." ++ (digit (pence / 10) ∷ digit pence ∷ []))
+
+-- a day as `2024-01-31`
+unfoldable pub date_text : ℕ → List ℕ
+date_text day = day_text day
+
+abbrev pub pledge_line : ℕ → List ℕ
+pledge_line number = codes "Pledge " ++ (decimal number ++ codes "\n")
+
+abbrev pub article_line : List ℕ → List ℕ
+article_line article = codes "Article " ++ (article ++ codes "\n")
+
+-- the sum, or the limit
+abbrev pub kind_line : Kind → List ℕ
+kind_line (Fixed sum) = codes "Kind fixed " ++ (money sum ++ codes "\n")
+kind_line (Running limit) = codes "Kind running " ++ (money limit ++ codes "\n")
+
+abbrev pub taken_line : ℕ → List ℕ
+taken_line day = codes "Taken " ++ (date_text day ++ codes "\n")
+
+abbrev pub ends_line : ℕ → List ℕ
+ends_line day = codes "Ends " ++ (date_text day ++ codes "\n")
+
+abbrev pub extended_line : Extension → List ℕ
+extended_line e = codes "Extended " ++ (date_text e.day ++ (codes " to " ++ (date_text e.until ++ codes "\n")))
+
+abbrev pub status_line : Status → List ℕ
+status_line status.Inside = codes "Status inside\n"
+status_line status.Grace = codes "Status grace\n"
+status_line status.Realisable = codes "Status realisable\n"
+status_line status.Passed = codes "Status passed\n"
+status_line status.Redeemed = codes "Status redeemed\n"
+status_line status.Sold = codes "Status sold\n"
+
+abbrev pub principal_line : ℕ → List ℕ
+principal_line pence = codes "Principal " ++ (money pence ++ codes "\n")
+
+abbrev pub charges_line : ℕ → List ℕ
+charges_line pence = codes "Charges " ++ (money pence ++ codes "\n")
+
+abbrev pub owing_line : ℕ → List ℕ
+owing_line pence = codes "Owing " ++ (money pence ++ codes "\n")
+
+-- what is owed, absent where the property passed
+abbrev pub owed_lines : Status → Owing → List ℕ
+owed_lines status.Passed owing = []
+owed_lines _ owing = principal_line owing.principal ++ (charges_line owing.charges ++ owing_line owing.total)
+
+abbrev pub held_line : Bool → List ℕ
+held_line true = codes "Held yes\n"
+held_line false = codes "Held no\n"
+
+abbrev pub state_word : BookingState → List ℕ
+state_word state.Asked = codes "asked"
+state_word state.Confirmed = codes "confirmed"
+state_word state.Refused = codes "refused"
+state_word state.Cancelled = codes "cancelled"
+
+abbrev pub booking_line : Option Booking → List ℕ
+booking_line None = codes "Booking none\n"
+booking_line (Some b) =
+    codes "Booking " ++ (date_text b.day ++ (codes " " ++ (decimal b.window ++ (codes " " ++ (state_word b.state ++ codes "\n")))))
+
+abbrev pub redeemed_line : ℕ → ℕ → List ℕ
+redeemed_line day paid = codes "Redeemed " ++ (date_text day ++ (codes " paid " ++ (money paid ++ codes "\n")))
+
+abbrev pub sold_line : ℕ → ℕ → ℕ → ℕ → List ℕ
+sold_line day net surplus shortfall =
+    codes "Sold " ++ (date_text day ++ (codes " net " ++ (money net
+    ++ (codes " surplus " ++ (money surplus ++ (codes " shortfall " ++ (money shortfall ++ codes "\n")))))))
+
+-- how a pledge was closed, if it was; `total` is what was owed on that day
+abbrev pub closing_line : Closing → ℕ → List ℕ
+closing_line Open total = []
+closing_line (Redeemed day paid) total = redeemed_line day paid
+closing_line (Sold day net) total = sold_line day net (net - total) (total - net)
+
+abbrev pub sort_word : Sort → List ℕ
+sort_word Draw = codes " draw "
+sort_word Repay = codes " repay "
+
+abbrev pub entry_line : Entry → List ℕ
+entry_line e = codes "Entry " ++ (decimal e.seq ++ (codes " " ++ (date_text e.day ++ (sort_word e.sort ++ (money e.pence ++ codes "\n")))))
+
+-- the day of which a statement speaks: the closing day of a closed pledge, else the day given, or the last change where that is later
+abbrev pub shown_day : Closing → ℕ → ℕ → ℕ
+shown_day Open last day = max day last
+shown_day (Redeemed closed paid) last day = closed
+shown_day (Sold closed net) last day = closed
+
+-- the lines above the extensions: number, article, kind, day taken, end of the period
+abbrev pub first_lines : ℕ → List ℕ → Kind → ℕ → ℕ → List ℕ
+first_lines number article kind taken ends =
+    pledge_line number ++ (article_line article ++ (kind_line kind ++ (taken_line taken ++ ends_line ends)))
+
+-- the lines between the extensions and the entries
+abbrev pub state_lines : Status → Owing → Bool → Option Booking → Closing → List ℕ
+state_lines status owing held booking closing =
+    status_line status ++ (owed_lines status owing ++ (held_line held ++ (booking_line booking ++ closing_line closing owing.total)))
+
+-- how a pledge stands on a day
+abbrev pub state_on : ℕ → PledgeValue → List ℕ
+state_on day p = state_lines (status_of p day) (owing_of (due (debt_of p) day)) p.held p.booking p.closing
+
+-- a pledge's statement, asked for on a day
+abbrev pub statement_text : ℕ → PledgeValue → List ℕ
+statement_text day p =
+    first_lines p.number p.article p.kind p.taken (end_of p)
+    ++ (flat_map extended_line p.extensions
+    ++ (state_on (shown_day p.closing p.last day) p
+    ++ flat_map entry_line p.entries))
+
+-- a pledge's statement, or the line of an unknown receipt
+abbrev pub shown_text : ℕ → Option PledgeValue → List ℕ
+shown_text day None = codes "Unknown receipt\n"
+shown_text day (Some p) = statement_text day p
+
+-- a blank line above each
+abbrev pub further_texts : ℕ → List (Option PledgeValue) → List ℕ
+further_texts day pledges = flat_map (λ p. codes "\n" ++ shown_text day p) pledges
+
+-- what is shown for each receipt in order, a blank line between two
+abbrev pub held_text : ℕ → List (Option PledgeValue) → List ℕ
+held_text day [] = []
+held_text day (p ∷ ps) = shown_text day p ++ further_texts day ps

@@ -1,0 +1,17 @@
+//! The texts of a book's pledges, written line by line to any writer.
+#![tactic(auto)]
+
+mod fault;
+mod lines;
+mod money;
+mod receipts;
+mod statements;
+mod writing;
+
+pub use fault::ViewFault;
+pub use receipts::held;
+pub use statements::statement;
+pub use writing::{Writing, put, put_all, send};
+
+#[cfg(test)]
+mod tests;

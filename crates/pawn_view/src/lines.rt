@@ -1,0 +1,282 @@
+//! The lines of a statement: one function for each kind of line.
+//!
+//! Each puts its line, and takes no memory.
+ghost use Rattle.std.specs.Prelude.{◌≡◌, ◌++◌, codes};
+ghost use Rattle.pawn_view.specs.Ends.{Puts};
+ghost use Rattle.pawn_view.specs.Text.{pledge_line, article_line, kind_line, taken_line, ends_line, extended_line, status_line, principal_line, charges_line, owing_line, owed_lines, held_line, booking_line, redeemed_line, sold_line, closing_line, entry_line, sort_word, state_word, date_text, money};
+
+use crate::money::pence_text;
+use crate::writing::{Writing, put, put_all};
+use itoa::Buffer;
+use pawn_book::{Booking, BookingState, Closing, Day, Entry, Extension, Kind, Owing, Sort, Status};
+use std::io::Write;
+
+// `2024-01-31`.
+#[tactic(auto, unfolding(crate::specs::Text::date_text))]
+fn date_text(day: Day) -> [u8; 10]
+    ensures answer { result ≡ date_text day }
+{
+    day.text()
+}
+
+/// `Pledge 1`.
+pub(crate) fn put_pledge<W: Write>(writer: &mut Writing<W>, number: u32)
+    ensures puts { Puts W.contents writer.old (pledge_line number) writer.new }
+{
+    put_all(
+        writer,
+        &[b"Pledge ", Buffer::new().format(number).as_bytes(), b"\n"],
+    );
+}
+
+/// `Article Gold ring`.
+pub(crate) fn put_article<W: Write>(writer: &mut Writing<W>, article: &str)
+    ensures puts { Puts W.contents writer.old (article_line article.now) writer.new }
+{
+    put_all(writer, &[b"Article ", article.as_bytes(), b"\n"]);
+}
+
+// A line with an amount at its end.
+fn put_amount<W: Write>(writer: &mut Writing<W>, label: &[u8], pence: u64)
+    ensures puts { Puts W.contents writer.old (label.now ++ (money pence ++ codes "\n")) writer.new }
+{
+    put_all(
+        writer,
+        &[
+            label,
+            Buffer::new().format(pence / 100).as_bytes(),
+            &pence_text(pence),
+            b"\n",
+        ],
+    );
+}
+
+/// `Kind fixed 100.00`, the sum; `Kind running 100.00`, the limit.
+pub(crate) fn put_kind<W: Write>(writer: &mut Writing<W>, kind: Kind)
+    ensures puts { Puts W.contents writer.old (kind_line kind) writer.new }
+{
+    match kind {
+        Kind::Fixed(sum) => put_amount(writer, b"Kind fixed ", sum),
+        Kind::Running(limit) => put_amount(writer, b"Kind running ", limit),
+    }
+}
+
+/// `Taken 2024-01-31`.
+pub(crate) fn put_taken<W: Write>(writer: &mut Writing<W>, day: Day)
+    ensures puts { Puts W.contents writer.old (taken_line day) writer.new }
+{
+    put_all(writer, &[b"Taken ", &date_text(day), b"\n"]);
+}
+
+/// `Ends 2024-07-31`.
+pub(crate) fn put_ends<W: Write>(writer: &mut Writing<W>, day: Day)
+    ensures puts { Puts W.contents writer.old (ends_line day) writer.new }
+{
+    put_all(writer, &[b"Ends ", &date_text(day), b"\n"]);
+}
+
+/// `Extended 2024-07-31 to 2024-09-30`.
+pub(crate) fn put_extended<W: Write>(writer: &mut Writing<W>, extension: &Extension)
+    ensures puts { Puts W.contents writer.old (extended_line extension.now) writer.new }
+{
+    put_all(
+        writer,
+        &[
+            b"Extended ",
+            &date_text(extension.day),
+            b" to ",
+            &date_text(extension.until),
+            b"\n",
+        ],
+    );
+}
+
+// The line of a status.
+fn status_line(status: Status) -> &'static [u8]
+    ensures answer { result.now ≡ status_line status }
+{
+    match status {
+        Status::Inside => b"Status inside\n",
+        Status::Grace => b"Status grace\n",
+        Status::Realisable => b"Status realisable\n",
+        Status::Passed => b"Status passed\n",
+        Status::Redeemed => b"Status redeemed\n",
+        Status::Sold => b"Status sold\n",
+    }
+}
+
+/// `Status inside`.
+pub(crate) fn put_status<W: Write>(writer: &mut Writing<W>, status: Status)
+    ensures puts { Puts W.contents writer.old (status_line status) writer.new }
+{
+    put(writer, status_line(status));
+}
+
+// `Principal 100.00`, `Charges 0.00` and `Owing 100.00`.
+fn put_owing<W: Write>(writer: &mut Writing<W>, owing: &Owing)
+    ensures puts { Puts W.contents writer.old (principal_line owing.now.principal ++ (charges_line owing.now.charges ++ owing_line owing.now.total)) writer.new }
+{
+    put_all(
+        writer,
+        &[
+            b"Principal ",
+            Buffer::new().format(owing.principal / 100).as_bytes(),
+            &pence_text(owing.principal),
+            b"\nCharges ",
+            Buffer::new().format(owing.charges / 100).as_bytes(),
+            &pence_text(owing.charges),
+            b"\nOwing ",
+            Buffer::new().format(owing.total / 100).as_bytes(),
+            &pence_text(owing.total),
+            b"\n",
+        ],
+    );
+}
+
+/// The three lines of what is owed, or none where the property passed.
+pub(crate) fn put_owed<W: Write>(writer: &mut Writing<W>, status: Status, owing: &Owing)
+    ensures puts { Puts W.contents writer.old (owed_lines status owing.now) writer.new }
+{
+    match status {
+        Status::Passed => {}
+        _ => put_owing(writer, owing),
+    }
+}
+
+// The line of a hold.
+fn held_line(held: bool) -> &'static [u8]
+    ensures answer { result.now ≡ held_line held }
+{
+    match held {
+        true => b"Held yes\n",
+        false => b"Held no\n",
+    }
+}
+
+/// `Held yes` or `Held no`.
+pub(crate) fn put_held<W: Write>(writer: &mut Writing<W>, held: bool)
+    ensures puts { Puts W.contents writer.old (held_line held) writer.new }
+{
+    put(writer, held_line(held));
+}
+
+// The word of a booking's state.
+fn state_word(state: BookingState) -> &'static [u8]
+    ensures answer { result.now ≡ state_word state }
+{
+    match state {
+        BookingState::Asked => b"asked",
+        BookingState::Confirmed => b"confirmed",
+        BookingState::Refused => b"refused",
+        BookingState::Cancelled => b"cancelled",
+    }
+}
+
+/// `Booking none` or `Booking 2024-03-04 3 asked`.
+pub(crate) fn put_booking<W: Write>(writer: &mut Writing<W>, booking: Option<Booking>)
+    ensures puts { Puts W.contents writer.old (booking_line booking) writer.new }
+{
+    match booking {
+        None => put(writer, b"Booking none\n"),
+        Some(booking) => put_all(
+            writer,
+            &[
+                b"Booking ",
+                &date_text(booking.day),
+                b" ",
+                Buffer::new().format(booking.window).as_bytes(),
+                b" ",
+                state_word(booking.state),
+                b"\n",
+            ],
+        ),
+    }
+}
+
+// `Redeemed 2024-08-01 paid 75.01`.
+fn put_redeemed<W: Write>(writer: &mut Writing<W>, day: Day, paid: u64)
+    ensures puts { Puts W.contents writer.old (redeemed_line day paid) writer.new }
+{
+    put_all(
+        writer,
+        &[
+            b"Redeemed ",
+            &date_text(day),
+            b" paid ",
+            Buffer::new().format(paid / 100).as_bytes(),
+            &pence_text(paid),
+            b"\n",
+        ],
+    );
+}
+
+// `Sold 2024-08-01 net 90.00 surplus 0.00 shortfall 10.00`.
+fn put_sold<W: Write>(writer: &mut Writing<W>, day: Day, net: u64, surplus: u64, shortfall: u64)
+    ensures puts { Puts W.contents writer.old (sold_line day net surplus shortfall) writer.new }
+{
+    put_all(
+        writer,
+        &[
+            b"Sold ",
+            &date_text(day),
+            b" net ",
+            Buffer::new().format(net / 100).as_bytes(),
+            &pence_text(net),
+            b" surplus ",
+            Buffer::new().format(surplus / 100).as_bytes(),
+            &pence_text(surplus),
+            b" shortfall ",
+            Buffer::new().format(shortfall / 100).as_bytes(),
+            &pence_text(shortfall),
+            b"\n",
+        ],
+    );
+}
+
+/// The line of a closed pledge; `total` is what was owed on the closing day, in pence.
+pub(crate) fn put_closing<W: Write>(writer: &mut Writing<W>, closing: Closing, total: u64)
+    ensures puts { Puts W.contents writer.old (closing_line closing total) writer.new }
+{
+    match closing {
+        Closing::Open => {}
+        Closing::Redeemed { day, paid } => put_redeemed(writer, day, paid),
+        Closing::Sold { day, net } => {
+            put_sold(
+                writer,
+                day,
+                net,
+                net.saturating_sub(total),
+                total.saturating_sub(net),
+            )
+        }
+    }
+}
+
+// The word of a drawing or a repayment, between blanks.
+fn sort_word(sort: Sort) -> &'static [u8]
+    ensures answer { result.now ≡ sort_word sort }
+{
+    match sort {
+        Sort::Draw => b" draw ",
+        Sort::Repay => b" repay ",
+    }
+}
+
+/// `Entry 1 2024-01-31 repay 10.00`.
+pub(crate) fn put_entry<W: Write>(writer: &mut Writing<W>, entry: &Entry)
+    ensures puts { Puts W.contents writer.old (entry_line entry.now) writer.new }
+{
+    put_all(
+        writer,
+        &[
+            b"Entry ",
+            Buffer::new().format(entry.seq).as_bytes(),
+            b" ",
+            &date_text(entry.day),
+            sort_word(entry.sort),
+            Buffer::new().format(entry.pence / 100).as_bytes(),
+            &pence_text(entry.pence),
+            b"\n",
+        ],
+    );
+}

@@ -1,0 +1,135 @@
+//! The statements of the receipts that a bearer presents.
+ghost use Rattle.std.specs.Prelude.{◌≡◌, false, true, not, is_ok, option_map, IfOk, IsErrOf, [], ◌∷◌};
+ghost use Rattle.std.specs.FinMap.{get};
+ghost use Rattle.pawn_pledge.specs.Brief.{brief_of};
+ghost use Rattle.pawn_book.specs.BookStep.{pledge_in, live_at, are_unknown};
+ghost use Rattle.pawn_book.specs.Keeping.{Reads, IsSteady};
+ghost use Rattle.pawn_view.specs.Ends.{Puts, write_failed};
+ghost use Rattle.pawn_view.specs.Text.{shown_text, further_texts, held_text};
+ghost use Rattle.pawn_view.specs.Shown.{PutsShare, Shows, IsQuietView, live_pledges, held_of};
+
+use crate::fault::{ViewFault, view_fault};
+use crate::statements::{ending, put_statement};
+use crate::writing::{Writing, put};
+use pawn_book::{Brief, Day, Keep, KeepError, Number, Receipt};
+use std::io::Write;
+
+// The pledge of a receipt, if the receipt is live.
+fn live_brief<K: Keep>(
+    keep: &mut K,
+    book: Number,
+    receipt: &Receipt,
+) -> Result<Option<Brief>, KeepError>
+    ensures reads { Reads K.stands K.honest keep.old keep.new (λ h. IfOk result (λ brief. brief ≡ option_map brief_of (live_at (pledge_in (get h.books book)) receipt.now))) }
+    ensures steady { IsSteady K.steady keep.old keep.new result }
+{
+    match keep.brief(book, receipt.number) {
+        Ok(Some(brief)) if brief.live() == Some(receipt.secret) => Ok(Some(brief)),
+        Ok(_) => Ok(None),
+        Err(error) => Err(error),
+    }
+}
+
+// Whether one of the receipts is live.
+fn is_any_live<K: Keep>(keep: &mut K, book: Number, receipts: &[Receipt]) -> Result<bool, KeepError>
+    ensures reads { Reads K.stands K.honest keep.old keep.new (λ h. IfOk result (λ live. live ≡ not (are_unknown (live_pledges h book receipts.now)))) }
+    ensures steady { IsSteady K.steady keep.old keep.new result }
+{
+    for receipt in receipts {
+        match live_brief(keep, book, receipt) {
+            Ok(Some(_)) => return Ok(true),
+            Ok(None) => {}
+            Err(error) => return Err(error),
+        }
+    }
+    Ok(false)
+}
+
+// Puts the statement of a receipt's pledge, or the line of an unknown receipt.
+fn put_shown<K: Keep, W: Write>(
+    keep: &mut K,
+    book: Number,
+    receipt: &Receipt,
+    day: Day,
+    writer: &mut Writing<W>,
+) -> Result<(), KeepError>
+    ensures shares { Reads K.stands K.honest keep.old keep.new (λ h. PutsShare W.contents writer.old (shown_text day (live_at (pledge_in (get h.books book)) receipt.now)) (is_ok result) writer.new) }
+    ensures steady { IsSteady K.steady keep.old keep.new result }
+{
+    match live_brief(keep, book, receipt) {
+        Ok(Some(brief)) => put_statement(keep, book, receipt.number, &brief, day, writer),
+        Ok(None) => {
+            put(writer, b"Unknown receipt\n");
+            Ok(())
+        }
+        Err(error) => Err(error),
+    }
+}
+
+// Puts what is shown for these receipts, a blank line above each.
+fn put_further<K: Keep, W: Write>(
+    keep: &mut K,
+    book: Number,
+    receipts: &[Receipt],
+    day: Day,
+    writer: &mut Writing<W>,
+) -> Result<(), KeepError>
+    ensures shares { Reads K.stands K.honest keep.old keep.new (λ h. PutsShare W.contents writer.old (further_texts day (live_pledges h book receipts.now)) (is_ok result) writer.new) }
+    ensures steady { IsSteady K.steady keep.old keep.new result }
+{
+    for receipt in receipts {
+        put(writer, b"\n");
+        match put_shown(keep, book, receipt, day, writer) {
+            Ok(()) => {}
+            Err(error) => return Err(error),
+        }
+    }
+    Ok(())
+}
+
+// Puts what is shown for these receipts, a blank line between two.
+fn put_held<K: Keep, W: Write>(
+    keep: &mut K,
+    book: Number,
+    receipts: &[Receipt],
+    day: Day,
+    writer: &mut Writing<W>,
+) -> Result<(), KeepError>
+    ensures shares { Reads K.stands K.honest keep.old keep.new (λ h. PutsShare W.contents writer.old (held_text day (live_pledges h book receipts.now)) (is_ok result) writer.new) }
+    ensures steady { IsSteady K.steady keep.old keep.new result }
+{
+    let [first, rest @ ..] = receipts else {
+        return Ok(());
+    };
+    match put_shown(keep, book, first, day, writer) {
+        Ok(()) => put_further(keep, book, rest, day, writer),
+        Err(error) => Err(error),
+    }
+}
+
+/// Writes what is shown for each of these receipts of a book, in their order and asked for on a day: the statement of
+/// its pledge, or a line where the receipt is not live; a blank line stands between two. The keeper's content stays as
+/// it is.
+///
+/// The caller's condition: the writer has not failed. Errors: `NoSuchReceipt` where none of the receipts is live;
+/// `Memory` and `Store` where the keeper does not answer; `Write` only where the writer failed in the call.
+pub fn held<K: Keep, W: Write>(
+    keep: &mut K,
+    book: Number,
+    receipts: &[Receipt],
+    day: Day,
+    writer: &mut Writing<W>,
+) -> Result<(), ViewFault>
+    requires fine { write_failed writer.old ≡ false }
+    ensures shows { Reads K.stands K.honest keep.old keep.new (λ h. Shows W.contents ViewFault.NoSuchReceipt writer.old (held_of h book receipts.now day) result writer.new) }
+    ensures write { IsErrOf result ViewFault.Write → write_failed writer.new ≡ true }
+    ensures steady { IsQuietView K.steady keep.old keep.new result }
+{
+    match is_any_live(keep, book, receipts) {
+        Ok(true) => {}
+        Ok(false) => return Err(ViewFault::NoSuchReceipt),
+        Err(error) => return Err(view_fault(error)),
+    }
+    let done = put_held(keep, book, receipts, day, writer);
+    ending(done, writer)
+}

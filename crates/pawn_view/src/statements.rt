@@ -1,0 +1,136 @@
+//! The statement of a pledge.
+ghost use Rattle.std.specs.Prelude.{◌≡◌, ◌≤◌, false, true, Some, is_ok, max, IsErrOf};
+ghost use Rattle.pawn_pledge.specs.Pledge.{PledgeValue};
+ghost use Rattle.pawn_pledge.specs.Brief.{brief_of, brief_status, brief_owing};
+ghost use Rattle.pawn_book.specs.Keeping.{Reads, IsSteady};
+ghost use Rattle.pawn_view.specs.Fault.{ending_of};
+ghost use Rattle.pawn_view.specs.Ends.{Puts, write_failed};
+ghost use Rattle.pawn_view.specs.Text.{first_lines, state_lines, statement_text, extended_line, entry_line};
+ghost use Rattle.pawn_view.specs.Shown.{PutsLine, PutsShare, Shows, IsQuietView, pledge_at, statement_of, open_or_last};
+
+use crate::fault::{ViewFault, view_fault};
+use crate::lines::{
+    put_article, put_booking, put_closing, put_ends, put_entry, put_extended, put_held, put_kind,
+    put_owed, put_pledge, put_status, put_taken,
+};
+use crate::writing::Writing;
+use pawn_book::{
+    Brief, Closing, Day, Entry, EntryVisitor, Extension, ExtensionVisitor, Flow, Keep, KeepError,
+    Number,
+};
+use std::io::Write;
+
+impl<W: Write> EntryVisitor for Writing<W> {
+    ghost step = { λ v e flow w. PutsLine W.contents entry_line v e flow w };
+
+    fn visit(&mut self, entry: &Entry) -> Flow {
+        put_entry(self, entry);
+        if self.failed() { Flow::Stop } else { Flow::Go }
+    }
+}
+
+impl<W: Write> ExtensionVisitor for Writing<W> {
+    ghost step = { λ v e flow w. PutsLine W.contents extended_line v e flow w };
+
+    fn visit(&mut self, extension: &Extension) -> Flow {
+        put_extended(self, extension);
+        if self.failed() { Flow::Stop } else { Flow::Go }
+    }
+}
+
+// The lines above the extensions.
+fn put_first<W: Write>(writer: &mut Writing<W>, brief: &Brief)
+    ensures puts { Puts W.contents writer.old (first_lines brief.now.number brief.now.article brief.now.kind brief.now.taken brief.now.ends) writer.new }
+{
+    put_pledge(writer, brief.number().get());
+    put_article(writer, brief.article().as_str());
+    put_kind(writer, brief.kind());
+    put_taken(writer, brief.taken());
+    put_ends(writer, brief.ends());
+}
+
+// The lines between the extensions and the entries.
+fn put_state<W: Write>(writer: &mut Writing<W>, brief: &Brief, day: Day)
+    requires later { brief.now.totals.day ≤ day }
+    ensures puts { Puts W.contents writer.old (state_lines (brief_status brief.now day) (brief_owing brief.now day) brief.now.held brief.now.booking brief.now.closing) writer.new }
+{
+    let status = brief.status(day);
+    let owing = brief.owing(day);
+    put_status(writer, status);
+    put_owed(writer, status, &owing);
+    put_held(writer, brief.is_held());
+    put_booking(writer, brief.booking());
+    put_closing(writer, brief.closing(), owing.total);
+}
+
+// The day of which the statement speaks. What is owed is known from the day of the last entry on, which is never past
+// the day of the last change.
+fn shown_day(brief: &Brief, day: Day) -> Day
+    ensures answer { result ≡ max (open_or_last brief.now.closing brief.now.last day) brief.now.totals.day }
+{
+    let shown = match brief.closing() {
+        Closing::Open => day.max(brief.last()),
+        _ => brief.last(),
+    };
+    shown.max(brief.totals().day)
+}
+
+// Puts the statement of the pledge that this brief is of.
+pub(crate) fn put_statement<K: Keep, W: Write>(
+    keep: &mut K,
+    book: Number,
+    number: Number,
+    brief: &Brief,
+    day: Day,
+    writer: &mut Writing<W>,
+) -> Result<(), KeepError>
+    ensures shares { Reads K.stands K.honest keep.old keep.new (λ h. (p : PledgeValue) → pledge_at h book number ≡ Some p → brief.now ≡ brief_of p
+        → PutsShare W.contents writer.old (statement_text day p) (is_ok result) writer.new) }
+    ensures steady { IsSteady K.steady keep.old keep.new result }
+{
+    put_first(writer, brief);
+    match keep.extensions(book, number, writer) {
+        Ok(()) => {}
+        Err(error) => return Err(error),
+    }
+    put_state(writer, brief, shown_day(brief, day));
+    keep.entries(book, number, writer)
+}
+
+/// Writes the statement of a pledge, asked for on a day. The keeper's content stays as it is.
+///
+/// The caller's condition: the writer has not failed. Errors: `NoSuchPledge`; `Memory` and `Store` where the keeper
+/// does not answer; `Write` only where the writer failed in the call.
+pub fn statement<K: Keep, W: Write>(
+    keep: &mut K,
+    book: Number,
+    number: Number,
+    day: Day,
+    writer: &mut Writing<W>,
+) -> Result<(), ViewFault>
+    requires fine { write_failed writer.old ≡ false }
+    ensures shows { Reads K.stands K.honest keep.old keep.new (λ h. Shows W.contents ViewFault.NoSuchPledge writer.old (statement_of h book number day) result writer.new) }
+    ensures write { IsErrOf result ViewFault.Write → write_failed writer.new ≡ true }
+    ensures steady { IsQuietView K.steady keep.old keep.new result }
+{
+    let brief = match keep.brief(book, number) {
+        Ok(Some(brief)) => brief,
+        Ok(None) => return Err(ViewFault::NoSuchPledge),
+        Err(error) => return Err(view_fault(error)),
+    };
+    let done = put_statement(keep, book, number, &brief, day, writer);
+    ending(done, writer)
+}
+
+// What a text ends with, once its lines were put.
+pub(crate) fn ending<W>(done: Result<(), KeepError>, writer: &Writing<W>) -> Result<(), ViewFault>
+    ensures answer { result ≡ ending_of done (write_failed writer.now) }
+{
+    if writer.failed() {
+        return Err(ViewFault::Write);
+    }
+    match done {
+        Ok(()) => Ok(()),
+        Err(error) => Err(view_fault(error)),
+    }
+}

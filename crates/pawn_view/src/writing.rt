@@ -1,0 +1,104 @@
+//! A writer that remembers that it failed, and what is put into one.
+ghost use Rattle.std.specs.Prelude.{◌≡◌, ◌+◌, ◌<◌, ◌≤◌, true, false, is_err, ◌||◌, length, take, map};
+ghost use Rattle.std.specs.List.{flat_map};
+ghost use Rattle.std.specs.Io.{WritesAtMost};
+ghost use Rattle.std.specs.Io.KnownBytes.{WriteAppends, Appends};
+ghost use Rattle.pawn_view.specs.Ends.{writing_inner, write_failed, written_of, is_write_failure, Puts};
+
+use std::io;
+use std::io::Write;
+
+/// A writer that remembers that it failed. No failed write is tried again.
+#[derive(Drop)]
+pub struct Writing<W> {
+    inner: W,
+    failed: bool,
+}
+
+impl<W> Writing<W> {
+    /// A writer that has not failed.
+    pub fn new(inner: W) -> Self
+        ensures inner { writing_inner result ≡ inner }
+        ensures failed { write_failed result ≡ false }
+    {
+        Writing {
+            inner,
+            failed: false,
+        }
+    }
+
+    /// Whether a write gave an error, or took none of some bytes.
+    pub fn failed(&self) -> bool
+        ensures answer { result ≡ write_failed self.now }
+    {
+        self.failed
+    }
+
+    /// The writer inside.
+    pub fn into_inner(self) -> W
+        ensures answer { result ≡ writing_inner self }
+    {
+        self.inner
+    }
+}
+
+impl<W: Write> Writing<W> {
+    /// Hands on the answer of one write, and remembers a failure.
+    pub fn write(&mut self, bytes: &[u8]) -> io::Result<usize>
+        ensures bound { WritesAtMost result bytes.now }
+        ensures bytes { WriteAppends (written_of W.contents self.old) (written_of W.contents self.new) result bytes.now }
+        ensures failed { write_failed self.new ≡ (write_failed self.old || is_write_failure result bytes.now) }
+    {
+        let answer = self.inner.write(bytes);
+        match &answer {
+            Ok(n) => {
+                if *n == 0 && !bytes.is_empty() {
+                    self.failed = true;
+                }
+            }
+            Err(_) => self.failed = true,
+        }
+        answer
+    }
+}
+
+/// Writes these bytes, as many as the writer takes in each write, until all are written or the writer fails.
+/// The answer is how many were written.
+///
+/// The caller's condition: the writer has not failed.
+pub fn send<W: Write>(writer: &mut Writing<W>, bytes: &[u8]) -> usize
+    requires fine { write_failed writer.old ≡ false }
+    ensures bound { result ≤ length bytes.now }
+    ensures bytes { Appends (written_of W.contents writer.old) (written_of W.contents writer.new) (take result bytes.now) }
+    ensures done { result ≡ length bytes.now → write_failed writer.new ≡ false }
+    ensures failed { result < length bytes.now → write_failed writer.new ≡ true }
+{
+    let mut sent = 0;
+    while sent < bytes.len() {
+        match writer.write(&bytes[sent..]) {
+            Ok(0) => return sent,
+            Ok(n) => sent += n,
+            Err(_) => return sent,
+        }
+    }
+    sent
+}
+
+/// Writes these bytes, unless the writer failed before. `failed` tells afterwards whether all that was put went out.
+/// Takes no memory.
+pub fn put<W: Write>(writer: &mut Writing<W>, bytes: &[u8])
+    ensures puts { Puts W.contents writer.old bytes.now writer.new }
+{
+    if !writer.failed() {
+        send(writer, bytes);
+    }
+}
+
+/// Puts these pieces in turn. Takes no memory.
+pub fn put_all<W: Write>(writer: &mut Writing<W>, pieces: &[&[u8]])
+    ensures puts { Puts W.contents writer.old (flat_map (λ p. p.now) pieces.now) writer.new }
+{
+    for piece in pieces {
+        put(writer, piece);
+    }
+}

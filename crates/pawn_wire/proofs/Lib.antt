@@ -1,0 +1,10 @@
+pub mod BodyLemmas
+pub mod DigitLemmas
+pub mod FieldLemmas
+pub mod HeadLemmas
+pub mod NamedLemmas
+pub mod ReceiptLemmas
+pub mod RequestLemmas
+pub mod RouteLemmas
+pub mod StreamLemmas
+pub mod WithinLemmas

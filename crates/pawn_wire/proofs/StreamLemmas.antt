@@ -1,0 +1,92 @@
+-- Heads at the front of a stream, and what follows them.
+use Rattle.std.proofs.Common.{◌≡◌, ℕ, ◌+◌, ◌<◌, ◌≤◌, List, [], ◌∷◌, ◌++◌, length, refl, sym, ap, ◌∙◌, arith, append_assoc, append-nil, length-append, take, Result, Ok, Err, inl, inr, true, false, Option, Some, None}
+use Rattle.std.specs.Prelude.{IsTrue, codes, nat_le, if◌then◌else◌}
+use Rattle.std.proofs.lemmas.Bool.Decides.{nat_tests}
+use Rattle.std.proofs.lemmas.List.Elements.{All-cons, All-nil}
+use Rattle.std.proofs.Math.Seq.{take-append-add}
+use Rattle.httparse.specs.Grammar.{RequestHead, IsRequestHead, print_request, is_token_byte, is_uri_byte, lf}
+use Rattle.httparse.specs.Spans.{RequestOverflows}
+use Rattle.httparse.proofs.GrammarLemmas.{ReadsRequest-append, print_request-append}
+use Rattle.pawn_wire.specs.Fields.{decimal_of, values_of}
+use Rattle.pawn_wire.specs.Head.{ReadsHead, NeverHasHead, IsBadHead, IsHead, fields_of, length_in_limit, unless_coded, max_fields, max_head, max_body}
+use Rattle.pawn_wire.specs.declared.fault.HeadFault.{HeadFault}
+use Rattle.pawn_wire.specs.declared.fault.HeadFault.TheVariants.{BodyTooLong}
+use Rattle.pawn_wire.specs.declared.head.HeadFacts.{HeadFacts}
+
+-- a head stays one, whatever follows
+pub reads_more : (s more : List ℕ) (h : RequestHead) (rest : List ℕ) → ReadsHead s h rest → ReadsHead (s ++ more) h (rest ++ more)
+reads_more s more h rest x = (ReadsRequest-append s h rest more x.0, x.1, x.2)
+
+overflows_more : (s more : List ℕ) → RequestOverflows max_fields s → RequestOverflows max_fields (s ++ more)
+overflows_more s more over rest h q x = over (more ++ rest) h q (x.0, sym (append_assoc s more rest) ∙ x.1)
+
+never_more : (s more : List ℕ) → NeverHasHead s → NeverHasHead (s ++ more)
+never_more s more never rest h q x = never (more ++ rest) h q ((x.0.0, sym (append_assoc s more rest) ∙ x.0.1), x.1, x.2)
+
+-- a bad head stays one, whatever follows
+pub bad_head_stays : (s more : List ℕ) → IsBadHead s → IsBadHead (s ++ more)
+bad_head_stays s more (inl over) = inl (overflows_more s more over)
+bad_head_stays s more (inr full) = inr (simp length-append (omega (arith, full.0)), never_more s more full.1)
+
+-- no head follows a bad one
+pub bad_head_never : (s : List ℕ) → IsBadHead s → NeverHasHead s
+bad_head_never s (inl over) more h rest r = let k = over more h rest r.0 in omega (arith, r.1)
+bad_head_never s (inr full) more h rest r = full.1 more h rest r
+
+-- the bytes of a whole request are one by themselves
+pub whole_front : (s : List ℕ) (h : RequestHead) (rest : List ℕ) (n : ℕ) → ReadsHead s h rest
+    → ReadsHead (take (length (print_request h) + n) s) h (take n rest)
+whole_front s h rest n x =
+    ((x.0.0, ap (take (length (print_request h) + n)) x.0.1 ∙ take-append-add (print_request h) rest n), x.1, x.2)
+
+-- a head is not empty
+pub head_some : (h : RequestHead) → 0 < length (print_request h)
+head_some h =
+    let e = simp length-append at (ap length (print_request-append h [])) in
+    omega (arith, e)
+
+-- the head of `GET / HTTP/1.1`, with no field
+abbrev plain_head : RequestHead
+plain_head = record { blank = []; method = 71 ∷ 69 ∷ 84 ∷ []; target = 47 ∷ []; minor = 1; line_end = lf; fields = []; last = lf }
+
+plain_is : IsRequestHead plain_head
+unfolding is_token_byte lib.Utf8.encode
+plain_is = record {
+  method = (
+    omega arith,
+    All-cons (λ b. IsTrue (is_token_byte b)) 71 (69 ∷ 84 ∷ []) refl
+        (All-cons (λ b. IsTrue (is_token_byte b)) 69 (84 ∷ []) refl
+        (All-cons (λ b. IsTrue (is_token_byte b)) 84 [] refl (All-nil (λ b. IsTrue (is_token_byte b))))),
+  );
+  target = (omega arith, All-cons (λ b. IsTrue (is_uri_byte b)) 47 [] refl (All-nil (λ b. IsTrue (is_uri_byte b))));
+  target_text = (47 ∷ [], (refl, refl));
+  minor = omega arith;
+  fields = All-nil _;
+}
+
+-- the empty stream can still become a head
+pub nil_is_no_bad_head : IsBadHead [] → ⊥
+nil_is_no_bad_head (inl over) = (let k = over (print_request plain_head) plain_head [] (plain_is, sym (append-nil (print_request plain_head))) in omega (arith, k))
+nil_is_no_bad_head (inr full) = omega (arith, full.0)
+
+-- ---- a head's facts are small
+
+within_limit : (d : Option ℕ) (n : ℕ) → length_in_limit d ≡ Ok n → n ≤ max_body
+within_limit None n e = absurd cc
+within_limit (Some m) n e =
+    elim (nat_le m 1048576) as (λ v. nat_le m 1048576 ≡ v → ◌≡◌ {A = Result ℕ HeadFault} (if v then Ok m else Err BodyTooLong) (Ok n) → n ≤ max_body) [
+      | true ↦ λ t same. (let k : m ≡ n = cc in grind (arith, nat_tests, k, t))
+      | false ↦ λ t same. absurd cc
+    ] refl e
+
+said_within : (coded lengths : List (List ℕ)) (n : ℕ) → unless_coded coded lengths ≡ Ok n → n ≤ max_body
+said_within [] [] n e = (let k : 0 ≡ n = cc in omega arith)
+said_within [] (v ∷ []) n e = within_limit (decimal_of v) n e
+said_within [] (v ∷ w ∷ vs) n e = absurd cc
+said_within (c ∷ cs) lengths n e = absurd cc
+
+-- a head and its body have few bytes
+pub small_head : (h : RequestHead) (f : HeadFacts) → length (print_request h) ≤ max_head → IsHead h f → f.len + f.body ≤ max_head + max_body
+small_head h f small is =
+    let body = said_within (values_of (codes "transfer-encoding") (fields_of h)) (values_of (codes "content-length") (fields_of h)) f.body is.body in
+    omega (arith, body, is.len, small)

@@ -1,0 +1,15 @@
+use Rattle.std.proofs.Common.{refl}
+use Rattle.serde_json.proofs.OnLiterals.{serde_json_on_literals}
+use Rattle.pawn_wire.proofs.BodyLemmas.{opened_text-json, refusal_text-json}
+use Rattle.pawn_wire.proofs.laws.bodies_are_json.Goals as goal
+
+pub returns : goal.returns
+unfolding serde_json_on_literals
+returns c = record {
+  law = record {
+    book = λ book. refl;
+    version = λ version. refl;
+    opened = opened_text-json;
+    refusal = refusal_text-json;
+  };
+}

@@ -1,0 +1,8 @@
+-- What the router found, as values.
+use Rattle.std.specs.Prelude.{option_copied}
+use Rattle.pawn_wire.specs.declared.router.Asked.{Asked}
+use Rattle.pawn_wire.specs.Route.{AskedFor}
+
+-- an answer's endpoint and its texts
+abbrev pub asked : Asked → AskedFor
+asked a = record { endpoint = a.endpoint; book = option_copied a.book; item = option_copied a.item }

@@ -1,0 +1,22 @@
+-- The JSON bodies of replies.
+use Rattle.std.specs.Prelude.{ℕ, List, ◌++◌, codes, decimal, Option, Some, None}
+
+-- a book stands
+abbrev pub book_text : ℕ → List ℕ
+book_text book = codes "{\"book\":" ++ (decimal book ++ codes "}")
+
+-- terms stand under a version
+abbrev pub version_text : ℕ → List ℕ
+version_text version = codes "{\"version\":" ++ (decimal version ++ codes "}")
+
+-- a pledge stands, with its first receipt
+abbrev pub opened_text : ℕ → List ℕ → List ℕ
+opened_text number receipt =
+    codes "{\"number\":" ++ (decimal number ++ (codes ",\"receipt\":\"" ++ (receipt ++ codes "\"}")))
+
+-- a refusal or a fault, with the total owing where it tells one
+abbrev pub refusal_text : ℕ → List ℕ → Option ℕ → List ℕ
+refusal_text code name None =
+    codes "{\"code\":" ++ (decimal code ++ (codes ",\"name\":\"" ++ (name ++ codes "\"}")))
+refusal_text code name (Some total) =
+    codes "{\"code\":" ++ (decimal code ++ (codes ",\"name\":\"" ++ (name ++ (codes "\",\"total\":" ++ (decimal total ++ codes "}")))))

@@ -1,0 +1,28 @@
+-- Steps one after the other, each of which may end in a fault.
+use Rattle.std.specs.Prelude.{◌≡◌, ◌⊎◌, Option, Some, None, Result, Ok, Err, MatchResult}
+use Rattle.pawn_wire.specs.declared.fault.WireFault.{WireFault}
+use Rattle.pawn_wire.specs.declared.fault.WireFault.TheVariants.{Memory}
+
+-- one step, and then what it gives the next; or its fault
+abbrev pub after : {A B : Type 0} → Result A WireFault → (A → Result B WireFault) → Result B WireFault
+after (Ok a) next = next a
+after (Err fault) next = Err fault
+
+-- one part, and then what it gives the next; nothing where it is missing
+abbrev pub given : {A B : Type 0} → Option A → (A → Option B) → Option B
+given None next = None
+given (Some a) next = next a
+
+-- a part, or a fault where it is missing
+abbrev pub or_fault : {A : Type 0} → WireFault → Option A → Result A WireFault
+or_fault fault None = Err fault
+or_fault fault (Some a) = Ok a
+
+-- the answer is what is said, or memory was wanting
+abbrev pub Says : {A : Type 0} → Result A WireFault → Result A WireFault → Type 0
+Says answer said = MatchResult answer (λ a. said ≡ Ok a) (λ fault. (fault ≡ Memory) ⊎ (said ≡ Err fault))
+
+-- the answer is the part, or this fault where it is missing, or memory was wanting
+abbrev pub Gives : {A : Type 0} → WireFault → Result A WireFault → Option A → Type 0
+Gives missing answer part =
+    MatchResult answer (λ a. part ≡ Some a) (λ fault. (fault ≡ Memory) ⊎ ((fault ≡ missing) × (part ≡ None)))

@@ -1,0 +1,15 @@
+pub mod Asked
+pub mod Bodies
+pub mod Body
+pub mod Chain
+pub mod Fault
+pub mod Fields
+pub mod Head
+pub mod Laws
+pub mod Member
+pub mod Named
+pub mod Receipts
+pub mod Reply
+pub mod Request
+pub mod Route
+pub mod Status

@@ -1,0 +1,50 @@
+-- JSON bodies and their members.
+use Rattle.std.specs.Prelude.{◌≡◌, ℕ, ◌⊎◌, List, Bool, ◌&&◌, nat_le, if◌then◌else◌, Option, Some, None, option_and_then, Result, MatchResult}
+use Rattle.std.specs.Str.{is_utf8}
+use Rattle.serde_json.specs.Data.{Data}
+use Rattle.serde_json.specs.Find.{get, as_number, as_u64, as_str, as_bool}
+use Rattle.serde_json.specs.Read.{read}
+use Rattle.serde_json.specs.View.{view}
+use Rattle.serde_json.specs.declared.value.Value.{Value}
+use Rattle.pawn_pledge.specs.Text.{is_text}
+use Rattle.pawn_pledge.specs.Secret.{secret_of_text}
+use Rattle.pawn_wire.specs.Chain.{given}
+use Rattle.pawn_wire.specs.declared.fault.WireFault.{WireFault}
+use Rattle.pawn_wire.specs.declared.fault.WireFault.TheVariants.{BadBody, Memory}
+
+-- the JSON value that the bytes are
+abbrev pub json_of : List ℕ → Option Data
+json_of bytes = if is_utf8 bytes then read bytes else None
+
+-- the answer is that value, or that the bytes are none, or memory was wanting
+abbrev pub JsonOf : List ℕ → Result Value WireFault → Type 0
+JsonOf bytes r =
+    MatchResult r (λ v. json_of bytes ≡ Some (view v)) (λ e. (e ≡ Memory) ⊎ ((e ≡ BadBody) × (json_of bytes ≡ None)))
+
+-- a number between two
+abbrev pub in_range : ℕ → ℕ → ℕ → Option ℕ
+in_range least most n = if nat_le least n && nat_le n most then Some n else None
+
+-- a member that is a whole number of at most 12 digits, not written as a float
+abbrev pub number_at : List ℕ → Data → Option ℕ
+number_at name d = option_and_then (in_range 0 999999999999) (option_and_then as_u64 (option_and_then as_number (get name d)))
+
+-- a member that is a text
+abbrev pub string_at : List ℕ → Data → Option (List ℕ)
+string_at name d = option_and_then as_str (get name d)
+
+-- a member that is true or false
+abbrev pub flag_at : List ℕ → Data → Option Bool
+flag_at name d = option_and_then as_bool (get name d)
+
+-- a text within the limits
+abbrev pub if_text : ℕ → List ℕ → Option (List ℕ)
+if_text most bytes = if is_text most bytes then Some bytes else None
+
+-- a member that is a text of 1 to so many bytes, none of them a control character
+abbrev pub text_at : ℕ → List ℕ → Data → Option (List ℕ)
+text_at most name d = given (string_at name d) (if_text most)
+
+-- a member that is a key
+abbrev pub key_at : List ℕ → Data → Option ℕ
+key_at name d = given (string_at name d) secret_of_text

@@ -1,0 +1,38 @@
+-- Receipts that fields name.
+use Rattle.std.specs.Prelude.{ℕ, ◌==◌, Bool, List, [], ◌∷◌, length, nat_lt, if◌then◌else◌, codes, Option, Some, option_map, Result, Err}
+use Rattle.std.specs.List.{before_first, after_first}
+use Rattle.pawn_pledge.specs.Secret.{secret_of_text}
+use Rattle.pawn_pledge.specs.declared.receipt.Receipt.{Receipt}
+use Rattle.pawn_wire.specs.Chain.{given, or_fault}
+use Rattle.pawn_wire.specs.Fields.{Pair, values_of}
+use Rattle.pawn_wire.specs.Named.{number_said}
+use Rattle.pawn_wire.specs.declared.fault.WireFault.{WireFault}
+use Rattle.pawn_wire.specs.declared.fault.WireFault.TheVariants.{NoReceipt, TooManyReceipts, BadReceipt}
+
+-- the byte `-`
+abbrev pub is_hyphen : ℕ → Bool
+is_hyphen byte = byte == 45
+
+-- the receipt of a text: a number, a hyphen and a secret
+abbrev pub receipt_said : List ℕ → Option Receipt
+receipt_said text =
+    given (number_said (before_first is_hyphen text))
+    (λ number. option_map (λ secret. record { number = number; secret = secret }) (secret_of_text (after_first is_hyphen text)))
+
+-- the receipts of these values, if each is one
+abbrev pub all_said : List (List ℕ) → Option (List Receipt)
+all_said [] = Some []
+all_said (value ∷ values) =
+    given (receipt_said value)
+    (λ receipt. option_map (λ receipts. receipt ∷ receipts) (all_said values))
+
+-- the values of the fields that present receipts
+abbrev pub presented : List Pair → List (List ℕ)
+presented fields = values_of (codes "pledge-receipt") fields
+
+-- 1 to 32 receipts
+abbrev pub receipts_said : List (List ℕ) → Result (List Receipt) WireFault
+receipts_said values =
+    if length values == 0 then Err NoReceipt
+    else if nat_lt 32 (length values) then Err TooManyReceipts
+    else or_fault BadReceipt (all_said values)

@@ -1,0 +1,53 @@
+-- Replies.
+use Rattle.std.specs.Prelude.{ℕ, List, ◌++◌, length, codes, decimal, Option, None}
+use Rattle.http.specs.StatusCode.{status_text}
+use Rattle.pawn_pledge.specs.Receipt.{receipt_text}
+use Rattle.pawn_book.specs.Refusals as book
+use Rattle.pawn_book.specs.declared.reply.Reply.{Reply}
+use Rattle.pawn_book.specs.declared.reply.Reply.TheVariants.{BookMade, TermsPut, Opened}
+use Rattle.pawn_wire.specs.Bodies.{book_text, version_text, opened_text, refusal_text}
+use Rattle.pawn_wire.specs.Status.{status_of}
+use Rattle.pawn_wire.specs.Fault.{code_of, name_of}
+use Rattle.pawn_wire.specs.declared.reply.Out.{Out}
+use Rattle.pawn_wire.specs.declared.reply.Out.TheVariants.{Done, Refused, Fault, Plain}
+use Rattle.pawn_wire.specs.declared.fault.WireFault.{WireFault}
+use Rattle.pawn_wire.specs.declared.fault.WireFault.TheVariants.{Memory}
+
+-- the head of a reply: its status, the length of its body and the body's type
+abbrev pub head_text : ℕ → ℕ → List ℕ → List ℕ
+head_text status length kind =
+    codes "HTTP/1.1 " ++ (status_text status ++ (codes "\r\nContent-Length: " ++ (decimal length
+    ++ (codes "\r\nContent-Type: " ++ (kind ++ codes "\r\n\r\n")))))
+
+-- a reply: its head and its body
+abbrev pub reply_text : ℕ → List ℕ → List ℕ → List ℕ
+reply_text status kind body = head_text status (length body) kind ++ body
+
+-- a reply whose body is JSON
+abbrev pub json_text : ℕ → List ℕ → List ℕ
+json_text status body = reply_text status (codes "application/json") body
+
+-- the reply to a refusal or a fault, with the total owing where it tells one
+abbrev pub refused_text : ℕ → List ℕ → Option ℕ → List ℕ
+refused_text code name total = json_text (status_of code) (refusal_text code name total)
+
+-- the reply to bytes that are no request
+abbrev pub fault_text : WireFault → List ℕ
+fault_text fault = refused_text (code_of fault) (name_of fault) None
+
+-- the reply where memory is wanting
+abbrev pub memory_text : List ℕ
+memory_text = fault_text Memory
+
+-- the body that says what was done
+abbrev pub done_text : Reply → List ℕ
+done_text (BookMade book) = book_text book
+done_text (TermsPut version) = version_text version
+done_text (Opened receipt) = opened_text receipt.number (receipt_text receipt)
+
+-- what is told of a request
+abbrev pub out_text : Out → List ℕ
+out_text (Done reply) = json_text 200 (done_text reply)
+out_text (Refused why) = refused_text (book.code_of why) (book.name_of why) (book.total_of why)
+out_text (Fault fault) = fault_text fault
+out_text (Plain text) = reply_text 200 (codes "text/plain; charset=utf-8") text.items

@@ -1,0 +1,67 @@
+-- The targets of the service.
+use Rattle.std.specs.Prelude.{ℕ, List, [], ◌∷◌, codes, map, Option, option_map, slice_get, Result, Ok, Err}
+use Rattle.std.specs.Borrow.{Bor}
+use Rattle.matchit.specs.Rows.{RowsOf}
+use Rattle.matchit.specs.Order.{placed}
+use Rattle.matchit.specs.Seek.{first}
+use Rattle.matchit.specs.Route.{Scan, parse_route}
+use Rattle.matchit.specs.Router.{RouteOf, route_from}
+use Rattle.matchit.specs.Params.{walk}
+use Rattle.matchit.specs.declared.error.InsertError.{InsertError}
+use Rattle.pawn_wire.specs.declared.route.Endpoint.{Endpoint}
+use Rattle.pawn_wire.specs.declared.route.Endpoint.TheVariants.{Create, PutTerms, TakePledge, Held}
+
+-- the targets, each with its endpoint
+abbrev pub table : List (List ℕ × Endpoint)
+table =
+    (codes "/books/{b}", Create)
+    ∷ (codes "/books/{b}/terms", PutTerms)
+    ∷ (codes "/books/{b}/pledges", TakePledge)
+    ∷ (codes "/books/{b}/held", Held)
+    ∷ []
+
+-- the method that asks for an endpoint
+abbrev pub method_of : Endpoint → List ℕ
+method_of Create = codes "POST"
+method_of PutTerms = codes "POST"
+method_of TakePledge = codes "POST"
+method_of Held = codes "GET"
+
+-- a router's rows, as `matchit` orders them
+abbrev pub Rows : Type 0
+Rows = RowsOf (RouteOf Endpoint)
+
+-- the rows with one route more, as it reads
+abbrev pub with_route : Result Scan InsertError → Endpoint → Rows → Rows
+with_route (Ok s) endpoint rows = placed (s.pattern, route_from s endpoint) rows
+with_route (Err x) endpoint rows = rows
+
+-- the rows with the routes of a list, one after another
+abbrev pub with_routes : List (List ℕ × Endpoint) → Rows → Rows
+with_routes [] rows = rows
+with_routes (r ∷ rest) rows = with_routes rest (with_route (parse_route r.0) r.1 rows)
+
+-- the rows of the table
+unfoldable pub table_rows : Rows
+table_rows = with_routes table []
+
+-- the parts of the target that the names in braces took, in order
+abbrev pub captures : RouteOf Endpoint → List ℕ → List (List ℕ)
+captures r target = map (λ p. p.1) (walk r.pattern r.text target r.names 0 0)
+
+-- an endpoint, and what the first two names took
+pub record AskedFor : Type 0 where
+  pub endpoint : Endpoint
+  pub book : Option (List ℕ)
+  pub item : Option (List ℕ)
+
+-- what a target asks for
+abbrev pub asked_of : List ℕ → Option AskedFor
+asked_of target =
+    option_map
+    (λ r. record { endpoint = r.value; book = slice_get (captures r target) 0; item = slice_get (captures r target) 1 })
+    (first table_rows target)
+
+-- an entry of the program's table
+abbrev pub plain : Bor (List ℕ) × Endpoint → List ℕ × Endpoint
+plain r = (r.0.now, r.1)

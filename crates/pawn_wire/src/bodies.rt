@@ -1,0 +1,52 @@
+//! The JSON bodies of replies.
+ghost use Rattle.std.specs.Prelude.{◌≡◌, IfOk, Some, string_bytes};
+ghost use Rattle.pawn_wire.specs.Bodies.{book_text, version_text, opened_text, refusal_text};
+
+use std::alloc::{AllocError, Global};
+
+// A book stands.
+pub(crate) fn book(alloc: Global, book: u32) -> Result<String, AllocError>
+    ensures text { IfOk result (λ s. string_bytes s ≡ book_text book) }
+{
+    format!(in alloc; "{{\"book\":{book}}}")
+}
+
+// Terms stand under a version.
+pub(crate) fn version(alloc: Global, version: u64) -> Result<String, AllocError>
+    ensures text { IfOk result (λ s. string_bytes s ≡ version_text version) }
+{
+    format!(in alloc; "{{\"version\":{version}}}")
+}
+
+// A pledge stands, with its first receipt.
+pub(crate) fn opened(alloc: Global, number: u32, receipt: &str) -> Result<String, AllocError>
+    ensures text { IfOk result (λ s. string_bytes s ≡ opened_text number receipt.now) }
+{
+    format!(in alloc; "{{\"number\":{number},\"receipt\":\"{receipt}\"}}")
+}
+
+// A refusal or a fault, with the total owing where it tells one.
+pub(crate) fn refused(
+    alloc: Global,
+    code: u16,
+    name: &str,
+    total: Option<u64>,
+) -> Result<String, AllocError>
+    ensures text { IfOk result (λ s. string_bytes s ≡ refusal_text code name.now total) }
+{
+    match total {
+        Some(total) => refused_with_total(alloc, code, name, total),
+        None => format!(in alloc; "{{\"code\":{code},\"name\":\"{name}\"}}"),
+    }
+}
+
+fn refused_with_total(
+    alloc: Global,
+    code: u16,
+    name: &str,
+    total: u64,
+) -> Result<String, AllocError>
+    ensures text { IfOk result (λ s. string_bytes s ≡ refusal_text code name.now (Some total)) }
+{
+    format!(in alloc; "{{\"code\":{code},\"name\":\"{name}\",\"total\":{total}}}")
+}

@@ -1,0 +1,114 @@
+//! The JSON bodies of requests.
+ghost use Rattle.std.specs.Prelude.{◌≡◌};
+ghost use Rattle.serde_json.specs.View.{view};
+ghost use Rattle.pawn_wire.specs.Body.{new_book_of, new_terms_of, kind_named, kind_of, day_or_null, optional_day_at, opening_of};
+ghost use Rattle.pawn_wire.specs.Chain.{Gives};
+ghost use Rattle.pawn_wire.specs.Member.{in_range};
+ghost use Rattle.pawn_wire.specs.declared.fault.WireFault.TheVariants.{BadBody};
+
+use crate::fault::WireFault;
+use crate::member;
+use pawn_book::{Capacity, Kind, NewBook, NewTerms, Opening, RequestDay};
+use serde_json::Value;
+use std::alloc::Global;
+
+// The capacity of that many bookings.
+fn capacity_of(bookings: u64) -> Option<Capacity>
+    ensures value { result ≡ in_range 1 1000 bookings }
+{
+    Capacity::new(bookings)
+}
+
+// What makes a book.
+pub(crate) fn new_book(alloc: Global, body: &Value) -> Result<NewBook, WireFault>
+    ensures value { Gives BadBody result (new_book_of (view body.now)) }
+{
+    let bookings = member::number(body, "capacity").ok_or(WireFault::BadBody)?;
+    let capacity = capacity_of(bookings).ok_or(WireFault::BadBody)?;
+    let key = member::key(body, "key").ok_or(WireFault::BadBody)?;
+    let name = member::text(alloc, body, "name")?;
+    Ok(NewBook {
+        key,
+        name,
+        capacity,
+    })
+}
+
+// Terms, and their version.
+pub(crate) fn new_terms(body: &Value) -> Option<NewTerms>
+    ensures value { result ≡ new_terms_of (view body.now) }
+{
+    let keep_after = member::number(body, "keep_after")?;
+    let keep_before = member::number(body, "keep_before")?;
+    let rate = member::number(body, "rate")?;
+    let version = member::number(body, "version")?;
+    Some(NewTerms {
+        version,
+        rate,
+        keep_before,
+        keep_after,
+    })
+}
+
+fn kind_named(word: &str, pence: u64) -> Option<Kind>
+    ensures value { result ≡ kind_named word.now pence }
+{
+    match word {
+        "fixed" => Some(Kind::Fixed(pence)),
+        "running" => Some(Kind::Running(pence)),
+        _ => None,
+    }
+}
+
+// A fixed sum or a running account, with its sum or its limit.
+fn kind(body: &Value) -> Option<Kind>
+    ensures value { result ≡ kind_of (view body.now) }
+{
+    let word = member::string(body, "kind")?;
+    let pence = member::number(body, "pence")?;
+    kind_named(word, pence)
+}
+
+// The day that a member says; null says none.
+fn day_or_null(member: &Value) -> Option<Option<RequestDay>>
+    ensures value { result ≡ day_or_null (view member.now) }
+{
+    if member.is_null() {
+        return Some(None);
+    }
+    match member.as_str() {
+        Some(text) => match member::day_said(text) {
+            Some(day) => Some(Some(day)),
+            None => None,
+        },
+        None => None,
+    }
+}
+
+// The day of a member, or none where it is missing or null.
+fn optional_day(body: &Value, name: &str) -> Option<Option<RequestDay>>
+    ensures value { result ≡ optional_day_at name.now (view body.now) }
+{
+    match body.get(name) {
+        None => Some(None),
+        Some(member) => day_or_null(member),
+    }
+}
+
+// What opens a pledge.
+pub(crate) fn opening(alloc: Global, body: &Value) -> Result<Opening, WireFault>
+    ensures value { Gives BadBody result (opening_of (view body.now)) }
+{
+    let agreed = optional_day(body, "agreed").ok_or(WireFault::BadBody)?;
+    let article = member::text(alloc, body, "article")?;
+    let five_days = member::flag(body, "five_days").ok_or(WireFault::BadBody)?;
+    let kind = kind(body).ok_or(WireFault::BadBody)?;
+    let reference = member::text(alloc, body, "ref")?;
+    Ok(Opening {
+        reference,
+        article,
+        kind,
+        agreed,
+        five_days,
+    })
+}

@@ -1,0 +1,130 @@
+//! Why bytes are no request.
+ghost use Rattle.std.specs.Prelude.{◌≡◌};
+ghost use Rattle.pawn_wire.specs.Fault.{code_of, name_of, wire_fault};
+ghost use Rattle.pawn_wire.specs.declared.fault.WireFault.TheVariants.{Memory};
+
+use std::alloc::{AllocError, AllocFailed};
+use std::error::Error;
+use std::fmt;
+
+/// Why a head can't begin a request, in the order in which the faults are looked for.
+#[derive(Clone, Copy, Debug, PartialEq, Eq)]
+pub enum HeadFault {
+    /// There is no head: not by the grammar, or not within the limits.
+    BadHead,
+    /// A `Transfer-Encoding` field is there.
+    Transfer,
+    /// Two `Content-Length` fields, or one that is not 1 to 19 digits.
+    BadLength,
+    /// The body is longer than the limit.
+    BodyTooLong,
+}
+
+/// Why bytes are no request, in the order in which the faults are looked for. `BadReceipt`,
+/// `TooManyReceipts` and `NoReceipt` stand in place of `BadKey` where receipts are presented.
+#[derive(Clone, Copy, Debug, PartialEq, Eq)]
+pub enum WireFault {
+    /// There is no head: not by the grammar, or not within the limits.
+    BadHead,
+    /// A `Transfer-Encoding` field is there.
+    Transfer,
+    /// Two `Content-Length` fields, one that is not 1 to 19 digits, or a body of another length.
+    BadLength,
+    /// The body is longer than the limit.
+    BodyTooLong,
+    /// The target is none of the service's.
+    NoRoute,
+    /// The target has another method.
+    WrongMethod,
+    /// The body is not the JSON that the request wants.
+    BadBody,
+    /// There is not exactly one key, or it is none.
+    BadKey,
+    /// A receipt is malformed.
+    BadReceipt,
+    /// More receipts are presented than the request takes.
+    TooManyReceipts,
+    /// No receipt is presented.
+    NoReceipt,
+    /// Memory was wanting.
+    Memory,
+}
+
+impl WireFault {
+    /// The fault's number in replies.
+    pub fn code(self) -> u16
+        ensures value { result ≡ code_of self }
+    {
+        match self {
+            WireFault::BadHead => 701,
+            WireFault::Transfer => 703,
+            WireFault::BadLength => 704,
+            WireFault::BodyTooLong => 705,
+            WireFault::NoRoute => 706,
+            WireFault::WrongMethod => 707,
+            WireFault::BadBody => 708,
+            WireFault::BadKey => 709,
+            WireFault::BadReceipt => 710,
+            WireFault::TooManyReceipts => 711,
+            WireFault::NoReceipt => 712,
+            WireFault::Memory => 491,
+        }
+    }
+
+    /// The fault's name in replies.
+    pub fn name(self) -> &'static str
+        ensures value { result.now ≡ name_of self }
+    {
+        match self {
+            WireFault::BadHead => "BadHead",
+            WireFault::Transfer => "Transfer",
+            WireFault::BadLength => "BadLength",
+            WireFault::BodyTooLong => "BodyTooLong",
+            WireFault::NoRoute => "NoRoute",
+            WireFault::WrongMethod => "WrongMethod",
+            WireFault::BadBody => "BadBody",
+            WireFault::BadKey => "BadKey",
+            WireFault::BadReceipt => "BadReceipt",
+            WireFault::TooManyReceipts => "TooManyReceipts",
+            WireFault::NoReceipt => "NoReceipt",
+            WireFault::Memory => "Memory",
+        }
+    }
+}
+
+impl From<HeadFault> for WireFault {
+    ghost from_gives = { λ head fault. fault ≡ wire_fault head };
+
+    fn from(fault: HeadFault) -> WireFault {
+        match fault {
+            HeadFault::BadHead => WireFault::BadHead,
+            HeadFault::Transfer => WireFault::Transfer,
+            HeadFault::BadLength => WireFault::BadLength,
+            HeadFault::BodyTooLong => WireFault::BodyTooLong,
+        }
+    }
+}
+
+impl From<AllocError> for WireFault {
+    ghost from_gives = { λ _ fault. fault ≡ Memory };
+
+    fn from(_error: AllocError) -> WireFault {
+        WireFault::Memory
+    }
+}
+
+impl<T: Drop> From<AllocFailed<T>> for WireFault {
+    ghost from_gives = { λ _ fault. fault ≡ Memory };
+
+    fn from(_failed: AllocFailed<T>) -> WireFault {
+        WireFault::Memory
+    }
+}
+
+impl fmt::Display for WireFault {
+    fn fmt<W: fmt::Write>(&self, f: &mut fmt::Formatter<W>) -> fmt::Result {
+        f.write_str(self.name())
+    }
+}
+
+impl Error for WireFault {}

@@ -1,0 +1,31 @@
+//! The HTTP interface: requests from bytes, and replies to bytes.
+#![tactic(auto)]
+
+mod bodies;
+mod body;
+mod fault;
+mod fields;
+mod head;
+mod laws;
+mod member;
+mod receipts;
+mod reply;
+mod request;
+mod route;
+mod router;
+mod status;
+
+pub use fault::{HeadFault, WireFault};
+pub use head::{HeadFacts, HeadRead, MAX_HEAD, read_head};
+pub use laws::{bodies_are_json, laws_of_readings, laws_of_targets};
+pub use pawn_book::{
+    Article, BearerRequest, BrokerRequest, Caller, Capacity, Kind, Name, NewBook, NewTerms, Number,
+    Opening, PledgeRefusal, Receipt, Receipts, Reference, Refusal, Reply, Request, RequestDay,
+    Secret, TermsFault, Text,
+};
+pub use reply::{MEMORY_REPLY, Out, fault_reply, memory_reply, write_reply};
+pub use request::read_request;
+pub use router::Router;
+
+#[cfg(test)]
+mod tests;

@@ -1,0 +1,88 @@
+//! JSON bodies and their members.
+ghost use Rattle.std.specs.Prelude.{◌≡◌, option_copied};
+ghost use Rattle.serde_json.specs.View.{view};
+ghost use Rattle.pawn_wire.specs.Member.{JsonOf, number_at, string_at, flag_at, text_at, key_at};
+ghost use Rattle.pawn_wire.specs.Chain.{Gives};
+ghost use Rattle.pawn_wire.specs.declared.fault.WireFault.TheVariants.{BadBody};
+ghost use Rattle.pawn_wire.specs.Named.{day_said};
+
+use crate::fault::WireFault;
+use pawn_book::{Day, RequestDay, Secret, Text};
+use serde_json::Value;
+use std::alloc::Global;
+
+const MAX_NUMBER: u64 = 999_999_999_999;
+
+// The JSON value of a body.
+pub(crate) fn json(alloc: Global, body: &[u8]) -> Result<Value, WireFault>
+    ensures value { JsonOf body.now result }
+{
+    match Value::from_slice(alloc, body) {
+        Ok(value) => Ok(value),
+        Err(error) => {
+            if error.is_memory() {
+                Err(WireFault::Memory)
+            } else {
+                Err(WireFault::BadBody)
+            }
+        }
+    }
+}
+
+// The whole number of a member.
+pub(crate) fn number(body: &Value, name: &str) -> Option<u64>
+    ensures value { result ≡ number_at name.now (view body.now) }
+{
+    match body.get(name).and_then(Value::as_u64) {
+        Some(n) if n <= MAX_NUMBER => Some(n),
+        _ => None,
+    }
+}
+
+// The text of a member, of any length.
+pub(crate) fn string<'v>(body: &'v Value, name: &str) -> Option<&'v str>
+    ensures value { option_copied result ≡ string_at name.now (view body.now) }
+{
+    body.get(name).and_then(Value::as_str)
+}
+
+// The truth value of a member.
+pub(crate) fn flag(body: &Value, name: &str) -> Option<bool>
+    ensures value { result ≡ flag_at name.now (view body.now) }
+{
+    body.get(name).and_then(Value::as_bool)
+}
+
+// The text of a member, within the limits of its type.
+pub(crate) fn text<const MOST: usize>(
+    alloc: Global,
+    body: &Value,
+    name: &str,
+) -> Result<Text<MOST>, WireFault>
+    ensures value { Gives BadBody result (text_at MOST name.now (view body.now)) }
+{
+    let Some(text) = string(body, name) else {
+        return Err(WireFault::BadBody);
+    };
+    Text::of_str(alloc, text)?.ok_or(WireFault::BadBody)
+}
+
+// The key of a member.
+pub(crate) fn key(body: &Value, name: &str) -> Option<Secret>
+    ensures value { result ≡ key_at name.now (view body.now) }
+{
+    match string(body, name) {
+        Some(text) => Secret::of_text(text.as_bytes()),
+        None => None,
+    }
+}
+
+// The day of a text.
+pub(crate) fn day_said(text: &str) -> Option<RequestDay>
+    ensures value { result ≡ day_said text.now }
+{
+    match Day::of_text(text.as_bytes()) {
+        Ok(day) => RequestDay::of_day(day).ok(),
+        Err(_) => None,
+    }
+}

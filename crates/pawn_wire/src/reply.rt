@@ -1,0 +1,143 @@
+//! Replies to bytes.
+ghost use Rattle.std.specs.Prelude.{◌≡◌, IfOk, string_bytes};
+ghost use Rattle.pawn_pledge.specs.Receipt.{receipt_text};
+ghost use Rattle.pawn_wire.specs.Bodies.{book_text, version_text, opened_text};
+ghost use Rattle.pawn_wire.specs.Fault.{wire_fault};
+ghost use Rattle.pawn_wire.specs.Reply.{head_text, reply_text, json_text, refused_text, fault_text, memory_text, done_text, out_text};
+
+use crate::bodies;
+use crate::fault::{HeadFault, WireFault};
+use crate::status::status_of;
+use http::StatusCode;
+use pawn_book::{Number, Receipt, Refusal, Reply};
+use std::alloc::{AllocError, Global};
+
+/// What is told of a request.
+#[derive(Drop)]
+pub enum Out {
+    /// What was done.
+    Done(Reply),
+    /// That it was refused.
+    Refused(Refusal),
+    /// That its bytes are no request.
+    Fault(WireFault),
+    /// Lines of text.
+    Plain(Vec<u8>),
+}
+
+/// The reply where memory is wanting, which takes no memory.
+pub const MEMORY_REPLY: &[u8] =
+    b"HTTP/1.1 503 Service Unavailable\r\nContent-Length: 28\r\nContent-Type: application/json\r\n\r\n{\"code\":491,\"name\":\"Memory\"}";
+
+const BAD_HEAD_REPLY: &[u8] =
+    b"HTTP/1.1 400 Bad Request\r\nContent-Length: 29\r\nContent-Type: application/json\r\n\r\n{\"code\":701,\"name\":\"BadHead\"}";
+
+const TRANSFER_REPLY: &[u8] =
+    b"HTTP/1.1 400 Bad Request\r\nContent-Length: 30\r\nContent-Type: application/json\r\n\r\n{\"code\":703,\"name\":\"Transfer\"}";
+
+const BAD_LENGTH_REPLY: &[u8] =
+    b"HTTP/1.1 400 Bad Request\r\nContent-Length: 31\r\nContent-Type: application/json\r\n\r\n{\"code\":704,\"name\":\"BadLength\"}";
+
+const BODY_TOO_LONG_REPLY: &[u8] =
+    b"HTTP/1.1 400 Bad Request\r\nContent-Length: 33\r\nContent-Type: application/json\r\n\r\n{\"code\":705,\"name\":\"BodyTooLong\"}";
+
+/// The reply where memory is wanting, `MEMORY_REPLY`.
+pub fn memory_reply() -> &'static [u8]
+    ensures text { result.now ≡ memory_text }
+{
+    MEMORY_REPLY
+}
+
+/// The reply to a head that can't begin a request, which takes no memory.
+pub fn fault_reply(fault: HeadFault) -> &'static [u8]
+    ensures text { result.now ≡ fault_text (wire_fault fault) }
+{
+    match fault {
+        HeadFault::BadHead => BAD_HEAD_REPLY,
+        HeadFault::Transfer => TRANSFER_REPLY,
+        HeadFault::BadLength => BAD_LENGTH_REPLY,
+        HeadFault::BodyTooLong => BODY_TOO_LONG_REPLY,
+    }
+}
+
+fn head(alloc: Global, status: StatusCode, length: usize, kind: &str) -> Result<String, AllocError>
+    ensures text { IfOk result (λ s. string_bytes s ≡ head_text status length kind.now) }
+{
+    format!(in alloc;
+        "HTTP/1.1 {status}\r\nContent-Length: {length}\r\nContent-Type: {kind}\r\n\r\n"
+    )
+}
+
+fn reply(alloc: Global, status: StatusCode, kind: &str, body: &[u8]) -> Result<Vec<u8>, AllocError>
+    ensures text { IfOk result (λ v. v.items ≡ reply_text status kind.now body.now) }
+{
+    let head = head(alloc, status, body.len(), kind)?;
+    let mut bytes = Vec::from_slice(alloc, head.as_bytes())?;
+    bytes.extend_from_slice(body)?;
+    Ok(bytes)
+}
+
+fn json_reply(alloc: Global, status: StatusCode, body: &str) -> Result<Vec<u8>, AllocError>
+    ensures text { IfOk result (λ v. v.items ≡ json_text status body.now) }
+{
+    reply(alloc, status, "application/json", body.as_bytes())
+}
+
+fn refused_reply(
+    alloc: Global,
+    code: u16,
+    name: &str,
+    total: Option<u64>,
+) -> Result<Vec<u8>, AllocError>
+    ensures text { IfOk result (λ v. v.items ≡ refused_text code name.now total) }
+{
+    let body = bodies::refused(alloc, code, name, total)?;
+    json_reply(alloc, status_of(code), body.as_str())
+}
+
+fn book_reply(alloc: Global, book: Number) -> Result<Vec<u8>, AllocError>
+    ensures text { IfOk result (λ v. v.items ≡ json_text 200 (book_text book)) }
+{
+    let body = bodies::book(alloc, book.get())?;
+    json_reply(alloc, StatusCode::OK, body.as_str())
+}
+
+fn version_reply(alloc: Global, version: u64) -> Result<Vec<u8>, AllocError>
+    ensures text { IfOk result (λ v. v.items ≡ json_text 200 (version_text version)) }
+{
+    let body = bodies::version(alloc, version)?;
+    json_reply(alloc, StatusCode::OK, body.as_str())
+}
+
+fn opened_reply(alloc: Global, receipt: Receipt) -> Result<Vec<u8>, AllocError>
+    ensures text { IfOk result (λ v. v.items ≡ json_text 200 (opened_text receipt.number (receipt_text receipt))) }
+{
+    let number = receipt.number.get();
+    let text = receipt.text(alloc)?;
+    let body = bodies::opened(alloc, number, text.as_str())?;
+    json_reply(alloc, StatusCode::OK, body.as_str())
+}
+
+fn done_reply(alloc: Global, reply: Reply) -> Result<Vec<u8>, AllocError>
+    ensures text { IfOk result (λ v. v.items ≡ json_text 200 (done_text reply)) }
+{
+    match reply {
+        Reply::BookMade(book) => book_reply(alloc, book),
+        Reply::TermsPut(version) => version_reply(alloc, version),
+        Reply::Opened(receipt) => opened_reply(alloc, receipt),
+    }
+}
+
+/// The bytes of a reply: its status, the length and the type of its body, and its body.
+pub fn write_reply(alloc: Global, out: &Out) -> Result<Vec<u8>, AllocError>
+    ensures text { IfOk result (λ v. v.items ≡ out_text out.now) }
+{
+    match out {
+        Out::Done(reply) => done_reply(alloc, *reply),
+        Out::Refused(refusal) => {
+            refused_reply(alloc, refusal.code(), refusal.name(), refusal.total())
+        }
+        Out::Fault(fault) => refused_reply(alloc, fault.code(), fault.name(), None),
+        Out::Plain(text) => reply(alloc, StatusCode::OK, "text/plain; charset=utf-8", text),
+    }
+}

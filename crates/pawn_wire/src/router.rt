@@ -1,0 +1,97 @@
+//! The service's routes.
+ghost use Rattle.std.specs.Prelude.{◌≡◌, List, ℕ, Some, None, OnOk, map, option_copied, slice_get};
+ghost use Rattle.std.specs.Str.{IsAscii};
+ghost use Rattle.matchit.specs.Params.{walk};
+ghost use Rattle.pawn_wire.specs.Route.{with_routes, plain};
+
+use crate::route::{Endpoint, ROUTES};
+use matchit::{InsertError, Params, Router as Matcher};
+use std::alloc::{AllocError, Global};
+use std::marker::Model;
+
+/// An endpoint, and the texts of the numbers in a target.
+#[derive(Clone, Copy, Drop)]
+pub(crate) struct Asked<'p> {
+    pub endpoint: Endpoint,
+    pub book: Option<&'p str>,
+    pub item: Option<&'p str>,
+}
+
+/// The service's routes, made once and asked for each request. A contract sees the rows of a
+/// router, which are always those of the service's table.
+#[derive(Drop)]
+pub struct Router {
+    routes: Matcher<Endpoint>,
+}
+
+impl Model for Router {
+    ghost use Rattle.std.specs.Prelude.{◌≡◌};
+    ghost use Rattle.pawn_wire.specs.Route.{Rows, table_rows};
+
+    ghost Value = { Rows };
+
+    ghost view = { λ r. r.routes };
+
+    ghost invariant = { λ r. r.routes ≡ table_rows };
+}
+
+impl Router {
+    ghost use Rattle.std.specs.Prelude.{◌≡◌, IfOk, option_map};
+    ghost use Rattle.pawn_wire.specs.Route.{table_rows, asked_of};
+    ghost use Rattle.pawn_wire.specs.Asked.{asked};
+
+    /// The routes of the service's table. It refuses only where memory is wanting.
+    pub fn new(alloc: Global) -> Result<Router, AllocError>
+        ensures table { IfOk result (λ r. r ≡ table_rows) }
+    {
+        let mut routes = Matcher::new(alloc);
+        match add_all(&mut routes, &ROUTES) {
+            Ok(()) => Ok(Router { routes }),
+            Err(_) => Err(AllocError),
+        }
+    }
+
+    // What a target asks for.
+    pub(crate) fn find<'p>(&self, target: &'p str) -> Option<Asked<'p>>
+        requires { IsAscii target.now }
+        ensures value { option_map asked result ≡ asked_of target.now }
+    {
+        match self.routes.at(target) {
+            Ok(found) => {
+                let (book, item) = first_two(&found.params);
+                Some(Asked {
+                    endpoint: *found.value,
+                    book,
+                    item,
+                })
+            }
+            Err(_) => None,
+        }
+    }
+}
+
+// The first two parts of a target that parameters took.
+fn first_two<'v>(params: &Params<'_, 'v>) -> (Option<&'v str>, Option<&'v str>)
+    requires { IsAscii params.now.path.now }
+    ensures first { option_copied result.0 ≡ slice_get (map (λ p. p.1) (walk params.now.pattern.now params.now.text.now params.now.path.now params.now.names.now 0 0)) 0 }
+    ensures second { option_copied result.1 ≡ slice_get (map (λ p. p.1) (walk params.now.pattern.now params.now.text.now params.now.path.now params.now.names.now 0 0)) 1 }
+{
+    let mut parts = params.iter();
+    let Some((_, first)) = parts.next() else {
+        return (None, None);
+    };
+    let Some((_, second)) = parts.next() else {
+        return (Some(first), None);
+    };
+    (Some(first), Some(second))
+}
+
+// Adds routes in order.
+fn add_all(routes: &mut Matcher<Endpoint>, table: &[(&str, Endpoint)]) -> Result<(), InsertError>
+    ensures rows { OnOk result (routes.new ≡ with_routes (map plain table.now) routes.old) }
+{
+    for (text, endpoint) in table {
+        routes.insert(text, *endpoint)?;
+    }
+    Ok(())
+}

@@ -1,0 +1,18 @@
+//! The statuses of replies.
+ghost use Rattle.std.specs.Prelude.{◌≡◌};
+ghost use Rattle.pawn_wire.specs.Status.{status_of};
+
+use http::StatusCode;
+
+// The status of a refusal's or a fault's number.
+pub(crate) fn status_of(code: u16) -> StatusCode
+    ensures value { result ≡ status_of code }
+{
+    match code {
+        101..=104 | 201 | 313 | 601..=607 | 701..=705 | 707..=712 => StatusCode::BAD_REQUEST,
+        410 => StatusCode::FORBIDDEN,
+        401..=403 | 706 => StatusCode::NOT_FOUND,
+        490..=492 => StatusCode::SERVICE_UNAVAILABLE,
+        _ => StatusCode::CONFLICT,
+    }
+}
