@@ -1,4 +1,4 @@
-use crate::{Debt, DebtFault, Kind, owing_from};
+use crate::{Debt, DebtFault, Entries, Entry, Kind, Sort, owing_from};
 use pawn_terms::{Day, RequestDay, Terms, last_day};
 use std::alloc::Global;
 use std::test::Fail;
@@ -98,5 +98,71 @@ fn as_many_entries_as_may_be(rt: HostRuntime) -> Result<(), Fail> {
         debt.repay(taken, 1)?;
     }
     assert_eq!(rt; debt.repay(taken, 1), Err(DebtFault::EntriesFull));
+    Ok(())
+}
+
+fn entry(seq: u64, text: &[u8], sort: Sort, pence: u64) -> Result<Entry, Fail> {
+    let day = day(text)?;
+    Ok(Entry {
+        seq,
+        day,
+        sort,
+        pence,
+    })
+}
+
+// A running account of these entries, or none where they are handed back.
+fn account(alloc: Global, entries: &[Entry]) -> Result<Option<Debt>, Fail> {
+    let terms = Terms::check(2667, 0, 0)?;
+    let taken = RequestDay::of_text(b"2024-01-31")?.day();
+    let ends = last_day(taken, None);
+    let list = Entries::from_vec(Vec::from_slice(alloc, entries)?);
+    match Debt::of_entries(Kind::Running(5000), terms, taken, ends, list) {
+        Ok(debt) => Ok(Some(debt)),
+        Err(back) if back.as_slice() == entries => Ok(None),
+        Err(_) => Err("other entries are handed back".into()),
+    }
+}
+
+#[test]
+fn a_debt_of_its_entries(rt: HostRuntime) -> Result<(), Fail> {
+    let (start, march, later) = (
+        day(b"2024-01-31")?,
+        day(b"2024-03-01")?,
+        day(b"2024-03-11")?,
+    );
+    let kind = Kind::Running(5000);
+    let mut debt = debt(rt.alloc(), kind, [2667, 0, 0], b"2024-01-31")?;
+    debt.draw(start, 3000)?;
+    debt.repay(march, 1240)?;
+    debt.draw(march, 3000)?;
+    let again = account(rt.alloc(), debt.entries())?.ok_or("no debt")?;
+    assert_eq!(rt; again.kind(), kind);
+    assert_eq!(rt; again.entries(), debt.entries());
+    assert_eq!(rt; again.totals(), debt.totals());
+    assert_eq!(rt; again.totals().charges, 30_000);
+    assert!(rt; debt.last() <= later);
+    assert!(rt; again.last() <= later);
+    assert_eq!(rt; again.owing(later), debt.owing(later));
+    assert_eq!(rt; again.owing(later).total, 5133);
+    Ok(())
+}
+
+#[test]
+fn entries_that_are_none(rt: HostRuntime) -> Result<(), Fail> {
+    let first = entry(1, b"2024-03-01", Sort::Draw, 3000)?;
+    for (second, accepted) in [
+        (entry(2, b"2024-03-01", Sort::Draw, 2000)?, true),
+        (entry(2, b"2024-03-01", Sort::Draw, 2001)?, false),
+        (entry(2, b"2024-03-01", Sort::Draw, 0)?, false),
+        (entry(2, b"2024-02-29", Sort::Draw, 2000)?, false),
+        (entry(1, b"2024-03-01", Sort::Draw, 2000)?, false),
+        (entry(3, b"2024-03-01", Sort::Draw, 2000)?, false),
+        (entry(2, b"2024-03-31", Sort::Repay, 3240)?, true),
+        (entry(2, b"2024-03-31", Sort::Repay, 3241)?, false),
+    ] {
+        let debt = account(rt.alloc(), &[first, second])?;
+        assert_eq!(rt; debt.is_some(), accepted, "at {second:?}");
+    }
     Ok(())
 }
