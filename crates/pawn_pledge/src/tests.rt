@@ -1,7 +1,7 @@
 use crate::{
-    Article, Booking, BookingState, Command, Day, DebtFault, Decision, Done, Entry, Kind, Number,
-    Opening, Paper, Pledge, Receipt, Reference, Refusal, RequestDay, Secret, Sort, Stamp, Status,
-    Terms,
+    Article, Booking, BookingState, Command, Day, DebtFault, Decision, Done, Entries, Entry,
+    Extension, Extensions, Issue, Issued, Kind, Number, Opening, Paper, Parts, Pledge, Receipt,
+    Reference, Refusal, RequestDay, Secret, Secrets, Sort, Stamp, Status, Terms,
 };
 use std::alloc::Global;
 use std::test::Fail;
@@ -341,9 +341,18 @@ fn is_same_again(pledge: &Pledge, day: Day) -> Result<bool, Fail> {
         return Ok(false);
     }
     match Pledge::of_parts(pledge.parts()?) {
-        Ok(again) => Ok(again.status(day) == status && again.live() == pledge.live()),
+        Ok(again) => Ok(again.status(day) == status && has_same_lists(&again, pledge)),
         Err(_) => Ok(false),
     }
+}
+
+// Whether two pledges have the same entries, secrets and extensions, and their periods the same end.
+fn has_same_lists(one: &Pledge, other: &Pledge) -> bool {
+    one.entries() == other.entries()
+        && one.secrets() == other.secrets()
+        && one.extensions() == other.extensions()
+        && one.ends() == other.ends()
+        && one.live() == other.live()
 }
 
 #[test]
@@ -351,6 +360,125 @@ fn a_pledge_again(rt: HostRuntime) -> Result<(), Fail> {
     let day = day(b"2024-08-01")?;
     assert!(rt; is_same_again(&plain(rt.alloc(), 7500)?, day)?);
     assert!(rt; is_same_again(&plain(rt.alloc(), 7501)?, day)?);
+    assert!(rt; is_same_again(&used(rt.alloc())?, day)?);
+    Ok(())
+}
+
+// A pledge with a repayment, a second secret and a longer period.
+fn used(alloc: Global) -> Result<Pledge, Fail> {
+    let repay = Command::Repay {
+        seq: 1,
+        pence: 1000,
+    };
+    let until = RequestDay::of_text(b"2024-09-30")?;
+    let extended = Ok(Done::Extended { until: until.day() });
+    let declared = Ok(Done::Declared(Secret::of_word(2)));
+    let steps = [
+        make_step(b"2024-03-01", 2, Command::Declare(Paper::Sworn), declared)?,
+        make_step(b"2024-04-01", 9, Command::Extend { until }, extended)?,
+        make_step(b"2024-04-02", 9, repay, repaid(b"2024-04-02", 1, 1000)?)?,
+    ];
+    let mut pledge = plain(alloc, 10_000)?;
+    if plays(&mut pledge, &steps) {
+        Ok(pledge)
+    } else {
+        Err("a command answers otherwise".into())
+    }
+}
+
+// What stands in the parts of such a pledge: the pence repaid, the second secret, the end of the
+// longer period, and the day of the last change.
+#[derive(Clone, Copy, Debug)]
+struct Bend {
+    pence: u64,
+    second: u128,
+    until: Day,
+    last: Day,
+}
+
+fn make_bend(pence: u64, second: u128, until: &[u8], last: &[u8]) -> Result<Bend, Fail> {
+    let (until, last) = (day(until)?, day(last)?);
+    Ok(Bend {
+        pence,
+        second,
+        until,
+        last,
+    })
+}
+
+fn bent_entries(alloc: Global, pence: u64) -> Result<Entries, Fail> {
+    let entry = Entry {
+        seq: 1,
+        day: day(b"2024-04-02")?,
+        sort: Sort::Repay,
+        pence,
+    };
+    Ok(Entries::from_vec(Vec::from_slice(alloc, &[entry])?))
+}
+
+fn bent_secrets(alloc: Global, second: u128) -> Result<Secrets, Fail> {
+    let first = Issued {
+        day: day(b"2024-01-31")?,
+        sort: Issue::Opening,
+        secret: Secret::of_word(1),
+    };
+    let second = Issued {
+        day: day(b"2024-03-01")?,
+        sort: Issue::Sworn,
+        secret: Secret::of_word(second),
+    };
+    Ok(Secrets::from_vec(Vec::from_slice(alloc, &[first, second])?))
+}
+
+fn bent_extensions(alloc: Global, until: Day) -> Result<Extensions, Fail> {
+    let day = day(b"2024-04-01")?;
+    let extension = Extension { day, until };
+    Ok(Extensions::from_vec(Vec::from_slice(alloc, &[extension])?))
+}
+
+// The parts of a pledge with these values.
+fn bent(alloc: Global, bend: &Bend) -> Result<Parts, Fail> {
+    let entries = bent_entries(alloc, bend.pence)?;
+    let secrets = bent_secrets(alloc, bend.second)?;
+    let extensions = bent_extensions(alloc, bend.until)?;
+    let mut parts = used(alloc)?.parts()?;
+    parts.entries = entries;
+    parts.secrets = secrets;
+    parts.extensions = extensions;
+    parts.last = bend.last;
+    Ok(parts)
+}
+
+// What is owing on the last day on the pledge of these values, or none where its parts are handed back.
+fn owing_of(alloc: Global, bend: &Bend) -> Result<Option<u64>, Fail> {
+    let parts = bent(alloc, bend)?;
+    match Pledge::of_parts(parts) {
+        Ok(pledge) => Ok(Some(pledge.owing(pledge.last()).total)),
+        Err(back) if back.last == bend.last && back.entries.len() == 1 => Ok(None),
+        Err(_) => Err("other parts are handed back".into()),
+    }
+}
+
+#[test]
+fn parts_of_no_pledge(rt: HostRuntime) -> Result<(), Fail> {
+    for (bend, owing) in [
+        (
+            make_bend(1000, 2, b"2024-09-30", b"2024-04-02")?,
+            Some(9000),
+        ),
+        (make_bend(10_000, 2, b"2024-09-30", b"2024-04-02")?, Some(0)),
+        (make_bend(10_001, 2, b"2024-09-30", b"2024-04-02")?, None),
+        (make_bend(0, 2, b"2024-09-30", b"2024-04-02")?, None),
+        (make_bend(1000, 1, b"2024-09-30", b"2024-04-02")?, None),
+        (
+            make_bend(1000, 2, b"2024-08-01", b"2024-04-02")?,
+            Some(9000),
+        ),
+        (make_bend(1000, 2, b"2024-07-31", b"2024-04-02")?, None),
+        (make_bend(1000, 2, b"2024-09-30", b"2024-04-01")?, None),
+    ] {
+        assert_eq!(rt; owing_of(rt.alloc(), &bend)?, owing, "at {bend:?}");
+    }
     Ok(())
 }
 
