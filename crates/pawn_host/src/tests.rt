@@ -241,6 +241,19 @@ struct Came {
 
 // Answers a stream with four stamps, over a reader and a writer that fail at these calls.
 fn answered(rt: &impl Abort, alloc: Global, stream: &[u8], reads: u32, writes: u32) -> Came {
+    let words = &[1, 2, WORD, 4];
+    answered_with(rt, alloc, stream, words, reads, writes)
+}
+
+// The same, with a stamp for each of these words.
+fn answered_with(
+    rt: &impl Abort,
+    alloc: Global,
+    stream: &[u8],
+    words: &[u128],
+    reads: u32,
+    writes: u32,
+) -> Came {
     let mut service = service(rt, alloc, 100);
     let mut reader = Reading::new(Trickle {
         bytes: stream,
@@ -252,7 +265,7 @@ fn answered(rt: &impl Abort, alloc: Global, stream: &[u8], reads: u32, writes: u
     });
     let stamps = Stamps {
         day: stamp(rt, "2024-01-31", 0).day,
-        words: &[1, 2, WORD, 4],
+        words,
     };
     let came = service.answer_all(&mut reader, &mut writer, stamps);
     let Drip {
@@ -318,6 +331,59 @@ fn streams_that_close(rt: HostRuntime) -> Result<(), Fail> {
     ends_as(&rt, alloc, closed.as_slice(), How::Closed, 1, NONE);
     let old = joined(alloc, &[b"GET /books/7/held HTTP/1.0\r\n\r\n", CREATE])?;
     ends_as(&rt, alloc, old.as_slice(), How::Closed, 1, NONE);
+    Ok(())
+}
+
+// These bytes so many times, and others behind them.
+fn repeated(alloc: Global, bytes: &[u8], times: u32, rest: &[u8]) -> Result<Vec<u8>, Fail> {
+    let mut all = Vec::new(alloc);
+    for _ in 0..times {
+        all.extend_from_slice(bytes)?;
+    }
+    all.extend_from_slice(rest)?;
+    Ok(all)
+}
+
+// Answers 999 requests and this rest with 1,000 stamps, and compares how that ends, and the replies.
+fn ends_after_999(
+    rt: &impl Abort,
+    alloc: Global,
+    rest: &[u8],
+    how: How,
+    acted: u32,
+) -> Result<(), Fail> {
+    let stream = repeated(alloc, NO_RECEIPT, 999, rest)?;
+    let words = &[WORD; 1000];
+    let Came { came, written } = answered_with(
+        rt,
+        alloc,
+        stream.as_slice(),
+        words,
+        100_000,
+        200_000,
+    );
+    assert_eq!(rt; came, Ok(Ended { how, acted }));
+    let replies = repeated(alloc, NONE, acted, b"")?;
+    assert!(rt; written.as_slice() == replies.as_slice());
+    Ok(())
+}
+
+#[test]
+fn a_thousand_requests(rt: HostRuntime) -> Result<(), Fail> {
+    let alloc = rt.alloc();
+    let closing = b"GET /books/7/held HTTP/1.0\r\n\r\n";
+    let two = joined(alloc, &[NO_RECEIPT, NO_RECEIPT])?;
+    let faulty = joined(alloc, &[NO_RECEIPT, b"}"])?;
+    let closed = joined(alloc, &[closing, NO_RECEIPT])?;
+    for (rest, how, acted) in [
+        (b"".as_slice(), How::End, 999),
+        (NO_RECEIPT, How::Limit, 1000),
+        (two.as_slice(), How::Limit, 1000),
+        (faulty.as_slice(), How::Limit, 1000),
+        (closed.as_slice(), How::Closed, 1000),
+    ] {
+        ends_after_999(&rt, alloc, rest, how, acted)?;
+    }
     Ok(())
 }
 
