@@ -1,8 +1,14 @@
 use crate::fault::Fault;
 use crate::settings::Settings;
 use crate::words::Words;
-use std::fs;
+use crate::{answer, refuse, usage};
+use std::alloc::Global;
+use std::cell::Cell;
+use std::fmt::Display;
+use std::io::Eprint;
+use std::process::ExitCode;
 use std::test::Fail;
+use std::{fs, io};
 
 const SEED: &str = "0000000000000000000000000000000000000000000000000000000000000000";
 
@@ -70,4 +76,77 @@ fn words_are_the_streams(rt: HostRuntime) {
     assert_eq!(rt; words.next(), 0x76b8_e0ad_a0f1_3d90_405d_6ae5_5386_bd28);
     assert_eq!(rt; words.next(), 0xbdd2_19b8_a08d_ed1a_a836_efcc_8b77_0dc7);
     assert_eq!(rt; words.next(), 0xda41_597c_5157_488d_7724_e03f_b8d8_4a37);
+}
+
+// Tells whether the last line on the standard error is the one that is wanted.
+#[derive(Drop)]
+struct Heard<'a> {
+    alloc: Global,
+    wanted: &'a str,
+    is_heard: Cell<bool>,
+}
+
+impl Eprint for Heard<'_> {
+    fn eprint<D: Display + Drop>(&self, _value: D) -> io::Result<()> {
+        self.is_heard.set(false);
+        Ok(())
+    }
+
+    fn eprintln<D: Display + Drop>(&self, value: D) -> io::Result<()> {
+        let line = value.to_string(self.alloc)?;
+        self.is_heard.set(line.as_str() == self.wanted);
+        Ok(())
+    }
+}
+
+fn listener(alloc: Global, wanted: &str) -> Heard<'_> {
+    Heard {
+        alloc,
+        wanted,
+        is_heard: Cell::new(false),
+    }
+}
+
+#[test]
+fn lines_of_what_is_refused(rt: HostRuntime) {
+    let heard = listener(rt.alloc(), "usage: pawnd answer|serve|migrate|check");
+    assert!(rt; usage(&heard) == ExitCode::from(2));
+    assert!(rt; heard.is_heard.get());
+    for (fault, line) in [
+        (Fault::BadDay, "fault 101 BadDay"),
+        (Fault::Memory, "fault 491 Memory"),
+        (Fault::Store, "fault 503 Store"),
+        (Fault::BadSeed, "fault 801 BadSeed"),
+        (Fault::BadKey, "fault 803 BadKey"),
+    ] {
+        let heard = listener(rt.alloc(), line);
+        assert!(rt; refuse(&heard, fault) == ExitCode::from(1));
+        assert!(rt; heard.is_heard.get(), "at {line}");
+    }
+}
+
+// The status after these words behind the command.
+fn status_of(rt: &HostRuntime, words: &[&str]) -> Result<ExitCode, Fail> {
+    let mut args = Vec::new(rt.alloc());
+    for word in words {
+        args.push(String::from_str(rt.alloc(), word)?)?;
+    }
+    Ok(answer(rt, args.into_iter()))
+}
+
+#[test]
+fn statuses_of_what_is_refused(rt: HostRuntime) -> Result<(), Fail> {
+    let day = "2024-01-31";
+    for (words, status) in [
+        ([].as_slice(), 2u8),
+        (&[":memory:", day, SEED], 2),
+        (&[":memory:", day, SEED, KEY, "x"], 2),
+        (&[":memory:", "2024-02-30", SEED, KEY], 1),
+        (&["books", "2024-02-30", "x", "x"], 1),
+        (&["books", day, SEED, KEY], 1),
+    ] {
+        let ended = status_of(&rt, words)?;
+        assert!(rt; ended == ExitCode::from(status), "at {words:?}");
+    }
+    Ok(())
 }
