@@ -6,6 +6,8 @@ use crate::{
 use std::alloc::Global;
 use std::test::Fail;
 
+mod histories;
+
 // A command on a day, with a word, and what it is to answer.
 #[derive(Clone, Copy)]
 struct Step {
