@@ -1,6 +1,6 @@
 -- What is planned and made is the host's step.
 use Rattle.std.proofs.Common.{◌≡◌, ℕ, ◌<◌, ◌≤◌, Some, None, Ok, Err, refl, ◌∙◌, ap, sym, subst, arith, inl, inr}
-use Rattle.std.specs.Prelude.{if◌then◌else◌, Option, Result, Bool, true, false, nat_lt, ◌⊎◌}
+use Rattle.std.specs.Prelude.{if◌then◌else◌, Option, true, false, nat_lt, ◌⊎◌}
 use Rattle.std.specs.FinMap.{get}
 use Rattle.std.proofs.lemmas.Bool.Decides.{nat_tests}
 use Rattle.pawn_pledge.specs.declared.command.Stamp.{Stamp}
@@ -12,7 +12,7 @@ use Rattle.pawn_book.specs.declared.change.Change.{Change}
 use Rattle.pawn_book.specs.BookStep.{BookValue, Outcome, Refuses, Says, Makes, Told, out_of, changed_book, book_step}
 use Rattle.pawn_book.specs.HostStep.{Host, limited, host_step, host_after, with_book, rows}
 use Rattle.pawn_book.specs.Sound.{IsSound}
-use Rattle.pawn_book.specs.Keeping.{IsUnwell, Plans, Acts, Commits, CanSave, outcome_of, book_of, changed, stepped}
+use Rattle.pawn_book.specs.Keeping.{IsUnwell, Plans, Acts, Commits, book_of, changed, stepped}
 
 -- the step of the request's book
 abbrev pub step_of : Host → ℕ → Stamp → Request → Outcome

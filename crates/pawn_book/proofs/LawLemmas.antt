@@ -1,9 +1,8 @@
 -- The laws of books.
-use Rattle.std.proofs.Common.{◌≡◌, ◌≢◌, ℕ, ◌+◌, ◌<◌, ◌≤◌, zero, suc, List, [], ◌∷◌, ◌++◌, length, Some, None, Ok, Err, refl, ◌∙◌, ap, sym, subst, arith, append_assoc, length-append}
-use Rattle.std.specs.Prelude.{if◌then◌else◌, Option, Result, ◌==◌, ◌&&◌, ◌||◌, Bool, true, false, nat_lt, nat_le, unwrap_or, find, map, slice_get}
+use Rattle.std.proofs.Common.{◌≡◌, ℕ, ◌+◌, zero, suc, List, [], ◌∷◌, ◌++◌, length, Some, None, Ok, Err, refl, ◌∙◌, ap, sym, subst, arith, length-append}
+use Rattle.std.specs.Prelude.{if◌then◌else◌, is_some, Option, Result, ◌==◌, ◌&&◌, ◌||◌, Bool, true, false, nat_lt, nat_le, unwrap_or, slice_get}
 use Rattle.std.specs.Result.{result_unwrap_or}
 use Rattle.std.proofs.lemmas.Bool.Decides.{nat_tests}
-use Rattle.std.proofs.lemmas.List.{append-nil}
 use Rattle.pawn_terms.specs.Terms.{TermsValue, most_keep, most_rate}
 use Rattle.pawn_terms.specs.TermsFault.{terms_answer}
 use Rattle.pawn_terms.specs.declared.terms.TermsFault.{TermsFault}
@@ -17,24 +16,38 @@ use Rattle.pawn_pledge.specs.declared.command.Stamp.{Stamp}
 use Rattle.pawn_pledge.specs.declared.record.Opening.{Opening}
 use Rattle.pawn_pledge.specs.declared.refusal.Refusal.{Refusal as PledgeRefusal}
 use Rattle.pawn_pledge.specs.Pledge.{PledgeValue}
-use Rattle.pawn_pledge.specs.Step.{started}
+use Rattle.pawn_pledge.specs.Step.{Answered, Changed, entry_of, pledge_step, started}
+use Rattle.pawn_pledge.specs.Replayable.{AreNumbered, IsStanding}
+use Rattle.pawn_pledge.specs.declared.command.Command.{Command}
+use Rattle.pawn_pledge.specs.declared.command.Done.{Done}
+use Rattle.pawn_pledge.specs.declared.receipt.Receipt.{Receipt}
+use Rattle.pawn_pledge.specs.declared.record.Issued.{Issued}
+use Rattle.pawn_debt.specs.declared.entry.Sort.TheVariants.{Draw, Repay}
+use Rattle.pawn_book.specs.declared.request.BrokerCommand.{BrokerCommand}
+use Rattle.pawn_book.specs.declared.request.BrokerCommand.TheVariants as broker
+use Rattle.pawn_book.specs.declared.request.BearerCommand.TheVariants as bearer
+use Rattle.pawn_book.specs.Commands.{broker_command}
+use Rattle.pawn_book.specs.Sound.{IsSoundBook}
 use Rattle.pawn_book.specs.declared.request.Caller.{Caller}
 use Rattle.pawn_book.specs.declared.request.Caller.TheVariants.{Operator, Broker, Bearer}
-use Rattle.pawn_book.specs.declared.request.BrokerRequest.TheVariants.{PutTerms, TakePledge}
-use Rattle.pawn_book.specs.declared.request.BearerRequest.TheVariants.{Held}
-use Rattle.pawn_book.specs.declared.request.NewBook.{NewBook}
+use Rattle.pawn_book.specs.declared.request.BrokerRequest.TheVariants.{PutTerms, TakePledge, OnPledge, Show}
+use Rattle.pawn_book.specs.declared.request.BearerRequest.TheVariants.{Held, OnPledge as OnReceipt}
 use Rattle.pawn_book.specs.declared.request.NewTerms.{NewTerms}
 use Rattle.pawn_book.specs.declared.refusal.Refusal.{Refusal}
-use Rattle.pawn_book.specs.declared.refusal.Refusal.TheVariants.{BookTaken, NoSuchBook, NoSuchReceipt, NotOperator, PledgesFull, RefTaken, TermsFull, TermsSeq}
+use Rattle.pawn_book.specs.declared.refusal.Refusal.TheVariants.{BookTaken, NoSuchBook, NotOperator, PledgesFull, RefTaken, TermsFull, TermsSeq}
 use Rattle.pawn_book.specs.declared.reply.Reply.{Reply}
 use Rattle.pawn_book.specs.declared.reply.Reply.TheVariants.{BookMade, TermsPut, Opened}
 use Rattle.pawn_book.specs.declared.change.Change.{Change}
 use Rattle.pawn_book.specs.declared.change.Head.{Head}
-use Rattle.pawn_book.specs.declared.change.Change.TheVariants.{MakeBook, AddTerms, PutPledge}
-use Rattle.pawn_book.specs.BookStep.{BookValue, Out, Told, Shown, Outcome, Refuses, Says, Makes, are_terms, are_unknown, book_after, book_step, broker_step, changed_book, created, first_receipt, gated, head_of, held_out, is_agreed, is_book, is_flag, is_kind, is_opening, is_text, made, made_book, newest, next_terms, operated, pledge_from, put_from, put_terms, take_pledge, taken_under, terms_at, with_reference, with_room, under_pledge, under_terms, live_at, pledge_in}
-use Rattle.pawn_book.specs.Laws.{ChangesDiffer, RepeatsActOnce, book_run}
-use Rattle.pawn_book.proofs.Sounds.{absurd_none, put_next, some_is}
-use Rattle.pawn_book.proofs.Plans.{next_is, not_standing, past_row, taken_is}
+use Rattle.pawn_book.specs.declared.change.Change.TheVariants.{AddTerms, PutPledge}
+use Rattle.pawn_book.specs.BookStep.{BookValue, Told, Refuses, Says, are_terms, bearer_commands, broker_commands, first_secret, is_live, judged_outcome, only_live, windowed, book_step, changed_book, created, first_receipt, head_of, is_agreed, is_book, is_flag, is_kind, is_opening, is_text, made_book, newest, next_terms, pledge_from, put_from, put_terms, take_pledge, taken_under, terms_at, with_reference, with_room, under_pledge, under_terms, live_at, pledge_in}
+use Rattle.pawn_book.specs.Laws.{ChangesDiffer, EntriesActOnce, IsEntry, RepeatsActOnce, book_run}
+use Rattle.pawn_book.proofs.Sounds.{absurd_none, each_at, some_is}
+use Rattle.pawn_book.proofs.KeptLemmas.{IsKept, differs_moved, number_kept, put_there, reference_kept}
+use Rattle.pawn_book.proofs.EntryLemmas.{again_told}
+use Rattle.pawn_book.proofs.Plans.{next_is, not_standing, past_row}
+use Rattle.pawn_book.proofs.GrowLemmas.{Grown, grown_same, next_pledges, run_grows}
+use Rattle.pawn_book.proofs.MadeLemmas.{BookIs, CommandIs, DidOn, MadeBy, PledgeIs, TermsAre, if_makes, made_by, number_made, receipt_made}
 
 -- a text is itself
 text_same : (xs : List ℕ) → is_text xs xs ≡ true
@@ -46,161 +59,6 @@ both a b e f = ap (λ v. v && b) e ∙ f
 
 number_same : (n : ℕ) → (n == n) ≡ true
 number_same n = grind (arith, nat_tests)
-
--- what stays and what grows in a book
-record Grown (old new : BookValue) : Type 0 where
-  key : new.key ≡ old.key
-  name : new.name ≡ old.name
-  capacity : new.capacity ≡ old.capacity
-  terms : (more : List TermsValue) × (new.terms ≡ old.terms ++ more)
-  pledges : (more : List PledgeValue) × (new.pledges ≡ old.pledges ++ more)
-
-grown_same : (book : BookValue) → Grown book book
-grown_same book = record { key = refl; name = refl; capacity = refl; terms = ([], sym (append-nil book.terms)); pledges = ([], sym (append-nil book.pledges)) }
-
-grown_on : (a b c : BookValue) → Grown a b → Grown b c → Grown a c
-grown_on a b c f s = record {
-  key = s.key ∙ f.key;
-  name = s.name ∙ f.name;
-  capacity = s.capacity ∙ f.capacity;
-  terms = (f.terms.0 ++ s.terms.0, s.terms.1 ∙ ap (λ ts. ts ++ s.terms.0) f.terms.1 ∙ append_assoc a.terms f.terms.0 s.terms.0);
-  pledges = (f.pledges.0 ++ s.pledges.0, s.pledges.1 ∙ ap (λ ps. ps ++ s.pledges.0) f.pledges.1 ∙ append_assoc a.pledges f.pledges.0 s.pledges.0);
-}
-
-abbrev GrowsTo : BookValue → Option BookValue → Type 0
-GrowsTo book after = (next : BookValue) × (after ≡ Some next) × Grown book next
-
-stays : (book : BookValue) → GrowsTo book (Some book)
-stays book = (book, refl, grown_same book)
-
-grows_by : (book : BookValue) (test : Bool) (x y : Outcome) → GrowsTo book (book_after (Some book) x) → GrowsTo book (book_after (Some book) y) → GrowsTo book (book_after (Some book) (if test then x else y))
-grows_by book true x y f s = f
-grows_by book false x y f s = s
-
-put_terms_grows : (book : BookValue) (b : ℕ) (new : NewTerms) (o : Option TermsValue) → GrowsTo book (book_after (Some book) (put_terms book b new o))
-put_terms_grows book b new (Some terms) = grows_by book (are_terms terms new) _ _ (stays book) (stays book)
-put_terms_grows book b new None = from (next_terms (length book.terms) new)
-  where
-    from : (r : Result TermsValue Refusal) → GrowsTo book (book_after (Some book) (made r (λ terms. Makes (AddTerms b new.version terms) (TermsPut new.version))))
-    from (Err why) = stays book
-    from (Ok terms) = (
-      record book { terms = book.terms ++ terms ∷ [] },
-      refl,
-      record { key = refl; name = refl; capacity = refl; terms = (terms ∷ [], refl); pledges = ([], sym (append-nil book.pledges)) },
-    )
-
--- the list after the next pledge
-next_pledges : (book : BookValue) (opening : Opening) (stamp : Stamp) (p : PledgeValue) → taken_under (head_of book) opening stamp (newest book.terms) ≡ Ok p
-    → put_from 1 book.pledges p.number p ≡ book.pledges ++ p ∷ []
-next_pledges book opening stamp p is =
-    let number = (taken_is (head_of book) opening stamp (newest book.terms) p is).0 in
-    put_next 1 book.pledges p.number p (omega (arith, number))
-
-take_pledge_grows : (book : BookValue) (b : ℕ) (opening : Opening) (stamp : Stamp) (o : Option PledgeValue) → GrowsTo book (book_after (Some book) (take_pledge book b opening stamp o))
-take_pledge_grows book b opening stamp (Some p) = grows_by book (is_opening p opening) _ _ (stays book) (stays book)
-take_pledge_grows book b opening stamp None = from (taken_under (head_of book) opening stamp (newest book.terms)) refl
-  where
-    from : (r : Result PledgeValue Refusal) → taken_under (head_of book) opening stamp (newest book.terms) ≡ r
-        → GrowsTo book (book_after (Some book) (made r (λ p. Makes (PutPledge b p) (Opened (first_receipt p)))))
-    from (Err why) is = stays book
-    from (Ok p) is = (
-      record book { pledges = put_from 1 book.pledges p.number p },
-      refl,
-      record { key = refl; name = refl; capacity = refl; terms = ([], sym (append-nil book.terms)); pledges = (p ∷ [], next_pledges book opening stamp p is) },
-    )
-
-held_stays : (book : BookValue) (stamp : Stamp) (shown : List (Option PledgeValue)) → GrowsTo book (book_after (Some book) (held_out stamp shown))
-held_stays book stamp shown = grows_by book (are_unknown shown) (Refuses NoSuchReceipt) (Says (Shown stamp.day shown)) (stays book) (stays book)
-
--- a book grows with each request
-step_grows : (book : BookValue) (operator b : ℕ) (stamp : Stamp) (caller : Caller) → GrowsTo book (book_after (Some book) (book_step (Some book) operator b stamp caller))
-step_grows book operator b stamp (Operator key new) =
-    grows_by book (key == operator) _ _ (grows_by book (is_book (head_of book) new) _ _ (stays book) (stays book)) (stays book)
-step_grows book operator b stamp (Broker key (PutTerms new)) =
-    grows_by book (book.key == key) _ _ (put_terms_grows book b new (terms_at book.terms new.version)) (stays book)
-step_grows book operator b stamp (Broker key (TakePledge opening)) =
-    grows_by book (book.key == key) _ _ (take_pledge_grows book b opening stamp (with_reference book.pledges opening.reference)) (stays book)
-step_grows book operator b stamp (Bearer (Held receipts)) = held_stays book stamp (map (live_at (pledge_in (Some book))) receipts)
-
-run_grows : (base book : BookValue) (operator b : ℕ) (later : List (Stamp × Caller)) → Grown base book → GrowsTo base (book_run (Some book) operator b later)
-run_grows base book operator b [] grown = (book, refl, grown)
-run_grows base book operator b (asked ∷ rest) grown =
-    let step = step_grows book operator b asked.0 asked.1 in
-    subst (λ o. GrowsTo base (book_run o operator b rest)) (sym step.1) (run_grows base step.0 operator b rest (grown_on base book step.0 grown step.2))
-
--- what an outcome makes
-abbrev change_in : Outcome → Change → Change
-change_in (Refuses why) other = other
-change_in (Says out) other = other
-change_in (Makes change reply) other = change
-
-abbrev reply_in : Outcome → Reply → Reply
-reply_in (Refuses why) other = other
-reply_in (Says out) other = other
-reply_in (Makes change reply) other = reply
-
--- how a change came about
-data MadeBy (before : Option BookValue) (operator b : ℕ) (stamp : Stamp) (caller : Caller) (change : Change) (reply : Reply) : Type 0 where
-  BookIs : (key : ℕ) (new : NewBook) → caller ≡ Operator key new → (key == operator) ≡ true → before ≡ None
-      → change ≡ MakeBook b new → reply ≡ BookMade b → MadeBy before operator b stamp caller change reply
-  TermsAre : (key : ℕ) (new : NewTerms) (book : BookValue) (terms : TermsValue) → caller ≡ Broker key (PutTerms new) → before ≡ Some book → (book.key == key) ≡ true
-      → terms_at book.terms new.version ≡ None → next_terms (length book.terms) new ≡ Ok terms
-      → change ≡ AddTerms b new.version terms → reply ≡ TermsPut new.version → MadeBy before operator b stamp caller change reply
-  PledgeIs : (key : ℕ) (opening : Opening) (book : BookValue) (p : PledgeValue) → caller ≡ Broker key (TakePledge opening) → before ≡ Some book → (book.key == key) ≡ true
-      → with_reference book.pledges opening.reference ≡ None → taken_under (head_of book) opening stamp (newest book.terms) ≡ Ok p
-      → change ≡ PutPledge b p → reply ≡ Opened (first_receipt p) → MadeBy before operator b stamp caller change reply
-
-if_makes : (test : Bool) (x : Outcome) (why : Refusal) (change : Change) (reply : Reply) → (if test then x else Refuses why) ≡ Makes change reply → (test ≡ true) × (x ≡ Makes change reply)
-if_makes true x why change reply is = (refl, is)
-if_makes false x why change reply is = cc is
-
-told_again : {P : Type 0} (test : Bool) (out : Out) (why : Refusal) (change : Change) (reply : Reply) → (if test then Says out else Refuses why) ≡ Makes change reply → P
-told_again true out why change reply is = cc is
-told_again false out why change reply is = cc is
-
-same_change : (c d : Change) (r s : Reply) → Makes c r ≡ Makes d s → d ≡ c
-same_change c d r s is = sym (ap (λ o. change_in o c) is)
-
-same_reply : (c d : Change) (r s : Reply) → Makes c r ≡ Makes d s → s ≡ r
-same_reply c d r s is = sym (ap (λ o. reply_in o r) is)
-
-made_ok : {V : Type 0} (r : Result V Refusal) (makes : V → Outcome) (change : Change) (reply : Reply) → made r makes ≡ Makes change reply → (v : V) × (r ≡ Ok v) × (makes v ≡ Makes change reply)
-made_ok (Err why) makes change reply is = cc is
-made_ok (Ok v) makes change reply is = (v, refl, is)
-
-made_by : (before : Option BookValue) (operator b : ℕ) (stamp : Stamp) (caller : Caller) (change : Change) (reply : Reply)
-    → book_step before operator b stamp caller ≡ Makes change reply → MadeBy before operator b stamp caller change reply
-made_by None operator b stamp (Operator key new) change reply is =
-    let passed = if_makes (key == operator) _ _ change reply is in
-    BookIs key new refl passed.0 refl (same_change _ change _ reply passed.1) (same_reply _ change _ reply passed.1)
-made_by (Some book) operator b stamp (Operator key new) change reply is =
-    let passed = if_makes (key == operator) _ _ change reply is in told_again (is_book (head_of book) new) _ _ change reply passed.1
-made_by None operator b stamp (Broker key asked) change reply is = cc is
-made_by (Some book) operator b stamp (Broker key (PutTerms new)) change reply is =
-    let passed = if_makes (book.key == key) _ _ change reply is in from (terms_at book.terms new.version) refl passed.1
-  where
-    from : (o : Option TermsValue) → terms_at book.terms new.version ≡ o → put_terms book b new o ≡ Makes change reply → MadeBy (Some book) operator b stamp (Broker key (PutTerms new)) change reply
-    from (Some terms) at is = told_again (are_terms terms new) _ _ change reply is
-    from None at made_is =
-        let ok = made_ok (next_terms (length book.terms) new) _ change reply made_is in
-        TermsAre key new book ok.0 refl refl (if_makes (book.key == key) _ _ change reply is).0 at ok.1 (same_change _ change _ reply ok.2) (same_reply _ change _ reply ok.2)
-made_by (Some book) operator b stamp (Broker key (TakePledge opening)) change reply is =
-    let passed = if_makes (book.key == key) _ _ change reply is in from (with_reference book.pledges opening.reference) refl passed.1
-  where
-    from : (o : Option PledgeValue) → with_reference book.pledges opening.reference ≡ o → take_pledge book b opening stamp o ≡ Makes change reply
-        → MadeBy (Some book) operator b stamp (Broker key (TakePledge opening)) change reply
-    from (Some p) at is = told_again (is_opening p opening) _ _ change reply is
-    from None at made_is =
-        let ok = made_ok (taken_under (head_of book) opening stamp (newest book.terms)) _ change reply made_is in
-        PledgeIs key opening book ok.0 refl refl (if_makes (book.key == key) _ _ change reply is).0 at ok.1 (same_change _ change _ reply ok.2) (same_reply _ change _ reply ok.2)
-made_by before operator b stamp (Bearer (Held receipts)) change reply is = held_makes (map (live_at (pledge_in before)) receipts) is
-  where
-    held_makes : (shown : List (Option PledgeValue)) → held_out stamp shown ≡ Makes change reply → MadeBy before operator b stamp (Bearer (Held receipts)) change reply
-    held_makes shown is = denied (are_unknown shown) is
-      where
-        denied : (test : Bool) → (if test then Refuses NoSuchReceipt else Says (Shown stamp.day shown)) ≡ Makes change reply → MadeBy before operator b stamp (Bearer (Held receipts)) change reply
-        denied true is = cc is
-        denied false is = cc is
 
 longer : {A : Type 0} (xs : List A) (x : A) → xs ++ x ∷ [] ≡ xs → ⊥
 longer xs x is = let long = ap length is in let more = length-append xs (x ∷ []) in absurd (omega (arith, long, more))
@@ -218,8 +76,15 @@ change_differs before operator b stamp caller change reply is same = from (made_
         longer book.terms terms (ap (λ (o : Option BookValue). (unwrap_or o book).terms) after)
     from (PledgeIs key opening book p asks stands passes absent answer makes says) =
         let after : Some (record book { pledges = put_from 1 book.pledges p.number p }) ≡ Some book =
-        ap (λ o. changed_book o (PutPledge b p)) (sym stands) ∙ ap (changed_book before) (sym makes) ∙ same ∙ stands in
+        ap (λ o. changed_book o (PutPledge b p.number p)) (sym stands) ∙ ap (changed_book before) (sym makes) ∙ same ∙ stands in
         longer book.pledges p (sym (next_pledges book opening stamp p answer) ∙ ap (λ (o : Option BookValue). (unwrap_or o book).pledges) after)
+    from (CommandIs book n command stands never did) =
+        let after : Some (record book { pledges = put_from 1 book.pledges n did.next }) ≡ Some book =
+        ap (λ o. changed_book o (PutPledge b n did.next)) (sym stands) ∙ ap (changed_book before) (sym did.makes) ∙ same ∙ stands in
+        let list : put_from 1 book.pledges n did.next ≡ book.pledges = ap (λ (o : Option BookValue). (unwrap_or o book).pledges) after in
+        let there : Some did.next ≡ Some did.old =
+        sym (put_there 1 book.pledges n did.old did.next did.stands) ∙ ap (λ ps. pledge_from 1 ps n) list ∙ did.stands in
+        differs_moved did.old did.next stamp command did.done did.step (some_is did.next did.old there)
 
 -- the terms that were added stand under their version
 added_at : (ts : List TermsValue) (n : ℕ) (t : TermsValue) (more : List TermsValue) → n ≡ length ts → slice_get ((ts ++ t ∷ []) ++ more) n ≡ Some t
@@ -269,42 +134,63 @@ flag_same true = refl
 flag_same false = refl
 
 -- a pledge was opened as it was asked for
+-- what was asked for is what stands
+abbrev IsAsked : Opening → PledgeValue → Type 0
+IsAsked opening p = (is_text p.reference opening.reference ≡ true) × (is_opening p opening ≡ true) × ((issued : Issued) × (p.secrets ≡ issued ∷ []))
+
 opened_asked : (number : ℕ) (opening : Opening) (version : ℕ) (terms : TermsValue) (stamp : Stamp) (p : PledgeValue) → started number opening version terms stamp ≡ Ok p
-    → (is_text p.reference opening.reference ≡ true) × (is_opening p opening ≡ true)
+    → IsAsked opening p
 opened_asked number opening version terms stamp p is =
     let row = past_row (is_bad_amount (credit_of opening.kind)) _ _ p is in
     let same = ap (λ (r : Result PledgeValue PledgeRefusal). result_unwrap_or r p) row.1 in
-    subst (λ (x : PledgeValue). (is_text x.reference opening.reference ≡ true) × (is_opening x opening ≡ true)) same (
+    subst (IsAsked opening) same (
       text_same opening.reference,
       both _ _ (both _ _ (both _ _ (text_same opening.article) (kind_same opening.kind)) (agreed_same opening.agreed)) (flag_same opening.five_days),
+      (_, refl),
     )
 
 taken_asked : (head : Head) (opening : Opening) (stamp : Stamp) (terms : Option TermsValue) (p : PledgeValue) → taken_under head opening stamp terms ≡ Ok p
-    → (is_text p.reference opening.reference ≡ true) × (is_opening p opening ≡ true)
+    → IsAsked opening p
 taken_asked head opening stamp None p is = cc is
 taken_asked head opening stamp (Some terms) p is = from (started (head.pledges + 1) opening head.terms terms stamp) refl is
   where
     from : (r : Result PledgeValue PledgeRefusal) → started (head.pledges + 1) opening head.terms terms stamp ≡ r → with_room head.pledges (under_pledge r) ≡ Ok p
-        → (is_text p.reference opening.reference ≡ true) × (is_opening p opening ≡ true)
+        → IsAsked opening p
     from (Err why) at is = cc is
     from (Ok q) at is =
         let row = past_row (nat_le most_pledges head.pledges) PledgesFull _ p is in
         let same : q ≡ p = ap (λ (r : Result PledgeValue Refusal). result_unwrap_or r q) row.1 in
-        subst (λ (x : PledgeValue). (is_text x.reference opening.reference ≡ true) × (is_opening x opening ≡ true)) same (opened_asked (head.pledges + 1) opening head.terms terms stamp q at)
+        subst (IsAsked opening) same (opened_asked (head.pledges + 1) opening head.terms terms stamp q at)
 
 -- the pledge that was taken is the one with its reference
-reference_added : (ps : List PledgeValue) (p : PledgeValue) (more : List PledgeValue) (reference : List ℕ) → with_reference ps reference ≡ None → is_text p.reference reference ≡ true
-    → with_reference ((ps ++ p ∷ []) ++ more) reference ≡ Some p
-reference_added [] p more reference none same = ap (λ v. if v then Some p else with_reference more reference) same
-reference_added (q ∷ ps) p more reference none same =
-    elim (is_text q.reference reference) as (λ v. (if v then Some q else with_reference ps reference) ≡ None → (if v then Some q else with_reference ((ps ++ p ∷ []) ++ more) reference) ≡ Some p) [
+reference_added : (ps : List PledgeValue) (p : PledgeValue) (reference : List ℕ) → with_reference ps reference ≡ None → is_text p.reference reference ≡ true
+    → with_reference (ps ++ p ∷ []) reference ≡ Some p
+reference_added [] p reference none same = ap (λ v. if v then Some p else None) same
+reference_added (q ∷ ps) p reference none same =
+    elim (is_text q.reference reference) as (λ v. (if v then Some q else with_reference ps reference) ≡ None → (if v then Some q else with_reference (ps ++ p ∷ []) reference) ≡ Some p) [
       | true ↦ λ at. absurd_none (sym at)
-      | false ↦ λ at. reference_added ps p more reference at same
+      | false ↦ λ at. reference_added ps p reference at same
     ] none
+
+-- what was agreed is told of a pledge that is kept
+opening_kept : (p q : PledgeValue) (opening : Opening) → IsKept p q → is_opening q opening ≡ is_opening p opening
+opening_kept p q opening kept =
+    ap (λ t. is_text t opening.article && is_kind q.kind opening.kind && is_agreed q.agreed opening.agreed && is_flag q.five_days opening.five_days) kept.article
+    ∙ ap (λ k. is_text p.article opening.article && is_kind k opening.kind && is_agreed q.agreed opening.agreed && is_flag q.five_days opening.five_days) kept.kind
+    ∙ ap (λ a. is_text p.article opening.article && is_kind p.kind opening.kind && is_agreed a opening.agreed && is_flag q.five_days opening.five_days) kept.agreed
+    ∙ ap (λ f. is_text p.article opening.article && is_kind p.kind opening.kind && is_agreed p.agreed opening.agreed && is_flag f opening.five_days) kept.five_days
+
+-- .. and its first receipt
+first_kept : (p q : PledgeValue) (issued : Issued) → p.secrets ≡ issued ∷ [] → IsKept p q → first_receipt q ≡ first_receipt p
+first_kept p q issued one kept =
+    let secrets : first_secret q.secrets ≡ first_secret p.secrets =
+    ap first_secret (kept.grows.secrets.1 ∙ ap (λ is. is ++ kept.grows.secrets.0) one) ∙ ap first_secret (sym one) in
+    ap (λ n. let r : Receipt = record { number = n; secret = first_secret q.secrets } in r) kept.number
+    ∙ ap (λ s. let r : Receipt = record { number = p.number; secret = s } in r) secrets
 
 -- a request that made a change is told the same again, and makes none
 pub repeat_told : RepeatsActOnce
-repeat_told before operator b stamp again caller change reply later is = from (made_by before operator b stamp caller change reply is)
+repeat_told before operator b stamp again caller change reply later making is = from (made_by before operator b stamp caller change reply is)
   where
     told : (book : BookValue) → changed_book before change ≡ Some book → ((next : BookValue) → Grown book next → book_step (Some next) operator b again caller ≡ Says (Told reply))
         → book_step (book_run (changed_book before change) operator b later) operator b again caller ≡ Says (Told reply)
@@ -337,12 +223,91 @@ repeat_told before operator b stamp again caller change reply later is = from (m
         ∙ ap (put_terms next b new) at ∙ ap (λ v. if v then Says (Told (TermsPut new.version)) else Refuses TermsSeq) (terms_asked (length book.terms) new terms answer)
         ∙ ap (λ r. Says (Told r)) (sym says))
     from (PledgeIs key opening book p asks stands passes absent answer makes says) =
-        told (record book { pledges = put_from 1 book.pledges p.number p }) (ap (changed_book before) makes ∙ ap (λ o. changed_book o (PutPledge b p)) stands) (λ next grown.
+        told (record book { pledges = put_from 1 book.pledges p.number p }) (ap (changed_book before) makes ∙ ap (λ o. changed_book o (PutPledge b p.number p)) stands) (λ next grown.
         let asked = taken_asked (head_of book) opening stamp (newest book.terms) p answer in
-        let at : with_reference next.pledges opening.reference ≡ Some p =
-        ap (λ ps. with_reference ps opening.reference) (grown.pledges.1 ∙ ap (λ ps. ps ++ grown.pledges.0) (next_pledges book opening stamp p answer))
-        ∙ reference_added book.pledges p grown.pledges.0 opening.reference absent asked.0 in
+        let there : with_reference (put_from 1 book.pledges p.number p) opening.reference ≡ Some p =
+        ap (λ ps. with_reference ps opening.reference) (next_pledges book opening stamp p answer) ∙ reference_added book.pledges p opening.reference absent asked.0 in
+        let found = reference_kept (put_from 1 book.pledges p.number p) next.pledges opening.reference p grown.pledges there in
+        let q = found.0 in
         ap (book_step (Some next) operator b again) asks
         ∙ ap (λ v. if v then take_pledge next b opening again (with_reference next.pledges opening.reference) else Refuses NoSuchBook) (opens book next key grown.key passes)
-        ∙ ap (take_pledge next b opening again) at ∙ ap (λ v. if v then Says (Told (Opened (first_receipt p))) else Refuses RefTaken) asked.1
+        ∙ ap (take_pledge next b opening again) found.1
+        ∙ ap (λ v. if v then Says (Told (Opened (first_receipt q))) else Refuses RefTaken) (opening_kept p q opening found.2 ∙ asked.1)
+        ∙ ap (λ r. Says (Told (Opened r))) (first_kept p q asked.2.0 asked.2.1 found.2)
         ∙ ap (λ r. Says (Told r)) (sym says))
+    from (CommandIs book n command stands never did) = absurd (never making)
+
+-- the pledge that a command changed stands at its number after any run
+stands_after : (book : BookValue) (operator b n : ℕ) (stamp : Stamp) (command : Command) (change : Change) (reply : Reply) (later : List (Stamp × Caller)) (did : DidOn book b n stamp command change reply)
+    → (after : BookValue) × (book_run (changed_book (Some book) change) operator b later ≡ Some after) × (after.key ≡ book.key)
+    × ((q : PledgeValue) × (pledge_from 1 after.pledges n ≡ Some q) × IsKept did.next q)
+stands_after book operator b n stamp command change reply later did =
+    let set : BookValue = record book { pledges = put_from 1 book.pledges n did.next } in
+    let run = run_grows set set operator b later (grown_same set) in
+    let after = run.0 in
+    let grown = run.2 in
+    let found = number_kept 1 set.pledges after.pledges n did.next grown.pledges (put_there 1 book.pledges n did.old did.next did.stands) in
+    (after, ap (λ c. book_run (changed_book (Some book) c) operator b later) did.makes ∙ run.1, grown.key, found)
+
+-- the entries of a sound book's pledges are numbered
+numbered_in : (book : BookValue) (n : ℕ) (p : PledgeValue) → IsSoundBook book → pledge_from 1 book.pledges n ≡ Some p → AreNumbered 1 p.entries
+numbered_in book n p sound at = (each_at IsStanding 1 book.pledges n p sound.standing at).replayable.entered.numbered
+
+-- a live receipt's pledge is the one at its number
+live_found : (s : ℕ) (q : PledgeValue) → is_some (only_live s (Some q)) ≡ true → only_live s (Some q) ≡ Some q
+live_found s q is = from (is_live s q) is
+  where
+    from : (v : Bool) → is_some (if v then Some q else None) ≡ true → (if v then Some q else None) ≡ Some q
+    from true live = refl
+    from false live = cc live
+
+-- an entry is told again
+pub entry_told : EntriesActOnce
+entry_told before operator b stamp again (Broker key (OnPledge n command)) change reply later sound entering is passes =
+    let passed = if_makes (before.key == key) _ _ change reply is in
+    let did = number_made before b n stamp (broker_command command) (pledge_from 1 before.pledges n) change reply refl passed.1 in
+    let stands = stands_after before operator b n stamp (broker_command command) change reply later did in
+    let after = stands.0 in
+    let q = stands.3.0 in
+    let opens : (after.key == key) ≡ true = ap (λ k. k == key) stands.2 ∙ passed.0 in
+    ap (λ o. book_step o operator b again (Broker key (OnPledge n command))) stands.1
+    ∙ ap (λ v. if v then broker_commands after b n again (broker_command command) (pledge_from 1 after.pledges n) else Refuses NoSuchBook) opens
+    ∙ ap (broker_commands after b n again (broker_command command)) stands.3.1
+    ∙ ap (λ j. windowed after (judged_outcome b n j)) (told command did.old did.next q did.done entering (numbered_in before n did.old sound did.stands) did.step stands.3.2)
+    ∙ ap (λ r. Says (Told r)) (sym did.says)
+  where
+    told : (c : BrokerCommand) (p next q : PledgeValue) (done : Done) → IsEntry c → AreNumbered 1 p.entries → pledge_step p stamp (broker_command c) ≡ Changed next done → IsKept next q
+        → pledge_step q again (broker_command c) ≡ Answered done
+    told (broker.Draw seq pence) p next q done entering numbered step kept =
+        again_told p next q stamp.day again.day seq Draw pence (entry_of p seq) done kept.grows.entries.0 numbered refl step kept.grows.entries.1
+    told (broker.Repay seq pence) p next q done entering numbered step kept =
+        again_told p next q stamp.day again.day seq Repay pence (entry_of p seq) done kept.grows.entries.0 numbered refl step kept.grows.entries.1
+    told broker.Hold p next q done entering numbered step kept = absurd entering
+    told broker.Release p next q done entering numbered step kept = absurd entering
+    told (broker.Declare paper) p next q done entering numbered step kept = absurd entering
+    told (broker.DecideBooking decision) p next q done entering numbered step kept = absurd entering
+    told (broker.Sell net) p next q done entering numbered step kept = absurd entering
+    told (broker.Extend until) p next q done entering numbered step kept = absurd entering
+entry_told before operator b stamp again (Bearer (OnReceipt r (bearer.Repay seq pence))) change reply later sound entering is passes =
+    let command : Command = Command.Repay seq pence in
+    let did = receipt_made before b r stamp command (live_at (pledge_in (Some before)) r) change reply refl is in
+    let stands = stands_after before operator b r.number stamp command change reply later did in
+    let after = stands.0 in
+    let q = stands.3.0 in
+    let kept = stands.3.2 in
+    let live : is_some (only_live r.secret (Some q)) ≡ true =
+    ap (λ o. is_some (only_live r.secret o)) (sym stands.3.1) ∙ ap (λ o. is_some (live_at (pledge_in o) r)) (sym stands.1) ∙ passes in
+    let told = again_told did.old did.next q stamp.day again.day seq Repay pence (entry_of did.old seq) did.done kept.grows.entries.0 (numbered_in before r.number did.old sound did.stands) refl did.step kept.grows.entries.1 in
+    ap (λ o. book_step o operator b again (Bearer (OnReceipt r (bearer.Repay seq pence)))) stands.1
+    ∙ ap (λ o. bearer_commands b r.number again command (only_live r.secret o)) stands.3.1
+    ∙ ap (bearer_commands b r.number again command) (live_found r.secret q live)
+    ∙ ap (judged_outcome b r.number) told
+    ∙ ap (λ r. Says (Told r)) (sym did.says)
+entry_told before operator b stamp again (Operator key new) change reply later sound entering is passes = absurd entering
+entry_told before operator b stamp again (Broker key (PutTerms new)) change reply later sound entering is passes = absurd entering
+entry_told before operator b stamp again (Broker key (TakePledge opening)) change reply later sound entering is passes = absurd entering
+entry_told before operator b stamp again (Broker key (Show n)) change reply later sound entering is passes = absurd entering
+entry_told before operator b stamp again (Bearer (Held receipts)) change reply later sound entering is passes = absurd entering
+entry_told before operator b stamp again (Bearer (OnReceipt r (bearer.AskBooking day window))) change reply later sound entering is passes = absurd entering
+entry_told before operator b stamp again (Bearer (OnReceipt r bearer.CancelBooking)) change reply later sound entering is passes = absurd entering
+entry_told before operator b stamp again (Bearer (OnReceipt r (bearer.Redeem paid))) change reply later sound entering is passes = absurd entering

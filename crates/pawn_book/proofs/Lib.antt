@@ -2,10 +2,17 @@ pub mod RowSums
 pub mod Places
 pub mod VisitLemmas
 pub mod Reading
+pub mod SoundLists
 pub mod Sounds
 pub mod Plans
+pub mod KeptLemmas
+pub mod CommandPlans
 pub mod ActLemmas
+pub mod EntryLemmas
+pub mod GrowLemmas
+pub mod MadeLemmas
 pub mod LawLemmas
+pub mod NextLemmas
 pub mod ListReads
 pub mod ListSaves
 pub mod ListKeeping

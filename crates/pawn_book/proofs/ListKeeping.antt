@@ -1,12 +1,12 @@
 -- What a list of books tells of its host.
 use Rattle.std.proofs.Common.{◌≡◌, ◌∙◌, ℕ, ap, sym, subst}
 use Rattle.std.specs.FinMap.{get}
-use Rattle.std.specs.Prelude.{⊤}
+use Rattle.std.specs.Prelude.{⊤, Option, Some, None}
+use Rattle.pawn_book.specs.BookStep.{BookValue}
 use Rattle.pawn_book.specs.HostStep.{Host}
-use Rattle.pawn_book.specs.Sound.{IsSound}
-use Rattle.pawn_book.specs.Keeping.{Reads}
+use Rattle.pawn_book.specs.Keeping.{IsNextBook, Reads}
 use Rattle.pawn_book.specs.Books.{Books}
-use Rattle.pawn_book.specs.Listed.{book_at, host_of}
+use Rattle.pawn_book.specs.Listed.{IsLeastAbove, book_at, host_of}
 use Rattle.pawn_book.proofs.ListReads.{get-book_at}
 
 -- a read tells what is so of the list's host
@@ -21,3 +21,14 @@ list_reads k P told = record {
 -- the book that is read from the fields
 pub book_read : (k v : Books) (b : ℕ) → k ≡ v → book_at k.books b ≡ get (host_of v).books b
 book_read k v b is = sym (get-book_at k.books b) ∙ ap (λ (o : Books). get (host_of o).books b) is
+
+-- the least number above one, as the host has it
+pub next_read : (k v : Books) (after : ℕ) (next : Option ℕ) → k ≡ v → IsLeastAbove k.books after next → IsNextBook (host_of v) after next
+next_read k v after next is least = subst (λ (o : Books). IsNextBook (host_of o) after next) is (from next least)
+  where
+    listed : (b : ℕ) (book : BookValue) → get (host_of k).books b ≡ Some book → book_at k.books b ≡ Some book
+    listed b book stands = sym (get-book_at k.books b) ∙ stands
+
+    from : (o : Option ℕ) → IsLeastAbove k.books after o → IsNextBook (host_of k) after o
+    from None none = λ b book stands. none b book (listed b book stands)
+    from (Some n) least = (least.0, (least.1.0, get-book_at k.books n ∙ least.1.1), λ b book stands. least.2 b book (listed b book stands))

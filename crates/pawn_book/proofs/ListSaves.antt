@@ -1,8 +1,8 @@
 -- A list of books after a change.
 use Rattle.std.proofs.Common.{◌≡◌, ℕ, ◌+◌, ◌<◌, ◌≤◌, List, [], ◌∷◌, ◌++◌, length, map, set, Some, None, Ok, Err, refl, ◌∙◌, ap, sym, subst, arith, inl, inr, length-append}
-use Rattle.std.specs.Prelude.{if◌then◌else◌, Option, Bool, true, false, ◌==◌, ◌⊎◌, sum_by, unwrap_or}
+use Rattle.std.specs.Prelude.{if◌then◌else◌, Option, true, false, ◌==◌, ◌⊎◌, sum_by}
 use Rattle.std.specs.Ordering.{nat_cmp}
-use Rattle.std.specs.FinMap.{FinMap, get, insert, empty, entries, values, from_entries, get-empty, len-empty, len-entries}
+use Rattle.std.specs.FinMap.{get, empty, entries, from_entries, get-empty, len-empty, len-entries}
 use Rattle.std.proofs.lemmas.Bool.Decides.{nat_tests}
 use Rattle.std.proofs.lemmas.List.Sums.{sum_by-cons}
 use Rattle.pawn_terms.specs.Terms.{TermsValue}
@@ -12,7 +12,7 @@ use Rattle.pawn_book.specs.declared.change.Change.{Change}
 use Rattle.pawn_book.specs.declared.change.Change.TheVariants.{MakeBook, AddTerms, PutPledge}
 use Rattle.pawn_book.specs.BookStep.{BookValue, made_book, changed_book, pledge_from, put_from}
 use Rattle.pawn_book.specs.HostStep.{Host, rows, book_rows, pledge_rows, with_book}
-use Rattle.pawn_book.specs.Sound.{AreSound, IsSound}
+use Rattle.pawn_book.specs.Sound.{AreSound}
 use Rattle.pawn_book.specs.Keeping.{CanSave, Follows, Grows, changed}
 use Rattle.pawn_book.specs.Books.{Books}
 use Rattle.pawn_book.specs.declared.fault.SaveError.TheVariants.{Full}
@@ -89,29 +89,29 @@ sum_by-put k (r ∷ ps) n p low high =
     ] refl
 
 -- a pledge's rows in place of those that stood
-pub put_rows : (h : Host) (b : ℕ) (at : BookValue) (p : PledgeValue) → get h.books b ≡ Some at → 1 ≤ p.number → p.number ≤ 1 + length at.pledges
-    → rows (changed h (PutPledge b p)) + standing_rows (pledge_from 1 at.pledges p.number) ≡ rows h + pledge_rows p
-put_rows h b at p is low high =
-    let book : BookValue = record at { pledges = put_from 1 at.pledges p.number p } in
-    let same : changed h (PutPledge b p) ≡ with_book h b (Some book) = set_is h b at book (λ o. changed_book o (PutPledge b p)) is refl in
-    let all : rows (changed h (PutPledge b p)) ≡ rows (with_book h b (Some book)) = ap rows same in
+pub put_rows : (h : Host) (b n : ℕ) (at : BookValue) (p : PledgeValue) → get h.books b ≡ Some at → 1 ≤ n → n ≤ 1 + length at.pledges
+    → rows (changed h (PutPledge b n p)) + standing_rows (pledge_from 1 at.pledges n) ≡ rows h + pledge_rows p
+put_rows h b n at p is low high =
+    let book : BookValue = record at { pledges = put_from 1 at.pledges n p } in
+    let same : changed h (PutPledge b n p) ≡ with_book h b (Some book) = set_is h b at book (λ o. changed_book o (PutPledge b n p)) is refl in
+    let all : rows (changed h (PutPledge b n p)) ≡ rows (with_book h b (Some book)) = ap rows same in
     let sums = rows-with_book h b book in
     let before : part book_rows (get h.books b) ≡ book_rows at = ap (part book_rows) is in
-    let pledges = sum_by-put 1 at.pledges p.number p low high in
+    let pledges = sum_by-put 1 at.pledges n p low high in
     omega (arith, all, sums, before, pledges)
 
 -- where a change of pledges follows, its number is in place
-pub follows_low : (h : Host) (b : ℕ) (p : PledgeValue) (at : BookValue) → Follows h (PutPledge b p) → get h.books b ≡ Some at → (1 ≤ p.number) × (p.number ≤ 1 + length at.pledges)
-follows_low h b p at follows is =
+pub follows_low : (h : Host) (b n : ℕ) (p : PledgeValue) (at : BookValue) → Follows h (PutPledge b n p) → get h.books b ≡ Some at → (1 ≤ n) × (n ≤ 1 + length at.pledges)
+follows_low h b n p at follows is =
     let same : follows.0 ≡ at = some_is follows.0 at (sym follows.1 ∙ is) in
     from at follows.0 same follows.2
   where
     from : (at other : BookValue) → other ≡ at
-        → ((p.number ≡ length other.pledges + 1) ⊎ ((old : PledgeValue) × (pledge_from 1 other.pledges p.number ≡ Some old) × Grows old p))
-        → (1 ≤ p.number) × (p.number ≤ 1 + length at.pledges)
+        → ((n ≡ length other.pledges + 1) ⊎ ((old : PledgeValue) × (pledge_from 1 other.pledges n ≡ Some old) × Grows old p))
+        → (1 ≤ n) × (n ≤ 1 + length at.pledges)
     from at other same (inl next) = let long : length other.pledges ≡ length at.pledges = ap (λ (k : BookValue). length k.pledges) same in (omega (arith, next), omega (arith, next, long))
     from at other same (inr standing) =
-        let within = pledge_within 1 other.pledges p.number standing.0 standing.1 in
+        let within = pledge_within 1 other.pledges n standing.0 standing.1 in
         let long : length other.pledges ≡ length at.pledges = ap (λ (k : BookValue). length k.pledges) same in
         (within.0, omega (arith, within.1, long))
 
@@ -184,45 +184,45 @@ pub needed : (k old : Books) (b : ℕ) (at : BookValue) → k ≡ old → get (h
 needed k old b at is stands = sym (get-book_at k.books b) ∙ ap (λ (o : Books). get (host_of o).books b) is ∙ stands
 
 -- a pledge, put into the book at its place
-pub pledge_saved : (k old next : Books) (count after b : ℕ) (p : PledgeValue) (i : ℕ) (at : BookValue) → IsKept k count → k ≡ old → CanSave (host_of old) (PutPledge b p)
-    → IsPlace k.books b i → book_at k.books b ≡ Some at → next.books ≡ set k.books i (b, record at { pledges = put_from 1 at.pledges p.number p }) → next.limit ≡ k.limit
-    → after + standing_rows (pledge_from 1 at.pledges p.number) ≡ count + pledge_rows p → after ≤ k.limit
-    → IsKept next after × Saves old (PutPledge b p) (Ok tt) next
-pledge_saved k old next count after b p i at kept is can place stands list limit sums room =
-    let P : Books → Type 0 = λ old. CanSave (host_of old) (PutPledge b p) → IsKept next after × Saves old (PutPledge b p) (Ok tt) next in
+pub pledge_saved : (k old next : Books) (count after b n : ℕ) (p : PledgeValue) (i : ℕ) (at : BookValue) → IsKept k count → k ≡ old → CanSave (host_of old) (PutPledge b n p)
+    → IsPlace k.books b i → book_at k.books b ≡ Some at → next.books ≡ set k.books i (b, record at { pledges = put_from 1 at.pledges n p }) → next.limit ≡ k.limit
+    → after + standing_rows (pledge_from 1 at.pledges n) ≡ count + pledge_rows p → after ≤ k.limit
+    → IsKept next after × Saves old (PutPledge b n p) (Ok tt) next
+pledge_saved k old next count after b n p i at kept is can place stands list limit sums room =
+    let P : Books → Type 0 = λ old. CanSave (host_of old) (PutPledge b n p) → IsKept next after × Saves old (PutPledge b n p) (Ok tt) next in
     subst P is (λ can.
     let found : get (host_of k).books b ≡ Some at = get-book_at k.books b ∙ stands in
-    let book : BookValue = record at { pledges = put_from 1 at.pledges p.number p } in
-    let same : host_of next ≡ changed (host_of k) (PutPledge b p) =
+    let book : BookValue = record at { pledges = put_from 1 at.pledges n p } in
+    let same : host_of next ≡ changed (host_of k) (PutPledge b n p) =
     ap (λ (es : List (ℕ × BookValue)). record { books = from_entries es; limit = next.limit }) list
     ∙ ap (λ n. record { books = from_entries (set k.books i (b, book)); limit = n }) limit
-    ∙ put_host k b i at book (λ o. changed_book o (PutPledge b p)) place found refl in
-    let bounds = follows_low (host_of k) b p at can.follows found in
-    let more = put_rows (host_of k) b at p found bounds.0 bounds.1 in
+    ∙ put_host k b i at book (λ o. changed_book o (PutPledge b n p)) place found refl in
+    let bounds = follows_low (host_of k) b n p at can.follows found in
+    let more = put_rows (host_of k) b n at p found bounds.0 bounds.1 in
     let counted = kept.counted in
-    let after_is : after ≡ rows (changed (host_of k) (PutPledge b p)) = omega (arith, more, counted, sums) in
-    (kept_changed k next after (PutPledge b p) kept.limit limit same can.sound after_is room, (same, omega (arith, after_is, room)))) can
+    let after_is : after ≡ rows (changed (host_of k) (PutPledge b n p)) = omega (arith, more, counted, sums) in
+    (kept_changed k next after (PutPledge b n p) kept.limit limit same can.sound after_is room, (same, omega (arith, after_is, room)))) can
 
-pub pledge_full : (k old : Books) (count after b : ℕ) (p : PledgeValue) (at : BookValue) → IsKept k count → k ≡ old → CanSave (host_of old) (PutPledge b p)
-    → book_at k.books b ≡ Some at → after + standing_rows (pledge_from 1 at.pledges p.number) ≡ count + pledge_rows p → k.limit < after
-    → Saves old (PutPledge b p) (Err Full) old
-pledge_full k old count after b p at kept is can stands sums over =
-    let P : Books → Type 0 = λ old. CanSave (host_of old) (PutPledge b p) → Saves old (PutPledge b p) (Err Full) old in
+pub pledge_full : (k old : Books) (count after b n : ℕ) (p : PledgeValue) (at : BookValue) → IsKept k count → k ≡ old → CanSave (host_of old) (PutPledge b n p)
+    → book_at k.books b ≡ Some at → after + standing_rows (pledge_from 1 at.pledges n) ≡ count + pledge_rows p → k.limit < after
+    → Saves old (PutPledge b n p) (Err Full) old
+pledge_full k old count after b n p at kept is can stands sums over =
+    let P : Books → Type 0 = λ old. CanSave (host_of old) (PutPledge b n p) → Saves old (PutPledge b n p) (Err Full) old in
     subst P is (λ can.
     let found : get (host_of k).books b ≡ Some at = get-book_at k.books b ∙ stands in
-    let bounds = follows_low (host_of k) b p at can.follows found in
-    let more = put_rows (host_of k) b at p found bounds.0 bounds.1 in
+    let bounds = follows_low (host_of k) b n p at can.follows found in
+    let more = put_rows (host_of k) b n at p found bounds.0 bounds.1 in
     let counted = kept.counted in
     (refl, omega (arith, more, counted, sums, over))) can
 
 -- the rows of a standing pledge are counted
-pub standing_counted : (k old : Books) (count b : ℕ) (p : PledgeValue) (at : BookValue) → IsKept k count → k ≡ old → CanSave (host_of old) (PutPledge b p)
-    → book_at k.books b ≡ Some at → (standing_rows (pledge_from 1 at.pledges p.number) ≤ count + pledge_rows p) × (1 ≤ p.number) × (p.number ≤ 1 + length at.pledges)
-standing_counted k old count b p at kept is can stands =
-    let P : Books → Type 0 = λ old. CanSave (host_of old) (PutPledge b p) → (standing_rows (pledge_from 1 at.pledges p.number) ≤ count + pledge_rows p) × (1 ≤ p.number) × (p.number ≤ 1 + length at.pledges) in
+pub standing_counted : (k old : Books) (count b n : ℕ) (p : PledgeValue) (at : BookValue) → IsKept k count → k ≡ old → CanSave (host_of old) (PutPledge b n p)
+    → book_at k.books b ≡ Some at → (standing_rows (pledge_from 1 at.pledges n) ≤ count + pledge_rows p) × (1 ≤ n) × (n ≤ 1 + length at.pledges)
+standing_counted k old count b n p at kept is can stands =
+    let P : Books → Type 0 = λ old. CanSave (host_of old) (PutPledge b n p) → (standing_rows (pledge_from 1 at.pledges n) ≤ count + pledge_rows p) × (1 ≤ n) × (n ≤ 1 + length at.pledges) in
     subst P is (λ can.
     let found : get (host_of k).books b ≡ Some at = get-book_at k.books b ∙ stands in
-    let bounds = follows_low (host_of k) b p at can.follows found in
-    let more = put_rows (host_of k) b at p found bounds.0 bounds.1 in
+    let bounds = follows_low (host_of k) b n p at can.follows found in
+    let more = put_rows (host_of k) b n at p found bounds.0 bounds.1 in
     let counted = kept.counted in
     (omega (arith, more, counted), bounds.0, bounds.1)) can

@@ -1,6 +1,6 @@
 -- where a list's records stand
-use Rattle.std.proofs.Common.{◌≡◌, ◌≢◌, ℕ, ◌+◌, ◌<◌, ◌≤◌, zero, suc, List, [], ◌∷◌, ◌++◌, length, drop, get_or, set, Some, None, eqb, refl, ◌∙◌, ap, sym, arith}
-use Rattle.std.specs.Prelude.{if◌then◌else◌, Option, ◌==◌, Bool, true, false}
+use Rattle.std.proofs.Common.{◌≡◌, ◌≢◌, ℕ, ◌+◌, ◌<◌, ◌≤◌, zero, suc, List, [], ◌∷◌, length, drop, get_or, set, Some, None, eqb, refl, ◌∙◌, ap, sym, arith}
+use Rattle.std.specs.Prelude.{if◌then◌else◌, ◌==◌, true, false}
 use Rattle.std.proofs.lemmas.Bool.Decides.{nat_tests}
 use Rattle.pawn_pledge.specs.Pledge.{PledgeValue}
 use Rattle.std.proofs.lemmas.List.{drop_more, drop_all}

@@ -1,6 +1,6 @@
 -- A plan by a keeper's answers is the book's step.
-use Rattle.std.proofs.Common.{◌≡◌, ◌≢◌, ℕ, ◌+◌, ◌<◌, ◌≤◌, zero, suc, List, [], ◌∷◌, ◌++◌, length, Some, None, Ok, Err, refl, ◌∙◌, ap, sym, subst, arith, inl, inr}
-use Rattle.std.specs.Prelude.{if◌then◌else◌, Option, Result, ◌==◌, Bool, true, false, nat_lt, nat_le, ◌⊎◌, IfSome, IfOk, slice_get, find, option_map}
+use Rattle.std.proofs.Common.{◌≡◌, ◌≢◌, ℕ, ◌+◌, ◌<◌, ◌≤◌, zero, suc, List, [], ◌∷◌, ◌++◌, length, Some, None, Ok, Err, refl, ◌∙◌, ap, sym, subst, arith, inl}
+use Rattle.std.specs.Prelude.{if◌then◌else◌, Option, Result, ◌==◌, Bool, true, false, nat_lt, nat_le, option_map}
 use Rattle.std.specs.FinMap.{get}
 use Rattle.std.proofs.lemmas.Bool.Decides.{nat_tests}
 use Rattle.pawn_terms.specs.Terms.{TermsValue, IsChecked}
@@ -9,6 +9,7 @@ use Rattle.pawn_debt.specs.Answers.{is_bad_amount}
 use Rattle.pawn_debt.specs.Due.{credit_of}
 use Rattle.pawn_pledge.specs.declared.refusal.Refusal.{Refusal as PledgeRefusal}
 use Rattle.pawn_pledge.specs.Replayable.{IsStanding}
+use Rattle.pawn_pledge.specs.Text.{IsText}
 use Rattle.pawn_pledge.specs.Step.{started}
 use Rattle.std.specs.Result.{result_unwrap_or}
 use Rattle.pawn_pledge.specs.declared.record.Opening.{Opening}
@@ -21,17 +22,15 @@ use Rattle.pawn_book.specs.declared.refusal.Refusal.TheVariants.{PledgesFull, Te
 use Rattle.pawn_book.specs.declared.change.Change.{Change}
 use Rattle.pawn_book.specs.declared.change.Change.TheVariants.{MakeBook, AddTerms, PutPledge}
 use Rattle.pawn_book.specs.declared.change.Head.{Head}
-use Rattle.pawn_book.specs.declared.change.Planned.{Planned}
-use Rattle.pawn_book.specs.BookStep.{BookValue, Outcome, Makes, created, made, made_book, next_terms, put_terms, take_pledge, taken_under, under_pledge, with_room, terms_at, newest, with_reference, head_of, first_receipt, changed_book, pledge_from, pledge_in, put_from, is_text}
+use Rattle.pawn_book.specs.BookStep.{BookValue, Makes, created, made, made_book, next_terms, put_terms, take_pledge, taken_under, under_pledge, with_room, terms_at, newest, with_reference, head_of, first_receipt, changed_book, pledge_from, pledge_in, put_from, is_text}
 use Rattle.pawn_book.specs.HostStep.{Host, with_book}
-use Rattle.pawn_book.specs.Limits.{most_terms, most_pledges}
-use Rattle.pawn_book.specs.Sound.{IsSound, IsSoundBook, AreSound, AreNumberedFrom}
-use Rattle.pawn_book.specs.Keeping.{Reads, Plans, CanSave, Follows, book_of, changed, number_of, pledges_of, terms_of}
-use Rattle.pawn_book.proofs.Sounds.{sound_with, sound_made, sound_terms, sound_next, some_is, absurd_none}
-use Rattle.pawn_book.proofs.ListReads.{pledge_from_place}
+use Rattle.pawn_book.specs.Limits.{IsCapacity, most_terms, most_pledges}
+use Rattle.pawn_book.specs.Sound.{IsSound, AreSound, AreNumberedFrom}
+use Rattle.pawn_book.specs.Keeping.{Plans, book_of, changed, number_of, pledges_of, terms_of}
+use Rattle.pawn_book.proofs.Sounds.{IsNext, absurd_none, some_is, sound_made, sound_next, sound_terms, sound_with}
 
 -- the book of a change, set in the host
-changed_is : (h : Host) (b : ℕ) (change : Change) (book : BookValue) → book_of change ≡ b → changed_book (get h.books b) change ≡ Some book → changed h change ≡ with_book h b (Some book)
+pub changed_is : (h : Host) (b : ℕ) (change : Change) (book : BookValue) → book_of change ≡ b → changed_book (get h.books b) change ≡ Some book → changed h change ≡ with_book h b (Some book)
 changed_is h b change book named is = ap (λ (c : ℕ). with_book h c (changed_book (get h.books c) change)) named ∙ ap (with_book h b) is
 
 -- a row that did not apply
@@ -40,10 +39,10 @@ past_row true why rest v is = cc is
 past_row false why rest v is = (refl, is)
 
 -- a book that doesn't stand is made
-pub book_plans : (h : Host) (b : ℕ) (new : NewBook) → IsSound h → get h.books b ≡ None
+pub book_plans : (h : Host) (b : ℕ) (new : NewBook) → IsText 60 new.name → IsCapacity new.capacity → IsSound h → get h.books b ≡ None
     → Plans h b (created (get h.books b) b new) (Ok (record { change = Some (MakeBook b new); reply = BookMade b }))
-book_plans h b new sound none =
-    (ap (λ o. created o b new) none, (refl, record { follows = none; sound = sound_with h b (made_book new) sound.books (sound_made new) }))
+book_plans h b new name capacity sound none =
+    (ap (λ o. created o b new) none, (refl, record { follows = none; sound = sound_with h b (made_book new) sound.books (sound_made new name capacity) }))
 
 -- the next version of terms is added
 pub terms_plans : (h : Host) (b : ℕ) (at : BookValue) (new : NewTerms) (terms : TermsValue) → IsSound h → get h.books b ≡ Some at
@@ -66,18 +65,18 @@ terms_plans h b at new terms sound is none answer version few checked =
 -- the next pledge is taken
 pub pledge_plans : (h : Host) (b : ℕ) (at : BookValue) (opening : Opening) (stamp : Stamp) (p : PledgeValue) → IsSound h → get h.books b ≡ Some at
     → with_reference at.pledges opening.reference ≡ None → taken_under (head_of at) opening stamp (newest at.terms) ≡ Ok p
-    → p.number ≡ length at.pledges + 1 → length at.pledges < most_pledges → IsStanding p
-    → Plans h b (take_pledge at b opening stamp (with_reference at.pledges opening.reference)) (Ok (record { change = Some (PutPledge b p); reply = Opened (first_receipt p) }))
-pledge_plans h b at opening stamp p sound is none answer number few standing =
+    → IsNext at p → IsStanding p
+    → Plans h b (take_pledge at b opening stamp (with_reference at.pledges opening.reference)) (Ok (record { change = Some (PutPledge b p.number p); reply = Opened (first_receipt p) }))
+pledge_plans h b at opening stamp p sound is none answer next standing =
     let book : BookValue = record at { pledges = put_from 1 at.pledges p.number p } in
-    let same : changed h (PutPledge b p) ≡ with_book h b (Some book) =
-    changed_is h b (PutPledge b p) book refl (ap (λ o. changed_book o (PutPledge b p)) is) in (
-      ap (take_pledge at b opening stamp) none ∙ ap (λ r. made r (λ p. Makes (PutPledge b p) (Opened (first_receipt p)))) answer,
+    let same : changed h (PutPledge b p.number p) ≡ with_book h b (Some book) =
+    changed_is h b (PutPledge b p.number p) book refl (ap (λ o. changed_book o (PutPledge b p.number p)) is) in (
+      ap (take_pledge at b opening stamp) none ∙ ap (λ r. made r (λ p. Makes (PutPledge b p.number p) (Opened (first_receipt p)))) answer,
       (
         refl,
         record {
-          follows = (at, is, inl number);
-          sound = subst AreSound (sym same) (sound_with h b book sound.books (sound_next at p (sound.books b at is) number standing few));
+          follows = (at, is, inl next.number);
+          sound = subst AreSound (sym same) (sound_with h b book sound.books (sound_next at p (sound.books b at is) next standing));
         },
       ),
     )
@@ -176,12 +175,41 @@ taken_is head opening stamp (Some terms) p is = from (started (head.pledges + 1)
         let same : q ≡ p = ap (λ (r : Result PledgeValue Refusal). result_unwrap_or r q) row.1 in
         (ap (λ (x : PledgeValue). x.number) (sym same) ∙ named q refl, grind (arith, nat_tests, row.0))
 
+-- .. for what was asked, under the newest terms
+taken_as : (head : Head) (opening : Opening) (stamp : Stamp) (newest : Option TermsValue) (p : PledgeValue) → taken_under head opening stamp newest ≡ Ok p
+    → (p.reference ≡ opening.reference) × (p.version ≡ head.terms) × (newest ≡ Some p.terms)
+taken_as head opening stamp None p is = cc is
+taken_as head opening stamp (Some terms) p is = from (started (head.pledges + 1) opening head.terms terms stamp) refl is
+  where
+    Asked : PledgeValue → Type 0
+    Asked q = (q.reference ≡ opening.reference) × (q.version ≡ head.terms) × (Some terms ≡ Some q.terms)
+
+    asked : (q : PledgeValue) → started (head.pledges + 1) opening head.terms terms stamp ≡ Ok q → Asked q
+    asked q same =
+        let row = past_row (is_bad_amount (credit_of opening.kind)) _ _ q same in
+        subst Asked (ap (λ (r : Result PledgeValue PledgeRefusal). result_unwrap_or r q) row.1) (refl, refl, refl)
+
+    from : (r : Result PledgeValue PledgeRefusal) → started (head.pledges + 1) opening head.terms terms stamp ≡ r → with_room head.pledges (under_pledge r) ≡ Ok p → Asked p
+    from (Err why) at is = cc is
+    from (Ok q) at is =
+        let row = past_row (nat_le most_pledges head.pledges) PledgesFull _ p is in
+        let same : q ≡ p = ap (λ (r : Result PledgeValue Refusal). result_unwrap_or r q) row.1 in
+        subst Asked same (asked q at)
+
 -- the next pledge, as a keeper tells of the book
 pub taken_plans : (h : Host) (b : ℕ) (at : BookValue) (head : Head) (opening : Opening) (stamp : Stamp) (p : PledgeValue) → IsSound h → get h.books b ≡ Some at → head ≡ head_of at
     → None ≡ with_reference (pledges_of (get h.books b)) opening.reference → taken_under head opening stamp (newest at.terms) ≡ Ok p → IsStanding p
-    → Plans h b (take_pledge at b opening stamp (with_reference at.pledges opening.reference)) (Ok (record { change = Some (PutPledge b p); reply = Opened (first_receipt p) }))
+    → Plans h b (take_pledge at b opening stamp (with_reference at.pledges opening.reference)) (Ok (record { change = Some (PutPledge b p.number p); reply = Opened (first_receipt p) }))
 taken_plans h b at head opening stamp p sound is heads none answer standing =
     let absent : with_reference at.pledges opening.reference ≡ None = sym (none ∙ ap (λ o. with_reference (pledges_of o) opening.reference) is) in
     let next : taken_under (head_of at) opening stamp (newest at.terms) ≡ Ok p = ap (λ (q : Head). taken_under q opening stamp (newest at.terms)) (sym heads) ∙ answer in
     let bounds = taken_is (head_of at) opening stamp (newest at.terms) p next in
-    pledge_plans h b at opening stamp p sound is absent next bounds.0 bounds.1 standing
+    let asked = taken_as (head_of at) opening stamp (newest at.terms) p next in
+    let is_next : IsNext at p = record {
+      number = bounds.0;
+      reference = ap (with_reference at.pledges) asked.0 ∙ absent;
+      version = asked.1;
+      under = ap (terms_at at.terms) asked.1 ∙ asked.2;
+      few = bounds.1;
+    } in
+    pledge_plans h b at opening stamp p sound is absent next is_next standing

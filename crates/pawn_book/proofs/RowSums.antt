@@ -1,10 +1,10 @@
 -- a sum over a map's values, after an insertion
-use Rattle.std.proofs.Common.{◌≡◌, ◌≢◌, ℕ, ◌+◌, ◌<◌, ◌≤◌, List, [], ◌∷◌, ◌++◌, length, map, Some, None, refl, ◌∙◌, ap, sym, subst, arith, T, Ordering}
-use Rattle.std.specs.Prelude.{if◌then◌else◌, Option, Bool, true, false, ◌&&◌, sum_by, ◌==◌}
+use Rattle.std.proofs.Common.{◌≡◌, ℕ, ◌+◌, ◌<◌, List, [], ◌∷◌, map, Some, None, refl, ◌∙◌, ap, sym, arith, T, Ordering}
+use Rattle.std.specs.Prelude.{if◌then◌else◌, Option, Bool, true, false, ◌&&◌, sum_by}
 use Rattle.std.specs.declared.cmp.Ordering.TheVariants.{Less, Equal, Greater}
 use Rattle.std.specs.Ordering.{nat_cmp, is_eq, is_lt, eq_by_cmp}
 use Rattle.std.specs.Cmp.{ranked}
-use Rattle.std.specs.FinMap.{FinMap, get, insert, values, entries, find, put, is_sorted, entries_sorted, entries-insert, get-entries}
+use Rattle.std.specs.FinMap.{get, entries, find, put, is_sorted, entries_sorted, entries-insert, get-entries}
 use Rattle.std.proofs.lemmas.Cmp.{nat_cmp_total}
 use Rattle.std.proofs.lemmas.List.Sums.{sum_by-cons}
 use Rattle.pawn_book.specs.BookStep.{BookValue}

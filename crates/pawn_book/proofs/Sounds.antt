@@ -1,7 +1,6 @@
 -- A host stays sound with a book that is.
-use Rattle.std.proofs.Common.{◌≡◌, ◌≢◌, ℕ, ◌+◌, ◌<◌, ◌≤◌, List, [], ◌∷◌, ◌++◌, length, Some, None, suc, refl, ◌∙◌, ap, sym, subst, arith, length-append}
+use Rattle.std.proofs.Common.{◌≡◌, ◌≢◌, ℕ, ◌+◌, ◌<◌, ◌≤◌, List, [], ◌∷◌, ◌++◌, length, map, Some, None, suc, refl, ◌∙◌, ap, sym, subst, arith, length-append}
 use Rattle.std.specs.Prelude.{if◌then◌else◌, Option, Bool, true, false, ◌==◌, unwrap_or}
-use Rattle.std.specs.Ordering.{nat_cmp}
 use Rattle.std.specs.Cmp.{unsigned_tied}
 use Rattle.std.specs.FinMap.{get, get-insert}
 use Rattle.std.proofs.lemmas.Cmp.{nat_cmp_total}
@@ -9,11 +8,13 @@ use Rattle.std.proofs.lemmas.Bool.Decides.{nat_tests}
 use Rattle.pawn_terms.specs.Terms.{TermsValue, IsChecked}
 use Rattle.pawn_pledge.specs.Pledge.{PledgeValue}
 use Rattle.pawn_pledge.specs.Replayable.{IsStanding}
+use Rattle.pawn_pledge.specs.Text.{IsText}
 use Rattle.pawn_book.specs.declared.request.NewBook.{NewBook}
-use Rattle.pawn_book.specs.BookStep.{BookValue, made_book, pledge_from, pledge_in, put_from}
+use Rattle.pawn_book.specs.BookStep.{BookValue, made_book, pledge_from, pledge_in, put_from, with_reference}
 use Rattle.pawn_book.specs.HostStep.{Host, with_book}
-use Rattle.pawn_book.specs.Limits.{most_terms, most_pledges}
-use Rattle.pawn_book.specs.Sound.{Each, AreNumberedFrom, IsSoundBook, AreSound, IsSound}
+use Rattle.pawn_book.specs.Limits.{IsCapacity, most_terms, most_pledges}
+use Rattle.pawn_book.specs.Sound.{AreDistinct, AreNumberedFrom, AreSound, DoNotFall, Each, IsSound, IsSoundBook, IsUnder}
+use Rattle.pawn_book.proofs.SoundLists.{each_under_more, references_push, versions_push}
 
 -- the book at a number, once a book is set
 pub get-with_book : (h : Host) (b : ℕ) (book : BookValue) (q : ℕ) → get (with_book h b (Some book)).books q ≡ (if q == b then Some book else get h.books q)
@@ -32,8 +33,8 @@ sound_with h b book sound one q other is = from (q == b) (sym (get-with_book h b
     from true is = subst IsSoundBook (some_is book other is) one
     from false is = sound q other is
 
-pub sound_made : (new : NewBook) → IsSoundBook (made_book new)
-sound_made new = record { numbered = tt; standing = tt; checked = tt; terms = omega arith; pledges = omega arith }
+pub sound_made : (new : NewBook) → IsText 60 new.name → IsCapacity new.capacity → IsSoundBook (made_book new)
+sound_made new name capacity = record { name = name; capacity = capacity; numbered = tt; standing = tt; references = tt; under = tt; versions = tt; checked = tt; terms = omega arith; pledges = omega arith }
 
 each_push : {A : Type 0} (P : A → Type 0) (xs : List A) (x : A) → Each P xs → P x → Each P (xs ++ x ∷ [])
 each_push P [] x all one = (one, tt)
@@ -42,14 +43,19 @@ each_push P (y ∷ ys) x all one = (all.0, each_push P ys x all.1 one)
 pub sound_terms : (book : BookValue) (terms : TermsValue) → IsSoundBook book → IsChecked terms → length book.terms < most_terms
     → IsSoundBook (record book { terms = book.terms ++ terms ∷ [] })
 sound_terms book terms sound checked few = record {
+  name = sound.name;
+  capacity = sound.capacity;
   numbered = sound.numbered;
   standing = sound.standing;
+  references = sound.references;
+  under = each_under_more book.terms terms book.pledges sound.under;
+  versions = sound.versions;
   checked = each_push IsChecked book.terms terms sound.checked checked;
   terms = omega (arith, few, length-append book.terms (terms ∷ []));
   pledges = sound.pledges;
 }
 
-numbered_put : (k : ℕ) (ps : List PledgeValue) (n : ℕ) (p : PledgeValue) → AreNumberedFrom k ps → p.number ≡ n → k ≤ n → n ≤ k + length ps → AreNumberedFrom k (put_from k ps n p)
+pub numbered_put : (k : ℕ) (ps : List PledgeValue) (n : ℕ) (p : PledgeValue) → AreNumberedFrom k ps → p.number ≡ n → k ≤ n → n ≤ k + length ps → AreNumberedFrom k (put_from k ps n p)
 numbered_put k [] n p all named low high = let is : n ≡ k = omega arith in (named ∙ is, tt)
 numbered_put k (r ∷ ps) n p all named low high =
     elim (n == k) as (λ v. n == k ≡ v → AreNumberedFrom k (if v then p ∷ ps else r ∷ put_from (k + 1) ps n p)) [
@@ -57,7 +63,7 @@ numbered_put k (r ∷ ps) n p all named low high =
       | false ↦ λ e. let ne : n ≢ k = grind (arith, nat_tests, e) in let more : k + 1 ≤ n = omega arith in let less : n ≤ (k + 1) + length ps = omega arith in (all.0, numbered_put (k + 1) ps n p all.1 named more less)
     ] refl
 
-each_put : (P : PledgeValue → Type 0) (k : ℕ) (ps : List PledgeValue) (n : ℕ) (p : PledgeValue) → Each P ps → P p → Each P (put_from k ps n p)
+pub each_put : (P : PledgeValue → Type 0) (k : ℕ) (ps : List PledgeValue) (n : ℕ) (p : PledgeValue) → Each P ps → P p → Each P (put_from k ps n p)
 each_put P k [] n p all one = (one, tt)
 each_put P k (r ∷ ps) n p all one =
     elim (n == k) as (λ v. Each P (if v then p ∷ ps else r ∷ put_from (k + 1) ps n p)) [ true ↦ (one, all.1) | false ↦ (all.0, each_put P (k + 1) ps n p all.1 one) ]
@@ -80,22 +86,39 @@ length-put k (r ∷ ps) n p low high =
       | false ↦ λ e. let ne : n ≢ k = grind (arith, nat_tests, e) in let more : k + 1 ≤ n = omega arith in let less : n < (k + 1) + length ps = omega arith in ap suc (length-put (k + 1) ps n p more less)
     ] refl
 
+-- a pledge that may be taken next: under a new reference and the newest terms
+pub record IsNext (book : BookValue) (p : PledgeValue) : Type 0 where
+  pub number : p.number ≡ length book.pledges + 1
+  pub reference : with_reference book.pledges p.reference ≡ None
+  pub version : p.version ≡ length book.terms
+  pub under : IsUnder book.terms p
+  pub few : length book.pledges < most_pledges
+
 -- a book with one pledge more
-pub sound_next : (book : BookValue) (p : PledgeValue) → IsSoundBook book → p.number ≡ length book.pledges + 1 → IsStanding p → length book.pledges < most_pledges
+pub sound_next : (book : BookValue) (p : PledgeValue) → IsSoundBook book → IsNext book p → IsStanding p
     → IsSoundBook (record book { pledges = put_from 1 book.pledges p.number p })
-sound_next book p sound named standing few =
+sound_next book p sound is_next standing =
+    let named = is_next.number in
+    let few = is_next.few in
     let low : 1 ≤ p.number = omega (arith, named) in
     let high : p.number ≤ 1 + length book.pledges = omega (arith, named) in
     let next : p.number ≡ 1 + length book.pledges = omega (arith, named) in
+    let pushed = put_next 1 book.pledges p.number p next in
     record {
+      name = sound.name;
+      capacity = sound.capacity;
       numbered = numbered_put 1 book.pledges p.number p sound.numbered refl low high;
       standing = each_put IsStanding 1 book.pledges p.number p sound.standing standing;
+      references = subst (λ ps. AreDistinct (map (λ p. p.reference) ps)) (sym pushed) (references_push book.pledges p sound.references is_next.reference);
+      under = each_put (IsUnder book.terms) 1 book.pledges p.number p sound.under is_next.under;
+      versions = subst (λ ps. DoNotFall 0 (map (λ p. p.version) ps)) (sym pushed)
+          (versions_push 0 book.terms book.pledges p sound.under sound.versions (omega arith) is_next.version);
       checked = sound.checked;
       terms = sound.terms;
-      pledges = omega (arith, few, ap length (put_next 1 book.pledges p.number p next), length-append book.pledges (p ∷ []));
+      pledges = omega (arith, few, ap length pushed, length-append book.pledges (p ∷ []));
     }
 
-each_at : (P : PledgeValue → Type 0) (k : ℕ) (ps : List PledgeValue) (n : ℕ) (p : PledgeValue) → Each P ps → pledge_from k ps n ≡ Some p → P p
+pub each_at : (P : PledgeValue → Type 0) (k : ℕ) (ps : List PledgeValue) (n : ℕ) (p : PledgeValue) → Each P ps → pledge_from k ps n ≡ Some p → P p
 each_at P k [] n p all is = absurd_none is
 each_at P k (r ∷ ps) n p all is =
     elim (n == k) as (λ v. (if v then Some r else pledge_from (k + 1) ps n) ≡ Some p → P p) [
@@ -103,7 +126,7 @@ each_at P k (r ∷ ps) n p all is =
       | false ↦ λ there. each_at P (k + 1) ps n p all.1 there
     ] is
 
-numbered_at : (k : ℕ) (ps : List PledgeValue) (n : ℕ) (p : PledgeValue) → AreNumberedFrom k ps → pledge_from k ps n ≡ Some p → p.number ≡ n
+pub numbered_at : (k : ℕ) (ps : List PledgeValue) (n : ℕ) (p : PledgeValue) → AreNumberedFrom k ps → pledge_from k ps n ≡ Some p → p.number ≡ n
 numbered_at k [] n p all is = absurd_none is
 numbered_at k (r ∷ ps) n p all is =
     elim (n == k) as (λ v. n == k ≡ v → (if v then Some r else pledge_from (k + 1) ps n) ≡ Some p → p.number ≡ n) [

@@ -1,5 +1,5 @@
 -- One step of a book: what comes of a request.
-use Rattle.std.specs.Prelude.{ℕ, zero, suc, ◌+◌, ◌-◌, List, [], ◌∷◌, ◌++◌, Bool, true, false, ◌&&◌, ◌||◌, Option, Some, None, Result, Ok, Err, if◌then◌else◌, ◌==◌, nat_eq, nat_le, nat_lt, length, map, find, slice_get, option_map, unwrap_or}
+use Rattle.std.specs.Prelude.{ℕ, zero, suc, ◌+◌, List, [], ◌∷◌, ◌++◌, Bool, true, false, ◌&&◌, Option, Some, None, Result, Ok, Err, if◌then◌else◌, ◌==◌, nat_eq, nat_le, nat_lt, length, map, find, count_by, slice_get}
 use Rattle.std.specs.Cmp.Lexicographic.{pointwise}
 use Rattle.pawn_terms.specs.Refusals.{first_of}
 use Rattle.pawn_terms.specs.Terms.{TermsValue}
@@ -8,29 +8,34 @@ use Rattle.pawn_terms.specs.declared.terms.TermsFault.{TermsFault}
 use Rattle.pawn_debt.specs.declared.entry.Kind.{Kind}
 use Rattle.pawn_debt.specs.declared.entry.Kind.TheVariants.{Fixed, Running}
 use Rattle.pawn_pledge.specs.declared.command.Stamp.{Stamp}
+use Rattle.pawn_pledge.specs.declared.command.Command.{Command}
+use Rattle.pawn_pledge.specs.declared.command.Done.{Done}
+use Rattle.pawn_pledge.specs.declared.record.Booking.{Booking}
+use Rattle.pawn_pledge.specs.declared.record.BookingState.{BookingState}
 use Rattle.pawn_pledge.specs.declared.record.Opening.{Opening}
 use Rattle.pawn_pledge.specs.declared.receipt.Receipt.{Receipt}
 use Rattle.pawn_pledge.specs.declared.record.Issued.{Issued}
 use Rattle.pawn_pledge.specs.Pledge.{PledgeValue, live_of}
-use Rattle.pawn_pledge.specs.Step.{started}
+use Rattle.pawn_pledge.specs.Step.{Judged, Refused, Answered, Changed, started, pledge_step}
 use Rattle.pawn_pledge.specs.declared.refusal.Refusal.{Refusal as PledgeRefusal}
 use Rattle.pawn_book.specs.declared.refusal.Refusal.{Refusal}
-use Rattle.pawn_book.specs.declared.refusal.Refusal.TheVariants.{Pledge, Terms, NoSuchBook, NoSuchReceipt, BookTaken, NoTerms, TermsSeq, RefTaken, NotOperator, TermsFull, PledgesFull}
+use Rattle.pawn_book.specs.declared.refusal.Refusal.TheVariants.{Pledge, Terms, NoSuchBook, NoSuchReceipt, NoSuchPledge, BookTaken, NoTerms, TermsSeq, RefTaken, WindowFull, NotOperator, TermsFull, PledgesFull}
 use Rattle.pawn_book.specs.declared.reply.Reply.{Reply}
-use Rattle.pawn_book.specs.declared.reply.Reply.TheVariants.{BookMade, TermsPut, Opened}
+use Rattle.pawn_book.specs.declared.reply.Reply.TheVariants.{BookMade, TermsPut, Opened, Commanded}
 use Rattle.pawn_book.specs.declared.request.NewBook.{NewBook}
 use Rattle.pawn_book.specs.declared.request.NewTerms.{NewTerms}
 use Rattle.pawn_book.specs.declared.request.Caller.{Caller}
 use Rattle.pawn_book.specs.declared.request.Caller.TheVariants.{Operator, Broker, Bearer}
 use Rattle.pawn_book.specs.declared.request.BrokerRequest.{BrokerRequest}
-use Rattle.pawn_book.specs.declared.request.BrokerRequest.TheVariants.{PutTerms, TakePledge}
+use Rattle.pawn_book.specs.declared.request.BrokerRequest.TheVariants.{PutTerms, TakePledge, OnPledge, Show}
 use Rattle.pawn_book.specs.declared.request.BearerRequest.{BearerRequest}
-use Rattle.pawn_book.specs.declared.request.BearerRequest.TheVariants.{Held}
+use Rattle.pawn_book.specs.declared.request.BearerRequest.TheVariants.{Held, OnPledge as OnReceipt}
 use Rattle.pawn_book.specs.declared.change.Imported.{Imported}
 use Rattle.pawn_book.specs.declared.change.Head.{Head}
 use Rattle.pawn_book.specs.declared.change.Change.{Change}
 use Rattle.pawn_book.specs.declared.change.Change.TheVariants.{MakeBook, AddTerms, PutPledge}
 use Rattle.pawn_book.specs.Limits.{most_terms, most_pledges}
+use Rattle.pawn_book.specs.Commands.{broker_command, bearer_command}
 
 -- a book
 pub record BookValue : Type 0 where
@@ -102,8 +107,8 @@ abbrev pub changed_book : Option BookValue → Change → Option BookValue
 changed_book before (MakeBook b new) = Some (made_book new)
 changed_book None (AddTerms b version terms) = None
 changed_book (Some book) (AddTerms b version terms) = Some (record book { terms = book.terms ++ terms ∷ [] })
-changed_book None (PutPledge b p) = None
-changed_book (Some book) (PutPledge b p) = Some (record book { pledges = put_from 1 book.pledges p.number p })
+changed_book None (PutPledge b n p) = None
+changed_book (Some book) (PutPledge b n p) = Some (record book { pledges = put_from 1 book.pledges n p })
 
 -- the book after an outcome
 abbrev pub book_after : Option BookValue → Outcome → Option BookValue
@@ -212,12 +217,82 @@ taken_under head opening stamp (Some terms) =
 abbrev pub take_pledge : BookValue → ℕ → Opening → Stamp → Option PledgeValue → Outcome
 take_pledge book b opening stamp (Some p) = if is_opening p opening then Says (Told (Opened (first_receipt p))) else Refuses RefTaken
 take_pledge book b opening stamp None =
-    made (taken_under (head_of book) opening stamp (newest book.terms)) (λ p. Makes (PutPledge b p) (Opened (first_receipt p)))
+    made (taken_under (head_of book) opening stamp (newest book.terms)) (λ p. Makes (PutPledge b p.number p) (Opened (first_receipt p)))
+
+-- bookings
+
+abbrev pub is_confirmed : BookingState → Bool
+is_confirmed BookingState.Asked = false
+is_confirmed BookingState.Confirmed = true
+is_confirmed BookingState.Refused = false
+is_confirmed BookingState.Cancelled = false
+
+-- a booking for a day and a window that is confirmed
+abbrev pub is_confirmed_for : ℕ → ℕ → Option Booking → Bool
+is_confirmed_for day window None = false
+is_confirmed_for day window (Some booking) = (booking.day == day) && (booking.window == window) && is_confirmed booking.state
+
+-- how many pledges have one
+abbrev pub confirmed_for : List PledgeValue → ℕ → ℕ → ℕ
+confirmed_for pledges day window = count_by (λ p. is_confirmed_for day window p.booking) pledges
+
+-- the booking that a command confirmed
+abbrev pub confirmed_by : Done → Option Booking
+confirmed_by (Done.Booked booking) = if is_confirmed booking.state then Some booking else None
+confirmed_by (Done.Entered entry) = None
+confirmed_by (Done.Held flag) = None
+confirmed_by (Done.Declared secret) = None
+confirmed_by (Done.Redeemed day paid) = None
+confirmed_by (Done.Sold net surplus shortfall) = None
+confirmed_by (Done.Extended until) = None
+
+-- the booking that is told to be confirmed
+abbrev pub confirmed_booking : Reply → Option Booking
+confirmed_booking (BookMade b) = None
+confirmed_booking (TermsPut version) = None
+confirmed_booking (Opened receipt) = None
+confirmed_booking (Commanded n done) = confirmed_by done
+
+-- as many of its window are confirmed as the book confirms
+abbrev pub is_window_full : BookValue → Option Booking → Bool
+is_window_full book None = false
+is_window_full book (Some booking) = nat_le book.capacity (confirmed_for book.pledges booking.day booking.window)
+
+-- commands
+
+-- what came of a command on pledge n
+abbrev pub judged_outcome : ℕ → ℕ → Judged → Outcome
+judged_outcome b n (Refused why) = Refuses (Pledge why)
+judged_outcome b n (Answered done) = Says (Told (Commanded n done))
+judged_outcome b n (Changed next done) = Makes (PutPledge b n next) (Commanded n done)
+
+-- a booking is confirmed only where its window has room
+abbrev pub windowed : BookValue → Outcome → Outcome
+windowed book (Refuses why) = Refuses why
+windowed book (Says out) = Says out
+windowed book (Makes change reply) = if is_window_full book (confirmed_booking reply) then Refuses WindowFull else Makes change reply
+
+-- a broker's command on pledge n
+abbrev pub broker_commands : BookValue → ℕ → ℕ → Stamp → Command → Option PledgeValue → Outcome
+broker_commands book b n stamp command None = Refuses NoSuchPledge
+broker_commands book b n stamp command (Some p) = windowed book (judged_outcome b n (pledge_step p stamp command))
+
+-- a bearer's command, on the pledge of a live receipt
+abbrev pub bearer_commands : ℕ → ℕ → Stamp → Command → Option PledgeValue → Outcome
+bearer_commands b n stamp command None = Refuses NoSuchReceipt
+bearer_commands b n stamp command (Some p) = judged_outcome b n (pledge_step p stamp command)
+
+-- Show: the statement of a pledge
+abbrev pub shown : Stamp → Option PledgeValue → Outcome
+shown stamp None = Refuses NoSuchPledge
+shown stamp (Some p) = Says (Shown stamp.day (Some p ∷ []))
 
 -- what a broker asks of the book
 abbrev pub broker_step : BookValue → ℕ → Stamp → BrokerRequest → Outcome
 broker_step book b stamp (PutTerms new) = put_terms book b new (terms_at book.terms new.version)
 broker_step book b stamp (TakePledge opening) = take_pledge book b opening stamp (with_reference book.pledges opening.reference)
+broker_step book b stamp (OnPledge n command) = broker_commands book b n stamp (broker_command command) (pledge_from 1 book.pledges n)
+broker_step book b stamp (Show n) = shown stamp (pledge_from 1 book.pledges n)
 
 -- for a caller with the book's key
 abbrev pub gated : Option BookValue → ℕ → (BookValue → Outcome) → Outcome
@@ -250,10 +325,11 @@ abbrev pub held_out : Stamp → List (Option PledgeValue) → Outcome
 held_out stamp pledges = if are_unknown pledges then Refuses NoSuchReceipt else Says (Shown stamp.day pledges)
 
 -- what a bearer asks, where pledges are looked up so
-abbrev pub bearer_step : (ℕ → Option PledgeValue) → Stamp → BearerRequest → Outcome
-bearer_step pledges stamp (Held receipts) = held_out stamp (map (live_at pledges) receipts)
+abbrev pub bearer_step : (ℕ → Option PledgeValue) → ℕ → Stamp → BearerRequest → Outcome
+bearer_step pledges b stamp (Held receipts) = held_out stamp (map (live_at pledges) receipts)
+bearer_step pledges b stamp (OnReceipt r command) = bearer_commands b r.number stamp (bearer_command command) (live_at pledges r)
 
 abbrev pub book_step : Option BookValue → ℕ → ℕ → Stamp → Caller → Outcome
 book_step before operator b stamp (Operator key new) = operated operator key (created before b new)
 book_step before operator b stamp (Broker key asked) = gated before key (λ book. broker_step book b stamp asked)
-book_step before operator b stamp (Bearer asked) = bearer_step (pledge_in before) stamp asked
+book_step before operator b stamp (Bearer asked) = bearer_step (pledge_in before) b stamp asked

@@ -1,15 +1,19 @@
 -- What a keeper's calls say of the host that it stands for.
-use Rattle.std.specs.Prelude.{◌≡◌, ◌⊎◌, ℕ, ◌+◌, ◌≤◌, ◌<◌, List, [], ◌++◌, Option, Some, None, Result, Ok, Err, length, option_map, option_and_then, IfSome, IfErr}
+use Rattle.std.specs.Prelude.{◌≡◌, ◌⊎◌, ℕ, ◌+◌, ◌≤◌, ◌<◌, List, [], ◌++◌, Option, Some, None, Result, Ok, Err, length, option_map, IfSome, IfErr}
 use Rattle.std.specs.FinMap.{get}
 use Rattle.pawn_terms.specs.Terms.{TermsValue}
 use Rattle.pawn_debt.specs.declared.entry.Entry.{Entry}
 use Rattle.pawn_pledge.specs.declared.command.Stamp.{Stamp}
+use Rattle.pawn_pledge.specs.declared.record.Booking.{Booking}
 use Rattle.pawn_pledge.specs.declared.record.Issued.{Issued}
 use Rattle.pawn_pledge.specs.declared.record.Extension.{Extension}
 use Rattle.pawn_pledge.specs.Pledge.{PledgeValue}
 use Rattle.pawn_book.specs.declared.request.Caller.{Caller}
 use Rattle.pawn_book.specs.declared.request.Caller.TheVariants.{Operator, Broker, Bearer}
-use Rattle.pawn_book.specs.declared.request.BearerRequest.TheVariants.{Held}
+use Rattle.pawn_book.specs.declared.request.BrokerRequest.{BrokerRequest}
+use Rattle.pawn_book.specs.declared.request.BrokerRequest.TheVariants as broker
+use Rattle.pawn_book.specs.declared.request.BearerRequest.{BearerRequest}
+use Rattle.pawn_book.specs.declared.request.BearerRequest.TheVariants as bearer
 use Rattle.pawn_book.specs.declared.request.Request.{Request}
 use Rattle.pawn_book.specs.declared.reply.Reply.{Reply}
 use Rattle.pawn_book.specs.declared.refusal.Refusal.{Refusal}
@@ -22,7 +26,7 @@ use Rattle.pawn_book.specs.declared.fault.KeepError.{KeepError}
 use Rattle.pawn_book.specs.declared.fault.KeepError.TheVariants as Keeper
 use Rattle.pawn_book.specs.declared.fault.SaveError.{SaveError}
 use Rattle.pawn_book.specs.declared.fault.SaveError.TheVariants as Save
-use Rattle.pawn_book.specs.BookStep.{BookValue, Out, Told, Outcome, Refuses, Says, Makes, out_of, changed_book, pledge_from, pledge_in, terms_at, with_reference, gated, head_of}
+use Rattle.pawn_book.specs.BookStep.{BookValue, Told, Outcome, Refuses, Says, Makes, out_of, changed_book, confirmed_booking, pledge_from, with_reference, gated, head_of}
 use Rattle.pawn_book.specs.HostStep.{Host, rows, with_book, host_step, host_after}
 use Rattle.pawn_book.specs.Sound.{AreSound, IsSound}
 
@@ -45,6 +49,13 @@ entries_of (Some p) = p.entries
 abbrev pub extensions_of : Option PledgeValue → List Extension
 extensions_of None = []
 extensions_of (Some p) = p.extensions
+
+-- the least number of a book above one, or that there is none
+abbrev pub IsNextBook : Host → ℕ → Option ℕ → Type 0
+IsNextBook h after None = (b : ℕ) (book : BookValue) → get h.books b ≡ Some book → b ≤ after
+IsNextBook h after (Some next) =
+    (after < next) × ((book : BookValue) × (get h.books next ≡ Some book))
+    × ((b : ℕ) (book : BookValue) → get h.books b ≡ Some book → after < b → next ≤ b)
 
 -- A call that changes nothing tells P of the host that the keeper stands for.
 pub record Reads {K : Type 0} (stands : K → Host → Type 0) (honest : K → Type 0) (old new : K) (P : Host → Type 0) : Type 0 where
@@ -78,7 +89,7 @@ pub record IsQuiet {K T : Type 0} (steady : K → Type 0) (old new : K) (result 
 abbrev pub book_of : Change → ℕ
 book_of (MakeBook book new) = book
 book_of (AddTerms book version terms) = book
-book_of (PutPledge book pledge) = book
+book_of (PutPledge book number pledge) = book
 
 -- the host with a change
 abbrev pub changed : Host → Change → Host
@@ -94,9 +105,9 @@ pub record Grows (old new : PledgeValue) : Type 0 where
 abbrev pub Follows : Host → Change → Type 0
 Follows h (MakeBook book new) = get h.books book ≡ None
 Follows h (AddTerms book version terms) = (at : BookValue) × (get h.books book ≡ Some at) × (version ≡ length at.terms + 1)
-Follows h (PutPledge book pledge) =
+Follows h (PutPledge book number pledge) =
     (at : BookValue) × (get h.books book ≡ Some at)
-    × ((pledge.number ≡ length at.pledges + 1) ⊎ ((old : PledgeValue) × (pledge_from 1 at.pledges pledge.number ≡ Some old) × Grows old pledge))
+    × ((number ≡ length at.pledges + 1) ⊎ ((old : PledgeValue) × (pledge_from 1 at.pledges number ≡ Some old) × Grows old pledge))
 
 -- a change that may be saved: it follows, and the changed host is sound, but for the limit on its rows
 pub record CanSave (h : Host) (change : Change) : Type 0 where
@@ -117,6 +128,16 @@ abbrev pub Plans : Host → ℕ → Outcome → Result Planned Refusal → Type 
 Plans h b outcome (Ok planned) =
     (outcome ≡ outcome_of planned.change planned.reply) × IfSome planned.change (λ change. (book_of change ≡ b) × CanSave h change)
 Plans h b outcome (Err why) = IsUnwell why ⊎ (outcome ≡ Refuses why)
+
+-- the answer is the outcome, or a keeper did not answer
+abbrev pub IsOutcome : Outcome → Result Planned Refusal → Type 0
+IsOutcome outcome (Ok planned) = outcome ≡ outcome_of planned.change planned.reply
+IsOutcome outcome (Err why) = IsUnwell why ⊎ (outcome ≡ Refuses why)
+
+-- the booking that a plan's change confirms
+abbrev pub newly_confirmed : Option Change → Reply → Option Booking
+newly_confirmed None reply = None
+newly_confirmed (Some change) reply = confirmed_booking reply
 
 -- a pledge is taken by the rules, or refused by them, or a keeper did not answer
 abbrev pub IsTaken : Result PledgeValue Refusal → Result PledgeValue Refusal → Type 0
@@ -147,7 +168,17 @@ Acts h operator stamp request (Ok reply) stands =
 Acts h operator stamp request (Err why) stands = stands h × (IsUnwell why ⊎ (host_step h operator stamp request ≡ Refuses why))
 
 -- a request that may change its book
+abbrev pub IsBrokerWrite : BrokerRequest → Type 0
+IsBrokerWrite (broker.PutTerms new) = Unit {0}
+IsBrokerWrite (broker.TakePledge opening) = Unit {0}
+IsBrokerWrite (broker.OnPledge number command) = Unit {0}
+IsBrokerWrite (broker.Show number) = ⊥
+
+abbrev pub IsBearerWrite : BearerRequest → Type 0
+IsBearerWrite (bearer.Held receipts) = ⊥
+IsBearerWrite (bearer.OnPledge receipt command) = Unit {0}
+
 abbrev pub IsWritten : Caller → Type 0
 IsWritten (Operator key new) = Unit {0}
-IsWritten (Broker key asked) = Unit {0}
-IsWritten (Bearer (Held receipts)) = ⊥
+IsWritten (Broker key asked) = IsBrokerWrite asked
+IsWritten (Bearer asked) = IsBearerWrite asked

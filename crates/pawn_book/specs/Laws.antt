@@ -1,10 +1,20 @@
 -- What holds of every book, whatever is asked.
-use Rattle.std.specs.Prelude.{◌≡◌, ℕ, List, [], ◌∷◌, Option}
+use Rattle.std.specs.Prelude.{◌≡◌, ℕ, List, [], ◌∷◌, Option, Some, is_some, true}
 use Rattle.pawn_pledge.specs.declared.command.Stamp.{Stamp}
 use Rattle.pawn_book.specs.declared.request.Caller.{Caller}
+use Rattle.pawn_book.specs.declared.request.Caller.TheVariants.{Operator, Broker, Bearer}
+use Rattle.pawn_book.specs.declared.request.BrokerRequest.{BrokerRequest}
+use Rattle.pawn_book.specs.declared.request.BrokerRequest.TheVariants as asked
+use Rattle.pawn_book.specs.declared.request.BearerRequest.{BearerRequest}
+use Rattle.pawn_book.specs.declared.request.BearerRequest.TheVariants as presented
+use Rattle.pawn_book.specs.declared.request.BrokerCommand.{BrokerCommand}
+use Rattle.pawn_book.specs.declared.request.BrokerCommand.TheVariants as broker
+use Rattle.pawn_book.specs.declared.request.BearerCommand.{BearerCommand}
+use Rattle.pawn_book.specs.declared.request.BearerCommand.TheVariants as bearer
 use Rattle.pawn_book.specs.declared.reply.Reply.{Reply}
 use Rattle.pawn_book.specs.declared.change.Change.{Change}
-use Rattle.pawn_book.specs.BookStep.{BookValue, Told, Says, Makes, changed_book, book_after, book_step}
+use Rattle.pawn_book.specs.BookStep.{BookValue, Told, Says, Makes, changed_book, book_after, book_step, live_at, pledge_in}
+use Rattle.pawn_book.specs.Sound.{IsSoundBook}
 
 -- the book after requests, one after the other
 abbrev pub book_run : Option BookValue → ℕ → ℕ → List (Stamp × Caller) → Option BookValue
@@ -18,9 +28,73 @@ ChangesDiffer =
     (before : Option BookValue) (operator b : ℕ) (stamp : Stamp) (caller : Caller) (change : Change) (reply : Reply)
     → book_step before operator b stamp caller ≡ Makes change reply → changed_book before change ≡ before → ⊥
 
--- a request that made a change is told the same again and makes none, whatever was asked in between, on any day and with any word
+-- a book, terms or a pledge are asked for
+abbrev pub IsSetUp : BrokerRequest → Type 0
+IsSetUp (asked.PutTerms new) = Unit {0}
+IsSetUp (asked.TakePledge opening) = Unit {0}
+IsSetUp (asked.OnPledge n command) = ⊥
+IsSetUp (asked.Show n) = ⊥
+
+abbrev pub IsMaking : Caller → Type 0
+IsMaking (Operator key new) = Unit {0}
+IsMaking (Broker key request) = IsSetUp request
+IsMaking (Bearer request) = ⊥
+
+-- a request for one of them that made a change is told the same again and makes none, whatever was asked in between, on any day and with any word
 abbrev pub RepeatsActOnce : Type 0
 RepeatsActOnce =
     (before : Option BookValue) (operator b : ℕ) (stamp again : Stamp) (caller : Caller) (change : Change) (reply : Reply) (later : List (Stamp × Caller))
-    → book_step before operator b stamp caller ≡ Makes change reply
+    → IsMaking caller → book_step before operator b stamp caller ≡ Makes change reply
     → book_step (book_run (changed_book before change) operator b later) operator b again caller ≡ Says (Told reply)
+
+-- a drawing or a repayment
+abbrev pub IsEntry : BrokerCommand → Type 0
+IsEntry (broker.Draw seq pence) = Unit {0}
+IsEntry (broker.Repay seq pence) = Unit {0}
+IsEntry broker.Hold = ⊥
+IsEntry broker.Release = ⊥
+IsEntry (broker.Declare paper) = ⊥
+IsEntry (broker.DecideBooking decision) = ⊥
+IsEntry (broker.Sell net) = ⊥
+IsEntry (broker.Extend until) = ⊥
+
+abbrev pub IsRepayment : BearerCommand → Type 0
+IsRepayment (bearer.Repay seq pence) = Unit {0}
+IsRepayment (bearer.AskBooking day window) = ⊥
+IsRepayment bearer.CancelBooking = ⊥
+IsRepayment (bearer.Redeem paid) = ⊥
+
+abbrev pub IsBrokerEntry : BrokerRequest → Type 0
+IsBrokerEntry (asked.PutTerms new) = ⊥
+IsBrokerEntry (asked.TakePledge opening) = ⊥
+IsBrokerEntry (asked.OnPledge n command) = IsEntry command
+IsBrokerEntry (asked.Show n) = ⊥
+
+abbrev pub IsBearerEntry : BearerRequest → Type 0
+IsBearerEntry (presented.Held receipts) = ⊥
+IsBearerEntry (presented.OnPledge receipt command) = IsRepayment command
+
+abbrev pub IsEntering : Caller → Type 0
+IsEntering (Operator key new) = ⊥
+IsEntering (Broker key request) = IsBrokerEntry request
+IsEntering (Bearer request) = IsBearerEntry request
+
+-- a bearer's receipt is live
+abbrev pub IsStillLive : Option BookValue → BearerRequest → Type 0
+IsStillLive book (presented.Held receipts) = Unit {0}
+IsStillLive book (presented.OnPledge receipt command) = is_some (live_at (pledge_in book) receipt) ≡ true
+
+-- the caller still passes
+abbrev pub StillPasses : Option BookValue → Caller → Type 0
+StillPasses book (Operator key new) = Unit {0}
+StillPasses book (Broker key request) = Unit {0}
+StillPasses book (Bearer request) = IsStillLive book request
+
+-- a drawing or repayment that was entered is told the same again and enters nothing, whatever became of the pledge in between,
+-- on any day: to the broker, and to a bearer whose receipt is still live
+abbrev pub EntriesActOnce : Type 0
+EntriesActOnce =
+    (before : BookValue) (operator b : ℕ) (stamp again : Stamp) (caller : Caller) (change : Change) (reply : Reply) (later : List (Stamp × Caller))
+    → IsSoundBook before → IsEntering caller → book_step (Some before) operator b stamp caller ≡ Makes change reply
+    → StillPasses (book_run (changed_book (Some before) change) operator b later) caller
+    → book_step (book_run (changed_book (Some before) change) operator b later) operator b again caller ≡ Says (Told reply)

@@ -1,5 +1,6 @@
 pub mod Limits
 pub mod Refusals
+pub mod Commands
 pub mod BookStep
 pub mod HostStep
 pub mod Runs

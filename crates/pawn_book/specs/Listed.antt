@@ -37,6 +37,13 @@ IsPlace [] b i = ⊥
 IsPlace (e ∷ es) b zero = b ≡ e.0
 IsPlace (e ∷ es) b (suc i) = (b ≢ e.0) × IsPlace es b i
 
+-- the least number of a book in the list above one, or that there is none
+abbrev pub IsLeastAbove : List (ℕ × BookValue) → ℕ → Option ℕ → Type 0
+IsLeastAbove books after None = (b : ℕ) (book : BookValue) → book_at books b ≡ Some book → b ≤ after
+IsLeastAbove books after (Some next) =
+    (after < next) × ((book : BookValue) × (book_at books next ≡ Some book))
+    × ((b : ℕ) (book : BookValue) → book_at books b ≡ Some book → after < b → next ≤ b)
+
 -- the rows of the pledge that stands
 abbrev pub standing_rows : Option PledgeValue → ℕ
 standing_rows None = 0

@@ -3,7 +3,7 @@ use Rattle.std.specs.Prelude.{ℕ, List, Option, None, codes}
 use Rattle.pawn_terms.specs.TermsFault as terms
 use Rattle.pawn_pledge.specs.Refusal as pledge
 use Rattle.pawn_book.specs.declared.refusal.Refusal.{Refusal}
-use Rattle.pawn_book.specs.declared.refusal.Refusal.TheVariants.{Pledge, Terms, NoSuchBook, NoSuchReceipt, BookTaken, NoTerms, TermsSeq, RefTaken, NotOperator, TermsFull, PledgesFull, Full, Memory, Store}
+use Rattle.pawn_book.specs.declared.refusal.Refusal.TheVariants.{Pledge, Terms, NoSuchBook, NoSuchReceipt, NoSuchPledge, BookTaken, NoTerms, TermsSeq, RefTaken, WindowFull, NotOperator, TermsFull, PledgesFull, Full, Memory, Store}
 
 -- the refusal's number
 abbrev pub code_of : Refusal → ℕ
@@ -11,10 +11,12 @@ code_of (Pledge refusal) = pledge.code_of refusal
 code_of (Terms fault) = terms.code_of fault
 code_of NoSuchBook = 401
 code_of NoSuchReceipt = 402
+code_of NoSuchPledge = 403
 code_of BookTaken = 404
 code_of NoTerms = 405
 code_of TermsSeq = 406
 code_of RefTaken = 407
+code_of WindowFull = 408
 code_of NotOperator = 410
 code_of TermsFull = 411
 code_of PledgesFull = 412
@@ -28,10 +30,12 @@ name_of (Pledge refusal) = pledge.name_of refusal
 name_of (Terms fault) = terms.name_of fault
 name_of NoSuchBook = codes "NoSuchBook"
 name_of NoSuchReceipt = codes "NoSuchReceipt"
+name_of NoSuchPledge = codes "NoSuchPledge"
 name_of BookTaken = codes "BookTaken"
 name_of NoTerms = codes "NoTerms"
 name_of TermsSeq = codes "TermsSeq"
 name_of RefTaken = codes "RefTaken"
+name_of WindowFull = codes "WindowFull"
 name_of NotOperator = codes "NotOperator"
 name_of TermsFull = codes "TermsFull"
 name_of PledgesFull = codes "PledgesFull"
@@ -45,10 +49,12 @@ total_of (Pledge refusal) = pledge.refusal_total refusal
 total_of (Terms fault) = None
 total_of NoSuchBook = None
 total_of NoSuchReceipt = None
+total_of NoSuchPledge = None
 total_of BookTaken = None
 total_of NoTerms = None
 total_of TermsSeq = None
 total_of RefTaken = None
+total_of WindowFull = None
 total_of NotOperator = None
 total_of TermsFull = None
 total_of PledgesFull = None

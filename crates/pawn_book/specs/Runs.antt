@@ -1,10 +1,9 @@
 -- Runs: requests one after the other, each with how it was answered.
-use Rattle.std.specs.Prelude.{ℕ, List, [], ◌∷◌, Bool, true, false, Option, Some, None, Result, Ok, Err, not, ◌==◌, ◌||◌}
+use Rattle.std.specs.Prelude.{ℕ, List, [], ◌∷◌, Result, Ok, Err}
 use Rattle.pawn_pledge.specs.declared.command.Stamp.{Stamp}
 use Rattle.pawn_book.specs.declared.request.Request.{Request}
-use Rattle.pawn_book.specs.declared.refusal.Refusal.{Refusal}
 use Rattle.pawn_book.specs.declared.refusal.Refusal.TheVariants.{Memory, Store}
-use Rattle.pawn_book.specs.BookStep.{Out, Denied, Outcome, out_of}
+use Rattle.pawn_book.specs.BookStep.{Out, Denied, out_of}
 use Rattle.pawn_book.specs.HostStep.{Host, host_step, host_after}
 
 -- how an item was answered: as what its bytes read as, a request or a fault; or by want of memory, or a fault of the store

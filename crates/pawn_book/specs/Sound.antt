@@ -1,12 +1,14 @@
 -- Hosts that can have come about.
-use Rattle.std.specs.Prelude.{◌≡◌, ℕ, ◌+◌, ◌≤◌, List, [], ◌∷◌, Option, Some, None, length}
+use Rattle.std.specs.Prelude.{◌≡◌, ℕ, ◌+◌, ◌≤◌, List, [], ◌∷◌, false, Some, length, map}
+use Rattle.std.specs.List.{list_any}
 use Rattle.std.specs.FinMap.{get}
 use Rattle.pawn_terms.specs.Terms.{TermsValue, IsChecked}
 use Rattle.pawn_pledge.specs.Pledge.{PledgeValue}
 use Rattle.pawn_pledge.specs.Replayable.{IsStanding}
-use Rattle.pawn_book.specs.BookStep.{BookValue}
+use Rattle.pawn_pledge.specs.Text.{IsText}
+use Rattle.pawn_book.specs.BookStep.{BookValue, is_text, terms_at}
 use Rattle.pawn_book.specs.HostStep.{Host, rows}
-use Rattle.pawn_book.specs.Limits.{most_terms, most_pledges}
+use Rattle.pawn_book.specs.Limits.{IsCapacity, most_terms, most_pledges}
 
 -- each element of a list
 abbrev pub Each : {A : Type 0} → (A → Type 0) → List A → Type 0
@@ -18,10 +20,30 @@ abbrev pub AreNumberedFrom : ℕ → List PledgeValue → Type 0
 AreNumberedFrom k [] = Unit {0}
 AreNumberedFrom k (p ∷ ps) = (p.number ≡ k) × AreNumberedFrom (k + 1) ps
 
--- a book within the limits, its pledges numbered from 1
+-- no text stands twice
+abbrev pub AreDistinct : List (List ℕ) → Type 0
+AreDistinct [] = Unit {0}
+AreDistinct (t ∷ ts) = (list_any (is_text t) ts ≡ false) × AreDistinct ts
+
+-- numbers don't fall, from one on
+abbrev pub DoNotFall : ℕ → List ℕ → Type 0
+DoNotFall n [] = Unit {0}
+DoNotFall n (m ∷ ms) = (n ≤ m) × DoNotFall m ms
+
+-- the terms of a pledge stand under its version
+abbrev pub IsUnder : List TermsValue → PledgeValue → Type 0
+IsUnder terms p = terms_at terms p.version ≡ Some p.terms
+
+-- a book within the limits: its pledges numbered from 1, each of which can have come about, with references that differ,
+-- under terms that stand, the later ones under no earlier terms
 pub record IsSoundBook (book : BookValue) : Type 0 where
+  pub name : IsText 60 book.name
+  pub capacity : IsCapacity book.capacity
   pub numbered : AreNumberedFrom 1 book.pledges
   pub standing : Each IsStanding book.pledges
+  pub references : AreDistinct (map (λ p. p.reference) book.pledges)
+  pub under : Each (IsUnder book.terms) book.pledges
+  pub versions : DoNotFall 0 (map (λ p. p.version) book.pledges)
   pub checked : Each IsChecked book.terms
   pub terms : length book.terms ≤ most_terms
   pub pledges : length book.pledges ≤ most_pledges

@@ -35,9 +35,10 @@ pub enum Change {
         version: u64,
         terms: Terms,
     },
-    /// The next pledge, or one that stands, as it is now.
+    /// The pledge of a number, the next or one that stands, as it is now.
     PutPledge {
         book: Number,
+        number: Number,
         pledge: Pledge,
     },
 }

@@ -1,15 +1,15 @@
-ghost use Rattle.std.specs.Prelude.{◌≡◌, ◌≤◌, ◌<◌, IfOk, OnOk, OnErr, IfErr, is_ok, option_map};
+ghost use Rattle.std.specs.Prelude.{◌≡◌, ◌≤◌, ◌<◌, IfOk, OnOk, OnErr, IfErr, is_ok, option_map, unwrap_or};
 ghost use Rattle.std.specs.FinMap.{get};
 ghost use Rattle.pawn_pledge.specs.Brief.{brief_of};
-ghost use Rattle.pawn_book.specs.BookStep.{head_of, pledge_in, terms_at};
+ghost use Rattle.pawn_book.specs.BookStep.{confirmed_for, head_of, pledge_in, terms_at};
 ghost use Rattle.pawn_book.specs.HostStep.{Host, rows};
-ghost use Rattle.pawn_book.specs.Keeping.{Reads, Of, IsSteady, CanSave, changed, terms_of, number_of, entries_of, extensions_of, IsWant};
+ghost use Rattle.pawn_book.specs.Keeping.{Reads, Of, IsSteady, CanSave, changed, terms_of, pledges_of, number_of, entries_of, extensions_of, IsNextBook, IsWant};
 ghost use Rattle.pawn_book.specs.Visits.{Visits, IsShare};
 
 use crate::change::{Change, Head};
 use crate::fault::{KeepError, SaveError};
-use crate::visit::{EntryVisitor, ExtensionVisitor};
-use pawn_pledge::{Brief, Number, Pledge, Reference, Terms};
+use crate::visit::{EntryVisitor, ExtensionVisitor, PledgeVisitor};
+use pawn_pledge::{Brief, Day, Number, Pledge, Reference, Terms};
 
 /// What keeps a host, however it is kept. Only `save` changes the host.
 pub trait Keep {
@@ -40,6 +40,22 @@ pub trait Keep {
     /// The number of the pledge with a reference.
     fn find_ref(&mut self, book: Number, reference: &Reference) -> Result<Option<Number>, KeepError>
         ensures reads { Reads stands honest self.old self.new (λ h. IfOk result (λ number. number ≡ number_of (get h.books book) reference.now)) }
+        ensures steady { IsSteady steady self.old self.new result };
+
+    /// How many pledges have a confirmed booking for a day and a window.
+    fn confirmed(&mut self, book: Number, day: Day, window: u64) -> Result<u64, KeepError>
+        ensures reads { Reads stands honest self.old self.new (λ h. IfOk result (λ count. count ≡ confirmed_for (pledges_of (get h.books book)) day window)) }
+        ensures steady { IsSteady steady self.old self.new result };
+
+    /// Hands the visitor the pledges of a book in order of their numbers, until it wants no more.
+    fn walk<V: PledgeVisitor>(&mut self, book: Number, visitor: &mut V) -> Result<(), KeepError>
+        ensures reads { Visits V.step visitor.old visitor.new (λ given flow.
+            Reads stands honest self.old self.new (λ h. IsShare given flow (is_ok result) (pledges_of (get h.books book)))) }
+        ensures steady { IsSteady steady self.old self.new result };
+
+    /// The least number of a book above one, or above none at all.
+    fn next_book(&mut self, after: Option<Number>) -> Result<Option<Number>, KeepError>
+        ensures reads { Reads stands honest self.old self.new (λ h. IfOk result (λ next. IsNextBook h (unwrap_or after 0) next)) }
         ensures steady { IsSteady steady self.old self.new result };
 
     /// The pledge of a number without its lists.

@@ -1,4 +1,4 @@
-ghost use Rattle.pawn_book.specs.Laws.{ChangesDiffer, RepeatsActOnce};
+ghost use Rattle.pawn_book.specs.Laws.{ChangesDiffer, EntriesActOnce, RepeatsActOnce};
 
 /// What a plan calls a change is one.
 pub fn changes_differ()
@@ -8,4 +8,9 @@ pub fn changes_differ()
 /// A book, a version of terms and a pledge are made once, however often they are asked for.
 pub fn repeats_act_once()
     ensures { RepeatsActOnce }
+{}
+
+/// A drawing or a repayment of a number is entered once, however often it is asked for.
+pub fn entries_act_once()
+    ensures { EntriesActOnce }
 {}

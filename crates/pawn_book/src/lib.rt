@@ -4,6 +4,7 @@
 mod acting;
 mod capacity;
 mod change;
+mod commands;
 mod fault;
 mod keep;
 mod laws;
@@ -20,7 +21,7 @@ pub use capacity::Capacity;
 pub use change::{Change, Head, Imported, Planned};
 pub use fault::{KeepError, SaveError, StoreFault};
 pub use keep::Keep;
-pub use laws::{changes_differ, repeats_act_once};
+pub use laws::{changes_differ, entries_act_once, repeats_act_once};
 pub use list::{ListKeep, MOST_ROWS};
 pub use pawn_pledge::{
     Applied, Article, BadDay, BadReceipt, Booking, BookingState, Brief, Closing, Command, Day,
@@ -33,8 +34,11 @@ pub use planning::{find_live, gate, plan};
 pub use receipts::{MOST_RECEIPTS, Receipts};
 pub use refusal::Refusal;
 pub use reply::Reply;
-pub use request::{BearerRequest, BrokerRequest, Caller, Name, NewBook, NewTerms, Request};
-pub use visit::{EntryVisitor, ExtensionVisitor, Flow};
+pub use request::{
+    BearerCommand, BearerRequest, BrokerCommand, BrokerRequest, Caller, Name, NewBook, NewTerms,
+    Request,
+};
+pub use visit::{EntryVisitor, ExtensionVisitor, Flow, PledgeVisitor};
 
 #[cfg(test)]
 mod tests;

@@ -1,17 +1,19 @@
-ghost use Rattle.std.specs.Prelude.{[], ◌≡◌, ◌<◌, ◌≤◌, ◌+◌, IfNone, IfOk, IfSome, MatchOption, None, OnErr, OnOk, Some, length, map, option_map, true};
+ghost use Rattle.std.specs.Prelude.{[], ◌≡◌, ◌<◌, ◌≤◌, ◌+◌, ◌&&◌, if◌then◌else◌, IfNone, IfOk, IfSome, MatchOption, None, OnErr, OnOk, Some, length, map, nat_lt, option_map, true, unwrap_or};
 ghost use Rattle.pawn_pledge.specs.Brief.{brief_of};
-ghost use Rattle.pawn_book.specs.BookStep.{head_of, pledge_from, pledge_in, put_from, terms_at, with_reference};
+ghost use Rattle.pawn_book.specs.BookStep.{confirmed_for, head_of, is_confirmed_for, pledge_from, pledge_in, put_from, terms_at, with_reference};
 ghost use Rattle.pawn_book.specs.HostStep.{pledge_rows};
-ghost use Rattle.pawn_book.specs.Keeping.{CanSave, entries_of, extensions_of, number_of, terms_of};
-ghost use Rattle.pawn_book.specs.Listed.{IsPlace, Saves, book_at, entry_of, host_of, standing_rows};
+ghost use Rattle.pawn_book.specs.Keeping.{CanSave, entries_of, extensions_of, number_of, pledges_of, terms_of};
+ghost use Rattle.pawn_book.specs.Listed.{IsLeastAbove, IsPlace, Saves, book_at, entry_of, host_of, standing_rows};
 ghost use Rattle.pawn_book.specs.Visits.{Visits, IsShare};
 
 use crate::change::{Change, Head, Imported};
 use crate::fault::{KeepError, SaveError};
 use crate::keep::Keep;
 use crate::request::NewBook;
-use crate::visit::{EntryVisitor, ExtensionVisitor, Flow};
-use pawn_pledge::{Brief, Entry, Extension, Number, Pledge, Reference, Terms};
+use crate::visit::{EntryVisitor, ExtensionVisitor, Flow, PledgeVisitor};
+use pawn_pledge::{
+    Booking, BookingState, Brief, Day, Entry, Extension, Number, Pledge, Reference, Terms,
+};
 use std::alloc::{AllocError, Global};
 use std::marker::Model;
 
@@ -114,14 +116,14 @@ impl ListKeep {
     }
 
     // Puts the next pledge, or one that stands.
-    fn put_pledge(&mut self, book: Number, pledge: &Pledge) -> Result<(), SaveError>
-        requires { CanSave (host_of self.old) (Change.PutPledge book pledge.now) }
-        ensures { Saves self.old (Change.PutPledge book pledge.now) result self.new }
+    fn put_pledge(&mut self, book: Number, number: Number, pledge: &Pledge) -> Result<(), SaveError>
+        requires { CanSave (host_of self.old) (Change.PutPledge book number pledge.now) }
+        ensures { Saves self.old (Change.PutPledge book number pledge.now) result self.new }
     {
         let Some(place) = place_of(&self.books, book) else {
             unreachable!();
         };
-        let standing = rows_at(&self.books[place].pledges, pledge.number());
+        let standing = rows_at(&self.books[place].pledges, number);
         let rows = u128::from(self.rows) + u128::from(rows_of(pledge)) - u128::from(standing);
         if rows > u128::from(self.limit) {
             return Err(SaveError::Full);
@@ -130,7 +132,7 @@ impl ListKeep {
             return Err(SaveError::Memory);
         };
         let kept = &mut self.books[place];
-        match put(&mut kept.pledges, pledge) {
+        match put(&mut kept.pledges, number, pledge) {
             Ok(()) => {}
             Err(_) => return Err(SaveError::Memory),
         }
@@ -177,6 +179,21 @@ impl Keep for ListKeep {
         Ok(number)
     }
 
+    fn confirmed(&mut self, book: Number, day: Day, window: u64) -> Result<u64, KeepError> {
+        let count = confirmed_in(pledges_in(&self.books, book), day, window);
+        Ok(count as u64)
+    }
+
+    fn walk<V: PledgeVisitor>(&mut self, book: Number, visitor: &mut V) -> Result<(), KeepError> {
+        hand_pledges(pledges_in(&self.books, book), visitor);
+        Ok(())
+    }
+
+    fn next_book(&mut self, after: Option<Number>) -> Result<Option<Number>, KeepError> {
+        let next = next_number(&self.books, bound(after));
+        Ok(next)
+    }
+
     fn brief(&mut self, book: Number, number: Number) -> Result<Option<Brief>, KeepError> {
         let Ok(brief) = brief_in(&self.books, book, number) else {
             return Err(KeepError::Memory);
@@ -214,7 +231,11 @@ impl Keep for ListKeep {
                 version,
                 terms,
             } => self.add_terms(*book, *version, *terms),
-            Change::PutPledge { book, pledge } => self.put_pledge(*book, pledge),
+            Change::PutPledge {
+                book,
+                number,
+                pledge,
+            } => self.put_pledge(*book, *number, pledge),
         }
     }
 }
@@ -347,6 +368,75 @@ fn brief_in(books: &[Kept], book: Number, number: Number) -> Result<Option<Brief
     Ok(Some(brief))
 }
 
+// The pledges of a book.
+fn pledges_in(books: &[Kept], book: Number) -> &[Pledge]
+    ensures { result.now ≡ pledges_of (book_at (map entry_of books.now) book) }
+{
+    match kept_at(books, book) {
+        None => &[],
+        Some(kept) => &kept.pledges,
+    }
+}
+
+// Whether a booking for a day and a window is confirmed.
+fn is_confirmed_for(booking: Option<Booking>, day: Day, window: u64) -> bool
+    ensures { result ≡ is_confirmed_for day window booking }
+{
+    match booking {
+        None => false,
+        Some(booking) => {
+            booking.day == day
+                && booking.window == window
+                && booking.state == BookingState::Confirmed
+        }
+    }
+}
+
+// How many pledges have a confirmed booking for a day and a window.
+fn confirmed_in(pledges: &[Pledge], day: Day, window: u64) -> usize
+    ensures { result ≡ confirmed_for pledges.now day window }
+{
+    pledges
+        .iter()
+        .filter(|pledge| is_confirmed_for(pledge.booking(), day, window))
+        .count()
+}
+
+// The number itself, or 0 where there is none.
+fn bound(after: Option<Number>) -> u32
+    ensures { result ≡ unwrap_or after 0 }
+{
+    match after {
+        None => 0,
+        Some(number) => number.get(),
+    }
+}
+
+// The least number of a book above one.
+fn next_number(books: &[Kept], after: u32) -> Option<Number>
+    ensures { IsLeastAbove (map entry_of books.now) after result }
+{
+    let mut next: Option<Number> = None;
+    for kept in books {
+        next = nearer(kept.number, after, next);
+    }
+    next
+}
+
+// A number in place of another, if it is less and above a third.
+fn nearer(number: Number, after: u32, next: Option<Number>) -> Option<Number>
+    ensures { result ≡ (if nat_lt after number && nat_lt number (unwrap_or next (number + 1)) then Some number else next) }
+{
+    let is_less = match next {
+        None => true,
+        Some(least) => number.get() < least.get(),
+    };
+    if is_less && number.get() > after {
+        return Some(number);
+    }
+    next
+}
+
 // The entries of a pledge in a book.
 fn entries_in(books: &[Kept], book: Number, number: Number) -> &[Entry]
     ensures { result.now ≡ entries_of (pledge_in (book_at (map entry_of books.now) book) number) }
@@ -373,6 +463,18 @@ fn hand_entries<V: EntryVisitor>(entries: &[Entry], visitor: &mut V)
 {
     for entry in entries {
         match visitor.visit(entry) {
+            Flow::Go => {}
+            Flow::Stop => return,
+        }
+    }
+}
+
+// Hands the pledges to the visitor until it wants no more.
+fn hand_pledges<V: PledgeVisitor>(pledges: &[Pledge], visitor: &mut V)
+    ensures { Visits V.step visitor.old visitor.new (λ given flow. IsShare given flow true pledges.now) }
+{
+    for pledge in pledges {
+        match visitor.visit(pledge) {
             Flow::Go => {}
             Flow::Stop => return,
         }
@@ -412,13 +514,13 @@ fn rows_at(pledges: &[Pledge], number: Number) -> u64
     }
 }
 
-// Puts the next pledge, or one that stands.
-fn put(pledges: &mut Vec<Pledge>, pledge: Pledge) -> Result<(), AllocError>
-    requires { pledge.number ≤ 1 + length pledges.old.items }
-    ensures ok { OnOk result (pledges.new.items ≡ put_from 1 pledges.old.items pledge.number pledge) }
+// Puts a pledge at its number, the next or one that stands.
+fn put(pledges: &mut Vec<Pledge>, number: Number, pledge: Pledge) -> Result<(), AllocError>
+    requires { number ≤ 1 + length pledges.old.items }
+    ensures ok { OnOk result (pledges.new.items ≡ put_from 1 pledges.old.items number pledge) }
     ensures err { OnErr result (pledges.new.items ≡ pledges.old.items) }
 {
-    let place = pledge.number().get() as usize - 1;
+    let place = number.get() as usize - 1;
     if place < pledges.len() {
         pledges[place] = pledge;
         return Ok(());

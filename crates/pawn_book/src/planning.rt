@@ -1,22 +1,21 @@
-ghost use Rattle.std.specs.Prelude.{◌≡◌, Err, IfOk, IfSome, Some};
+ghost use Rattle.std.specs.Prelude.{◌≡◌, Err, IfOk, Some};
 ghost use Rattle.std.specs.FinMap.{get};
-ghost use Rattle.pawn_terms.specs.Calendar.{IsStampDay};
 ghost use Rattle.pawn_terms.specs.Terms.{IsChecked};
-ghost use Rattle.pawn_pledge.specs.Replayable.{IsOpening, IsStanding};
+ghost use Rattle.pawn_pledge.specs.Replayable.{IsStanding};
 ghost use Rattle.pawn_book.specs.BookStep.{BookValue, are_terms, book_step, created, first_receipt, head_of, is_book, is_opening, live_at, newest, next_terms, pledge_in, put_terms, take_pledge, taken_under, terms_at, with_reference};
 ghost use Rattle.pawn_book.specs.Keeping.{Gates, IsQuiet, IsSteady, IsTaken, IsUnwell, IsWritten, Plans, Reads, pledges_of};
 
 use crate::change::{Change, Head, Planned};
+use crate::commands::{plan_number, plan_receipt};
 use crate::fault::KeepError;
 use crate::keep::Keep;
 use crate::refusal::Refusal;
 use crate::reply::Reply;
-use crate::request::{BrokerRequest, Caller, NewBook, NewTerms, Request};
+use crate::request::{BearerRequest, BrokerRequest, Caller, NewBook, NewTerms, Request};
 use pawn_pledge::{
-    Number, Opening, Pledge, Receipt, Reference, Refusal as PledgeRefusal, RequestDay, Secret,
-    Stamp, Terms,
+    Number, Opening, Pledge, Receipt, Reference, Refusal as PledgeRefusal, Secret, Stamp, Terms,
 };
-use std::alloc::{AllocError, Global};
+use std::alloc::Global;
 
 // As many versions of terms a book has at most.
 const MOST_TERMS: u64 = 99;
@@ -94,14 +93,25 @@ pub fn plan<K: Keep>(
                 BrokerRequest::TakePledge(opening) => {
                     plan_pledge(alloc, keep, request.book, &head, opening, stamp)
                 }
+                BrokerRequest::OnPledge { number, command } => {
+                    let command = command.command();
+                    plan_number(keep, request.book, &head, *number, stamp, &command)
+                }
+                BrokerRequest::Show(_) => unreachable!(),
             }
         }
-        Caller::Bearer(_) => unreachable!(),
+        Caller::Bearer(asked) => match asked {
+            BearerRequest::Held(_) => unreachable!(),
+            BearerRequest::OnPledge { receipt, command } => {
+                let command = command.command();
+                plan_receipt(keep, request.book, receipt, stamp, &command)
+            }
+        },
     }
 }
 
 // The refusal for a keeper that did not answer.
-fn unwell(error: KeepError) -> Refusal
+pub(crate) fn unwell(error: KeepError) -> Refusal
     ensures unwell { IsUnwell result }
     ensures memory { error ≡ KeepError.Memory → result ≡ Refusal.Memory }
 {
@@ -206,8 +216,13 @@ fn plan_pledge<K: Keep>(
             Err(refusal) => Err(refusal),
             Ok(pledge) => {
                 let reply = Reply::Opened(first_receipt(&pledge));
+                let number = pledge.number();
                 Ok(Planned {
-                    change: Some(Change::PutPledge { book, pledge }),
+                    change: Some(Change::PutPledge {
+                        book,
+                        number,
+                        pledge,
+                    }),
                     reply,
                 })
             }
@@ -267,11 +282,9 @@ fn start(
     let Some(number) = Number::new(head.pledges.min(MOST_PLEDGES) + 1) else {
         unreachable!();
     };
-    let Ok(opening) = copy_of(opening) else {
+    let Ok(opening) = opening.copy() else {
         return Err(Refusal::Memory);
     };
-    // Whoever reads them knows that the terms are checked and the day is one that a stamp may have.
-    let _ = (terms.rate(), stamp.day.day());
     match Pledge::start(alloc, number, opening, head.terms, terms, stamp) {
         Err(PledgeRefusal::Memory) => Err(Refusal::Memory),
         Err(refusal) => Err(Refusal::Pledge(refusal)),
@@ -341,37 +354,5 @@ fn first_receipt(pledge: &Pledge) -> Receipt
     Receipt {
         number: pledge.number(),
         secret,
-    }
-}
-
-// The same opening again.
-fn copy_of(opening: &Opening) -> Result<Opening, AllocError>
-    ensures same { IfOk result (λ copy. copy ≡ opening.now) }
-    ensures opening { IfOk result IsOpening }
-{
-    let reference = opening.reference.copy()?;
-    let article = opening.article.copy()?;
-    let _ = reference.as_str();
-    let _ = article.as_str();
-    Ok(Opening {
-        reference,
-        article,
-        kind: opening.kind,
-        agreed: agreed_end(opening.agreed),
-        five_days: opening.five_days,
-    })
-}
-
-// The agreed end, as a day that a request may name.
-fn agreed_end(agreed: Option<RequestDay>) -> Option<RequestDay>
-    ensures same { result ≡ agreed }
-    ensures in_range { IfSome result IsStampDay }
-{
-    match agreed {
-        None => None,
-        Some(day) => {
-            let _ = day.day();
-            Some(day)
-        }
     }
 }

@@ -15,6 +15,8 @@ pub enum Refusal {
     NoSuchBook,
     /// No receipt that was presented is live.
     NoSuchReceipt,
+    /// The book has no pledge of this number.
+    NoSuchPledge,
     /// The book stands with another key, name or capacity.
     BookTaken,
     /// The book has no terms yet.
@@ -23,6 +25,8 @@ pub enum Refusal {
     TermsSeq,
     /// The reference stands for another opening.
     RefTaken,
+    /// As many bookings of the window are confirmed as the book confirms.
+    WindowFull,
     /// The key is not the operator's.
     NotOperator,
     /// The book has 99 versions of terms.
@@ -47,10 +51,12 @@ impl Refusal {
             Refusal::Terms(fault) => fault.code(),
             Refusal::NoSuchBook => 401,
             Refusal::NoSuchReceipt => 402,
+            Refusal::NoSuchPledge => 403,
             Refusal::BookTaken => 404,
             Refusal::NoTerms => 405,
             Refusal::TermsSeq => 406,
             Refusal::RefTaken => 407,
+            Refusal::WindowFull => 408,
             Refusal::NotOperator => 410,
             Refusal::TermsFull => 411,
             Refusal::PledgesFull => 412,
@@ -69,10 +75,12 @@ impl Refusal {
             Refusal::Terms(fault) => fault.name(),
             Refusal::NoSuchBook => "NoSuchBook",
             Refusal::NoSuchReceipt => "NoSuchReceipt",
+            Refusal::NoSuchPledge => "NoSuchPledge",
             Refusal::BookTaken => "BookTaken",
             Refusal::NoTerms => "NoTerms",
             Refusal::TermsSeq => "TermsSeq",
             Refusal::RefTaken => "RefTaken",
+            Refusal::WindowFull => "WindowFull",
             Refusal::NotOperator => "NotOperator",
             Refusal::TermsFull => "TermsFull",
             Refusal::PledgesFull => "PledgesFull",

@@ -1,4 +1,4 @@
-use pawn_pledge::{Number, Receipt};
+use pawn_pledge::{Done, Number, Receipt};
 
 /// What is answered to a request that is not refused.
 #[derive(Clone, Copy, Debug, PartialEq, Eq)]
@@ -9,4 +9,6 @@ pub enum Reply {
     TermsPut(u64),
     /// The pledge stands, and this is its first receipt.
     Opened(Receipt),
+    /// What a command on the pledge of this number did.
+    Commanded { number: Number, done: Done },
 }

@@ -8,6 +8,8 @@ use pawn_debt::DebtFault;
 use std::alloc::Global;
 use std::test::Fail;
 
+mod commands;
+
 const OPERATOR: u128 = 11;
 
 const KEY: u128 = 22;
@@ -159,7 +161,7 @@ fn answers(alloc: Global, keep: &mut ListKeep, step: &Step) -> Result<bool, Fail
     let book = number(step.book)?;
     let caller = asked_by(alloc, step.ask)?;
     let request = Request { book, caller };
-    if let Caller::Bearer(_) = request.caller {
+    if !request.caller.writes() {
         return Ok(false);
     }
     let answer = act(alloc, keep, Secret::of_word(OPERATOR), &stamp, &request);
@@ -404,7 +406,7 @@ fn plans(alloc: Global, keep: &mut ListKeep, step: &Step, changes: bool) -> Resu
     let book = number(step.book)?;
     let caller = asked_by(alloc, step.ask)?;
     let request = Request { book, caller };
-    if let Caller::Bearer(_) = request.caller {
+    if !request.caller.writes() {
         return Ok(false);
     }
     match plan(alloc, keep, Secret::of_word(OPERATOR), &stamp, &request) {

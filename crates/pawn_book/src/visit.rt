@@ -1,4 +1,4 @@
-use pawn_pledge::{Entry, Extension};
+use pawn_pledge::{Entry, Extension, Pledge};
 
 /// Whether a visitor wants more.
 #[derive(Clone, Copy, Debug, PartialEq, Eq)]
@@ -29,4 +29,16 @@ pub trait ExtensionVisitor {
 
     fn visit(&mut self, extension: &Extension) -> Flow
         ensures { step self.old extension.now result self.new };
+}
+
+/// What is handed the pledges of a book, one by one.
+pub trait PledgeVisitor {
+    ghost use Rattle.pawn_pledge.specs.Pledge.{PledgeValue};
+    ghost use Rattle.pawn_book.specs.declared.visit.Flow.{Flow};
+
+    /// What one call does: the value before, the pledge, the answer, the value after.
+    ghost step: { Self → PledgeValue → Flow → Self → Type 0 };
+
+    fn visit(&mut self, pledge: &Pledge) -> Flow
+        ensures { step self.old pledge.now result self.new };
 }

@@ -1,23 +1,29 @@
 -- Lemmas on one item of a run.
-use Rattle.std.proofs.Common.{◌≡◌, ◌∙◌, ℕ, Bool, true, false, List, [], ◌++◌, ◌⊎◌, inl, inr, refl, ap, sym, subst, Option, Some, None, Result, Ok, Err, codes, if◌then◌else◌}
-use Rattle.std.specs.Prelude.{unwrap_or}
+use Rattle.std.proofs.Common.{◌≡◌, ◌∙◌, ℕ, Bool, true, false, List, [], ◌∷◌, ◌++◌, ◌⊎◌, arith, inl, inr, refl, ap, sym, subst, Option, Some, None, Result, Ok, Err, codes, if◌then◌else◌}
+use Rattle.std.specs.Prelude.{unwrap_or, option_map, ◌==◌}
+use Rattle.std.specs.FinMap.{get}
+use Rattle.std.proofs.lemmas.Bool.Decides.{nat_tests}
+use Rattle.std.proofs.lemmas.List.{append-nil}
+use Rattle.pawn_pledge.specs.Pledge.{PledgeValue}
 use Rattle.pawn_pledge.specs.declared.command.Stamp.{Stamp}
 use Rattle.pawn_pledge.specs.declared.receipt.Receipt.{Receipt}
 use Rattle.pawn_book.specs.declared.request.Request.{Request}
 use Rattle.pawn_book.specs.declared.request.Caller.{Caller}
-use Rattle.pawn_book.specs.declared.request.Caller.TheVariants.{Bearer}
+use Rattle.pawn_book.specs.declared.request.Caller.TheVariants.{Bearer, Broker}
 use Rattle.pawn_book.specs.declared.request.BearerRequest.{BearerRequest}
 use Rattle.pawn_book.specs.declared.request.BearerRequest.TheVariants.{Held}
+use Rattle.pawn_book.specs.declared.request.BrokerRequest.{BrokerRequest}
+use Rattle.pawn_book.specs.declared.request.BrokerRequest.TheVariants.{Show}
 use Rattle.pawn_book.specs.declared.reply.Reply.{Reply}
 use Rattle.pawn_book.specs.declared.refusal.Refusal.{Refusal}
 use Rattle.pawn_book.specs.declared.refusal.Refusal.TheVariants as No
-use Rattle.pawn_book.specs.BookStep.{Out, Told, Denied, Shown, Outcome, Refuses, Says, out_of, are_unknown}
+use Rattle.pawn_book.specs.BookStep.{BookValue, Out, Told, Denied, Shown, Outcome, Refuses, Says, out_of, are_unknown, gated, pledge_from, pledge_in, shown}
 use Rattle.pawn_book.specs.HostStep.{Host, limited, host_step, host_after}
 use Rattle.pawn_book.specs.Sound.{IsSound}
 use Rattle.pawn_book.specs.Runs.{read_as, no_memory, no_store, Answered}
-use Rattle.pawn_book.specs.Keeping.{Acts, IsUnwell, stepped}
-use Rattle.pawn_view.specs.Text.{held_text}
-use Rattle.pawn_view.specs.Shown.{live_pledges, held_of}
+use Rattle.pawn_book.specs.Keeping.{Acts, Gates, IsUnwell, stepped}
+use Rattle.pawn_view.specs.Text.{held_text, statement_text}
+use Rattle.pawn_view.specs.Shown.{live_pledges, held_of, pledge_at, statement_of}
 use Rattle.pawn_wire.specs.Request.{Reads}
 use Rattle.pawn_wire.specs.Reply.{out_text, reply_text, fault_text, memory_text}
 use Rattle.pawn_wire.specs.declared.reply.Out.TheVariants as wire
@@ -26,7 +32,7 @@ use Rattle.pawn_wire.specs.declared.fault.WireFault.TheVariants as f
 use Rattle.pawn_host.specs.declared.service.Answer.{Answer}
 use Rattle.pawn_host.specs.declared.service.Answer.TheVariants.{Bytes, Memory}
 use Rattle.pawn_host.specs.Run.{said_text}
-use Rattle.pawn_host.specs.Keeps.{answer_bytes, Tells, IsActed}
+use Rattle.pawn_host.specs.Keeps.{answer_bytes, IsKeyOf, Tells, IsActed}
 
 -- memory was wanting, and nothing changed
 pub acted_memory : (Steady : Type 0) (operator : ℕ) (h : Host) (stamp : Stamp) (bytes reply : List ℕ) (at : Host → Type 0) → reply ≡ memory_text → at h → IsSound h
@@ -154,13 +160,71 @@ acted_shown Steady operator h stamp bytes (Bytes v) at book day receipts text ou
     acted_said Steady operator h stamp bytes v.items at request (Shown stamp.day shown) read (ap out_of step) (tells ∙ ap (reply_text 200 (codes "text/plain; charset=utf-8")) same)
     (subst at (sym after) stands) (subst IsSound (sym after) sound)
 
+-- ---- a pledge
+
+abbrev pub show_request : ℕ → ℕ → ℕ → Request
+show_request book key number = record { book = book; caller = Broker key (Show number) }
+
+-- what comes of a pledge that is asked for with the book's key
+step_key : (h : Host) (operator : ℕ) (stamp : Stamp) (book key number : ℕ) → IsKeyOf h book key
+    → host_step h operator stamp (show_request book key number) ≡ limited h book (shown stamp (pledge_at h book number))
+step_key h operator stamp book key number with_key =
+    let at = with_key.0 in
+    let is = with_key.1 in
+    let same : (at.key == key) ≡ true = grind (arith, nat_tests, with_key.2) in
+    ap (λ o. limited h book (gated o key (λ (k : BookValue). shown stamp (pledge_from 1 k.pledges number)))) is
+    ∙ ap (λ v. limited h book (if v then shown stamp (pledge_from 1 at.pledges number) else Refuses No.NoSuchBook)) same
+    ∙ ap (λ o. limited h book (shown stamp (pledge_in o number))) (sym is)
+
+-- there is no such pledge
+pub no_pledge : (h : Host) (operator : ℕ) (stamp : Stamp) (book key number day : ℕ) → IsKeyOf h book key → statement_of h book number day ≡ None
+    → host_step h operator stamp (show_request book key number) ≡ Refuses No.NoSuchPledge
+no_pledge h operator stamp book key number day with_key none = step_key h operator stamp book key number with_key ∙ from (pledge_at h book number) none
+  where
+    from : (o : Option PledgeValue) → option_map (statement_text day) o ≡ None → limited h book (shown stamp o) ≡ Refuses No.NoSuchPledge
+    from None none = refl
+    from (Some p) none = cc none
+
+-- the statement of a pledge was told
+pub acted_statement : (Steady : Type 0) (operator : ℕ) (h : Host) (stamp : Stamp) (bytes : List ℕ) (answer : Answer) (at : Host → Type 0) (book key number day : ℕ) (text out : List ℕ)
+    → Reads bytes (Ok (show_request book key number)) → IsKeyOf h book key → day ≡ stamp.day → statement_of h book number day ≡ Some text → text ≡ out
+    → Tells answer (reply_text 200 (codes "text/plain; charset=utf-8") out) → at h → IsSound h
+    → IsActed Steady operator h stamp bytes (answer_bytes answer) at
+acted_statement Steady operator h stamp bytes Memory at book key number day text out read with_key day_is is all tells stands sound =
+    acted_memory Steady operator h stamp bytes memory_text at refl stands sound
+acted_statement Steady operator h stamp bytes (Bytes v) at book key number day text out read with_key day_is is all tells stands sound =
+    from (pledge_at h book number) refl is
+  where
+    from : (o : Option PledgeValue) → pledge_at h book number ≡ o → option_map (statement_text day) o ≡ Some text → IsActed Steady operator h stamp bytes v.items at
+    from None there is = cc is
+    from (Some p) there is =
+        let request : Request = show_request book key number in
+        let step : host_step h operator stamp request ≡ Says (Shown stamp.day (Some p ∷ [])) =
+        step_key h operator stamp book key number with_key ∙ ap (λ o. limited h book (shown stamp o)) there in
+        let after : stepped h operator stamp request ≡ h = ap (λ (o : Outcome). host_after h book o) step in
+        let same : out ≡ held_text stamp.day (Some p ∷ []) =
+        sym all ∙ sym (some_same is) ∙ ap (λ (x : ℕ). statement_text x p) day_is ∙ sym (append-nil (statement_text stamp.day p)) in
+        acted_said Steady operator h stamp bytes v.items at request (Shown stamp.day (Some p ∷ [])) read (ap out_of step)
+        (tells ∙ ap (reply_text 200 (codes "text/plain; charset=utf-8")) same) (subst at (sym after) stands) (subst IsSound (sym after) sound)
+
+-- the key was another's, or the keeper did not answer
+pub gate_refused : (h : Host) (operator : ℕ) (stamp : Stamp) (book key number : ℕ) (why : Refusal) → Gates (get h.books book) key (Err why)
+    → IsUnwell why ⊎ (host_step h operator stamp (show_request book key number) ≡ Refuses why)
+gate_refused h operator stamp book key number why (inl unwell) = inl unwell
+gate_refused h operator stamp book key number why (inr other) =
+    inr (ap (limited h book) (other.1 (λ (k : BookValue). shown stamp (pledge_from 1 k.pledges number))) ∙ ap Refuses (sym other.0))
+
 -- what was written into an empty buffer
 pub all_written : (old new out text : List ℕ) → out ≡ new → new ≡ old ++ text → old ≡ [] → text ≡ out
 all_written old new out text same written empty = sym (same ∙ written ∙ ap (λ (x : List ℕ). x ++ text) empty)
 
--- a bearer's request, by its parts
-pub read_bearer : (bytes : List ℕ) (request : Request) (asked : BearerRequest) → request.caller ≡ Bearer asked → Reads bytes (Ok request) → Reads bytes (Ok (record { book = request.book; caller = Bearer asked }))
-read_bearer bytes request asked is read = subst (λ (caller : Caller). Reads bytes (Ok (record { book = request.book; caller = caller }))) is read
+-- a request, by its parts
+pub read_held : (bytes : List ℕ) (request : Request) (asked : BearerRequest) (receipts : List Receipt) → request.caller ≡ Bearer asked → asked ≡ Held receipts → Reads bytes (Ok request)
+    → Reads bytes (Ok (held_request request.book receipts))
+read_held bytes request asked receipts called is read =
+    subst (λ (caller : Caller). Reads bytes (Ok (record { book = request.book; caller = caller }))) (called ∙ ap Bearer is) read
 
-pub read_held : (bytes : List ℕ) (book : ℕ) (asked : BearerRequest) (receipts : List Receipt) → asked ≡ Held receipts → Reads bytes (Ok (record { book = book; caller = Bearer asked })) → Reads bytes (Ok (held_request book receipts))
-read_held bytes book asked receipts is read = subst (λ (a : BearerRequest). Reads bytes (Ok (record { book = book; caller = Bearer a }))) is read
+pub read_show : (bytes : List ℕ) (request : Request) (key : ℕ) (asked : BrokerRequest) (number : ℕ) → request.caller ≡ Broker key asked → asked ≡ Show number → Reads bytes (Ok request)
+    → Reads bytes (Ok (show_request request.book key number))
+read_show bytes request key asked number called is read =
+    subst (λ (caller : Caller). Reads bytes (Ok (record { book = request.book; caller = caller }))) (called ∙ ap (Broker key) is) read

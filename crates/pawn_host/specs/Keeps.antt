@@ -1,6 +1,8 @@
 -- What clauses read of a service and its answers.
-use Rattle.std.specs.Prelude.{◌≡◌, ℕ, List, map, All}
+use Rattle.std.specs.Prelude.{◌≡◌, ℕ, List, Some, map, All}
+use Rattle.std.specs.FinMap.{get}
 use Rattle.pawn_pledge.specs.declared.command.Stamp.{Stamp}
+use Rattle.pawn_book.specs.BookStep.{BookValue}
 use Rattle.pawn_book.specs.HostStep.{Host}
 use Rattle.pawn_book.specs.Sound.{IsSound}
 use Rattle.pawn_book.specs.Runs.{Mark, marked_after, marked_said}
@@ -22,6 +24,10 @@ service_operator s = s.operator
 abbrev pub answer_bytes : Answer → List ℕ
 answer_bytes (Bytes v) = v.items
 answer_bytes Memory = memory_text
+
+-- the key runs a book of the host
+abbrev pub IsKeyOf : Host → ℕ → ℕ → Type 0
+IsKeyOf h book key = (at : BookValue) × (get h.books book ≡ Some at) × (at.key ≡ key)
 
 -- an answer with this text, or want of memory
 abbrev pub Tells : Answer → List ℕ → Type 0

@@ -1,17 +1,19 @@
 //! The service over a keeper: one request, or a list of them.
 ghost use Rattle.std.specs.Prelude.{◌≡◌, ℕ, List, IfOk, OnErr, Ok, map, vec_len, vec_capacity, length};
 ghost use Rattle.pawn_book.specs.declared.request.Request.{Request};
-ghost use Rattle.pawn_book.specs.declared.request.Caller.TheVariants.{Bearer};
+ghost use Rattle.pawn_book.specs.declared.request.Caller.TheVariants.{Bearer, Broker};
 ghost use Rattle.pawn_book.specs.declared.request.BearerRequest.TheVariants.{Held};
+ghost use Rattle.pawn_book.specs.declared.request.BrokerRequest.TheVariants.{Show};
 ghost use Rattle.pawn_book.specs.Keeping.{IsWritten, Of};
 ghost use Rattle.pawn_wire.specs.Reply.{out_text};
 ghost use Rattle.pawn_wire.specs.Request.{Reads};
-ghost use Rattle.pawn_host.specs.Keeps.{service_keep, service_operator, answer_bytes, Tells, IsActed, IsRun};
+ghost use Rattle.pawn_host.specs.Keeps.{service_keep, service_operator, answer_bytes, IsKeyOf, Tells, IsActed, IsRun};
 
 use pawn_book::{
-    BearerRequest, Caller, Keep, Number, Receipts, Refusal, Request, Secret, Stamp, commit, plan,
+    BearerRequest, BrokerRequest, Caller, Keep, Number, Receipts, Refusal, Request, Secret, Stamp,
+    commit, gate, plan,
 };
-use pawn_view::{ViewFault, Writing, held};
+use pawn_view::{ViewFault, Writing, held, statement};
 use pawn_wire::{Out, Router, read_request, write_reply};
 use std::alloc::{AllocError, Global};
 
@@ -83,16 +85,77 @@ impl<K: Keep> Service<K> {
         }
     }
 
-    // Answers what a bearer asks.
-    fn answer_bearer(&mut self, stamp: &Stamp, book: Number, asked: &BearerRequest) -> Answer
+    // Shows a pledge to the holder of its book's key.
+    fn show_pledge(&mut self, stamp: &Stamp, book: Number, key: Secret, number: Number) -> Answer
         ensures honest { K.honest (service_keep self.new) → K.honest (service_keep self.old) }
-        ensures acted { Of K.stands K.honest (service_keep self.old) (service_keep self.new) (λ h. (bytes : List ℕ) → Reads bytes (Ok (record { book = book; caller = Bearer asked.now }))
+        ensures acted { Of K.stands K.honest (service_keep self.old) (service_keep self.new) (λ h. (bytes : List ℕ) → Reads bytes (Ok (record { book = book; caller = Broker key (Show number) }))
+            → IsActed (K.steady (service_keep self.old)) (service_operator self.old) h stamp.now bytes (answer_bytes result) (K.stands (service_keep self.new))) }
+        ensures steady { K.steady (service_keep self.old) → K.steady (service_keep self.new) }
+        ensures operator { service_operator self.new ≡ service_operator self.old }
+    {
+        match gate(&mut self.keep, book, key) {
+            Err(refusal) => return told(self.alloc, &Out::Refused(refusal)),
+            Ok(_) => {}
+        }
+        self.show_number(stamp, book, key, number)
+    }
+
+    // Shows a pledge of a book whose key was given.
+    fn show_number(&mut self, stamp: &Stamp, book: Number, key: Secret, number: Number) -> Answer
+        ensures honest { K.honest (service_keep self.new) → K.honest (service_keep self.old) }
+        ensures acted { Of K.stands K.honest (service_keep self.old) (service_keep self.new) (λ h. (bytes : List ℕ) → Reads bytes (Ok (record { book = book; caller = Broker key (Show number) }))
+            → IsKeyOf h book key → IsActed (K.steady (service_keep self.old)) (service_operator self.old) h stamp.now bytes (answer_bytes result) (K.stands (service_keep self.new))) }
+        ensures steady { K.steady (service_keep self.old) → K.steady (service_keep self.new) }
+        ensures operator { service_operator self.new ≡ service_operator self.old }
+    {
+        let mut writer = Writing::new(Vec::new(self.alloc));
+        let day = stamp.day.day();
+        match statement(&mut self.keep, book, number, day, &mut writer) {
+            Ok(()) => told(self.alloc, &Out::Plain(writer.into_inner())),
+            Err(ViewFault::NoSuchPledge) => told(self.alloc, &Out::Refused(Refusal::NoSuchPledge)),
+            Err(ViewFault::NoSuchReceipt) => Answer::Memory,
+            Err(ViewFault::Store) => told(self.alloc, &Out::Refused(Refusal::Store)),
+            // The text is built in memory, so a failed write is want of it.
+            Err(ViewFault::Memory) => Answer::Memory,
+            Err(ViewFault::Write) => Answer::Memory,
+        }
+    }
+
+    // Answers what a broker asks.
+    fn answer_broker(
+        &mut self,
+        stamp: &Stamp,
+        request: &Request,
+        key: Secret,
+        asked: &BrokerRequest,
+    ) -> Answer
+        requires asks { request.now.caller ≡ Broker key asked.now }
+        ensures honest { K.honest (service_keep self.new) → K.honest (service_keep self.old) }
+        ensures acted { Of K.stands K.honest (service_keep self.old) (service_keep self.new) (λ h. (bytes : List ℕ) → Reads bytes (Ok request.now)
             → IsActed (K.steady (service_keep self.old)) (service_operator self.old) h stamp.now bytes (answer_bytes result) (K.stands (service_keep self.new))) }
         ensures steady { K.steady (service_keep self.old) → K.steady (service_keep self.new) }
         ensures operator { service_operator self.new ≡ service_operator self.old }
     {
         match asked {
-            BearerRequest::Held(receipts) => self.show(stamp, book, receipts),
+            BrokerRequest::PutTerms(_) => self.act(stamp, request),
+            BrokerRequest::TakePledge(_) => self.act(stamp, request),
+            BrokerRequest::OnPledge { .. } => self.act(stamp, request),
+            BrokerRequest::Show(number) => self.show_pledge(stamp, request.book, key, *number),
+        }
+    }
+
+    // Answers what a bearer asks.
+    fn answer_bearer(&mut self, stamp: &Stamp, request: &Request, asked: &BearerRequest) -> Answer
+        requires asks { request.now.caller ≡ Bearer asked.now }
+        ensures honest { K.honest (service_keep self.new) → K.honest (service_keep self.old) }
+        ensures acted { Of K.stands K.honest (service_keep self.old) (service_keep self.new) (λ h. (bytes : List ℕ) → Reads bytes (Ok request.now)
+            → IsActed (K.steady (service_keep self.old)) (service_operator self.old) h stamp.now bytes (answer_bytes result) (K.stands (service_keep self.new))) }
+        ensures steady { K.steady (service_keep self.old) → K.steady (service_keep self.new) }
+        ensures operator { service_operator self.new ≡ service_operator self.old }
+    {
+        match asked {
+            BearerRequest::Held(receipts) => self.show(stamp, request.book, receipts),
+            BearerRequest::OnPledge { .. } => self.act(stamp, request),
         }
     }
 
@@ -131,8 +194,8 @@ impl<K: Keep> Service<K> {
         };
         match &request.caller {
             Caller::Operator { .. } => self.act(stamp, &request),
-            Caller::Broker { .. } => self.act(stamp, &request),
-            Caller::Bearer(asked) => self.answer_bearer(stamp, request.book, asked),
+            Caller::Broker { key, asked } => self.answer_broker(stamp, &request, *key, asked),
+            Caller::Bearer(asked) => self.answer_bearer(stamp, &request, asked),
         }
     }
 

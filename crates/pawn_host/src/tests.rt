@@ -2,8 +2,15 @@
 ghost use Rattle.std.specs.Prelude.{length};
 ghost use Rattle.std.specs.Iterator.{at_most};
 
+mod bookings;
+mod books;
+mod closings;
+mod debts;
+mod declarations;
 mod ends;
+mod extensions;
 mod rows;
+mod turns;
 
 use crate::reading::Reading;
 use crate::service::{Answer, Service};

@@ -1,5 +1,6 @@
 -- A pledge as it is taken is one that can have come about.
-use Rattle.std.proofs.Common.{◌≡◌, ℕ, ◌≤◌, ◌==◌, nat_lt, nat_le, true, false, [], ◌∷◌, None, Ok, refl, subst, arith}
+use Rattle.std.proofs.Common.{◌≡◌, ℕ, ◌≤◌, ◌==◌, nat_lt, nat_le, true, false, [], ◌∷◌, None, Result, Ok, Err, refl, subst, arith}
+use Rattle.std.specs.Prelude.{IfOk}
 use Rattle.std.proofs.lemmas.Bool.Decides.{nat_tests}
 use Rattle.std.proofs.lemmas.Bool.{or_parts}
 use Rattle.pawn_terms.proofs.SixMonths.{six_months-later}
@@ -11,6 +12,8 @@ use Rattle.pawn_pledge.specs.declared.record.Issue.TheVariants as Issue
 use Rattle.pawn_pledge.specs.declared.record.Closing.TheVariants as Closing
 use Rattle.pawn_pledge.specs.declared.refusal.Refusal.TheVariants as Refusal
 use Rattle.pawn_pledge.specs.Pledge.{PledgeValue, end_of}
+use Rattle.pawn_pledge.specs.declared.refusal.Refusal.{Refusal}
+use Rattle.pawn_pledge.specs.Step.{IsStarted}
 use Rattle.pawn_pledge.specs.Replayable.{IsNotPassed, IsStanding}
 use Rattle.pawn_pledge.specs.Laws.{StartsStanding}
 use Rattle.pawn_pledge.proofs.Moves.{not_below}
@@ -72,3 +75,8 @@ starts_standing number opening version terms stamp p known within checked day h 
         last = day.1;
       };
     })
+
+-- what was started stands
+pub started_stands : (answer result : Result PledgeValue Refusal) → IsStarted answer result → ((p : PledgeValue) → answer ≡ Ok p → IsStanding p) → IfOk result IsStanding
+started_stands answer (Ok p) is stands = stands p is
+started_stands answer (Err fault) is stands = tt

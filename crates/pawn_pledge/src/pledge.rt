@@ -84,6 +84,26 @@ impl Pledge {
         terms: Terms,
         stamp: &Stamp,
     ) -> Result<Pledge, Refusal>
+        ensures started { IsStarted (started number opening version terms stamp.now) result }
+        ensures standing { IfOk result IsStanding }
+    {
+        // Whoever reads these knows that they are within their limits.
+        let _ = (number.get(), terms.rate(), stamp.day.day());
+        let _ = opening.reference.as_str();
+        let _ = opening.article.as_str();
+        let _ = agreed_end(opening.agreed);
+        Pledge::opened(alloc, number, opening, version, terms, stamp)
+    }
+
+    // The same, whatever the limits of its parts.
+    fn opened(
+        alloc: Global,
+        number: Number,
+        opening: Opening,
+        version: u64,
+        terms: Terms,
+        stamp: &Stamp,
+    ) -> Result<Pledge, Refusal>
         ensures { IsStarted (started number opening version terms stamp.now) result }
     {
         let taken = stamp.day.day();

@@ -2,6 +2,7 @@ use crate::secret::Secret;
 use crate::text::Text;
 use pawn_debt::{Day, Kind};
 use pawn_terms::RequestDay;
+use std::alloc::AllocError;
 
 /// The broker's reference of a pledge, of 1 to 40 bytes.
 pub type Reference = Text<40>;
@@ -19,6 +20,25 @@ pub struct Opening {
     pub agreed: Option<RequestDay>,
     /// Whether five days of grace follow the end of the period.
     pub five_days: bool,
+}
+
+impl Opening {
+    ghost use Rattle.std.specs.Prelude.{◌≡◌, IfOk};
+
+    /// The same again.
+    pub fn copy(&self) -> Result<Opening, AllocError>
+        ensures same { IfOk result (λ opening. opening ≡ self.now) }
+    {
+        let reference = self.reference.copy()?;
+        let article = self.article.copy()?;
+        Ok(Opening {
+            reference,
+            article,
+            kind: self.kind,
+            agreed: self.agreed,
+            five_days: self.five_days,
+        })
+    }
 }
 
 /// How a secret was issued.

@@ -22,7 +22,7 @@ escape_plain (b ∷ s) h =
     (λ i. escape_plain_byte b two.0 i ++ escape_plain s two.1 i)
 
 -- a text in quotes, and what follows it
-quoted : (s rest : List ℕ) → IsTrue (is_plain s) → s ++ (34 ∷ rest) ≡ (escape s ++ 34 ∷ []) ++ rest
+pub quoted : (s rest : List ℕ) → IsTrue (is_plain s) → s ++ (34 ∷ rest) ≡ (escape s ++ 34 ∷ []) ++ rest
 quoted s rest h = sym (append_assoc (escape s) (34 ∷ []) rest ∙ ap (λ (t : List ℕ). t ++ 34 ∷ rest) (escape_plain s h))
 
 pub opened_text-json : (number : ℕ) (receipt : List ℕ) → IsTrue (is_plain receipt)

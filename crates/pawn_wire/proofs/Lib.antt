@@ -1,5 +1,7 @@
 pub mod BodyLemmas
+pub mod DayLemmas
 pub mod DigitLemmas
+pub mod DoneLemmas
 pub mod FieldLemmas
 pub mod HeadLemmas
 pub mod NamedLemmas
@@ -7,4 +9,5 @@ pub mod ReceiptLemmas
 pub mod RequestLemmas
 pub mod RouteLemmas
 pub mod StreamLemmas
+pub mod TargetFacts
 pub mod WithinLemmas

@@ -2,6 +2,8 @@ pub mod Asked
 pub mod Bodies
 pub mod Body
 pub mod Chain
+pub mod Commands
+pub mod Done
 pub mod Fault
 pub mod Fields
 pub mod Head

@@ -8,7 +8,8 @@ use Rattle.serde_json.specs.View.{view}
 use Rattle.serde_json.specs.declared.value.Value.{Value}
 use Rattle.pawn_pledge.specs.Text.{is_text}
 use Rattle.pawn_pledge.specs.Secret.{secret_of_text}
-use Rattle.pawn_wire.specs.Chain.{given}
+use Rattle.pawn_wire.specs.Chain.{given, or_fault}
+use Rattle.pawn_wire.specs.Named.{day_said}
 use Rattle.pawn_wire.specs.declared.fault.WireFault.{WireFault}
 use Rattle.pawn_wire.specs.declared.fault.WireFault.TheVariants.{BadBody, Memory}
 
@@ -48,3 +49,11 @@ text_at most name d = given (string_at name d) (if_text most)
 -- a member that is a key
 abbrev pub key_at : List ℕ → Data → Option ℕ
 key_at name d = given (string_at name d) secret_of_text
+
+-- a member that is a day
+abbrev pub day_at : List ℕ → Data → Option ℕ
+day_at name d = given (string_at name d) day_said
+
+-- what a body says
+abbrev pub body_said : {A : Type 0} → (Data → Option A) → List ℕ → Result A WireFault
+body_said part body = or_fault BadBody (given (json_of body) part)

@@ -36,3 +36,9 @@ receipts_said values =
     if length values == 0 then Err NoReceipt
     else if nat_lt 32 (length values) then Err TooManyReceipts
     else or_fault BadReceipt (all_said values)
+
+-- exactly one receipt
+abbrev pub one_said : List (List ℕ) → Result Receipt WireFault
+one_said [] = Err NoReceipt
+one_said (value ∷ []) = or_fault BadReceipt (receipt_said value)
+one_said (value ∷ other ∷ values) = Err TooManyReceipts

@@ -9,7 +9,9 @@ use Rattle.matchit.specs.Router.{RouteOf, route_from}
 use Rattle.matchit.specs.Params.{walk}
 use Rattle.matchit.specs.declared.error.InsertError.{InsertError}
 use Rattle.pawn_wire.specs.declared.route.Endpoint.{Endpoint}
-use Rattle.pawn_wire.specs.declared.route.Endpoint.TheVariants.{Create, PutTerms, TakePledge, Held}
+use Rattle.pawn_wire.specs.declared.route.Endpoint.TheVariants.{Create, PutTerms, TakePledge, Show, OnPledge, Held, OnReceipt}
+use Rattle.pawn_wire.specs.declared.route.PledgeAction.TheVariants as pledge
+use Rattle.pawn_wire.specs.declared.route.ReceiptAction.TheVariants as receipt
 
 -- the targets, each with its endpoint
 abbrev pub table : List (List ℕ × Endpoint)
@@ -17,7 +19,20 @@ table =
     (codes "/books/{b}", Create)
     ∷ (codes "/books/{b}/terms", PutTerms)
     ∷ (codes "/books/{b}/pledges", TakePledge)
+    ∷ (codes "/books/{b}/pledges/{n}", Show)
+    ∷ (codes "/books/{b}/pledges/{n}/draw", OnPledge pledge.Draw)
+    ∷ (codes "/books/{b}/pledges/{n}/repay", OnPledge pledge.Repay)
+    ∷ (codes "/books/{b}/pledges/{n}/hold", OnPledge pledge.Hold)
+    ∷ (codes "/books/{b}/pledges/{n}/release", OnPledge pledge.Release)
+    ∷ (codes "/books/{b}/pledges/{n}/declare", OnPledge pledge.Declare)
+    ∷ (codes "/books/{b}/pledges/{n}/decide", OnPledge pledge.Decide)
+    ∷ (codes "/books/{b}/pledges/{n}/sell", OnPledge pledge.Sell)
+    ∷ (codes "/books/{b}/pledges/{n}/extend", OnPledge pledge.Extend)
     ∷ (codes "/books/{b}/held", Held)
+    ∷ (codes "/books/{b}/held/repay", OnReceipt receipt.Repay)
+    ∷ (codes "/books/{b}/held/ask", OnReceipt receipt.Ask)
+    ∷ (codes "/books/{b}/held/cancel", OnReceipt receipt.Cancel)
+    ∷ (codes "/books/{b}/held/redeem", OnReceipt receipt.Redeem)
     ∷ []
 
 -- the method that asks for an endpoint
@@ -25,7 +40,10 @@ abbrev pub method_of : Endpoint → List ℕ
 method_of Create = codes "POST"
 method_of PutTerms = codes "POST"
 method_of TakePledge = codes "POST"
+method_of Show = codes "GET"
+method_of (OnPledge action) = codes "POST"
 method_of Held = codes "GET"
+method_of (OnReceipt action) = codes "POST"
 
 -- a router's rows, as `matchit` orders them
 abbrev pub Rows : Type 0

@@ -3,6 +3,8 @@
 
 mod bodies;
 mod body;
+mod commands;
+mod done;
 mod fault;
 mod fields;
 mod head;
@@ -19,9 +21,10 @@ pub use fault::{HeadFault, WireFault};
 pub use head::{HeadFacts, HeadRead, MAX_HEAD, read_head};
 pub use laws::{bodies_are_json, laws_of_readings, laws_of_targets};
 pub use pawn_book::{
-    Article, BearerRequest, BrokerRequest, Caller, Capacity, Kind, Name, NewBook, NewTerms, Number,
-    Opening, PledgeRefusal, Receipt, Receipts, Reference, Refusal, Reply, Request, RequestDay,
-    Secret, TermsFault, Text,
+    Article, BearerCommand, BearerRequest, Booking, BookingState, BrokerCommand, BrokerRequest,
+    Caller, Capacity, Day, Decision, Done, Entry, Kind, Name, NewBook, NewTerms, Number, Opening,
+    Paper, PledgeRefusal, Receipt, Receipts, Reference, Refusal, Reply, Request, RequestDay,
+    Secret, Sort, TermsFault, Text,
 };
 pub use reply::{MEMORY_REPLY, Out, fault_reply, memory_reply, write_reply};
 pub use request::read_request;

@@ -1,7 +1,7 @@
 //! JSON bodies and their members.
 ghost use Rattle.std.specs.Prelude.{◌≡◌, option_copied};
 ghost use Rattle.serde_json.specs.View.{view};
-ghost use Rattle.pawn_wire.specs.Member.{JsonOf, number_at, string_at, flag_at, text_at, key_at};
+ghost use Rattle.pawn_wire.specs.Member.{JsonOf, number_at, string_at, flag_at, text_at, key_at, day_at};
 ghost use Rattle.pawn_wire.specs.Chain.{Gives};
 ghost use Rattle.pawn_wire.specs.declared.fault.WireFault.TheVariants.{BadBody};
 ghost use Rattle.pawn_wire.specs.Named.{day_said};
@@ -84,5 +84,15 @@ pub(crate) fn day_said(text: &str) -> Option<RequestDay>
     match Day::of_text(text.as_bytes()) {
         Ok(day) => RequestDay::of_day(day).ok(),
         Err(_) => None,
+    }
+}
+
+// The day of a member.
+pub(crate) fn day(body: &Value, name: &str) -> Option<RequestDay>
+    ensures value { result ≡ day_at name.now (view body.now) }
+{
+    match string(body, name) {
+        Some(text) => day_said(text),
+        None => None,
     }
 }

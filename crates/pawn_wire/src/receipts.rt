@@ -2,11 +2,11 @@
 ghost use Rattle.std.specs.Prelude.{◌≡◌, ◌≤◌, ◌⊎◌, length, map, All, Some, None, MatchResult};
 ghost use Rattle.httparse.specs.Spans.{IsHeaderWithin, header_bytes};
 ghost use Rattle.pawn_wire.specs.Chain.{Says};
-ghost use Rattle.pawn_wire.specs.Receipts.{receipt_said, all_said, presented, receipts_said};
+ghost use Rattle.pawn_wire.specs.Receipts.{receipt_said, all_said, presented, receipts_said, one_said};
 ghost use Rattle.pawn_wire.specs.declared.fault.WireFault.TheVariants.{BadReceipt, Memory};
 
 use crate::fault::WireFault;
-use crate::fields;
+use crate::fields::{self, Found};
 use httparse::spans::HeaderSpan;
 use pawn_book::{Receipt, Receipts};
 use std::alloc::Global;
@@ -58,4 +58,16 @@ pub(crate) fn receipts(
     }
     let receipts = collect(alloc, bytes, fields)?;
     Receipts::new(receipts).ok_or(WireFault::BadReceipt)
+}
+
+// The one receipt that fields name.
+pub(crate) fn one(bytes: &[u8], fields: &[HeaderSpan]) -> Result<Receipt, WireFault>
+    requires { All (IsHeaderWithin (length bytes.now)) fields.now }
+    ensures value { result ≡ one_said (presented (map (header_bytes bytes.now) fields.now)) }
+{
+    match fields::find(bytes, fields, b"pledge-receipt") {
+        Found::One(value) => receipt_of(value.of(bytes)).ok_or(WireFault::BadReceipt),
+        Found::Missing => Err(WireFault::NoReceipt),
+        Found::Several => Err(WireFault::TooManyReceipts),
+    }
 }

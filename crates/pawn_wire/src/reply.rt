@@ -2,14 +2,15 @@
 ghost use Rattle.std.specs.Prelude.{◌≡◌, IfOk, string_bytes};
 ghost use Rattle.pawn_pledge.specs.Receipt.{receipt_text};
 ghost use Rattle.pawn_wire.specs.Bodies.{book_text, version_text, opened_text};
+ghost use Rattle.pawn_wire.specs.Done.{commanded_text};
 ghost use Rattle.pawn_wire.specs.Fault.{wire_fault};
 ghost use Rattle.pawn_wire.specs.Reply.{head_text, reply_text, json_text, refused_text, fault_text, memory_text, done_text, out_text};
 
-use crate::bodies;
 use crate::fault::{HeadFault, WireFault};
 use crate::status::status_of;
+use crate::{bodies, done};
 use http::StatusCode;
-use pawn_book::{Number, Receipt, Refusal, Reply};
+use pawn_book::{Done, Number, Receipt, Refusal, Reply};
 use std::alloc::{AllocError, Global};
 
 /// What is told of a request.
@@ -118,6 +119,13 @@ fn opened_reply(alloc: Global, receipt: Receipt) -> Result<Vec<u8>, AllocError>
     json_reply(alloc, StatusCode::OK, body.as_str())
 }
 
+fn commanded_reply(alloc: Global, number: Number, done: Done) -> Result<Vec<u8>, AllocError>
+    ensures text { IfOk result (λ v. v.items ≡ json_text 200 (commanded_text number done)) }
+{
+    let body = done::commanded(alloc, number, done)?;
+    json_reply(alloc, StatusCode::OK, body.as_str())
+}
+
 fn done_reply(alloc: Global, reply: Reply) -> Result<Vec<u8>, AllocError>
     ensures text { IfOk result (λ v. v.items ≡ json_text 200 (done_text reply)) }
 {
@@ -125,6 +133,7 @@ fn done_reply(alloc: Global, reply: Reply) -> Result<Vec<u8>, AllocError>
         Reply::BookMade(book) => book_reply(alloc, book),
         Reply::TermsPut(version) => version_reply(alloc, version),
         Reply::Opened(receipt) => opened_reply(alloc, receipt),
+        Reply::Commanded { number, done } => commanded_reply(alloc, number, done),
     }
 }
 

@@ -1,16 +1,16 @@
 //! Requests from bytes.
-ghost use Rattle.std.specs.Prelude.{◌≡◌, length, map, All};
+ghost use Rattle.std.specs.Prelude.{◌≡◌, length, map, All, option_copied};
 ghost use Rattle.httparse.specs.Spans.{IsHeaderWithin, header_bytes};
 ghost use Rattle.pawn_wire.specs.Chain.{Says};
 ghost use Rattle.pawn_wire.specs.Named.{number_said};
-ghost use Rattle.pawn_wire.specs.Request.{is_ascii_text, place_of, keyed, create_said, put_terms_said, take_pledge_said, held_said, said_at, request_by, IsRead};
+ghost use Rattle.pawn_wire.specs.Request.{is_ascii_text, item_said, place_of, keyed, create_said, put_terms_said, take_pledge_said, show_said, on_pledge_said, held_said, on_receipt_said, said_at, request_by, IsRead};
 
 use crate::fault::WireFault;
 use crate::fields::{self, Found};
 use crate::head::{MAX_FIELDS, MAX_HEAD, body_length};
-use crate::route::Endpoint;
+use crate::route::{Endpoint, PledgeAction, ReceiptAction};
 use crate::router::Router;
-use crate::{body, member, receipts};
+use crate::{body, commands, member, receipts};
 use httparse::Status;
 use httparse::spans::{EMPTY_HEADER_SPAN, HeaderSpan, parse_request};
 use pawn_book::{BearerRequest, BrokerRequest, Caller, Number, Request, Secret};
@@ -22,6 +22,8 @@ use std::str::from_utf8;
 pub(crate) struct Place {
     pub endpoint: Endpoint,
     pub book: Number,
+    /// The number of a pledge, where the target has a part for it.
+    pub item: Option<Number>,
 }
 
 fn is_ascii_text(text: &[u8]) -> bool
@@ -37,6 +39,19 @@ fn number_said(text: &str) -> Option<Number>
     Number::of_text(text.as_bytes())
 }
 
+// The number of a pledge, where a target has a part for it.
+fn item_said(text: Option<&str>) -> Option<Option<Number>>
+    ensures value { result ≡ item_said (option_copied text.entry) }
+{
+    match text {
+        None => Some(None),
+        Some(text) => match number_said(text) {
+            Some(number) => Some(Some(number)),
+            None => None,
+        },
+    }
+}
+
 // What a target asks for.
 fn place_of(router: &Router, target: &[u8]) -> Option<Place>
     ensures value { result ≡ place_of target.now }
@@ -49,9 +64,11 @@ fn place_of(router: &Router, target: &[u8]) -> Option<Place>
     };
     let asked = router.find(text)?;
     let book = number_said(asked.book?)?;
+    let item = item_said(asked.item)?;
     Some(Place {
         endpoint: asked.endpoint,
         book,
+        item,
     })
 }
 
@@ -133,6 +150,53 @@ fn take_pledge(
     })
 }
 
+// The request to show a pledge.
+fn show(
+    book: Number,
+    item: Option<Number>,
+    bytes: &[u8],
+    fields: &[HeaderSpan],
+) -> Result<Request, WireFault>
+    requires { All (IsHeaderWithin (length bytes.now)) fields.now }
+    ensures value { Says result (show_said book item (map (header_bytes bytes.now) fields.now)) }
+{
+    let number = item.ok_or(WireFault::NoRoute)?;
+    let key = key(bytes, fields)?;
+    Ok(Request {
+        book,
+        caller: Caller::Broker {
+            key,
+            asked: BrokerRequest::Show(number),
+        },
+    })
+}
+
+// The request to command a pledge.
+fn on_pledge(
+    alloc: Global,
+    book: Number,
+    item: Option<Number>,
+    action: PledgeAction,
+    bytes: &[u8],
+    fields: &[HeaderSpan],
+    body: &[u8],
+) -> Result<Request, WireFault>
+    requires { All (IsHeaderWithin (length bytes.now)) fields.now }
+    ensures value { Says result
+        (on_pledge_said book item action (map (header_bytes bytes.now) fields.now) body.now) }
+{
+    let number = item.ok_or(WireFault::NoRoute)?;
+    let key = key(bytes, fields)?;
+    let command = commands::of_broker(alloc, action, body)?;
+    Ok(Request {
+        book,
+        caller: Caller::Broker {
+            key,
+            asked: BrokerRequest::OnPledge { number, command },
+        },
+    })
+}
+
 // The request to show what receipts stand for.
 fn held(
     alloc: Global,
@@ -150,7 +214,28 @@ fn held(
     })
 }
 
-// What is asked of a book at an endpoint.
+// The request to command the pledge of a receipt.
+fn on_receipt(
+    alloc: Global,
+    book: Number,
+    action: ReceiptAction,
+    bytes: &[u8],
+    fields: &[HeaderSpan],
+    body: &[u8],
+) -> Result<Request, WireFault>
+    requires { All (IsHeaderWithin (length bytes.now)) fields.now }
+    ensures value { Says result
+        (on_receipt_said book action (map (header_bytes bytes.now) fields.now) body.now) }
+{
+    let receipt = receipts::one(bytes, fields)?;
+    let command = commands::of_bearer(alloc, action, body)?;
+    Ok(Request {
+        book,
+        caller: Caller::Bearer(BearerRequest::OnPledge { receipt, command }),
+    })
+}
+
+// What is asked of a book, or of one of its pledges, at an endpoint.
 fn asked(
     alloc: Global,
     place: Place,
@@ -159,13 +244,20 @@ fn asked(
     body: &[u8],
 ) -> Result<Request, WireFault>
     requires { All (IsHeaderWithin (length bytes.now)) fields.now }
-    ensures value { Says result (said_at place.endpoint place.book (map (header_bytes bytes.now) fields.now) body.now) }
+    ensures value { Says result (said_at place.endpoint place.book place.item (map (header_bytes bytes.now) fields.now) body.now) }
 {
     match place.endpoint {
         Endpoint::Create => create(alloc, place.book, bytes, fields, body),
         Endpoint::PutTerms => put_terms(alloc, place.book, bytes, fields, body),
         Endpoint::TakePledge => take_pledge(alloc, place.book, bytes, fields, body),
+        Endpoint::Show => show(place.book, place.item, bytes, fields),
+        Endpoint::OnPledge(action) => {
+            on_pledge(alloc, place.book, place.item, action, bytes, fields, body)
+        }
         Endpoint::Held => held(alloc, place.book, bytes, fields),
+        Endpoint::OnReceipt(action) => {
+            on_receipt(alloc, place.book, action, bytes, fields, body)
+        }
     }
 }
 

@@ -10,6 +10,9 @@ use pawn_book::{
 use std::alloc::{AllocError, Global};
 use std::process::Abort;
 
+mod commands;
+mod done;
+
 const KEY: u128 = 0x1111_1111_1111_1111_1111_1111_1111_1111;
 
 const BOOK_KEY: u128 = 0x2222_2222_2222_2222_2222_2222_2222_2222;

@@ -5,15 +5,15 @@ use Rattle.pawn_book.proofs.list.put.Goals as goal
 
 pub returns-then-place-len-clause-ok : goal.returns-then-place-len-clause-ok
 returns-then-place-len-clause-ok c =
-    let place : c.args.pledge.number ≡ 1 + (c.get.result - 1) = let value = c.get.ensures.value in let low = c.get.ensures.in_range.0 in let named = c.number.ensures in omega (arith, value, low, named) in
+    let place : c.args.number ≡ 1 + (c.get.result - 1) = let value = c.get.ensures.value in let low = c.get.ensures.in_range.0 in omega (arith, value, low) in
     let len : c.len.result ≡ length c.args.pledges.now.items = c.len.ensures ∙ c.args.pledges.now.ok.0 in
     let within : c.get.result - 1 < length c.args.pledges.now.items = let less = c.if-place-len.true in omega (arith, less, len) in
-    put_from_place 1 c.args.pledges.now.items (c.get.result - 1) c.args.pledge.number c.args.pledge within place
+    put_from_place 1 c.args.pledges.now.items (c.get.result - 1) c.args.number c.args.pledge within place
 
 pub returns-clause-ok : goal.returns-clause-ok
 returns-clause-ok c =
     let len : c.len.result ≡ length c.args.pledges.now.items = c.len.ensures ∙ c.args.pledges.now.ok.0 in
-    let next : c.args.pledge.number ≡ 1 + length c.args.pledges.now.items =
-    let value = c.get.ensures.value in let low = c.get.ensures.in_range.0 in let named = c.number.ensures in let past = c.if-place-len.false in let most = c.requires in
-    omega (arith, value, low, named, past, most, len) in
-    c.in_ok-push.ensures.items ∙ sym (put_next 1 c.args.pledges.now.items c.args.pledge.number c.args.pledge next)
+    let next : c.args.number ≡ 1 + length c.args.pledges.now.items =
+    let value = c.get.ensures.value in let low = c.get.ensures.in_range.0 in let past = c.if-place-len.false in let most = c.requires in
+    omega (arith, value, low, past, most, len) in
+    c.in_ok-push.ensures.items ∙ sym (put_next 1 c.args.pledges.now.items c.args.number c.args.pledge next)

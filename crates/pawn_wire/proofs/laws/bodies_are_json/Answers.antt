@@ -1,6 +1,7 @@
 use Rattle.std.proofs.Common.{refl}
 use Rattle.serde_json.proofs.OnLiterals.{serde_json_on_literals}
 use Rattle.pawn_wire.proofs.BodyLemmas.{opened_text-json, refusal_text-json}
+use Rattle.pawn_wire.proofs.DoneLemmas.{entered_text-json, held_text-json, declared_text-json, booked_text-json, redeemed_text-json, extended_text-json}
 use Rattle.pawn_wire.proofs.laws.bodies_are_json.Goals as goal
 
 pub returns : goal.returns
@@ -11,5 +12,12 @@ returns c = record {
     version = λ version. refl;
     opened = opened_text-json;
     refusal = refusal_text-json;
+    entered = entered_text-json;
+    held = held_text-json;
+    declared = declared_text-json;
+    booked = booked_text-json;
+    redeemed = redeemed_text-json;
+    sold = λ net shortfall surplus. refl;
+    extended = extended_text-json;
   };
 }

@@ -1,4 +1,4 @@
-use Rattle.std.proofs.Common.{◌≡◌, ◌<◌, ◌∙◌, ℕ, List, ap, refl, map, set, length, subst, sym, ◌∷◌, [], ◌++◌}
+use Rattle.std.proofs.Common.{◌<◌, ◌∙◌, ℕ, List, ap, refl, map, set, length, subst, sym, ◌∷◌, [], ◌++◌}
 use Rattle.std.proofs.lemmas.List.{map-set}
 use Rattle.pawn_book.specs.declared.list.Kept.{Kept}
 use Rattle.pawn_book.specs.BookStep.{BookValue}

@@ -1,4 +1,4 @@
-use Rattle.std.proofs.Common.{ap, map, subst, sym}
+use Rattle.std.proofs.Common.{map, subst, sym}
 use Rattle.pawn_book.specs.Listed.{IsKept, entry_of}
 use Rattle.pawn_book.proofs.ListSaves.{kept_empty}
 use Rattle.pawn_book.proofs.list.ListKeep.new.Goals as goal

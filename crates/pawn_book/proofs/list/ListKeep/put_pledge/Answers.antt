@@ -1,7 +1,6 @@
-use Rattle.std.proofs.Common.{◌≡◌, ◌<◌, ◌≤◌, ◌+◌, ◌-◌, ◌∙◌, ℕ, List, arith, ap, refl, map, set, length, subst, sym, ◌∷◌, [], ◌++◌}
+use Rattle.std.proofs.Common.{◌≡◌, ◌<◌, ◌≤◌, ◌+◌, ◌-◌, ◌∙◌, ℕ, List, arith, ap, refl, map, set, length, subst, sym}
 use Rattle.std.proofs.lemmas.List.{map-set}
 use Rattle.pawn_book.specs.declared.list.Kept.{Kept}
-use Rattle.pawn_pledge.specs.Pledge.{PledgeValue}
 use Rattle.pawn_book.specs.BookStep.{BookValue, pledge_from, put_from}
 use Rattle.pawn_book.specs.HostStep.{pledge_rows}
 use Rattle.pawn_book.specs.Books.{Books}
@@ -28,10 +27,9 @@ overflow_sub-rows c =
     let read = c.index.result.now in
     let at = (entry_of read).1 in
     let stands = kept_is ks c.args.book c.in-Some.place read within c.index.ensures place in
-    let counted = standing_counted _ c.args.self.now _ c.args.book c.args.pledge.now at c.self.invariant c.self.view_is c.requires stands in
-    let standing : c.rows_at-standing.result ≡ standing_rows (pledge_from 1 at.pledges c.args.pledge.now.number) =
-    c.rows_at-standing.ensures ∙ ap (λ ps. standing_rows (pledge_from 1 ps c.number.result)) c.deref-2.ensures.value
-    ∙ ap (λ n. standing_rows (pledge_from 1 at.pledges n)) c.number.ensures in
+    let counted = standing_counted _ c.args.self.now _ c.args.book c.args.number c.args.pledge.now at c.self.invariant c.self.view_is c.requires stands in
+    let standing : c.rows_at-standing.result ≡ standing_rows (pledge_from 1 at.pledges c.args.number) =
+    c.rows_at-standing.ensures ∙ ap (λ ps. standing_rows (pledge_from 1 ps c.args.number)) c.deref-2.ensures.value in
     let count = c.from.ensures in let added = c.rows_of.ensures in let wide = c.from-2.ensures in let taken = c.from-3.ensures in
     let low = counted.0 in
     omega (arith, low, standing, count, added, wide, taken)
@@ -45,16 +43,15 @@ returns-then-rows-from c =
     let read = c.index.result.now in
     let at = (entry_of read).1 in
     let stands = kept_is ks c.args.book c.in-Some.place read within c.index.ensures place in
-    let counted = standing_counted _ c.args.self.now _ c.args.book c.args.pledge.now at c.self.invariant c.self.view_is c.requires stands in
-    let standing : c.rows_at-standing.result ≡ standing_rows (pledge_from 1 at.pledges c.args.pledge.now.number) =
-    c.rows_at-standing.ensures ∙ ap (λ ps. standing_rows (pledge_from 1 ps c.number.result)) c.deref-2.ensures.value
-    ∙ ap (λ n. standing_rows (pledge_from 1 at.pledges n)) c.number.ensures in
+    let counted = standing_counted _ c.args.self.now _ c.args.book c.args.number c.args.pledge.now at c.self.invariant c.self.view_is c.requires stands in
+    let standing : c.rows_at-standing.result ≡ standing_rows (pledge_from 1 at.pledges c.args.number) =
+    c.rows_at-standing.ensures ∙ ap (λ ps. standing_rows (pledge_from 1 ps c.args.number)) c.deref-2.ensures.value in
     let count = c.from.ensures in let added = c.rows_of.ensures in let wide = c.from-2.ensures in let taken = c.from-3.ensures in
     let low = counted.0 in
-    let sums : ((c.from.result + c.from-2.result) - c.from-3.result) + standing_rows (pledge_from 1 at.pledges c.args.pledge.now.number) ≡ c.self.inside.rows + pledge_rows c.args.pledge.now =
+    let sums : ((c.from.result + c.from-2.result) - c.from-3.result) + standing_rows (pledge_from 1 at.pledges c.args.number) ≡ c.self.inside.rows + pledge_rows c.args.pledge.now =
     omega (arith, low, standing, count, added, wide, taken) in
     let limit = c.from-4.ensures in let over = c.if-rows-from.true in
-    pledge_full _ c.args.self.now _ ((c.from.result + c.from-2.result) - c.from-3.result) c.args.book c.args.pledge.now at c.self.invariant c.self.view_is c.requires stands sums
+    pledge_full _ c.args.self.now _ ((c.from.result + c.from-2.result) - c.from-3.result) c.args.book c.args.number c.args.pledge.now at c.self.invariant c.self.view_is c.requires stands sums
     (omega (arith, over, limit))
 
 pub index_mut-kept-requires : goal.index_mut-kept-requires
@@ -69,16 +66,15 @@ put-requires c =
     let read = c.index.result.now in
     let at = (entry_of read).1 in
     let stands = kept_is ks c.args.book c.in-Some.place read within c.index.ensures place in
-    let counted = standing_counted _ c.args.self.now _ c.args.book c.args.pledge.now at c.self.invariant c.self.view_is c.requires stands in
-    let standing : c.rows_at-standing.result ≡ standing_rows (pledge_from 1 at.pledges c.args.pledge.now.number) =
-    c.rows_at-standing.ensures ∙ ap (λ ps. standing_rows (pledge_from 1 ps c.number.result)) c.deref-2.ensures.value
-    ∙ ap (λ n. standing_rows (pledge_from 1 at.pledges n)) c.number.ensures in
+    let counted = standing_counted _ c.args.self.now _ c.args.book c.args.number c.args.pledge.now at c.self.invariant c.self.view_is c.requires stands in
+    let standing : c.rows_at-standing.result ≡ standing_rows (pledge_from 1 at.pledges c.args.number) =
+    c.rows_at-standing.ensures ∙ ap (λ ps. standing_rows (pledge_from 1 ps c.args.number)) c.deref-2.ensures.value in
     let count = c.from.ensures in let added = c.rows_of.ensures in let wide = c.from-2.ensures in let taken = c.from-3.ensures in
     let kept = c.index_mut-kept.result.now in
     let found = kept_is ks c.args.book c.in-Some.place kept within c.index_mut-kept.ensures.value place in
     let same : at ≡ (entry_of kept).1 = some_is at (entry_of kept).1 (sym stands ∙ found) in
-    let high : c.args.pledge.now.number ≤ 1 + length kept.pledges.items = subst (λ (k : BookValue). c.args.pledge.now.number ≤ 1 + length k.pledges) same counted.2 in
-    subst (λ (q : PledgeValue). q.number ≤ 1 + length kept.pledges.items) (sym c.in-Ok.ensures) high
+    let high : c.args.number ≤ 1 + length kept.pledges.items = subst (λ (k : BookValue). c.args.number ≤ 1 + length k.pledges) same counted.2 in
+    high
 
 pub invariant_of-self : goal.invariant_of-self
 invariant_of-self c =
@@ -105,13 +101,12 @@ invariant_of-self-2 c =
     let read = c.index.result.now in
     let at = (entry_of read).1 in
     let stands = kept_is ks c.args.book c.in-Some.place read within c.index.ensures place in
-    let counted = standing_counted _ c.args.self.now _ c.args.book c.args.pledge.now at c.self.invariant c.self.view_is c.requires stands in
-    let standing : c.rows_at-standing.result ≡ standing_rows (pledge_from 1 at.pledges c.args.pledge.now.number) =
-    c.rows_at-standing.ensures ∙ ap (λ ps. standing_rows (pledge_from 1 ps c.number.result)) c.deref-2.ensures.value
-    ∙ ap (λ n. standing_rows (pledge_from 1 at.pledges n)) c.number.ensures in
+    let counted = standing_counted _ c.args.self.now _ c.args.book c.args.number c.args.pledge.now at c.self.invariant c.self.view_is c.requires stands in
+    let standing : c.rows_at-standing.result ≡ standing_rows (pledge_from 1 at.pledges c.args.number) =
+    c.rows_at-standing.ensures ∙ ap (λ ps. standing_rows (pledge_from 1 ps c.args.number)) c.deref-2.ensures.value in
     let count = c.from.ensures in let added = c.rows_of.ensures in let wide = c.from-2.ensures in let taken = c.from-3.ensures in
     let low = counted.0 in
-    let sums : ((c.from.result + c.from-2.result) - c.from-3.result) + standing_rows (pledge_from 1 at.pledges c.args.pledge.now.number) ≡ c.self.inside.rows + pledge_rows c.args.pledge.now =
+    let sums : ((c.from.result + c.from-2.result) - c.from-3.result) + standing_rows (pledge_from 1 at.pledges c.args.number) ≡ c.self.inside.rows + pledge_rows c.args.pledge.now =
     omega (arith, low, standing, count, added, wide, taken) in
     let limit = c.from-4.ensures in let room = c.if-rows-from.false in
     let kept = c.index_mut-kept.result.now in
@@ -121,11 +116,11 @@ invariant_of-self-2 c =
     let same : at ≡ (entry_of kept).1 = some_is at (entry_of kept).1 (sym stands ∙ found) in
     let list = map-set entry_of ks c.in-Some.place next
     ∙ ap (set (map entry_of ks) c.in-Some.place)
-    (entry_is next c.args.book kept.made kept.terms.items (put_from 1 kept.pledges.items c.args.pledge.now.number c.args.pledge.now) kept.imported number refl refl
-    (c.in-Ok-put.ensures.ok ∙ ap (λ (q : PledgeValue). put_from 1 kept.pledges.items q.number q) c.in-Ok.ensures) refl) in
+    (entry_is next c.args.book kept.made kept.terms.items (put_from 1 kept.pledges.items c.args.number c.args.pledge.now) kept.imported number refl refl
+    (c.in-Ok-put.ensures.ok ∙ ap (put_from 1 kept.pledges.items c.args.number) c.in-Ok.ensures) refl) in
     (pledge_saved _ c.args.self.now (record { books = map entry_of (set ks c.in-Some.place next); limit = c.self.inside.limit }) _ ((c.from.result + c.from-2.result) - c.from-3.result)
-    c.args.book c.args.pledge.now c.in-Some.place (entry_of kept).1 c.self.invariant c.self.view_is c.requires place found list refl
-    (subst (λ (k : BookValue). ((c.from.result + c.from-2.result) - c.from-3.result) + standing_rows (pledge_from 1 k.pledges c.args.pledge.now.number) ≡ c.self.inside.rows + pledge_rows c.args.pledge.now) same sums)
+    c.args.book c.args.number c.args.pledge.now c.in-Some.place (entry_of kept).1 c.self.invariant c.self.view_is c.requires place found list refl
+    (subst (λ (k : BookValue). ((c.from.result + c.from-2.result) - c.from-3.result) + standing_rows (pledge_from 1 k.pledges c.args.number) ≡ c.self.inside.rows + pledge_rows c.args.pledge.now) same sums)
     (omega (arith, room, limit))).0
 
 pub returns : goal.returns
@@ -137,13 +132,12 @@ returns c =
     let read = c.index.result.now in
     let at = (entry_of read).1 in
     let stands = kept_is ks c.args.book c.in-Some.place read within c.index.ensures place in
-    let counted = standing_counted _ c.args.self.now _ c.args.book c.args.pledge.now at c.self.invariant c.self.view_is c.requires stands in
-    let standing : c.rows_at-standing.result ≡ standing_rows (pledge_from 1 at.pledges c.args.pledge.now.number) =
-    c.rows_at-standing.ensures ∙ ap (λ ps. standing_rows (pledge_from 1 ps c.number.result)) c.deref-2.ensures.value
-    ∙ ap (λ n. standing_rows (pledge_from 1 at.pledges n)) c.number.ensures in
+    let counted = standing_counted _ c.args.self.now _ c.args.book c.args.number c.args.pledge.now at c.self.invariant c.self.view_is c.requires stands in
+    let standing : c.rows_at-standing.result ≡ standing_rows (pledge_from 1 at.pledges c.args.number) =
+    c.rows_at-standing.ensures ∙ ap (λ ps. standing_rows (pledge_from 1 ps c.args.number)) c.deref-2.ensures.value in
     let count = c.from.ensures in let added = c.rows_of.ensures in let wide = c.from-2.ensures in let taken = c.from-3.ensures in
     let low = counted.0 in
-    let sums : ((c.from.result + c.from-2.result) - c.from-3.result) + standing_rows (pledge_from 1 at.pledges c.args.pledge.now.number) ≡ c.self.inside.rows + pledge_rows c.args.pledge.now =
+    let sums : ((c.from.result + c.from-2.result) - c.from-3.result) + standing_rows (pledge_from 1 at.pledges c.args.number) ≡ c.self.inside.rows + pledge_rows c.args.pledge.now =
     omega (arith, low, standing, count, added, wide, taken) in
     let limit = c.from-4.ensures in let room = c.if-rows-from.false in
     let kept = c.index_mut-kept.result.now in
@@ -153,9 +147,9 @@ returns c =
     let same : at ≡ (entry_of kept).1 = some_is at (entry_of kept).1 (sym stands ∙ found) in
     let list = map-set entry_of ks c.in-Some.place next
     ∙ ap (set (map entry_of ks) c.in-Some.place)
-    (entry_is next c.args.book kept.made kept.terms.items (put_from 1 kept.pledges.items c.args.pledge.now.number c.args.pledge.now) kept.imported number refl refl
-    (c.in-Ok-put.ensures.ok ∙ ap (λ (q : PledgeValue). put_from 1 kept.pledges.items q.number q) c.in-Ok.ensures) refl) in
+    (entry_is next c.args.book kept.made kept.terms.items (put_from 1 kept.pledges.items c.args.number c.args.pledge.now) kept.imported number refl refl
+    (c.in-Ok-put.ensures.ok ∙ ap (put_from 1 kept.pledges.items c.args.number) c.in-Ok.ensures) refl) in
     (pledge_saved _ c.args.self.now (record { books = map entry_of (set ks c.in-Some.place next); limit = c.self.inside.limit }) _ ((c.from.result + c.from-2.result) - c.from-3.result)
-    c.args.book c.args.pledge.now c.in-Some.place (entry_of kept).1 c.self.invariant c.self.view_is c.requires place found list refl
-    (subst (λ (k : BookValue). ((c.from.result + c.from-2.result) - c.from-3.result) + standing_rows (pledge_from 1 k.pledges c.args.pledge.now.number) ≡ c.self.inside.rows + pledge_rows c.args.pledge.now) same sums)
+    c.args.book c.args.number c.args.pledge.now c.in-Some.place (entry_of kept).1 c.self.invariant c.self.view_is c.requires place found list refl
+    (subst (λ (k : BookValue). ((c.from.result + c.from-2.result) - c.from-3.result) + standing_rows (pledge_from 1 k.pledges c.args.number) ≡ c.self.inside.rows + pledge_rows c.args.pledge.now) same sums)
     (omega (arith, room, limit))).1

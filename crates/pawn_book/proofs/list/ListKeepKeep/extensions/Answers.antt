@@ -1,4 +1,4 @@
-use Rattle.std.proofs.Common.{◌≡◌, ◌∙◌, ap, map, subst, true}
+use Rattle.std.proofs.Common.{◌∙◌, ap, map, subst, true}
 use Rattle.pawn_book.specs.BookStep.{pledge_in}
 use Rattle.pawn_book.specs.Keeping.{extensions_of}
 use Rattle.pawn_book.specs.Listed.{book_at, entry_of}

@@ -1,8 +1,6 @@
-use Rattle.std.proofs.Common.{◌≡◌, ◌∙◌, ap, map}
+use Rattle.std.proofs.Common.{◌∙◌, ap, map}
 use Rattle.std.specs.Prelude.{option_map}
-use Rattle.pawn_pledge.specs.Brief.{brief_of}
-use Rattle.pawn_book.specs.BookStep.{head_of, pledge_in, terms_at}
-use Rattle.pawn_book.specs.Keeping.{number_of, terms_of}
+use Rattle.pawn_book.specs.BookStep.{head_of}
 use Rattle.pawn_book.specs.Listed.{book_at, entry_of}
 use Rattle.pawn_book.proofs.ListKeeping.{book_read, list_reads}
 use Rattle.pawn_book.proofs.list.ListKeepKeep.head.Goals as goal

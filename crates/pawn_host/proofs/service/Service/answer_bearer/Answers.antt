@@ -1,7 +1,6 @@
-use Rattle.std.proofs.Common.{rules}
 use Rattle.pawn_host.proofs.RunLemmas.{read_held}
 use Rattle.pawn_host.proofs.service.Service.answer_bearer.Goals as goal
 
-pub returns-clause-acted : goal.returns-clause-acted
-returns-clause-acted g c = λ honest h sound at bytes read.
-    c.show.ensures.acted honest h sound at bytes (read_held bytes c.args.book c.args.asked.now _ (search rules) read)
+pub returns-in-Held-clause-acted : goal.returns-in-Held-clause-acted
+returns-in-Held-clause-acted g c = λ honest h sound at bytes read.
+    c.show.ensures.acted honest h sound at bytes (read_held bytes c.args.request.now c.args.asked.now c.in-Held.receipts c.requires.asks c.in-Held.is read)

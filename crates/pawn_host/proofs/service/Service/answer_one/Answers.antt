@@ -1,5 +1,5 @@
 use Rattle.pawn_host.specs.Keeps.{service_keep, service_operator}
-use Rattle.pawn_host.proofs.RunLemmas.{acted_fault, read_bearer}
+use Rattle.pawn_host.proofs.RunLemmas.{acted_fault}
 use Rattle.pawn_host.proofs.service.Service.answer_one.Goals as goal
 
 pub returns-in-Err-clause-acted : goal.returns-in-Err-clause-acted
@@ -13,9 +13,8 @@ returns-in-Operator-clause-acted g c = λ honest h sound at.
 
 pub returns-in-Broker-clause-acted : goal.returns-in-Broker-clause-acted
 returns-in-Broker-clause-acted g c = λ honest h sound at.
-    c.act-in-Broker.ensures.acted honest h sound at c.args.bytes.now (rw c.in-Ok.is at c.read_request.ensures.read)
+    c.answer_broker.ensures.acted honest h sound at c.args.bytes.now (rw c.in-Ok.is at c.read_request.ensures.read)
 
 pub returns-clause-acted : goal.returns-clause-acted
 returns-clause-acted g c = λ honest h sound at.
-    c.answer_bearer.ensures.acted honest h sound at c.args.bytes.now
-    (read_bearer c.args.bytes.now c.in-Ok.request c.in-Bearer.asked c.in-Bearer.is (rw c.in-Ok.is at c.read_request.ensures.read))
+    c.answer_bearer.ensures.acted honest h sound at c.args.bytes.now (rw c.in-Ok.is at c.read_request.ensures.read)

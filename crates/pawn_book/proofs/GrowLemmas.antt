@@ -1,0 +1,153 @@
+-- A book grows with each request.
+use Rattle.std.proofs.Common.{◌≡◌, ℕ, List, [], ◌∷◌, ◌++◌, length, Some, None, Ok, Err, refl, ◌∙◌, ap, sym, subst, arith, append_assoc}
+use Rattle.std.specs.Prelude.{if◌then◌else◌, Option, Result, ◌==◌, Bool, true, false, map}
+use Rattle.std.proofs.lemmas.List.{append-nil}
+use Rattle.pawn_terms.specs.Terms.{TermsValue}
+use Rattle.pawn_pledge.specs.declared.command.Stamp.{Stamp}
+use Rattle.pawn_pledge.specs.declared.record.Opening.{Opening}
+use Rattle.pawn_pledge.specs.Pledge.{PledgeValue}
+use Rattle.pawn_pledge.specs.Step.{Answered, Changed, Judged, Refused, pledge_step}
+use Rattle.pawn_pledge.specs.declared.command.Command.{Command}
+use Rattle.pawn_pledge.specs.declared.command.Done.{Done}
+use Rattle.pawn_pledge.specs.declared.receipt.Receipt.{Receipt}
+use Rattle.pawn_book.specs.Commands.{bearer_command, broker_command}
+use Rattle.pawn_book.specs.declared.request.Caller.{Caller}
+use Rattle.pawn_book.specs.declared.request.Caller.TheVariants.{Operator, Broker, Bearer}
+use Rattle.pawn_book.specs.declared.request.BrokerRequest.TheVariants.{PutTerms, TakePledge, OnPledge, Show}
+use Rattle.pawn_book.specs.declared.request.BearerRequest.TheVariants.{Held, OnPledge as OnReceipt}
+use Rattle.pawn_book.specs.declared.request.NewTerms.{NewTerms}
+use Rattle.pawn_book.specs.declared.refusal.Refusal.{Refusal}
+use Rattle.pawn_book.specs.declared.refusal.Refusal.TheVariants.{NoSuchReceipt, WindowFull}
+use Rattle.pawn_book.specs.declared.reply.Reply.TheVariants.{TermsPut, Opened}
+use Rattle.pawn_book.specs.declared.change.Change.TheVariants.{AddTerms, PutPledge}
+use Rattle.pawn_book.specs.BookStep.{BookValue, Shown, Outcome, Refuses, Says, Makes, are_terms, are_unknown, bearer_commands, book_after, broker_commands, confirmed_booking, is_window_full, judged_outcome, shown, windowed, book_step, first_receipt, head_of, held_out, is_book, is_opening, made, newest, next_terms, pledge_from, put_from, put_terms, take_pledge, taken_under, terms_at, with_reference, live_at, pledge_in}
+use Rattle.pawn_book.specs.Laws.{book_run}
+use Rattle.pawn_book.proofs.Sounds.{put_next}
+use Rattle.pawn_book.proofs.KeptLemmas.{AreKept, are_kept_on, are_kept_push, are_kept_put, are_kept_same, kept_moved}
+use Rattle.pawn_book.proofs.CommandPlans.{live_is}
+use Rattle.pawn_book.proofs.Plans.{taken_is}
+
+-- what stays and what grows in a book
+pub record Grown (old new : BookValue) : Type 0 where
+  pub key : new.key ≡ old.key
+  pub name : new.name ≡ old.name
+  pub capacity : new.capacity ≡ old.capacity
+  pub terms : (more : List TermsValue) × (new.terms ≡ old.terms ++ more)
+  pub pledges : AreKept old.pledges new.pledges
+
+pub grown_same : (book : BookValue) → Grown book book
+grown_same book = record { key = refl; name = refl; capacity = refl; terms = ([], sym (append-nil book.terms)); pledges = are_kept_same book.pledges }
+
+grown_on : (a b c : BookValue) → Grown a b → Grown b c → Grown a c
+grown_on a b c f s = record {
+  key = s.key ∙ f.key;
+  name = s.name ∙ f.name;
+  capacity = s.capacity ∙ f.capacity;
+  terms = (f.terms.0 ++ s.terms.0, s.terms.1 ∙ ap (λ ts. ts ++ s.terms.0) f.terms.1 ∙ append_assoc a.terms f.terms.0 s.terms.0);
+  pledges = are_kept_on a.pledges b.pledges c.pledges f.pledges s.pledges;
+}
+
+abbrev pub GrowsTo : BookValue → Option BookValue → Type 0
+GrowsTo book after = (next : BookValue) × (after ≡ Some next) × Grown book next
+
+stays : (book : BookValue) → GrowsTo book (Some book)
+stays book = (book, refl, grown_same book)
+
+grows_by : (book : BookValue) (test : Bool) (x y : Outcome) → GrowsTo book (book_after (Some book) x) → GrowsTo book (book_after (Some book) y) → GrowsTo book (book_after (Some book) (if test then x else y))
+grows_by book true x y f s = f
+grows_by book false x y f s = s
+
+put_terms_grows : (book : BookValue) (b : ℕ) (new : NewTerms) (o : Option TermsValue) → GrowsTo book (book_after (Some book) (put_terms book b new o))
+put_terms_grows book b new (Some terms) = grows_by book (are_terms terms new) _ _ (stays book) (stays book)
+put_terms_grows book b new None = from (next_terms (length book.terms) new)
+  where
+    from : (r : Result TermsValue Refusal) → GrowsTo book (book_after (Some book) (made r (λ terms. Makes (AddTerms b new.version terms) (TermsPut new.version))))
+    from (Err why) = stays book
+    from (Ok terms) = (
+      record book { terms = book.terms ++ terms ∷ [] },
+      refl,
+      record { key = refl; name = refl; capacity = refl; terms = (terms ∷ [], refl); pledges = are_kept_same book.pledges },
+    )
+
+-- the list after the next pledge
+pub next_pledges : (book : BookValue) (opening : Opening) (stamp : Stamp) (p : PledgeValue) → taken_under (head_of book) opening stamp (newest book.terms) ≡ Ok p
+    → put_from 1 book.pledges p.number p ≡ book.pledges ++ p ∷ []
+next_pledges book opening stamp p is =
+    let number = (taken_is (head_of book) opening stamp (newest book.terms) p is).0 in
+    put_next 1 book.pledges p.number p (omega (arith, number))
+
+take_pledge_grows : (book : BookValue) (b : ℕ) (opening : Opening) (stamp : Stamp) (o : Option PledgeValue) → GrowsTo book (book_after (Some book) (take_pledge book b opening stamp o))
+take_pledge_grows book b opening stamp (Some p) = grows_by book (is_opening p opening) _ _ (stays book) (stays book)
+take_pledge_grows book b opening stamp None = from (taken_under (head_of book) opening stamp (newest book.terms)) refl
+  where
+    from : (r : Result PledgeValue Refusal) → taken_under (head_of book) opening stamp (newest book.terms) ≡ r
+        → GrowsTo book (book_after (Some book) (made r (λ p. Makes (PutPledge b p.number p) (Opened (first_receipt p)))))
+    from (Err why) is = stays book
+    from (Ok p) is = (
+      record book { pledges = put_from 1 book.pledges p.number p },
+      refl,
+      record { key = refl; name = refl; capacity = refl; terms = ([], sym (append-nil book.terms)); pledges = subst (AreKept book.pledges) (sym (next_pledges book opening stamp p is)) (are_kept_push book.pledges (p ∷ [])) },
+    )
+
+held_stays : (book : BookValue) (stamp : Stamp) (shown : List (Option PledgeValue)) → GrowsTo book (book_after (Some book) (held_out stamp shown))
+held_stays book stamp shown = grows_by book (are_unknown shown) (Refuses NoSuchReceipt) (Says (Shown stamp.day shown)) (stays book) (stays book)
+
+-- a book with what a command made of a pledge
+put_grows : (book : BookValue) (n : ℕ) (p q : PledgeValue) (stamp : Stamp) (command : Command) (done : Done) → pledge_from 1 book.pledges n ≡ Some p
+    → pledge_step p stamp command ≡ Changed q done → Grown book (record book { pledges = put_from 1 book.pledges n q })
+put_grows book n p q stamp command done at step = record {
+  key = refl;
+  name = refl;
+  capacity = refl;
+  terms = ([], sym (append-nil book.terms));
+  pledges = are_kept_put 1 book.pledges n p q at (kept_moved p q stamp command done step);
+}
+
+judged_grows : (book : BookValue) (b n : ℕ) (p : PledgeValue) (stamp : Stamp) (command : Command) → pledge_from 1 book.pledges n ≡ Some p
+    → GrowsTo book (book_after (Some book) (judged_outcome b n (pledge_step p stamp command)))
+judged_grows book b n p stamp command at = from (pledge_step p stamp command) refl
+  where
+    from : (j : Judged) → pledge_step p stamp command ≡ j → GrowsTo book (book_after (Some book) (judged_outcome b n j))
+    from (Refused why) step = stays book
+    from (Answered done) step = stays book
+    from (Changed q done) step = (record book { pledges = put_from 1 book.pledges n q }, refl, put_grows book n p q stamp command done at step)
+
+windowed_grows : (book : BookValue) (o : Outcome) → GrowsTo book (book_after (Some book) o) → GrowsTo book (book_after (Some book) (windowed book o))
+windowed_grows book (Refuses why) grows = grows
+windowed_grows book (Says out) grows = grows
+windowed_grows book (Makes change reply) grows =
+    grows_by book (is_window_full book (confirmed_booking reply)) (Refuses WindowFull) (Makes change reply) (stays book) grows
+
+number_grows : (book : BookValue) (b n : ℕ) (stamp : Stamp) (command : Command) (o : Option PledgeValue) → pledge_from 1 book.pledges n ≡ o
+    → GrowsTo book (book_after (Some book) (broker_commands book b n stamp command o))
+number_grows book b n stamp command None at = stays book
+number_grows book b n stamp command (Some p) at = windowed_grows book (judged_outcome b n (pledge_step p stamp command)) (judged_grows book b n p stamp command at)
+
+receipt_grows : (book : BookValue) (b : ℕ) (r : Receipt) (stamp : Stamp) (command : Command) (o : Option PledgeValue) → live_at (pledge_in (Some book)) r ≡ o
+    → GrowsTo book (book_after (Some book) (bearer_commands b r.number stamp command o))
+receipt_grows book b r stamp command None at = stays book
+receipt_grows book b r stamp command (Some p) at = judged_grows book b r.number p stamp command (live_is r.secret (pledge_from 1 book.pledges r.number) p (sym at))
+
+shown_stays : (book : BookValue) (stamp : Stamp) (o : Option PledgeValue) → GrowsTo book (book_after (Some book) (shown stamp o))
+shown_stays book stamp None = stays book
+shown_stays book stamp (Some p) = stays book
+
+-- a book grows with each request
+step_grows : (book : BookValue) (operator b : ℕ) (stamp : Stamp) (caller : Caller) → GrowsTo book (book_after (Some book) (book_step (Some book) operator b stamp caller))
+step_grows book operator b stamp (Operator key new) =
+    grows_by book (key == operator) _ _ (grows_by book (is_book (head_of book) new) _ _ (stays book) (stays book)) (stays book)
+step_grows book operator b stamp (Broker key (PutTerms new)) =
+    grows_by book (book.key == key) _ _ (put_terms_grows book b new (terms_at book.terms new.version)) (stays book)
+step_grows book operator b stamp (Broker key (TakePledge opening)) =
+    grows_by book (book.key == key) _ _ (take_pledge_grows book b opening stamp (with_reference book.pledges opening.reference)) (stays book)
+step_grows book operator b stamp (Broker key (OnPledge n command)) =
+    grows_by book (book.key == key) _ _ (number_grows book b n stamp (broker_command command) (pledge_from 1 book.pledges n) refl) (stays book)
+step_grows book operator b stamp (Broker key (Show n)) = grows_by book (book.key == key) _ _ (shown_stays book stamp (pledge_from 1 book.pledges n)) (stays book)
+step_grows book operator b stamp (Bearer (Held receipts)) = held_stays book stamp (map (live_at (pledge_in (Some book))) receipts)
+step_grows book operator b stamp (Bearer (OnReceipt r command)) = receipt_grows book b r stamp (bearer_command command) (live_at (pledge_in (Some book)) r) refl
+
+pub run_grows : (base book : BookValue) (operator b : ℕ) (later : List (Stamp × Caller)) → Grown base book → GrowsTo base (book_run (Some book) operator b later)
+run_grows base book operator b [] grown = (book, refl, grown)
+run_grows base book operator b (asked ∷ rest) grown =
+    let step = step_grows book operator b asked.0 asked.1 in
+    subst (λ o. GrowsTo base (book_run o operator b rest)) (sym step.1) (run_grows base step.0 operator b rest (grown_on base book step.0 grown step.2))

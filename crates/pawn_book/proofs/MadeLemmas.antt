@@ -1,0 +1,165 @@
+-- How a change came about.
+use Rattle.std.proofs.Common.{◌≡◌, ℕ, List, length, Some, None, Ok, Err, refl, ap, sym}
+use Rattle.std.specs.Prelude.{if◌then◌else◌, Option, Result, ◌==◌, Bool, true, false, map}
+use Rattle.pawn_terms.specs.Terms.{TermsValue}
+use Rattle.pawn_pledge.specs.declared.command.Stamp.{Stamp}
+use Rattle.pawn_pledge.specs.declared.record.Opening.{Opening}
+use Rattle.pawn_pledge.specs.Pledge.{PledgeValue}
+use Rattle.pawn_pledge.specs.Step.{Answered, Changed, Judged, Refused, pledge_step}
+use Rattle.pawn_pledge.specs.declared.command.Command.{Command}
+use Rattle.pawn_pledge.specs.declared.command.Done.{Done}
+use Rattle.pawn_pledge.specs.declared.receipt.Receipt.{Receipt}
+use Rattle.pawn_book.specs.Commands.{bearer_command, broker_command}
+use Rattle.pawn_book.specs.declared.request.Caller.{Caller}
+use Rattle.pawn_book.specs.declared.request.Caller.TheVariants.{Operator, Broker, Bearer}
+use Rattle.pawn_book.specs.declared.request.BrokerRequest.TheVariants.{PutTerms, TakePledge, OnPledge, Show}
+use Rattle.pawn_book.specs.declared.request.BearerRequest.TheVariants.{Held, OnPledge as OnReceipt}
+use Rattle.pawn_book.specs.declared.request.NewBook.{NewBook}
+use Rattle.pawn_book.specs.declared.request.NewTerms.{NewTerms}
+use Rattle.pawn_book.specs.declared.refusal.Refusal.{Refusal}
+use Rattle.pawn_book.specs.declared.refusal.Refusal.TheVariants.{NoSuchReceipt, WindowFull}
+use Rattle.pawn_book.specs.declared.reply.Reply.{Reply}
+use Rattle.pawn_book.specs.declared.reply.Reply.TheVariants.{BookMade, TermsPut, Opened, Commanded}
+use Rattle.pawn_book.specs.declared.change.Change.{Change}
+use Rattle.pawn_book.specs.declared.change.Change.TheVariants.{MakeBook, AddTerms, PutPledge}
+use Rattle.pawn_book.specs.BookStep.{BookValue, Out, Shown, Outcome, Refuses, Says, Makes, are_terms, are_unknown, bearer_commands, broker_commands, confirmed_booking, is_window_full, judged_outcome, shown, windowed, book_step, first_receipt, head_of, held_out, is_book, is_opening, made, newest, next_terms, pledge_from, put_terms, take_pledge, taken_under, terms_at, with_reference, live_at, pledge_in}
+use Rattle.pawn_book.specs.Laws.{IsMaking}
+use Rattle.pawn_book.proofs.CommandPlans.{live_is}
+
+-- what an outcome makes
+abbrev pub change_in : Outcome → Change → Change
+change_in (Refuses why) other = other
+change_in (Says out) other = other
+change_in (Makes change reply) other = change
+
+abbrev pub reply_in : Outcome → Reply → Reply
+reply_in (Refuses why) other = other
+reply_in (Says out) other = other
+reply_in (Makes change reply) other = reply
+
+-- a command on a pledge of the book made the change
+pub record DidOn (book : BookValue) (b n : ℕ) (stamp : Stamp) (command : Command) (change : Change) (reply : Reply) : Type 0 where
+  pub old : PledgeValue
+  pub next : PledgeValue
+  pub done : Done
+  pub stands : pledge_from 1 book.pledges n ≡ Some old
+  pub step : pledge_step old stamp command ≡ Changed next done
+  pub makes : change ≡ PutPledge b n next
+  pub says : reply ≡ Commanded n done
+
+-- how a change came about
+pub data MadeBy (before : Option BookValue) (operator b : ℕ) (stamp : Stamp) (caller : Caller) (change : Change) (reply : Reply) : Type 0 where
+  BookIs : (key : ℕ) (new : NewBook) → caller ≡ Operator key new → (key == operator) ≡ true → before ≡ None
+      → change ≡ MakeBook b new → reply ≡ BookMade b → MadeBy before operator b stamp caller change reply
+  TermsAre : (key : ℕ) (new : NewTerms) (book : BookValue) (terms : TermsValue) → caller ≡ Broker key (PutTerms new) → before ≡ Some book → (book.key == key) ≡ true
+      → terms_at book.terms new.version ≡ None → next_terms (length book.terms) new ≡ Ok terms
+      → change ≡ AddTerms b new.version terms → reply ≡ TermsPut new.version → MadeBy before operator b stamp caller change reply
+  PledgeIs : (key : ℕ) (opening : Opening) (book : BookValue) (p : PledgeValue) → caller ≡ Broker key (TakePledge opening) → before ≡ Some book → (book.key == key) ≡ true
+      → with_reference book.pledges opening.reference ≡ None → taken_under (head_of book) opening stamp (newest book.terms) ≡ Ok p
+      → change ≡ PutPledge b p.number p → reply ≡ Opened (first_receipt p) → MadeBy before operator b stamp caller change reply
+  CommandIs : (book : BookValue) (n : ℕ) (command : Command) → before ≡ Some book → (IsMaking caller → ⊥) → DidOn book b n stamp command change reply
+      → MadeBy before operator b stamp caller change reply
+
+pub if_makes : (test : Bool) (x : Outcome) (why : Refusal) (change : Change) (reply : Reply) → (if test then x else Refuses why) ≡ Makes change reply → (test ≡ true) × (x ≡ Makes change reply)
+if_makes true x why change reply is = (refl, is)
+if_makes false x why change reply is = cc is
+
+told_again : {P : Type 0} (test : Bool) (out : Out) (why : Refusal) (change : Change) (reply : Reply) → (if test then Says out else Refuses why) ≡ Makes change reply → P
+told_again true out why change reply is = cc is
+told_again false out why change reply is = cc is
+
+same_change : (c d : Change) (r s : Reply) → Makes c r ≡ Makes d s → d ≡ c
+same_change c d r s is = sym (ap (λ o. change_in o c) is)
+
+same_reply : (c d : Change) (r s : Reply) → Makes c r ≡ Makes d s → s ≡ r
+same_reply c d r s is = sym (ap (λ o. reply_in o r) is)
+
+made_ok : {V : Type 0} (r : Result V Refusal) (makes : V → Outcome) (change : Change) (reply : Reply) → made r makes ≡ Makes change reply → (v : V) × (r ≡ Ok v) × (makes v ≡ Makes change reply)
+made_ok (Err why) makes change reply is = cc is
+made_ok (Ok v) makes change reply is = (v, refl, is)
+
+-- what came of a command
+judged_made : (book : BookValue) (b n : ℕ) (p : PledgeValue) (stamp : Stamp) (command : Command) (change : Change) (reply : Reply) → pledge_from 1 book.pledges n ≡ Some p
+    → judged_outcome b n (pledge_step p stamp command) ≡ Makes change reply → DidOn book b n stamp command change reply
+judged_made book b n p stamp command change reply at is = from (pledge_step p stamp command) refl is
+  where
+    from : (j : Judged) → pledge_step p stamp command ≡ j → judged_outcome b n j ≡ Makes change reply → DidOn book b n stamp command change reply
+    from (Refused why) step made = cc made
+    from (Answered done) step made = cc made
+    from (Changed q done) step made = record {
+      old = p;
+      next = q;
+      done = done;
+      stands = at;
+      step = step;
+      makes = same_change _ change _ reply made;
+      says = same_reply _ change _ reply made;
+    }
+
+windowed_made : (book : BookValue) (o : Outcome) (change : Change) (reply : Reply) → windowed book o ≡ Makes change reply → o ≡ Makes change reply
+windowed_made book (Refuses why) change reply is = cc is
+windowed_made book (Says out) change reply is = cc is
+windowed_made book (Makes c r) change reply is = from (is_window_full book (confirmed_booking r)) is
+  where
+    from : (full : Bool) → (if full then Refuses WindowFull else Makes c r) ≡ Makes change reply → Makes c r ≡ Makes change reply
+    from true made = cc made
+    from false made = made
+
+pub number_made : (book : BookValue) (b n : ℕ) (stamp : Stamp) (command : Command) (o : Option PledgeValue) (change : Change) (reply : Reply) → pledge_from 1 book.pledges n ≡ o
+    → broker_commands book b n stamp command o ≡ Makes change reply → DidOn book b n stamp command change reply
+number_made book b n stamp command None change reply at is = cc is
+number_made book b n stamp command (Some p) change reply at is = judged_made book b n p stamp command change reply at (windowed_made book _ change reply is)
+
+pub receipt_made : (book : BookValue) (b : ℕ) (r : Receipt) (stamp : Stamp) (command : Command) (o : Option PledgeValue) (change : Change) (reply : Reply)
+    → live_at (pledge_in (Some book)) r ≡ o → bearer_commands b r.number stamp command o ≡ Makes change reply → DidOn book b r.number stamp command change reply
+receipt_made book b r stamp command None change reply at is = cc is
+receipt_made book b r stamp command (Some p) change reply at is =
+    judged_made book b r.number p stamp command change reply (live_is r.secret (pledge_from 1 book.pledges r.number) p (sym at)) is
+
+shown_makes : {P : Type 0} (stamp : Stamp) (o : Option PledgeValue) (change : Change) (reply : Reply) → shown stamp o ≡ Makes change reply → P
+shown_makes stamp None change reply is = cc is
+shown_makes stamp (Some p) change reply is = cc is
+
+pub made_by : (before : Option BookValue) (operator b : ℕ) (stamp : Stamp) (caller : Caller) (change : Change) (reply : Reply)
+    → book_step before operator b stamp caller ≡ Makes change reply → MadeBy before operator b stamp caller change reply
+made_by None operator b stamp (Operator key new) change reply is =
+    let passed = if_makes (key == operator) _ _ change reply is in
+    BookIs key new refl passed.0 refl (same_change _ change _ reply passed.1) (same_reply _ change _ reply passed.1)
+made_by (Some book) operator b stamp (Operator key new) change reply is =
+    let passed = if_makes (key == operator) _ _ change reply is in told_again (is_book (head_of book) new) _ _ change reply passed.1
+made_by None operator b stamp (Broker key asked) change reply is = cc is
+made_by (Some book) operator b stamp (Broker key (PutTerms new)) change reply is =
+    let passed = if_makes (book.key == key) _ _ change reply is in from (terms_at book.terms new.version) refl passed.1
+  where
+    from : (o : Option TermsValue) → terms_at book.terms new.version ≡ o → put_terms book b new o ≡ Makes change reply → MadeBy (Some book) operator b stamp (Broker key (PutTerms new)) change reply
+    from (Some terms) at is = told_again (are_terms terms new) _ _ change reply is
+    from None at made_is =
+        let ok = made_ok (next_terms (length book.terms) new) _ change reply made_is in
+        TermsAre key new book ok.0 refl refl (if_makes (book.key == key) _ _ change reply is).0 at ok.1 (same_change _ change _ reply ok.2) (same_reply _ change _ reply ok.2)
+made_by (Some book) operator b stamp (Broker key (TakePledge opening)) change reply is =
+    let passed = if_makes (book.key == key) _ _ change reply is in from (with_reference book.pledges opening.reference) refl passed.1
+  where
+    from : (o : Option PledgeValue) → with_reference book.pledges opening.reference ≡ o → take_pledge book b opening stamp o ≡ Makes change reply
+        → MadeBy (Some book) operator b stamp (Broker key (TakePledge opening)) change reply
+    from (Some p) at is = told_again (is_opening p opening) _ _ change reply is
+    from None at made_is =
+        let ok = made_ok (taken_under (head_of book) opening stamp (newest book.terms)) _ change reply made_is in
+        PledgeIs key opening book ok.0 refl refl (if_makes (book.key == key) _ _ change reply is).0 at ok.1 (same_change _ change _ reply ok.2) (same_reply _ change _ reply ok.2)
+made_by (Some book) operator b stamp (Broker key (OnPledge n command)) change reply is =
+    let passed = if_makes (book.key == key) _ _ change reply is in
+    CommandIs book n (broker_command command) refl (λ making. making)
+    (number_made book b n stamp (broker_command command) (pledge_from 1 book.pledges n) change reply refl passed.1)
+made_by (Some book) operator b stamp (Broker key (Show n)) change reply is =
+    let passed = if_makes (book.key == key) _ _ change reply is in shown_makes stamp (pledge_from 1 book.pledges n) change reply passed.1
+made_by None operator b stamp (Bearer (OnReceipt r command)) change reply is = cc is
+made_by (Some book) operator b stamp (Bearer (OnReceipt r command)) change reply is =
+    CommandIs book r.number (bearer_command command) refl (λ making. making)
+    (receipt_made book b r stamp (bearer_command command) (live_at (pledge_in (Some book)) r) change reply refl is)
+made_by before operator b stamp (Bearer (Held receipts)) change reply is = held_makes (map (live_at (pledge_in before)) receipts) is
+  where
+    held_makes : (shown : List (Option PledgeValue)) → held_out stamp shown ≡ Makes change reply → MadeBy before operator b stamp (Bearer (Held receipts)) change reply
+    held_makes shown is = denied (are_unknown shown) is
+      where
+        denied : (test : Bool) → (if test then Refuses NoSuchReceipt else Says (Shown stamp.day shown)) ≡ Makes change reply → MadeBy before operator b stamp (Bearer (Held receipts)) change reply
+        denied true is = cc is
+        denied false is = cc is

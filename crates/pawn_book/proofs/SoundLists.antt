@@ -1,0 +1,78 @@
+-- References that differ, and terms that stand, in a list of pledges.
+use Rattle.std.proofs.Common.{◌≡◌, ℕ, ◌+◌, ◌≤◌, zero, suc, List, [], ◌∷◌, ◌++◌, length, map, Some, None, refl, ◌∙◌, ap, sym, subst, arith}
+use Rattle.std.specs.Prelude.{if◌then◌else◌, Option, Bool, true, false, ◌==◌, ◌||◌}
+use Rattle.std.specs.List.{list_any}
+use Rattle.std.proofs.lemmas.List.Folds.{list_any-append}
+use Rattle.pawn_terms.specs.Terms.{TermsValue}
+use Rattle.pawn_pledge.specs.Pledge.{PledgeValue}
+use Rattle.pawn_book.specs.BookStep.{is_text, pledge_from, put_from, terms_at, with_reference}
+use Rattle.pawn_book.specs.Sound.{AreDistinct, DoNotFall, Each, IsUnder}
+
+none_some : {A : Type 0} {P : Type 0} {x : A} → (let none : Option A = None in none ≡ Some x) → P
+none_some is = cc is
+
+same_of : {A : Type 0} (x y : A) → Some x ≡ Some y → x ≡ y
+same_of x y is = cc is
+
+-- a list of what is told of pledges stays, where one is put that tells the same
+pub map-put : {A : Type 0} (f : PledgeValue → A) (k : ℕ) (ps : List PledgeValue) (n : ℕ) (p q : PledgeValue) → pledge_from k ps n ≡ Some p → f q ≡ f p → map f (put_from k ps n q) ≡ map f ps
+map-put f k [] n p q is same = none_some is
+map-put f k (r ∷ ps) n p q is same =
+    elim (n == k) as (λ v. (if v then Some r else pledge_from (k + 1) ps n) ≡ Some p → map f (if v then q ∷ ps else r ∷ put_from (k + 1) ps n q) ≡ map f (r ∷ ps)) [
+      | true ↦ λ here. ap (λ x. x ∷ map f ps) (same ∙ ap f (sym (same_of r p here)))
+      | false ↦ λ there. ap (λ xs. f r ∷ xs) (map-put f (k + 1) ps n p q there same)
+    ] is
+
+-- a reference that no pledge has
+pub new_reference : (ps : List PledgeValue) (reference : List ℕ) → with_reference ps reference ≡ None → list_any (λ t. is_text t reference) (map (λ p. p.reference) ps) ≡ false
+new_reference [] reference none = refl
+new_reference (p ∷ ps) reference none =
+    elim (is_text p.reference reference) as (λ v. (if v then Some p else with_reference ps reference) ≡ None → (v || list_any (λ t. is_text t reference) (map (λ p. p.reference) ps)) ≡ false) [
+      | true ↦ λ some. none_some (sym some)
+      | false ↦ λ rest. new_reference ps reference rest
+    ] none
+
+neither : (a b : Bool) → (a || b) ≡ false → (a ≡ false) × (b ≡ false)
+neither true b is = cc is
+neither false b is = (refl, is)
+
+both_false : (a b : Bool) → a ≡ false → b ≡ false → (a || b) ≡ false
+both_false a b f g = ap (λ v. v || b) f ∙ g
+
+-- .. may stand behind the others
+distinct_push : (ts : List (List ℕ)) (t : List ℕ) → AreDistinct ts → list_any (λ s. is_text s t) ts ≡ false → AreDistinct (ts ++ t ∷ [])
+distinct_push [] t all new = (refl, tt)
+distinct_push (s ∷ ts) t all new =
+    let apart = neither (is_text s t) (list_any (λ s. is_text s t) ts) new in
+    (list_any-append (is_text s) ts (t ∷ []) ∙ both_false _ _ all.0 (both_false _ _ apart.0 refl), distinct_push ts t all.1 apart.1)
+
+map_push : {A : Type 0} (f : PledgeValue → A) (ps : List PledgeValue) (p : PledgeValue) → map f (ps ++ p ∷ []) ≡ map f ps ++ f p ∷ []
+map_push f [] p = refl
+map_push f (q ∷ ps) p = ap (λ xs. f q ∷ xs) (map_push f ps p)
+
+pub references_push : (ps : List PledgeValue) (p : PledgeValue) → AreDistinct (map (λ p. p.reference) ps) → with_reference ps p.reference ≡ None → AreDistinct (map (λ p. p.reference) (ps ++ p ∷ []))
+references_push ps p all none = subst AreDistinct (sym (map_push (λ p. p.reference) ps p)) (distinct_push (map (λ p. p.reference) ps) p.reference all (new_reference ps p.reference none))
+
+-- terms that stand are among the first
+pub under_length : (terms : List TermsValue) (version : ℕ) (t : TermsValue) → terms_at terms version ≡ Some t → version ≤ length terms
+under_length terms zero t is = omega arith
+under_length [] (suc n) t is = none_some is
+under_length (u ∷ terms) (suc zero) t is = omega arith
+under_length (u ∷ terms) (suc (suc n)) t is = let rest = under_length terms (suc n) t is in omega (arith, rest)
+
+-- .. and stand with one more behind them
+under_more : (terms : List TermsValue) (u : TermsValue) (version : ℕ) (t : TermsValue) → terms_at terms version ≡ Some t → terms_at (terms ++ u ∷ []) version ≡ Some t
+under_more terms u zero t is = is
+under_more [] u (suc n) t is = none_some is
+under_more (s ∷ terms) u (suc zero) t is = is
+under_more (s ∷ terms) u (suc (suc n)) t is = under_more terms u (suc n) t is
+
+pub each_under_more : (terms : List TermsValue) (u : TermsValue) (ps : List PledgeValue) → Each (IsUnder terms) ps → Each (IsUnder (terms ++ u ∷ [])) ps
+each_under_more terms u [] all = tt
+each_under_more terms u (p ∷ ps) all = (under_more terms u p.version p.terms all.0, each_under_more terms u ps all.1)
+
+-- versions don't fall with a pledge under the newest terms
+pub versions_push : (n : ℕ) (terms : List TermsValue) (ps : List PledgeValue) (p : PledgeValue) → Each (IsUnder terms) ps → DoNotFall n (map (λ p. p.version) ps) → n ≤ length terms → p.version ≡ length terms
+    → DoNotFall n (map (λ p. p.version) (ps ++ p ∷ []))
+versions_push n terms [] p under rise low newest = (omega (arith, low, newest), tt)
+versions_push n terms (q ∷ ps) p under rise low newest = (rise.0, versions_push q.version terms ps p under.1 rise.1 (under_length terms q.version q.terms under.0) newest)

@@ -1,0 +1,155 @@
+//! Plans of commands on a pledge that stands.
+ghost use Rattle.std.specs.Prelude.{◌≡◌, Err, IfOk};
+ghost use Rattle.std.specs.FinMap.{get};
+ghost use Rattle.pawn_terms.specs.Calendar.{IsStampDay};
+ghost use Rattle.pawn_pledge.specs.Replayable.{IsCommand};
+ghost use Rattle.pawn_pledge.specs.Step.{pledge_step};
+ghost use Rattle.pawn_book.specs.BookStep.{BookValue, bearer_commands, broker_commands, confirmed_booking, head_of, judged_outcome, live_at, pledge_from, pledge_in, windowed};
+ghost use Rattle.pawn_book.specs.Keeping.{IsOutcome, IsQuiet, Plans, Reads, newly_confirmed, outcome_of};
+
+use crate::change::{Change, Head, Planned};
+use crate::keep::Keep;
+use crate::planning::{find_live, unwell};
+use crate::refusal::Refusal;
+use crate::reply::Reply;
+use pawn_pledge::{
+    Booking, BookingState, Command, Done, Number, Pledge, Receipt, Refusal as PledgeRefusal, Stamp,
+};
+
+// A broker's command on the pledge of a number.
+pub(crate) fn plan_number<K: Keep>(
+    keep: &mut K,
+    book: Number,
+    head: &Head,
+    number: Number,
+    stamp: &Stamp,
+    command: &Command,
+) -> Result<Planned, Refusal>
+    requires within { IsCommand command.now }
+    ensures reads { Reads K.stands K.honest keep.old keep.new (λ h. (at : BookValue) → get h.books book ≡ Some at → head.now ≡ head_of at →
+        Plans h book (broker_commands at book number stamp.now command.now (pledge_from 1 at.pledges number)) result) }
+    ensures steady { IsQuiet K.steady keep.old keep.new result }
+{
+    let pledge = match keep.pledge(book, number) {
+        Err(error) => return Err(unwell(error)),
+        Ok(None) => return Err(Refusal::NoSuchPledge),
+        Ok(Some(pledge)) => pledge,
+    };
+    let planned = match commanded(book, number, pledge, stamp, command) {
+        Err(refusal) => return Err(refusal),
+        Ok(planned) => planned,
+    };
+    roomed(keep, book, head, planned)
+}
+
+// A bearer's command on the pledge of a receipt, if the receipt is live.
+pub(crate) fn plan_receipt<K: Keep>(
+    keep: &mut K,
+    book: Number,
+    receipt: &Receipt,
+    stamp: &Stamp,
+    command: &Command,
+) -> Result<Planned, Refusal>
+    requires within { IsCommand command.now }
+    ensures reads { Reads K.stands K.honest keep.old keep.new (λ h.
+        Plans h book (bearer_commands book receipt.now.number stamp.now command.now (live_at (pledge_in (get h.books book)) receipt.now)) result) }
+    ensures steady { IsQuiet K.steady keep.old keep.new result }
+{
+    match find_live(keep, book, receipt) {
+        Err(error) => Err(unwell(error)),
+        Ok(None) => Err(Refusal::NoSuchReceipt),
+        Ok(Some(pledge)) => commanded(book, receipt.number, pledge, stamp, command),
+    }
+}
+
+// What comes of a command on a pledge.
+fn commanded(
+    book: Number,
+    number: Number,
+    mut pledge: Pledge,
+    stamp: &Stamp,
+    command: &Command,
+) -> Result<Planned, Refusal>
+    ensures judged { IsOutcome (judged_outcome book number (pledge_step pledge stamp.now command.now)) result }
+    ensures day { IsStampDay stamp.now.day }
+    ensures store { result ≡ Err Refusal.Store → ⊥ }
+{
+    // Whoever reads the day knows that it is one that a stamp may have.
+    let _ = stamp.day.day();
+    match pledge.apply_telling(stamp, command) {
+        Err(PledgeRefusal::Memory) => Err(Refusal::Memory),
+        Err(refusal) => Err(Refusal::Pledge(refusal)),
+        Ok(applied) => {
+            let reply = Reply::Commanded {
+                number,
+                done: applied.done,
+            };
+            if !applied.changed {
+                return Ok(Planned {
+                    change: None,
+                    reply,
+                });
+            }
+            Ok(Planned {
+                change: Some(Change::PutPledge {
+                    book,
+                    number,
+                    pledge,
+                }),
+                reply,
+            })
+        }
+    }
+}
+
+// What was planned, unless it confirms a booking whose window is full.
+fn roomed<K: Keep>(
+    keep: &mut K,
+    book: Number,
+    head: &Head,
+    planned: Planned,
+) -> Result<Planned, Refusal>
+    ensures reads { Reads K.stands K.honest keep.old keep.new (λ h. (at : BookValue) → get h.books book ≡ Some at → head.now ≡ head_of at →
+        IsOutcome (windowed at (outcome_of planned.change planned.reply)) result) }
+    ensures same { IfOk result (λ p. p ≡ planned) }
+    ensures steady { IsQuiet K.steady keep.old keep.new result }
+{
+    let Some(booking) = newly_confirmed(&planned) else {
+        return Ok(planned);
+    };
+    match keep.confirmed(book, booking.day, booking.window) {
+        Err(error) => Err(unwell(error)),
+        Ok(confirmed) => {
+            if confirmed >= u64::from(head.capacity.get()) {
+                return Err(Refusal::WindowFull);
+            }
+            Ok(planned)
+        }
+    }
+}
+
+// The booking that a change confirms.
+fn newly_confirmed(planned: &Planned) -> Option<Booking>
+    ensures { result ≡ newly_confirmed planned.now.change planned.now.reply }
+{
+    match planned.change {
+        None => None,
+        Some(_) => confirmed_booking(planned.reply),
+    }
+}
+
+// The booking that is told to be confirmed.
+fn confirmed_booking(reply: Reply) -> Option<Booking>
+    ensures { result ≡ confirmed_booking reply }
+{
+    let Reply::Commanded { number: _, done } = reply else {
+        return None;
+    };
+    let Done::Booked(booking) = done else {
+        return None;
+    };
+    match booking.state {
+        BookingState::Confirmed => Some(booking),
+        _ => None,
+    }
+}

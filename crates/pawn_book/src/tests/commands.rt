@@ -1,0 +1,350 @@
+//! Commands on pledges of a book.
+use super::{KEY, OPERATOR, Step, ample, number, plays, receipt, take};
+use crate::tests::{make, put};
+use crate::{
+    BearerCommand, BearerRequest, Booking, BookingState, BrokerCommand, BrokerRequest, Caller, Day,
+    Decision, Done, Flow, Keep, ListKeep, Number, Paper, Pledge, PledgeRefusal, PledgeVisitor,
+    Receipt, Refusal, Reply, Request, RequestDay, Secret, Stamp, act, plan,
+};
+use pawn_debt::DebtFault;
+use std::alloc::Global;
+use std::test::Fail;
+
+// Who commands a pledge.
+#[derive(Clone, Copy)]
+enum Who {
+    Broker(BrokerCommand),
+    // By a receipt of this word.
+    Bearer(u128, BearerCommand),
+}
+
+// A command on a pledge of book 7, on a day and with a word, and what it is to answer.
+#[derive(Clone, Copy)]
+struct Order {
+    day: &'static str,
+    word: u128,
+    pledge: Number,
+    who: Who,
+    answer: Result<Reply, Refusal>,
+}
+
+fn told(number: Number, answer: Result<Done, Refusal>) -> Result<Reply, Refusal> {
+    match answer {
+        Ok(done) => Ok(Reply::Commanded { number, done }),
+        Err(refusal) => Err(refusal),
+    }
+}
+
+fn broker(
+    day: &'static str,
+    pledge: Number,
+    command: BrokerCommand,
+    answer: Result<Done, Refusal>,
+) -> Order {
+    Order {
+        day,
+        word: 900,
+        pledge,
+        who: Who::Broker(command),
+        answer: told(pledge, answer),
+    }
+}
+
+fn bearer(
+    day: &'static str,
+    pledge: Number,
+    word: u128,
+    command: BearerCommand,
+    answer: Result<Done, Refusal>,
+) -> Order {
+    Order {
+        day,
+        word: 900,
+        pledge,
+        who: Who::Bearer(word, command),
+        answer: told(pledge, answer),
+    }
+}
+
+fn day(text: &str) -> Result<RequestDay, Fail> {
+    Ok(RequestDay::of_text(text.as_bytes())?)
+}
+
+fn request_of(order: &Order) -> Result<Request, Fail> {
+    let number = order.pledge;
+    let caller = match order.who {
+        Who::Broker(command) => Caller::Broker {
+            key: Secret::of_word(KEY),
+            asked: BrokerRequest::OnPledge { number, command },
+        },
+        Who::Bearer(word, command) => Caller::Bearer(BearerRequest::OnPledge {
+            receipt: Receipt {
+                number,
+                secret: Secret::of_word(word),
+            },
+            command,
+        }),
+    };
+    Ok(Request {
+        book: super::number(7)?,
+        caller,
+    })
+}
+
+fn stamp_of(order: &Order) -> Result<Stamp, Fail> {
+    Ok(Stamp {
+        day: day(order.day)?,
+        word: order.word,
+    })
+}
+
+// Whether a keeper answers an order as it is to.
+fn obeys(alloc: Global, keep: &mut ListKeep, order: &Order) -> Result<bool, Fail> {
+    let stamp = stamp_of(order)?;
+    let request = request_of(order)?;
+    if !request.caller.writes() {
+        return Ok(false);
+    }
+    let answer = act(alloc, keep, Secret::of_word(OPERATOR), &stamp, &request);
+    Ok(answer == order.answer)
+}
+
+// Whether it answers each order so.
+fn obeys_all(alloc: Global, keep: &mut ListKeep, orders: &[Order]) -> Result<bool, Fail> {
+    for order in orders {
+        if !obeys(alloc, keep, order)? {
+            return Ok(false);
+        }
+    }
+    Ok(true)
+}
+
+// Whether book 7, which confirms one booking of a window, opens with pledges 1 and 2 of 100 pounds, by the words 33
+// and 44.
+fn opens_two(alloc: Global, keep: &mut ListKeep) -> Result<bool, Fail> {
+    let steps: [Step; 4] = [
+        make(7, "High Street", 1, Ok(Reply::BookMade(number(7)?))),
+        put(7, [1, 0, 0, 0], Ok(Reply::TermsPut(1))),
+        take(7, 33, "A1", 10_000, Ok(Reply::Opened(receipt(1, 33)?))),
+        take(7, 44, "A2", 10_000, Ok(Reply::Opened(receipt(2, 44)?))),
+    ];
+    plays(alloc, keep, &steps)
+}
+
+fn booked(day: Day, window: u64, state: BookingState) -> Result<Done, Refusal> {
+    Ok(Done::Booked(Booking { day, window, state }))
+}
+
+fn asks(pledge: Number, word: u128, wanted: RequestDay, window: u64) -> Order {
+    let command = BearerCommand::AskBooking {
+        day: wanted,
+        window,
+    };
+    let answer = booked(wanted.day(), window, BookingState::Asked);
+    bearer("2024-02-01", pledge, word, command, answer)
+}
+
+const CONFIRM: BrokerCommand = BrokerCommand::DecideBooking(Decision::Confirm);
+
+fn windows_fill(alloc: Global, mut keep: ListKeep) -> Result<bool, Fail> {
+    let (one, two) = (number(1)?, number(2)?);
+    let full = Err(Refusal::WindowFull);
+    let (wanted, other) = (day("2024-03-04")?, day("2024-03-05")?);
+    let confirmed = booked(wanted.day(), 3, BookingState::Confirmed);
+    let elsewhere = booked(other.day(), 3, BookingState::Confirmed);
+    let redeem = BearerCommand::Redeem { paid: 10_000 };
+    let redeemed = Ok(Done::Redeemed {
+        day: day("2024-02-03")?.day(),
+        paid: 10_000,
+    });
+    let orders = [
+        asks(one, 33, wanted, 3),
+        asks(two, 44, wanted, 3),
+        broker("2024-02-02", one, CONFIRM, confirmed),
+        broker("2024-02-02", two, CONFIRM, full),
+        broker("2024-02-02", one, CONFIRM, confirmed),
+        bearer("2024-02-03", one, 33, redeem, redeemed),
+        broker("2024-02-03", two, CONFIRM, confirmed),
+    ];
+    let moved = [
+        asks(one, 33, other, 3),
+        asks(two, 44, wanted, 3),
+        broker("2024-02-02", one, CONFIRM, elsewhere),
+        broker("2024-02-02", two, CONFIRM, confirmed),
+    ];
+    let mut again = ample(alloc);
+    if !opens_two(alloc, &mut again)? || !obeys_all(alloc, &mut again, &moved)? {
+        return Ok(false);
+    }
+    Ok(opens_two(alloc, &mut keep)? && obeys_all(alloc, &mut keep, &orders)?)
+}
+
+#[test]
+fn a_window_confirms_as_many_as_the_book(rt: HostRuntime) -> Result<(), Fail> {
+    assert!(rt; windows_fill(rt.alloc(), ample(rt.alloc()))?);
+    Ok(())
+}
+
+fn receipts_pass_on(alloc: Global, mut keep: ListKeep) -> Result<bool, Fail> {
+    let (one, two) = (number(1)?, number(2)?);
+    let unknown = Err(Refusal::NoSuchReceipt);
+    let late = Err(Refusal::Pledge(PledgeRefusal::Debt(DebtFault::EarlierDay)));
+    let declare = BrokerCommand::Declare(Paper::Sworn);
+    let declared = Ok(Done::Declared(Secret::of_word(900)));
+    let repay = BearerCommand::Repay {
+        seq: 1,
+        pence: 1000,
+    };
+    let orders = [
+        broker(
+            "2024-02-01",
+            number(3)?,
+            BrokerCommand::Hold,
+            Err(Refusal::NoSuchPledge),
+        ),
+        broker("2024-02-02", one, declare, declared),
+        bearer("2024-01-31", one, 33, repay, unknown),
+        bearer("2024-02-02", two, 33, repay, unknown),
+        bearer("2024-01-31", one, 900, repay, late),
+        broker("2024-02-02", one, BrokerCommand::Hold, Ok(Done::Held(true))),
+        broker("2024-02-03", one, BrokerCommand::Hold, Ok(Done::Held(true))),
+        broker(
+            "2024-02-02",
+            one,
+            BrokerCommand::Release,
+            Ok(Done::Held(false)),
+        ),
+    ];
+    Ok(opens_two(alloc, &mut keep)? && obeys_all(alloc, &mut keep, &orders)?)
+}
+
+#[test]
+fn a_replaced_receipt_is_known_no_more(rt: HostRuntime) -> Result<(), Fail> {
+    assert!(rt; receipts_pass_on(rt.alloc(), ample(rt.alloc()))?);
+    Ok(())
+}
+
+// Holds pledge 1.
+fn hold(one: Number) -> Order {
+    broker("2024-02-01", one, BrokerCommand::Hold, Ok(Done::Held(true)))
+}
+
+// Whether the plan of an order changes something.
+fn changes(alloc: Global, keep: &mut ListKeep, order: &Order) -> Result<bool, Fail> {
+    let stamp = stamp_of(order)?;
+    let request = request_of(order)?;
+    if !request.caller.writes() {
+        return Ok(false);
+    }
+    match plan(alloc, keep, Secret::of_word(OPERATOR), &stamp, &request) {
+        Ok(planned) => Ok(planned.change.is_some()),
+        Err(_) => Ok(false),
+    }
+}
+
+fn rows_run_out(alloc: Global, mut keep: ListKeep) -> Result<bool, Fail> {
+    let (one, two) = (number(1)?, number(2)?);
+    let full = Err(Refusal::Full);
+    let repay = BearerCommand::Repay {
+        seq: 1,
+        pence: 1000,
+    };
+    let ask = BearerCommand::AskBooking {
+        day: day("2024-03-04")?,
+        window: 3,
+    };
+    let declare = BrokerCommand::Declare(Paper::Sworn);
+    let redeem = BearerCommand::Redeem { paid: 10_000 };
+    let redeemed = Ok(Done::Redeemed {
+        day: day("2024-02-01")?.day(),
+        paid: 10_000,
+    });
+    let orders = [
+        bearer("2024-02-01", one, 33, repay, full),
+        bearer("2024-02-01", one, 33, ask, full),
+        broker("2024-02-01", one, declare, full),
+        hold(one),
+        bearer("2024-02-01", two, 44, redeem, redeemed),
+    ];
+    if !opens_two(alloc, &mut keep)? || !changes(alloc, &mut keep, &hold(one))? {
+        return Ok(false);
+    }
+    Ok(obeys_all(alloc, &mut keep, &orders)? && !changes(alloc, &mut keep, &hold(one))?)
+}
+
+#[test]
+fn commands_that_add_a_row_want_room(rt: HostRuntime) -> Result<(), Fail> {
+    assert!(rt; rows_run_out(rt.alloc(), ListKeep::new(rt.alloc(), 6))?);
+    Ok(())
+}
+
+// Adds up the numbers of the pledges that it is handed, and stops after so many.
+#[derive(Drop)]
+struct Sum {
+    total: u32,
+    left: u32,
+}
+
+impl PledgeVisitor for Sum {
+    ghost use Rattle.std.specs.Prelude.{⊤};
+
+    ghost step = { λ v p flow w. ⊤ };
+
+    fn visit(&mut self, pledge: &Pledge) -> Flow {
+        self.total = self.total.saturating_add(pledge.number().get());
+        self.left = self.left.saturating_sub(1);
+        if self.left == 0 {
+            return Flow::Stop;
+        }
+        Flow::Go
+    }
+}
+
+// The sum of the first pledges' numbers.
+fn sum_of(keep: &mut ListKeep, left: u32) -> Result<u32, Fail> {
+    let mut sum = Sum { total: 0, left };
+    keep.walk(number(7)?, &mut sum)?;
+    Ok(sum.total)
+}
+
+// Whether the books are 7 and 9, and their pledges and bookings are counted.
+fn is_read(alloc: Global, mut keep: ListKeep) -> Result<bool, Fail> {
+    let (one, two) = (number(1)?, number(2)?);
+    let (seven, nine) = (number(7)?, number(9)?);
+    let wanted = day("2024-03-04")?;
+    let confirmed = booked(wanted.day(), 3, BookingState::Confirmed);
+    let orders = [
+        asks(one, 33, wanted, 3),
+        broker("2024-02-02", one, CONFIRM, confirmed),
+        asks(two, 44, wanted, 3),
+    ];
+    let others = [make(9, "Low Street", 1, Ok(Reply::BookMade(nine)))];
+    if !opens_two(alloc, &mut keep)? || !plays(alloc, &mut keep, &others)? {
+        return Ok(false);
+    }
+    if !obeys_all(alloc, &mut keep, &orders)? {
+        return Ok(false);
+    }
+    let counts = (
+        keep.confirmed(seven, wanted.day(), 3)?,
+        keep.confirmed(seven, wanted.day(), 4)?,
+        keep.confirmed(nine, wanted.day(), 3)?,
+    );
+    let books = (
+        keep.next_book(None)?,
+        keep.next_book(Some(seven))?,
+        keep.next_book(Some(nine))?,
+    );
+    Ok(
+        counts == (1, 0, 0)
+            && books == (Some(seven), Some(nine), None)
+            && sum_of(&mut keep, 9)? == 3
+            && sum_of(&mut keep, 1)? == 1,
+    )
+}
+
+#[test]
+fn a_keeper_is_read(rt: HostRuntime) -> Result<(), Fail> {
+    assert!(rt; is_read(rt.alloc(), ample(rt.alloc()))?);
+    Ok(())
+}

@@ -1,0 +1,164 @@
+//! The JSON bodies of replies to commands.
+ghost use Rattle.std.specs.Prelude.{◌≡◌, IfOk, string_bytes};
+ghost use Rattle.pawn_terms.specs.Calendar.{day_text};
+ghost use Rattle.pawn_pledge.specs.Receipt.{receipt_text};
+ghost use Rattle.pawn_wire.specs.Done.{sort_text, state_text, entered_text, held_text, declared_text, booked_text, redeemed_text, sold_text, extended_text, commanded_text};
+
+use pawn_book::{Booking, BookingState, Day, Done, Entry, Number, Receipt, Sort};
+use std::alloc::{AllocError, Global};
+use std::str::from_utf8;
+
+fn sort_text(sort: Sort) -> &'static str
+    ensures text { result.now ≡ sort_text sort }
+{
+    match sort {
+        Sort::Draw => "draw",
+        Sort::Repay => "repay",
+    }
+}
+
+fn state_text(state: BookingState) -> &'static str
+    ensures text { result.now ≡ state_text state }
+{
+    match state {
+        BookingState::Asked => "asked",
+        BookingState::Confirmed => "confirmed",
+        BookingState::Refused => "refused",
+        BookingState::Cancelled => "cancelled",
+    }
+}
+
+// The day as `2024-01-31`.
+fn day_text(alloc: Global, day: Day) -> Result<String, AllocError>
+    ensures text { IfOk result (λ s. string_bytes s ≡ day_text day) }
+{
+    let bytes = day.text();
+    String::from_str(alloc, from_utf8(&bytes).unwrap())
+}
+
+fn entered_text(
+    alloc: Global,
+    day: &str,
+    pence: u64,
+    seq: u64,
+    sort: &str,
+) -> Result<String, AllocError>
+    ensures text { IfOk result (λ s. string_bytes s ≡ entered_text day.now pence seq sort.now) }
+{
+    format!(in alloc; "{{\"day\":\"{day}\",\"pence\":{pence},\"seq\":{seq},\"sort\":\"{sort}\"}}")
+}
+
+// An entry was made.
+fn entered(alloc: Global, entry: Entry) -> Result<String, AllocError>
+    ensures text { IfOk result (λ s. string_bytes s
+        ≡ entered_text (day_text entry.day) entry.pence entry.seq (sort_text entry.sort)) }
+{
+    let day = day_text(alloc, entry.day)?;
+    entered_text(
+        alloc,
+        day.as_str(),
+        entry.pence,
+        entry.seq,
+        sort_text(entry.sort),
+    )
+}
+
+// Redemption is barred, or is not.
+fn held(alloc: Global, held: bool) -> Result<String, AllocError>
+    ensures text { IfOk result (λ s. string_bytes s ≡ held_text held) }
+{
+    let text = if held {
+        "{\"held\":true}"
+    } else {
+        "{\"held\":false}"
+    };
+    String::from_str(alloc, text)
+}
+
+fn declared_text(alloc: Global, receipt: &str) -> Result<String, AllocError>
+    ensures text { IfOk result (λ s. string_bytes s ≡ declared_text receipt.now) }
+{
+    format!(in alloc; "{{\"receipt\":\"{receipt}\"}}")
+}
+
+// A new receipt.
+fn declared(alloc: Global, receipt: Receipt) -> Result<String, AllocError>
+    ensures text { IfOk result (λ s. string_bytes s ≡ declared_text (receipt_text receipt)) }
+{
+    let text = receipt.text(alloc)?;
+    declared_text(alloc, text.as_str())
+}
+
+fn booked_text(alloc: Global, state: &str, day: &str, window: u64) -> Result<String, AllocError>
+    ensures text { IfOk result (λ s. string_bytes s ≡ booked_text state.now day.now window) }
+{
+    format!(in alloc; "{{\"booking\":\"{state}\",\"day\":\"{day}\",\"window\":{window}}}")
+}
+
+// Where a booking stands.
+fn booked(alloc: Global, booking: Booking) -> Result<String, AllocError>
+    ensures text { IfOk result (λ s. string_bytes s
+        ≡ booked_text (state_text booking.state) (day_text booking.day) booking.window) }
+{
+    let day = day_text(alloc, booking.day)?;
+    booked_text(
+        alloc,
+        state_text(booking.state),
+        day.as_str(),
+        booking.window,
+    )
+}
+
+fn redeemed_text(alloc: Global, paid: u64, day: &str) -> Result<String, AllocError>
+    ensures text { IfOk result (λ s. string_bytes s ≡ redeemed_text paid day.now) }
+{
+    format!(in alloc; "{{\"paid\":{paid},\"redeemed\":\"{day}\"}}")
+}
+
+// The pledge is redeemed.
+fn redeemed(alloc: Global, day: Day, paid: u64) -> Result<String, AllocError>
+    ensures text { IfOk result (λ s. string_bytes s ≡ redeemed_text paid (day_text day)) }
+{
+    let day = day_text(alloc, day)?;
+    redeemed_text(alloc, paid, day.as_str())
+}
+
+// The article is sold.
+fn sold(alloc: Global, net: u64, shortfall: u64, surplus: u64) -> Result<String, AllocError>
+    ensures text { IfOk result (λ s. string_bytes s ≡ sold_text net shortfall surplus) }
+{
+    format!(in alloc; "{{\"net\":{net},\"shortfall\":{shortfall},\"surplus\":{surplus}}}")
+}
+
+fn extended_text(alloc: Global, until: &str) -> Result<String, AllocError>
+    ensures text { IfOk result (λ s. string_bytes s ≡ extended_text until.now) }
+{
+    format!(in alloc; "{{\"ends\":\"{until}\"}}")
+}
+
+// The period ends on this day.
+fn extended(alloc: Global, until: Day) -> Result<String, AllocError>
+    ensures text { IfOk result (λ s. string_bytes s ≡ extended_text (day_text until)) }
+{
+    let day = day_text(alloc, until)?;
+    extended_text(alloc, day.as_str())
+}
+
+// What a command did to the pledge of this number.
+pub(crate) fn commanded(alloc: Global, number: Number, done: Done) -> Result<String, AllocError>
+    ensures text { IfOk result (λ s. string_bytes s ≡ commanded_text number done) }
+{
+    match done {
+        Done::Entered(entry) => entered(alloc, entry),
+        Done::Held(barred) => held(alloc, barred),
+        Done::Declared(secret) => declared(alloc, Receipt { number, secret }),
+        Done::Booked(booking) => booked(alloc, booking),
+        Done::Redeemed { day, paid } => redeemed(alloc, day, paid),
+        Done::Sold {
+            net,
+            surplus,
+            shortfall,
+        } => sold(alloc, net, shortfall, surplus),
+        Done::Extended { until } => extended(alloc, until),
+    }
+}
