@@ -1,11 +1,13 @@
 #!/usr/bin/env python3
-"""Prints requests a second and peak memory of openings and views through `pawnd answer :memory:`.
+"""Prints requests a second and peak memory of openings, views and repayments through `pawnd answer :memory:`.
 
 usage: bench/requests.py [PROGRAM]     (default: the program that `rt run` built in crates/pawnd)
 
-A stream has at most 1,000 requests, so a run is one book, its terms, and up to 998 openings or
-views. What a view costs is the time of 499 openings and 499 views less that of 499 openings; start
-and the reading of the stream are included where nothing is taken off.
+A stream has at most 1,000 requests, so a run is one book, its terms, and up to 998 openings, views
+or repayments. What a view costs is the time of 499 openings and 499 views less that of 499 openings,
+and so for repayments of one penny on each of 499 pledges. Repayments on one pledge are timed as its
+entries grow, each span less the one before it. Start and the reading of the stream are included where
+nothing is taken off.
 """
 import glob
 import os
@@ -17,7 +19,7 @@ import time
 OPERATOR = "11111111-1111-1111-1111-111111111111"
 BOOK = "22222222-2222-2222-2222-222222222222"
 SEED = "0" * 64
-RUNS = 5
+RUNS = 9
 
 
 def request(method, target, fields, body=""):
@@ -43,6 +45,10 @@ def opening(n):
 
 def view(receipt):
     return request("GET", "/books/7/held", [("Pledge-Receipt", receipt)])
+
+
+def repayment(receipt, seq):
+    return request("POST", "/books/7/held/repay", [("Pledge-Receipt", receipt)], f'{{"pence":1,"seq":{seq}}}')
 
 
 def answer(program, stream):
@@ -80,6 +86,17 @@ def main():
     print(f"start, a book and its terms: {nothing * 1e3:.1f} ms")
     line("openings, start included", 998, openings)
     line("views in a book of 499 pledges", 499, viewed - half_time)
+    repaid, repayments = answer(program, half + b"".join(repayment(r, 1) for r in receipts(replies)))
+    assert repaid.count(b'"sort":"repay"') == 499
+    line("repayments, one a pledge", 499, repayments - half_time)
+    first, before = answer(program, b"".join(start()) + opening(0))
+    entries = 0
+    for most in (100, 400, 700, 997):
+        one = b"".join(start()) + opening(0) + b"".join(repayment(receipts(first)[0], n) for n in range(1, most + 1))
+        told, taken = answer(program, one)
+        assert told.count(b'"sort":"repay"') == most
+        line(f"repayments {entries + 1} to {most} of one", most - entries, taken - before)
+        entries, before = most, taken
     peak = resource.getrusage(resource.RUSAGE_CHILDREN).ru_maxrss
     print(f"peak memory: {peak} KiB")
 
