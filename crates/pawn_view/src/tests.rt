@@ -88,16 +88,10 @@ fn made(rt: &impl Abort, alloc: Global, keep: &mut ListKeep, caller: Caller) {
         book: number(rt, 7),
         caller,
     };
-    let caller_writes = match &request.caller {
-        Caller::Operator { .. } => {
-            act(alloc, keep, Secret::of_word(OPERATOR), &stamp, &request).is_ok()
-        }
-        Caller::Broker { .. } => {
-            act(alloc, keep, Secret::of_word(OPERATOR), &stamp, &request).is_ok()
-        }
-        Caller::Bearer(_) => false,
-    };
-    assert!(rt; caller_writes);
+    if !request.caller.writes() {
+        panic!(rt; "a request that writes nothing");
+    }
+    assert!(rt; act(alloc, keep, Secret::of_word(OPERATOR), &stamp, &request).is_ok());
 }
 
 fn new_book(rt: &impl Abort, alloc: Global) -> Caller {
