@@ -3,611 +3,188 @@
 use super::turns::*;
 use std::test::Fail;
 
+const FREED: &str = r#"
+2024-03-01 2 broker POST /books/7/pledges {"article":"Gold ring","five_days":false,"kind":"fixed","pence":10000,"ref":"A2"}
+200 {"number":2,"receipt":"2-00000000-0000-0000-0000-000000000002"}
+2024-03-01 0 1-1 POST /books/7/held/ask {"day":"2024-03-04","window":3}
+200 {"booking":"asked","day":"2024-03-04","window":3}
+2024-03-01 0 2-2 POST /books/7/held/ask {"day":"2024-03-04","window":3}
+200 {"booking":"asked","day":"2024-03-04","window":3}
+2024-03-01 0 broker POST /books/7/pledges/1/decide {"yes":true}
+200 {"booking":"confirmed","day":"2024-03-04","window":3}
+2024-03-01 0 broker POST /books/7/pledges/2/decide {"yes":true}
+409 {"code":408,"name":"WindowFull"}
+2024-03-01 0 2-2 GET /books/7/held
+200 Pledge 2|Article Gold ring|Kind fixed 100.00|Taken 2024-03-01|Ends 2024-09-01|Status inside|Principal 100.00|Charges 0.00|Owing 100.00|Held no|Booking 2024-03-04 3 asked|
+2024-03-01 0 broker POST /books/7/pledges/1/decide {"yes":true}
+200 {"booking":"confirmed","day":"2024-03-04","window":3}
+2024-03-01 0 1-1 POST /books/7/held/ask {"day":"2024-03-04","window":3}
+200 {"booking":"confirmed","day":"2024-03-04","window":3}
+2024-03-02 0 1-1 POST /books/7/held/redeem {"paid":10000}
+200 {"paid":10000,"redeemed":"2024-03-02"}
+2024-03-02 0 broker GET /books/7/pledges/1
+200 Pledge 1|Article Gold ring|Kind fixed 100.00|Taken 2024-03-01|Ends 2024-09-01|Status redeemed|Principal 100.00|Charges 0.00|Owing 100.00|Held no|Booking 2024-03-04 3 cancelled|Redeemed 2024-03-02 paid 100.00|
+2024-03-02 0 broker POST /books/7/pledges/2/decide {"yes":true}
+200 {"booking":"confirmed","day":"2024-03-04","window":3}
+2024-03-02 0 2-2 GET /books/7/held
+200 Pledge 2|Article Gold ring|Kind fixed 100.00|Taken 2024-03-01|Ends 2024-09-01|Status inside|Principal 100.00|Charges 0.00|Owing 100.00|Held no|Booking 2024-03-04 3 confirmed|
+"#;
+
 #[test]
 fn a_full_window_frees_when_its_pledge_is_redeemed(rt: HostRuntime) -> Result<(), Fail> {
-    let turns = [
-        BOOK_OF_ONE,
-        FREE,
-        issues(
-            "2024-03-01",
-            1,
-            "POST /books/7/pledges",
-            r#"{"article":"Gold ring","five_days":false,"kind":"fixed","pence":10000,"ref":"A1"}"#,
-            OK,
-            r#"{"number":1,"receipt":"1-00000000-0000-0000-0000-000000000001"}"#,
-        ),
-        issues(
-            "2024-03-01",
-            2,
-            "POST /books/7/pledges",
-            r#"{"article":"Gold ring","five_days":false,"kind":"fixed","pence":10000,"ref":"A2"}"#,
-            OK,
-            r#"{"number":2,"receipt":"2-00000000-0000-0000-0000-000000000002"}"#,
-        ),
-        bearer(
-            "2024-03-01",
-            FIRST,
-            "POST /books/7/held/ask",
-            r#"{"day":"2024-03-04","window":3}"#,
-            OK,
-            r#"{"booking":"asked","day":"2024-03-04","window":3}"#,
-        ),
-        bearer(
-            "2024-03-01",
-            SECOND,
-            "POST /books/7/held/ask",
-            r#"{"day":"2024-03-04","window":3}"#,
-            OK,
-            r#"{"booking":"asked","day":"2024-03-04","window":3}"#,
-        ),
-        broker(
-            "2024-03-01",
-            "POST /books/7/pledges/1/decide",
-            r#"{"yes":true}"#,
-            OK,
-            r#"{"booking":"confirmed","day":"2024-03-04","window":3}"#,
-        ),
-        broker(
-            "2024-03-01",
-            "POST /books/7/pledges/2/decide",
-            r#"{"yes":true}"#,
-            CONFLICT,
-            r#"{"code":408,"name":"WindowFull"}"#,
-        ),
-        views(
-            "2024-03-01",
-            SECOND,
-            OK,
-            "Pledge 2\nArticle Gold ring\nKind fixed 100.00\nTaken 2024-03-01\nEnds 2024-09-01\nStatus inside\nPrincipal 100.00\nCharges 0.00\nOwing 100.00\nHeld no\nBooking 2024-03-04 3 asked\n",
-        ),
-        broker(
-            "2024-03-01",
-            "POST /books/7/pledges/1/decide",
-            r#"{"yes":true}"#,
-            OK,
-            r#"{"booking":"confirmed","day":"2024-03-04","window":3}"#,
-        ),
-        bearer(
-            "2024-03-01",
-            FIRST,
-            "POST /books/7/held/ask",
-            r#"{"day":"2024-03-04","window":3}"#,
-            OK,
-            r#"{"booking":"confirmed","day":"2024-03-04","window":3}"#,
-        ),
-        bearer(
-            "2024-03-02",
-            FIRST,
-            "POST /books/7/held/redeem",
-            r#"{"paid":10000}"#,
-            OK,
-            r#"{"paid":10000,"redeemed":"2024-03-02"}"#,
-        ),
-        broker(
-            "2024-03-02",
-            "GET /books/7/pledges/1",
-            "",
-            OK,
-            "Pledge 1\nArticle Gold ring\nKind fixed 100.00\nTaken 2024-03-01\nEnds 2024-09-01\nStatus redeemed\nPrincipal 100.00\nCharges 0.00\nOwing 100.00\nHeld no\nBooking 2024-03-04 3 cancelled\nRedeemed 2024-03-02 paid 100.00\n",
-        ),
-        broker(
-            "2024-03-02",
-            "POST /books/7/pledges/2/decide",
-            r#"{"yes":true}"#,
-            OK,
-            r#"{"booking":"confirmed","day":"2024-03-04","window":3}"#,
-        ),
-        views(
-            "2024-03-02",
-            SECOND,
-            OK,
-            "Pledge 2\nArticle Gold ring\nKind fixed 100.00\nTaken 2024-03-01\nEnds 2024-09-01\nStatus inside\nPrincipal 100.00\nCharges 0.00\nOwing 100.00\nHeld no\nBooking 2024-03-04 3 confirmed\n",
-        ),
-    ];
-    plays(&rt, rt.alloc(), 100, &turns)
+    plays(&rt, rt.alloc(), 100, &[BOOK_OF_ONE, FREE, MARCH, FREED])
 }
+
+const ELSEWHERE: &str = r#"
+2024-03-01 2 broker POST /books/7/pledges {"article":"Gold ring","five_days":false,"kind":"fixed","pence":10000,"ref":"A2"}
+200 {"number":2,"receipt":"2-00000000-0000-0000-0000-000000000002"}
+2024-03-01 3 broker POST /books/7/pledges {"article":"Gold ring","five_days":false,"kind":"fixed","pence":10000,"ref":"A3"}
+200 {"number":3,"receipt":"3-00000000-0000-0000-0000-000000000003"}
+2024-03-01 0 1-1 POST /books/7/held/ask {"day":"2024-03-04","window":3}
+200 {"booking":"asked","day":"2024-03-04","window":3}
+2024-03-01 0 2-2 POST /books/7/held/ask {"day":"2024-03-04","window":4}
+200 {"booking":"asked","day":"2024-03-04","window":4}
+2024-03-01 0 3-3 POST /books/7/held/ask {"day":"2024-03-05","window":3}
+200 {"booking":"asked","day":"2024-03-05","window":3}
+2024-03-01 0 broker POST /books/7/pledges/1/decide {"yes":true}
+200 {"booking":"confirmed","day":"2024-03-04","window":3}
+2024-03-01 0 broker POST /books/7/pledges/2/decide {"yes":true}
+200 {"booking":"confirmed","day":"2024-03-04","window":4}
+2024-03-01 0 broker POST /books/7/pledges/3/decide {"yes":true}
+200 {"booking":"confirmed","day":"2024-03-05","window":3}
+2024-03-01 0 3-3 POST /books/7/held/ask {"day":"2024-03-04","window":3}
+200 {"booking":"asked","day":"2024-03-04","window":3}
+2024-03-01 0 broker POST /books/7/pledges/3/decide {"yes":true}
+409 {"code":408,"name":"WindowFull"}
+2024-03-01 0 1-1 POST /books/7/held/cancel
+200 {"booking":"cancelled","day":"2024-03-04","window":3}
+2024-03-01 0 broker POST /books/7/pledges/3/decide {"yes":true}
+200 {"booking":"confirmed","day":"2024-03-04","window":3}
+"#;
 
 #[test]
 fn other_windows_and_days_stay_free(rt: HostRuntime) -> Result<(), Fail> {
-    let turns = [
-        BOOK_OF_ONE,
-        FREE,
-        issues(
-            "2024-03-01",
-            1,
-            "POST /books/7/pledges",
-            r#"{"article":"Gold ring","five_days":false,"kind":"fixed","pence":10000,"ref":"A1"}"#,
-            OK,
-            r#"{"number":1,"receipt":"1-00000000-0000-0000-0000-000000000001"}"#,
-        ),
-        issues(
-            "2024-03-01",
-            2,
-            "POST /books/7/pledges",
-            r#"{"article":"Gold ring","five_days":false,"kind":"fixed","pence":10000,"ref":"A2"}"#,
-            OK,
-            r#"{"number":2,"receipt":"2-00000000-0000-0000-0000-000000000002"}"#,
-        ),
-        issues(
-            "2024-03-01",
-            3,
-            "POST /books/7/pledges",
-            r#"{"article":"Gold ring","five_days":false,"kind":"fixed","pence":10000,"ref":"A3"}"#,
-            OK,
-            r#"{"number":3,"receipt":"3-00000000-0000-0000-0000-000000000003"}"#,
-        ),
-        bearer(
-            "2024-03-01",
-            FIRST,
-            "POST /books/7/held/ask",
-            r#"{"day":"2024-03-04","window":3}"#,
-            OK,
-            r#"{"booking":"asked","day":"2024-03-04","window":3}"#,
-        ),
-        bearer(
-            "2024-03-01",
-            SECOND,
-            "POST /books/7/held/ask",
-            r#"{"day":"2024-03-04","window":4}"#,
-            OK,
-            r#"{"booking":"asked","day":"2024-03-04","window":4}"#,
-        ),
-        bearer(
-            "2024-03-01",
-            THIRD,
-            "POST /books/7/held/ask",
-            r#"{"day":"2024-03-05","window":3}"#,
-            OK,
-            r#"{"booking":"asked","day":"2024-03-05","window":3}"#,
-        ),
-        broker(
-            "2024-03-01",
-            "POST /books/7/pledges/1/decide",
-            r#"{"yes":true}"#,
-            OK,
-            r#"{"booking":"confirmed","day":"2024-03-04","window":3}"#,
-        ),
-        broker(
-            "2024-03-01",
-            "POST /books/7/pledges/2/decide",
-            r#"{"yes":true}"#,
-            OK,
-            r#"{"booking":"confirmed","day":"2024-03-04","window":4}"#,
-        ),
-        broker(
-            "2024-03-01",
-            "POST /books/7/pledges/3/decide",
-            r#"{"yes":true}"#,
-            OK,
-            r#"{"booking":"confirmed","day":"2024-03-05","window":3}"#,
-        ),
-        bearer(
-            "2024-03-01",
-            THIRD,
-            "POST /books/7/held/ask",
-            r#"{"day":"2024-03-04","window":3}"#,
-            OK,
-            r#"{"booking":"asked","day":"2024-03-04","window":3}"#,
-        ),
-        broker(
-            "2024-03-01",
-            "POST /books/7/pledges/3/decide",
-            r#"{"yes":true}"#,
-            CONFLICT,
-            r#"{"code":408,"name":"WindowFull"}"#,
-        ),
-        bearer(
-            "2024-03-01",
-            FIRST,
-            "POST /books/7/held/cancel",
-            "",
-            OK,
-            r#"{"booking":"cancelled","day":"2024-03-04","window":3}"#,
-        ),
-        broker(
-            "2024-03-01",
-            "POST /books/7/pledges/3/decide",
-            r#"{"yes":true}"#,
-            OK,
-            r#"{"booking":"confirmed","day":"2024-03-04","window":3}"#,
-        ),
-    ];
-    plays(&rt, rt.alloc(), 100, &turns)
+    plays(&rt, rt.alloc(), 100, &[BOOK_OF_ONE, FREE, MARCH, ELSEWHERE])
 }
+
+const CAPACITY: &str = r#"
+2024-03-01 2 broker POST /books/7/pledges {"article":"Gold ring","five_days":false,"kind":"fixed","pence":10000,"ref":"A2"}
+200 {"number":2,"receipt":"2-00000000-0000-0000-0000-000000000002"}
+2024-03-01 3 broker POST /books/7/pledges {"article":"Gold ring","five_days":false,"kind":"fixed","pence":10000,"ref":"A3"}
+200 {"number":3,"receipt":"3-00000000-0000-0000-0000-000000000003"}
+2024-03-01 0 1-1 POST /books/7/held/ask {"day":"2024-03-04","window":3}
+200 {"booking":"asked","day":"2024-03-04","window":3}
+2024-03-01 0 2-2 POST /books/7/held/ask {"day":"2024-03-04","window":3}
+200 {"booking":"asked","day":"2024-03-04","window":3}
+2024-03-01 0 3-3 POST /books/7/held/ask {"day":"2024-03-04","window":3}
+200 {"booking":"asked","day":"2024-03-04","window":3}
+2024-03-01 0 broker POST /books/7/pledges/1/decide {"yes":true}
+200 {"booking":"confirmed","day":"2024-03-04","window":3}
+2024-03-01 0 broker POST /books/7/pledges/2/decide {"yes":true}
+200 {"booking":"confirmed","day":"2024-03-04","window":3}
+2024-03-01 0 broker POST /books/7/pledges/3/decide {"yes":true}
+409 {"code":408,"name":"WindowFull"}
+2024-03-01 0 broker POST /books/7/pledges/1/decide {"yes":false}
+200 {"booking":"refused","day":"2024-03-04","window":3}
+2024-03-01 0 broker POST /books/7/pledges/3/decide {"yes":true}
+200 {"booking":"confirmed","day":"2024-03-04","window":3}
+"#;
 
 #[test]
 fn a_window_takes_as_many_as_its_capacity(rt: HostRuntime) -> Result<(), Fail> {
-    let turns = [
-        BOOK,
-        FREE,
-        issues(
-            "2024-03-01",
-            1,
-            "POST /books/7/pledges",
-            r#"{"article":"Gold ring","five_days":false,"kind":"fixed","pence":10000,"ref":"A1"}"#,
-            OK,
-            r#"{"number":1,"receipt":"1-00000000-0000-0000-0000-000000000001"}"#,
-        ),
-        issues(
-            "2024-03-01",
-            2,
-            "POST /books/7/pledges",
-            r#"{"article":"Gold ring","five_days":false,"kind":"fixed","pence":10000,"ref":"A2"}"#,
-            OK,
-            r#"{"number":2,"receipt":"2-00000000-0000-0000-0000-000000000002"}"#,
-        ),
-        issues(
-            "2024-03-01",
-            3,
-            "POST /books/7/pledges",
-            r#"{"article":"Gold ring","five_days":false,"kind":"fixed","pence":10000,"ref":"A3"}"#,
-            OK,
-            r#"{"number":3,"receipt":"3-00000000-0000-0000-0000-000000000003"}"#,
-        ),
-        bearer(
-            "2024-03-01",
-            FIRST,
-            "POST /books/7/held/ask",
-            r#"{"day":"2024-03-04","window":3}"#,
-            OK,
-            r#"{"booking":"asked","day":"2024-03-04","window":3}"#,
-        ),
-        bearer(
-            "2024-03-01",
-            SECOND,
-            "POST /books/7/held/ask",
-            r#"{"day":"2024-03-04","window":3}"#,
-            OK,
-            r#"{"booking":"asked","day":"2024-03-04","window":3}"#,
-        ),
-        bearer(
-            "2024-03-01",
-            THIRD,
-            "POST /books/7/held/ask",
-            r#"{"day":"2024-03-04","window":3}"#,
-            OK,
-            r#"{"booking":"asked","day":"2024-03-04","window":3}"#,
-        ),
-        broker(
-            "2024-03-01",
-            "POST /books/7/pledges/1/decide",
-            r#"{"yes":true}"#,
-            OK,
-            r#"{"booking":"confirmed","day":"2024-03-04","window":3}"#,
-        ),
-        broker(
-            "2024-03-01",
-            "POST /books/7/pledges/2/decide",
-            r#"{"yes":true}"#,
-            OK,
-            r#"{"booking":"confirmed","day":"2024-03-04","window":3}"#,
-        ),
-        broker(
-            "2024-03-01",
-            "POST /books/7/pledges/3/decide",
-            r#"{"yes":true}"#,
-            CONFLICT,
-            r#"{"code":408,"name":"WindowFull"}"#,
-        ),
-        broker(
-            "2024-03-01",
-            "POST /books/7/pledges/1/decide",
-            r#"{"yes":false}"#,
-            OK,
-            r#"{"booking":"refused","day":"2024-03-04","window":3}"#,
-        ),
-        broker(
-            "2024-03-01",
-            "POST /books/7/pledges/3/decide",
-            r#"{"yes":true}"#,
-            OK,
-            r#"{"booking":"confirmed","day":"2024-03-04","window":3}"#,
-        ),
-    ];
-    plays(&rt, rt.alloc(), 100, &turns)
+    plays(&rt, rt.alloc(), 100, &[BOOK, FREE, MARCH, CAPACITY])
 }
+
+const DAYS_TO_COME: &str = r#"
+2024-03-01 1 broker POST /books/7/pledges {"article":"Gold ring","five_days":false,"kind":"fixed","pence":7500,"ref":"A1"}
+200 {"number":1,"receipt":"1-00000000-0000-0000-0000-000000000001"}
+2024-03-01 0 1-1 POST /books/7/held/ask {"day":"2024-02-29","window":16}
+400 {"code":313,"name":"BadWindow"}
+2024-03-01 0 1-1 POST /books/7/held/ask {"day":"2024-02-29","window":3}
+409 {"code":312,"name":"BookingDay"}
+2024-03-01 0 1-1 POST /books/7/held/ask {"day":"2024-09-02","window":3}
+409 {"code":312,"name":"BookingDay"}
+2024-03-01 0 1-1 POST /books/7/held/ask {"day":"2024-09-01","window":0}
+200 {"booking":"asked","day":"2024-09-01","window":0}
+2024-03-01 0 1-1 POST /books/7/held/ask {"day":"2024-03-01","window":15}
+200 {"booking":"asked","day":"2024-03-01","window":15}
+2024-03-01 0 1-1 GET /books/7/held
+200 Pledge 1|Article Gold ring|Kind fixed 75.00|Taken 2024-03-01|Ends 2024-09-01|Status inside|Principal 75.00|Charges 0.00|Owing 75.00|Held no|Booking 2024-03-01 15 asked|
+2024-03-02 0 1-1 POST /books/7/held/ask {"day":"2024-03-01","window":15}
+409 {"code":312,"name":"BookingDay"}
+2024-03-02 0 broker POST /books/7/pledges/1/decide {"yes":true}
+409 {"code":312,"name":"BookingDay"}
+2024-03-02 0 broker POST /books/7/pledges/1/decide {"yes":false}
+200 {"booking":"refused","day":"2024-03-01","window":15}
+"#;
 
 #[test]
 fn a_booking_is_for_a_window_of_a_day_to_come(rt: HostRuntime) -> Result<(), Fail> {
-    let turns = [
-        BOOK,
-        FREE,
-        issues(
-            "2024-03-01",
-            1,
-            "POST /books/7/pledges",
-            r#"{"article":"Gold ring","five_days":false,"kind":"fixed","pence":7500,"ref":"A1"}"#,
-            OK,
-            r#"{"number":1,"receipt":"1-00000000-0000-0000-0000-000000000001"}"#,
-        ),
-        bearer(
-            "2024-03-01",
-            FIRST,
-            "POST /books/7/held/ask",
-            r#"{"day":"2024-02-29","window":16}"#,
-            BAD,
-            r#"{"code":313,"name":"BadWindow"}"#,
-        ),
-        bearer(
-            "2024-03-01",
-            FIRST,
-            "POST /books/7/held/ask",
-            r#"{"day":"2024-02-29","window":3}"#,
-            CONFLICT,
-            r#"{"code":312,"name":"BookingDay"}"#,
-        ),
-        bearer(
-            "2024-03-01",
-            FIRST,
-            "POST /books/7/held/ask",
-            r#"{"day":"2024-09-02","window":3}"#,
-            CONFLICT,
-            r#"{"code":312,"name":"BookingDay"}"#,
-        ),
-        bearer(
-            "2024-03-01",
-            FIRST,
-            "POST /books/7/held/ask",
-            r#"{"day":"2024-09-01","window":0}"#,
-            OK,
-            r#"{"booking":"asked","day":"2024-09-01","window":0}"#,
-        ),
-        bearer(
-            "2024-03-01",
-            FIRST,
-            "POST /books/7/held/ask",
-            r#"{"day":"2024-03-01","window":15}"#,
-            OK,
-            r#"{"booking":"asked","day":"2024-03-01","window":15}"#,
-        ),
-        views(
-            "2024-03-01",
-            FIRST,
-            OK,
-            "Pledge 1\nArticle Gold ring\nKind fixed 75.00\nTaken 2024-03-01\nEnds 2024-09-01\nStatus inside\nPrincipal 75.00\nCharges 0.00\nOwing 75.00\nHeld no\nBooking 2024-03-01 15 asked\n",
-        ),
-        bearer(
-            "2024-03-02",
-            FIRST,
-            "POST /books/7/held/ask",
-            r#"{"day":"2024-03-01","window":15}"#,
-            CONFLICT,
-            r#"{"code":312,"name":"BookingDay"}"#,
-        ),
-        broker(
-            "2024-03-02",
-            "POST /books/7/pledges/1/decide",
-            r#"{"yes":true}"#,
-            CONFLICT,
-            r#"{"code":312,"name":"BookingDay"}"#,
-        ),
-        broker(
-            "2024-03-02",
-            "POST /books/7/pledges/1/decide",
-            r#"{"yes":false}"#,
-            OK,
-            r#"{"booking":"refused","day":"2024-03-01","window":15}"#,
-        ),
-    ];
-    plays(&rt, rt.alloc(), 100, &turns)
+    plays(&rt, rt.alloc(), 100, &[BOOK, FREE, DAYS_TO_COME])
 }
+
+const ASKED_AGAIN: &str = r#"
+2024-03-01 0 1-1 POST /books/7/held/cancel
+409 {"code":311,"name":"NoBooking"}
+2024-03-01 0 broker POST /books/7/pledges/1/decide {"yes":true}
+409 {"code":311,"name":"NoBooking"}
+2024-03-01 0 broker POST /books/7/pledges/1/decide {"yes":false}
+409 {"code":311,"name":"NoBooking"}
+2024-03-01 0 1-1 POST /books/7/held/ask {"day":"2024-03-04","window":3}
+200 {"booking":"asked","day":"2024-03-04","window":3}
+2024-03-01 0 1-1 POST /books/7/held/ask {"day":"2024-03-04","window":3}
+200 {"booking":"asked","day":"2024-03-04","window":3}
+2024-03-01 0 1-1 POST /books/7/held/cancel
+200 {"booking":"cancelled","day":"2024-03-04","window":3}
+2024-03-01 0 1-1 POST /books/7/held/cancel
+200 {"booking":"cancelled","day":"2024-03-04","window":3}
+2024-03-01 0 broker POST /books/7/pledges/1/decide {"yes":true}
+409 {"code":311,"name":"NoBooking"}
+2024-03-01 0 broker POST /books/7/pledges/1/decide {"yes":false}
+409 {"code":311,"name":"NoBooking"}
+2024-03-01 0 1-1 POST /books/7/held/ask {"day":"2024-03-04","window":3}
+200 {"booking":"asked","day":"2024-03-04","window":3}
+2024-03-01 0 broker POST /books/7/pledges/1/decide {"yes":false}
+200 {"booking":"refused","day":"2024-03-04","window":3}
+2024-03-01 0 broker POST /books/7/pledges/1/decide {"yes":false}
+200 {"booking":"refused","day":"2024-03-04","window":3}
+2024-03-01 0 broker POST /books/7/pledges/1/decide {"yes":true}
+409 {"code":311,"name":"NoBooking"}
+2024-03-01 0 1-1 POST /books/7/held/cancel
+409 {"code":311,"name":"NoBooking"}
+2024-03-01 0 1-1 GET /books/7/held
+200 Pledge 1|Article Gold ring|Kind fixed 100.00|Taken 2024-03-01|Ends 2024-09-01|Status inside|Principal 100.00|Charges 0.00|Owing 100.00|Held no|Booking 2024-03-04 3 refused|
+2024-03-01 0 1-1 POST /books/7/held/ask {"day":"2024-03-04","window":3}
+200 {"booking":"asked","day":"2024-03-04","window":3}
+"#;
 
 #[test]
 fn a_booking_is_cancelled_refused_and_asked_again(rt: HostRuntime) -> Result<(), Fail> {
-    let turns = [
-        BOOK,
-        FREE,
-        issues(
-            "2024-03-01",
-            1,
-            "POST /books/7/pledges",
-            r#"{"article":"Gold ring","five_days":false,"kind":"fixed","pence":10000,"ref":"A1"}"#,
-            OK,
-            r#"{"number":1,"receipt":"1-00000000-0000-0000-0000-000000000001"}"#,
-        ),
-        bearer(
-            "2024-03-01",
-            FIRST,
-            "POST /books/7/held/cancel",
-            "",
-            CONFLICT,
-            r#"{"code":311,"name":"NoBooking"}"#,
-        ),
-        broker(
-            "2024-03-01",
-            "POST /books/7/pledges/1/decide",
-            r#"{"yes":true}"#,
-            CONFLICT,
-            r#"{"code":311,"name":"NoBooking"}"#,
-        ),
-        broker(
-            "2024-03-01",
-            "POST /books/7/pledges/1/decide",
-            r#"{"yes":false}"#,
-            CONFLICT,
-            r#"{"code":311,"name":"NoBooking"}"#,
-        ),
-        bearer(
-            "2024-03-01",
-            FIRST,
-            "POST /books/7/held/ask",
-            r#"{"day":"2024-03-04","window":3}"#,
-            OK,
-            r#"{"booking":"asked","day":"2024-03-04","window":3}"#,
-        ),
-        bearer(
-            "2024-03-01",
-            FIRST,
-            "POST /books/7/held/ask",
-            r#"{"day":"2024-03-04","window":3}"#,
-            OK,
-            r#"{"booking":"asked","day":"2024-03-04","window":3}"#,
-        ),
-        bearer(
-            "2024-03-01",
-            FIRST,
-            "POST /books/7/held/cancel",
-            "",
-            OK,
-            r#"{"booking":"cancelled","day":"2024-03-04","window":3}"#,
-        ),
-        bearer(
-            "2024-03-01",
-            FIRST,
-            "POST /books/7/held/cancel",
-            "",
-            OK,
-            r#"{"booking":"cancelled","day":"2024-03-04","window":3}"#,
-        ),
-        broker(
-            "2024-03-01",
-            "POST /books/7/pledges/1/decide",
-            r#"{"yes":true}"#,
-            CONFLICT,
-            r#"{"code":311,"name":"NoBooking"}"#,
-        ),
-        broker(
-            "2024-03-01",
-            "POST /books/7/pledges/1/decide",
-            r#"{"yes":false}"#,
-            CONFLICT,
-            r#"{"code":311,"name":"NoBooking"}"#,
-        ),
-        bearer(
-            "2024-03-01",
-            FIRST,
-            "POST /books/7/held/ask",
-            r#"{"day":"2024-03-04","window":3}"#,
-            OK,
-            r#"{"booking":"asked","day":"2024-03-04","window":3}"#,
-        ),
-        broker(
-            "2024-03-01",
-            "POST /books/7/pledges/1/decide",
-            r#"{"yes":false}"#,
-            OK,
-            r#"{"booking":"refused","day":"2024-03-04","window":3}"#,
-        ),
-        broker(
-            "2024-03-01",
-            "POST /books/7/pledges/1/decide",
-            r#"{"yes":false}"#,
-            OK,
-            r#"{"booking":"refused","day":"2024-03-04","window":3}"#,
-        ),
-        broker(
-            "2024-03-01",
-            "POST /books/7/pledges/1/decide",
-            r#"{"yes":true}"#,
-            CONFLICT,
-            r#"{"code":311,"name":"NoBooking"}"#,
-        ),
-        bearer(
-            "2024-03-01",
-            FIRST,
-            "POST /books/7/held/cancel",
-            "",
-            CONFLICT,
-            r#"{"code":311,"name":"NoBooking"}"#,
-        ),
-        views(
-            "2024-03-01",
-            FIRST,
-            OK,
-            "Pledge 1\nArticle Gold ring\nKind fixed 100.00\nTaken 2024-03-01\nEnds 2024-09-01\nStatus inside\nPrincipal 100.00\nCharges 0.00\nOwing 100.00\nHeld no\nBooking 2024-03-04 3 refused\n",
-        ),
-        bearer(
-            "2024-03-01",
-            FIRST,
-            "POST /books/7/held/ask",
-            r#"{"day":"2024-03-04","window":3}"#,
-            OK,
-            r#"{"booking":"asked","day":"2024-03-04","window":3}"#,
-        ),
-    ];
-    plays(&rt, rt.alloc(), 100, &turns)
+    plays(&rt, rt.alloc(), 100, &[BOOK, FREE, MARCH, ASKED_AGAIN])
 }
+
+const CONFIRMED: &str = r#"
+2024-03-01 0 1-1 POST /books/7/held/ask {"day":"2024-03-04","window":3}
+200 {"booking":"asked","day":"2024-03-04","window":3}
+2024-03-01 0 broker POST /books/7/pledges/1/decide {"yes":true}
+200 {"booking":"confirmed","day":"2024-03-04","window":3}
+2024-03-01 0 1-1 POST /books/7/held/ask {"day":"2024-03-04","window":3}
+200 {"booking":"confirmed","day":"2024-03-04","window":3}
+2024-03-05 0 1-1 POST /books/7/held/ask {"day":"2024-03-04","window":3}
+409 {"code":312,"name":"BookingDay"}
+2024-03-05 0 broker POST /books/7/pledges/1/decide {"yes":true}
+200 {"booking":"confirmed","day":"2024-03-04","window":3}
+2024-03-01 0 1-1 POST /books/7/held/ask {"day":"2024-03-06","window":3}
+200 {"booking":"asked","day":"2024-03-06","window":3}
+2024-03-01 0 1-1 GET /books/7/held
+200 Pledge 1|Article Gold ring|Kind fixed 100.00|Taken 2024-03-01|Ends 2024-09-01|Status inside|Principal 100.00|Charges 0.00|Owing 100.00|Held no|Booking 2024-03-06 3 asked|
+2024-03-01 0 broker POST /books/7/pledges/1/decide {"yes":true}
+200 {"booking":"confirmed","day":"2024-03-06","window":3}
+2024-03-01 0 1-1 POST /books/7/held/cancel
+200 {"booking":"cancelled","day":"2024-03-06","window":3}
+"#;
 
 #[test]
 fn a_confirmed_booking_stands_until_another_is_asked(rt: HostRuntime) -> Result<(), Fail> {
-    let turns = [
-        BOOK,
-        FREE,
-        issues(
-            "2024-03-01",
-            1,
-            "POST /books/7/pledges",
-            r#"{"article":"Gold ring","five_days":false,"kind":"fixed","pence":10000,"ref":"A1"}"#,
-            OK,
-            r#"{"number":1,"receipt":"1-00000000-0000-0000-0000-000000000001"}"#,
-        ),
-        bearer(
-            "2024-03-01",
-            FIRST,
-            "POST /books/7/held/ask",
-            r#"{"day":"2024-03-04","window":3}"#,
-            OK,
-            r#"{"booking":"asked","day":"2024-03-04","window":3}"#,
-        ),
-        broker(
-            "2024-03-01",
-            "POST /books/7/pledges/1/decide",
-            r#"{"yes":true}"#,
-            OK,
-            r#"{"booking":"confirmed","day":"2024-03-04","window":3}"#,
-        ),
-        bearer(
-            "2024-03-01",
-            FIRST,
-            "POST /books/7/held/ask",
-            r#"{"day":"2024-03-04","window":3}"#,
-            OK,
-            r#"{"booking":"confirmed","day":"2024-03-04","window":3}"#,
-        ),
-        bearer(
-            "2024-03-05",
-            FIRST,
-            "POST /books/7/held/ask",
-            r#"{"day":"2024-03-04","window":3}"#,
-            CONFLICT,
-            r#"{"code":312,"name":"BookingDay"}"#,
-        ),
-        broker(
-            "2024-03-05",
-            "POST /books/7/pledges/1/decide",
-            r#"{"yes":true}"#,
-            OK,
-            r#"{"booking":"confirmed","day":"2024-03-04","window":3}"#,
-        ),
-        bearer(
-            "2024-03-01",
-            FIRST,
-            "POST /books/7/held/ask",
-            r#"{"day":"2024-03-06","window":3}"#,
-            OK,
-            r#"{"booking":"asked","day":"2024-03-06","window":3}"#,
-        ),
-        views(
-            "2024-03-01",
-            FIRST,
-            OK,
-            "Pledge 1\nArticle Gold ring\nKind fixed 100.00\nTaken 2024-03-01\nEnds 2024-09-01\nStatus inside\nPrincipal 100.00\nCharges 0.00\nOwing 100.00\nHeld no\nBooking 2024-03-06 3 asked\n",
-        ),
-        broker(
-            "2024-03-01",
-            "POST /books/7/pledges/1/decide",
-            r#"{"yes":true}"#,
-            OK,
-            r#"{"booking":"confirmed","day":"2024-03-06","window":3}"#,
-        ),
-        bearer(
-            "2024-03-01",
-            FIRST,
-            "POST /books/7/held/cancel",
-            "",
-            OK,
-            r#"{"booking":"cancelled","day":"2024-03-06","window":3}"#,
-        ),
-    ];
-    plays(&rt, rt.alloc(), 100, &turns)
+    plays(&rt, rt.alloc(), 100, &[BOOK, FREE, MARCH, CONFIRMED])
 }

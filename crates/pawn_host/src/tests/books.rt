@@ -3,599 +3,196 @@
 use super::turns::*;
 use std::test::Fail;
 
+const NO_ROW: &str = r#"
+2024-01-31 2 broker POST /books/7/pledges {"article":"Gold ring","five_days":false,"kind":"fixed","pence":10000,"ref":"A2"}
+200 {"number":2,"receipt":"2-00000000-0000-0000-0000-000000000002"}
+2024-01-31 3 broker POST /books/7/pledges {"article":"Gold ring","five_days":false,"kind":"fixed","pence":10000,"ref":"A3"}
+200 {"number":3,"receipt":"3-00000000-0000-0000-0000-000000000003"}
+2024-01-31 4 broker POST /books/7/pledges {"article":"Gold ring","five_days":false,"kind":"fixed","pence":10000,"ref":"A4"}
+200 {"number":4,"receipt":"4-00000000-0000-0000-0000-000000000004"}
+2024-01-31 5 broker POST /books/7/pledges {"article":"Gold ring","five_days":false,"kind":"fixed","pence":10000,"ref":"A5"}
+200 {"number":5,"receipt":"5-00000000-0000-0000-0000-000000000005"}
+2024-01-31 6 broker POST /books/7/pledges {"article":"Gold ring","five_days":false,"kind":"fixed","pence":10000,"ref":"A6"}
+503 {"code":490,"name":"Full"}
+2024-01-31 0 broker POST /books/7/pledges/1/repay {"pence":1000,"seq":1}
+503 {"code":490,"name":"Full"}
+2024-01-31 0 1-1 POST /books/7/held/repay {"pence":1000,"seq":1}
+503 {"code":490,"name":"Full"}
+2024-01-31 6 broker POST /books/7/pledges/1/declare {"paper":"sworn"}
+503 {"code":490,"name":"Full"}
+2024-01-31 0 1-1 POST /books/7/held/ask {"day":"2024-02-01","window":0}
+503 {"code":490,"name":"Full"}
+2024-01-31 0 broker POST /books/7/terms {"keep_after":0,"keep_before":0,"rate":1,"version":2}
+503 {"code":490,"name":"Full"}
+2024-01-31 0 1-1 GET /books/7/held
+200 Pledge 1|Article Gold ring|Kind fixed 100.00|Taken 2024-01-31|Ends 2024-07-31|Status inside|Principal 100.00|Charges 0.00|Owing 100.00|Held no|Booking none|
+2024-01-31 0 broker GET /books/7/pledges/1
+200 Pledge 1|Article Gold ring|Kind fixed 100.00|Taken 2024-01-31|Ends 2024-07-31|Status inside|Principal 100.00|Charges 0.00|Owing 100.00|Held no|Booking none|
+2024-01-31 0 broker POST /books/7/pledges/1/hold
+200 {"held":true}
+2024-01-31 0 broker POST /books/7/pledges/1/release
+200 {"held":false}
+2024-01-31 0 broker POST /books/7/pledges/1/extend {"until":"2024-12-31"}
+200 {"ends":"2024-12-31"}
+2024-01-31 0 1-1 POST /books/7/held/redeem {"paid":10000}
+200 {"paid":10000,"redeemed":"2024-01-31"}
+2024-08-01 0 broker POST /books/7/pledges/2/sell {"net":10000}
+200 {"net":10000,"shortfall":0,"surplus":0}
+2024-01-31 0 3-3 POST /books/7/held/repay {"pence":10001,"seq":1}
+409 {"code":204,"name":"OverOwing","total":10000}
+"#;
+
 #[test]
 fn no_row_is_left_for_a_command(rt: HostRuntime) -> Result<(), Fail> {
-    let turns = [
-        BOOK,
-        FREE,
-        OPENED,
-        issues(
-            "2024-01-31",
-            2,
-            "POST /books/7/pledges",
-            r#"{"article":"Gold ring","five_days":false,"kind":"fixed","pence":10000,"ref":"A2"}"#,
-            OK,
-            r#"{"number":2,"receipt":"2-00000000-0000-0000-0000-000000000002"}"#,
-        ),
-        issues(
-            "2024-01-31",
-            3,
-            "POST /books/7/pledges",
-            r#"{"article":"Gold ring","five_days":false,"kind":"fixed","pence":10000,"ref":"A3"}"#,
-            OK,
-            r#"{"number":3,"receipt":"3-00000000-0000-0000-0000-000000000003"}"#,
-        ),
-        issues(
-            "2024-01-31",
-            4,
-            "POST /books/7/pledges",
-            r#"{"article":"Gold ring","five_days":false,"kind":"fixed","pence":10000,"ref":"A4"}"#,
-            OK,
-            r#"{"number":4,"receipt":"4-00000000-0000-0000-0000-000000000004"}"#,
-        ),
-        issues(
-            "2024-01-31",
-            5,
-            "POST /books/7/pledges",
-            r#"{"article":"Gold ring","five_days":false,"kind":"fixed","pence":10000,"ref":"A5"}"#,
-            OK,
-            r#"{"number":5,"receipt":"5-00000000-0000-0000-0000-000000000005"}"#,
-        ),
-        issues(
-            "2024-01-31",
-            6,
-            "POST /books/7/pledges",
-            r#"{"article":"Gold ring","five_days":false,"kind":"fixed","pence":10000,"ref":"A6"}"#,
-            UNAVAILABLE,
-            r#"{"code":490,"name":"Full"}"#,
-        ),
-        broker(
-            "2024-01-31",
-            "POST /books/7/pledges/1/repay",
-            r#"{"pence":1000,"seq":1}"#,
-            UNAVAILABLE,
-            r#"{"code":490,"name":"Full"}"#,
-        ),
-        bearer(
-            "2024-01-31",
-            FIRST,
-            "POST /books/7/held/repay",
-            r#"{"pence":1000,"seq":1}"#,
-            UNAVAILABLE,
-            r#"{"code":490,"name":"Full"}"#,
-        ),
-        issues(
-            "2024-01-31",
-            6,
-            "POST /books/7/pledges/1/declare",
-            r#"{"paper":"sworn"}"#,
-            UNAVAILABLE,
-            r#"{"code":490,"name":"Full"}"#,
-        ),
-        bearer(
-            "2024-01-31",
-            FIRST,
-            "POST /books/7/held/ask",
-            r#"{"day":"2024-02-01","window":0}"#,
-            UNAVAILABLE,
-            r#"{"code":490,"name":"Full"}"#,
-        ),
-        broker(
-            "2024-01-31",
-            "POST /books/7/terms",
-            r#"{"keep_after":0,"keep_before":0,"rate":1,"version":2}"#,
-            UNAVAILABLE,
-            r#"{"code":490,"name":"Full"}"#,
-        ),
-        views(
-            "2024-01-31",
-            FIRST,
-            OK,
-            "Pledge 1\nArticle Gold ring\nKind fixed 100.00\nTaken 2024-01-31\nEnds 2024-07-31\nStatus inside\nPrincipal 100.00\nCharges 0.00\nOwing 100.00\nHeld no\nBooking none\n",
-        ),
-        broker(
-            "2024-01-31",
-            "GET /books/7/pledges/1",
-            "",
-            OK,
-            "Pledge 1\nArticle Gold ring\nKind fixed 100.00\nTaken 2024-01-31\nEnds 2024-07-31\nStatus inside\nPrincipal 100.00\nCharges 0.00\nOwing 100.00\nHeld no\nBooking none\n",
-        ),
-        broker(
-            "2024-01-31",
-            "POST /books/7/pledges/1/hold",
-            "",
-            OK,
-            r#"{"held":true}"#,
-        ),
-        broker(
-            "2024-01-31",
-            "POST /books/7/pledges/1/release",
-            "",
-            OK,
-            r#"{"held":false}"#,
-        ),
-        broker(
-            "2024-01-31",
-            "POST /books/7/pledges/1/extend",
-            r#"{"until":"2024-12-31"}"#,
-            OK,
-            r#"{"ends":"2024-12-31"}"#,
-        ),
-        bearer(
-            "2024-01-31",
-            FIRST,
-            "POST /books/7/held/redeem",
-            r#"{"paid":10000}"#,
-            OK,
-            r#"{"paid":10000,"redeemed":"2024-01-31"}"#,
-        ),
-        broker(
-            "2024-08-01",
-            "POST /books/7/pledges/2/sell",
-            r#"{"net":10000}"#,
-            OK,
-            r#"{"net":10000,"shortfall":0,"surplus":0}"#,
-        ),
-        bearer(
-            "2024-01-31",
-            THIRD,
-            "POST /books/7/held/repay",
-            r#"{"pence":10001,"seq":1}"#,
-            CONFLICT,
-            r#"{"code":204,"name":"OverOwing","total":10000}"#,
-        ),
-    ];
-    plays(&rt, rt.alloc(), 12, &turns)
+    plays(&rt, rt.alloc(), 12, &[BOOK, FREE, OPENED, NO_ROW])
 }
+
+const REBOOKED: &str = r#"
+2024-01-31 0 1-1 POST /books/7/held/ask {"day":"2024-02-01","window":0}
+200 {"booking":"asked","day":"2024-02-01","window":0}
+2024-01-31 0 1-1 POST /books/7/held/ask {"day":"2024-02-02","window":1}
+200 {"booking":"asked","day":"2024-02-02","window":1}
+2024-01-31 0 broker POST /books/7/pledges/1/repay {"pence":1000,"seq":1}
+503 {"code":490,"name":"Full"}
+2024-01-31 0 broker POST /books/7/pledges/1/decide {"yes":true}
+200 {"booking":"confirmed","day":"2024-02-02","window":1}
+2024-01-31 0 1-1 POST /books/7/held/cancel
+200 {"booking":"cancelled","day":"2024-02-02","window":1}
+"#;
 
 #[test]
 fn a_booking_in_place_of_another_adds_no_row(rt: HostRuntime) -> Result<(), Fail> {
-    let turns = [
-        BOOK,
-        FREE,
-        OPENED,
-        bearer(
-            "2024-01-31",
-            FIRST,
-            "POST /books/7/held/ask",
-            r#"{"day":"2024-02-01","window":0}"#,
-            OK,
-            r#"{"booking":"asked","day":"2024-02-01","window":0}"#,
-        ),
-        bearer(
-            "2024-01-31",
-            FIRST,
-            "POST /books/7/held/ask",
-            r#"{"day":"2024-02-02","window":1}"#,
-            OK,
-            r#"{"booking":"asked","day":"2024-02-02","window":1}"#,
-        ),
-        broker(
-            "2024-01-31",
-            "POST /books/7/pledges/1/repay",
-            r#"{"pence":1000,"seq":1}"#,
-            UNAVAILABLE,
-            r#"{"code":490,"name":"Full"}"#,
-        ),
-        broker(
-            "2024-01-31",
-            "POST /books/7/pledges/1/decide",
-            r#"{"yes":true}"#,
-            OK,
-            r#"{"booking":"confirmed","day":"2024-02-02","window":1}"#,
-        ),
-        bearer(
-            "2024-01-31",
-            FIRST,
-            "POST /books/7/held/cancel",
-            "",
-            OK,
-            r#"{"booking":"cancelled","day":"2024-02-02","window":1}"#,
-        ),
-    ];
-    plays(&rt, rt.alloc(), 5, &turns)
+    plays(&rt, rt.alloc(), 5, &[BOOK, FREE, OPENED, REBOOKED])
 }
+
+const TERMS: &str = r#"
+2024-01-31 0 broker POST /books/7/terms {"keep_after":6,"keep_before":5,"rate":0,"version":1}
+400 {"code":104,"name":"KeepingRate"}
+2024-01-31 0 broker POST /books/7/terms {"keep_after":0,"keep_before":0,"rate":20001,"version":1}
+400 {"code":102,"name":"RateTooHigh"}
+2024-01-31 0 broker POST /books/7/terms {"keep_after":10000001,"keep_before":5,"rate":20001,"version":1}
+400 {"code":102,"name":"RateTooHigh"}
+2024-01-31 0 broker POST /books/7/terms {"keep_after":0,"keep_before":10000001,"rate":0,"version":1}
+400 {"code":103,"name":"KeepTooHigh"}
+2024-01-31 0 broker POST /books/7/terms {"keep_after":10000001,"keep_before":0,"rate":0,"version":1}
+400 {"code":103,"name":"KeepTooHigh"}
+2024-01-31 1 broker POST /books/7/pledges {"article":"Gold ring","five_days":false,"kind":"fixed","pence":10000,"ref":"A1"}
+409 {"code":405,"name":"NoTerms"}
+2024-01-31 0 broker POST /books/7/terms {"keep_after":10000000,"keep_before":10000000,"rate":20000,"version":1}
+200 {"version":1}
+2024-01-31 0 broker POST /books/7/terms {"keep_after":10000000,"keep_before":10000000,"rate":20000,"version":1}
+200 {"version":1}
+2024-01-31 0 broker POST /books/7/terms {"keep_after":9999999,"keep_before":10000000,"rate":20000,"version":1}
+409 {"code":406,"name":"TermsSeq"}
+2024-01-31 0 broker POST /books/7/terms {"keep_after":0,"keep_before":0,"rate":0,"version":3}
+409 {"code":406,"name":"TermsSeq"}
+2024-01-31 0 broker POST /books/7/terms {"keep_after":0,"keep_before":0,"rate":0,"version":0}
+409 {"code":406,"name":"TermsSeq"}
+2024-01-31 0 broker POST /books/7/terms {"keep_after":6,"keep_before":6,"rate":0,"version":2}
+200 {"version":2}
+"#;
 
 #[test]
 fn terms_are_judged(rt: HostRuntime) -> Result<(), Fail> {
-    let turns = [
-        BOOK,
-        broker(
-            "2024-01-31",
-            "POST /books/7/terms",
-            r#"{"keep_after":6,"keep_before":5,"rate":0,"version":1}"#,
-            BAD,
-            r#"{"code":104,"name":"KeepingRate"}"#,
-        ),
-        broker(
-            "2024-01-31",
-            "POST /books/7/terms",
-            r#"{"keep_after":0,"keep_before":0,"rate":20001,"version":1}"#,
-            BAD,
-            r#"{"code":102,"name":"RateTooHigh"}"#,
-        ),
-        broker(
-            "2024-01-31",
-            "POST /books/7/terms",
-            r#"{"keep_after":10000001,"keep_before":5,"rate":20001,"version":1}"#,
-            BAD,
-            r#"{"code":102,"name":"RateTooHigh"}"#,
-        ),
-        broker(
-            "2024-01-31",
-            "POST /books/7/terms",
-            r#"{"keep_after":0,"keep_before":10000001,"rate":0,"version":1}"#,
-            BAD,
-            r#"{"code":103,"name":"KeepTooHigh"}"#,
-        ),
-        broker(
-            "2024-01-31",
-            "POST /books/7/terms",
-            r#"{"keep_after":10000001,"keep_before":0,"rate":0,"version":1}"#,
-            BAD,
-            r#"{"code":103,"name":"KeepTooHigh"}"#,
-        ),
-        issues(
-            "2024-01-31",
-            1,
-            "POST /books/7/pledges",
-            r#"{"article":"Gold ring","five_days":false,"kind":"fixed","pence":10000,"ref":"A1"}"#,
-            CONFLICT,
-            r#"{"code":405,"name":"NoTerms"}"#,
-        ),
-        broker(
-            "2024-01-31",
-            "POST /books/7/terms",
-            r#"{"keep_after":10000000,"keep_before":10000000,"rate":20000,"version":1}"#,
-            OK,
-            r#"{"version":1}"#,
-        ),
-        broker(
-            "2024-01-31",
-            "POST /books/7/terms",
-            r#"{"keep_after":10000000,"keep_before":10000000,"rate":20000,"version":1}"#,
-            OK,
-            r#"{"version":1}"#,
-        ),
-        broker(
-            "2024-01-31",
-            "POST /books/7/terms",
-            r#"{"keep_after":9999999,"keep_before":10000000,"rate":20000,"version":1}"#,
-            CONFLICT,
-            r#"{"code":406,"name":"TermsSeq"}"#,
-        ),
-        broker(
-            "2024-01-31",
-            "POST /books/7/terms",
-            r#"{"keep_after":0,"keep_before":0,"rate":0,"version":3}"#,
-            CONFLICT,
-            r#"{"code":406,"name":"TermsSeq"}"#,
-        ),
-        broker(
-            "2024-01-31",
-            "POST /books/7/terms",
-            r#"{"keep_after":0,"keep_before":0,"rate":0,"version":0}"#,
-            CONFLICT,
-            r#"{"code":406,"name":"TermsSeq"}"#,
-        ),
-        broker(
-            "2024-01-31",
-            "POST /books/7/terms",
-            r#"{"keep_after":6,"keep_before":6,"rate":0,"version":2}"#,
-            OK,
-            r#"{"version":2}"#,
-        ),
-    ];
-    plays(&rt, rt.alloc(), 100, &turns)
+    plays(&rt, rt.alloc(), 100, &[BOOK, TERMS])
 }
+
+const SHOWN: &str = r#"
+2024-01-31 0 broker GET /books/7/pledges/1
+200 Pledge 1|Article Gold ring|Kind fixed 100.00|Taken 2024-01-31|Ends 2024-07-31|Status inside|Principal 100.00|Charges 0.00|Owing 100.00|Held no|Booking none|
+2024-01-01 0 broker GET /books/7/pledges/1
+200 Pledge 1|Article Gold ring|Kind fixed 100.00|Taken 2024-01-31|Ends 2024-07-31|Status inside|Principal 100.00|Charges 0.00|Owing 100.00|Held no|Booking none|
+2024-01-31 0 broker GET /books/7/pledges/2
+404 {"code":403,"name":"NoSuchPledge"}
+2024-01-31 0 broker GET /books/8/pledges/1
+404 {"code":401,"name":"NoSuchBook"}
+2024-01-31 0 stranger GET /books/7/pledges/1
+404 {"code":401,"name":"NoSuchBook"}
+2024-01-31 0 stranger GET /books/7/pledges/2
+404 {"code":401,"name":"NoSuchBook"}
+2024-01-31 0 operator GET /books/7/pledges/1
+404 {"code":401,"name":"NoSuchBook"}
+2024-01-31 0 stranger POST /books/7/pledges/1/hold
+404 {"code":401,"name":"NoSuchBook"}
+2024-01-31 0 broker POST /books/7/pledges/2/hold
+404 {"code":403,"name":"NoSuchPledge"}
+2024-01-31 0 broker POST /books/8/pledges/1/hold
+404 {"code":401,"name":"NoSuchBook"}
+"#;
 
 #[test]
 fn a_broker_is_shown_the_pledges_of_the_book(rt: HostRuntime) -> Result<(), Fail> {
-    let turns = [
-        BOOK,
-        FREE,
-        OPENED,
-        broker(
-            "2024-01-31",
-            "GET /books/7/pledges/1",
-            "",
-            OK,
-            "Pledge 1\nArticle Gold ring\nKind fixed 100.00\nTaken 2024-01-31\nEnds 2024-07-31\nStatus inside\nPrincipal 100.00\nCharges 0.00\nOwing 100.00\nHeld no\nBooking none\n",
-        ),
-        broker(
-            "2024-01-01",
-            "GET /books/7/pledges/1",
-            "",
-            OK,
-            "Pledge 1\nArticle Gold ring\nKind fixed 100.00\nTaken 2024-01-31\nEnds 2024-07-31\nStatus inside\nPrincipal 100.00\nCharges 0.00\nOwing 100.00\nHeld no\nBooking none\n",
-        ),
-        broker(
-            "2024-01-31",
-            "GET /books/7/pledges/2",
-            "",
-            MISSING,
-            r#"{"code":403,"name":"NoSuchPledge"}"#,
-        ),
-        broker(
-            "2024-01-31",
-            "GET /books/8/pledges/1",
-            "",
-            MISSING,
-            r#"{"code":401,"name":"NoSuchBook"}"#,
-        ),
-        Turn {
-            day: "2024-01-31",
-            word: 0,
-            line: "GET /books/7/pledges/1",
-            field: "Pledge-Key: 33333333-3333-3333-3333-333333333333",
-            body: "",
-            status: MISSING,
-            reply: r#"{"code":401,"name":"NoSuchBook"}"#,
-        },
-        Turn {
-            day: "2024-01-31",
-            word: 0,
-            line: "GET /books/7/pledges/2",
-            field: "Pledge-Key: 33333333-3333-3333-3333-333333333333",
-            body: "",
-            status: MISSING,
-            reply: r#"{"code":401,"name":"NoSuchBook"}"#,
-        },
-        Turn {
-            day: "2024-01-31",
-            word: 0,
-            line: "GET /books/7/pledges/1",
-            field: "Pledge-Key: 11111111-1111-1111-1111-111111111111",
-            body: "",
-            status: MISSING,
-            reply: r#"{"code":401,"name":"NoSuchBook"}"#,
-        },
-        Turn {
-            day: "2024-01-31",
-            word: 0,
-            line: "POST /books/7/pledges/1/hold",
-            field: "Pledge-Key: 33333333-3333-3333-3333-333333333333",
-            body: "",
-            status: MISSING,
-            reply: r#"{"code":401,"name":"NoSuchBook"}"#,
-        },
-        broker(
-            "2024-01-31",
-            "POST /books/7/pledges/2/hold",
-            "",
-            MISSING,
-            r#"{"code":403,"name":"NoSuchPledge"}"#,
-        ),
-        broker(
-            "2024-01-31",
-            "POST /books/8/pledges/1/hold",
-            "",
-            MISSING,
-            r#"{"code":401,"name":"NoSuchBook"}"#,
-        ),
-    ];
-    plays(&rt, rt.alloc(), 100, &turns)
+    plays(&rt, rt.alloc(), 100, &[BOOK, FREE, OPENED, SHOWN])
 }
+
+const NO_CHANGE: &str = r#"
+2024-02-01 0 broker POST /books/7/pledges/1/hold
+200 {"held":true}
+2024-03-01 0 broker POST /books/7/pledges/1/hold
+200 {"held":true}
+2024-02-01 0 broker POST /books/7/pledges/1/release
+200 {"held":false}
+2024-03-01 0 broker POST /books/7/pledges/1/release
+200 {"held":false}
+2024-03-01 0 broker POST /books/7/pledges/1/extend {"until":"2024-07-31"}
+200 {"ends":"2024-07-31"}
+2024-03-01 0 1-1 POST /books/7/held/redeem {"paid":1}
+409 {"code":310,"name":"WrongAmount","total":10000}
+2024-03-01 0 1-1 GET /books/7/held
+200 Pledge 1|Article Gold ring|Kind fixed 100.00|Taken 2024-01-31|Ends 2024-07-31|Status inside|Principal 100.00|Charges 0.00|Owing 100.00|Held no|Booking none|
+2024-02-01 0 1-1 POST /books/7/held/ask {"day":"2024-03-04","window":3}
+200 {"booking":"asked","day":"2024-03-04","window":3}
+2024-03-01 0 1-1 POST /books/7/held/ask {"day":"2024-03-04","window":3}
+200 {"booking":"asked","day":"2024-03-04","window":3}
+2024-02-01 0 broker POST /books/7/pledges/1/decide {"yes":true}
+200 {"booking":"confirmed","day":"2024-03-04","window":3}
+2024-03-01 0 broker POST /books/7/pledges/1/decide {"yes":true}
+200 {"booking":"confirmed","day":"2024-03-04","window":3}
+2024-02-01 0 broker POST /books/7/pledges/1/repay {"pence":1000,"seq":1}
+200 {"day":"2024-02-01","pence":1000,"seq":1,"sort":"repay"}
+2024-03-01 0 broker POST /books/7/pledges/1/repay {"pence":1000,"seq":1}
+200 {"day":"2024-02-01","pence":1000,"seq":1,"sort":"repay"}
+2024-02-01 0 1-1 POST /books/7/held/redeem {"paid":9000}
+200 {"paid":9000,"redeemed":"2024-02-01"}
+"#;
 
 #[test]
 fn an_answer_without_a_change_sets_no_day(rt: HostRuntime) -> Result<(), Fail> {
-    let turns = [
-        BOOK,
-        FREE,
-        OPENED,
-        broker(
-            "2024-02-01",
-            "POST /books/7/pledges/1/hold",
-            "",
-            OK,
-            r#"{"held":true}"#,
-        ),
-        broker(
-            "2024-03-01",
-            "POST /books/7/pledges/1/hold",
-            "",
-            OK,
-            r#"{"held":true}"#,
-        ),
-        broker(
-            "2024-02-01",
-            "POST /books/7/pledges/1/release",
-            "",
-            OK,
-            r#"{"held":false}"#,
-        ),
-        broker(
-            "2024-03-01",
-            "POST /books/7/pledges/1/release",
-            "",
-            OK,
-            r#"{"held":false}"#,
-        ),
-        broker(
-            "2024-03-01",
-            "POST /books/7/pledges/1/extend",
-            r#"{"until":"2024-07-31"}"#,
-            OK,
-            r#"{"ends":"2024-07-31"}"#,
-        ),
-        bearer(
-            "2024-03-01",
-            FIRST,
-            "POST /books/7/held/redeem",
-            r#"{"paid":1}"#,
-            CONFLICT,
-            r#"{"code":310,"name":"WrongAmount","total":10000}"#,
-        ),
-        views(
-            "2024-03-01",
-            FIRST,
-            OK,
-            "Pledge 1\nArticle Gold ring\nKind fixed 100.00\nTaken 2024-01-31\nEnds 2024-07-31\nStatus inside\nPrincipal 100.00\nCharges 0.00\nOwing 100.00\nHeld no\nBooking none\n",
-        ),
-        bearer(
-            "2024-02-01",
-            FIRST,
-            "POST /books/7/held/ask",
-            r#"{"day":"2024-03-04","window":3}"#,
-            OK,
-            r#"{"booking":"asked","day":"2024-03-04","window":3}"#,
-        ),
-        bearer(
-            "2024-03-01",
-            FIRST,
-            "POST /books/7/held/ask",
-            r#"{"day":"2024-03-04","window":3}"#,
-            OK,
-            r#"{"booking":"asked","day":"2024-03-04","window":3}"#,
-        ),
-        broker(
-            "2024-02-01",
-            "POST /books/7/pledges/1/decide",
-            r#"{"yes":true}"#,
-            OK,
-            r#"{"booking":"confirmed","day":"2024-03-04","window":3}"#,
-        ),
-        broker(
-            "2024-03-01",
-            "POST /books/7/pledges/1/decide",
-            r#"{"yes":true}"#,
-            OK,
-            r#"{"booking":"confirmed","day":"2024-03-04","window":3}"#,
-        ),
-        broker(
-            "2024-02-01",
-            "POST /books/7/pledges/1/repay",
-            r#"{"pence":1000,"seq":1}"#,
-            OK,
-            r#"{"day":"2024-02-01","pence":1000,"seq":1,"sort":"repay"}"#,
-        ),
-        broker(
-            "2024-03-01",
-            "POST /books/7/pledges/1/repay",
-            r#"{"pence":1000,"seq":1}"#,
-            OK,
-            r#"{"day":"2024-02-01","pence":1000,"seq":1,"sort":"repay"}"#,
-        ),
-        bearer(
-            "2024-02-01",
-            FIRST,
-            "POST /books/7/held/redeem",
-            r#"{"paid":9000}"#,
-            OK,
-            r#"{"paid":9000,"redeemed":"2024-02-01"}"#,
-        ),
-    ];
-    plays(&rt, rt.alloc(), 100, &turns)
+    plays(&rt, rt.alloc(), 100, &[BOOK, FREE, OPENED, NO_CHANGE])
 }
+
+const EARLIER_DAYS: &str = r#"
+2024-02-01 0 broker POST /books/7/pledges/1/hold
+200 {"held":true}
+2024-03-01 0 broker POST /books/7/pledges/1/release
+200 {"held":false}
+2024-02-29 0 broker POST /books/7/pledges/1/hold
+409 {"code":205,"name":"EarlierDay"}
+2024-02-29 0 broker POST /books/7/pledges/1/release
+409 {"code":205,"name":"EarlierDay"}
+2024-02-29 0 broker POST /books/7/pledges/1/extend {"until":"2024-07-31"}
+409 {"code":205,"name":"EarlierDay"}
+2024-02-29 2 broker POST /books/7/pledges/1/declare {"paper":"sworn"}
+409 {"code":205,"name":"EarlierDay"}
+2024-02-29 0 1-1 POST /books/7/held/ask {"day":"2024-02-01","window":16}
+409 {"code":205,"name":"EarlierDay"}
+2024-02-29 0 1-1 POST /books/7/held/cancel
+409 {"code":205,"name":"EarlierDay"}
+2024-02-29 0 broker POST /books/7/pledges/1/decide {"yes":false}
+409 {"code":205,"name":"EarlierDay"}
+2024-02-29 0 1-1 POST /books/7/held/redeem {"paid":10000}
+409 {"code":205,"name":"EarlierDay"}
+2024-02-29 0 broker POST /books/7/pledges/1/sell {"net":0}
+409 {"code":205,"name":"EarlierDay"}
+2024-02-29 0 1-1 GET /books/7/held
+200 Pledge 1|Article Gold ring|Kind fixed 100.00|Taken 2024-01-31|Ends 2024-07-31|Status inside|Principal 100.00|Charges 0.00|Owing 100.00|Held no|Booking none|
+2024-02-29 2 broker POST /books/7/pledges {"article":"Gold ring","five_days":false,"kind":"fixed","pence":10000,"ref":"A2"}
+200 {"number":2,"receipt":"2-00000000-0000-0000-0000-000000000002"}
+2024-02-29 0 broker POST /books/7/pledges/2/hold
+200 {"held":true}
+"#;
 
 #[test]
 fn a_change_bars_earlier_days(rt: HostRuntime) -> Result<(), Fail> {
-    let turns = [
-        BOOK,
-        FREE,
-        OPENED,
-        broker(
-            "2024-02-01",
-            "POST /books/7/pledges/1/hold",
-            "",
-            OK,
-            r#"{"held":true}"#,
-        ),
-        broker(
-            "2024-03-01",
-            "POST /books/7/pledges/1/release",
-            "",
-            OK,
-            r#"{"held":false}"#,
-        ),
-        broker(
-            "2024-02-29",
-            "POST /books/7/pledges/1/hold",
-            "",
-            CONFLICT,
-            r#"{"code":205,"name":"EarlierDay"}"#,
-        ),
-        broker(
-            "2024-02-29",
-            "POST /books/7/pledges/1/release",
-            "",
-            CONFLICT,
-            r#"{"code":205,"name":"EarlierDay"}"#,
-        ),
-        broker(
-            "2024-02-29",
-            "POST /books/7/pledges/1/extend",
-            r#"{"until":"2024-07-31"}"#,
-            CONFLICT,
-            r#"{"code":205,"name":"EarlierDay"}"#,
-        ),
-        issues(
-            "2024-02-29",
-            2,
-            "POST /books/7/pledges/1/declare",
-            r#"{"paper":"sworn"}"#,
-            CONFLICT,
-            r#"{"code":205,"name":"EarlierDay"}"#,
-        ),
-        bearer(
-            "2024-02-29",
-            FIRST,
-            "POST /books/7/held/ask",
-            r#"{"day":"2024-02-01","window":16}"#,
-            CONFLICT,
-            r#"{"code":205,"name":"EarlierDay"}"#,
-        ),
-        bearer(
-            "2024-02-29",
-            FIRST,
-            "POST /books/7/held/cancel",
-            "",
-            CONFLICT,
-            r#"{"code":205,"name":"EarlierDay"}"#,
-        ),
-        broker(
-            "2024-02-29",
-            "POST /books/7/pledges/1/decide",
-            r#"{"yes":false}"#,
-            CONFLICT,
-            r#"{"code":205,"name":"EarlierDay"}"#,
-        ),
-        bearer(
-            "2024-02-29",
-            FIRST,
-            "POST /books/7/held/redeem",
-            r#"{"paid":10000}"#,
-            CONFLICT,
-            r#"{"code":205,"name":"EarlierDay"}"#,
-        ),
-        broker(
-            "2024-02-29",
-            "POST /books/7/pledges/1/sell",
-            r#"{"net":0}"#,
-            CONFLICT,
-            r#"{"code":205,"name":"EarlierDay"}"#,
-        ),
-        views(
-            "2024-02-29",
-            FIRST,
-            OK,
-            "Pledge 1\nArticle Gold ring\nKind fixed 100.00\nTaken 2024-01-31\nEnds 2024-07-31\nStatus inside\nPrincipal 100.00\nCharges 0.00\nOwing 100.00\nHeld no\nBooking none\n",
-        ),
-        issues(
-            "2024-02-29",
-            2,
-            "POST /books/7/pledges",
-            r#"{"article":"Gold ring","five_days":false,"kind":"fixed","pence":10000,"ref":"A2"}"#,
-            OK,
-            r#"{"number":2,"receipt":"2-00000000-0000-0000-0000-000000000002"}"#,
-        ),
-        broker(
-            "2024-02-29",
-            "POST /books/7/pledges/2/hold",
-            "",
-            OK,
-            r#"{"held":true}"#,
-        ),
-    ];
-    plays(&rt, rt.alloc(), 100, &turns)
+    plays(&rt, rt.alloc(), 100, &[BOOK, FREE, OPENED, EARLIER_DAYS])
 }

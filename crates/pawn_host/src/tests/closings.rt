@@ -3,621 +3,216 @@
 use super::turns::*;
 use std::test::Fail;
 
+const PASSED: &str = r#"
+2024-01-31 2 broker POST /books/7/pledges {"article":"Gold ring","five_days":false,"kind":"fixed","pence":7501,"ref":"A2"}
+200 {"number":2,"receipt":"2-00000000-0000-0000-0000-000000000002"}
+2024-08-01 0 1-1 POST /books/7/held/redeem {"paid":7500}
+409 {"code":304,"name":"Passed"}
+2024-08-01 0 2-2 POST /books/7/held/redeem {"paid":7501}
+200 {"paid":7501,"redeemed":"2024-08-01"}
+2024-08-01 0 1-1 GET /books/7/held
+200 Pledge 1|Article Gold ring|Kind fixed 75.00|Taken 2024-01-31|Ends 2024-07-31|Status passed|Held no|Booking none|
+2024-07-31 0 1-1 POST /books/7/held/redeem {"paid":7500}
+200 {"paid":7500,"redeemed":"2024-07-31"}
+"#;
+
 #[test]
 fn a_small_pledge_passes_and_another_is_redeemed_after_the_end(
     rt: HostRuntime,
 ) -> Result<(), Fail> {
-    let turns = [
-        BOOK,
-        FREE,
-        issues(
-            "2024-01-31",
-            1,
-            "POST /books/7/pledges",
-            r#"{"article":"Gold ring","five_days":false,"kind":"fixed","pence":7500,"ref":"A1"}"#,
-            OK,
-            r#"{"number":1,"receipt":"1-00000000-0000-0000-0000-000000000001"}"#,
-        ),
-        issues(
-            "2024-01-31",
-            2,
-            "POST /books/7/pledges",
-            r#"{"article":"Gold ring","five_days":false,"kind":"fixed","pence":7501,"ref":"A2"}"#,
-            OK,
-            r#"{"number":2,"receipt":"2-00000000-0000-0000-0000-000000000002"}"#,
-        ),
-        bearer(
-            "2024-08-01",
-            FIRST,
-            "POST /books/7/held/redeem",
-            r#"{"paid":7500}"#,
-            CONFLICT,
-            r#"{"code":304,"name":"Passed"}"#,
-        ),
-        bearer(
-            "2024-08-01",
-            SECOND,
-            "POST /books/7/held/redeem",
-            r#"{"paid":7501}"#,
-            OK,
-            r#"{"paid":7501,"redeemed":"2024-08-01"}"#,
-        ),
-        views(
-            "2024-08-01",
-            FIRST,
-            OK,
-            "Pledge 1\nArticle Gold ring\nKind fixed 75.00\nTaken 2024-01-31\nEnds 2024-07-31\nStatus passed\nHeld no\nBooking none\n",
-        ),
-        bearer(
-            "2024-07-31",
-            FIRST,
-            "POST /books/7/held/redeem",
-            r#"{"paid":7500}"#,
-            OK,
-            r#"{"paid":7500,"redeemed":"2024-07-31"}"#,
-        ),
-    ];
-    plays(&rt, rt.alloc(), 100, &turns)
+    plays(&rt, rt.alloc(), 100, &[BOOK, FREE, SMALL, PASSED])
 }
+
+const FIVE_DAYS: &str = r#"
+2024-01-31 1 broker POST /books/7/pledges {"article":"Gold ring","five_days":true,"kind":"fixed","pence":7500,"ref":"A1"}
+200 {"number":1,"receipt":"1-00000000-0000-0000-0000-000000000001"}
+2024-01-31 2 broker POST /books/7/pledges {"article":"Gold ring","five_days":true,"kind":"fixed","pence":7500,"ref":"A2"}
+200 {"number":2,"receipt":"2-00000000-0000-0000-0000-000000000002"}
+2024-01-31 3 broker POST /books/7/pledges {"agreed":"2024-08-01","article":"Gold ring","five_days":false,"kind":"fixed","pence":7500,"ref":"A3"}
+200 {"number":3,"receipt":"3-00000000-0000-0000-0000-000000000003"}
+2024-08-05 0 1-1 GET /books/7/held
+200 Pledge 1|Article Gold ring|Kind fixed 75.00|Taken 2024-01-31|Ends 2024-07-31|Status grace|Principal 75.00|Charges 0.00|Owing 75.00|Held no|Booking none|
+2024-08-05 0 1-1 POST /books/7/held/redeem {"paid":7500}
+200 {"paid":7500,"redeemed":"2024-08-05"}
+2024-08-06 0 2-2 GET /books/7/held
+200 Pledge 2|Article Gold ring|Kind fixed 75.00|Taken 2024-01-31|Ends 2024-07-31|Status passed|Held no|Booking none|
+2024-08-06 0 2-2 POST /books/7/held/redeem {"paid":7500}
+409 {"code":304,"name":"Passed"}
+2024-08-02 0 3-3 GET /books/7/held
+200 Pledge 3|Article Gold ring|Kind fixed 75.00|Taken 2024-01-31|Ends 2024-08-01|Status realisable|Principal 75.00|Charges 0.00|Owing 75.00|Held no|Booking none|
+2024-08-02 0 3-3 POST /books/7/held/redeem {"paid":7500}
+200 {"paid":7500,"redeemed":"2024-08-02"}
+"#;
 
 #[test]
 fn five_days_and_an_agreed_end_keep_a_small_pledge(rt: HostRuntime) -> Result<(), Fail> {
-    let turns = [
-        BOOK,
-        FREE,
-        issues(
-            "2024-01-31",
-            1,
-            "POST /books/7/pledges",
-            r#"{"article":"Gold ring","five_days":true,"kind":"fixed","pence":7500,"ref":"A1"}"#,
-            OK,
-            r#"{"number":1,"receipt":"1-00000000-0000-0000-0000-000000000001"}"#,
-        ),
-        issues(
-            "2024-01-31",
-            2,
-            "POST /books/7/pledges",
-            r#"{"article":"Gold ring","five_days":true,"kind":"fixed","pence":7500,"ref":"A2"}"#,
-            OK,
-            r#"{"number":2,"receipt":"2-00000000-0000-0000-0000-000000000002"}"#,
-        ),
-        issues(
-            "2024-01-31",
-            3,
-            "POST /books/7/pledges",
-            r#"{"agreed":"2024-08-01","article":"Gold ring","five_days":false,"kind":"fixed","pence":7500,"ref":"A3"}"#,
-            OK,
-            r#"{"number":3,"receipt":"3-00000000-0000-0000-0000-000000000003"}"#,
-        ),
-        views(
-            "2024-08-05",
-            FIRST,
-            OK,
-            "Pledge 1\nArticle Gold ring\nKind fixed 75.00\nTaken 2024-01-31\nEnds 2024-07-31\nStatus grace\nPrincipal 75.00\nCharges 0.00\nOwing 75.00\nHeld no\nBooking none\n",
-        ),
-        bearer(
-            "2024-08-05",
-            FIRST,
-            "POST /books/7/held/redeem",
-            r#"{"paid":7500}"#,
-            OK,
-            r#"{"paid":7500,"redeemed":"2024-08-05"}"#,
-        ),
-        views(
-            "2024-08-06",
-            SECOND,
-            OK,
-            "Pledge 2\nArticle Gold ring\nKind fixed 75.00\nTaken 2024-01-31\nEnds 2024-07-31\nStatus passed\nHeld no\nBooking none\n",
-        ),
-        bearer(
-            "2024-08-06",
-            SECOND,
-            "POST /books/7/held/redeem",
-            r#"{"paid":7500}"#,
-            CONFLICT,
-            r#"{"code":304,"name":"Passed"}"#,
-        ),
-        views(
-            "2024-08-02",
-            THIRD,
-            OK,
-            "Pledge 3\nArticle Gold ring\nKind fixed 75.00\nTaken 2024-01-31\nEnds 2024-08-01\nStatus realisable\nPrincipal 75.00\nCharges 0.00\nOwing 75.00\nHeld no\nBooking none\n",
-        ),
-        bearer(
-            "2024-08-02",
-            THIRD,
-            "POST /books/7/held/redeem",
-            r#"{"paid":7500}"#,
-            OK,
-            r#"{"paid":7500,"redeemed":"2024-08-02"}"#,
-        ),
-    ];
-    plays(&rt, rt.alloc(), 100, &turns)
+    plays(&rt, rt.alloc(), 100, &[BOOK, FREE, FIVE_DAYS])
 }
+
+const HELD: &str = r#"
+2024-01-31 0 broker POST /books/7/pledges/1/hold
+200 {"held":true}
+2024-01-31 0 1-1 POST /books/7/held/redeem {"paid":7500}
+409 {"code":303,"name":"Held"}
+2024-01-31 0 1-1 POST /books/7/held/redeem {"paid":7499}
+409 {"code":303,"name":"Held"}
+2024-01-31 0 broker POST /books/7/pledges/1/release
+200 {"held":false}
+2024-01-31 0 1-1 POST /books/7/held/redeem {"paid":7499}
+409 {"code":310,"name":"WrongAmount","total":7500}
+2024-01-31 0 1-1 POST /books/7/held/redeem {"paid":7501}
+409 {"code":310,"name":"WrongAmount","total":7500}
+2024-01-31 0 1-1 POST /books/7/held/redeem {"paid":7500}
+200 {"paid":7500,"redeemed":"2024-01-31"}
+"#;
 
 #[test]
 fn a_held_pledge_is_not_redeemed_nor_for_another_sum(rt: HostRuntime) -> Result<(), Fail> {
-    let turns = [
-        BOOK,
-        FREE,
-        issues(
-            "2024-01-31",
-            1,
-            "POST /books/7/pledges",
-            r#"{"article":"Gold ring","five_days":false,"kind":"fixed","pence":7500,"ref":"A1"}"#,
-            OK,
-            r#"{"number":1,"receipt":"1-00000000-0000-0000-0000-000000000001"}"#,
-        ),
-        broker(
-            "2024-01-31",
-            "POST /books/7/pledges/1/hold",
-            "",
-            OK,
-            r#"{"held":true}"#,
-        ),
-        bearer(
-            "2024-01-31",
-            FIRST,
-            "POST /books/7/held/redeem",
-            r#"{"paid":7500}"#,
-            CONFLICT,
-            r#"{"code":303,"name":"Held"}"#,
-        ),
-        bearer(
-            "2024-01-31",
-            FIRST,
-            "POST /books/7/held/redeem",
-            r#"{"paid":7499}"#,
-            CONFLICT,
-            r#"{"code":303,"name":"Held"}"#,
-        ),
-        broker(
-            "2024-01-31",
-            "POST /books/7/pledges/1/release",
-            "",
-            OK,
-            r#"{"held":false}"#,
-        ),
-        bearer(
-            "2024-01-31",
-            FIRST,
-            "POST /books/7/held/redeem",
-            r#"{"paid":7499}"#,
-            CONFLICT,
-            r#"{"code":310,"name":"WrongAmount","total":7500}"#,
-        ),
-        bearer(
-            "2024-01-31",
-            FIRST,
-            "POST /books/7/held/redeem",
-            r#"{"paid":7501}"#,
-            CONFLICT,
-            r#"{"code":310,"name":"WrongAmount","total":7500}"#,
-        ),
-        bearer(
-            "2024-01-31",
-            FIRST,
-            "POST /books/7/held/redeem",
-            r#"{"paid":7500}"#,
-            OK,
-            r#"{"paid":7500,"redeemed":"2024-01-31"}"#,
-        ),
-    ];
-    plays(&rt, rt.alloc(), 100, &turns)
+    plays(&rt, rt.alloc(), 100, &[BOOK, FREE, SMALL, HELD])
 }
+
+const OF_NO_USE: &str = r#"
+2024-01-31 0 operator POST /books/8 {"capacity":2,"key":"33333333-3333-3333-3333-333333333333","name":"Low Street"}
+200 {"book":8}
+2024-01-31 1 broker POST /books/7/pledges {"article":"Gold ring","five_days":false,"kind":"fixed","pence":10000,"ref":"A1"}
+200 {"number":1,"receipt":"1-00000000-0000-0000-0000-000000000001"}
+2024-01-31 0 1-1 GET /books/8/held
+404 {"code":402,"name":"NoSuchReceipt"}
+2024-01-31 0 1-1 GET /books/9/held
+404 {"code":402,"name":"NoSuchReceipt"}
+2024-01-31 0 1-2 GET /books/7/held
+404 {"code":402,"name":"NoSuchReceipt"}
+2024-01-31 0 2-1 GET /books/7/held
+404 {"code":402,"name":"NoSuchReceipt"}
+2024-01-31 0 1-1 POST /books/8/held/redeem {"paid":10000}
+404 {"code":402,"name":"NoSuchReceipt"}
+2024-01-31 0 1-1 POST /books/9/held/redeem {"paid":10000}
+404 {"code":402,"name":"NoSuchReceipt"}
+2024-01-31 0 1-2 POST /books/7/held/redeem {"paid":10000}
+404 {"code":402,"name":"NoSuchReceipt"}
+2024-01-31 0 1-1 POST /books/7/held/redeem {"paid":10000}
+200 {"paid":10000,"redeemed":"2024-01-31"}
+2024-01-31 0 1-1 GET /books/7/held
+404 {"code":402,"name":"NoSuchReceipt"}
+2024-01-31 0 1-1 POST /books/7/held/redeem {"paid":10000}
+404 {"code":402,"name":"NoSuchReceipt"}
+2024-01-30 0 1-1 POST /books/7/held/redeem {"paid":1}
+404 {"code":402,"name":"NoSuchReceipt"}
+2024-01-31 0 1-1 POST /books/7/held/ask {"day":"2024-02-01","window":16}
+404 {"code":402,"name":"NoSuchReceipt"}
+2024-01-31 0 1-1 POST /books/7/held/cancel
+404 {"code":402,"name":"NoSuchReceipt"}
+"#;
 
 #[test]
 fn receipts_of_no_use_are_told_the_same(rt: HostRuntime) -> Result<(), Fail> {
-    let turns = [
-        BOOK,
-        FREE,
-        Turn {
-            day: "2024-01-31",
-            word: 0,
-            line: "POST /books/8",
-            field: "Pledge-Key: 11111111-1111-1111-1111-111111111111",
-            body: r#"{"capacity":2,"key":"33333333-3333-3333-3333-333333333333","name":"Low Street"}"#,
-            status: OK,
-            reply: r#"{"book":8}"#,
-        },
-        OPENED,
-        bearer(
-            "2024-01-31",
-            FIRST,
-            "GET /books/8/held",
-            "",
-            MISSING,
-            UNKNOWN,
-        ),
-        bearer(
-            "2024-01-31",
-            FIRST,
-            "GET /books/9/held",
-            "",
-            MISSING,
-            UNKNOWN,
-        ),
-        views(
-            "2024-01-31",
-            "Pledge-Receipt: 1-00000000-0000-0000-0000-000000000002",
-            MISSING,
-            UNKNOWN,
-        ),
-        views(
-            "2024-01-31",
-            "Pledge-Receipt: 2-00000000-0000-0000-0000-000000000001",
-            MISSING,
-            UNKNOWN,
-        ),
-        bearer(
-            "2024-01-31",
-            FIRST,
-            "POST /books/8/held/redeem",
-            r#"{"paid":10000}"#,
-            MISSING,
-            UNKNOWN,
-        ),
-        bearer(
-            "2024-01-31",
-            FIRST,
-            "POST /books/9/held/redeem",
-            r#"{"paid":10000}"#,
-            MISSING,
-            UNKNOWN,
-        ),
-        bearer(
-            "2024-01-31",
-            "Pledge-Receipt: 1-00000000-0000-0000-0000-000000000002",
-            "POST /books/7/held/redeem",
-            r#"{"paid":10000}"#,
-            MISSING,
-            UNKNOWN,
-        ),
-        bearer(
-            "2024-01-31",
-            FIRST,
-            "POST /books/7/held/redeem",
-            r#"{"paid":10000}"#,
-            OK,
-            r#"{"paid":10000,"redeemed":"2024-01-31"}"#,
-        ),
-        views("2024-01-31", FIRST, MISSING, UNKNOWN),
-        bearer(
-            "2024-01-31",
-            FIRST,
-            "POST /books/7/held/redeem",
-            r#"{"paid":10000}"#,
-            MISSING,
-            UNKNOWN,
-        ),
-        bearer(
-            "2024-01-30",
-            FIRST,
-            "POST /books/7/held/redeem",
-            r#"{"paid":1}"#,
-            MISSING,
-            UNKNOWN,
-        ),
-        bearer(
-            "2024-01-31",
-            FIRST,
-            "POST /books/7/held/ask",
-            r#"{"day":"2024-02-01","window":16}"#,
-            MISSING,
-            UNKNOWN,
-        ),
-        bearer(
-            "2024-01-31",
-            FIRST,
-            "POST /books/7/held/cancel",
-            "",
-            MISSING,
-            UNKNOWN,
-        ),
-    ];
-    plays(&rt, rt.alloc(), 100, &turns)
+    plays(&rt, rt.alloc(), 100, &[BOOK, FREE, OF_NO_USE])
 }
+
+const REDEEMED: &str = r#"
+2000-01-01 0 broker POST /books/7/terms {"keep_after":0,"keep_before":1000000,"rate":100,"version":1}
+200 {"version":1}
+2024-01-31 1 broker POST /books/7/pledges {"article":"Gold ring","five_days":false,"kind":"running","pence":20000,"ref":"A1"}
+200 {"number":1,"receipt":"1-00000000-0000-0000-0000-000000000001"}
+2024-01-31 0 broker POST /books/7/pledges/1/draw {"pence":12345,"seq":1}
+200 {"day":"2024-01-31","pence":12345,"seq":1,"sort":"draw"}
+2024-02-10 0 1-1 POST /books/7/held/ask {"day":"2024-03-04","window":3}
+200 {"booking":"asked","day":"2024-03-04","window":3}
+2024-02-20 0 1-1 POST /books/7/held/repay {"pence":345,"seq":2}
+200 {"day":"2024-02-20","pence":345,"seq":2,"sort":"repay"}
+2024-03-01 0 broker GET /books/7/pledges/1
+200 Pledge 1|Article Gold ring|Kind running 200.00|Taken 2024-01-31|Ends 2024-07-31|Status inside|Principal 120.44|Charges 0.22|Owing 120.66|Held no|Booking 2024-03-04 3 asked|Entry 1 2024-01-31 draw 123.45|Entry 2 2024-02-20 repay 3.45|
+2024-03-01 0 1-1 POST /books/7/held/redeem {"paid":12066}
+200 {"paid":12066,"redeemed":"2024-03-01"}
+2024-12-31 0 broker GET /books/7/pledges/1
+200 Pledge 1|Article Gold ring|Kind running 200.00|Taken 2024-01-31|Ends 2024-07-31|Status redeemed|Principal 120.44|Charges 0.22|Owing 120.66|Held no|Booking 2024-03-04 3 cancelled|Redeemed 2024-03-01 paid 120.66|Entry 1 2024-01-31 draw 123.45|Entry 2 2024-02-20 repay 3.45|
+2024-02-01 0 broker GET /books/7/pledges/1
+200 Pledge 1|Article Gold ring|Kind running 200.00|Taken 2024-01-31|Ends 2024-07-31|Status redeemed|Principal 120.44|Charges 0.22|Owing 120.66|Held no|Booking 2024-03-04 3 cancelled|Redeemed 2024-03-01 paid 120.66|Entry 1 2024-01-31 draw 123.45|Entry 2 2024-02-20 repay 3.45|
+2024-03-01 0 broker POST /books/7/pledges/1/hold
+409 {"code":305,"name":"Closed"}
+2024-02-29 0 broker POST /books/7/pledges/1/hold
+409 {"code":205,"name":"EarlierDay"}
+2024-03-01 0 broker POST /books/7/pledges/1/sell {"net":1}
+409 {"code":305,"name":"Closed"}
+"#;
 
 #[test]
 fn the_statement_of_a_redeemed_pledge(rt: HostRuntime) -> Result<(), Fail> {
-    let turns = [
-        BOOK,
-        broker(
-            "2000-01-01",
-            "POST /books/7/terms",
-            r#"{"keep_after":0,"keep_before":1000000,"rate":100,"version":1}"#,
-            OK,
-            r#"{"version":1}"#,
-        ),
-        issues(
-            "2024-01-31",
-            1,
-            "POST /books/7/pledges",
-            r#"{"article":"Gold ring","five_days":false,"kind":"running","pence":20000,"ref":"A1"}"#,
-            OK,
-            r#"{"number":1,"receipt":"1-00000000-0000-0000-0000-000000000001"}"#,
-        ),
-        broker(
-            "2024-01-31",
-            "POST /books/7/pledges/1/draw",
-            r#"{"pence":12345,"seq":1}"#,
-            OK,
-            r#"{"day":"2024-01-31","pence":12345,"seq":1,"sort":"draw"}"#,
-        ),
-        bearer(
-            "2024-02-10",
-            FIRST,
-            "POST /books/7/held/ask",
-            r#"{"day":"2024-03-04","window":3}"#,
-            OK,
-            r#"{"booking":"asked","day":"2024-03-04","window":3}"#,
-        ),
-        bearer(
-            "2024-02-20",
-            FIRST,
-            "POST /books/7/held/repay",
-            r#"{"pence":345,"seq":2}"#,
-            OK,
-            r#"{"day":"2024-02-20","pence":345,"seq":2,"sort":"repay"}"#,
-        ),
-        broker(
-            "2024-03-01",
-            "GET /books/7/pledges/1",
-            "",
-            OK,
-            "Pledge 1\nArticle Gold ring\nKind running 200.00\nTaken 2024-01-31\nEnds 2024-07-31\nStatus inside\nPrincipal 120.44\nCharges 0.22\nOwing 120.66\nHeld no\nBooking 2024-03-04 3 asked\nEntry 1 2024-01-31 draw 123.45\nEntry 2 2024-02-20 repay 3.45\n",
-        ),
-        bearer(
-            "2024-03-01",
-            FIRST,
-            "POST /books/7/held/redeem",
-            r#"{"paid":12066}"#,
-            OK,
-            r#"{"paid":12066,"redeemed":"2024-03-01"}"#,
-        ),
-        broker(
-            "2024-12-31",
-            "GET /books/7/pledges/1",
-            "",
-            OK,
-            "Pledge 1\nArticle Gold ring\nKind running 200.00\nTaken 2024-01-31\nEnds 2024-07-31\nStatus redeemed\nPrincipal 120.44\nCharges 0.22\nOwing 120.66\nHeld no\nBooking 2024-03-04 3 cancelled\nRedeemed 2024-03-01 paid 120.66\nEntry 1 2024-01-31 draw 123.45\nEntry 2 2024-02-20 repay 3.45\n",
-        ),
-        broker(
-            "2024-02-01",
-            "GET /books/7/pledges/1",
-            "",
-            OK,
-            "Pledge 1\nArticle Gold ring\nKind running 200.00\nTaken 2024-01-31\nEnds 2024-07-31\nStatus redeemed\nPrincipal 120.44\nCharges 0.22\nOwing 120.66\nHeld no\nBooking 2024-03-04 3 cancelled\nRedeemed 2024-03-01 paid 120.66\nEntry 1 2024-01-31 draw 123.45\nEntry 2 2024-02-20 repay 3.45\n",
-        ),
-        broker(
-            "2024-03-01",
-            "POST /books/7/pledges/1/hold",
-            "",
-            CONFLICT,
-            r#"{"code":305,"name":"Closed"}"#,
-        ),
-        broker(
-            "2024-02-29",
-            "POST /books/7/pledges/1/hold",
-            "",
-            CONFLICT,
-            r#"{"code":205,"name":"EarlierDay"}"#,
-        ),
-        broker(
-            "2024-03-01",
-            "POST /books/7/pledges/1/sell",
-            r#"{"net":1}"#,
-            CONFLICT,
-            r#"{"code":305,"name":"Closed"}"#,
-        ),
-    ];
-    plays(&rt, rt.alloc(), 100, &turns)
+    plays(&rt, rt.alloc(), 100, &[BOOK, REDEEMED])
 }
+
+const REALISABLE: &str = r#"
+2024-01-31 1 broker POST /books/7/pledges {"article":"Gold ring","five_days":true,"kind":"fixed","pence":10000,"ref":"A1"}
+200 {"number":1,"receipt":"1-00000000-0000-0000-0000-000000000001"}
+2024-01-31 2 broker POST /books/7/pledges {"article":"Gold ring","five_days":false,"kind":"fixed","pence":7500,"ref":"A2"}
+200 {"number":2,"receipt":"2-00000000-0000-0000-0000-000000000002"}
+2024-07-31 0 broker POST /books/7/pledges/1/sell {"net":9000}
+409 {"code":306,"name":"NotRealisable"}
+2024-08-01 0 broker POST /books/7/pledges/1/sell {"net":9000}
+409 {"code":306,"name":"NotRealisable"}
+2024-08-05 0 broker POST /books/7/pledges/1/sell {"net":9000}
+409 {"code":306,"name":"NotRealisable"}
+2024-07-31 0 broker POST /books/7/pledges/2/sell {"net":9000}
+409 {"code":306,"name":"NotRealisable"}
+2024-08-01 0 broker POST /books/7/pledges/2/sell {"net":9000}
+409 {"code":304,"name":"Passed"}
+2024-08-06 0 broker POST /books/7/pledges/1/sell {"net":100000001}
+400 {"code":201,"name":"BadAmount"}
+2024-08-06 0 broker POST /books/7/pledges/1/sell {"net":0}
+200 {"net":0,"shortfall":10000,"surplus":0}
+"#;
 
 #[test]
 fn a_pledge_is_sold_only_when_it_is_realisable(rt: HostRuntime) -> Result<(), Fail> {
-    let turns = [
-        BOOK,
-        FREE,
-        issues(
-            "2024-01-31",
-            1,
-            "POST /books/7/pledges",
-            r#"{"article":"Gold ring","five_days":true,"kind":"fixed","pence":10000,"ref":"A1"}"#,
-            OK,
-            r#"{"number":1,"receipt":"1-00000000-0000-0000-0000-000000000001"}"#,
-        ),
-        issues(
-            "2024-01-31",
-            2,
-            "POST /books/7/pledges",
-            r#"{"article":"Gold ring","five_days":false,"kind":"fixed","pence":7500,"ref":"A2"}"#,
-            OK,
-            r#"{"number":2,"receipt":"2-00000000-0000-0000-0000-000000000002"}"#,
-        ),
-        broker(
-            "2024-07-31",
-            "POST /books/7/pledges/1/sell",
-            r#"{"net":9000}"#,
-            CONFLICT,
-            r#"{"code":306,"name":"NotRealisable"}"#,
-        ),
-        broker(
-            "2024-08-01",
-            "POST /books/7/pledges/1/sell",
-            r#"{"net":9000}"#,
-            CONFLICT,
-            r#"{"code":306,"name":"NotRealisable"}"#,
-        ),
-        broker(
-            "2024-08-05",
-            "POST /books/7/pledges/1/sell",
-            r#"{"net":9000}"#,
-            CONFLICT,
-            r#"{"code":306,"name":"NotRealisable"}"#,
-        ),
-        broker(
-            "2024-07-31",
-            "POST /books/7/pledges/2/sell",
-            r#"{"net":9000}"#,
-            CONFLICT,
-            r#"{"code":306,"name":"NotRealisable"}"#,
-        ),
-        broker(
-            "2024-08-01",
-            "POST /books/7/pledges/2/sell",
-            r#"{"net":9000}"#,
-            CONFLICT,
-            r#"{"code":304,"name":"Passed"}"#,
-        ),
-        broker(
-            "2024-08-06",
-            "POST /books/7/pledges/1/sell",
-            r#"{"net":100000001}"#,
-            BAD,
-            r#"{"code":201,"name":"BadAmount"}"#,
-        ),
-        broker(
-            "2024-08-06",
-            "POST /books/7/pledges/1/sell",
-            r#"{"net":0}"#,
-            OK,
-            r#"{"net":0,"shortfall":10000,"surplus":0}"#,
-        ),
-    ];
-    plays(&rt, rt.alloc(), 100, &turns)
+    plays(&rt, rt.alloc(), 100, &[BOOK, FREE, REALISABLE])
 }
+
+const SHORTFALL: &str = r#"
+2024-08-01 0 broker POST /books/7/pledges/1/sell {"net":9000}
+200 {"net":9000,"shortfall":1000,"surplus":0}
+2024-08-01 0 broker POST /books/7/pledges/1/sell {"net":9000}
+409 {"code":305,"name":"Closed"}
+2024-07-31 0 broker POST /books/7/pledges/1/sell {"net":9000}
+409 {"code":205,"name":"EarlierDay"}
+2025-01-01 0 1-1 GET /books/7/held
+200 Pledge 1|Article Gold ring|Kind fixed 100.00|Taken 2024-01-31|Ends 2024-07-31|Status sold|Principal 100.00|Charges 0.00|Owing 100.00|Held no|Booking none|Sold 2024-08-01 net 90.00 surplus 0.00 shortfall 10.00|
+2024-08-01 0 1-1 POST /books/7/held/redeem {"paid":10000}
+409 {"code":305,"name":"Closed"}
+2024-07-31 0 1-1 POST /books/7/held/redeem {"paid":10000}
+409 {"code":205,"name":"EarlierDay"}
+2024-08-02 0 1-1 POST /books/7/held/ask {"day":"2024-08-03","window":0}
+409 {"code":305,"name":"Closed"}
+2024-08-01 2 broker POST /books/7/pledges/1/declare {"paper":"sworn"}
+409 {"code":305,"name":"Closed"}
+"#;
 
 #[test]
 fn a_sale_with_a_shortfall(rt: HostRuntime) -> Result<(), Fail> {
-    let turns = [
-        BOOK,
-        FREE,
-        OPENED,
-        broker(
-            "2024-08-01",
-            "POST /books/7/pledges/1/sell",
-            r#"{"net":9000}"#,
-            OK,
-            r#"{"net":9000,"shortfall":1000,"surplus":0}"#,
-        ),
-        broker(
-            "2024-08-01",
-            "POST /books/7/pledges/1/sell",
-            r#"{"net":9000}"#,
-            CONFLICT,
-            r#"{"code":305,"name":"Closed"}"#,
-        ),
-        broker(
-            "2024-07-31",
-            "POST /books/7/pledges/1/sell",
-            r#"{"net":9000}"#,
-            CONFLICT,
-            r#"{"code":205,"name":"EarlierDay"}"#,
-        ),
-        views(
-            "2025-01-01",
-            FIRST,
-            OK,
-            "Pledge 1\nArticle Gold ring\nKind fixed 100.00\nTaken 2024-01-31\nEnds 2024-07-31\nStatus sold\nPrincipal 100.00\nCharges 0.00\nOwing 100.00\nHeld no\nBooking none\nSold 2024-08-01 net 90.00 surplus 0.00 shortfall 10.00\n",
-        ),
-        bearer(
-            "2024-08-01",
-            FIRST,
-            "POST /books/7/held/redeem",
-            r#"{"paid":10000}"#,
-            CONFLICT,
-            r#"{"code":305,"name":"Closed"}"#,
-        ),
-        bearer(
-            "2024-07-31",
-            FIRST,
-            "POST /books/7/held/redeem",
-            r#"{"paid":10000}"#,
-            CONFLICT,
-            r#"{"code":205,"name":"EarlierDay"}"#,
-        ),
-        bearer(
-            "2024-08-02",
-            FIRST,
-            "POST /books/7/held/ask",
-            r#"{"day":"2024-08-03","window":0}"#,
-            CONFLICT,
-            r#"{"code":305,"name":"Closed"}"#,
-        ),
-        issues(
-            "2024-08-01",
-            2,
-            "POST /books/7/pledges/1/declare",
-            r#"{"paper":"sworn"}"#,
-            CONFLICT,
-            r#"{"code":305,"name":"Closed"}"#,
-        ),
-    ];
-    plays(&rt, rt.alloc(), 100, &turns)
+    plays(&rt, rt.alloc(), 100, &[BOOK, FREE, OPENED, SHORTFALL])
 }
+
+const SURPLUS: &str = r#"
+2000-01-01 0 broker POST /books/7/terms {"keep_after":1000000,"keep_before":1000000,"rate":2667,"version":1}
+200 {"version":1}
+2024-01-31 1 broker POST /books/7/pledges {"article":"Gold ring","five_days":false,"kind":"fixed","pence":10000,"ref":"A1"}
+200 {"number":1,"receipt":"1-00000000-0000-0000-0000-000000000001"}
+2024-02-29 0 broker POST /books/7/pledges/1/repay {"pence":3000,"seq":1}
+200 {"day":"2024-02-29","pence":3000,"seq":1,"sort":"repay"}
+2024-07-01 0 1-1 POST /books/7/held/ask {"day":"2024-08-20","window":15}
+200 {"booking":"asked","day":"2024-08-20","window":15}
+2024-07-02 0 broker POST /books/7/pledges/1/decide {"yes":true}
+200 {"booking":"confirmed","day":"2024-08-20","window":15}
+2024-07-03 0 broker POST /books/7/pledges/1/hold
+200 {"held":true}
+2024-08-01 0 broker GET /books/7/pledges/1
+200 Pledge 1|Article Gold ring|Kind fixed 100.00|Taken 2024-01-31|Ends 2024-07-31|Status realisable|Principal 78.02|Charges 33.58|Owing 111.60|Held yes|Booking 2024-08-20 15 confirmed|Entry 1 2024-02-29 repay 30.00|
+2024-08-01 0 broker POST /books/7/pledges/1/sell {"net":20000}
+200 {"net":20000,"shortfall":0,"surplus":8840}
+2024-12-31 0 1-1 GET /books/7/held
+200 Pledge 1|Article Gold ring|Kind fixed 100.00|Taken 2024-01-31|Ends 2024-07-31|Status sold|Principal 78.02|Charges 33.58|Owing 111.60|Held yes|Booking 2024-08-20 15 cancelled|Sold 2024-08-01 net 200.00 surplus 88.40 shortfall 0.00|Entry 1 2024-02-29 repay 30.00|
+"#;
 
 #[test]
 fn a_sale_with_a_surplus(rt: HostRuntime) -> Result<(), Fail> {
-    let turns = [
-        BOOK,
-        broker(
-            "2000-01-01",
-            "POST /books/7/terms",
-            r#"{"keep_after":1000000,"keep_before":1000000,"rate":2667,"version":1}"#,
-            OK,
-            r#"{"version":1}"#,
-        ),
-        OPENED,
-        broker(
-            "2024-02-29",
-            "POST /books/7/pledges/1/repay",
-            r#"{"pence":3000,"seq":1}"#,
-            OK,
-            r#"{"day":"2024-02-29","pence":3000,"seq":1,"sort":"repay"}"#,
-        ),
-        bearer(
-            "2024-07-01",
-            FIRST,
-            "POST /books/7/held/ask",
-            r#"{"day":"2024-08-20","window":15}"#,
-            OK,
-            r#"{"booking":"asked","day":"2024-08-20","window":15}"#,
-        ),
-        broker(
-            "2024-07-02",
-            "POST /books/7/pledges/1/decide",
-            r#"{"yes":true}"#,
-            OK,
-            r#"{"booking":"confirmed","day":"2024-08-20","window":15}"#,
-        ),
-        broker(
-            "2024-07-03",
-            "POST /books/7/pledges/1/hold",
-            "",
-            OK,
-            r#"{"held":true}"#,
-        ),
-        broker(
-            "2024-08-01",
-            "GET /books/7/pledges/1",
-            "",
-            OK,
-            "Pledge 1\nArticle Gold ring\nKind fixed 100.00\nTaken 2024-01-31\nEnds 2024-07-31\nStatus realisable\nPrincipal 78.02\nCharges 33.58\nOwing 111.60\nHeld yes\nBooking 2024-08-20 15 confirmed\nEntry 1 2024-02-29 repay 30.00\n",
-        ),
-        broker(
-            "2024-08-01",
-            "POST /books/7/pledges/1/sell",
-            r#"{"net":20000}"#,
-            OK,
-            r#"{"net":20000,"shortfall":0,"surplus":8840}"#,
-        ),
-        views(
-            "2024-12-31",
-            FIRST,
-            OK,
-            "Pledge 1\nArticle Gold ring\nKind fixed 100.00\nTaken 2024-01-31\nEnds 2024-07-31\nStatus sold\nPrincipal 78.02\nCharges 33.58\nOwing 111.60\nHeld yes\nBooking 2024-08-20 15 cancelled\nSold 2024-08-01 net 200.00 surplus 88.40 shortfall 0.00\nEntry 1 2024-02-29 repay 30.00\n",
-        ),
-    ];
-    plays(&rt, rt.alloc(), 100, &turns)
+    plays(&rt, rt.alloc(), 100, &[BOOK, SURPLUS])
 }

@@ -2,350 +2,139 @@
 
 use super::turns::*;
 use std::alloc::{AllocError, Global};
+use std::process::Abort;
 use std::test::Fail;
+
+const REPLACED: &str = r#"
+2024-01-31 2 broker POST /books/7/pledges {"article":"Gold ring","five_days":false,"kind":"fixed","pence":10000,"ref":"A2"}
+200 {"number":2,"receipt":"2-00000000-0000-0000-0000-000000000002"}
+2024-01-31 3 broker POST /books/7/pledges {"article":"Gold ring","five_days":false,"kind":"fixed","pence":10000,"ref":"A3"}
+200 {"number":3,"receipt":"3-00000000-0000-0000-0000-000000000003"}
+2024-01-31 4 broker POST /books/7/pledges/3/declare {"paper":"sworn"}
+200 {"receipt":"3-00000000-0000-0000-0000-000000000004"}
+2024-01-31 0 3-3 GET /books/7/held
+404 {"code":402,"name":"NoSuchReceipt"}
+2024-01-31 0 3-4 GET /books/7/held
+200 Pledge 3|Article Gold ring|Kind fixed 100.00|Taken 2024-01-31|Ends 2024-07-31|Status inside|Principal 100.00|Charges 0.00|Owing 100.00|Held no|Booking none|
+2024-01-31 0 3-3,3-4 GET /books/7/held
+200 Unknown receipt||Pledge 3|Article Gold ring|Kind fixed 100.00|Taken 2024-01-31|Ends 2024-07-31|Status inside|Principal 100.00|Charges 0.00|Owing 100.00|Held no|Booking none|
+2024-01-31 0 3-3 POST /books/7/held/redeem {"paid":10000}
+404 {"code":402,"name":"NoSuchReceipt"}
+2024-01-31 0 3-3 POST /books/7/held/repay {"pence":1,"seq":1}
+404 {"code":402,"name":"NoSuchReceipt"}
+2024-01-30 0 3-3 POST /books/7/held/repay {"pence":1,"seq":1}
+404 {"code":402,"name":"NoSuchReceipt"}
+2024-01-31 0 3-4 POST /books/7/held/redeem {"paid":10000}
+200 {"paid":10000,"redeemed":"2024-01-31"}
+2024-01-31 0 3-3 GET /books/7/held
+404 {"code":402,"name":"NoSuchReceipt"}
+2024-01-31 0 3-4 GET /books/7/held
+404 {"code":402,"name":"NoSuchReceipt"}
+2024-01-31 0 3-3,3-4 GET /books/7/held
+404 {"code":402,"name":"NoSuchReceipt"}
+"#;
 
 #[test]
 fn a_declaration_replaces_the_receipt(rt: HostRuntime) -> Result<(), Fail> {
-    let turns = [
-        BOOK,
-        FREE,
-        OPENED,
-        issues(
-            "2024-01-31",
-            2,
-            "POST /books/7/pledges",
-            r#"{"article":"Gold ring","five_days":false,"kind":"fixed","pence":10000,"ref":"A2"}"#,
-            OK,
-            r#"{"number":2,"receipt":"2-00000000-0000-0000-0000-000000000002"}"#,
-        ),
-        issues(
-            "2024-01-31",
-            3,
-            "POST /books/7/pledges",
-            r#"{"article":"Gold ring","five_days":false,"kind":"fixed","pence":10000,"ref":"A3"}"#,
-            OK,
-            r#"{"number":3,"receipt":"3-00000000-0000-0000-0000-000000000003"}"#,
-        ),
-        issues(
-            "2024-01-31",
-            4,
-            "POST /books/7/pledges/3/declare",
-            r#"{"paper":"sworn"}"#,
-            OK,
-            r#"{"receipt":"3-00000000-0000-0000-0000-000000000004"}"#,
-        ),
-        views("2024-01-31", THIRD, MISSING, UNKNOWN),
-        views(
-            "2024-01-31",
-            "Pledge-Receipt: 3-00000000-0000-0000-0000-000000000004",
-            OK,
-            "Pledge 3\nArticle Gold ring\nKind fixed 100.00\nTaken 2024-01-31\nEnds 2024-07-31\nStatus inside\nPrincipal 100.00\nCharges 0.00\nOwing 100.00\nHeld no\nBooking none\n",
-        ),
-        views(
-            "2024-01-31",
-            "Pledge-Receipt: 3-00000000-0000-0000-0000-000000000003\r\nPledge-Receipt: 3-00000000-0000-0000-0000-000000000004",
-            OK,
-            "Unknown receipt\n\nPledge 3\nArticle Gold ring\nKind fixed 100.00\nTaken 2024-01-31\nEnds 2024-07-31\nStatus inside\nPrincipal 100.00\nCharges 0.00\nOwing 100.00\nHeld no\nBooking none\n",
-        ),
-        bearer(
-            "2024-01-31",
-            THIRD,
-            "POST /books/7/held/redeem",
-            r#"{"paid":10000}"#,
-            MISSING,
-            UNKNOWN,
-        ),
-        bearer(
-            "2024-01-31",
-            THIRD,
-            "POST /books/7/held/repay",
-            r#"{"pence":1,"seq":1}"#,
-            MISSING,
-            UNKNOWN,
-        ),
-        bearer(
-            "2024-01-30",
-            THIRD,
-            "POST /books/7/held/repay",
-            r#"{"pence":1,"seq":1}"#,
-            MISSING,
-            UNKNOWN,
-        ),
-        bearer(
-            "2024-01-31",
-            "Pledge-Receipt: 3-00000000-0000-0000-0000-000000000004",
-            "POST /books/7/held/redeem",
-            r#"{"paid":10000}"#,
-            OK,
-            r#"{"paid":10000,"redeemed":"2024-01-31"}"#,
-        ),
-        views("2024-01-31", THIRD, MISSING, UNKNOWN),
-        views(
-            "2024-01-31",
-            "Pledge-Receipt: 3-00000000-0000-0000-0000-000000000004",
-            MISSING,
-            UNKNOWN,
-        ),
-        views(
-            "2024-01-31",
-            "Pledge-Receipt: 3-00000000-0000-0000-0000-000000000003\r\nPledge-Receipt: 3-00000000-0000-0000-0000-000000000004",
-            MISSING,
-            UNKNOWN,
-        ),
-    ];
-    plays(&rt, rt.alloc(), 100, &turns)
+    plays(&rt, rt.alloc(), 100, &[BOOK, FREE, OPENED, REPLACED])
 }
+
+const WRITTEN: &str = r#"
+2024-01-31 1 broker POST /books/7/pledges {"article":"Gold ring","five_days":false,"kind":"fixed","pence":7501,"ref":"A1"}
+200 {"number":1,"receipt":"1-00000000-0000-0000-0000-000000000001"}
+2024-01-31 2 broker POST /books/7/pledges {"article":"Gold ring","five_days":false,"kind":"fixed","pence":7500,"ref":"A2"}
+200 {"number":2,"receipt":"2-00000000-0000-0000-0000-000000000002"}
+2024-01-31 3 broker POST /books/7/pledges {"article":"Gold ring","five_days":false,"kind":"running","pence":7501,"ref":"A3"}
+200 {"number":3,"receipt":"3-00000000-0000-0000-0000-000000000003"}
+2024-01-31 6 broker POST /books/7/pledges/1/declare {"paper":"written"}
+409 {"code":307,"name":"NotSmall"}
+2024-01-31 0 1-1 GET /books/7/held
+200 Pledge 1|Article Gold ring|Kind fixed 75.01|Taken 2024-01-31|Ends 2024-07-31|Status inside|Principal 75.01|Charges 0.00|Owing 75.01|Held no|Booking none|
+2024-01-31 6 broker POST /books/7/pledges/2/declare {"paper":"written"}
+200 {"receipt":"2-00000000-0000-0000-0000-000000000006"}
+2024-01-31 0 2-2 GET /books/7/held
+404 {"code":402,"name":"NoSuchReceipt"}
+2024-01-31 6 broker POST /books/7/pledges/3/declare {"paper":"written"}
+409 {"code":307,"name":"NotSmall"}
+2024-01-31 7 broker POST /books/7/pledges/1/declare {"paper":"sworn"}
+200 {"receipt":"1-00000000-0000-0000-0000-000000000007"}
+"#;
 
 #[test]
 fn a_written_statement_is_for_small_credit(rt: HostRuntime) -> Result<(), Fail> {
-    let turns = [
-        BOOK,
-        FREE,
-        issues(
-            "2024-01-31",
-            1,
-            "POST /books/7/pledges",
-            r#"{"article":"Gold ring","five_days":false,"kind":"fixed","pence":7501,"ref":"A1"}"#,
-            OK,
-            r#"{"number":1,"receipt":"1-00000000-0000-0000-0000-000000000001"}"#,
-        ),
-        issues(
-            "2024-01-31",
-            2,
-            "POST /books/7/pledges",
-            r#"{"article":"Gold ring","five_days":false,"kind":"fixed","pence":7500,"ref":"A2"}"#,
-            OK,
-            r#"{"number":2,"receipt":"2-00000000-0000-0000-0000-000000000002"}"#,
-        ),
-        issues(
-            "2024-01-31",
-            3,
-            "POST /books/7/pledges",
-            r#"{"article":"Gold ring","five_days":false,"kind":"running","pence":7501,"ref":"A3"}"#,
-            OK,
-            r#"{"number":3,"receipt":"3-00000000-0000-0000-0000-000000000003"}"#,
-        ),
-        issues(
-            "2024-01-31",
-            6,
-            "POST /books/7/pledges/1/declare",
-            r#"{"paper":"written"}"#,
-            CONFLICT,
-            r#"{"code":307,"name":"NotSmall"}"#,
-        ),
-        views(
-            "2024-01-31",
-            FIRST,
-            OK,
-            "Pledge 1\nArticle Gold ring\nKind fixed 75.01\nTaken 2024-01-31\nEnds 2024-07-31\nStatus inside\nPrincipal 75.01\nCharges 0.00\nOwing 75.01\nHeld no\nBooking none\n",
-        ),
-        issues(
-            "2024-01-31",
-            6,
-            "POST /books/7/pledges/2/declare",
-            r#"{"paper":"written"}"#,
-            OK,
-            r#"{"receipt":"2-00000000-0000-0000-0000-000000000006"}"#,
-        ),
-        views("2024-01-31", SECOND, MISSING, UNKNOWN),
-        issues(
-            "2024-01-31",
-            6,
-            "POST /books/7/pledges/3/declare",
-            r#"{"paper":"written"}"#,
-            CONFLICT,
-            r#"{"code":307,"name":"NotSmall"}"#,
-        ),
-        issues(
-            "2024-01-31",
-            7,
-            "POST /books/7/pledges/1/declare",
-            r#"{"paper":"sworn"}"#,
-            OK,
-            r#"{"receipt":"1-00000000-0000-0000-0000-000000000007"}"#,
-        ),
-    ];
-    plays(&rt, rt.alloc(), 100, &turns)
+    plays(&rt, rt.alloc(), 100, &[BOOK, FREE, WRITTEN])
 }
+
+const SECRETS: &str = r#"
+2024-01-31 2 broker POST /books/7/pledges {"article":"Gold ring","five_days":false,"kind":"fixed","pence":7500,"ref":"A2"}
+200 {"number":2,"receipt":"2-00000000-0000-0000-0000-000000000002"}
+2024-02-10 1 broker POST /books/7/pledges/1/declare {"paper":"sworn"}
+409 {"code":308,"name":"SecretUsed"}
+2024-02-10 0 1-1 GET /books/7/held
+200 Pledge 1|Article Gold ring|Kind fixed 75.00|Taken 2024-01-31|Ends 2024-07-31|Status inside|Principal 75.00|Charges 0.00|Owing 75.00|Held no|Booking none|
+2024-02-09 0 broker POST /books/7/pledges/1/hold
+200 {"held":true}
+2024-02-10 2 broker POST /books/7/pledges/1/declare {"paper":"written"}
+200 {"receipt":"1-00000000-0000-0000-0000-000000000002"}
+2024-02-10 2 broker POST /books/7/pledges/1/declare {"paper":"sworn"}
+409 {"code":308,"name":"SecretUsed"}
+2024-02-10 1 broker POST /books/7/pledges/1/declare {"paper":"sworn"}
+409 {"code":308,"name":"SecretUsed"}
+2024-02-10 0 1-1,2-2,1-2 GET /books/7/held
+200 Unknown receipt||Pledge 2|Article Gold ring|Kind fixed 75.00|Taken 2024-01-31|Ends 2024-07-31|Status inside|Principal 75.00|Charges 0.00|Owing 75.00|Held no|Booking none||Pledge 1|Article Gold ring|Kind fixed 75.00|Taken 2024-01-31|Ends 2024-07-31|Status inside|Principal 75.00|Charges 0.00|Owing 75.00|Held yes|Booking none|
+"#;
 
 #[test]
 fn a_secret_is_issued_once_to_a_pledge(rt: HostRuntime) -> Result<(), Fail> {
-    let turns = [
-        BOOK,
-        FREE,
-        issues(
-            "2024-01-31",
-            1,
-            "POST /books/7/pledges",
-            r#"{"article":"Gold ring","five_days":false,"kind":"fixed","pence":7500,"ref":"A1"}"#,
-            OK,
-            r#"{"number":1,"receipt":"1-00000000-0000-0000-0000-000000000001"}"#,
-        ),
-        issues(
-            "2024-01-31",
-            2,
-            "POST /books/7/pledges",
-            r#"{"article":"Gold ring","five_days":false,"kind":"fixed","pence":7500,"ref":"A2"}"#,
-            OK,
-            r#"{"number":2,"receipt":"2-00000000-0000-0000-0000-000000000002"}"#,
-        ),
-        issues(
-            "2024-02-10",
-            1,
-            "POST /books/7/pledges/1/declare",
-            r#"{"paper":"sworn"}"#,
-            CONFLICT,
-            r#"{"code":308,"name":"SecretUsed"}"#,
-        ),
-        views(
-            "2024-02-10",
-            FIRST,
-            OK,
-            "Pledge 1\nArticle Gold ring\nKind fixed 75.00\nTaken 2024-01-31\nEnds 2024-07-31\nStatus inside\nPrincipal 75.00\nCharges 0.00\nOwing 75.00\nHeld no\nBooking none\n",
-        ),
-        broker(
-            "2024-02-09",
-            "POST /books/7/pledges/1/hold",
-            "",
-            OK,
-            r#"{"held":true}"#,
-        ),
-        issues(
-            "2024-02-10",
-            2,
-            "POST /books/7/pledges/1/declare",
-            r#"{"paper":"written"}"#,
-            OK,
-            r#"{"receipt":"1-00000000-0000-0000-0000-000000000002"}"#,
-        ),
-        issues(
-            "2024-02-10",
-            2,
-            "POST /books/7/pledges/1/declare",
-            r#"{"paper":"sworn"}"#,
-            CONFLICT,
-            r#"{"code":308,"name":"SecretUsed"}"#,
-        ),
-        issues(
-            "2024-02-10",
-            1,
-            "POST /books/7/pledges/1/declare",
-            r#"{"paper":"sworn"}"#,
-            CONFLICT,
-            r#"{"code":308,"name":"SecretUsed"}"#,
-        ),
-        views(
-            "2024-02-10",
-            "Pledge-Receipt: 1-00000000-0000-0000-0000-000000000001\r\nPledge-Receipt: 2-00000000-0000-0000-0000-000000000002\r\nPledge-Receipt: 1-00000000-0000-0000-0000-000000000002",
-            OK,
-            "Unknown receipt\n\nPledge 2\nArticle Gold ring\nKind fixed 75.00\nTaken 2024-01-31\nEnds 2024-07-31\nStatus inside\nPrincipal 75.00\nCharges 0.00\nOwing 75.00\nHeld no\nBooking none\n\nPledge 1\nArticle Gold ring\nKind fixed 75.00\nTaken 2024-01-31\nEnds 2024-07-31\nStatus inside\nPrincipal 75.00\nCharges 0.00\nOwing 75.00\nHeld yes\nBooking none\n",
-        ),
-    ];
-    plays(&rt, rt.alloc(), 100, &turns)
+    plays(&rt, rt.alloc(), 100, &[BOOK, FREE, SMALL, SECRETS])
 }
+
+const HELD: &str = r#"
+2024-01-31 0 broker POST /books/7/pledges/1/hold
+200 {"held":true}
+2024-01-31 9 broker POST /books/7/pledges/1/declare {"paper":"sworn"}
+200 {"receipt":"1-00000000-0000-0000-0000-000000000009"}
+2024-01-31 0 1-1 POST /books/7/held/redeem {"paid":10000}
+404 {"code":402,"name":"NoSuchReceipt"}
+2024-01-31 0 1-9 POST /books/7/held/redeem {"paid":10000}
+409 {"code":303,"name":"Held"}
+2024-01-31 0 1-9 GET /books/7/held
+200 Pledge 1|Article Gold ring|Kind fixed 100.00|Taken 2024-01-31|Ends 2024-07-31|Status inside|Principal 100.00|Charges 0.00|Owing 100.00|Held yes|Booking none|
+"#;
 
 #[test]
 fn a_held_pledge_is_declared_and_not_redeemed(rt: HostRuntime) -> Result<(), Fail> {
-    let turns = [
-        BOOK,
-        FREE,
-        OPENED,
-        broker(
-            "2024-01-31",
-            "POST /books/7/pledges/1/hold",
-            "",
-            OK,
-            r#"{"held":true}"#,
-        ),
-        issues(
-            "2024-01-31",
-            9,
-            "POST /books/7/pledges/1/declare",
-            r#"{"paper":"sworn"}"#,
-            OK,
-            r#"{"receipt":"1-00000000-0000-0000-0000-000000000009"}"#,
-        ),
-        bearer(
-            "2024-01-31",
-            FIRST,
-            "POST /books/7/held/redeem",
-            r#"{"paid":10000}"#,
-            MISSING,
-            UNKNOWN,
-        ),
-        bearer(
-            "2024-01-31",
-            "Pledge-Receipt: 1-00000000-0000-0000-0000-000000000009",
-            "POST /books/7/held/redeem",
-            r#"{"paid":10000}"#,
-            CONFLICT,
-            r#"{"code":303,"name":"Held"}"#,
-        ),
-        views(
-            "2024-01-31",
-            "Pledge-Receipt: 1-00000000-0000-0000-0000-000000000009",
-            OK,
-            "Pledge 1\nArticle Gold ring\nKind fixed 100.00\nTaken 2024-01-31\nEnds 2024-07-31\nStatus inside\nPrincipal 100.00\nCharges 0.00\nOwing 100.00\nHeld yes\nBooking none\n",
-        ),
-    ];
-    plays(&rt, rt.alloc(), 100, &turns)
+    plays(&rt, rt.alloc(), 100, &[BOOK, FREE, OPENED, HELD])
 }
+
+const PASSED: &str = r#"
+2024-08-01 2 broker POST /books/7/pledges/1/declare {"paper":"sworn"}
+409 {"code":304,"name":"Passed"}
+2024-07-31 2 broker POST /books/7/pledges/1/declare {"paper":"sworn"}
+200 {"receipt":"1-00000000-0000-0000-0000-000000000002"}
+2024-08-01 0 1-2 GET /books/7/held
+200 Pledge 1|Article Gold ring|Kind fixed 75.00|Taken 2024-01-31|Ends 2024-07-31|Status passed|Held no|Booking none|
+"#;
 
 #[test]
 fn a_passed_pledge_is_not_declared(rt: HostRuntime) -> Result<(), Fail> {
-    let turns = [
-        BOOK,
-        FREE,
-        issues(
-            "2024-01-31",
-            1,
-            "POST /books/7/pledges",
-            r#"{"article":"Gold ring","five_days":false,"kind":"fixed","pence":7500,"ref":"A1"}"#,
-            OK,
-            r#"{"number":1,"receipt":"1-00000000-0000-0000-0000-000000000001"}"#,
-        ),
-        issues(
-            "2024-08-01",
-            2,
-            "POST /books/7/pledges/1/declare",
-            r#"{"paper":"sworn"}"#,
-            CONFLICT,
-            r#"{"code":304,"name":"Passed"}"#,
-        ),
-        issues(
-            "2024-07-31",
-            2,
-            "POST /books/7/pledges/1/declare",
-            r#"{"paper":"sworn"}"#,
-            OK,
-            r#"{"receipt":"1-00000000-0000-0000-0000-000000000002"}"#,
-        ),
-        views(
-            "2024-08-01",
-            "Pledge-Receipt: 1-00000000-0000-0000-0000-000000000002",
-            OK,
-            "Pledge 1\nArticle Gold ring\nKind fixed 75.00\nTaken 2024-01-31\nEnds 2024-07-31\nStatus passed\nHeld no\nBooking none\n",
-        ),
-    ];
-    plays(&rt, rt.alloc(), 100, &turns)
+    plays(&rt, rt.alloc(), 100, &[BOOK, FREE, SMALL, PASSED])
 }
+
+const DECLARED: &str = r#"2024-01-31 2 broker POST /books/7/pledges/1/declare {"paper":"sworn"}"#;
 
 // A pledge, and so many declarations of it, each with a word of its own and this reply.
 fn declared(
+    rt: &impl Abort,
     alloc: Global,
     count: u8,
-    status: &'static str,
     reply: &'static str,
-) -> Result<Vec<Turn>, AllocError> {
-    let mut turns = Vec::new(alloc);
-    for turn in [BOOK, FREE, OPENED] {
-        turns.push(turn)?;
-    }
+) -> Result<Vec<Turn<'static>>, AllocError> {
+    let mut turns = turns_of(rt, alloc, &[BOOK, FREE, OPENED])?;
+    let declared = read_turn(rt, DECLARED, reply);
     for place in 0..count {
         let word = u128::from(place) + 2;
-        let line = "POST /books/7/pledges/1/declare";
-        let body = r#"{"paper":"sworn"}"#;
-        turns.push(issues("2024-01-31", word, line, body, status, reply))?;
+        turns.push(Turn { word, ..declared })?;
     }
     Ok(turns)
 }
@@ -353,15 +142,15 @@ fn declared(
 #[test]
 fn a_pledge_is_declared_a_hundred_times(rt: HostRuntime) -> Result<(), Fail> {
     let alloc = rt.alloc();
-    let last = r#"{"receipt":"1-00000000-0000-0000-0000-000000000065"}"#;
-    let turns = declared(alloc, 100, OK, last)?;
+    let last = r#"200 {"receipt":"1-00000000-0000-0000-0000-000000000065"}"#;
+    let turns = declared(&rt, alloc, 100, last)?;
     ends_with(&rt, alloc, 200, turns.as_slice())
 }
 
 #[test]
 fn a_pledge_is_declared_no_more_than_a_hundred_times(rt: HostRuntime) -> Result<(), Fail> {
     let alloc = rt.alloc();
-    let full = r#"{"code":309,"name":"DeclarationsFull"}"#;
-    let turns = declared(alloc, 101, CONFLICT, full)?;
+    let full = r#"409 {"code":309,"name":"DeclarationsFull"}"#;
+    let turns = declared(&rt, alloc, 101, full)?;
     ends_with(&rt, alloc, 200, turns.as_slice())
 }
