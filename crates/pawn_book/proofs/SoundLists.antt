@@ -1,25 +1,26 @@
 -- References that differ, and terms that stand, in a list of pledges.
 use Rattle.std.proofs.Common.{◌≡◌, ℕ, ◌+◌, ◌≤◌, zero, suc, List, [], ◌∷◌, ◌++◌, length, map, Some, None, refl, ◌∙◌, ap, sym, subst, arith}
-use Rattle.std.specs.Prelude.{if◌then◌else◌, Option, Bool, true, false, ◌==◌, ◌||◌}
+use Rattle.std.specs.Prelude.{if◌then◌else◌, Option, Bool, true, false, ◌==◌, ◌||◌, unwrap_or}
 use Rattle.std.specs.List.{list_any}
 use Rattle.std.proofs.lemmas.List.Folds.{list_any-append}
 use Rattle.pawn_terms.specs.Terms.{TermsValue}
 use Rattle.pawn_pledge.specs.Pledge.{PledgeValue}
 use Rattle.pawn_book.specs.BookStep.{is_text, pledge_from, put_from, terms_at, with_reference}
-use Rattle.pawn_book.specs.Sound.{AreDistinct, DoNotFall, Each, IsUnder}
+use Rattle.pawn_book.specs.Sound.{AreDistinct, DoNotFall, IsUnder}
+use Rattle.pawn_pledge.specs.Replayable.{Each}
 
-none_some : {A : Type 0} {P : Type 0} {x : A} → (let none : Option A = None in none ≡ Some x) → P
-none_some is = cc is
+pub some_is : {A : Type 0} (x y : A) → Some x ≡ Some y → x ≡ y
+some_is {A} x y is = ap (λ (o : Option A). unwrap_or o x) is
 
-same_of : {A : Type 0} (x y : A) → Some x ≡ Some y → x ≡ y
-same_of x y is = cc is
+pub absurd_none : {A : Type 0} {P : Type 0} {x : A} → (let none : Option A = None in none ≡ Some x) → P
+absurd_none is = cc is
 
 -- a list of what is told of pledges stays, where one is put that tells the same
 pub map-put : {A : Type 0} (f : PledgeValue → A) (k : ℕ) (ps : List PledgeValue) (n : ℕ) (p q : PledgeValue) → pledge_from k ps n ≡ Some p → f q ≡ f p → map f (put_from k ps n q) ≡ map f ps
-map-put f k [] n p q is same = none_some is
+map-put f k [] n p q is same = absurd_none is
 map-put f k (r ∷ ps) n p q is same =
     elim (n == k) as (λ v. (if v then Some r else pledge_from (k + 1) ps n) ≡ Some p → map f (if v then q ∷ ps else r ∷ put_from (k + 1) ps n q) ≡ map f (r ∷ ps)) [
-      | true ↦ λ here. ap (λ x. x ∷ map f ps) (same ∙ ap f (sym (same_of r p here)))
+      | true ↦ λ here. ap (λ x. x ∷ map f ps) (same ∙ ap f (sym (some_is r p here)))
       | false ↦ λ there. ap (λ xs. f r ∷ xs) (map-put f (k + 1) ps n p q there same)
     ] is
 
@@ -28,7 +29,7 @@ pub new_reference : (ps : List PledgeValue) (reference : List ℕ) → with_refe
 new_reference [] reference none = refl
 new_reference (p ∷ ps) reference none =
     elim (is_text p.reference reference) as (λ v. (if v then Some p else with_reference ps reference) ≡ None → (v || list_any (λ t. is_text t reference) (map (λ p. p.reference) ps)) ≡ false) [
-      | true ↦ λ some. none_some (sym some)
+      | true ↦ λ some. absurd_none (sym some)
       | false ↦ λ rest. new_reference ps reference rest
     ] none
 
@@ -56,14 +57,14 @@ references_push ps p all none = subst AreDistinct (sym (map_push (λ p. p.refere
 -- terms that stand are among the first
 pub under_length : (terms : List TermsValue) (version : ℕ) (t : TermsValue) → terms_at terms version ≡ Some t → version ≤ length terms
 under_length terms zero t is = omega arith
-under_length [] (suc n) t is = none_some is
+under_length [] (suc n) t is = absurd_none is
 under_length (u ∷ terms) (suc zero) t is = omega arith
 under_length (u ∷ terms) (suc (suc n)) t is = let rest = under_length terms (suc n) t is in omega (arith, rest)
 
 -- .. and stand with one more behind them
 under_more : (terms : List TermsValue) (u : TermsValue) (version : ℕ) (t : TermsValue) → terms_at terms version ≡ Some t → terms_at (terms ++ u ∷ []) version ≡ Some t
 under_more terms u zero t is = is
-under_more [] u (suc n) t is = none_some is
+under_more [] u (suc n) t is = absurd_none is
 under_more (s ∷ terms) u (suc zero) t is = is
 under_more (s ∷ terms) u (suc (suc n)) t is = under_more terms u (suc n) t is
 

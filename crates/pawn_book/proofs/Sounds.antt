@@ -1,30 +1,25 @@
 -- A host stays sound with a book that is.
 use Rattle.std.proofs.Common.{◌≡◌, ◌≢◌, ℕ, ◌+◌, ◌<◌, ◌≤◌, List, [], ◌∷◌, ◌++◌, length, map, Some, None, suc, refl, ◌∙◌, ap, sym, subst, arith, length-append}
-use Rattle.std.specs.Prelude.{if◌then◌else◌, Option, Bool, true, false, ◌==◌, unwrap_or}
+use Rattle.std.specs.Prelude.{if◌then◌else◌, Option, Bool, true, false, ◌==◌}
 use Rattle.std.specs.Cmp.{unsigned_tied}
 use Rattle.std.specs.FinMap.{get, get-insert}
 use Rattle.std.proofs.lemmas.Cmp.{nat_cmp_total}
 use Rattle.std.proofs.lemmas.Bool.Decides.{nat_tests}
 use Rattle.pawn_terms.specs.Terms.{TermsValue, IsChecked}
 use Rattle.pawn_pledge.specs.Pledge.{PledgeValue}
-use Rattle.pawn_pledge.specs.Replayable.{IsStanding}
+use Rattle.pawn_pledge.specs.Replayable.{Each, IsStanding}
 use Rattle.pawn_pledge.specs.Text.{IsText}
 use Rattle.pawn_book.specs.declared.request.NewBook.{NewBook}
 use Rattle.pawn_book.specs.BookStep.{BookValue, made_book, pledge_from, pledge_in, put_from, with_reference}
 use Rattle.pawn_book.specs.HostStep.{Host, with_book}
 use Rattle.pawn_book.specs.Limits.{IsCapacity, most_terms, most_pledges}
-use Rattle.pawn_book.specs.Sound.{AreDistinct, AreNumberedFrom, AreSound, DoNotFall, Each, IsSound, IsSoundBook, IsUnder}
+use Rattle.pawn_book.specs.Sound.{AreDistinct, AreNumberedFrom, AreSound, DoNotFall, IsSound, IsSoundBook, IsUnder}
+pub use Rattle.pawn_book.proofs.SoundLists.{absurd_none, some_is}
 use Rattle.pawn_book.proofs.SoundLists.{each_under_more, references_push, versions_push}
 
 -- the book at a number, once a book is set
 pub get-with_book : (h : Host) (b : ℕ) (book : BookValue) (q : ℕ) → get (with_book h b (Some book)).books q ≡ (if q == b then Some book else get h.books q)
 get-with_book h b book q = get-insert nat_cmp_total h.books b book q ∙ ap (λ v. if v then Some book else get h.books q) (unsigned_tied q b)
-
-pub some_is : {A : Type 0} (x y : A) → Some x ≡ Some y → x ≡ y
-some_is {A} x y is = ap (λ (o : Option A). unwrap_or o x) is
-
-pub absurd_none : {A : Type 0} {P : Type 0} {x : A} → (let none : Option A = None in none ≡ Some x) → P
-absurd_none is = cc is
 
 pub sound_with : (h : Host) (b : ℕ) (book : BookValue) → AreSound h → IsSoundBook book → AreSound (with_book h b (Some book))
 sound_with h b book sound one q other is = from (q == b) (sym (get-with_book h b book q) ∙ is)

@@ -4,16 +4,11 @@ use Rattle.std.specs.List.{list_any}
 use Rattle.std.specs.FinMap.{get}
 use Rattle.pawn_terms.specs.Terms.{TermsValue, IsChecked}
 use Rattle.pawn_pledge.specs.Pledge.{PledgeValue}
-use Rattle.pawn_pledge.specs.Replayable.{IsStanding}
+use Rattle.pawn_pledge.specs.Replayable.{Each, IsStanding}
 use Rattle.pawn_pledge.specs.Text.{IsText}
 use Rattle.pawn_book.specs.BookStep.{BookValue, is_text, terms_at}
 use Rattle.pawn_book.specs.HostStep.{Host, rows}
 use Rattle.pawn_book.specs.Limits.{IsCapacity, most_terms, most_pledges}
-
--- each element of a list
-abbrev pub Each : {A : Type 0} → (A → Type 0) → List A → Type 0
-Each P [] = Unit {0}
-Each P (x ∷ xs) = P x × Each P xs
 
 -- pledges are numbered k, k + 1, ..
 abbrev pub AreNumberedFrom : ℕ → List PledgeValue → Type 0

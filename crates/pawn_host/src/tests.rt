@@ -25,7 +25,7 @@ use std::test::Fail;
 
 const OPERATOR: u128 = 0x11111111_1111_1111_1111_111111111111;
 
-// The word of which row 1's receipt is made.
+// The word of which the receipt of the stored run is made.
 const WORD: u128 = 0xda41597c_5157_488d_7724_e03fb8d84a37;
 
 fn service(rt: &impl Abort, alloc: Global, limit: u64) -> Service<ListKeep> {

@@ -1,5 +1,5 @@
 -- A random word of a generator's stream.
-use Rattle.std.specs.Prelude.{◌≡◌, ℕ, ◌++◌}
+use Rattle.std.specs.Prelude.{ℕ, ◌++◌}
 use Rattle.std.specs.Int.{w32, w128, to_le_bytes, from_be_bytes}
 use Rattle.rand_chacha.specs.ChaCha.{ChaCha, next_word}
 use Rattle.pawnd.specs.declared.words.Words.{Words}

@@ -4,7 +4,7 @@ use crate::tests::{make, put};
 use crate::{
     BearerCommand, BearerRequest, Booking, BookingState, BrokerCommand, BrokerRequest, Caller, Day,
     Decision, Done, Flow, Keep, ListKeep, Number, Paper, Pledge, PledgeRefusal, PledgeVisitor,
-    Receipt, Refusal, Reply, Request, RequestDay, Secret, Stamp, act, plan,
+    Receipt, Refusal, Reply, Request, RequestDay, Secret, Stamp, act, commit, plan,
 };
 use pawn_debt::DebtFault;
 use std::alloc::Global;
@@ -275,6 +275,54 @@ fn rows_run_out(alloc: Global, mut keep: ListKeep) -> Result<bool, Fail> {
 #[test]
 fn commands_that_add_a_row_want_room(rt: HostRuntime) -> Result<(), Fail> {
     assert!(rt; rows_run_out(rt.alloc(), ListKeep::new(rt.alloc(), 6))?);
+    Ok(())
+}
+
+// Whether the plan of an order is committed so.
+fn commits<K: Keep>(
+    alloc: Global,
+    keep: &mut K,
+    order: &Order,
+    wanted: Result<(), Refusal>,
+) -> Result<bool, Fail> {
+    let stamp = stamp_of(order)?;
+    let request = request_of(order)?;
+    if !request.caller.writes() {
+        return Ok(false);
+    }
+    let planned = match plan(alloc, keep, Secret::of_word(OPERATOR), &stamp, &request) {
+        Err(_) => return Ok(false),
+        Ok(planned) => planned,
+    };
+    let came = commit(keep, &planned);
+    Ok(came == wanted)
+}
+
+fn plans_are_made(alloc: Global, mut keep: ListKeep) -> Result<bool, Fail> {
+    let (one, two) = (number(1)?, number(2)?);
+    let repay = BearerCommand::Repay {
+        seq: 1,
+        pence: 1000,
+    };
+    let repaid = bearer("2024-02-01", two, 44, repay, Err(Refusal::Full));
+    if !opens_two(alloc, &mut keep)? || !changes(alloc, &mut keep, &hold(one))? {
+        return Ok(false);
+    }
+    if !commits(alloc, &mut keep, &hold(one), Ok(()))? {
+        return Ok(false);
+    }
+    if changes(alloc, &mut keep, &hold(one))? {
+        return Ok(false);
+    }
+    Ok(
+        commits(alloc, &mut keep, &repaid, Err(Refusal::Full))?
+            && changes(alloc, &mut keep, &repaid)?,
+    )
+}
+
+#[test]
+fn a_plan_is_made_where_there_is_room(rt: HostRuntime) -> Result<(), Fail> {
+    assert!(rt; plans_are_made(rt.alloc(), ListKeep::new(rt.alloc(), 6))?);
     Ok(())
 }
 

@@ -3,6 +3,8 @@ use crate::reply::Out;
 use pawn_book::{
     Booking, BookingState, Day, Done, Entry, PledgeRefusal, Refusal, Reply, Secret, Sort,
 };
+use std::alloc::Global;
+use std::process::Abort;
 
 fn booked(day: Day, state: BookingState) -> Done {
     Done::Booked(Booking {
@@ -12,13 +14,30 @@ fn booked(day: Day, state: BookingState) -> Done {
     })
 }
 
+fn first_day(rt: &impl Abort) -> Day {
+    match Day::from_ymd(2024, 1, 31) {
+        Ok(day) => day,
+        Err(_) => panic!(rt; "no day"),
+    }
+}
+
+// Compares the reply to a command on pledge 3 with a body of this length.
+fn tells(rt: &impl Abort, alloc: Global, done: Done, length: &str, body: &str) {
+    let out = Out::Done(Reply::Commanded {
+        number: number(rt, 3),
+        done,
+    });
+    match format!(in alloc;
+        "HTTP/1.1 200 OK\r\nContent-Length: {length}\r\nContent-Type: application/json\r\n\r\n{body}"
+    ) {
+        Ok(wanted) => answers(rt, alloc, &out, wanted.as_str()),
+        Err(_) => panic!(rt; "no memory"),
+    }
+}
+
 #[test]
 fn tells_what_commands_did(rt: HostRuntime) {
-    let alloc = rt.alloc();
-    let Ok(day) = Day::from_ymd(2024, 1, 31) else {
-        panic!(rt; "no day");
-    };
-    let number = number(&rt, 3);
+    let day = first_day(&rt);
     for (done, length, body) in [
         (
             Done::Entered(Entry {
@@ -48,26 +67,6 @@ fn tells_what_commands_did(rt: HostRuntime) {
             "{\"receipt\":\"3-da41597c-5157-488d-7724-e03fb8d84a37\"}",
         ),
         (
-            booked(day, BookingState::Asked),
-            "49",
-            "{\"booking\":\"asked\",\"day\":\"2024-01-31\",\"window\":3}",
-        ),
-        (
-            booked(day, BookingState::Confirmed),
-            "53",
-            "{\"booking\":\"confirmed\",\"day\":\"2024-01-31\",\"window\":3}",
-        ),
-        (
-            booked(day, BookingState::Refused),
-            "51",
-            "{\"booking\":\"refused\",\"day\":\"2024-01-31\",\"window\":3}",
-        ),
-        (
-            booked(day, BookingState::Cancelled),
-            "53",
-            "{\"booking\":\"cancelled\",\"day\":\"2024-01-31\",\"window\":3}",
-        ),
-        (
             Done::Redeemed { day, paid: 7501 },
             "37",
             "{\"paid\":7501,\"redeemed\":\"2024-01-31\"}",
@@ -87,13 +86,36 @@ fn tells_what_commands_did(rt: HostRuntime) {
             "{\"ends\":\"2024-01-31\"}",
         ),
     ] {
-        let out = Out::Done(Reply::Commanded { number, done });
-        match format!(in alloc;
-            "HTTP/1.1 200 OK\r\nContent-Length: {length}\r\nContent-Type: application/json\r\n\r\n{body}"
-        ) {
-            Ok(wanted) => answers(&rt, alloc, &out, wanted.as_str()),
-            Err(_) => panic!(rt; "no memory"),
-        }
+        tells(&rt, rt.alloc(), done, length, body);
+    }
+}
+
+#[test]
+fn tells_where_a_booking_stands(rt: HostRuntime) {
+    let day = first_day(&rt);
+    for (done, length, body) in [
+        (
+            booked(day, BookingState::Asked),
+            "49",
+            "{\"booking\":\"asked\",\"day\":\"2024-01-31\",\"window\":3}",
+        ),
+        (
+            booked(day, BookingState::Confirmed),
+            "53",
+            "{\"booking\":\"confirmed\",\"day\":\"2024-01-31\",\"window\":3}",
+        ),
+        (
+            booked(day, BookingState::Refused),
+            "51",
+            "{\"booking\":\"refused\",\"day\":\"2024-01-31\",\"window\":3}",
+        ),
+        (
+            booked(day, BookingState::Cancelled),
+            "53",
+            "{\"booking\":\"cancelled\",\"day\":\"2024-01-31\",\"window\":3}",
+        ),
+    ] {
+        tells(&rt, rt.alloc(), done, length, body);
     }
 }
 
