@@ -1,5 +1,5 @@
 -- What was found in the buffer stands on the stream.
-use Rattle.std.proofs.Common.{◌≡◌, ℕ, ◌+◌, ◌<◌, ◌≤◌, true, false, List, [], ◌∷◌, ◌++◌, length, inl, inr, refl, arith, Option, Some, None, sym, ◌∙◌, ap, subst, append_assoc, append-nil, length-append, IfSome}
+use Rattle.std.proofs.Common.{◌≡◌, ◌≢◌, ℕ, ◌+◌, ◌<◌, ◌≤◌, Bool, true, false, List, [], ◌∷◌, ◌++◌, length, inl, inr, refl, arith, Option, Some, None, sym, ◌∙◌, ap, subst, append_assoc, append-nil, length-append, IfSome}
 use Rattle.std.specs.Prelude.{◌==◌}
 use Rattle.std.proofs.lemmas.Bool.Decides.{nat_tests}
 use Rattle.std.specs.Io.KnownBytes.{Keeps, Consumes, IsAtEnd, prepend_known}
@@ -11,7 +11,9 @@ use Rattle.pawn_wire.specs.declared.head.HeadRead.TheVariants.{Partial, Fault}
 use Rattle.pawn_wire.specs.declared.head.HeadFacts.{HeadFacts}
 use Rattle.pawn_wire.proofs.StreamLemmas.{reads_more, bad_head_stays}
 use Rattle.pawn_host.specs.Split.{IsCut, HasFault}
-use Rattle.pawn_host.specs.Finding.{Finds, HasHead}
+use Rattle.pawn_host.specs.Finding.{Finds, HasHead, IsCausedBy}
+use Rattle.pawn_host.specs.declared.session.Cause.{Cause}
+use Rattle.pawn_host.specs.declared.session.Cause.TheVariants.{Read, Write, Reads}
 use Rattle.pawn_host.specs.declared.session.Found.{Found}
 use Rattle.pawn_host.specs.declared.session.Found.TheVariants.{Request, AtEnd, CutOff}
 use Rattle.pawn_host.specs.declared.session.Found.TheVariants.{Faulty as FoundFaulty}
@@ -90,3 +92,9 @@ pub found_later : (a b : Option (List ℕ)) (found : Found) → Keeps a b → If
 found_later None b found k h = tt
 found_later (Some x) None found k h = absurd k
 found_later (Some x) (Some y) found k h = subst (λ (s : List ℕ). Finds s found) k h
+
+-- what stopped a search is not the writer
+pub not_by_writer : (cause : Cause) (failed : Bool) (reads : ℕ) → IsCausedBy cause failed reads false → cause ≢ Write
+not_by_writer Read failed reads by is = cc
+not_by_writer Reads failed reads by is = cc
+not_by_writer Write failed reads by is = cc

@@ -1,5 +1,6 @@
 pub mod SplitLemmas
 pub mod FindLemmas
+pub mod ReadLemmas
 pub mod SessionLemmas
 pub mod RunLemmas
 pub mod RunMore

@@ -7,7 +7,7 @@ use Rattle.pawn_wire.specs.Head.{ReadsHead}
 use Rattle.pawn_wire.specs.declared.fault.HeadFault.{HeadFault}
 use Rattle.pawn_wire.specs.declared.head.HeadFacts.{HeadFacts}
 use Rattle.pawn_wire.proofs.StreamLemmas.{whole_front}
-use Rattle.pawn_host.specs.Split.{Ending, at_end, cut, closed, faulted, at_limit, IsRequest, Passes, StopsAt, Splits, Begins, BeginsAndGoesOn}
+use Rattle.pawn_host.specs.Split.{Ending, at_end, cut, closed, faulted, at_limit, IsRequest, Passes, StopsAt, Splits, Begins, BeginsAndGoesOn, IsUnderWay}
 use Rattle.pawn_host.specs.Finding.{Finds}
 use Rattle.pawn_host.specs.declared.session.Found.TheVariants.{Request, AtEnd, CutOff, Faulty}
 
@@ -38,7 +38,7 @@ pub splits_start : (s : Option (List ℕ)) → SplitsOn s (prepend_known [] s) [
 splits_start None = tt
 splits_start (Some s) = refl
 
-length_snoc : (requests : List (List ℕ)) (x : List ℕ) → length (requests ++ x ∷ []) ≡ suc (length requests)
+pub length_snoc : (requests : List (List ℕ)) (x : List ℕ) → length (requests ++ x ∷ []) ≡ suc (length requests)
 length_snoc requests x = length-append requests (x ∷ []) ∙ (omega arith)
 
 -- a request was taken, and the stream goes on
@@ -115,3 +115,9 @@ stops_fault (Some r) n f few x = (few, x)
 pub stops_limit : (rest : Option (List ℕ)) (n : ℕ) → n ≡ 1000 → IfSome rest (λ r. StopsAt at_limit n r)
 stops_limit None n many = tt
 stops_limit (Some r) n many = many
+
+-- more may be taken behind the requests that were taken
+pub splits_under_way : (s rest : Option (List ℕ)) (requests : List (List ℕ)) → SplitsOn s rest requests → length requests < 1000 → IfSome s (λ x. IsUnderWay x requests)
+splits_under_way None rest requests on few = tt
+splits_under_way (Some s) None requests on few = absurd on
+splits_under_way (Some s) (Some r) requests on few = (r, on, few)

@@ -1,10 +1,11 @@
 -- What the functions below a session find.
-use Rattle.std.specs.Prelude.{◌≡◌, ℕ, ◌+◌, ◌<◌, ◌≤◌, Bool, true, false, List, [], ◌++◌, length, Option}
+use Rattle.std.specs.Prelude.{◌≡◌, ℕ, ◌+◌, ◌<◌, ◌≤◌, Bool, true, false, List, [], ◌∷◌, ◌++◌, length, Option}
+use Rattle.std.specs.List.{concat}
 use Rattle.std.specs.Io.KnownBytes.{Consumes, Keeps, IsAtEnd}
 use Rattle.httparse.specs.Grammar.{RequestHead}
 use Rattle.pawn_wire.specs.Head.{ReadsHead, IsHead}
 use Rattle.pawn_wire.specs.declared.head.HeadFacts.{HeadFacts}
-use Rattle.pawn_host.specs.Split.{IsCut, HasFault}
+use Rattle.pawn_host.specs.Split.{IsCut, HasFault, HasNoWhole}
 use Rattle.pawn_host.specs.declared.session.Filled.{Filled}
 use Rattle.pawn_host.specs.declared.session.Filled.TheVariants.{More, Done, Failed, OutOfReads, NoRoom}
 use Rattle.pawn_host.specs.declared.session.Found.{Found}
@@ -16,9 +17,9 @@ use Rattle.pawn_host.specs.declared.session.Cause.TheVariants.{Read, Write, Read
 abbrev pub IsFilled : Filled → Option (List ℕ) → Option (List ℕ) → List ℕ → List ℕ → Type 0
 IsFilled More a b old new = (piece : List ℕ) × (0 < length piece) × (new ≡ old ++ piece) × Consumes a b piece
 IsFilled Done a b old new = (new ≡ old) × Keeps a b × IsAtEnd b
-IsFilled Failed a b old new = Unit {0}
-IsFilled OutOfReads a b old new = Unit {0}
-IsFilled NoRoom a b old new = Unit {0}
+IsFilled Failed a b old new = Keeps a b
+IsFilled OutOfReads a b old new = Keeps a b
+IsFilled NoRoom a b old new = (piece : List ℕ) × Consumes a b piece
 
 -- what the stream begins with was found
 abbrev pub Finds : List ℕ → Found → Type 0
@@ -57,17 +58,32 @@ IsCausedBy Read read_failed reads write_failed = read_failed ≡ true
 IsCausedBy Write read_failed reads write_failed = write_failed ≡ true
 IsCausedBy Reads read_failed reads write_failed = reads ≡ 100000
 
-abbrev pub StopsBy : Found → Bool → ℕ → Type 0
-StopsBy (Request head) failed reads = Unit {0}
-StopsBy AtEnd failed reads = Unit {0}
-StopsBy CutOff failed reads = Unit {0}
-StopsBy (Faulty f) failed reads = Unit {0}
-StopsBy NoMemory failed reads = Unit {0}
-StopsBy (Stopped cause) failed reads = IsCausedBy cause failed reads false
+-- no read failed, unless that is what was found
+abbrev pub StopsBy : Found → Bool → Bool → ℕ → Type 0
+StopsBy (Request head) was failed reads = failed ≡ was
+StopsBy AtEnd was failed reads = failed ≡ was
+StopsBy CutOff was failed reads = failed ≡ was
+StopsBy (Faulty f) was failed reads = failed ≡ was
+StopsBy NoMemory was failed reads = failed ≡ was
+StopsBy (Stopped cause) was failed reads = IsCausedBy cause failed reads false
 
-abbrev pub FilledBy : Filled → Bool → ℕ → ℕ → Type 0
-FilledBy More failed old new = (old < 100000) × (new ≡ old + 1)
-FilledBy Done failed old new = Unit {0}
-FilledBy Failed failed old new = failed ≡ true
-FilledBy OutOfReads failed old new = new ≡ 100000
-FilledBy NoRoom failed old new = Unit {0}
+-- how many reads were made, and whether one failed
+abbrev pub FilledBy : Filled → Bool → Bool → ℕ → ℕ → Type 0
+FilledBy More was failed old new = (old < 100000) × (new ≡ old + 1) × (failed ≡ was)
+FilledBy Done was failed old new = (new ≡ old + 1) × (failed ≡ was)
+FilledBy Failed was failed old new = (new ≡ old + 1) × (failed ≡ true)
+FilledBy OutOfReads was failed old new = (new ≡ 100000) × (new ≡ old)
+FilledBy NoRoom was failed old new = (new ≡ old + 1) × (failed ≡ was)
+
+-- each read gave a piece, and was made while no whole request stood in the buffer
+abbrev pub AreMissing : List ℕ → List (List ℕ) → Type 0
+AreMissing buffer [] = Unit {0}
+AreMissing buffer (piece ∷ pieces) = HasNoWhole buffer × AreMissing (buffer ++ piece) pieces
+
+-- what was read while something was looked for
+pub record IsFetched (found : Found) (buffer buffer' : List ℕ) (before after : Option (List ℕ)) (reads reads' : ℕ) : Type 0 where
+  pub pieces : List (List ℕ)
+  pub count : reads' ≡ reads + length pieces
+  pub missing : AreMissing buffer pieces
+  pub gave : Consumes before after (concat pieces)
+  pub grown : IfRequest found (λ head. buffer' ≡ buffer ++ concat pieces)

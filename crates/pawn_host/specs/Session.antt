@@ -2,8 +2,8 @@
 use Rattle.std.specs.Prelude.{◌≡◌, ◌≢◌, ℕ, ◌+◌, ◌<◌, ◌≤◌, ◌⊎◌, All, List, [], ◌++◌, length, take, map, Option, None, IfSome, Result, Ok, Err}
 use Rattle.std.specs.List.{concat}
 use Rattle.std.specs.Iterator.{Yields}
-use Rattle.std.specs.Io.KnownBytes.{Appends}
-use Rattle.pawn_host.specs.Split.{at_end, cut, closed, faulted, at_limit, Splits, Begins, BeginsAndGoesOn}
+use Rattle.std.specs.Io.KnownBytes.{Appends, Consumes}
+use Rattle.pawn_host.specs.Split.{at_end, cut, closed, faulted, at_limit, Splits, Begins, BeginsAndGoesOn, IsUnderWay, AreWanted}
 use Rattle.pawn_pledge.specs.declared.command.Stamp.{Stamp}
 use Rattle.pawn_book.specs.HostStep.{Host}
 use Rattle.pawn_book.specs.Sound.{IsSound}
@@ -15,7 +15,8 @@ use Rattle.pawn_host.specs.declared.session.How.{How}
 use Rattle.pawn_host.specs.declared.session.How.TheVariants.{End, Cut, Closed, Faulted, Limit, NoStamp, Memory}
 use Rattle.pawn_host.specs.declared.session.Ended.{Ended}
 use Rattle.pawn_host.specs.declared.session.IoFault.{IoFault}
-use Rattle.pawn_host.specs.declared.session.Cause.TheVariants.{Write}
+use Rattle.pawn_host.specs.declared.session.Cause.{Cause}
+use Rattle.pawn_host.specs.declared.session.Cause.TheVariants.{Read, Write, Reads}
 
 abbrev pub stamps_of : List Item → List Stamp
 stamps_of items = map (λ i. i.stamp) items
@@ -28,22 +29,60 @@ abbrev pub answer_text : Host → ℕ → List Item → List ℕ
 answer_text h operator items = concat (replies h operator items)
 
 -- how a session ended, and what was written after the replies
-abbrev pub EndsAs : How → Option (List ℕ) → List (List ℕ) → List ℕ → Type 0 → Type 0
-EndsAs End left requests tail Dry = (tail ≡ []) × IfSome left (λ s. Splits s requests at_end)
-EndsAs Cut left requests tail Dry = (tail ≡ []) × IfSome left (λ s. Splits s requests cut)
-EndsAs Closed left requests tail Dry = (tail ≡ []) × IfSome left (λ s. Splits s requests closed)
-EndsAs Limit left requests tail Dry = (tail ≡ []) × IfSome left (λ s. Splits s requests at_limit)
-EndsAs Faulted left requests tail Dry = (f : HeadFault) × (tail ≡ fault_text (wire_fault f)) × IfSome left (λ s. Splits s requests (faulted f))
-EndsAs NoStamp left requests tail Dry = (tail ≡ []) × Dry × IfSome left (λ s. BeginsAndGoesOn s requests)
-EndsAs Memory left requests tail Dry = (tail ≡ memory_text) × IfSome left (λ s. Begins s requests)
+abbrev pub EndsAs : How → Option (List ℕ) → List (List ℕ) → List ℕ → Type 0
+EndsAs End left requests tail = (tail ≡ []) × IfSome left (λ s. Splits s requests at_end)
+EndsAs Cut left requests tail = (tail ≡ []) × IfSome left (λ s. Splits s requests cut)
+EndsAs Closed left requests tail = (tail ≡ []) × IfSome left (λ s. Splits s requests closed)
+EndsAs Limit left requests tail = (tail ≡ []) × IfSome left (λ s. Splits s requests at_limit)
+EndsAs Faulted left requests tail = (f : HeadFault) × (tail ≡ fault_text (wire_fault f)) × IfSome left (λ s. Splits s requests (faulted f))
+EndsAs NoStamp left requests tail = (tail ≡ []) × IfSome left (λ s. BeginsAndGoesOn s requests)
+EndsAs Memory left requests tail = (tail ≡ memory_text) × IfSome left (λ s. IsUnderWay s requests)
 
--- what was due after the replies where a session was broken off
-abbrev pub DueAfter : Option (List ℕ) → List (List ℕ) → List ℕ → Type 0
-DueAfter left requests tail = ((tail ≡ []) × IfSome left (λ s. Begins s requests))
-    ⊎ ((tail ≡ memory_text) × IfSome left (λ s. Begins s requests))
+-- what was due after the replies where a session was broken off. What broke a read off came before a further request was
+-- found, so where the stream was still under way; a write may also have failed at a request's reply, or at the last text
+abbrev pub DueAfter : Cause → Option (List ℕ) → List (List ℕ) → List ℕ → Type 0
+DueAfter Read left requests tail = (tail ≡ []) × IfSome left (λ s. IsUnderWay s requests)
+DueAfter Reads left requests tail = (tail ≡ []) × IfSome left (λ s. IsUnderWay s requests)
+DueAfter Write left requests tail = ((tail ≡ []) × IfSome left (λ s. Begins s requests))
+    ⊎ ((tail ≡ memory_text) × IfSome left (λ s. IsUnderWay s requests))
     ⊎ ((f : HeadFault) × (tail ≡ fault_text (wire_fault f)) × IfSome left (λ s. Splits s requests (faulted f)))
 
-module _ {S : Type 0} (steps : S → Option Stamp → S → Type 0) (from : S) (Steady : Type 0) (operator : ℕ) (h : Host) where
+-- the requests that a session acted on, however it ended
+abbrev pub acted_of : Result Ended IoFault → ℕ
+acted_of (Ok ended) = ended.acted
+acted_of (Err fault) = fault.acted
+
+-- so many reads were made, each while more was wanted, and they took their bytes from the front of what was left
+pub record IsRead (count : ℕ) (before after : Option (List ℕ)) : Type 0 where
+  pub pieces : List (List ℕ)
+  pub count_is : length pieces ≡ count
+  pub wanted : AreWanted [] pieces
+  pub gave : Consumes before after (concat pieces)
+
+module _ {S : Type 0} (steps : S → Option Stamp → S → Type 0) where
+  -- where the stamps of a session left the iterator: past a call that gave none, where none came for a further request
+  abbrev pub IsLeftBy : How → S → S → Type 0
+  IsLeftBy NoStamp to new = steps to None new
+  IsLeftBy End to new = to ≡ new
+  IsLeftBy Cut to new = to ≡ new
+  IsLeftBy Closed to new = to ≡ new
+  IsLeftBy Limit to new = to ≡ new
+  IsLeftBy Faulted to new = to ≡ new
+  IsLeftBy Memory to new = to ≡ new
+
+  abbrev pub IsLeft : Result Ended IoFault → S → S → Type 0
+  IsLeft (Ok ended) to new = IsLeftBy ended.how to new
+  IsLeft (Err fault) to new = to ≡ new
+
+  -- one stamp was taken for each request that was acted on, and no other
+  pub record AreTaken (from new : S) (result : Result Ended IoFault) : Type 0 where
+    pub stamps : List Stamp
+    pub to : S
+    pub count : length stamps ≡ acted_of result
+    pub taken : Yields steps from stamps to
+    pub left : IsLeft result to new
+
+module _ {S : Type 0} (steps : S → Option Stamp → S → Type 0) (from new_stamps : S) (Steady : Type 0) (operator : ℕ) (h : Host) where
   -- items with the stamps that the iterator gave; the keeper stands for the host after them, which is sound
   pub record IsServed (items : List Item) (to : S) (stands : Host → Type 0) : Type 0 where
     pub marked : All (IsMarked Steady) items
@@ -57,21 +96,21 @@ module _ {S : Type 0} (steps : S → Option Stamp → S → Type 0) (from : S) (
     pub to : S
     pub tail : List ℕ
     pub served : IsServed items to stands
+    pub stamps : IsLeftBy steps ended.how to new_stamps
     pub count : length items ≡ ended.acted
     pub wrote : Appends old new (answer_text h operator items ++ tail)
-    pub ends : EndsAs ended.how left (requests_of items) tail ((u : S) × steps to None u)
+    pub ends : EndsAs ended.how left (requests_of items) tail
 
   -- the session was broken off
   pub record IsBrokenOff (left : Option (List ℕ)) (stands : Host → Type 0) (old new : Option (List ℕ)) (fault : IoFault) : Type 0 where
     pub items : List Item
-    pub to : S
     pub tail : List ℕ
-    pub served : IsServed items to stands
+    pub served : IsServed items new_stamps stands
     pub count : length items ≡ fault.acted
     pub sent : fault.sent ≤ length (answer_text h operator items ++ tail)
     pub all_sent : fault.cause ≢ Write → fault.sent ≡ length (answer_text h operator items ++ tail)
     pub wrote : Appends old new (take fault.sent (answer_text h operator items ++ tail))
-    pub due : DueAfter left (requests_of items) tail
+    pub due : DueAfter fault.cause left (requests_of items) tail
 
   abbrev pub IsSession : Option (List ℕ) → (Host → Type 0) → Option (List ℕ) → Option (List ℕ) → Result Ended IoFault → Type 0
   IsSession left stands old new (Ok ended) = HasEnded left stands old new ended

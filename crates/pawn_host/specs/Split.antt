@@ -25,6 +25,10 @@ pub record IsRequest (bytes : List ℕ) (closes : Bool) : Type 0 where
   pub framed : body_length (fields_of head) ≡ Ok (length body)
   pub closes_is : closes ≡ closes_by head.minor (fields_of head)
 
+-- no whole request begins the rest
+abbrev pub HasNoWhole : List ℕ → Type 0
+HasNoWhole rest = (request more : List ℕ) (closes : Bool) → rest ≡ request ++ more → IsRequest request closes → ⊥
+
 -- the rest has begun with a head, which may still go on (how long it grows aside)
 abbrev pub IsCutHead : List ℕ → Type 0
 IsCutHead rest = (rest ≢ []) × (length rest < max_head) × HasNoRequest rest × MayBecomeRequest rest
@@ -81,3 +85,16 @@ abbrev pub BeginsAndGoesOn : List ℕ → List (List ℕ) → Type 0
 BeginsAndGoesOn stream requests =
     (next : List ℕ) × (more : List ℕ) × (closes : Bool)
     × Passes stream requests (next ++ more) × IsRequest next closes × (length requests < most_requests)
+
+-- the stream begins with these requests, none of which closes the connection, and more may be taken
+abbrev pub IsUnderWay : List ℕ → List (List ℕ) → Type 0
+IsUnderWay stream requests = (rest : List ℕ) × Passes stream requests rest × (length requests < most_requests)
+
+-- more is wanted behind what has come: it is requests after which more may be taken, and a rest that holds no whole one
+abbrev pub IsWanting : List ℕ → Type 0
+IsWanting come = (requests : List (List ℕ)) × (rest : List ℕ) × Passes come requests rest × (length requests < most_requests) × HasNoWhole rest
+
+-- each read gave a piece, and was made while more was wanted behind what had come
+abbrev pub AreWanted : List ℕ → List (List ℕ) → Type 0
+AreWanted come [] = Unit {0}
+AreWanted come (piece ∷ pieces) = IsWanting come × AreWanted (come ++ piece) pieces

@@ -205,6 +205,7 @@ impl<K: Keep> Service<K> {
         ensures run { IfOk result (λ answers. Of K.stands K.honest (service_keep self.old) (service_keep self.new) (λ h.
             IsRun (K.steady (service_keep self.old)) (service_operator self.old) h (map (λ p. (p.0, p.1.items)) items.now) (map answer_bytes answers.items) (K.stands (service_keep self.new)))) }
         ensures steady { K.steady (service_keep self.old) → K.steady (service_keep self.new) }
+        ensures operator { service_operator self.new ≡ service_operator self.old }
         ensures err { OnErr result (self.new ≡ self.old) }
     {
         let mut answers = Vec::with_capacity(self.alloc, items.len())?;

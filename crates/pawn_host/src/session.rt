@@ -1,11 +1,11 @@
 //! One connection: requests are read, answered and their replies written, one after the other.
-ghost use Rattle.std.specs.Prelude.{◌≡◌, ◌≢◌, ◌+◌, ◌<◌, ◌≤◌, ◌++◌, [], true, false, length, drop, IfSome, IfErr, IfOk, vec_len, ◌*◌, ◌^◌};
+ghost use Rattle.std.specs.Prelude.{◌≡◌, ◌≢◌, ◌+◌, ◌<◌, ◌≤◌, ◌++◌, [], true, false, length, drop, IfSome, IfErr, OnOk, vec_len, ◌*◌, ◌^◌};
 ghost use Rattle.std.specs.Io.KnownBytes.{Keeps, prepend_known};
 ghost use Rattle.pawn_book.specs.Keeping.{Of};
 ghost use Rattle.pawn_view.specs.Ends.{write_failed, written_of};
 ghost use Rattle.pawn_host.specs.Ends.{reads, read_failed, left_of};
-ghost use Rattle.pawn_host.specs.Finding.{IsFilled, Finds, FindsRest, HasHead, IfRequest, IsCausedBy, StopsBy, FilledBy};
-ghost use Rattle.pawn_host.specs.Session.{IsSession, IsFinished};
+ghost use Rattle.pawn_host.specs.Finding.{IsFilled, Finds, FindsRest, HasHead, IfRequest, IsCausedBy, StopsBy, FilledBy, IsFetched};
+ghost use Rattle.pawn_host.specs.Session.{IsSession, IsFinished, IsRead, AreTaken, acted_of};
 ghost use Rattle.pawn_host.specs.Keeps.{service_keep, service_operator, answer_bytes};
 
 use crate::reading::{MOST_READS, Reading};
@@ -84,7 +84,7 @@ enum Found {
 // One read, added to the buffer.
 fn fill<R: Read>(reader: &mut Reading<R>, buffer: &mut Vec<u8>) -> Filled
     ensures filled { IsFilled result (left_of R.remaining reader.old) (left_of R.remaining reader.new) buffer.old.items buffer.new.items }
-    ensures by { FilledBy result (read_failed reader.new) (reads reader.old) (reads reader.new) }
+    ensures by { FilledBy result (read_failed reader.old) (read_failed reader.new) (reads reader.old) (reads reader.new) }
 {
     if reader.reads() >= MOST_READS {
         return Filled::OutOfReads;
@@ -108,7 +108,8 @@ fn await_head<R: Read>(reader: &mut Reading<R>, buffer: &mut Vec<u8>) -> Found
     ensures small { IfRequest result (λ h. h.len + h.body ≤ 1056768) }
     ensures kept { IfRequest result (λ _. Keeps (prepend_known buffer.old.items (left_of R.remaining reader.old)) (prepend_known buffer.new.items (left_of R.remaining reader.new))) }
     ensures rest { IfSome (prepend_known buffer.old.items (left_of R.remaining reader.old)) (λ s. FindsRest s result) }
-    ensures stops { StopsBy result (read_failed reader.new) (reads reader.new) }
+    ensures stops { StopsBy result (read_failed reader.old) (read_failed reader.new) (reads reader.new) }
+    ensures fetched { IsFetched result buffer.old.items buffer.new.items (left_of R.remaining reader.old) (left_of R.remaining reader.new) (reads reader.old) (reads reader.new) }
 {
     loop {
         match read_head(buffer.as_slice()) {
@@ -144,11 +145,13 @@ fn request_len(head: &HeadFacts) -> usize
 fn await_body<R: Read>(reader: &mut Reading<R>, buffer: &mut Vec<u8>, head: HeadFacts) -> Found
     requires head { HasHead buffer.old.items head }
     requires small { head.len + head.body ≤ 1056768 }
+    ensures head { IfRequest result (HasHead buffer.new.items) }
     ensures small { IfRequest result (λ h. h.len + h.body ≤ 1056768) }
     ensures buffered { IfRequest result (λ h. h.len + h.body ≤ vec_len buffer.new) }
     ensures kept { IfRequest result (λ _. Keeps (prepend_known buffer.old.items (left_of R.remaining reader.old)) (prepend_known buffer.new.items (left_of R.remaining reader.new))) }
     ensures found { IfSome (prepend_known buffer.old.items (left_of R.remaining reader.old)) (λ s. Finds s result) }
-    ensures stops { StopsBy result (read_failed reader.new) (reads reader.new) }
+    ensures stops { StopsBy result (read_failed reader.old) (read_failed reader.new) (reads reader.new) }
+    ensures fetched { IsFetched result buffer.old.items buffer.new.items (left_of R.remaining reader.old) (left_of R.remaining reader.new) (reads reader.old) (reads reader.new) }
 {
     let needed = request_len(&head);
     while buffer.len() < needed {
@@ -165,11 +168,13 @@ fn await_body<R: Read>(reader: &mut Reading<R>, buffer: &mut Vec<u8>, head: Head
 
 // Reads until the next request is in the buffer.
 fn next_request<R: Read>(reader: &mut Reading<R>, buffer: &mut Vec<u8>) -> Found
+    ensures head { IfRequest result (HasHead buffer.new.items) }
     ensures small { IfRequest result (λ h. h.len + h.body ≤ 1056768) }
     ensures buffered { IfRequest result (λ h. h.len + h.body ≤ vec_len buffer.new) }
     ensures kept { IfRequest result (λ _. Keeps (prepend_known buffer.old.items (left_of R.remaining reader.old)) (prepend_known buffer.new.items (left_of R.remaining reader.new))) }
     ensures found { IfSome (prepend_known buffer.old.items (left_of R.remaining reader.old)) (λ s. Finds s result) }
-    ensures stops { StopsBy result (read_failed reader.new) (reads reader.new) }
+    ensures stops { StopsBy result (read_failed reader.old) (read_failed reader.new) (reads reader.new) }
+    ensures fetched { IsFetched result buffer.old.items buffer.new.items (left_of R.remaining reader.old) (left_of R.remaining reader.new) (reads reader.old) (reads reader.new) }
 {
     match await_head(reader, buffer) {
         Found::Request(head) => await_body(reader, buffer, head),
@@ -210,6 +215,7 @@ fn finish<W: Write>(
     requires room { sent ≤ acted * 2 ^ 64 }
     ensures finished { IsFinished how acted sent text.now (written_of W.contents writer.old) (written_of W.contents writer.new) result }
     ensures failed { IfErr result (λ fault. write_failed writer.new ≡ true) }
+    ensures whole { OnOk result (write_failed writer.new ≡ false) }
 {
     let count = send(writer, text);
     if count < text.len() {
@@ -224,24 +230,29 @@ fn finish<W: Write>(
 
 impl<K: Keep> Service<K> {
     /// Answers the requests of a stream in their order, and writes each reply before the next request is read. A stamp is
-    /// taken for each request once its last byte is there. At most 1,000 requests are answered and 100,000 reads made; no
-    /// failed read or write is tried again.
+    /// taken for each request once its last byte is there, and none for a fault, a cut or an end. At most 1,000 requests
+    /// are answered and 100,000 reads made, each while a further request is wanted and not whole yet; nothing is read
+    /// behind a request that closes. No failed read or write is tried again, and an ending means that neither end failed.
     ///
     /// The caller's conditions: the reader is new, and the writer has not failed.
-    pub fn answer_all<R: Read, W: Write, I: Iterator<Item = Stamp> + Drop>(
+    pub fn answer_all<R: Read, W: Write, I: Iterator<Item = Stamp>>(
         &mut self,
         reader: &mut Reading<R>,
         writer: &mut Writing<W>,
-        mut stamps: I,
+        stamps: &mut I,
     ) -> Result<Ended, IoFault>
         requires fresh { reads reader.old ≡ 0 }
         requires fine { write_failed writer.old ≡ false }
-        requires can { I.can_next stamps }
+        requires can { I.can_next stamps.old }
         ensures honest { K.honest (service_keep self.new) → K.honest (service_keep self.old) }
-        ensures session { Of K.stands K.honest (service_keep self.old) (service_keep self.new) (λ h. IsSession I.next_gives stamps (K.steady (service_keep self.old)) (service_operator self.old) h
+        ensures session { Of K.stands K.honest (service_keep self.old) (service_keep self.new) (λ h. IsSession I.next_gives stamps.old stamps.new (K.steady (service_keep self.old)) (service_operator self.old) h
             (left_of R.remaining reader.old) (K.stands (service_keep self.new)) (written_of W.contents writer.old) (written_of W.contents writer.new) result) }
         ensures steady { K.steady (service_keep self.old) → K.steady (service_keep self.new) }
-        ensures most { IfOk result (λ ended. ended.acted ≤ 1000) }
+        ensures operator { service_operator self.new ≡ service_operator self.old }
+        ensures stamps { AreTaken I.next_gives stamps.old stamps.new result }
+        ensures reads { IsRead (reads reader.new) (left_of R.remaining reader.old) (left_of R.remaining reader.new) }
+        ensures most { acted_of result ≤ 1000 }
+        ensures whole { OnOk result ((read_failed reader.new ≡ false) × (write_failed writer.new ≡ false)) }
         ensures cause { IfErr result (λ fault. IsCausedBy fault.cause (read_failed reader.new) (reads reader.new) (write_failed writer.new)) }
     {
         let mut buffer = Vec::new(self.alloc);

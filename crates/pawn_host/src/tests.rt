@@ -270,11 +270,11 @@ fn answered_with(
         taken: Vec::new(alloc),
         until_failure: writes,
     });
-    let stamps = Stamps {
+    let mut stamps = Stamps {
         day: stamp(rt, "2024-01-31", 0).day,
         words,
     };
-    let came = service.answer_all(&mut reader, &mut writer, stamps);
+    let came = service.answer_all(&mut reader, &mut writer, &mut stamps);
     let Drip {
         taken,
         until_failure: _,
