@@ -18,15 +18,15 @@ use Rattle.pawn_book.specs.declared.reply.Reply.{Reply}
 use Rattle.pawn_book.specs.BookStep.{BookValue, Makes, Outcome, Refuses, Says, bearer_commands, broker_commands, changed_book, is_live, judged_outcome, live_at, only_live, pledge_from, pledge_in, put_from, terms_at, windowed}
 use Rattle.pawn_book.specs.HostStep.{Host, with_book}
 use Rattle.pawn_book.specs.Sound.{AreDistinct, AreSound, DoNotFall, IsSound, IsSoundBook, IsUnder}
-use Rattle.pawn_book.specs.Keeping.{CanSave, IsOutcome, Plans, book_of, changed, outcome_of}
-use Rattle.pawn_book.proofs.KeptLemmas.{IsKept, kept_moved, stands_moved}
+use Rattle.pawn_book.specs.Keeping.{CanSave, Grows, IsOutcome, Plans, book_of, changed, outcome_of}
+use Rattle.pawn_book.proofs.KeptLemmas.{kept_moved, stands_moved}
 use Rattle.pawn_book.proofs.Places.{pledge_within}
 use Rattle.pawn_book.proofs.SoundLists.{map-put}
 use Rattle.pawn_book.proofs.Plans.{changed_is}
 use Rattle.pawn_book.proofs.Sounds.{absurd_none, each_at, each_put, length-put, numbered_at, numbered_put, sound_with}
 
 -- a book with a pledge in place of one that stood
-sound_put : (book : BookValue) (n : ℕ) (p q : PledgeValue) → IsSoundBook book → pledge_from 1 book.pledges n ≡ Some p → IsKept p q → IsStanding q
+sound_put : (book : BookValue) (n : ℕ) (p q : PledgeValue) → IsSoundBook book → pledge_from 1 book.pledges n ≡ Some p → Grows p q → IsStanding q
     → IsSoundBook (record book { pledges = put_from 1 book.pledges n q })
 sound_put book n p q sound is kept standing =
     let within = pledge_within 1 book.pledges n p is in
@@ -60,7 +60,7 @@ put_saves h b n at p q stamp command done sound is stands day given step =
     let same : changed h (PutPledge b n q) ≡ with_book h b (Some book) =
     changed_is h b (PutPledge b n q) book refl (ap (λ o. changed_book o (PutPledge b n q)) is) in
     record {
-      follows = (at, is, inr (p, stands, kept.grows));
+      follows = (at, is, inr (p, stands, kept));
       sound = subst AreSound (sym same) (sound_with h b book sound.books (sound_put at n p q one stands kept standing));
     }
 

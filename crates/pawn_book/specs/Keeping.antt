@@ -24,11 +24,12 @@ use Rattle.pawn_book.specs.declared.change.Change.TheVariants.{MakeBook, AddTerm
 use Rattle.pawn_book.specs.declared.change.Planned.{Planned}
 use Rattle.pawn_book.specs.declared.fault.KeepError.{KeepError}
 use Rattle.pawn_book.specs.declared.fault.KeepError.TheVariants as Keeper
+use Rattle.pawn_book.specs.declared.fault.StoreFault.TheVariants.{NoRecord}
 use Rattle.pawn_book.specs.declared.fault.SaveError.{SaveError}
 use Rattle.pawn_book.specs.declared.fault.SaveError.TheVariants as Save
 use Rattle.pawn_book.specs.BookStep.{BookValue, Told, Outcome, Refuses, Says, Makes, out_of, changed_book, confirmed_booking, pledge_from, with_reference, gated, head_of}
 use Rattle.pawn_book.specs.HostStep.{Host, rows, with_book, host_step, host_after}
-use Rattle.pawn_book.specs.Sound.{AreSound, IsSound}
+use Rattle.pawn_book.specs.Sound.{AreSound, IsSound, IsSoundBook}
 
 abbrev pub terms_of : Option BookValue → List TermsValue
 terms_of None = []
@@ -57,13 +58,23 @@ IsNextBook h after (Some next) =
     (after < next) × ((book : BookValue) × (get h.books next ≡ Some book))
     × ((b : ℕ) (book : BookValue) → get h.books b ≡ Some book → after < b → next ≤ b)
 
--- A call that changes nothing tells P of the host that the keeper stands for.
-pub record Reads {K : Type 0} (stands : K → Host → Type 0) (honest : K → Type 0) (old new : K) (P : Host → Type 0) : Type 0 where
+-- A call that changes nothing tells P of each host that the keeper stands for.
+pub record Reads {K : Type 0} (stands : K → Host → Type 0) (honest serves : K → Type 0) (old new : K) (P : Host → Type 0) : Type 0 where
   -- a keeper that is honest now was so before
   pub past : honest new → honest old
-  pub same : honest new → (h : Host) → IsSound h → stands old h → stands new h
-  pub back : honest new → (h : Host) → stands new h → stands old h
-  pub tells : honest new → (h : Host) → IsSound h → stands old h → P h
+  pub same : honest new → (h : Host) → stands old h → stands new h
+  -- one that serves now served before, and stands for no further host
+  pub served : honest new → serves new → serves old
+  pub back : honest new → serves new → (h : Host) → stands new h → stands old h
+  pub tells : honest new → (h : Host) → stands old h → P h
+
+-- a book of the host is not sound
+abbrev pub HasUnsoundBook : Host → Type 0
+HasUnsoundBook h = (b : ℕ) × (book : BookValue) × (get h.books b ≡ Some book) × (IsSoundBook book → ⊥)
+
+-- a stored row is told to be no record only of a host with a book that is not sound
+abbrev pub BlamesUnsound : {K T : Type 0} → (K → Host → Type 0) → (K → Type 0) → K → K → Result T KeepError → Type 0
+BlamesUnsound stands honest old new result = result ≡ Err (Keeper.Store NoRecord) → honest new → (h : Host) → stands old h → HasUnsoundBook h
 
 -- P of each sound host that the keeper stood for, if it is honest now
 abbrev pub Of : {K : Type 0} → (K → Host → Type 0) → (K → Type 0) → K → K → (Host → Type 0) → Type 0
@@ -95,8 +106,17 @@ book_of (PutPledge book number pledge) = book
 abbrev pub changed : Host → Change → Host
 changed h change = with_book h (book_of change) (changed_book (get h.books (book_of change)) change)
 
--- a pledge that stands has its lists grown at their ends alone
+-- what was agreed on a pledge that stands stays, and its lists grow at their ends alone
 pub record Grows (old new : PledgeValue) : Type 0 where
+  pub number : new.number ≡ old.number
+  pub reference : new.reference ≡ old.reference
+  pub article : new.article ≡ old.article
+  pub kind : new.kind ≡ old.kind
+  pub taken : new.taken ≡ old.taken
+  pub agreed : new.agreed ≡ old.agreed
+  pub five_days : new.five_days ≡ old.five_days
+  pub version : new.version ≡ old.version
+  pub terms : new.terms ≡ old.terms
   pub entries : (more : List Entry) × (new.entries ≡ old.entries ++ more)
   pub secrets : (more : List Issued) × (new.secrets ≡ old.secrets ++ more)
   pub extensions : (more : List Extension) × (new.extensions ≡ old.extensions ++ more)

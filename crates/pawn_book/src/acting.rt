@@ -13,8 +13,9 @@ use std::alloc::Global;
 
 /// Makes what was planned. Refused as `Full` where the rows would be above the limit.
 pub fn commit<K: Keep>(keep: &mut K, planned: &Planned) -> Result<(), Refusal>
-    requires saves { Of K.stands K.honest keep.old keep.old (λ h. IfSome planned.now.change (CanSave h)) }
+    requires saves { K.serves keep.old → Of K.stands K.honest keep.old keep.old (λ h. IfSome planned.now.change (CanSave h)) }
     ensures past { K.honest keep.new → K.honest keep.old }
+    ensures served { K.honest keep.new → K.serves keep.new → K.serves keep.old }
     ensures commits { Of K.stands K.honest keep.old keep.new (λ h. Commits h planned.now.change result (K.stands keep.new)) }
     ensures steady { IsQuiet K.steady keep.old keep.new result }
 {
@@ -39,6 +40,7 @@ pub fn act<K: Keep>(
 ) -> Result<Reply, Refusal>
     requires written { IsWritten request.now.caller }
     ensures past { K.honest keep.new → K.honest keep.old }
+    ensures served { K.honest keep.new → K.serves keep.new → K.serves keep.old }
     ensures acts { Of K.stands K.honest keep.old keep.new (λ h. Acts h operator stamp.now request.now result (K.stands keep.new)) }
     ensures steady { IsQuiet K.steady keep.old keep.new result }
 {

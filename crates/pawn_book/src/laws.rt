@@ -2,15 +2,15 @@ ghost use Rattle.pawn_book.specs.Laws.{ChangesDiffer, EntriesActOnce, RepeatsAct
 
 /// What a plan calls a change is one.
 pub fn changes_differ()
-    ensures { ChangesDiffer }
+    ensures law { ChangesDiffer }
 {}
 
 /// A book, a version of terms and a pledge are made once, however often they are asked for.
 pub fn repeats_act_once()
-    ensures { RepeatsActOnce }
+    ensures law { RepeatsActOnce }
 {}
 
 /// A drawing or a repayment of a number is entered once, however often it is asked for.
 pub fn entries_act_once()
-    ensures { EntriesActOnce }
+    ensures law { EntriesActOnce }
 {}

@@ -149,6 +149,8 @@ impl Keep for ListKeep {
 
     ghost honest = { λ k. ⊤ };
 
+    ghost serves = { λ k. ⊤ };
+
     ghost steady = { λ k. ⊤ };
 
     fn head(&mut self, book: Number) -> Result<Option<Head>, KeepError> {

@@ -44,7 +44,7 @@ pub enum Refusal {
 impl Refusal {
     /// The refusal's number.
     pub fn code(self) -> u16
-        ensures { result ≡ code_of self }
+        ensures code { result ≡ code_of self }
     {
         match self {
             Refusal::Pledge(refusal) => refusal.code(),
@@ -68,7 +68,7 @@ impl Refusal {
 
     /// The refusal's name.
     pub fn name(self) -> &'static str
-        ensures { result.now ≡ name_of self }
+        ensures name { result.now ≡ name_of self }
     {
         match self {
             Refusal::Pledge(refusal) => refusal.name(),
@@ -92,7 +92,7 @@ impl Refusal {
 
     /// The total owing in pence, where the refusal tells it.
     pub fn total(self) -> Option<u64>
-        ensures { result ≡ total_of self }
+        ensures total { result ≡ total_of self }
     {
         match self {
             Refusal::Pledge(refusal) => refusal.total(),

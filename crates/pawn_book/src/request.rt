@@ -34,7 +34,7 @@ pub enum Caller {
 impl Caller {
     /// Whether the request may change its book: whatever is not asked for a text.
     pub fn writes(&self) -> bool
-        ensures { IsTrue result ↔ IsWritten self.now }
+        ensures writes { IsTrue result ↔ IsWritten self.now }
     {
         match self {
             Caller::Operator { .. } => true,
@@ -89,7 +89,7 @@ pub enum BrokerRequest {
 impl BrokerRequest {
     // Whether it may change the book.
     fn writes(&self) -> bool
-        ensures { IsTrue result ↔ IsBrokerWrite self.now }
+        ensures writes { IsTrue result ↔ IsBrokerWrite self.now }
     {
         match self {
             BrokerRequest::PutTerms(_) => true,
@@ -125,7 +125,7 @@ pub enum BearerRequest {
 impl BearerRequest {
     // Whether it may change the book.
     fn writes(&self) -> bool
-        ensures { IsTrue result ↔ IsBearerWrite self.now }
+        ensures writes { IsTrue result ↔ IsBearerWrite self.now }
     {
         match self {
             BearerRequest::Held(_) => false,

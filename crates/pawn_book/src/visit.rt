@@ -16,7 +16,7 @@ pub trait EntryVisitor {
     ghost step: { Self → Entry → Flow → Self → Type 0 };
 
     fn visit(&mut self, entry: &Entry) -> Flow
-        ensures { step self.old entry.now result self.new };
+        ensures steps { step self.old entry.now result self.new };
 }
 
 /// What is handed the extensions of a pledge, one by one.
@@ -28,7 +28,7 @@ pub trait ExtensionVisitor {
     ghost step: { Self → Extension → Flow → Self → Type 0 };
 
     fn visit(&mut self, extension: &Extension) -> Flow
-        ensures { step self.old extension.now result self.new };
+        ensures steps { step self.old extension.now result self.new };
 }
 
 /// What is handed the pledges of a book, one by one.
@@ -40,5 +40,5 @@ pub trait PledgeVisitor {
     ghost step: { Self → PledgeValue → Flow → Self → Type 0 };
 
     fn visit(&mut self, pledge: &Pledge) -> Flow
-        ensures { step self.old pledge.now result self.new };
+        ensures steps { step self.old pledge.now result self.new };
 }

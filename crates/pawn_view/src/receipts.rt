@@ -3,6 +3,7 @@ ghost use Rattle.std.specs.Prelude.{◌≡◌, false, true, not, is_ok, option_m
 ghost use Rattle.std.specs.FinMap.{get};
 ghost use Rattle.pawn_pledge.specs.Brief.{brief_of};
 ghost use Rattle.pawn_book.specs.BookStep.{pledge_in, live_at, are_unknown};
+ghost use Rattle.pawn_book.specs.Sound.{IsSound};
 ghost use Rattle.pawn_book.specs.Keeping.{Reads, IsSteady};
 ghost use Rattle.pawn_view.specs.Ends.{Puts, write_failed};
 ghost use Rattle.pawn_view.specs.Text.{shown_text, further_texts, held_text};
@@ -20,7 +21,7 @@ fn live_brief<K: Keep>(
     book: Number,
     receipt: &Receipt,
 ) -> Result<Option<Brief>, KeepError>
-    ensures reads { Reads K.stands K.honest keep.old keep.new (λ h. IfOk result (λ brief. brief ≡ option_map brief_of (live_at (pledge_in (get h.books book)) receipt.now))) }
+    ensures reads { Reads K.stands K.honest K.serves keep.old keep.new (λ h. IfOk result (λ brief. brief ≡ option_map brief_of (live_at (pledge_in (get h.books book)) receipt.now))) }
     ensures steady { IsSteady K.steady keep.old keep.new result }
 {
     match keep.brief(book, receipt.number) {
@@ -32,7 +33,7 @@ fn live_brief<K: Keep>(
 
 // Whether one of the receipts is live.
 fn is_any_live<K: Keep>(keep: &mut K, book: Number, receipts: &[Receipt]) -> Result<bool, KeepError>
-    ensures reads { Reads K.stands K.honest keep.old keep.new (λ h. IfOk result (λ live. live ≡ not (are_unknown (live_pledges h book receipts.now)))) }
+    ensures reads { Reads K.stands K.honest K.serves keep.old keep.new (λ h. IfOk result (λ live. live ≡ not (are_unknown (live_pledges h book receipts.now)))) }
     ensures steady { IsSteady K.steady keep.old keep.new result }
 {
     for receipt in receipts {
@@ -53,7 +54,7 @@ fn put_shown<K: Keep, W: Write>(
     day: Day,
     writer: &mut Writing<W>,
 ) -> Result<(), KeepError>
-    ensures shares { Reads K.stands K.honest keep.old keep.new (λ h. PutsShare W.contents writer.old (shown_text day (live_at (pledge_in (get h.books book)) receipt.now)) (is_ok result) writer.new) }
+    ensures shares { Reads K.stands K.honest K.serves keep.old keep.new (λ h. IsSound h → PutsShare W.contents writer.old (shown_text day (live_at (pledge_in (get h.books book)) receipt.now)) (is_ok result) writer.new) }
     ensures steady { IsSteady K.steady keep.old keep.new result }
 {
     match live_brief(keep, book, receipt) {
@@ -74,7 +75,7 @@ fn put_further<K: Keep, W: Write>(
     day: Day,
     writer: &mut Writing<W>,
 ) -> Result<(), KeepError>
-    ensures shares { Reads K.stands K.honest keep.old keep.new (λ h. PutsShare W.contents writer.old (further_texts day (live_pledges h book receipts.now)) (is_ok result) writer.new) }
+    ensures shares { Reads K.stands K.honest K.serves keep.old keep.new (λ h. IsSound h → PutsShare W.contents writer.old (further_texts day (live_pledges h book receipts.now)) (is_ok result) writer.new) }
     ensures steady { IsSteady K.steady keep.old keep.new result }
 {
     for receipt in receipts {
@@ -95,7 +96,7 @@ fn put_held<K: Keep, W: Write>(
     day: Day,
     writer: &mut Writing<W>,
 ) -> Result<(), KeepError>
-    ensures shares { Reads K.stands K.honest keep.old keep.new (λ h. PutsShare W.contents writer.old (held_text day (live_pledges h book receipts.now)) (is_ok result) writer.new) }
+    ensures shares { Reads K.stands K.honest K.serves keep.old keep.new (λ h. IsSound h → PutsShare W.contents writer.old (held_text day (live_pledges h book receipts.now)) (is_ok result) writer.new) }
     ensures steady { IsSteady K.steady keep.old keep.new result }
 {
     let [first, rest @ ..] = receipts else {
@@ -121,7 +122,7 @@ pub fn held<K: Keep, W: Write>(
     writer: &mut Writing<W>,
 ) -> Result<(), ViewFault>
     requires fine { write_failed writer.old ≡ false }
-    ensures shows { Reads K.stands K.honest keep.old keep.new (λ h. Shows W.contents ViewFault.NoSuchReceipt writer.old (held_of h book receipts.now day) result writer.new) }
+    ensures shows { Reads K.stands K.honest K.serves keep.old keep.new (λ h. IsSound h → Shows W.contents ViewFault.NoSuchReceipt writer.old (held_of h book receipts.now day) result writer.new) }
     ensures write { IsErrOf result ViewFault.Write → write_failed writer.new ≡ true }
     ensures steady { IsQuietView K.steady keep.old keep.new result }
 {

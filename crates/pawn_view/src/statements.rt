@@ -2,6 +2,7 @@
 ghost use Rattle.std.specs.Prelude.{◌≡◌, ◌≤◌, false, true, Some, is_ok, max, IsErrOf};
 ghost use Rattle.pawn_pledge.specs.Pledge.{PledgeValue};
 ghost use Rattle.pawn_pledge.specs.Brief.{brief_of, brief_status, brief_owing};
+ghost use Rattle.pawn_book.specs.Sound.{IsSound};
 ghost use Rattle.pawn_book.specs.Keeping.{Reads, IsSteady};
 ghost use Rattle.pawn_view.specs.Fault.{ending_of};
 ghost use Rattle.pawn_view.specs.Ends.{Puts, write_failed};
@@ -84,7 +85,7 @@ pub(crate) fn put_statement<K: Keep, W: Write>(
     day: Day,
     writer: &mut Writing<W>,
 ) -> Result<(), KeepError>
-    ensures shares { Reads K.stands K.honest keep.old keep.new (λ h. (p : PledgeValue) → pledge_at h book number ≡ Some p → brief.now ≡ brief_of p
+    ensures shares { Reads K.stands K.honest K.serves keep.old keep.new (λ h. IsSound h → (p : PledgeValue) → pledge_at h book number ≡ Some p → brief.now ≡ brief_of p
         → PutsShare W.contents writer.old (statement_text day p) (is_ok result) writer.new) }
     ensures steady { IsSteady K.steady keep.old keep.new result }
 {
@@ -109,7 +110,7 @@ pub fn statement<K: Keep, W: Write>(
     writer: &mut Writing<W>,
 ) -> Result<(), ViewFault>
     requires fine { write_failed writer.old ≡ false }
-    ensures shows { Reads K.stands K.honest keep.old keep.new (λ h. Shows W.contents ViewFault.NoSuchPledge writer.old (statement_of h book number day) result writer.new) }
+    ensures shows { Reads K.stands K.honest K.serves keep.old keep.new (λ h. IsSound h → Shows W.contents ViewFault.NoSuchPledge writer.old (statement_of h book number day) result writer.new) }
     ensures write { IsErrOf result ViewFault.Write → write_failed writer.new ≡ true }
     ensures steady { IsQuietView K.steady keep.old keep.new result }
 {

@@ -2,4 +2,4 @@ use Rattle.pawn_book.proofs.LawLemmas.{change_differs}
 use Rattle.pawn_book.proofs.laws.changes_differ.Goals as goal
 
 pub returns : goal.returns
-returns c = change_differs
+returns c = record { law = change_differs }

@@ -2,4 +2,4 @@ use Rattle.pawn_book.proofs.LawLemmas.{entry_told}
 use Rattle.pawn_book.proofs.laws.entries_act_once.Goals as goal
 
 pub returns : goal.returns
-returns c = entry_told
+returns c = record { law = entry_told }

@@ -8,7 +8,7 @@ use Rattle.pawn_book.proofs.Reading.{ok_is, reads_then}
 use Rattle.pawn_book.proofs.planning.plan_pledge.Goals as goal
 
 pub returns-in-Ok-clause-reads : goal.returns-in-Ok-clause-reads
-returns-in-Ok-clause-reads g c = reads_then c.find_reference.ensures.reads c.take.ensures.reads (λ h sound found taken at is heads.
+returns-in-Ok-clause-reads g c = reads_then c.find_reference.ensures.reads c.take.ensures.reads (λ h found taken sound at is heads.
     let answer = subst (IsTaken (taken_under c.args.head.now c.args.opening.now c.args.stamp.now (newest at.terms))) c.in-Ok.is (taken at is heads) in
     subst (λ n. Plans h c.args.book (take_pledge at c.args.book c.args.opening.now c.args.stamp.now (with_reference at.pledges c.args.opening.now.reference))
     (Ok (record { change = Some (PutPledge c.args.book n c.in-Ok.pledge); reply = Opened c.first_receipt-in-Ok.result })))
@@ -17,4 +17,4 @@ returns-in-Ok-clause-reads g c = reads_then c.find_reference.ensures.reads c.tak
     (Ok (record { change = Some (PutPledge c.args.book c.in-Ok.pledge.number c.in-Ok.pledge); reply = Opened r })))
     (sym c.first_receipt-in-Ok.ensures)
     (taken_plans h c.args.book at c.args.head.now c.args.opening.now c.args.stamp.now c.in-Ok.pledge sound is heads
-    (ok_is (c.in-Ok-None.is ∙ ap Ok c.in-Ok-None.field-0-is) found) answer c.in-Ok.ensures.standing)))
+    (ok_is (c.in-Ok-None.is ∙ ap Ok c.in-Ok-None.field-0-is) (found sound)) answer c.in-Ok.ensures.standing)))

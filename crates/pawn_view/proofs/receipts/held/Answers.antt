@@ -8,6 +8,6 @@ use Rattle.pawn_view.proofs.receipts.held.Goals as goal
 
 pub returns-clause-shows : goal.returns-clause-shows
 returns-clause-shows g c =
-    reads_then c.is_any_live.ensures.reads c.put_held-done.ensures.shares (λ h sound said share.
+    reads_then c.is_any_live.ensures.reads c.put_held-done.ensures.shares (λ h said share sound.
     held_shows g.W.Write.contents fault.NoSuchReceipt c.args.writer.now c.put_held-done.new.writer (held_text c.args.day (live_pledges h c.args.book c.args.receipts.now)) (are_unknown (live_pledges h c.args.book c.args.receipts.now)) c.put_held-done.result c.ending.result
-    c.requires.fine c.ending.ensures.answer (rw (c.in-Ok-true.is, c.in-Ok-true.field-0-test) at said) share)
+    c.requires.fine c.ending.ensures.answer (rw (c.in-Ok-true.is, c.in-Ok-true.field-0-test) at said) (share sound))
