@@ -8,8 +8,8 @@ returns-in-Err-clause-acted g c = λ honest h sound at bytes read.
     let operator = service_operator c.args.self.now in
     let stands = g.K.Keep.stands c.plan.new.keep in
     let why = c.in-Err.refusal in
-    let plans = rw c.in-Err.is at (c.plan.ensures.reads.tells honest h sound at) in
-    let acts = refused_acts h operator c.args.stamp.now c.args.request.now stands why plans (c.plan.ensures.reads.same honest h sound at) in
+    let plans = rw c.in-Err.is at (c.plan.ensures.reads.tells honest h at sound) in
+    let acts = refused_acts h operator c.args.stamp.now c.args.request.now stands why plans (c.plan.ensures.reads.same honest h at) in
     acted_refused (g.K.Keep.steady (service_keep c.args.self.now)) operator h c.args.stamp.now bytes c.told.result stands c.args.request.now why read c.told.ensures.tells acts.0 sound acts.1
     (λ steady store. c.plan.ensures.steady.never steady (err_is c.plan.result why c.in-Err.is store))
 
@@ -18,8 +18,8 @@ returns-in-Ok-commit-clause-acted g c = λ honest h sound at bytes read.
     let operator = service_operator c.args.self.now in
     let stands = g.K.Keep.stands c.commit.new.keep in
     let before = c.commit.ensures.past honest in
-    let plans = rw c.in-Ok.is at (c.plan.ensures.reads.tells before h sound at) in
-    let commits = rw c.in-Ok-commit.is at (c.commit.ensures.commits honest h sound (c.plan.ensures.reads.same before h sound at)) in
+    let plans = rw c.in-Ok.is at (c.plan.ensures.reads.tells before h at sound) in
+    let commits = rw c.in-Ok-commit.is at (c.commit.ensures.commits honest h sound (c.plan.ensures.reads.same before h at)) in
     let acts = made_acts h operator c.args.stamp.now c.args.request.now stands c.in-Ok.planned.change c.in-Ok.planned.reply sound plans commits in
     acted_done (g.K.Keep.steady (service_keep c.args.self.now)) operator h c.args.stamp.now bytes c.in-Ok-write_reply.reply.items stands c.args.request.now c.in-Ok.planned.reply read
     (rw c.in-Ok-write_reply.is at c.write_reply.ensures.text) acts
@@ -30,8 +30,8 @@ returns-clause-acted g c = λ honest h sound at bytes read.
     let stands = g.K.Keep.stands c.commit.new.keep in
     let before = c.commit.ensures.past honest in
     let why = c.in-Err-commit.refusal in
-    let plans = rw c.in-Ok.is at (c.plan.ensures.reads.tells before h sound at) in
-    let commits = rw c.in-Err-commit.is at (c.commit.ensures.commits honest h sound (c.plan.ensures.reads.same before h sound at)) in
+    let plans = rw c.in-Ok.is at (c.plan.ensures.reads.tells before h at sound) in
+    let commits = rw c.in-Err-commit.is at (c.commit.ensures.commits honest h sound (c.plan.ensures.reads.same before h at)) in
     let acts = unmade_acts h operator c.args.stamp.now c.args.request.now stands c.in-Ok.planned.change c.in-Ok.planned.reply why plans commits in
     acted_refused (g.K.Keep.steady (service_keep c.args.self.now)) operator h c.args.stamp.now bytes c.told-in-Err-commit.result stands c.args.request.now why read c.told-in-Err-commit.ensures.tells acts.0 sound acts.1
     (λ steady store. c.commit.ensures.steady.never (c.plan.ensures.steady.stays steady) (err_is c.commit.result why c.in-Err-commit.is store))
