@@ -4,6 +4,7 @@ ghost use Rattle.std.specs.Iterator.{at_most};
 
 mod bookings;
 mod books;
+mod calls;
 mod closings;
 mod debts;
 mod declarations;
