@@ -1,1 +1,5 @@
+pub mod Fault
+pub mod Settings
+pub mod Stamps
+pub mod Stop
 pub mod Word

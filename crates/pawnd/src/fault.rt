@@ -11,17 +11,25 @@ pub enum Fault {
     Memory,
     /// The seed is not 64 hexadecimal digits.
     BadSeed,
+    /// The port is no number from 1 to 65535.
+    BadPort,
     /// The key is neither a key nor the path of a file that holds one.
     BadKey,
 }
 
 impl fmt::Display for Fault {
+    ghost use Rattle.std.specs.Prelude.{Some};
+    ghost use Rattle.pawnd.specs.Fault.{line_of};
+
+    ghost output = { λ fault. Some (line_of fault) };
+
     fn fmt<W: fmt::Write>(&self, f: &mut fmt::Formatter<W>) -> fmt::Result {
         f.write_str(match self {
             Fault::BadDay => "101 BadDay",
             Fault::Memory => "491 Memory",
             Fault::Store => "503 Store",
             Fault::BadSeed => "801 BadSeed",
+            Fault::BadPort => "802 BadPort",
             Fault::BadKey => "803 BadKey",
         })
     }

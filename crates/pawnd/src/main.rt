@@ -5,6 +5,7 @@
 mod fault;
 mod settings;
 mod stamps;
+mod stop;
 #[cfg(test)]
 mod tests;
 mod words;
@@ -16,24 +17,33 @@ use stamps::Stamps;
 use std::env;
 use std::env::Args;
 use std::process::ExitCode;
+use stop::{Stop, tell};
 use words::Words;
 
 /// At most as many rows are kept.
 const ROWS: u64 = 5_000_000;
 
 fn main(rt: HostRuntime) -> ExitCode {
-    let Ok(mut args) = env::args(&rt) else {
-        return refuse(&rt, Fault::Memory);
+    match obey(&rt) {
+        Ok(()) => ExitCode::SUCCESS,
+        Err(stop) => tell(&rt, stop),
+    }
+}
+
+// Does what the command line asks.
+fn obey(rt: &HostRuntime) -> Result<(), Stop> {
+    let Ok(mut args) = env::args(rt) else {
+        return Err(Stop::Fault(Fault::Memory));
     };
     let _program = args.next();
     match args.next() {
-        Some(command) if command.as_str() == "answer" => answer(&rt, args),
-        _ => usage(&rt),
+        Some(command) if command.as_str() == "answer" => answer(rt, args),
+        _ => Err(Stop::Usage),
     }
 }
 
 // Answers the requests of standard input.
-fn answer(rt: &HostRuntime, mut args: Args) -> ExitCode {
+fn answer(rt: &HostRuntime, mut args: Args) -> Result<(), Stop> {
     let (Some(database), Some(day), Some(seed), Some(key), None) = (
         args.next(),
         args.next(),
@@ -41,38 +51,24 @@ fn answer(rt: &HostRuntime, mut args: Args) -> ExitCode {
         args.next(),
         args.next(),
     ) else {
-        return usage(rt);
+        return Err(Stop::Usage);
     };
-    let settings = match Settings::read(rt, day.as_str(), seed.as_str(), key.as_str()) {
-        Ok(settings) => settings,
-        Err(fault) => return refuse(rt, fault),
-    };
+    let settings = Settings::read(rt, day.as_str(), seed.as_str(), key.as_str()).map_err(
+        Stop::Fault,
+    )?;
     if database.as_str() != ":memory:" {
-        return refuse(rt, Fault::Store);
+        return Err(Stop::Fault(Fault::Store));
     }
     let keep = ListKeep::new(rt.alloc(), ROWS);
     let Ok(mut service) = Service::new(rt.alloc(), keep, settings.operator) else {
-        return refuse(rt, Fault::Memory);
+        return Err(Stop::Fault(Fault::Memory));
     };
     let mut words = Words::of_seed(settings.seed);
     let mut reader = Reading::new(rt.stdin());
     let mut writer = Writing::new(rt.stdout());
     let stamps = Stamps::new(&mut words, settings.day);
     match service.answer_all(&mut reader, &mut writer, stamps) {
-        Ok(_) => ExitCode::SUCCESS,
-        Err(_) => {
-            let _ = eprintln!(rt; "fault io");
-            ExitCode::from(3)
-        }
+        Ok(_) => Ok(()),
+        Err(_) => Err(Stop::Io),
     }
-}
-
-fn usage(rt: &impl Eprint) -> ExitCode {
-    let _ = eprintln!(rt; "usage: pawnd answer|serve|migrate|check");
-    ExitCode::from(2)
-}
-
-fn refuse(rt: &impl Eprint, fault: Fault) -> ExitCode {
-    let _ = eprintln!(rt; "fault {fault}");
-    ExitCode::from(1)
 }

@@ -1,9 +1,14 @@
-ghost use Rattle.std.specs.Prelude.{◌<◌, IfSome};
+ghost use Rattle.std.specs.Prelude.{◌≡◌, ◌≢◌, ◌<◌, IfSome, IfNone, IfOk, IfErr, None};
+ghost use Rattle.std.specs.IoError.{error_kind};
+ghost use Rattle.pawn_pledge.specs.Secret.{secret_of_text};
+ghost use Rattle.std.specs.declared.io.ErrorKind.TheVariants.{OutOfMemory};
+ghost use Rattle.pawnd.specs.declared.fault.Fault.TheVariants.{Memory, BadKey};
+ghost use Rattle.pawnd.specs.Settings.{hex_digit, hex_byte, seed_of, without_line_end, key_of_bytes, SaysDay, SaysNoDay, IsOfKey, IsRead};
 
 use crate::fault::Fault;
 use pawn_host::{RequestDay, Secret};
-use std::fs;
 use std::fs::Files;
+use std::{fs, io};
 
 /// What the command line says of the requests to come.
 #[derive(Clone, Copy)]
@@ -17,61 +22,124 @@ pub struct Settings {
 }
 
 impl Settings {
-    /// The settings of a day, a seed and a key, or the first fault in this order.
+    /// The settings of a day, a seed and a key, or the first fault in this order. The key is the
+    /// text of one, or else the path of a file that holds one.
     pub fn read(
         rt: &(impl Files + Alloc),
         day: &str,
         seed: &str,
         key: &str,
-    ) -> Result<Settings, Fault> {
-        let day = RequestDay::of_text(day.as_bytes()).map_err(|_| Fault::BadDay)?;
-        let seed = seed_of(seed.as_bytes()).ok_or(Fault::BadSeed)?;
-        let operator = key_of(rt, key).ok_or(Fault::BadKey)?;
-        Ok(Settings {
-            day,
-            seed,
-            operator,
-        })
+    ) -> Result<Settings, Fault>
+        ensures read { IsRead day.now seed.now key.now result }
+    {
+        let Some(day) = day_of(day.as_bytes()) else {
+            return Err(Fault::BadDay);
+        };
+        let Some(seed) = seed_of(seed.as_bytes()) else {
+            return Err(Fault::BadSeed);
+        };
+        match key_of(rt, key) {
+            Ok(operator) => Ok(Settings {
+                day,
+                seed,
+                operator,
+            }),
+            Err(fault) => Err(fault),
+        }
     }
 }
 
+// The day of a text.
+fn day_of(text: &[u8]) -> Option<RequestDay>
+    ensures some { IfSome result (λ day. SaysDay text.now day) }
+    ensures none { IfNone result (SaysNoDay text.now) }
+{
+    match RequestDay::of_text(text) {
+        Ok(day) => Some(day),
+        Err(_) => None,
+    }
+}
+
+// The value of a hexadecimal digit.
+fn hex_digit(digit: u8) -> Option<u8>
+    ensures value { result ≡ hex_digit digit }
+    ensures in_range { IfSome result (λ d. d < 16) }
+{
+    match (digit as char).to_digit(16) {
+        Some(value) => Some(value as u8),
+        None => None,
+    }
+}
+
+// The byte of two hexadecimal digits.
+fn hex_byte(high: u8, low: u8) -> Option<u8>
+    ensures value { result ≡ hex_byte high low }
+{
+    Some(hex_digit(high)? * 16 + hex_digit(low)?)
+}
+
 // The seed of 64 hexadecimal digits.
-fn seed_of(text: &[u8]) -> Option<[u8; 32]> {
+fn seed_of(text: &[u8]) -> Option<[u8; 32]>
+    ensures value { result ≡ seed_of text.now }
+{
     if text.len() != 64 {
         return None;
     }
     let mut seed = [0u8; 32];
     for i in 0..32usize {
-        seed[i] = hex_digit(text[2 * i])? * 16 + hex_digit(text[2 * i + 1])?;
+        seed[i] = hex_byte(text[2 * i], text[2 * i + 1])?;
     }
     Some(seed)
 }
 
-fn hex_digit(digit: u8) -> Option<u8>
-    ensures { IfSome result (λ d. d < 16) }
+// The key of this text, or of the file at this path.
+fn key_of(rt: &(impl Files + Alloc), text: &str) -> Result<Secret, Fault>
+    ensures key { IfOk result (λ key. IfSome (secret_of_text text.now) (λ said. key ≡ said)) }
+    ensures fault { IfErr result (λ fault. IsOfKey fault × (secret_of_text text.now ≡ None)) }
 {
-    match digit {
-        b'0'..=b'9' => Some(digit - b'0'),
-        b'a'..=b'f' => Some(digit - b'a' + 10),
-        b'A'..=b'F' => Some(digit - b'A' + 10),
-        _ => None,
+    match Secret::of_text(text.as_bytes()) {
+        Some(key) => Ok(key),
+        None => key_in_file(rt, text),
     }
 }
 
-// The key of this text, or of the file at this path.
-fn key_of(rt: &(impl Files + Alloc), text: &str) -> Option<Secret> {
-    if let Some(key) = Secret::of_text(text.as_bytes()) {
-        return Some(key);
+// The key that the file at this path holds.
+fn key_in_file(rt: &(impl Files + Alloc), path: &str) -> Result<Secret, Fault>
+    ensures fault { IfErr result IsOfKey }
+{
+    match fs::read(rt, path) {
+        Ok(bytes) => key_of_bytes(bytes.as_slice()).ok_or(Fault::BadKey),
+        Err(error) => Err(unread(&error)),
     }
-    let bytes = fs::read(rt, text).ok()?;
-    Secret::of_text(without_line_end(bytes.as_slice()))
+}
+
+// The fault of a key's file that can't be read.
+pub(crate) fn unread(error: &io::Error) -> Fault
+    ensures memory { error_kind error.now ≡ OutOfMemory → result ≡ Memory }
+    ensures key { error_kind error.now ≢ OutOfMemory → result ≡ BadKey }
+{
+    match error.kind() {
+        io::ErrorKind::OutOfMemory => Fault::Memory,
+        _ => Fault::BadKey,
+    }
+}
+
+// The key that a file's bytes say.
+fn key_of_bytes(bytes: &[u8]) -> Option<Secret>
+    ensures value { result ≡ key_of_bytes bytes.now }
+{
+    Secret::of_text(without_line_end(bytes))
 }
 
 // The bytes without the line end behind them.
-fn without_line_end(bytes: &[u8]) -> &[u8] {
-    match bytes {
-        [line @ .., b'\r', b'\n'] => line,
-        [line @ .., b'\n'] => line,
-        _ => bytes,
+fn without_line_end(bytes: &[u8]) -> &[u8]
+    ensures line { result.now ≡ without_line_end bytes.now }
+{
+    match bytes.strip_suffix(b"\r\n") {
+        Some(line) => line,
+        None => match bytes.strip_suffix(b"\n") {
+            Some(line) => line,
+            None => bytes,
+        },
     }
 }

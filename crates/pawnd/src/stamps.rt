@@ -1,4 +1,7 @@
+ghost use Rattle.std.specs.Prelude.{◌≡◌};
 ghost use Rattle.std.specs.Iterator.{at_most};
+ghost use Rattle.pawnd.specs.Stamps.{GivesStamp, AreStamps};
+ghost use Rattle.pawnd.specs.Word.{generator};
 
 use crate::words::Words;
 use pawn_host::{RequestDay, Stamp};
@@ -12,7 +15,11 @@ pub struct Stamps<'a> {
 }
 
 impl<'a> Stamps<'a> {
-    pub fn new(words: &'a mut Words, day: RequestDay) -> Self {
+    /// The stamps of this day, with these words from where they are.
+    pub fn new(words: &'a mut Words, day: RequestDay) -> Self
+        ensures stamps { AreStamps 1000 day (generator words.old) result }
+        ensures same_words { result.words.ghost_name ≡ words.entry.ghost_name }
+    {
         Stamps {
             words,
             day,
@@ -23,6 +30,8 @@ impl<'a> Stamps<'a> {
 
 impl<'a> Iterator for Stamps<'a> {
     type Item = Stamp;
+
+    ghost next_gives = { GivesStamp };
 
     ghost remaining = { λ s. at_most s.left };
 

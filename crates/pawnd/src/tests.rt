@@ -1,12 +1,15 @@
+use crate::answer;
 use crate::fault::Fault;
-use crate::settings::Settings;
+use crate::settings::{Settings, unread};
+use crate::stamps::Stamps;
+use crate::stop::{Stop, tell};
 use crate::words::Words;
-use crate::{answer, refuse, usage};
-use std::alloc::Global;
+use pawn_host::RequestDay;
+use std::alloc::{AllocError, Global};
 use std::cell::Cell;
 use std::fmt::Display;
 use std::io::Eprint;
-use std::process::ExitCode;
+use std::process::{Abort, ExitCode};
 use std::test::Fail;
 use std::{fs, io};
 
@@ -37,6 +40,7 @@ fn the_first_fault_is_told(rt: HostRuntime) -> Result<(), Fail> {
         ("2024-02-30", "x", "x", Fault::BadDay),
         ("2200-01-01", SEED, KEY, Fault::BadDay),
         ("2024-01-31", "x", "x", Fault::BadSeed),
+        ("2024-01-31", &SEED[1..], KEY, Fault::BadSeed),
         ("2024-01-31", SEED, "no/such/file", Fault::BadKey),
     ] {
         assert_eq!(rt; Settings::read(&rt, day, seed, key).err(), Some(fault));
@@ -107,46 +111,84 @@ fn listener(alloc: Global, wanted: &str) -> Heard<'_> {
     }
 }
 
+// The stop is told by this line and this status.
+fn is_told(rt: &impl Abort, alloc: Global, stop: Stop, line: &str, status: u8) {
+    let heard = listener(alloc, line);
+    assert!(rt; tell(&heard, stop) == ExitCode::from(status), "at {line}");
+    assert!(rt; heard.is_heard.get(), "at {line}");
+}
+
 #[test]
-fn lines_of_what_is_refused(rt: HostRuntime) {
-    let heard = listener(rt.alloc(), "usage: pawnd answer|serve|migrate|check");
-    assert!(rt; usage(&heard) == ExitCode::from(2));
-    assert!(rt; heard.is_heard.get());
+fn stops_are_told(rt: HostRuntime) {
+    is_told(
+        &rt,
+        rt.alloc(),
+        Stop::Usage,
+        "usage: pawnd answer|serve|migrate|check",
+        2,
+    );
+    is_told(&rt, rt.alloc(), Stop::Io, "fault io", 3);
     for (fault, line) in [
         (Fault::BadDay, "fault 101 BadDay"),
         (Fault::Memory, "fault 491 Memory"),
         (Fault::Store, "fault 503 Store"),
         (Fault::BadSeed, "fault 801 BadSeed"),
+        (Fault::BadPort, "fault 802 BadPort"),
         (Fault::BadKey, "fault 803 BadKey"),
     ] {
-        let heard = listener(rt.alloc(), line);
-        assert!(rt; refuse(&heard, fault) == ExitCode::from(1));
-        assert!(rt; heard.is_heard.get(), "at {line}");
+        is_told(&rt, rt.alloc(), Stop::Fault(fault), line, 1);
     }
 }
 
-// The status after these words behind the command.
-fn status_of(rt: &HostRuntime, words: &[&str]) -> Result<ExitCode, Fail> {
+// How the program stops at these words behind the command.
+fn stop_at(rt: &HostRuntime, words: &[&str]) -> Result<Stop, Fail> {
     let mut args = Vec::new(rt.alloc());
     for word in words {
         args.push(String::from_str(rt.alloc(), word)?)?;
     }
-    Ok(answer(rt, args.into_iter()))
+    Ok(answer(rt, args.into_iter()).err().ok_or("no stop")?)
+}
+
+// Each row has a fault that those before it lack, and all faults of the rows after it.
+#[test]
+fn the_first_stop_is_told(rt: HostRuntime) -> Result<(), Fail> {
+    let usage = "usage: pawnd answer|serve|migrate|check";
+    let day = "2024-01-31";
+    for (words, line, status) in [
+        ([].as_slice(), usage, 2u8),
+        (&["books", "x", "x"], usage, 2),
+        (&["books", "x", "x", "x", "x"], usage, 2),
+        (&["books", "2024-02-30", "x", "x"], "fault 101 BadDay", 1),
+        (&["books", day, "x", "x"], "fault 801 BadSeed", 1),
+        (&["books", day, SEED, "x"], "fault 803 BadKey", 1),
+        (&["books", day, SEED, KEY], "fault 503 Store", 1),
+    ] {
+        is_told(&rt, rt.alloc(), stop_at(&rt, words)?, line, status);
+    }
+    Ok(())
 }
 
 #[test]
-fn statuses_of_what_is_refused(rt: HostRuntime) -> Result<(), Fail> {
-    let day = "2024-01-31";
-    for (words, status) in [
-        ([].as_slice(), 2u8),
-        (&[":memory:", day, SEED], 2),
-        (&[":memory:", day, SEED, KEY, "x"], 2),
-        (&[":memory:", "2024-02-30", SEED, KEY], 1),
-        (&["books", "2024-02-30", "x", "x"], 1),
-        (&["books", day, SEED, KEY], 1),
-    ] {
-        let ended = status_of(&rt, words)?;
-        assert!(rt; ended == ExitCode::from(status), "at {words:?}");
+fn want_of_memory_for_a_key_is_told(rt: HostRuntime) {
+    let wanting = unread(&io::Error::from(AllocError));
+    assert_eq!(rt; wanting, Fault::Memory);
+    let missing = unread(&io::Error::from(io::ErrorKind::NotFound));
+    assert_eq!(rt; missing, Fault::BadKey);
+}
+
+#[test]
+fn stamps_are_a_thousand_words(rt: HostRuntime) -> Result<(), Fail> {
+    let day = RequestDay::of_text(b"2024-01-31").ok().ok_or("no day")?;
+    let mut words = Words::of_seed([7; 32]);
+    let mut others = Words::of_seed([7; 32]);
+    let mut stamps = Stamps::new(&mut words, day);
+    for _ in 0..1000u32 {
+        let stamp = stamps.next().ok_or("no stamp")?;
+        assert!(rt; stamp.day == day && stamp.word == others.next());
     }
+    assert!(rt; stamps.next().is_none());
+    let mut more = Stamps::new(&mut words, day);
+    let stamp = more.next().ok_or("no stamp")?;
+    assert_eq!(rt; stamp.word, others.next());
     Ok(())
 }

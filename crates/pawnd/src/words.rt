@@ -1,8 +1,7 @@
 //! Random words of 128 bits.
-ghost use Rattle.std.specs.Prelude.{◌≡◌, ◌+◌, ◌%◌, ◌^◌, ◌<◌, ◌++◌, length};
-ghost use Rattle.std.specs.Int.{w32, to_le_bytes};
+ghost use Rattle.std.specs.Prelude.{◌≡◌, ◌++◌, length};
 ghost use Rattle.rand_chacha.specs.ChaCha.{of_seed};
-ghost use Rattle.pawnd.specs.Word.{generator, wide_word, first_word, after_one};
+ghost use Rattle.pawnd.specs.Word.{generator, word_of, after_word};
 
 use rand_chacha::ChaCha20Rng;
 use rand_core::SeedableRng;
@@ -20,7 +19,7 @@ fn join(a: [u8; 4], b: [u8; 4], c: [u8; 4], d: [u8; 4]) -> [u8; 16]
     requires b { length b ≡ 4 }
     requires c { length c ≡ 4 }
     requires d { length d ≡ 4 }
-    ensures { result ≡ a ++ b ++ c ++ d }
+    ensures bytes { result ≡ a ++ b ++ c ++ d }
 {
     [
         a[0], a[1], a[2], a[3], b[0], b[1], b[2], b[3], c[0], c[1], c[2], c[3], d[0], d[1], d[2],
@@ -31,14 +30,14 @@ fn join(a: [u8; 4], b: [u8; 4], c: [u8; 4], d: [u8; 4]) -> [u8; 16]
 impl Words {
     /// The words of a generator's stream, from where it is.
     pub fn new(rng: ChaCha20Rng) -> Self
-        ensures { generator result ≡ rng }
+        ensures generator { generator result ≡ rng }
     {
         Words { rng }
     }
 
     /// The words of a seed, from the beginning of its stream.
     pub fn of_seed(seed: [u8; 32]) -> Self
-        ensures { generator result ≡ of_seed seed }
+        ensures generator { generator result ≡ of_seed seed }
     {
         Words {
             rng: ChaCha20Rng::from_seed(seed),
@@ -48,9 +47,8 @@ impl Words {
     /// The next word: its 16 big-endian bytes are the little-endian bytes of the generator's next
     /// four words, in order.
     pub fn next(&mut self) -> u128
-        ensures word { let one = generator self.old in let two = after_one one in let three = after_one two in let four = after_one three in
-            result ≡ wide_word (first_word one) (first_word two) (first_word three) (first_word four) }
-        ensures rest { generator self.new ≡ after_one (after_one (after_one (after_one (generator self.old)))) }
+        ensures word { result ≡ word_of (generator self.old) }
+        ensures rest { generator self.new ≡ after_word (generator self.old) }
     {
         let a = self.rng.next_word();
         let b = self.rng.next_word();

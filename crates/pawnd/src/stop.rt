@@ -1,0 +1,55 @@
+//! How the program tells that it did not do what it was asked.
+ghost use Rattle.std.specs.Prelude.{◌≡◌};
+ghost use Rattle.std.specs.Process.{exit_status};
+ghost use Rattle.pawnd.specs.Stop.{status_of};
+
+use crate::fault::Fault;
+use std::fmt;
+use std::process::ExitCode;
+
+/// Why the program ends without having done what it was asked.
+#[derive(Clone, Copy, Debug, PartialEq, Eq)]
+pub enum Stop {
+    /// The words of the command line are those of no command.
+    Usage,
+    /// It does not start.
+    Fault(Fault),
+    /// Its requests could not be read, or its replies not be written.
+    Io,
+}
+
+impl Stop {
+    /// The program's exit status.
+    pub fn status(self) -> u8
+        ensures status { result ≡ status_of self }
+    {
+        match self {
+            Stop::Usage => 2,
+            Stop::Fault(_) => 1,
+            Stop::Io => 3,
+        }
+    }
+}
+
+impl fmt::Display for Stop {
+    ghost use Rattle.std.specs.Prelude.{Some};
+    ghost use Rattle.pawnd.specs.Stop.{line_of};
+
+    ghost output = { λ stop. Some (line_of stop) };
+
+    fn fmt<W: fmt::Write>(&self, f: &mut fmt::Formatter<W>) -> fmt::Result {
+        match self {
+            Stop::Usage => f.write_str("usage: pawnd answer|serve|migrate|check"),
+            Stop::Fault(fault) => write!(f, "fault {fault}"),
+            Stop::Io => f.write_str("fault io"),
+        }
+    }
+}
+
+/// Writes the line of a stop to the standard error, and gives the exit status.
+pub fn tell(rt: &impl Eprint, stop: Stop) -> ExitCode
+    ensures status { exit_status result ≡ status_of stop }
+{
+    let _ = eprintln!(rt; "{stop}");
+    ExitCode::from(stop.status())
+}
