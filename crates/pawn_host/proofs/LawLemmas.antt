@@ -22,7 +22,7 @@ use Rattle.pawn_wire.specs.declared.fault.HeadFault.{HeadFault}
 use Rattle.pawn_wire.specs.declared.fault.HeadFault.TheVariants.{BadHead}
 use Rattle.pawn_wire.proofs.StreamLemmas.{reads_more, bad_head_never, head_some, nil_is_no_bad_head}
 use Rattle.pawn_wire.proofs.RequestLemmas.{reads_unique}
-use Rattle.pawn_host.specs.Split.{Ending, at_end, cut, closed, faulted, at_limit, IsRequest, IsCut, HasFault, Passes, StopsAt, ClosesAfter, Splits, Begins, BeginsAndGoesOn}
+use Rattle.pawn_host.specs.Split.{Ending, at_end, cut, closed, faulted, at_limit, IsRequest, IsCut, HasFault, Passes, StopsAt, ClosesAfter, Splits, Begins, BeginsAndGoesOn, HasNoWhole, IsWanting}
 use Rattle.pawn_host.specs.Laws.{IsOpen, AreCutAndFault, IsLeftOpen}
 use Rattle.pawn_host.proofs.SplitLemmas.{passes-snoc}
 
@@ -307,3 +307,34 @@ fault_is_exact rest = (never, bad)
 
     bad : (MayGoOn rest → ⊥) → (length rest < max_head) → HasFault rest BadHead
     bad stuck short = inl (inl (λ more h r x. cases (nat_le (length h.fields) max_fields) h refl (λ few. stuck (short, (more, h, r, x, few)))), refl)
+
+-- ---- what is wanted
+
+-- where requests that do not close come first, and then one more, nothing else was wanted before it
+wants_no_more : (come : List ℕ) (a b : List (List ℕ)) (last rest tail : List ℕ) (closes : Bool) → Passes come a (last ++ tail) → IsRequest last closes → Passes come b rest → HasNoWhole rest → (length a < length b) × (closes ≡ false)
+wants_no_more come [] [] last rest tail closes p q w none = absurd (none last tail closes (sym w ∙ p) q)
+wants_no_more come [] (r ∷ rs) last rest tail closes p q w none =
+    let same = fronts_same r last w.0 tail false closes (sym w.1 ∙ p) w.2 q in
+    (omega arith, sym same.2)
+wants_no_more come (r ∷ rs) [] last rest tail closes p q w none = absurd (none r p.0 false (sym w ∙ p.1) p.2)
+wants_no_more come (r ∷ rs) (t ∷ ts) last rest tail closes p q w none =
+    let same = fronts_same r t p.0 w.0 false false (sym p.1 ∙ w.1) p.2 w.2 in
+    let more = wants_no_more p.0 rs ts last rest tail closes p.3 q (subst (λ (l : List ℕ). Passes l ts rest) (sym same.1) w.3) none in
+    (omega (arith, more.0), more.1)
+
+pub closed_wants_nothing : (come : List ℕ) (requests : List (List ℕ)) → ClosesAfter come requests → IsWanting come → ⊥
+closed_wants_nothing come requests c w =
+    let more = wants_no_more come c.0 w.0 c.1 w.1 c.2 true c.3 c.4 w.2 w.4 in
+    not_both more.1
+
+-- requests that stand are among those behind which more is wanted
+wants_all : (come : List ℕ) (a b : List (List ℕ)) (rest tail : List ℕ) → Passes come a tail → Passes come b rest → HasNoWhole rest → length a ≤ length b
+wants_all come [] b rest tail p w none = omega arith
+wants_all come (r ∷ rs) [] rest tail p w none = absurd (none r p.0 false (sym w ∙ p.1) p.2)
+wants_all come (r ∷ rs) (t ∷ ts) rest tail p w none =
+    let same = fronts_same r t p.0 w.0 false false (sym p.1 ∙ w.1) p.2 w.2 in
+    let more = wants_all p.0 rs ts rest tail p.3 (subst (λ (l : List ℕ). Passes l ts rest) (sym same.1) w.3) none in
+    omega (arith, more)
+
+pub full_wants_nothing : (come : List ℕ) (requests : List (List ℕ)) (rest : List ℕ) → Passes come requests rest → 1000 ≤ length requests → IsWanting come → ⊥
+full_wants_nothing come requests rest p many w = omega (arith, wants_all come requests w.0 w.1 rest p w.2 w.4, many, w.3)

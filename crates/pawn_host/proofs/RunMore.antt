@@ -1,7 +1,8 @@
 -- A run goes on by one item.
 use Rattle.std.proofs.Common.{◌≡◌, ℕ, ◌+◌, ◌<◌, List, [], ◌∷◌, ◌++◌, length, map, take, get_or, refl, ap, sym, ◌∙◌, subst, Vec, Global}
+use Rattle.std.specs.Prelude.{All}
 use Rattle.std.proofs.lemmas.List.{map_more}
-use Rattle.std.proofs.lemmas.List.Elements.{All-append, All-cons, All-nil}
+use Rattle.std.proofs.lemmas.List.Elements.{All-append, All-cons, All-nil, All-head, All-tail}
 use Rattle.pawn_pledge.specs.declared.command.Stamp.{Stamp}
 use Rattle.pawn_book.specs.HostStep.{Host}
 use Rattle.pawn_book.specs.Sound.{IsSound}
@@ -9,11 +10,26 @@ use Rattle.pawn_book.specs.Runs.{marked_said, event_after, event_said}
 use Rattle.pawn_host.specs.declared.service.Answer.{Answer}
 use Rattle.pawn_host.specs.Run.{Item, IsMarked, handed, event_of, said_text, host_after, replies}
 use Rattle.pawn_host.specs.Keeps.{IsActed, IsRun, answer_bytes}
-use Rattle.pawn_host.proofs.SessionLemmas.{host_after-snoc, map-snoc}
+use Rattle.pawn_host.proofs.SessionLemmas.{host_after-snoc, map-snoc, marked_since}
 
 replies-snoc : (h : Host) (operator : ℕ) (items : List Item) (i : Item) → replies h operator (items ++ i ∷ []) ≡ replies h operator items ++ said_text (marked_said (host_after h operator items) operator i.stamp i.mark) ∷ []
 replies-snoc h operator [] i = refl
 replies-snoc h operator (x ∷ items) i = ap (λ (l : List (List ℕ)). said_text (event_said h operator (event_of x)) ∷ l) (replies-snoc (event_after h operator (event_of x)) operator items i)
+
+-- two runs in turn
+pub host_after-append : (h : Host) (operator : ℕ) (a b : List Item) → host_after h operator (a ++ b) ≡ host_after (host_after h operator a) operator b
+host_after-append h operator [] b = refl
+host_after-append h operator (x ∷ a) b = host_after-append (event_after h operator (event_of x)) operator a b
+
+pub replies-append : (h : Host) (operator : ℕ) (a b : List Item) → replies h operator (a ++ b) ≡ replies h operator a ++ replies (host_after h operator a) operator b
+replies-append h operator [] b = refl
+replies-append h operator (x ∷ a) b = ap (λ (l : List (List ℕ)). said_text (event_said h operator (event_of x)) ∷ l) (replies-append (event_after h operator (event_of x)) operator a b)
+
+-- marks over a keeper are marks over one that was steady before
+pub marked_all : (Now Before : Type 0) (items : List Item) → (Before → Now) → All (IsMarked Now) items → All (IsMarked Before) items
+marked_all Now Before [] stays marked = All-nil (IsMarked Before)
+marked_all Now Before (i ∷ items) stays marked =
+    All-cons (IsMarked Before) i items (marked_since Now Before i.bytes i.mark stays (All-head (IsMarked Now) i items marked)) (marked_all Now Before items stays (All-tail (IsMarked Now) i items marked))
 
 run_more : (Steady : Type 0) (operator : ℕ) (h : Host) (given : List (Stamp × List ℕ)) (answers : List (List ℕ)) (at at' : Host → Type 0) (stamp : Stamp) (bytes reply : List ℕ)
     → (r : IsRun Steady operator h given answers at) → IsActed Steady operator (host_after h operator r.items) stamp bytes reply at'

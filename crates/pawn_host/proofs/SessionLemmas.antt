@@ -135,7 +135,7 @@ nothing_more : (old new : Option (List ℕ)) (text : List ℕ) → Appends old n
 nothing_more old new text h = subst (λ (t : List ℕ). Appends old new t) (sym (append-nil text)) h
 
 -- a mark over a keeper is one over a keeper that was steady before
-marked_since : (Now Before : Type 0) (bytes : List ℕ) (mark : Mark WireFault) → (Before → Now) → IsMarkOf Now bytes mark → IsMarkOf Before bytes mark
+pub marked_since : (Now Before : Type 0) (bytes : List ℕ) (mark : Mark WireFault) → (Before → Now) → IsMarkOf Now bytes mark → IsMarkOf Before bytes mark
 marked_since Now Before bytes (read_as said) stays marked = marked
 marked_since Now Before bytes no_memory stays marked = marked
 marked_since Now Before bytes no_store stays marked = λ before. marked (stays before)

@@ -7,7 +7,7 @@ use Rattle.pawn_wire.specs.Head.{max_fields, max_head}
 use Rattle.pawn_wire.specs.declared.fault.HeadFault.{HeadFault}
 use Rattle.pawn_wire.specs.declared.fault.HeadFault.TheVariants.{BadHead}
 use Rattle.pawn_wire.specs.declared.fault.WireFault.{WireFault}
-use Rattle.pawn_host.specs.Split.{Ending, cut, faulted, most_requests, IsCutHead, IsRequest, HasFault, Passes, StopsAt, Splits, Begins, BeginsAndGoesOn}
+use Rattle.pawn_host.specs.Split.{Ending, cut, faulted, most_requests, IsCutHead, IsRequest, HasFault, Passes, ClosesAfter, StopsAt, Splits, Begins, BeginsAndGoesOn, IsWanting}
 use Rattle.pawn_book.specs.HostStep.{Host}
 use Rattle.pawn_book.specs.Runs.{Mark, read_as, no_memory, no_store}
 use Rattle.pawn_host.specs.Run.{Item, IsMarked, handed, events, host_after, replies}
@@ -79,6 +79,20 @@ abbrev pub RunReadsEvents : Type 0
 RunReadsEvents =
     (h : Host) (operator : ℕ) (a b : List Item) → events a ≡ events b
     → (host_after h operator a ≡ host_after h operator b) × (replies h operator a ≡ replies h operator b)
+
+-- two runs in turn are one run
+abbrev pub RunsJoin : Type 0
+RunsJoin =
+    (h : Host) (operator : ℕ) (a b : List Item)
+    → (host_after h operator (a ++ b) ≡ host_after (host_after h operator a) operator b)
+    × (replies h operator (a ++ b) ≡ replies h operator a ++ replies (host_after h operator a) operator b)
+
+-- once a request that closes has come, or as many requests as are answered, nothing more is wanted
+abbrev pub NothingIsWanted : Type 0
+NothingIsWanted =
+    (come : List ℕ) (requests : List (List ℕ)) (rest : List ℕ)
+    → (ClosesAfter come requests → IsWanting come → ⊥)
+    × (Passes come requests rest → most_requests ≤ length requests → IsWanting come → ⊥)
 
 -- a head of no more fields than allowed can still come of the rest, how long it grows aside
 abbrev pub MayGoOn : List ℕ → Type 0

@@ -1,5 +1,5 @@
 //! Laws of the definitions.
-ghost use Rattle.pawn_host.specs.Laws.{SplitIsUnique, OpenEnds, SplitEndsEarly, SplitBegins, SplitIsFront, ItemsAreUnique, RunReadsEvents, FaultIsExact};
+ghost use Rattle.pawn_host.specs.Laws.{SplitIsUnique, OpenEnds, SplitEndsEarly, SplitBegins, SplitIsFront, ItemsAreUnique, RunReadsEvents, RunsJoin, FaultIsExact, NothingIsWanted};
 
 /// A stream has one split, but for its ending in a head that can't be completed.
 pub fn split_is_unique()
@@ -34,6 +34,16 @@ pub fn items_are_unique()
 /// The machine reads of an item its stamp and its mark.
 pub fn run_reads_events()
     ensures law { RunReadsEvents }
+{}
+
+/// Two runs in turn, the second from the host that the first left, are one run.
+pub fn runs_join()
+    ensures law { RunsJoin }
+{}
+
+/// Nothing is wanted behind a request that closes, nor behind as many requests as are answered.
+pub fn nothing_is_wanted()
+    ensures law { NothingIsWanted }
 {}
 
 /// A rest that can still become a head is not faulted, and one that can't is.

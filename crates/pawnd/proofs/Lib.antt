@@ -1,2 +1,3 @@
-pub mod HexLemmas
-pub mod StampLemmas
+mod HexLemmas
+mod ServingLemmas
+mod StampLemmas

@@ -1,4 +1,6 @@
+pub mod Clock
 pub mod Fault
+pub mod Serving
 pub mod Settings
 pub mod Stamps
 pub mod Stop

@@ -1,0 +1,5 @@
+use Rattle.pawn_host.proofs.RunMore.{host_after-append, replies-append}
+use Rattle.pawn_host.proofs.laws.runs_join.Goals as goal
+
+pub returns : goal.returns
+returns c = record { law = λ h operator a b. (host_after-append h operator a b, replies-append h operator a b) }

@@ -1,0 +1,38 @@
+-- The connections that are served one after the other.
+use Rattle.std.specs.Prelude.{◌≡◌, ℕ, ◌≤◌, All, List, [], ◌∷◌, ◌++◌, length, Option, Some, None}
+use Rattle.std.specs.List.{filter_map, flat_map}
+use Rattle.pawn_pledge.specs.declared.command.Stamp.{Stamp}
+use Rattle.pawn_book.specs.HostStep.{Host}
+use Rattle.pawn_book.specs.Sound.{IsSound}
+use Rattle.pawn_host.specs.Run.{Item, IsMarked, host_after}
+use Rattle.pawn_host.specs.Session.{stamps_of}
+
+-- calls of an iterator gave these answers, in order
+abbrev pub Gives : {S A : Type 0} → (S → Option A → S → Type 0) → S → List (Option A) → S → Type 0
+Gives steps from [] to = from ≡ to
+Gives {S} steps from (answer ∷ answers) to = (next : S) × steps from answer next × Gives steps next answers to
+
+-- the stamps among the answers
+abbrev pub stamps_among : List (Option Stamp) → List Stamp
+stamps_among answers = filter_map (λ answer. answer) answers
+
+-- the items of sessions, one after the other
+abbrev pub items_of : List (List Item) → List Item
+items_of sessions = flat_map (λ items. items) sessions
+
+-- at most as many requests are answered on a connection
+abbrev pub IsSession : List Item → Type 0
+IsSession items = length items ≤ 1000
+
+-- So many connections were answered, each where the one before it left the service and the stamps. Their requests are one
+-- run: the stamps that it took are those of its items, and the keeper stands for the host after all of them, which is sound.
+pub record AreServed {S : Type 0} (steps : S → Option Stamp → S → Type 0) (from to : S) (Steady : Type 0) (operator : ℕ) (h : Host) (answered : ℕ) (stands : Host → Type 0) : Type 0 where
+  pub sessions : List (List Item)
+  pub count : length sessions ≡ answered
+  pub each : All IsSession sessions
+  pub marked : All (IsMarked Steady) (items_of sessions)
+  pub given : List (Option Stamp)
+  pub gives : Gives steps from given to
+  pub taken : stamps_among given ≡ stamps_of (items_of sessions)
+  pub stands_for : stands (host_after h operator (items_of sessions))
+  pub sound : IsSound (host_after h operator (items_of sessions))

@@ -1,0 +1,83 @@
+//! Connections, answered one after the other.
+ghost use Rattle.std.specs.Prelude.{◌≡◌, ◌≤◌, ◌+◌};
+ghost use Rattle.pawn_book.specs.Keeping.{Of};
+ghost use Rattle.pawn_host.specs.Keeps.{service_keep, service_operator};
+ghost use Rattle.pawn_host.specs.Session.{IsSession, acted_of};
+ghost use Rattle.pawnd.specs.Serving.{AreServed};
+
+use pawn_host::{Ended, IoFault, Keep, Reading, Service, Stamp, Writing};
+use std::io::{Read, Write};
+use std::net::{TcpListener, TcpStream};
+use std::time::Duration;
+
+/// How long a read or a write waits for its peer, at most.
+const PATIENCE: Duration = Duration::from_secs(5);
+
+/// How many connections were answered, and how many could not be accepted.
+#[derive(Clone, Copy, Debug, PartialEq, Eq)]
+pub struct Served {
+    pub answered: u32,
+    pub failed: u32,
+}
+
+/// Accepts so many connections, one after the other, and answers the requests of each as
+/// `Service::answer_all` does. A connection that can't be accepted counts as one. One that breaks
+/// off is closed, and the next is answered.
+///
+/// The caller's condition: a stamp may be asked for at any time.
+pub fn serve_on<K: Keep, I: Iterator<Item = Stamp>>(
+    listener: &TcpListener,
+    service: &mut Service<K>,
+    stamps: &mut I,
+    connections: u32,
+) -> Served
+    requires can { (s : I) → I.can_next s }
+    ensures counted { result.answered + result.failed ≡ connections }
+    ensures honest { K.honest (service_keep service.new) → K.honest (service_keep service.old) }
+    ensures served { Of K.stands K.honest (service_keep service.old) (service_keep service.new) (λ h.
+        AreServed I.next_gives stamps.old stamps.new (K.steady (service_keep service.old)) (service_operator service.old) h result.answered (K.stands (service_keep service.new))) }
+    ensures steady { K.steady (service_keep service.old) → K.steady (service_keep service.new) }
+    ensures operator { service_operator service.new ≡ service_operator service.old }
+{
+    let mut served = Served {
+        answered: 0,
+        failed: 0,
+    };
+    for _turn in 0..connections {
+        match listener.accept() {
+            Ok((stream, _)) => {
+                set_patience(&stream);
+                let _ = converse(service, &mut &stream, &mut &stream, stamps);
+                served.answered += 1;
+            }
+            Err(_) => served.failed += 1,
+        }
+    }
+    served
+}
+
+// Has a connection wait for its peer no longer than our patience, and send small replies at once. Where the system does
+// not take that, the connection is answered all the same.
+fn set_patience(stream: &TcpStream) {
+    let _ = stream.set_read_timeout(Some(PATIENCE));
+    let _ = stream.set_write_timeout(Some(PATIENCE));
+    let _ = stream.set_nodelay(true);
+}
+
+// Answers the requests that a peer sends on its connection.
+fn converse<K: Keep, R: Read, W: Write, I: Iterator<Item = Stamp>>(
+    service: &mut Service<K>,
+    reader: &mut R,
+    writer: &mut W,
+    stamps: &mut I,
+) -> Result<Ended, IoFault>
+    requires can { I.can_next stamps.old }
+    ensures honest { K.honest (service_keep service.new) → K.honest (service_keep service.old) }
+    ensures session { Of K.stands K.honest (service_keep service.old) (service_keep service.new) (λ h. IsSession I.next_gives stamps.old stamps.new (K.steady (service_keep service.old)) (service_operator service.old) h
+        (R.remaining reader.old) (K.stands (service_keep service.new)) (W.contents writer.old) (W.contents writer.new) result) }
+    ensures steady { K.steady (service_keep service.old) → K.steady (service_keep service.new) }
+    ensures operator { service_operator service.new ≡ service_operator service.old }
+    ensures most { acted_of result ≤ 1000 }
+{
+    service.answer_all(&mut Reading::new(reader), &mut Writing::new(writer), stamps)
+}
