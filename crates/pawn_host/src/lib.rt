@@ -10,7 +10,7 @@ pub use laws::{
     fault_is_exact, items_are_unique, nothing_is_wanted, open_ends, run_reads_events, runs_join,
     split_begins, split_ends_early, split_is_front, split_is_unique,
 };
-pub use pawn_book::{Day, Keep, ListKeep, RequestDay, Secret, Stamp};
+pub use pawn_book::{Day, Keep, ListKeep, Number, RequestDay, Secret, Stamp};
 pub use pawn_view::Writing;
 pub use reading::{MOST_READS, Reading};
 pub use service::{Answer, Service};

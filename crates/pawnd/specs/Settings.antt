@@ -1,12 +1,13 @@
 -- What the command line says of the requests to come.
-use Rattle.std.specs.Prelude.{◌≡◌, ℕ, ◌⊎◌, ◌+◌, ◌-◌, ◌*◌, ◌==◌, nat_eq, Bool, List, [], ◌∷◌, length, take, codes, if◌then◌else◌, Option, Some, None, option_and_then, option_map, IfSome, IsSome, Result, MatchResult}
+use Rattle.std.specs.Prelude.{◌≡◌, ℕ, ◌⊎◌, ◌+◌, ◌-◌, ◌*◌, ◌≤◌, ◌==◌, nat_eq, Bool, List, [], ◌∷◌, length, take, codes, if◌then◌else◌, Option, Some, None, option_and_then, option_map, IfSome, IsSome, Result, MatchResult, decimal}
 use Rattle.std.specs.List.{ends_with}
 use Rattle.std.specs.Char.{is_digit, digit_value}
 use Rattle.pawn_terms.specs.Calendar.{IsStampDay, day_text}
 use Rattle.pawn_pledge.specs.Secret.{secret_of_text}
 use Rattle.pawnd.specs.declared.fault.Fault.{Fault}
-use Rattle.pawnd.specs.declared.fault.Fault.TheVariants.{BadDay, Memory, BadSeed, BadKey}
+use Rattle.pawnd.specs.declared.fault.Fault.TheVariants.{BadDay, Memory, BadSeed, BadPort, BadKey}
 use Rattle.pawnd.specs.declared.settings.Settings.{Settings}
+use Rattle.pawnd.specs.declared.settings.ServeSettings.{ServeSettings}
 
 -- the value of a hexadecimal digit of either case
 abbrev pub hex_digit : ℕ → Option ℕ
@@ -75,3 +76,26 @@ IsFirstFault day_word seed_word key_word fault =
 abbrev pub IsRead : List ℕ → List ℕ → List ℕ → Result Settings Fault → Type 0
 IsRead day_word seed_word key_word said =
     MatchResult said (AreSaid day_word seed_word key_word) (IsFirstFault day_word seed_word key_word)
+
+-- the text is that of a port: a number from 1 to 65535, in its decimal digits
+abbrev pub SaysPort : List ℕ → ℕ → Type 0
+SaysPort text port = (1 ≤ port) × (port ≤ 65535) × (text ≡ decimal port)
+
+-- the text is no port's
+abbrev pub SaysNoPort : List ℕ → Type 0
+SaysNoPort text = (port : ℕ) → SaysPort text port → ⊥
+
+-- the settings are what the two words say; a key that the last word doesn't say stands in a file
+pub record AreServeSaid (port_word key_word : List ℕ) (settings : ServeSettings) : Type 0 where
+  pub port : SaysPort port_word settings.port
+  pub operator : IfSome (secret_of_text key_word) (λ key. settings.operator ≡ key)
+
+-- the fault is that of the first of two words that has one
+abbrev pub IsFirstServeFault : List ℕ → List ℕ → Fault → Type 0
+IsFirstServeFault port_word key_word fault =
+    ((fault ≡ BadPort) × SaysNoPort port_word)
+    ⊎ (IsOfKey fault × ((port : ℕ) × SaysPort port_word port) × (secret_of_text key_word ≡ None))
+
+-- two words say these settings, or have this first fault
+abbrev pub IsServeRead : List ℕ → List ℕ → Result ServeSettings Fault → Type 0
+IsServeRead port_word key_word said = MatchResult said (AreServeSaid port_word key_word) (IsFirstServeFault port_word key_word)

@@ -3,12 +3,14 @@ ghost use Rattle.std.specs.IoError.{error_kind};
 ghost use Rattle.pawn_pledge.specs.Secret.{secret_of_text};
 ghost use Rattle.std.specs.declared.io.ErrorKind.TheVariants.{OutOfMemory};
 ghost use Rattle.pawnd.specs.declared.fault.Fault.TheVariants.{Memory, BadKey};
-ghost use Rattle.pawnd.specs.Settings.{hex_digit, hex_byte, seed_of, without_line_end, key_of_bytes, SaysDay, SaysNoDay, IsOfKey, IsRead};
+ghost use Rattle.pawnd.specs.Settings.{hex_digit, hex_byte, seed_of, without_line_end, key_of_bytes, SaysDay, SaysNoDay, SaysPort, SaysNoPort, IsOfKey, IsRead, IsServeRead};
 
 use crate::fault::Fault;
-use pawn_host::{RequestDay, Secret};
+use pawn_host::{Number, RequestDay, Secret};
 use std::fs::Files;
 use std::{fs, io};
+
+const LAST_PORT: u32 = 65_535;
 
 /// What the command line says of the requests to come.
 #[derive(Clone, Copy)]
@@ -47,6 +49,46 @@ impl Settings {
             Err(fault) => Err(fault),
         }
     }
+}
+
+/// What the command line says of the connections to come.
+#[derive(Clone, Copy)]
+pub struct ServeSettings {
+    /// The port of this machine that is listened on.
+    pub port: u16,
+    /// The operator's key.
+    pub operator: Secret,
+}
+
+impl ServeSettings {
+    /// The settings of a port and a key, or the first fault in this order. The key is the text of
+    /// one, or else the path of a file that holds one.
+    pub fn read(rt: &(impl Files + Alloc), port: &str, key: &str) -> Result<ServeSettings, Fault>
+        ensures read { IsServeRead port.now key.now result }
+    {
+        let Some(port) = port_of(port.as_bytes()) else {
+            return Err(Fault::BadPort);
+        };
+        match key_of(rt, key) {
+            Ok(operator) => Ok(ServeSettings { port, operator }),
+            Err(fault) => Err(fault),
+        }
+    }
+}
+
+// The port of a text.
+fn port_of(text: &[u8]) -> Option<u16>
+    ensures some { IfSome result (λ port. SaysPort text.now port) }
+    ensures none { IfNone result (SaysNoPort text.now) }
+{
+    let Some(number) = Number::of_text(text) else {
+        return None;
+    };
+    let port = number.get();
+    if port > LAST_PORT {
+        return None;
+    }
+    Some(port as u16)
 }
 
 // The day of a text.
