@@ -1,0 +1,149 @@
+#!/usr/bin/env python3
+"""Each limit met once: the last that is accepted, and the next that is refused, each with its whole answer."""
+import datetime
+import subprocess
+
+from service import BROKER, OPERATOR, PROGRAM, SEED, Server, expect, main, refusal, request, six_months_after, today
+
+
+def money(pence):
+    return f"{pence // 100}.{pence % 100:02}"
+
+
+def statement(taken, receipt_lines, owing, kind="fixed", ends=None, extended=()):
+    """The text of an open pledge of 100 pounds, taken today, with these lines behind it."""
+    lines = ["Pledge 1", "Article Gold ring", f"Kind {kind} 100.00", f"Taken {taken}", f"Ends {ends or six_months_after(taken)}", *extended,
+             "Status inside", f"Principal {money(owing)}", "Charges 0.00", f"Owing {money(owing)}", "Held no", "Booking none", *receipt_lines]
+    return "\n".join(lines) + "\n"
+
+
+def ten_thousand_entries_less_one():
+    with Server() as server:
+        session, day = server.session(), str(today())
+        session.open_book()
+        receipt = session.open_pledge(1, kind="running")
+        lines, principal = [], 0
+        for seq in range(1, 10000):
+            sort, pence = ("draw", 2) if seq % 2 else ("repay", 1)
+            principal += pence if sort == "draw" else -pence
+            wanted = {"day": day, "pence": pence, "seq": seq, "sort": sort}
+            expect(f"entry {seq}", session.broker("POST", f"/books/7/pledges/1/{sort}", {"pence": pence, "seq": seq}), (200, wanted))
+            lines.append(f"Entry {seq} {day} {sort} {money(pence)}")
+        shown = statement(today(), lines, principal, kind="running")
+        expect("the bearer's statement", session.bearer(receipt, "GET", "/books/7/held"), (200, shown))
+        expect("the broker's statement", session.broker("GET", "/books/7/pledges/1"), (200, shown))
+        for sort in ("draw", "repay"):
+            refused = session.broker("POST", f"/books/7/pledges/1/{sort}", {"pence": 1, "seq": 10000})
+            expect(f"one more to {sort}", refused, (409, {"code": 206, "name": "EntriesFull"}))
+        again = session.broker("POST", "/books/7/pledges/1/draw", {"pence": 2, "seq": 9999})
+        expect("the last again", again, (200, {"day": day, "pence": 2, "seq": 9999, "sort": "draw"}))
+        expect("the statement again", session.bearer(receipt, "GET", "/books/7/held"), (200, shown))
+
+
+def a_hundred_declarations():
+    with Server() as server:
+        session = server.session()
+        session.open_book()
+        receipts = [session.open_pledge(1)]
+        for _ in range(100):
+            status, said = session.broker("POST", "/books/7/pledges/1/declare", {"paper": "sworn"})
+            expect("a declaration", status, 200)
+            receipts.append(said["receipt"])
+        refused = session.broker("POST", "/books/7/pledges/1/declare", {"paper": "sworn"})
+        expect("one more", refused, (409, {"code": 309, "name": "DeclarationsFull"}))
+        expect("the last receipt", session.bearer(receipts[-1], "GET", "/books/7/held"), (200, statement(today(), [], 10000)))
+        for receipt in receipts[:-1]:
+            unknown = session.bearer(receipt, "GET", "/books/7/held")
+            expect("an earlier receipt", unknown, (404, {"code": 402, "name": "NoSuchReceipt"}))
+
+
+def ninety_nine_extensions():
+    with Server() as server:
+        session = server.session()
+        session.open_book()
+        receipt, taken = session.open_pledge(1), today()
+        end, lines = six_months_after(taken), []
+        for _ in range(99):
+            end += datetime.timedelta(days=1)
+            expect(f"until {end}", session.broker("POST", "/books/7/pledges/1/extend", {"until": str(end)}), (200, {"ends": str(end)}))
+            lines.append(f"Extended {taken} to {end}")
+        later = end + datetime.timedelta(days=1)
+        refused = session.broker("POST", "/books/7/pledges/1/extend", {"until": str(later)})
+        expect("one more", refused, (409, {"code": 316, "name": "ExtensionsFull"}))
+        expect("the last again", session.broker("POST", "/books/7/pledges/1/extend", {"until": str(end)}), (200, {"ends": str(end)}))
+        shown = statement(taken, [], 10000, ends=end, extended=lines)
+        expect("the statement", session.bearer(receipt, "GET", "/books/7/held"), (200, shown))
+
+
+def one_to_thirty_two_receipts():
+    with Server() as server:
+        session = server.session()
+        session.open_book()
+        receipt = session.open_pledge(1)
+        session.close()
+        text = statement(today(), [], 10000)
+        for count in range(1, 34):
+            with server.connect() as peer:
+                peer.sendall(request("GET", "/books/7/held", *[f"Pledge-Receipt: {receipt}"] * count, "Connection: close"))
+                said = peer.makefile("rb").read()
+            shown = "\n".join([text] * count)
+            wanted = refusal(711, "TooManyReceipts", "400 Bad Request") if count > 32 else (
+                f"HTTP/1.1 200 OK\r\nContent-Length: {len(shown)}\r\nContent-Type: text/plain; charset=utf-8\r\n\r\n{shown}").encode()
+            expect(f"{count} receipts", said, wanted)
+
+
+def more_than_a_thousand_pledges():
+    with Server() as server:
+        session = server.session()
+        session.open_book()
+        receipts = [session.open_pledge(number) for number in range(1, 1002)]
+        for number in (1, 500, 1000, 1001):
+            status, said = session.bearer(receipts[number - 1], "GET", "/books/7/held")
+            expect(f"pledge {number}", (status, said.splitlines()[0]), (200, f"Pledge {number}"))
+        expect("one that is not there", session.broker("GET", "/books/7/pledges/1002"), (404, {"code": 403, "name": "NoSuchPledge"}))
+
+
+def the_largest_numbers():
+    with Server() as server:
+        session, unknown = server.session(), (404, {"code": 402, "name": "NoSuchReceipt"})
+        session.open_book(book=999_999_999)
+        session.open_pledge(1, book=999_999_999)
+        none = session.broker("GET", "/books/999999999/pledges/999999999")
+        expect("the largest pledge", none, (404, {"code": 403, "name": "NoSuchPledge"}))
+        secret = "00000000-0000-0000-0000-000000000001"
+        expect("its receipt", session.bearer(f"999999999-{secret}", "GET", "/books/999999999/held"), unknown)
+        too_large = session.bearer(f"1000000000-{secret}", "GET", "/books/999999999/held")
+        expect("a receipt of a larger one", too_large, (400, {"code": 710, "name": "BadReceipt"}))
+        no_route = (404, {"code": 706, "name": "NoRoute"})
+        for target in ("/books/1000000000/held", "/books/0/held", "/books/999999999/pledges/1000000000"):
+            expect(target, session.broker("GET", target), no_route)
+
+
+def answers(stream):
+    """What the program answers to a stream."""
+    ran = subprocess.run([PROGRAM, "answer", ":memory:", "2024-01-31", SEED, OPERATOR], input=stream, stdout=subprocess.PIPE, timeout=60)
+    expect("its status", ran.returncode, 0)
+    return ran.stdout
+
+
+def the_longest_body():
+    body = f'{{"capacity":2,"key":"{BROKER}","name":"High Street"}}'
+    made = b'HTTP/1.1 200 OK\r\nContent-Length: 10\r\nContent-Type: application/json\r\n\r\n{"book":7}'
+    key = f"Pledge-Key: {OPERATOR}"
+    expect("the longest", answers(request("POST", "/books/7", key, body=body.ljust(1_048_576)) * 2), made * 2)
+    too_long = refusal(705, "BodyTooLong", "400 Bad Request")
+    expect("one byte more", answers(request("POST", "/books/7", key, body=body.ljust(1_048_577))), too_long)
+
+
+def heads_at_their_limits():
+    none, bad = refusal(712, "NoReceipt", "400 Bad Request"), refusal(701, "BadHead", "400 Bad Request")
+    for length, wanted in ((8191, none), (8192, none), (8193, bad)):
+        empty = len(request("GET", "/books/7/held", "Filler: "))
+        head = request("GET", "/books/7/held", "Filler: " + "x" * (length - empty))
+        expect(f"a head of {len(head)} bytes", answers(head), wanted)
+    for count, wanted in ((64, none), (65, bad)):
+        expect(f"{count} fields", answers(request("GET", "/books/7/held", *["Field: x"] * count)), wanted)
+
+
+main(ten_thousand_entries_less_one, a_hundred_declarations, ninety_nine_extensions, one_to_thirty_two_receipts, more_than_a_thousand_pledges,
+     the_largest_numbers, the_longest_body, heads_at_their_limits)

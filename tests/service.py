@@ -1,0 +1,158 @@
+"""What the scripts of this folder share: the built program, requests by a socket or by HTTP, and checks that say which step failed."""
+import datetime
+import http.client
+import json
+import os
+import socket
+import subprocess
+import sys
+import time
+
+TOP = os.path.dirname(os.path.dirname(os.path.abspath(__file__)))
+PROGRAM = os.environ.get("PAWND", os.path.join(TOP, "crates/pawnd/out/pawnd"))
+OPERATOR = "11111111-1111-1111-1111-111111111111"
+BROKER = "22222222-2222-2222-2222-222222222222"
+SEED = "0" * 64
+
+# A read or a write waits so long for its peer, in seconds. A write may be taken in part and wait again, a
+# few times, until nothing more is taken.
+PATIENCE = 5
+MARGIN = 10
+WAIT = 4 * PATIENCE + MARGIN
+
+
+class Failed(Exception):
+    """A step that did not go as it should."""
+
+
+def expect(step, found, wanted):
+    if found != wanted:
+        raise Failed(f"{step}: {found!r:.400} in place of {wanted!r:.400}")
+
+
+def free_port():
+    with socket.socket() as it:
+        it.bind(("127.0.0.1", 0))
+        return it.getsockname()[1]
+
+
+class Server:
+    """`pawnd serve :memory:` on a free port, ended when the block is left."""
+
+    def __enter__(self):
+        self.port = free_port()
+        self.program = subprocess.Popen([PROGRAM, "serve", ":memory:", str(self.port), OPERATOR],
+                                        stdin=subprocess.DEVNULL, stdout=subprocess.PIPE, stderr=subprocess.PIPE)
+        expect("the first line, by a pipe", self.program.stdout.readline(), f"listening {self.port}\n".encode())
+        return self
+
+    def __exit__(self, *_):
+        self.program.kill()
+        self.program.communicate()
+
+    def connect(self):
+        return socket.create_connection(("127.0.0.1", self.port), timeout=WAIT)
+
+    def session(self):
+        return Session(self.port)
+
+
+class Session:
+    """One connection after the other of at most 1,000 requests each, by http.client."""
+
+    def __init__(self, port):
+        self.port, self.connection, self.asked = port, None, 0
+
+    def ask(self, method, target, body=None, **fields):
+        """The status and the reply's body: JSON as what it says, a text as it is."""
+        if self.connection is None or self.asked == 1000:
+            self.close()
+            self.connection, self.asked = http.client.HTTPConnection("127.0.0.1", self.port, timeout=WAIT), 0
+        heads = {name.replace("_", "-"): value for name, value in fields.items()}
+        text = None if body is None else json.dumps(body)
+        self.connection.request(method, target, text, heads)
+        self.asked += 1
+        reply = self.connection.getresponse()
+        said = reply.read().decode()
+        return reply.status, json.loads(said) if reply.getheader("Content-Type") == "application/json" else said
+
+    def broker(self, method, target, body=None):
+        return self.ask(method, target, body, Pledge_Key=BROKER)
+
+    def bearer(self, receipt, method, target, body=None):
+        return self.ask(method, target, body, Pledge_Receipt=receipt)
+
+    def close(self):
+        if self.connection is not None:
+            self.connection.close()
+            self.connection = None
+
+    def open_book(self, book=7, capacity=2):
+        """A book whose terms charge nothing."""
+        made = self.ask("POST", f"/books/{book}", {"capacity": capacity, "key": BROKER, "name": "High Street"}, Pledge_Key=OPERATOR)
+        expect(f"book {book}", made, (200, {"book": book}))
+        terms = {"keep_after": 0, "keep_before": 0, "rate": 0, "version": 1}
+        expect("its terms", self.broker("POST", f"/books/{book}/terms", terms), (200, {"version": 1}))
+
+    def open_pledge(self, number, book=7, **changed):
+        """The receipt of a new pledge, the next of its book."""
+        opening = {"article": "Gold ring", "five_days": False, "kind": "fixed", "pence": 10000, "ref": f"A{number}"}
+        status, said = self.broker("POST", f"/books/{book}/pledges", {**opening, **changed})
+        expect(f"pledge {number}", (status, said.get("number")), (200, number))
+        return said["receipt"]
+
+
+def request(method, target, *fields, body="", version="HTTP/1.1"):
+    """The bytes of a request."""
+    length = [f"Content-Length: {len(body)}"] if body else []
+    return "\r\n".join([f"{method} {target} {version}", *fields, *length, "", body]).encode()
+
+
+def refusal(code, name, status="404 Not Found", **more):
+    """The bytes of a reply that refuses."""
+    said = json.dumps({"code": code, "name": name, **more}, separators=(",", ":"))
+    return f"HTTP/1.1 {status}\r\nContent-Length: {len(said)}\r\nContent-Type: application/json\r\n\r\n{said}".encode()
+
+
+def read_all(connection):
+    """What comes until the other end is closed; a reset ends it too."""
+    said = b""
+    while True:
+        try:
+            piece = connection.recv(65536)
+        except ConnectionResetError:
+            return said
+        if not piece:
+            return said
+        said += piece
+
+
+def today():
+    return datetime.datetime.now(datetime.timezone.utc).date()
+
+
+def six_months_after(day):
+    """The same day six months later, cut to its month's last day."""
+    month = day.month + 6
+    year, month = day.year + (month - 1) // 12, (month - 1) % 12 + 1
+    for last in (day.day, 30, 29, 28):
+        try:
+            return datetime.date(year, month, last)
+        except ValueError:
+            pass
+
+
+def main(*tests):
+    """Runs these functions in turn; the last line counts them."""
+    failed = 0
+    for test in tests:
+        begun = time.monotonic()
+        name = test.__name__.replace("_", " ")
+        try:
+            test()
+            print(f"ok      {name} ({time.monotonic() - begun:.1f} s)", flush=True)
+        except (Failed, OSError, http.client.HTTPException, subprocess.SubprocessError) as why:
+            failed += 1
+            print(f"FAILED  {name}: {why}", flush=True)
+    print(f"{len(tests) - failed} passed, {failed} failed")
+    sys.exit(1 if failed else 0)
