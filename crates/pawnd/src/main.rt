@@ -2,6 +2,9 @@
 //! standard output, `pawnd serve :memory: PORT KEY` those of its connections.
 #![tactic(auto)]
 
+ghost use Rattle.std.specs.Prelude.{◌≡◌, IfOk};
+ghost use Rattle.pawn_host.specs.Keeps.{service_operator};
+
 mod clock;
 mod fault;
 mod serving;
@@ -103,7 +106,9 @@ fn serve(rt: &HostRuntime, mut args: Args) -> Result<(), Stop> {
 }
 
 // The service over a store. Until books are kept in files, that is memory alone.
-fn open(rt: &HostRuntime, database: &str, operator: Secret) -> Result<Service<ListKeep>, Fault> {
+fn open(rt: &HostRuntime, database: &str, operator: Secret) -> Result<Service<ListKeep>, Fault>
+    ensures operator { IfOk result (λ service. service_operator service ≡ operator) }
+{
     if database != ":memory:" {
         return Err(Fault::Store);
     }

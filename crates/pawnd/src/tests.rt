@@ -1,6 +1,8 @@
+mod serving;
+
 use crate::answer;
 use crate::fault::Fault;
-use crate::settings::{Settings, unread};
+use crate::settings::{ServeSettings, Settings, unread};
 use crate::stamps::Stamps;
 use crate::stop::{Stop, tell};
 use crate::words::Words;
@@ -191,4 +193,19 @@ fn stamps_are_a_thousand_words(rt: HostRuntime) -> Result<(), Fail> {
     let stamp = more.next().ok_or("no stamp")?;
     assert_eq!(rt; stamp.word, others.next());
     Ok(())
+}
+
+#[test]
+fn a_port_and_a_key_are_read(rt: HostRuntime) {
+    for (port, key, wanted) in [
+        ("1", KEY, Ok(1u16)),
+        ("65535", KEY, Ok(65_535)),
+        ("0", "x", Err(Fault::BadPort)),
+        ("65536", KEY, Err(Fault::BadPort)),
+        ("08080", KEY, Err(Fault::BadPort)),
+        ("8080", "no/such/file", Err(Fault::BadKey)),
+    ] {
+        let said = ServeSettings::read(&rt, port, key).map(|settings| settings.port);
+        assert_eq!(rt; said, wanted, "at {port}");
+    }
 }
