@@ -12,10 +12,10 @@ use Rattle.pawn_pledge.specs.declared.command.Command.{Command}
 use Rattle.pawn_pledge.specs.declared.command.Done.{Done}
 use Rattle.pawn_pledge.specs.declared.receipt.Receipt.{Receipt}
 use Rattle.pawn_pledge.specs.Number.{IsNumber}
-use Rattle.pawn_pledge.specs.Pledge.{PledgeValue, debt_of, live_of}
+use Rattle.pawn_pledge.specs.Pledge.{PledgeValue, debt_of, status_of, live_of}
 use Rattle.pawn_pledge.specs.Step.{Changed, is_open, pledge_step, pledge_after, started}
 use Rattle.pawn_pledge.specs.Replayable.{IsOpening, IsCommand, IsReplayable, IsWithin, IsStanding}
-use Rattle.pawn_pledge.specs.Brief.{brief_of, brief_owing}
+use Rattle.pawn_pledge.specs.Brief.{brief_of, brief_status, brief_owing}
 use Rattle.pawn_pledge.specs.Secret.{secret_text, secret_of_text}
 use Rattle.pawn_pledge.specs.Receipt.{receipt_text, IsReceiptText}
 
@@ -87,6 +87,10 @@ abbrev pub BriefOwes : Type 0
 BriefOwes =
     (p : PledgeValue) (x : ℕ)
     → IsReplayable p → last_of p.taken p.entries ≤ x → brief_owing (brief_of p) x ≡ owing_of (due (debt_of p) x)
+
+-- and what it is on a day
+abbrev pub BriefHasStatus : Type 0
+BriefHasStatus = (p : PledgeValue) (x : ℕ) → brief_status (brief_of p) x ≡ status_of p x
 
 -- a secret's text reads as the secret
 abbrev pub SecretTextsReadBack : Type 0

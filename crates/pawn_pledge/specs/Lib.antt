@@ -9,4 +9,5 @@ pub mod Kept
 pub mod Replayable
 pub mod Parts
 pub mod Brief
+pub mod BriefFields
 pub mod Laws

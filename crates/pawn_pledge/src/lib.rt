@@ -2,6 +2,7 @@
 #![tactic(auto)]
 
 mod brief;
+mod brief_fields;
 mod command;
 mod laws;
 mod limits;
@@ -16,6 +17,7 @@ mod secret;
 mod text;
 
 pub use brief::Brief;
+pub use brief_fields::BriefFields;
 pub use command::{Applied, Command, Decision, Done, Paper, Stamp};
 pub use laws::{laws_of_briefs, laws_of_receipts, laws_of_steps, laws_of_texts};
 pub use lists::{Extensions, Secrets};
