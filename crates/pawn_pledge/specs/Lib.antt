@@ -6,6 +6,7 @@ pub mod Refusal
 pub mod Pledge
 pub mod Step
 pub mod Kept
+pub mod Growth
 pub mod Replayable
 pub mod Parts
 pub mod Brief

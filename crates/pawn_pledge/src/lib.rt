@@ -19,7 +19,9 @@ mod text;
 pub use brief::Brief;
 pub use brief_fields::BriefFields;
 pub use command::{Applied, Command, Decision, Done, Paper, Stamp};
-pub use laws::{laws_of_briefs, laws_of_receipts, laws_of_steps, laws_of_texts};
+pub use laws::{
+    laws_of_briefs, laws_of_lists, laws_of_receipts, laws_of_repeats, laws_of_steps, laws_of_texts,
+};
 pub use lists::{Extensions, Secrets};
 pub use number::Number;
 pub use parts::Parts;
