@@ -1,5 +1,5 @@
 use Rattle.std.proofs.Common.{refl}
-use Rattle.jiff_core.specs.Calendar.{days_from_civil, day_count, days_of_years, days_of_months}
+use Rattle.pawn_terms.proofs.Reckoning.{days_from_civil, day_count, days_of_years, days_of_months}
 use Rattle.pawn_terms.specs.Calendar.{civil_after}
 use Rattle.pawn_terms.proofs.worked.worked_days.Goals as goal
 
