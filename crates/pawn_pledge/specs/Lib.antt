@@ -12,3 +12,5 @@ pub mod Parts
 pub mod Brief
 pub mod BriefFields
 pub mod Laws
+pub mod Worked
+pub mod WorkedTexts

@@ -15,6 +15,7 @@ mod record;
 mod refusal;
 mod secret;
 mod text;
+mod worked;
 
 pub use brief::Brief;
 pub use brief_fields::BriefFields;
@@ -35,6 +36,10 @@ pub use record::{
 pub use refusal::Refusal;
 pub use secret::Secret;
 pub use text::Text;
+pub use worked::{
+    worked_bookings, worked_closings, worked_entries, worked_extensions, worked_pledges,
+    worked_receipts, worked_texts,
+};
 
 #[cfg(test)]
 mod tests;
