@@ -1,5 +1,6 @@
 -- Debts, worked out.
-use Rattle.std.specs.Prelude.{◌≡◌, ℕ, ◌-◌, [], Ok, Err}
+use Rattle.std.specs.Prelude.{◌≡◌, ℕ, ◌-◌, [], ◌∷◌, Ok, Err}
+use Rattle.std.specs.List.{repeat}
 use Rattle.pawn_terms.specs.Calendar.{six_months}
 use Rattle.pawn_terms.specs.Terms.{TermsValue}
 use Rattle.pawn_terms.specs.Worked.{date}
@@ -7,7 +8,7 @@ use Rattle.pawn_debt.specs.declared.entry.Kind.{Kind}
 use Rattle.pawn_debt.specs.declared.entry.Kind.TheVariants.{Fixed, Running}
 use Rattle.pawn_debt.specs.declared.entry.Sort.TheVariants.{Draw, Repay}
 use Rattle.pawn_debt.specs.declared.owing.Owing.{Owing}
-use Rattle.pawn_debt.specs.declared.fault.DebtFault.TheVariants.{BadAmount, FixedSum, OverLimit, OverOwing, EarlierDay}
+use Rattle.pawn_debt.specs.declared.fault.DebtFault.TheVariants.{BadAmount, FixedSum, OverLimit, OverOwing, EarlierDay, EntriesFull}
 use Rattle.pawn_debt.specs.Due.{Due, DebtValue, due, carried}
 use Rattle.pawn_debt.specs.Owing.{owing_of}
 use Rattle.pawn_debt.specs.Answers.{draw_answer, repay_answer, start_answer, with_entry}
@@ -90,6 +91,16 @@ account = taken_for_six (Running 5000) free (date 2024 1 31)
 
 abbrev pub drawn_in_part : DebtValue
 drawn_in_part = with_entry account (date 2024 1 31) Draw 3000
+
+-- the account with as many entries as there may be
+abbrev pub entered_in_full : DebtValue
+entered_in_full = record account { entries = repeat 9999 (record { seq = 1; day = date 2024 1 31; sort = Draw; pence = 1 } ∷ []) }
+
+-- with them neither a drawing nor a repayment is entered any more
+abbrev pub WorkedFullness : Type 0
+WorkedFullness =
+    (draw_answer entered_in_full (date 2024 1 31) 1 ≡ Err EntriesFull)
+    × (repay_answer entered_in_full (date 2024 1 31) 1 ≡ Err EntriesFull)
 
 -- drawings up to the limit, on a running account alone
 abbrev pub WorkedDrawings : Type 0

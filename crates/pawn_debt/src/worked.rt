@@ -1,4 +1,4 @@
-ghost use Rattle.pawn_debt.specs.Worked.{WorkedInterest, WorkedRepayments, WorkedTotals, WorkedSafeKeeping, WorkedDrawings, WorkedStarts};
+ghost use Rattle.pawn_debt.specs.Worked.{WorkedInterest, WorkedRepayments, WorkedTotals, WorkedSafeKeeping, WorkedDrawings, WorkedFullness, WorkedStarts};
 
 /// What is owed on debts that can be reckoned by hand.
 pub fn worked_debts()
@@ -12,4 +12,5 @@ pub fn worked_entries()
     ensures starts { WorkedStarts }
     ensures drawings { WorkedDrawings }
     ensures repayments { WorkedRepayments }
+    ensures fullness { WorkedFullness }
 {}

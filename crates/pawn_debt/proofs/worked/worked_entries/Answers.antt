@@ -15,3 +15,7 @@ returns-clause-drawings c = (refl, refl, refl, refl, refl, refl, refl)
 pub returns-clause-repayments : goal.returns-clause-repayments
 unfolding civil_after days_from_civil day_count days_of_years days_of_months due_after carried
 returns-clause-repayments c = (refl, refl, refl, refl, refl, refl, refl, refl)
+
+pub returns-clause-fullness : goal.returns-clause-fullness
+unfolding civil_after days_from_civil day_count days_of_years days_of_months due_after carried
+returns-clause-fullness c = (refl, refl)
