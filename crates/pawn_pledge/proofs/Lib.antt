@@ -5,6 +5,7 @@ pub mod Starts
 pub mod Receipts
 pub mod Growth
 pub mod Repeats
+pub mod Briefs
 pub mod Keeping
 pub mod Stands
 pub mod NumberLemmas

@@ -19,6 +19,7 @@ use Rattle.pawn_pledge.specs.Step.{Answered, Changed, is_open, bars, pledge_step
 use Rattle.pawn_pledge.specs.Replayable.{IsOpening, IsCommand, IsReplayable, IsWithin, IsStanding}
 use Rattle.pawn_pledge.specs.Growth.{Grows, StaysOrGrows}
 use Rattle.pawn_pledge.specs.Brief.{brief_of, brief_status, brief_owing}
+use Rattle.pawn_pledge.specs.BriefFields.{IsBriefWithin}
 use Rattle.pawn_pledge.specs.Secret.{secret_text, secret_of_text}
 use Rattle.pawn_pledge.specs.Receipt.{receipt_text, IsReceiptText}
 
@@ -143,6 +144,10 @@ BriefOwes =
 -- and what it is on a day
 abbrev pub BriefHasStatus : Type 0
 BriefHasStatus = (p : PledgeValue) (x : ℕ) → brief_status (brief_of p) x ≡ status_of p x
+
+-- and it is within the limits, where its pledge can stand
+abbrev pub BriefIsWithin : Type 0
+BriefIsWithin = (p : PledgeValue) → IsStanding p → IsBriefWithin (brief_of p)
 
 -- a secret's text reads as the secret
 abbrev pub SecretTextsReadBack : Type 0

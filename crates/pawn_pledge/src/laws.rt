@@ -1,4 +1,4 @@
-ghost use Rattle.pawn_pledge.specs.Laws.{StartsStanding, StaysReplayable, StaysWithin, StaysStanding, ChangesDiffer, ClosedStays, SecretsGrow, EntriesGrow, ExtensionsGrow, ListsGrow, EntriesActOnce, StandingEndIsAnswered, ExtensionsActOnce, OneIsLive, NeverLiveAgain, BriefOwes, BriefHasStatus, SecretTextsReadBack, ReceiptTextsReadBack, ReceiptTextsAreOne};
+ghost use Rattle.pawn_pledge.specs.Laws.{StartsStanding, StaysReplayable, StaysWithin, StaysStanding, ChangesDiffer, ClosedStays, SecretsGrow, EntriesGrow, ExtensionsGrow, ListsGrow, EntriesActOnce, StandingEndIsAnswered, ExtensionsActOnce, OneIsLive, NeverLiveAgain, BriefOwes, BriefHasStatus, BriefIsWithin, SecretTextsReadBack, ReceiptTextsReadBack, ReceiptTextsAreOne};
 
 /// Whatever is sent, a pledge stays one that can have come about, and a change changes something.
 pub fn laws_of_steps()
@@ -31,10 +31,11 @@ pub fn laws_of_receipts()
     ensures never_again { NeverLiveAgain }
 {}
 
-/// A brief owes what its pledge owes, and has its status.
+/// A brief owes what its pledge owes, has its status, and can be made of its fields.
 pub fn laws_of_briefs()
     ensures owes { BriefOwes }
     ensures status { BriefHasStatus }
+    ensures within { BriefIsWithin }
 {}
 
 /// The texts of secrets and receipts are read back, and no text is of two receipts.
