@@ -1,0 +1,126 @@
+-- What accepted entries leave owing is within its bounds.
+use Rattle.std.proofs.Common.{◌≡◌, ℕ, zero, suc, ◌+◌, ◌-◌, ◌*◌, ◌≤◌, nat_lt, nat_le, Bool, true, false, if◌then◌else◌, List, [], ◌∷◌, ◌++◌, Ok, IsOk, refl, sym, ap, subst, ◌∙◌, arith, append_assoc}
+use Rattle.std.proofs.lemmas.Nat.{mul-le}
+use Rattle.std.proofs.lemmas.List.{append-nil}
+use Rattle.std.proofs.lemmas.Bool.Decides.{nat_tests}
+use Rattle.pawn_terms.specs.Terms.{TermsValue, IsChecked}
+use Rattle.pawn_terms.proofs.RefusalLemmas.{first_of-is_ok}
+use Rattle.pawn_debt.specs.declared.entry.Entry.{Entry}
+use Rattle.pawn_debt.specs.declared.entry.Kind.{Kind}
+use Rattle.pawn_debt.specs.declared.entry.Kind.TheVariants.{Fixed, Running}
+use Rattle.pawn_debt.specs.declared.entry.Sort.{Sort}
+use Rattle.pawn_debt.specs.declared.entry.Sort.TheVariants.{Draw, Repay}
+use Rattle.pawn_debt.specs.Due.{Due, DebtValue, due, due_after, carried, keep_on, last_of, AreOrdered, after_sort, first_principal, credit_of}
+use Rattle.pawn_debt.specs.Answers.{draw_rows, repay_rows, with_entry, most_pence}
+use Rattle.pawn_debt.specs.Replay.{IsAccepted, AreAccepted, sort_answer}
+use Rattle.pawn_debt.specs.Kept.{most_a_day}
+use Rattle.pawn_debt.proofs.DueLemmas.{carried-principal}
+use Rattle.pawn_debt.proofs.EntryLemmas.{due-from-last, due-pushed, due-start, pushed, last-le, AreOrdered-push, last_of-push}
+
+keep-small : (t : TermsValue) (ends x : ℕ) → IsChecked t → keep_on t ends x ≤ 10000000
+keep-small t ends x h = from (nat_le x ends)
+  where
+    from : (b : Bool) → (if b then t.keep_before else t.keep_after) ≤ 10000000
+    from true = h.1
+    from false = omega (arith, h.1, h.2)
+
+-- no day adds more than the most
+carried-small : (t : TermsValue) (ends x n : ℕ) (o : Due) → IsChecked t → o.principal ≤ most_pence → (carried t ends x n o).charges ≤ o.charges + n * most_a_day
+unfolding carried
+carried-small t ends x zero o h small = omega arith
+carried-small t ends x (suc n) o h small =
+    let less = carried-small t ends x n o h small in
+    let same = carried-principal t ends x n o in
+    let interest : (carried t ends x n o).principal * t.rate ≤ 100000000 * 20000 = mul-le _ _ 100000000 20000 (omega (arith, same, small)) h.0 in
+    let keep = keep-small t ends (x + suc n) h in
+    omega (arith, less, interest, keep)
+
+-- what is owed on the day x is within its bounds
+pub record IsBounded (p : DebtValue) (x : ℕ) : Type 0 where
+  pub principal : (due p x).principal ≤ most_pence
+  pub charges : (due p x).charges ≤ (x - p.taken) * most_a_day
+
+-- what entries in order keep
+record IsRunning (p : DebtValue) : Type 0 where
+  ordered : AreOrdered p.taken p.entries
+  bounded : IsBounded p (last_of p.taken p.entries)
+
+later-bounded : (p : DebtValue) (x : ℕ) → IsChecked p.terms → IsRunning p → last_of p.taken p.entries ≤ x → IsBounded p x
+later-bounded p x h r late =
+    let last = last_of p.taken p.entries in
+    let low = last-le p.taken p.entries r.ordered in
+    let e = due-from-last p x r.ordered late in
+    let same = carried-principal p.terms p.ends last (x - last) (due p last) in
+    let small = carried-small p.terms p.ends last (x - last) (due p last) h r.bounded.principal in
+    record {
+      principal = omega (arith, ap (λ (o : Due). o.principal) e, same, r.bounded.principal);
+      charges = omega (arith, ap (λ (o : Due). o.charges) e, small, r.bounded.charges, low, late);
+    }
+
+-- an accepted entry keeps the bounds of what was owed before it
+entered-bounded : (p : DebtValue) (s : Sort) (x pence : ℕ) → credit_of p.kind ≤ most_pence → IsBounded p x → IsOk (sort_answer s p x pence)
+    → ((after_sort s pence (due p x)).principal ≤ most_pence) × ((after_sort s pence (due p x)).charges ≤ (x - p.taken) * most_a_day) × (last_of p.taken p.entries ≤ x)
+entered-bounded p Draw x pence credit b h =
+    let a = first_of-is_ok (draw_rows p x pence) (Ok (with_entry p x Draw pence)) h in
+    let over : nat_lt (credit_of p.kind) ((due p x).principal + pence) ≡ false = a.0.1.1.1.1.0 in
+    let under : (due p x).principal + pence ≤ credit_of p.kind = grind (arith, nat_tests, over) in
+    let early : nat_lt x (last_of p.taken p.entries) ≡ false = a.0.0 in
+    (omega (arith, under, credit), b.charges, grind (arith, nat_tests, early))
+entered-bounded p Repay x pence credit b h =
+    let a = first_of-is_ok (repay_rows p x pence) (Ok (with_entry p x Repay pence)) h in
+    let early : nat_lt x (last_of p.taken p.entries) ≡ false = a.0.0 in
+    (omega (arith, b.principal), omega (arith, b.charges), grind (arith, nat_tests, early))
+
+next-running : (p : DebtValue) (e : Entry) → IsChecked p.terms → credit_of p.kind ≤ most_pence → IsRunning p → IsAccepted p e → IsRunning (pushed p e)
+next-running p e h credit r ok =
+    let low = last-le p.taken p.entries r.ordered in
+    let late = late_of p e.sort e.day e.pence ok.1 in
+    let a = entered-bounded p e.sort e.day e.pence credit (later-bounded p e.day h r late) ok.1 in
+    let after = due-pushed p e (omega (arith, low, late)) in
+    let B : ℕ → Type 0 = λ x. IsBounded (pushed p e) x in
+    record {
+      ordered = AreOrdered-push p.taken p.entries e r.ordered late;
+      bounded = subst B (sym (last_of-push p.taken p.entries e)) (record {
+        principal = omega (arith, ap (λ (o : Due). o.principal) after, a.0);
+        charges = omega (arith, ap (λ (o : Due). o.charges) after, a.1);
+      });
+    }
+  where
+    late_of : (p : DebtValue) (s : Sort) (x pence : ℕ) → IsOk (sort_answer s p x pence) → last_of p.taken p.entries ≤ x
+    late_of p Draw x pence h =
+        let a = first_of-is_ok (draw_rows p x pence) (Ok (with_entry p x Draw pence)) h in
+        let early : nat_lt x (last_of p.taken p.entries) ≡ false = a.0.0 in
+        grind (arith, nat_tests, early)
+    late_of p Repay x pence h =
+        let a = first_of-is_ok (repay_rows p x pence) (Ok (with_entry p x Repay pence)) h in
+        let early : nat_lt x (last_of p.taken p.entries) ≡ false = a.0.0 in
+        grind (arith, nat_tests, early)
+
+all-running : (d : DebtValue) (prior es : List Entry) → IsChecked d.terms → credit_of d.kind ≤ most_pence → IsRunning (record d { entries = prior }) → AreAccepted d prior es → IsRunning (record d { entries = prior ++ es })
+all-running d prior [] h credit r ok =
+    let R : List Entry → Type 0 = λ l. IsRunning (record d { entries = l }) in
+    subst R (sym (append-nil prior)) r
+all-running d prior (e ∷ es) h credit r ok =
+    let R : List Entry → Type 0 = λ l. IsRunning (record d { entries = l }) in
+    subst R (append_assoc prior (e ∷ []) es)
+    (all-running d (prior ++ e ∷ []) es h credit (next-running (record d { entries = prior }) e h credit r ok.0) ok.1)
+
+first-low : (k : Kind) → first_principal k ≤ credit_of k
+first-low (Fixed sum) = omega arith
+first-low (Running limit) = omega arith
+
+none-running : (d : DebtValue) → credit_of d.kind ≤ most_pence → first_principal d.kind ≤ credit_of d.kind → IsRunning (record d { entries = [] })
+none-running d credit low =
+    let start : due (record d { entries = [] }) d.taken ≡ record { principal = first_principal d.kind; charges = 0 } =
+    ap (λ (m : ℕ). due_after (record d { entries = [] }) m) (omega arith) ∙ due-start (record d { entries = [] }) refl in
+    record {
+      ordered = tt;
+      bounded = record {
+        principal = omega (arith, ap (λ (o : Due). o.principal) start, credit, low);
+        charges = omega (arith, ap (λ (o : Due). o.charges) start);
+      };
+    }
+
+-- so a debt whose entries were accepted in turn is within the bounds on the day of the last
+pub accepted-bounded : (d : DebtValue) → IsChecked d.terms → credit_of d.kind ≤ most_pence → AreAccepted d [] d.entries → IsBounded d (last_of d.taken d.entries)
+accepted-bounded d h credit ok = (all-running d [] d.entries h credit (none-running d credit (first-low d.kind)) ok).bounded
