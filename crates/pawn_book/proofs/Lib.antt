@@ -4,6 +4,7 @@ pub mod VisitLemmas
 pub mod Reading
 pub mod SoundLists
 pub mod Sounds
+pub mod Words
 pub mod Plans
 pub mod KeptLemmas
 pub mod CommandPlans

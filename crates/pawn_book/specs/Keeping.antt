@@ -29,7 +29,7 @@ use Rattle.pawn_book.specs.declared.fault.SaveError.{SaveError}
 use Rattle.pawn_book.specs.declared.fault.SaveError.TheVariants as Save
 use Rattle.pawn_book.specs.BookStep.{BookValue, Told, Outcome, Refuses, Says, Makes, out_of, changed_book, confirmed_booking, pledge_from, with_reference, gated, head_of}
 use Rattle.pawn_book.specs.HostStep.{Host, rows, with_book, host_step, host_after}
-use Rattle.pawn_book.specs.Sound.{AreSound, IsSound, IsSoundBook}
+use Rattle.pawn_book.specs.Sound.{AreSound, HasUnsoundBook, IsSound}
 
 abbrev pub terms_of : Option BookValue → List TermsValue
 terms_of None = []
@@ -67,10 +67,6 @@ pub record Reads {K : Type 0} (stands : K → Host → Type 0) (honest serves : 
   pub served : honest new → serves new → serves old
   pub back : honest new → serves new → (h : Host) → stands new h → stands old h
   pub tells : honest new → (h : Host) → stands old h → P h
-
--- a book of the host is not sound
-abbrev pub HasUnsoundBook : Host → Type 0
-HasUnsoundBook h = (b : ℕ) × (book : BookValue) × (get h.books b ≡ Some book) × (IsSoundBook book → ⊥)
 
 -- a stored row is told to be no record only of a host with a book that is not sound
 abbrev pub BlamesUnsound : {K T : Type 0} → (K → Host → Type 0) → (K → Type 0) → K → K → Result T KeepError → Type 0
