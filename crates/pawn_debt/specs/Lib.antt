@@ -4,3 +4,4 @@ pub mod DebtFault
 pub mod Answers
 pub mod Kept
 pub mod Replay
+pub mod Worked

@@ -6,6 +6,7 @@ mod entry;
 mod fault;
 mod owing;
 mod replay;
+mod worked;
 
 pub use debt::Debt;
 pub use entry::{Entries, Entry, Kind, Sort};
@@ -13,6 +14,7 @@ pub use fault::DebtFault;
 pub use owing::{Owing, Totals, owing_from};
 pub use pawn_terms::{Day, Terms};
 pub use replay::{owing_at, replay_entries};
+pub use worked::{worked_debts, worked_entries};
 
 #[cfg(test)]
 mod tests;

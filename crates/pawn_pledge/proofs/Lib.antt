@@ -3,6 +3,8 @@ pub mod Pushes
 pub mod Replays
 pub mod Starts
 pub mod Receipts
+pub mod Growth
+pub mod Repeats
 pub mod Keeping
 pub mod Stands
 pub mod NumberLemmas

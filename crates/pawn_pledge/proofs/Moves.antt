@@ -39,7 +39,7 @@ unless-changed rows own q d h =
     ((first_of-ok rows (Ok tt) tt a.0).0, a.1)
 
 -- nor answered
-if-unanswered : (b : Bool) (a : Done) (own : Judged) (q : PledgeValue) (d : Done) → (if b then Answered a else own) ≡ Changed q d → (b ≡ false) × (own ≡ Changed q d)
+pub if-unanswered : (b : Bool) (a : Done) (own : Judged) (q : PledgeValue) (d : Done) → (if b then Answered a else own) ≡ Changed q d → (b ≡ false) × (own ≡ Changed q d)
 if-unanswered true a own q d h = cc
 if-unanswered false a own q d h = (refl, h)
 

@@ -10,7 +10,6 @@ use Rattle.pawn_debt.specs.Due.{credit_of}
 use Rattle.pawn_debt.specs.Answers.{is_bad_amount, most_pence}
 use Rattle.pawn_pledge.specs.declared.record.Issue.TheVariants as Issue
 use Rattle.pawn_pledge.specs.declared.record.Closing.TheVariants as Closing
-use Rattle.pawn_pledge.specs.declared.refusal.Refusal.TheVariants as Refusal
 use Rattle.pawn_pledge.specs.Pledge.{PledgeValue, end_of}
 use Rattle.pawn_pledge.specs.declared.refusal.Refusal.{Refusal}
 use Rattle.pawn_pledge.specs.Step.{IsStarted}

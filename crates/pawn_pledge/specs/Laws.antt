@@ -1,21 +1,24 @@
 -- What holds of every pledge, whatever is sent.
-use Rattle.std.specs.Prelude.{◌≡◌, ◌≤◌, ◌<◌, ◌^◌, ◌==◌, ℕ, true, false, List, [], ◌∷◌, ◌++◌, Some, Ok, ◌⊎◌}
+use Rattle.std.specs.Prelude.{◌≡◌, ◌≤◌, ◌<◌, ◌+◌, ◌^◌, ◌==◌, ℕ, length, true, false, List, [], ◌∷◌, Some, Ok}
 use Rattle.std.specs.List.{list_any}
 use Rattle.pawn_terms.specs.Calendar.{IsStampDay}
 use Rattle.pawn_terms.specs.Terms.{TermsValue, IsChecked}
+use Rattle.pawn_terms.specs.Refusals.{NoneApplies}
+use Rattle.pawn_debt.specs.declared.entry.Sort.{Sort}
+use Rattle.pawn_debt.specs.declared.entry.Sort.TheVariants.{Draw, Repay}
 use Rattle.pawn_debt.specs.Due.{due, last_of}
 use Rattle.pawn_debt.specs.Owing.{owing_of}
 use Rattle.pawn_pledge.specs.declared.record.Opening.{Opening}
-use Rattle.pawn_pledge.specs.declared.record.Issued.{Issued}
 use Rattle.pawn_pledge.specs.declared.command.Stamp.{Stamp}
 use Rattle.pawn_pledge.specs.declared.command.Command.{Command}
 use Rattle.pawn_pledge.specs.declared.command.Done.{Done}
 use Rattle.pawn_pledge.specs.declared.receipt.Receipt.{Receipt}
 use Rattle.pawn_pledge.specs.Number.{IsNumber}
-use Rattle.pawn_pledge.specs.Pledge.{PledgeValue, debt_of, live_of}
-use Rattle.pawn_pledge.specs.Step.{Changed, is_open, pledge_step, pledge_after, started}
+use Rattle.pawn_pledge.specs.Pledge.{PledgeValue, end_of, debt_of, status_of, live_of}
+use Rattle.pawn_pledge.specs.Step.{Answered, Changed, is_open, bars, pledge_step, pledge_after, started}
 use Rattle.pawn_pledge.specs.Replayable.{IsOpening, IsCommand, IsReplayable, IsWithin, IsStanding}
-use Rattle.pawn_pledge.specs.Brief.{brief_of, brief_owing}
+use Rattle.pawn_pledge.specs.Growth.{Grows, StaysOrGrows}
+use Rattle.pawn_pledge.specs.Brief.{brief_of, brief_status, brief_owing}
 use Rattle.pawn_pledge.specs.Secret.{secret_text, secret_of_text}
 use Rattle.pawn_pledge.specs.Receipt.{receipt_text, IsReceiptText}
 
@@ -61,13 +64,62 @@ abbrev pub SecretsGrow : Type 0
 SecretsGrow =
     (p next : PledgeValue) (stamp : Stamp) (command : Command) (done : Done)
     → pledge_step p stamp command ≡ Changed next done
-    → (next.secrets ≡ p.secrets)
-    ⊎ ((issued : Issued) × (next.secrets ≡ p.secrets ++ issued ∷ []) × (list_any (λ i. i.secret == issued.secret) p.secrets ≡ false))
+    → StaysOrGrows (λ issued. list_any (λ i. i.secret == issued.secret) p.secrets ≡ false) p.secrets next.secrets
+
+-- the entries stay, or grow at their end by the next, on the stamp's day
+abbrev pub EntriesGrow : Type 0
+EntriesGrow =
+    (p next : PledgeValue) (stamp : Stamp) (command : Command) (done : Done)
+    → pledge_step p stamp command ≡ Changed next done
+    → StaysOrGrows (λ entry. (entry.seq ≡ length p.entries + 1) × (entry.day ≡ stamp.day)) p.entries next.entries
+
+-- the extensions stay, or grow at their end by one to a later end, on the stamp's day
+abbrev pub ExtensionsGrow : Type 0
+ExtensionsGrow =
+    (p next : PledgeValue) (stamp : Stamp) (command : Command) (done : Done)
+    → pledge_step p stamp command ≡ Changed next done
+    → StaysOrGrows (λ extension. (extension.day ≡ stamp.day) × (end_of p < extension.until)) p.extensions next.extensions
 
 -- the pledge after a list of commands, each with its stamp
 abbrev pub pledge_after_all : PledgeValue → List (Stamp × Command) → PledgeValue
 pledge_after_all p [] = p
 pledge_after_all p (c ∷ cs) = pledge_after_all (pledge_after p (pledge_step p c.0 c.1)) cs
+
+-- whatever is sent, each list grows at its end alone
+abbrev pub ListsGrow : Type 0
+ListsGrow = (p : PledgeValue) (commands : List (Stamp × Command)) → Grows p (pledge_after_all p commands)
+
+-- a drawing or a repayment
+abbrev pub entering : Sort → ℕ → ℕ → Command
+entering Draw seq pence = Command.Draw seq pence
+entering Repay seq pence = Command.Repay seq pence
+
+-- a drawing or a repayment that was entered is answered again as the first time and enters nothing, whatever became of the
+-- pledge in between, on any day and with any word
+abbrev pub EntriesActOnce : Type 0
+EntriesActOnce =
+    (p next : PledgeValue) (stamp again : Stamp) (sort : Sort) (seq pence : ℕ) (done : Done) (later : List (Stamp × Command))
+    → IsReplayable p → pledge_step p stamp (entering sort seq pence) ≡ Changed next done
+    → pledge_step (pledge_after_all next later) again (entering sort seq pence) ≡ Answered done
+
+-- nothing bars a command on the day x, and the period is not over
+abbrev pub MayExtend : PledgeValue → ℕ → Type 0
+MayExtend p x = NoneApplies (bars p x) × (x ≤ end_of p)
+
+-- an extension to the end that stands is answered with that end, and changes nothing
+abbrev pub StandingEndIsAnswered : Type 0
+StandingEndIsAnswered =
+    (p : PledgeValue) (stamp : Stamp)
+    → MayExtend p stamp.day → pledge_step p stamp (Command.Extend (end_of p)) ≡ Answered (Done.Extended (end_of p))
+
+-- so an extension that was agreed is answered again as the first time and agrees on nothing, whatever was sent in between, as
+-- long as its end stands
+abbrev pub ExtensionsActOnce : Type 0
+ExtensionsActOnce =
+    (p next : PledgeValue) (stamp again : Stamp) (until : ℕ) (done : Done) (later : List (Stamp × Command))
+    → pledge_step p stamp (Command.Extend until) ≡ Changed next done
+    → end_of (pledge_after_all next later) ≡ until → MayExtend (pledge_after_all next later) again.day
+    → pledge_step (pledge_after_all next later) again (Command.Extend until) ≡ Answered done
 
 -- after any list of commands at most one receipt of a pledge is live
 abbrev pub OneIsLive : Type 0
@@ -87,6 +139,10 @@ abbrev pub BriefOwes : Type 0
 BriefOwes =
     (p : PledgeValue) (x : ℕ)
     → IsReplayable p → last_of p.taken p.entries ≤ x → brief_owing (brief_of p) x ≡ owing_of (due (debt_of p) x)
+
+-- and what it is on a day
+abbrev pub BriefHasStatus : Type 0
+BriefHasStatus = (p : PledgeValue) (x : ℕ) → brief_status (brief_of p) x ≡ status_of p x
 
 -- a secret's text reads as the secret
 abbrev pub SecretTextsReadBack : Type 0

@@ -6,7 +6,11 @@ pub mod Refusal
 pub mod Pledge
 pub mod Step
 pub mod Kept
+pub mod Growth
 pub mod Replayable
 pub mod Parts
 pub mod Brief
+pub mod BriefFields
 pub mod Laws
+pub mod Worked
+pub mod WorkedTexts

@@ -320,16 +320,26 @@ pledge_after p (Refused why) = p
 pledge_after p (Answered done) = p
 pledge_after p (Changed pledge done) = pledge
 
--- it makes a change
-abbrev pub IsChange : Judged → Type 0
-IsChange (Refused why) = ⊥
-IsChange (Answered done) = ⊥
-IsChange (Changed pledge done) = Unit {0}
+-- an entry, a secret or an extension is added
+abbrev pub IsAddition : Done → Type 0
+IsAddition (Done.Entered entry) = Unit {0}
+IsAddition (Done.Held flag) = ⊥
+IsAddition (Done.Declared secret) = Unit {0}
+IsAddition (Done.Booked booking) = ⊥
+IsAddition (Done.Redeemed day paid) = ⊥
+IsAddition (Done.Sold net surplus shortfall) = ⊥
+IsAddition (Done.Extended until) = Unit {0}
 
--- the call does what the step says, or wants memory for a change and makes none
+-- a list of the pledge grows by it
+abbrev pub IsGrowth : Judged → Type 0
+IsGrowth (Refused why) = ⊥
+IsGrowth (Answered done) = ⊥
+IsGrowth (Changed pledge done) = IsAddition done
+
+-- the call does what the step says, or wants memory for a list that is to grow and changes nothing
 abbrev pub IsStep : Judged → PledgeValue → Result Done Refusal → PledgeValue → Type 0
 IsStep judged old (Ok done) new = (reply_of judged ≡ Ok done) × (new ≡ pledge_after old judged)
-IsStep judged old (Err fault) new = (new ≡ old) × ((judged ≡ Refused fault) ⊎ ((fault ≡ Refusal.Memory) × IsChange judged))
+IsStep judged old (Err fault) new = (new ≡ old) × ((judged ≡ Refused fault) ⊎ ((fault ≡ Refusal.Memory) × IsGrowth judged))
 
 -- what a call told, as a step
 abbrev pub judged_by : Applied → PledgeValue → Judged
@@ -338,7 +348,7 @@ judged_by applied new = if applied.changed then Changed new applied.done else An
 -- the same, where the call also tells whether there was a change
 abbrev pub IsApplied : Judged → PledgeValue → Result Applied Refusal → PledgeValue → Type 0
 IsApplied judged old (Ok applied) new = (judged ≡ judged_by applied new) × (new ≡ pledge_after old judged)
-IsApplied judged old (Err fault) new = (new ≡ old) × ((judged ≡ Refused fault) ⊎ ((fault ≡ Refusal.Memory) × IsChange judged))
+IsApplied judged old (Err fault) new = (new ≡ old) × ((judged ≡ Refused fault) ⊎ ((fault ≡ Refusal.Memory) × IsGrowth judged))
 
 -- a new pledge is what the rules say, or memory was wanted
 abbrev pub IsStarted : Result PledgeValue Refusal → Result PledgeValue Refusal → Type 0

@@ -1,4 +1,4 @@
-ghost use Rattle.pawn_pledge.specs.Laws.{StartsStanding, StaysReplayable, StaysWithin, StaysStanding, ChangesDiffer, ClosedStays, SecretsGrow, OneIsLive, NeverLiveAgain, BriefOwes, SecretTextsReadBack, ReceiptTextsReadBack, ReceiptTextsAreOne};
+ghost use Rattle.pawn_pledge.specs.Laws.{StartsStanding, StaysReplayable, StaysWithin, StaysStanding, ChangesDiffer, ClosedStays, SecretsGrow, EntriesGrow, ExtensionsGrow, ListsGrow, EntriesActOnce, StandingEndIsAnswered, ExtensionsActOnce, OneIsLive, NeverLiveAgain, BriefOwes, BriefHasStatus, SecretTextsReadBack, ReceiptTextsReadBack, ReceiptTextsAreOne};
 
 /// Whatever is sent, a pledge stays one that can have come about, and a change changes something.
 pub fn laws_of_steps()
@@ -10,6 +10,20 @@ pub fn laws_of_steps()
     ensures closed { ClosedStays }
 {}
 
+/// What stands in a list of a pledge stays in its place, whatever is sent.
+pub fn laws_of_lists()
+    ensures entries { EntriesGrow }
+    ensures extensions { ExtensionsGrow }
+    ensures all { ListsGrow }
+{}
+
+/// What was entered or agreed is answered again as the first time, and changes nothing more.
+pub fn laws_of_repeats()
+    ensures entries { EntriesActOnce }
+    ensures standing_end { StandingEndIsAnswered }
+    ensures extensions { ExtensionsActOnce }
+{}
+
 /// At most one receipt of a pledge is live, and none that was replaced or surrendered ever again.
 pub fn laws_of_receipts()
     ensures grow { SecretsGrow }
@@ -17,9 +31,10 @@ pub fn laws_of_receipts()
     ensures never_again { NeverLiveAgain }
 {}
 
-/// A brief owes what its pledge owes.
+/// A brief owes what its pledge owes, and has its status.
 pub fn laws_of_briefs()
     ensures owes { BriefOwes }
+    ensures status { BriefHasStatus }
 {}
 
 /// The texts of secrets and receipts are read back, and no text is of two receipts.

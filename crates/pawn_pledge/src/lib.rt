@@ -2,6 +2,7 @@
 #![tactic(auto)]
 
 mod brief;
+mod brief_fields;
 mod command;
 mod laws;
 mod limits;
@@ -14,10 +15,14 @@ mod record;
 mod refusal;
 mod secret;
 mod text;
+mod worked;
 
 pub use brief::Brief;
+pub use brief_fields::BriefFields;
 pub use command::{Applied, Command, Decision, Done, Paper, Stamp};
-pub use laws::{laws_of_briefs, laws_of_receipts, laws_of_steps, laws_of_texts};
+pub use laws::{
+    laws_of_briefs, laws_of_lists, laws_of_receipts, laws_of_repeats, laws_of_steps, laws_of_texts,
+};
 pub use lists::{Extensions, Secrets};
 pub use number::Number;
 pub use parts::Parts;
@@ -31,6 +36,10 @@ pub use record::{
 pub use refusal::Refusal;
 pub use secret::Secret;
 pub use text::Text;
+pub use worked::{
+    worked_bookings, worked_closings, worked_entries, worked_extensions, worked_pledges,
+    worked_receipts, worked_texts,
+};
 
 #[cfg(test)]
 mod tests;

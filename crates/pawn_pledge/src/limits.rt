@@ -8,6 +8,10 @@ pub(crate) const MOST_PENCE: u64 = 100_000_000;
 pub(crate) const MOST_SECRETS: usize = 101;
 
 pub(crate) const MOST_EXTENSIONS: usize = 99;
+
+pub(crate) const MOST_ENTRIES: usize = 9_999;
+/// Charges never come to more than this, in millionths of a penny.
+pub(crate) const MOST_CHARGES: u64 = 1_000_000_000_000_000_000;
 /// The last of a day's windows, from 0.
 pub(crate) const LAST_WINDOW: u64 = 15;
 /// The number of 2199-12-31.

@@ -2,7 +2,8 @@ ghost use Rattle.std.specs.Prelude.{◌≡◌, ◌≤◌, ◌↔◌, IsTrue, Som
 ghost use Rattle.pawn_terms.specs.Calendar.{IsStampDay};
 ghost use Rattle.pawn_debt.specs.Due.{due, last_of};
 ghost use Rattle.pawn_debt.specs.Owing.{owing_of};
-ghost use Rattle.pawn_debt.specs.Kept.{IsKept as IsOwed};
+ghost use Rattle.pawn_debt.specs.Answers.{most_pence};
+ghost use Rattle.pawn_debt.specs.Kept.{IsKept as IsOwed, most_charges, totals_of};
 ghost use Rattle.pawn_pledge.specs.Pledge.{status_in, status_of, open_status, last_secret, live_of, end_of, debt_of};
 ghost use Rattle.pawn_pledge.specs.Step.{started, IsStarted};
 ghost use Rattle.pawn_pledge.specs.Replayable.{IsStanding};
@@ -319,6 +320,15 @@ impl Pledge {
         self.debt.owing(day)
     }
 
+    /// What is owed on the day of the last entry, or else on the day taken.
+    pub fn totals(&self) -> Totals
+        ensures value { result ≡ totals_of (debt_of self.now) }
+        ensures principal_in { result.principal ≤ most_pence }
+        ensures charges_in { result.charges ≤ most_charges }
+    {
+        self.debt.totals()
+    }
+
     /// The same pledge again.
     pub fn copy(&self) -> Result<Pledge, AllocError>
         ensures { IfOk result (λ p. p ≡ self.now) }
@@ -461,7 +471,7 @@ impl Pledge {
             closing: self.closing,
             live: self.live(),
             ends: self.debt.ends(),
-            totals: self.debt.totals(),
+            totals: self.totals(),
         })
     }
 }

@@ -6,6 +6,7 @@ use crate::{
 use std::alloc::Global;
 use std::test::Fail;
 
+mod briefs;
 mod histories;
 
 // A command on a day, with a word, and what it is to answer.

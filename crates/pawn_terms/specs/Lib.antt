@@ -2,3 +2,4 @@ pub mod Calendar
 pub mod Refusals
 pub mod Terms
 pub mod TermsFault
+pub mod Worked

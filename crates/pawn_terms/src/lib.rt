@@ -4,10 +4,12 @@
 mod day;
 mod request_day;
 mod terms;
+mod worked;
 
 pub use day::{BadDay, Day, last_day};
 pub use request_day::RequestDay;
 pub use terms::{Terms, TermsFault};
+pub use worked::{worked_days, worked_ends, worked_terms};
 
 #[cfg(test)]
 mod tests;

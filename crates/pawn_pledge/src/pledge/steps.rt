@@ -14,7 +14,7 @@ use pawn_debt::{Day, DebtFault, Entry, Sort};
 
 impl Pledge {
     /// One command: what it answers, or the first refusal that applies. Where it is refused, the
-    /// pledge is unchanged.
+    /// pledge is unchanged. Memory is wanted for an entry, a secret or an extension alone.
     pub fn apply(&mut self, stamp: &Stamp, command: &Command) -> Result<Done, Refusal>
         ensures { IsStep (pledge_step self.old stamp.now command.now) self.old result self.new }
     {

@@ -1,0 +1,15 @@
+ghost use Rattle.pawn_debt.specs.Worked.{WorkedInterest, WorkedRepayments, WorkedTotals, WorkedSafeKeeping, WorkedDrawings, WorkedStarts};
+
+/// What is owed on debts that can be reckoned by hand.
+pub fn worked_debts()
+    ensures interest { WorkedInterest }
+    ensures safe_keeping { WorkedSafeKeeping }
+    ensures totals { WorkedTotals }
+{}
+
+/// Starts, drawings and repayments, and the refusals of others.
+pub fn worked_entries()
+    ensures starts { WorkedStarts }
+    ensures drawings { WorkedDrawings }
+    ensures repayments { WorkedRepayments }
+{}

@@ -1,0 +1,262 @@
+-- Pledges, worked out.
+use Rattle.std.specs.Prelude.{◌≡◌, ℕ, ◌+◌, true, false, Bool, [], ◌∷◌, Option, Some, None, Result, Ok, Err, codes}
+use Rattle.std.specs.List.{repeat}
+use Rattle.pawn_terms.specs.Terms.{TermsValue}
+use Rattle.pawn_terms.specs.Worked.{date}
+use Rattle.pawn_debt.specs.declared.entry.Kind.{Kind}
+use Rattle.pawn_debt.specs.declared.entry.Kind.TheVariants.{Fixed, Running}
+use Rattle.pawn_debt.specs.declared.entry.Sort.{Sort}
+use Rattle.pawn_debt.specs.declared.entry.Sort.TheVariants.{Draw, Repay}
+use Rattle.pawn_debt.specs.declared.fault.DebtFault.TheVariants.{BadAmount, FixedSum, OverLimit, OverOwing, EarlierDay, EntriesFull}
+use Rattle.pawn_debt.specs.Worked.{free, terms_of}
+use Rattle.pawn_pledge.specs.declared.record.Opening.{Opening}
+use Rattle.pawn_pledge.specs.declared.record.Issue.{Issue}
+use Rattle.pawn_pledge.specs.declared.record.Booking.{Booking}
+use Rattle.pawn_pledge.specs.declared.record.BookingState.TheVariants.{Asked, Confirmed, Refused, Cancelled}
+use Rattle.pawn_pledge.specs.declared.record.BookingState.{BookingState}
+use Rattle.pawn_pledge.specs.declared.record.Closing.{Closing}
+use Rattle.pawn_pledge.specs.declared.record.Status.{Status}
+use Rattle.pawn_pledge.specs.declared.command.Stamp.{Stamp}
+use Rattle.pawn_pledge.specs.declared.command.Paper.{Paper}
+use Rattle.pawn_pledge.specs.declared.command.Decision.TheVariants.{Confirm, Refuse}
+use Rattle.pawn_pledge.specs.declared.command.Command.{Command}
+use Rattle.pawn_pledge.specs.declared.command.Done.{Done}
+use Rattle.pawn_pledge.specs.declared.refusal.Refusal.{Refusal}
+use Rattle.pawn_pledge.specs.Pledge.{PledgeValue, end_of, status_of, live_of}
+use Rattle.pawn_pledge.specs.Step.{Judged, Answered, started, pledge_step, pledge_after, reply_of}
+
+-- what is agreed on a ring
+abbrev pub agreement : Kind → Bool → Option ℕ → Opening
+agreement kind five_days agreed =
+    record { reference = codes "A1"; article = codes "Gold ring"; kind = kind; agreed = agreed; five_days = five_days }
+
+-- the ring as it was pawned on 2024-01-31, with the secret 1
+abbrev pub pawned : Kind → Bool → Option ℕ → TermsValue → PledgeValue
+pawned kind five_days agreed terms = record {
+  number = 1;
+  reference = codes "A1";
+  article = codes "Gold ring";
+  kind = kind;
+  taken = date 2024 1 31;
+  agreed = agreed;
+  five_days = five_days;
+  version = 1;
+  terms = terms;
+  entries = [];
+  secrets = record { day = date 2024 1 31; sort = Issue.Opening; secret = 1 } ∷ [];
+  extensions = [];
+  held = false;
+  booking = None;
+  last = date 2024 1 31;
+  closing = Closing.Open;
+}
+
+-- for a sum without charges, an agreed end or the five days
+abbrev pub ring : ℕ → PledgeValue
+ring pence = pawned (Fixed pence) false None free
+
+-- the same with the five days
+abbrev pub ring_with_grace : ℕ → PledgeValue
+ring_with_grace pence = pawned (Fixed pence) true None free
+
+-- on a running account
+abbrev pub ring_on_account : ℕ → PledgeValue
+ring_on_account limit = pawned (Running limit) false None free
+
+-- a day with the word 9
+abbrev pub on : ℕ → Stamp
+on day = record { day = day; word = 9 }
+
+-- what a command on a day answers, and the pledge after it
+abbrev pub told : PledgeValue → ℕ → Command → Result Done Refusal
+told p day command = reply_of (pledge_step p (on day) command)
+
+abbrev pub after : PledgeValue → ℕ → Command → PledgeValue
+after p day command = pledge_after p (pledge_step p (on day) command)
+
+-- an entry is told
+abbrev pub entry_told : ℕ → ℕ → Sort → ℕ → Done
+entry_told seq day sort pence = Done.Entered (record { seq = seq; day = day; sort = sort; pence = pence })
+
+-- a pledge begins with a sum or a limit within the limits, and with its first secret live
+abbrev pub WorkedStarts : Type 0
+WorkedStarts =
+    (started 1 (agreement (Fixed 10000) false None) 1 free (record { day = date 2024 1 31; word = 1 }) ≡ Ok (ring 10000))
+    × (live_of (ring 10000) ≡ Some 1)
+    × (started 1 (agreement (Fixed 0) false None) 1 free (on (date 2024 1 31)) ≡ Err (Refusal.Debt BadAmount))
+    × (started 1 (agreement (Running 100000001) false None) 1 free (on (date 2024 1 31)) ≡ Err (Refusal.Debt BadAmount))
+
+-- a small credit for six months passes after the end, or after the five days where these apply
+abbrev pub WorkedStatuses : Type 0
+WorkedStatuses =
+    (status_of (ring 7500) (date 2024 7 31) ≡ Status.Inside)
+    × (status_of (ring 7500) (date 2024 8 1) ≡ Status.Passed)
+    × (status_of (ring 7501) (date 2024 8 1) ≡ Status.Realisable)
+    × (status_of (ring_with_grace 7500) (date 2024 8 5) ≡ Status.Grace)
+    × (status_of (ring_with_grace 7500) (date 2024 8 6) ≡ Status.Passed)
+    × (status_of (ring_with_grace 7501) (date 2024 8 6) ≡ Status.Realisable)
+    × (status_of (pawned (Fixed 7500) false (Some (date 2024 8 1)) free) (date 2024 8 1) ≡ Status.Inside)
+    × (status_of (pawned (Fixed 7500) false (Some (date 2024 8 1)) free) (date 2024 8 2) ≡ Status.Realisable)
+
+-- drawings in the period, on a running account up to its limit
+abbrev pub WorkedDrawings : Type 0
+WorkedDrawings =
+    let drawn = after (ring_on_account 5000) (date 2024 1 31) (Command.Draw 1 3000) in
+    (told (ring_on_account 5000) (date 2024 1 31) (Command.Draw 1 3000) ≡ Ok (entry_told 1 (date 2024 1 31) Draw 3000))
+    × (told drawn (date 2024 1 31) (Command.Draw 2 2001) ≡ Err (Refusal.Debt OverLimit))
+    × (told drawn (date 2024 7 31) (Command.Draw 2 2000) ≡ Ok (entry_told 2 (date 2024 7 31) Draw 2000))
+    × (told drawn (date 2024 8 1) (Command.Draw 2 2000) ≡ Err Refusal.Passed)
+    × (told (ring_on_account 7501) (date 2024 8 1) (Command.Draw 1 1) ≡ Err Refusal.PeriodOver)
+    × (told (ring 10000) (date 2024 1 31) (Command.Draw 1 1) ≡ Err (Refusal.Debt FixedSum))
+    × (told (ring 10000) (date 2024 8 1) (Command.Draw 1 1) ≡ Err Refusal.PeriodOver)
+
+-- a repayment, and its number on any day once it stands
+abbrev pub WorkedRepayments : Type 0
+WorkedRepayments =
+    let repaid = after (ring 10000) (date 2024 2 29) (Command.Repay 1 1000) in
+    let first = entry_told 1 (date 2024 2 29) Repay 1000 in
+    (told (ring 10000) (date 2024 2 29) (Command.Repay 1 1000) ≡ Ok first)
+    × (pledge_step repaid (on (date 2024 2 1)) (Command.Repay 1 1000) ≡ Answered first)
+    × (pledge_step (after repaid (date 2024 3 1) (Command.Redeem 9000)) (on (date 2025 1 1)) (Command.Repay 1 1000) ≡ Answered first)
+    × (told repaid (date 2024 2 1) (Command.Repay 1 999) ≡ Err Refusal.SeqTaken)
+    × (told repaid (date 2024 2 1) (Command.Draw 1 1000) ≡ Err Refusal.SeqTaken)
+    × (told repaid (date 2024 2 1) (Command.Repay 3 1000) ≡ Err Refusal.SeqAhead)
+    × (told repaid (date 2024 2 29) (Command.Repay 0 1000) ≡ Err Refusal.SeqAhead)
+    × (told repaid (date 2024 2 28) (Command.Repay 2 1000) ≡ Err (Refusal.Debt EarlierDay))
+    × (told repaid (date 2024 2 29) (Command.Repay 2 0) ≡ Err (Refusal.Debt BadAmount))
+    × (told repaid (date 2024 2 29) (Command.Repay 2 9001) ≡ Err (Refusal.Debt (OverOwing 9000)))
+    × (told (ring 7500) (date 2024 8 1) (Command.Repay 1 1000) ≡ Err Refusal.Passed)
+
+-- a hold bars a redemption until it is released
+abbrev pub WorkedHolds : Type 0
+WorkedHolds =
+    let held = after (ring 7500) (date 2024 2 1) Command.Hold in
+    (told (ring 7500) (date 2024 2 1) Command.Hold ≡ Ok (Done.Held true))
+    × (pledge_step held (on (date 2024 2 2)) Command.Hold ≡ Answered (Done.Held true))
+    × (told held (date 2024 2 2) (Command.Redeem 7500) ≡ Err Refusal.Held)
+    × (told held (date 2024 2 2) Command.Release ≡ Ok (Done.Held false))
+    × (told (after held (date 2024 2 2) Command.Release) (date 2024 2 2) (Command.Redeem 7500) ≡ Ok (Done.Redeemed (date 2024 2 2) 7500))
+    × (pledge_step (ring 7500) (on (date 2024 2 1)) Command.Release ≡ Answered (Done.Held false))
+    × (told held (date 2024 1 31) Command.Release ≡ Err (Refusal.Debt EarlierDay))
+    × (told held (date 2024 8 1) Command.Release ≡ Err Refusal.Passed)
+
+-- a declaration's secret takes the place of the live one; a written statement does for a small credit alone
+abbrev pub WorkedDeclarations : Type 0
+WorkedDeclarations =
+    let many = record (ring 7500) { secrets = repeat 101 (record { day = date 2024 1 31; sort = Issue.Sworn; secret = 1 } ∷ []) } in
+    (told (ring 7501) (date 2024 3 2) (Command.Declare Paper.Sworn) ≡ Ok (Done.Declared 9))
+    × (live_of (after (ring 7501) (date 2024 3 2) (Command.Declare Paper.Sworn)) ≡ Some 9)
+    × (told (ring 7501) (date 2024 3 2) (Command.Declare Paper.Written) ≡ Err Refusal.NotSmall)
+    × (told (ring 7500) (date 2024 3 2) (Command.Declare Paper.Written) ≡ Ok (Done.Declared 9))
+    × (told (after (ring 7500) (date 2024 3 2) (Command.Declare Paper.Sworn)) (date 2024 3 2) (Command.Declare Paper.Sworn) ≡ Err Refusal.SecretUsed)
+    × (reply_of (pledge_step (ring 7500) (record { day = date 2024 3 2; word = 1 }) (Command.Declare Paper.Sworn)) ≡ Err Refusal.SecretUsed)
+    × (told many (date 2024 3 2) (Command.Declare Paper.Sworn) ≡ Err Refusal.DeclarationsFull)
+    × (told (after (after (ring 7500) (date 2024 2 1) Command.Hold) (date 2024 2 1) (Command.Declare Paper.Sworn)) (date 2024 2 1) (Command.Redeem 7500) ≡ Err Refusal.Held)
+
+-- a booking is told
+abbrev pub booking_told : ℕ → ℕ → BookingState → Done
+booking_told day window state = Done.Booked (record { day = day; window = window; state = state })
+
+-- the ring once a booking for 2024-03-04 was asked for, and once it was confirmed
+abbrev pub ring_asked_for : PledgeValue
+ring_asked_for = after (ring 10000) (date 2024 3 1) (Command.AskBooking (date 2024 3 4) 3)
+
+abbrev pub ring_confirmed : PledgeValue
+ring_confirmed = after ring_asked_for (date 2024 3 1) (Command.DecideBooking Confirm)
+
+-- a booking is asked for a window of a day that is not past, and on which the property will not have passed
+abbrev pub WorkedAskings : Type 0
+WorkedAskings =
+    (told (ring 10000) (date 2024 3 1) (Command.AskBooking (date 2024 3 4) 3) ≡ Ok (booking_told (date 2024 3 4) 3 Asked))
+    × (told (ring 10000) (date 2024 3 1) (Command.AskBooking (date 2024 3 1) 15) ≡ Ok (booking_told (date 2024 3 1) 15 Asked))
+    × (told (ring 10000) (date 2024 3 1) (Command.AskBooking (date 2024 2 29) 16) ≡ Err Refusal.BadWindow)
+    × (told (ring 10000) (date 2024 3 1) (Command.AskBooking (date 2024 2 29) 15) ≡ Err Refusal.BookingDay)
+    × (told (ring 7500) (date 2024 3 1) (Command.AskBooking (date 2024 7 31) 0) ≡ Ok (booking_told (date 2024 7 31) 0 Asked))
+    × (told (ring 7500) (date 2024 3 1) (Command.AskBooking (date 2024 8 1) 0) ≡ Err Refusal.BookingDay)
+    × (pledge_step ring_asked_for (on (date 2024 3 4)) (Command.AskBooking (date 2024 3 4) 3) ≡ Answered (booking_told (date 2024 3 4) 3 Asked))
+    × (pledge_step ring_confirmed (on (date 2024 3 2)) (Command.AskBooking (date 2024 3 4) 3) ≡ Answered (booking_told (date 2024 3 4) 3 Confirmed))
+    × (told ring_confirmed (date 2024 3 2) (Command.AskBooking (date 2024 3 4) 4) ≡ Ok (booking_told (date 2024 3 4) 4 Asked))
+    × (told ring_asked_for (date 2024 3 5) (Command.AskBooking (date 2024 3 4) 3) ≡ Err Refusal.BookingDay)
+
+-- a booking that stands is given up
+abbrev pub WorkedCancellings : Type 0
+WorkedCancellings =
+    let cancelled = after ring_confirmed (date 2024 3 5) Command.CancelBooking in
+    let refused = after ring_confirmed (date 2024 3 2) (Command.DecideBooking Refuse) in
+    (told (ring 10000) (date 2024 3 1) Command.CancelBooking ≡ Err Refusal.NoBooking)
+    × (told ring_asked_for (date 2024 3 1) Command.CancelBooking ≡ Ok (booking_told (date 2024 3 4) 3 Cancelled))
+    × (told ring_confirmed (date 2024 3 5) Command.CancelBooking ≡ Ok (booking_told (date 2024 3 4) 3 Cancelled))
+    × (pledge_step cancelled (on (date 2024 3 6)) Command.CancelBooking ≡ Answered (booking_told (date 2024 3 4) 3 Cancelled))
+    × (told refused (date 2024 3 2) Command.CancelBooking ≡ Err Refusal.NoBooking)
+
+-- a booking that was asked for is confirmed up to its day, or refused on any
+abbrev pub WorkedDecisions : Type 0
+WorkedDecisions =
+    let cancelled = after ring_asked_for (date 2024 3 1) Command.CancelBooking in
+    let refused = after ring_asked_for (date 2024 3 1) (Command.DecideBooking Refuse) in
+    (told (ring 10000) (date 2024 3 1) (Command.DecideBooking Confirm) ≡ Err Refusal.NoBooking)
+    × (told (ring 10000) (date 2024 3 1) (Command.DecideBooking Refuse) ≡ Err Refusal.NoBooking)
+    × (told ring_asked_for (date 2024 3 4) (Command.DecideBooking Confirm) ≡ Ok (booking_told (date 2024 3 4) 3 Confirmed))
+    × (told ring_asked_for (date 2024 3 5) (Command.DecideBooking Confirm) ≡ Err Refusal.BookingDay)
+    × (pledge_step ring_confirmed (on (date 2024 3 5)) (Command.DecideBooking Confirm) ≡ Answered (booking_told (date 2024 3 4) 3 Confirmed))
+    × (told ring_confirmed (date 2024 3 5) (Command.DecideBooking Refuse) ≡ Ok (booking_told (date 2024 3 4) 3 Refused))
+    × (pledge_step refused (on (date 2024 3 2)) (Command.DecideBooking Refuse) ≡ Answered (booking_told (date 2024 3 4) 3 Refused))
+    × (told refused (date 2024 3 2) (Command.DecideBooking Confirm) ≡ Err Refusal.NoBooking)
+    × (told cancelled (date 2024 3 2) (Command.DecideBooking Confirm) ≡ Err Refusal.NoBooking)
+    × (told cancelled (date 2024 3 2) (Command.DecideBooking Refuse) ≡ Err Refusal.NoBooking)
+
+-- a redemption by its total, until the property passes; it takes the receipt and cancels the booking
+abbrev pub WorkedRedemptions : Type 0
+WorkedRedemptions =
+    let redeemed = after ring_confirmed (date 2024 3 4) (Command.Redeem 10000) in
+    (told (ring 7500) (date 2024 2 1) (Command.Redeem 7499) ≡ Err (Refusal.WrongAmount 7500))
+    × (told (ring 7500) (date 2024 7 31) (Command.Redeem 7500) ≡ Ok (Done.Redeemed (date 2024 7 31) 7500))
+    × (told (ring 7500) (date 2024 8 1) (Command.Redeem 7500) ≡ Err Refusal.Passed)
+    × (told (ring 7501) (date 2024 8 1) (Command.Redeem 7501) ≡ Ok (Done.Redeemed (date 2024 8 1) 7501))
+    × (told (ring_with_grace 7500) (date 2024 8 5) (Command.Redeem 7500) ≡ Ok (Done.Redeemed (date 2024 8 5) 7500))
+    × (told (ring_with_grace 7500) (date 2024 8 6) (Command.Redeem 7500) ≡ Err Refusal.Passed)
+    × (told (pawned (Fixed 7500) false (Some (date 2024 8 1)) free) (date 2024 8 2) (Command.Redeem 7500) ≡ Ok (Done.Redeemed (date 2024 8 2) 7500))
+    × (live_of redeemed ≡ None)
+    × (status_of redeemed (date 2024 8 1) ≡ Status.Redeemed)
+    × (redeemed.booking ≡ Some (record { day = date 2024 3 4; window = 3; state = Cancelled }))
+    × (told redeemed (date 2024 3 4) (Command.Redeem 10000) ≡ Err Refusal.Closed)
+    × (told redeemed (date 2024 3 3) (Command.Redeem 10000) ≡ Err (Refusal.Debt EarlierDay))
+
+-- a sale once the pledge is realisable, for what it brings; the receipt stays live
+abbrev pub WorkedSales : Type 0
+WorkedSales =
+    let sold = after (ring 10000) (date 2024 8 1) (Command.Sell 9000) in
+    (told (ring 10000) (date 2024 8 1) (Command.Sell 9000) ≡ Ok (Done.Sold 9000 0 1000))
+    × (told (ring 10000) (date 2024 8 1) (Command.Sell 12345) ≡ Ok (Done.Sold 12345 2345 0))
+    × (told (ring 10000) (date 2024 8 1) (Command.Sell 0) ≡ Ok (Done.Sold 0 0 10000))
+    × (told (ring 10000) (date 2024 8 1) (Command.Sell 100000001) ≡ Err (Refusal.Debt BadAmount))
+    × (told (ring 10000) (date 2024 7 31) (Command.Sell 9000) ≡ Err Refusal.NotRealisable)
+    × (told (ring_with_grace 10000) (date 2024 8 5) (Command.Sell 9000) ≡ Err Refusal.NotRealisable)
+    × (told (ring 7500) (date 2024 8 1) (Command.Sell 9000) ≡ Err Refusal.Passed)
+    × (live_of sold ≡ Some 1)
+    × (status_of sold (date 2024 8 1) ≡ Status.Sold)
+    × (told sold (date 2024 8 1) (Command.Sell 9000) ≡ Err Refusal.Closed)
+    × (told sold (date 2024 7 31) (Command.Sell 9000) ≡ Err (Refusal.Debt EarlierDay))
+
+-- the ring at a penny a day for safe keeping in the period, and once that was extended
+abbrev pub ring_in_safe_keeping : PledgeValue
+ring_in_safe_keeping = pawned (Fixed 7500) false None (terms_of 0 1000000 0)
+
+abbrev pub ring_extended : PledgeValue
+ring_extended = after ring_in_safe_keeping (date 2024 7 31) (Command.Extend (date 2024 9 30))
+
+-- a longer period is agreed while the one that stands is not over
+abbrev pub WorkedExtensions : Type 0
+WorkedExtensions =
+    let often = record (ring 10000) { extensions = repeat 99 (record { day = date 2024 7 31; until = date 2024 9 30 } ∷ []) } in
+    (told ring_in_safe_keeping (date 2024 7 31) (Command.Extend (date 2024 7 30)) ≡ Err Refusal.NotLater)
+    × (pledge_step ring_in_safe_keeping (on (date 2024 7 31)) (Command.Extend (date 2024 7 31)) ≡ Answered (Done.Extended (date 2024 7 31)))
+    × (told ring_in_safe_keeping (date 2024 7 31) (Command.Extend (date 2024 9 30)) ≡ Ok (Done.Extended (date 2024 9 30)))
+    × (pledge_step ring_extended (on (date 2024 7 31)) (Command.Extend (date 2024 9 30)) ≡ Answered (Done.Extended (date 2024 9 30)))
+    × (end_of ring_extended ≡ date 2024 9 30)
+    × (status_of ring_extended (date 2024 8 5) ≡ Status.Inside)
+    × (status_of ring_extended (date 2024 10 1) ≡ Status.Realisable)
+    × (told ring_extended (date 2024 10 1) (Command.Redeem 7743) ≡ Ok (Done.Redeemed (date 2024 10 1) 7743))
+    × (told ring_in_safe_keeping (date 2024 8 1) (Command.Extend (date 2024 9 30)) ≡ Err Refusal.Passed)
+    × (told (ring 10000) (date 2024 8 1) (Command.Extend (date 2024 9 30)) ≡ Err Refusal.PeriodOver)
+    × (told often (date 2024 7 31) (Command.Extend (date 2024 10 1)) ≡ Err Refusal.ExtensionsFull)

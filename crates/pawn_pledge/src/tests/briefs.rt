@@ -1,0 +1,198 @@
+//! Briefs of their fields.
+use super::{day, used};
+use crate::{
+    Article, Booking, BookingState, Brief, BriefFields, Closing, Day, Kind, Number, Reference,
+    RequestDay, Secret, Status, Totals,
+};
+use std::alloc::Global;
+use std::test::Fail;
+
+fn last_day() -> Result<Day, Fail> {
+    Ok(RequestDay::of_text(b"2199-12-31")?.day())
+}
+
+// The day after the last that a request may name.
+fn past_day() -> Result<Day, Fail> {
+    Ok(Day::of_number(84_006)?)
+}
+
+// The fields of a pledge of 10,000 pence, taken on 2024-01-31.
+fn fields(alloc: Global) -> Result<BriefFields, Fail> {
+    let taken = day(b"2024-01-31")?;
+    Ok(BriefFields {
+        number: Number::new(7).ok_or("no number")?,
+        reference: Reference::of_str(alloc, "A1")?.ok_or("no reference")?,
+        article: Article::of_str(alloc, "Gold ring")?.ok_or("no article")?,
+        kind: Kind::Fixed(10_000),
+        taken,
+        agreed: None,
+        five_days: true,
+        version: 1,
+        rate: 2_667,
+        keep_before: 10,
+        keep_after: 5,
+        entries: 0,
+        secrets: 1,
+        extensions: 0,
+        held: false,
+        booking: None,
+        last: taken,
+        closing: Closing::Open,
+        live: Some(Secret::of_word(1)),
+        ends: day(b"2024-07-31")?,
+        totals: Totals {
+            day: taken,
+            principal: 10_000,
+            charges: 0,
+        },
+    })
+}
+
+fn is_handed_back(fields: BriefFields) -> bool {
+    Brief::of_fields(fields).is_err()
+}
+
+#[test]
+fn a_brief_of_its_fields(rt: HostRuntime) -> Result<(), Fail> {
+    let grace = day(b"2024-08-05")?;
+    let Ok(brief) = Brief::of_fields(fields(rt.alloc())?) else {
+        return Err("the fields are handed back".into());
+    };
+    assert_eq!(rt; brief.number().get(), 7);
+    assert_eq!(rt; brief.article().as_str(), "Gold ring");
+    assert_eq!(rt; brief.terms().rate(), 2_667);
+    assert_eq!(rt; brief.status(grace), Status::Grace);
+    assert_eq!(rt; brief.owing(day(b"2024-03-01")?).total, 10_800);
+    Ok(())
+}
+
+#[test]
+fn a_brief_at_its_limits(rt: HostRuntime) -> Result<(), Fail> {
+    let mut most = fields(rt.alloc())?;
+    let last = last_day()?;
+    most.kind = Kind::Running(100_000_000);
+    most.rate = 20_000;
+    most.keep_before = 10_000_000;
+    most.keep_after = 10_000_000;
+    most.entries = 9_999;
+    most.secrets = 101;
+    most.extensions = 99;
+    most.booking = Some(Booking {
+        day: last,
+        window: 15,
+        state: BookingState::Asked,
+    });
+    most.last = last;
+    most.closing = Closing::Sold {
+        day: last,
+        net: 100_000_000,
+    };
+    most.totals = Totals {
+        day: last,
+        principal: 100_000_000,
+        charges: 1_000_000_000_000_000_000,
+    };
+    assert!(rt; !is_handed_back(most));
+    Ok(())
+}
+
+#[test]
+fn fields_with_another_sum_or_terms(rt: HostRuntime) -> Result<(), Fail> {
+    for kind in [
+        Kind::Fixed(0),
+        Kind::Running(0),
+        Kind::Fixed(100_000_001),
+        Kind::Running(100_000_001),
+    ] {
+        let mut fields = fields(rt.alloc())?;
+        fields.kind = kind;
+        assert!(rt; is_handed_back(fields), "at {kind:?}");
+    }
+    for [rate, keep_before, keep_after] in [[20_001, 0, 0], [0, 10_000_001, 0], [0, 5, 6]] {
+        let mut fields = fields(rt.alloc())?;
+        fields.rate = rate;
+        fields.keep_before = keep_before;
+        fields.keep_after = keep_after;
+        assert!(rt; is_handed_back(fields), "at {rate}");
+    }
+    Ok(())
+}
+
+#[test]
+fn fields_with_too_many(rt: HostRuntime) -> Result<(), Fail> {
+    for [entries, secrets, extensions] in [[10_000, 1, 0], [0, 102, 0], [0, 1, 100]] {
+        let mut fields = fields(rt.alloc())?;
+        fields.entries = entries;
+        fields.secrets = secrets;
+        fields.extensions = extensions;
+        assert!(rt; is_handed_back(fields), "at {entries}");
+    }
+    Ok(())
+}
+
+#[test]
+fn fields_with_another_booking(rt: HostRuntime) -> Result<(), Fail> {
+    for (day, window) in [(last_day()?, 16), (past_day()?, 15)] {
+        let mut fields = fields(rt.alloc())?;
+        fields.booking = Some(Booking {
+            day,
+            window,
+            state: BookingState::Refused,
+        });
+        assert!(rt; is_handed_back(fields), "at {window}");
+    }
+    Ok(())
+}
+
+#[test]
+fn fields_past_the_last_day(rt: HostRuntime) -> Result<(), Fail> {
+    let past = past_day()?;
+    let mut taken = fields(rt.alloc())?;
+    taken.taken = past;
+    assert!(rt; is_handed_back(taken));
+    let mut last = fields(rt.alloc())?;
+    last.last = past;
+    assert!(rt; is_handed_back(last));
+    let last_day = last_day()?;
+    for closing in [
+        Closing::Redeemed { day: past, paid: 1 },
+        Closing::Sold { day: past, net: 1 },
+        Closing::Sold {
+            day: last_day,
+            net: 100_000_001,
+        },
+    ] {
+        let mut fields = fields(rt.alloc())?;
+        fields.closing = closing;
+        assert!(rt; is_handed_back(fields), "at {closing:?}");
+    }
+    Ok(())
+}
+
+#[test]
+fn fields_with_other_totals(rt: HostRuntime) -> Result<(), Fail> {
+    for (day, principal, charges) in [
+        (past_day()?, 1, 0),
+        (last_day()?, 100_000_001, 0),
+        (last_day()?, 1, 1_000_000_000_000_000_001),
+    ] {
+        let mut fields = fields(rt.alloc())?;
+        fields.totals = Totals {
+            day,
+            principal,
+            charges,
+        };
+        assert!(rt; is_handed_back(fields), "at {principal} and {charges}");
+    }
+    Ok(())
+}
+
+#[test]
+fn totals_of_a_pledge(rt: HostRuntime) -> Result<(), Fail> {
+    let pledge = used(rt.alloc())?;
+    let totals = pledge.totals();
+    assert_eq!(rt; totals.day, day(b"2024-04-02")?);
+    assert_eq!(rt; totals.principal, 9_000);
+    assert_eq!(rt; totals.charges, 0);
+    Ok(())
+}

@@ -1,0 +1,44 @@
+ghost use Rattle.pawn_pledge.specs.Worked.{WorkedStarts, WorkedStatuses, WorkedDrawings, WorkedRepayments, WorkedHolds, WorkedDeclarations, WorkedAskings, WorkedCancellings, WorkedDecisions, WorkedRedemptions, WorkedSales, WorkedExtensions};
+ghost use Rattle.pawn_pledge.specs.WorkedTexts.{WorkedSecrets, WorkedReceipts};
+
+/// Pledges as they are taken, and their statuses.
+pub fn worked_pledges()
+    ensures starts { WorkedStarts }
+    ensures statuses { WorkedStatuses }
+{}
+
+/// Drawings and repayments, and the refusals of others.
+pub fn worked_entries()
+    ensures drawings { WorkedDrawings }
+    ensures repayments { WorkedRepayments }
+{}
+
+/// Holds and declarations.
+pub fn worked_receipts()
+    ensures holds { WorkedHolds }
+    ensures declarations { WorkedDeclarations }
+{}
+
+/// Bookings that are asked for, given up, confirmed and refused.
+pub fn worked_bookings()
+    ensures askings { WorkedAskings }
+    ensures cancellings { WorkedCancellings }
+    ensures decisions { WorkedDecisions }
+{}
+
+/// Redemptions and sales.
+pub fn worked_closings()
+    ensures redemptions { WorkedRedemptions }
+    ensures sales { WorkedSales }
+{}
+
+/// Longer periods.
+pub fn worked_extensions()
+    ensures { WorkedExtensions }
+{}
+
+/// Texts of secrets and receipts.
+pub fn worked_texts()
+    ensures secrets { WorkedSecrets }
+    ensures receipts { WorkedReceipts }
+{}
