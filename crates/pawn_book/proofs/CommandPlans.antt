@@ -19,7 +19,7 @@ use Rattle.pawn_book.specs.declared.reply.Reply.{Reply}
 use Rattle.pawn_book.specs.BookStep.{BookValue, Makes, Outcome, Refuses, Says, bearer_commands, broker_commands, changed_book, is_live, judged_outcome, live_at, only_live, pledge_from, pledge_in, put_from, terms_at, windowed}
 use Rattle.pawn_book.specs.HostStep.{Host, with_book}
 use Rattle.pawn_book.specs.Sound.{AreDistinct, AreSound, AreWords, DoNotFall, HasTextsAndWords, IsSound, IsSoundBook, IsUnder, IsWord}
-use Rattle.pawn_book.specs.Keeping.{CanSave, Grows, IsOutcome, Plans, book_of, changed, outcome_of}
+use Rattle.pawn_book.specs.Keeping.{CanSave, Continues, IsOutcome, Plans, book_of, changed, outcome_of}
 use Rattle.pawn_book.proofs.KeptLemmas.{kept_moved, stands_moved}
 use Rattle.pawn_book.proofs.Places.{pledge_within}
 use Rattle.pawn_book.proofs.Words.{words_moved}
@@ -28,7 +28,7 @@ use Rattle.pawn_book.proofs.Plans.{changed_is}
 use Rattle.pawn_book.proofs.Sounds.{absurd_none, each_at, each_put, length-put, numbered_at, numbered_put, sound_with}
 
 -- a book with a pledge in place of one that stood
-sound_put : (book : BookValue) (n : ℕ) (p q : PledgeValue) → IsSoundBook book → pledge_from 1 book.pledges n ≡ Some p → Grows p q → IsStanding q → AreWords q.secrets
+sound_put : (book : BookValue) (n : ℕ) (p q : PledgeValue) → IsSoundBook book → pledge_from 1 book.pledges n ≡ Some p → Continues p q → IsStanding q → AreWords q.secrets
     → IsSoundBook (record book { pledges = put_from 1 book.pledges n q })
 sound_put book n p q sound is kept standing words =
     let within = pledge_within 1 book.pledges n p is in
