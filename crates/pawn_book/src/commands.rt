@@ -133,7 +133,7 @@ fn roomed<K: Keep>(
 
 // The booking that a change confirms.
 fn newly_confirmed(planned: &Planned) -> Option<Booking>
-    ensures { result ≡ newly_confirmed planned.now.change planned.now.reply }
+    ensures value { result ≡ newly_confirmed planned.now.change planned.now.reply }
 {
     match planned.change {
         None => None,
@@ -143,7 +143,7 @@ fn newly_confirmed(planned: &Planned) -> Option<Booking>
 
 // The booking that is told to be confirmed.
 fn confirmed_booking(reply: Reply) -> Option<Booking>
-    ensures { result ≡ confirmed_booking reply }
+    ensures value { result ≡ confirmed_booking reply }
 {
     let Reply::Commanded { number: _, done } = reply else {
         return None;

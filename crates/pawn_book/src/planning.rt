@@ -341,7 +341,7 @@ fn next_terms(standing: u64, new_terms: &NewTerms) -> Result<Terms, Refusal>
 
 // Whether a book has this key, name and capacity.
 fn is_book(head: &Head, new_book: &NewBook) -> bool
-    ensures { result ≡ is_book head.now new_book.now }
+    ensures value { result ≡ is_book head.now new_book.now }
 {
     head.key == new_book.key
         && head.name.as_str() == new_book.name.as_str()
@@ -350,7 +350,7 @@ fn is_book(head: &Head, new_book: &NewBook) -> bool
 
 // Whether terms are these three numbers.
 fn are_terms(terms: &Terms, new_terms: &NewTerms) -> bool
-    ensures { result ≡ are_terms terms.now new_terms.now }
+    ensures value { result ≡ are_terms terms.now new_terms.now }
 {
     terms.rate() == new_terms.rate
         && terms.keep_before() == new_terms.keep_before
@@ -359,7 +359,7 @@ fn are_terms(terms: &Terms, new_terms: &NewTerms) -> bool
 
 // Whether a pledge was opened so, its reference aside.
 fn is_opening(pledge: &Pledge, opening: &Opening) -> bool
-    ensures { result ≡ is_opening pledge.now opening.now }
+    ensures value { result ≡ is_opening pledge.now opening.now }
 {
     pledge.article().as_str() == opening.article.as_str()
         && pledge.kind() == opening.kind
@@ -369,7 +369,7 @@ fn is_opening(pledge: &Pledge, opening: &Opening) -> bool
 
 // The receipt that came with the opening.
 fn first_receipt(pledge: &Pledge) -> Receipt
-    ensures { result ≡ first_receipt pledge.now }
+    ensures value { result ≡ first_receipt pledge.now }
 {
     let secret = match pledge.secrets() {
         [first, ..] => first.secret,
