@@ -2,6 +2,7 @@
 use Rattle.std.proofs.Common.{◌≡◌, ℕ, Some, None, Ok, Err, refl, ◌∙◌, ap, sym, subst, arith, inl, inr}
 use Rattle.std.specs.Prelude.{if◌then◌else◌, Option, Result, Bool, true, false, IfSome, IfOk}
 use Rattle.std.specs.FinMap.{get}
+use Rattle.std.specs.Str.{IsUtf8}
 use Rattle.pawn_terms.specs.Calendar.{IsStampDay}
 use Rattle.pawn_pledge.specs.declared.command.Command.{Command}
 use Rattle.pawn_pledge.specs.declared.command.Done.{Done}
@@ -17,29 +18,35 @@ use Rattle.pawn_book.specs.declared.refusal.Refusal.{Refusal}
 use Rattle.pawn_book.specs.declared.reply.Reply.{Reply}
 use Rattle.pawn_book.specs.BookStep.{BookValue, Makes, Outcome, Refuses, Says, bearer_commands, broker_commands, changed_book, is_live, judged_outcome, live_at, only_live, pledge_from, pledge_in, put_from, terms_at, windowed}
 use Rattle.pawn_book.specs.HostStep.{Host, with_book}
-use Rattle.pawn_book.specs.Sound.{AreDistinct, AreSound, DoNotFall, IsSound, IsSoundBook, IsUnder}
-use Rattle.pawn_book.specs.Keeping.{CanSave, Grows, IsOutcome, Plans, book_of, changed, outcome_of}
+use Rattle.pawn_book.specs.Sound.{AreDistinct, AreSound, AreWords, DoNotFall, HasTextsAndWords, IsSound, IsSoundBook, IsUnder, IsWord}
+use Rattle.pawn_book.specs.Keeping.{CanSave, Continues, IsOutcome, Plans, book_of, changed, outcome_of}
 use Rattle.pawn_book.proofs.KeptLemmas.{kept_moved, stands_moved}
 use Rattle.pawn_book.proofs.Places.{pledge_within}
+use Rattle.pawn_book.proofs.Words.{words_moved}
 use Rattle.pawn_book.proofs.SoundLists.{map-put}
 use Rattle.pawn_book.proofs.Plans.{changed_is}
 use Rattle.pawn_book.proofs.Sounds.{absurd_none, each_at, each_put, length-put, numbered_at, numbered_put, sound_with}
 
 -- a book with a pledge in place of one that stood
-sound_put : (book : BookValue) (n : ℕ) (p q : PledgeValue) → IsSoundBook book → pledge_from 1 book.pledges n ≡ Some p → Grows p q → IsStanding q
+sound_put : (book : BookValue) (n : ℕ) (p q : PledgeValue) → IsSoundBook book → pledge_from 1 book.pledges n ≡ Some p → Continues p q → IsStanding q → AreWords q.secrets
     → IsSoundBook (record book { pledges = put_from 1 book.pledges n q })
-sound_put book n p q sound is kept standing =
+sound_put book n p q sound is kept standing words =
     let within = pledge_within 1 book.pledges n p is in
     let low = within.0 in
     let high = within.1 in
     let number : q.number ≡ n = kept.number ∙ numbered_at 1 book.pledges n p sound.numbered is in
     let long = length-put 1 book.pledges n q low high in
     let few = sound.pledges in
+    let before = each_at HasTextsAndWords 1 book.pledges n p sound.written is in
     record {
+      key = sound.key;
+      imported = sound.imported;
+      utf8 = sound.utf8;
       name = sound.name;
       capacity = sound.capacity;
       numbered = numbered_put 1 book.pledges n q sound.numbered number low (omega (arith, high));
       standing = each_put IsStanding 1 book.pledges n q sound.standing standing;
+      written = each_put HasTextsAndWords 1 book.pledges n q sound.written (record { reference = subst IsUtf8 (sym kept.reference) before.reference; article = subst IsUtf8 (sym kept.article) before.article; secrets = words });
       references = subst AreDistinct (sym (map-put (λ p. p.reference) 1 book.pledges n p q is kept.reference)) sound.references;
       under = each_put (IsUnder book.terms) 1 book.pledges n q sound.under
           (ap (terms_at book.terms) kept.version ∙ each_at (IsUnder book.terms) 1 book.pledges n p sound.under is ∙ ap Some (sym kept.terms));
@@ -51,17 +58,18 @@ sound_put book n p q sound is kept standing =
 
 -- the change that a command makes may be saved
 put_saves : (h : Host) (b n : ℕ) (at : BookValue) (p q : PledgeValue) (stamp : Stamp) (command : Command) (done : Done) → IsSound h → get h.books b ≡ Some at → pledge_from 1 at.pledges n ≡ Some p
-    → IsStampDay stamp.day → IsCommand command → pledge_step p stamp command ≡ Changed q done → CanSave h (PutPledge b n q)
-put_saves h b n at p q stamp command done sound is stands day given step =
-    let one = sound.books b at is in
+    → IsStampDay stamp.day → IsWord stamp.word → IsCommand command → pledge_step p stamp command ≡ Changed q done → CanSave h (PutPledge b n q)
+put_saves h b n at p q stamp command done sound is stands day word given step =
+    let one = (sound.books b at is).1 in
     let kept = kept_moved p q stamp command done step in
     let standing = stands_moved p q stamp command done day given (each_at IsStanding 1 at.pledges n p one.standing stands) step in
+    let words = words_moved p q stamp command done word (each_at HasTextsAndWords 1 at.pledges n p one.written stands).secrets step in
     let book : BookValue = record at { pledges = put_from 1 at.pledges n q } in
     let same : changed h (PutPledge b n q) ≡ with_book h b (Some book) =
     changed_is h b (PutPledge b n q) book refl (ap (λ o. changed_book o (PutPledge b n q)) is) in
     record {
       follows = (at, is, inr (p, stands, kept));
-      sound = subst AreSound (sym same) (sound_with h b book sound.books (sound_put at n p q one stands kept standing));
+      sound = subst AreSound (sym same) (sound_with h b book sound.books ((sound.books b at is).0, sound_put at n p q one stands kept standing words));
     }
 
 abbrev change_of : Outcome → Change → Change
@@ -71,9 +79,9 @@ change_of (Makes change reply) other = change
 
 -- what a command's outcome changes may be saved
 pub command_saves : (h : Host) (b n : ℕ) (p : PledgeValue) (stamp : Stamp) (command : Command) (change : Option Change) (reply : Reply) → IsSound h → pledge_in (get h.books b) n ≡ Some p
-    → IsStampDay stamp.day → IsCommand command → judged_outcome b n (pledge_step p stamp command) ≡ outcome_of change reply → IfSome change (λ c. (book_of c ≡ b) × CanSave h c)
-command_saves h b n p stamp command None reply sound stands day given is = tt
-command_saves h b n p stamp command (Some change) reply sound stands day given is = in_book (get h.books b) refl stands
+    → IsStampDay stamp.day → IsWord stamp.word → IsCommand command → judged_outcome b n (pledge_step p stamp command) ≡ outcome_of change reply → IfSome change (λ c. (book_of c ≡ b) × CanSave h c)
+command_saves h b n p stamp command None reply sound stands day word given is = tt
+command_saves h b n p stamp command (Some change) reply sound stands day word given is = in_book (get h.books b) refl stands
   where
     judged : (at : BookValue) (j : Judged) → get h.books b ≡ Some at → pledge_from 1 at.pledges n ≡ Some p → pledge_step p stamp command ≡ j → judged_outcome b n j ≡ Makes change reply
         → (book_of change ≡ b) × CanSave h change
@@ -81,7 +89,7 @@ command_saves h b n p stamp command (Some change) reply sound stands day given i
     judged at (Answered done) e there step made = cc made
     judged at (Changed q done) e there step made =
         let same : PutPledge b n q ≡ change = ap (λ o. change_of o change) made in
-        subst (λ (c : Change). (book_of c ≡ b) × CanSave h c) same (refl, put_saves h b n at p q stamp command done sound e there day given step)
+        subst (λ (c : Change). (book_of c ≡ b) × CanSave h c) same (refl, put_saves h b n at p q stamp command done sound e there day word given step)
 
     in_book : (o : Option BookValue) → get h.books b ≡ o → pledge_in o n ≡ Some p → (book_of change ≡ b) × CanSave h change
     in_book None e there = absurd_none there
@@ -97,20 +105,20 @@ live_is s (Some q) p is = from (is_live s q) is
     from false none = absurd_none (sym none)
 
 pub receipt_plans : (h : Host) (b : ℕ) (r : Receipt) (p : PledgeValue) (stamp : Stamp) (command : Command) (result : Result Planned Refusal) → IsSound h
-    → Some p ≡ live_at (pledge_in (get h.books b)) r → IsStampDay stamp.day → IsCommand command → IsOutcome (judged_outcome b r.number (pledge_step p stamp command)) result
+    → Some p ≡ live_at (pledge_in (get h.books b)) r → IsStampDay stamp.day → IsWord stamp.word → IsCommand command → IsOutcome (judged_outcome b r.number (pledge_step p stamp command)) result
     → Plans h b (bearer_commands b r.number stamp command (live_at (pledge_in (get h.books b)) r)) result
-receipt_plans h b r p stamp command (Ok planned) sound live day given is =
+receipt_plans h b r p stamp command (Ok planned) sound live day word given is =
     let stands = live_is r.secret (pledge_in (get h.books b) r.number) p live in
-    (ap (bearer_commands b r.number stamp command) (sym live) ∙ is, command_saves h b r.number p stamp command planned.change planned.reply sound stands day given is)
-receipt_plans h b r p stamp command (Err why) sound live day given (inl unwell) = inl unwell
-receipt_plans h b r p stamp command (Err why) sound live day given (inr is) = inr (ap (bearer_commands b r.number stamp command) (sym live) ∙ is)
+    (ap (bearer_commands b r.number stamp command) (sym live) ∙ is, command_saves h b r.number p stamp command planned.change planned.reply sound stands day word given is)
+receipt_plans h b r p stamp command (Err why) sound live day word given (inl unwell) = inl unwell
+receipt_plans h b r p stamp command (Err why) sound live day word given (inr is) = inr (ap (bearer_commands b r.number stamp command) (sym live) ∙ is)
 
 -- a broker's command, once its window was looked at
 pub number_plans : (h : Host) (b n : ℕ) (at : BookValue) (p : PledgeValue) (stamp : Stamp) (command : Command) (planned : Planned) (result : Result Planned Refusal) → IsSound h
-    → get h.books b ≡ Some at → Some p ≡ pledge_in (get h.books b) n → IsStampDay stamp.day → IsCommand command
+    → get h.books b ≡ Some at → Some p ≡ pledge_in (get h.books b) n → IsStampDay stamp.day → IsWord stamp.word → IsCommand command
     → judged_outcome b n (pledge_step p stamp command) ≡ outcome_of planned.change planned.reply → IsOutcome (windowed at (outcome_of planned.change planned.reply)) result
     → IfOk result (λ q. q ≡ planned) → Plans h b (broker_commands at b n stamp command (pledge_from 1 at.pledges n)) result
-number_plans h b n at p stamp command planned result sound is stands day given judged roomed same = from result roomed same
+number_plans h b n at p stamp command planned result sound is stands day word given judged roomed same = from result roomed same
   where
     there : pledge_from 1 at.pledges n ≡ Some p
     there = ap (λ o. pledge_in o n) (sym is) ∙ sym stands
@@ -123,7 +131,7 @@ number_plans h b n at p stamp command planned result sound is stands day given j
     from (Ok q) told as_planned = (
       steps ∙ told,
       subst (λ (x : Planned). IfSome x.change (λ c. (book_of c ≡ b) × CanSave h c)) (sym as_planned)
-          (command_saves h b n p stamp command planned.change planned.reply sound (sym stands) day given judged),
+          (command_saves h b n p stamp command planned.change planned.reply sound (sym stands) day word given judged),
     )
     from (Err why) (inl unwell) as_planned = inl unwell
     from (Err why) (inr told) as_planned = inr (steps ∙ told)

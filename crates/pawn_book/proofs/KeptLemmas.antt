@@ -1,34 +1,24 @@
 -- What every change keeps of the pledges that stand.
-use Rattle.std.proofs.Common.{◌≡◌, ℕ, ◌+◌, List, [], ◌∷◌, ◌++◌, Some, refl, ◌∙◌, ap, sym, subst, append_assoc}
+use Rattle.std.proofs.Common.{◌≡◌, ℕ, ◌+◌, List, [], ◌∷◌, ◌++◌, Some, refl, ◌∙◌, ap, sym, subst}
 use Rattle.std.specs.Prelude.{if◌then◌else◌, true, false, ◌==◌}
-use Rattle.std.proofs.lemmas.List.{append-nil}
 use Rattle.pawn_terms.specs.Calendar.{IsStampDay}
-use Rattle.pawn_debt.specs.declared.entry.Entry.{Entry}
 use Rattle.pawn_pledge.specs.declared.command.Command.{Command}
 use Rattle.pawn_pledge.specs.declared.command.Done.{Done}
 use Rattle.pawn_pledge.specs.declared.command.Stamp.{Stamp}
-use Rattle.pawn_pledge.specs.declared.record.Extension.{Extension}
-use Rattle.pawn_pledge.specs.declared.record.Issued.{Issued}
 use Rattle.pawn_pledge.specs.Pledge.{PledgeValue}
 use Rattle.pawn_pledge.specs.Replayable.{IsCommand, IsStanding}
-use Rattle.pawn_pledge.specs.Step.{Changed, issue_of, new_entry, pledge_step}
+use Rattle.pawn_pledge.specs.Step.{Changed, pledge_step}
+use Rattle.pawn_pledge.specs.Growth.{Grows}
+use Rattle.pawn_pledge.proofs.Growth.{grows-moved, grows-same, grows-then}
 use Rattle.pawn_pledge.proofs.Moves.{Asking, Declaring, Entering, Extending, Holding, Marking, Move, Redeeming, Selling, pledge_moves}
 use Rattle.pawn_pledge.proofs.Receipts.{terms-moved}
 use Rattle.pawn_pledge.proofs.Replays.{differs-moved, stays-moved, within-moved}
 use Rattle.pawn_book.specs.BookStep.{is_text, pledge_from, put_from, with_reference}
-use Rattle.pawn_book.specs.Keeping.{Grows}
+use Rattle.pawn_book.specs.Keeping.{Continues}
 use Rattle.pawn_book.proofs.Sounds.{absurd_none, some_is}
 
--- one of these lists grows
-abbrev Lists : PledgeValue → List Entry → List Issued → List Extension → Type 0
-Lists p entries secrets extensions =
-    ((more : List Entry) × (entries ≡ p.entries ++ more)) × ((more : List Issued) × (secrets ≡ p.secrets ++ more)) × ((more : List Extension) × (extensions ≡ p.extensions ++ more))
-
-no_more : {A : Type 0} (xs : List A) → (more : List A) × (xs ≡ xs ++ more)
-no_more xs = ([], sym (append-nil xs))
-
 kept_by : (p q : PledgeValue) → q.number ≡ p.number → q.reference ≡ p.reference → q.article ≡ p.article → q.kind ≡ p.kind → q.taken ≡ p.taken → q.agreed ≡ p.agreed → q.five_days ≡ p.five_days → q.version ≡ p.version → q.terms ≡ p.terms
-    → Lists p q.entries q.secrets q.extensions → Grows p q
+    → Grows p q → Continues p q
 kept_by p q number reference article kind taken agreed five_days version terms lists = record {
   number = number;
   reference = reference;
@@ -39,15 +29,13 @@ kept_by p q number reference article kind taken agreed five_days version terms l
   five_days = five_days;
   version = version;
   terms = terms;
-  entries = lists.0;
-  secrets = lists.1;
-  extensions = lists.2;
+  lists = lists;
 }
 
-pub kept_same : (p : PledgeValue) → Grows p p
-kept_same p = kept_by p p refl refl refl refl refl refl refl refl refl (no_more p.entries, no_more p.secrets, no_more p.extensions)
+pub kept_same : (p : PledgeValue) → Continues p p
+kept_same p = kept_by p p refl refl refl refl refl refl refl refl refl (grows-same p)
 
-pub kept_on : (p q r : PledgeValue) → Grows p q → Grows q r → Grows p r
+pub kept_on : (p q r : PledgeValue) → Continues p q → Continues q r → Continues p r
 kept_on p q r f s = record {
   number = s.number ∙ f.number;
   reference = s.reference ∙ f.reference;
@@ -58,33 +46,29 @@ kept_on p q r f s = record {
   five_days = s.five_days ∙ f.five_days;
   version = s.version ∙ f.version;
   terms = s.terms ∙ f.terms;
-  entries = more_on p.entries q.entries r.entries f.entries s.entries;
-  secrets = more_on p.secrets q.secrets r.secrets f.secrets s.secrets;
-  extensions = more_on p.extensions q.extensions r.extensions f.extensions s.extensions;
+  lists = grows-then p q r f.lists s.lists;
 }
-  where
-    more_on : {A : Type 0} (xs ys zs : List A) → (more : List A) × (ys ≡ xs ++ more) → (more : List A) × (zs ≡ ys ++ more) → (more : List A) × (zs ≡ xs ++ more)
-    more_on xs ys zs f s = (f.0 ++ s.0, s.1 ∙ ap (λ ts. ts ++ s.0) f.1 ∙ append_assoc xs f.0 s.0)
 
 -- no command takes any of it away
-pub kept_moved : (p q : PledgeValue) (stamp : Stamp) (c : Command) (d : Done) → pledge_step p stamp c ≡ Changed q d → Grows p q
+pub kept_moved : (p q : PledgeValue) (stamp : Stamp) (c : Command) (d : Done) → pledge_step p stamp c ≡ Changed q d → Continues p q
 kept_moved p q stamp c d h = from (pledge_moves p q stamp c d h).1
   where
-    moves_to : (r : PledgeValue) → q ≡ r → Grows p r → Grows p q
-    moves_to r is kept = subst (Grows p) (sym is) kept
+    -- what a move sets is not what was agreed
+    set_on : (r : PledgeValue) → q ≡ r → (Grows p r → Continues p r) → Grows p q → Continues p q
+    set_on r is kept lists = subst (Continues p) (sym is) (kept (subst (Grows p) is lists))
 
-    from : Move p stamp.day c q → Grows p q
-    from (Entering sort pence ok late few drawn is) =
-        moves_to _ is (kept_by p _ refl refl refl refl refl refl refl refl refl ((new_entry p stamp.day sort pence ∷ [], refl), no_more p.secrets, no_more p.extensions))
-    from (Holding flag new is) = moves_to _ is (kept_by p _ refl refl refl refl refl refl refl refl refl (no_more p.entries, no_more p.secrets, no_more p.extensions))
-    from (Declaring paper word ok is) =
-        moves_to _ is (kept_by p _ refl refl refl refl refl refl refl refl refl (no_more p.entries, (record { day = stamp.day; sort = issue_of paper; secret = word } ∷ [], refl), no_more p.extensions))
-    from (Asking b later live small state new named is) = moves_to _ is (kept_by p _ refl refl refl refl refl refl refl refl refl (no_more p.entries, no_more p.secrets, no_more p.extensions))
-    from (Marking b state at new is) = moves_to _ is (kept_by p _ refl refl refl refl refl refl refl refl refl (no_more p.entries, no_more p.secrets, no_more p.extensions))
-    from (Redeeming paid free total is) = moves_to _ is (kept_by p _ refl refl refl refl refl refl refl refl refl (no_more p.entries, no_more p.secrets, no_more p.extensions))
-    from (Selling net status small is) = moves_to _ is (kept_by p _ refl refl refl refl refl refl refl refl refl (no_more p.entries, no_more p.secrets, no_more p.extensions))
-    from (Extending until inside longer few named is) =
-        moves_to _ is (kept_by p _ refl refl refl refl refl refl refl refl refl (no_more p.entries, no_more p.secrets, (record { day = stamp.day; until = until } ∷ [], refl)))
+    from : Move p stamp.day c q → Continues p q
+    from m = by m (grows-moved p q c stamp.day m)
+      where
+        by : Move p stamp.day c q → Grows p q → Continues p q
+        by (Entering sort pence ok late few drawn is) lists = set_on _ is (kept_by p _ refl refl refl refl refl refl refl refl refl) lists
+        by (Holding flag new is) lists = set_on _ is (kept_by p _ refl refl refl refl refl refl refl refl refl) lists
+        by (Declaring paper word ok is) lists = set_on _ is (kept_by p _ refl refl refl refl refl refl refl refl refl) lists
+        by (Asking b later live small state new named is) lists = set_on _ is (kept_by p _ refl refl refl refl refl refl refl refl refl) lists
+        by (Marking b state at new is) lists = set_on _ is (kept_by p _ refl refl refl refl refl refl refl refl refl) lists
+        by (Redeeming paid free total is) lists = set_on _ is (kept_by p _ refl refl refl refl refl refl refl refl refl) lists
+        by (Selling net status small is) lists = set_on _ is (kept_by p _ refl refl refl refl refl refl refl refl refl) lists
+        by (Extending until inside longer few named is) lists = set_on _ is (kept_by p _ refl refl refl refl refl refl refl refl refl) lists
 
 -- a pledge stays one that can stand
 pub stands_moved : (p q : PledgeValue) (stamp : Stamp) (c : Command) (d : Done) → IsStampDay stamp.day → IsCommand c → IsStanding p → pledge_step p stamp c ≡ Changed q d → IsStanding q
@@ -103,7 +87,7 @@ differs_moved p q stamp c d step = let g = pledge_moves p q stamp c d step in di
 abbrev pub AreKept : List PledgeValue → List PledgeValue → Type 0
 AreKept [] qs = Unit {0}
 AreKept (p ∷ ps) [] = ⊥
-AreKept (p ∷ ps) (q ∷ qs) = Grows p q × AreKept ps qs
+AreKept (p ∷ ps) (q ∷ qs) = Continues p q × AreKept ps qs
 
 pub are_kept_same : (ps : List PledgeValue) → AreKept ps ps
 are_kept_same [] = tt
@@ -120,34 +104,34 @@ are_kept_push [] more = tt
 are_kept_push (p ∷ ps) more = (kept_same p, are_kept_push ps more)
 
 -- with one that is kept put in its place
-pub are_kept_put : (k : ℕ) (ps : List PledgeValue) (n : ℕ) (p q : PledgeValue) → pledge_from k ps n ≡ Some p → Grows p q → AreKept ps (put_from k ps n q)
+pub are_kept_put : (k : ℕ) (ps : List PledgeValue) (n : ℕ) (p q : PledgeValue) → pledge_from k ps n ≡ Some p → Continues p q → AreKept ps (put_from k ps n q)
 are_kept_put k [] n p q is kept = tt
 are_kept_put k (r ∷ ps) n p q is kept =
     elim (n == k) as (λ v. (if v then Some r else pledge_from (k + 1) ps n) ≡ Some p → AreKept (r ∷ ps) (if v then q ∷ ps else r ∷ put_from (k + 1) ps n q)) [
-      | true ↦ λ here. (subst (λ (x : PledgeValue). Grows x q) (sym (some_is r p here)) kept, are_kept_same ps)
+      | true ↦ λ here. (subst (λ (x : PledgeValue). Continues x q) (sym (some_is r p here)) kept, are_kept_same ps)
       | false ↦ λ there. (kept_same r, are_kept_put (k + 1) ps n p q there kept)
     ] is
 
 -- the pledge at a number is kept at it
-pub number_kept : (k : ℕ) (ps qs : List PledgeValue) (n : ℕ) (p : PledgeValue) → AreKept ps qs → pledge_from k ps n ≡ Some p → (q : PledgeValue) × (pledge_from k qs n ≡ Some q) × Grows p q
+pub number_kept : (k : ℕ) (ps qs : List PledgeValue) (n : ℕ) (p : PledgeValue) → AreKept ps qs → pledge_from k ps n ≡ Some p → (q : PledgeValue) × (pledge_from k qs n ≡ Some q) × Continues p q
 number_kept k [] qs n p all is = absurd_none is
 number_kept k (r ∷ ps) [] n p all is = absurd all
 number_kept k (r ∷ ps) (s ∷ qs) n p all is =
-    elim (n == k) as (λ v. (if v then Some r else pledge_from (k + 1) ps n) ≡ Some p → (q : PledgeValue) × ((if v then Some s else pledge_from (k + 1) qs n) ≡ Some q) × Grows p q) [
-      | true ↦ λ here. (s, refl, subst (λ (x : PledgeValue). Grows x s) (some_is r p here) all.0)
+    elim (n == k) as (λ v. (if v then Some r else pledge_from (k + 1) ps n) ≡ Some p → (q : PledgeValue) × ((if v then Some s else pledge_from (k + 1) qs n) ≡ Some q) × Continues p q) [
+      | true ↦ λ here. (s, refl, subst (λ (x : PledgeValue). Continues x s) (some_is r p here) all.0)
       | false ↦ λ there. number_kept (k + 1) ps qs n p all.1 there
     ] is
 
 -- .. and so is the pledge of a reference
 pub reference_kept : (ps qs : List PledgeValue) (reference : List ℕ) (p : PledgeValue) → AreKept ps qs → with_reference ps reference ≡ Some p
-    → (q : PledgeValue) × (with_reference qs reference ≡ Some q) × Grows p q
+    → (q : PledgeValue) × (with_reference qs reference ≡ Some q) × Continues p q
 reference_kept [] qs reference p all is = absurd_none is
 reference_kept (r ∷ ps) [] reference p all is = absurd all
 reference_kept (r ∷ ps) (s ∷ qs) reference p all is =
     let same : is_text s.reference reference ≡ is_text r.reference reference = ap (λ t. is_text t reference) all.0.reference in
     elim (is_text r.reference reference) as (λ v. is_text s.reference reference ≡ v → (if v then Some r else with_reference ps reference) ≡ Some p
-    → (q : PledgeValue) × (with_reference (s ∷ qs) reference ≡ Some q) × Grows p q) [
-      | true ↦ λ as_there here. (s, ap (λ v. if v then Some s else with_reference qs reference) as_there, subst (λ (x : PledgeValue). Grows x s) (some_is r p here) all.0)
+    → (q : PledgeValue) × (with_reference (s ∷ qs) reference ≡ Some q) × Continues p q) [
+      | true ↦ λ as_there here. (s, ap (λ v. if v then Some s else with_reference qs reference) as_there, subst (λ (x : PledgeValue). Continues x s) (some_is r p here) all.0)
       | false ↦ λ as_there there.
           let rest = reference_kept ps qs reference p all.1 there in
           (rest.0, ap (λ v. if v then Some s else with_reference qs reference) as_there ∙ rest.1, rest.2)

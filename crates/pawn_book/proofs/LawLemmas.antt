@@ -16,7 +16,7 @@ use Rattle.pawn_pledge.specs.declared.command.Stamp.{Stamp}
 use Rattle.pawn_pledge.specs.declared.record.Opening.{Opening}
 use Rattle.pawn_pledge.specs.declared.refusal.Refusal.{Refusal as PledgeRefusal}
 use Rattle.pawn_pledge.specs.Pledge.{PledgeValue}
-use Rattle.pawn_pledge.specs.Step.{Answered, Changed, entry_of, pledge_step, started}
+use Rattle.pawn_pledge.specs.Step.{Answered, Changed, pledge_step, started}
 use Rattle.pawn_pledge.specs.Replayable.{AreNumbered, IsStanding}
 use Rattle.pawn_pledge.specs.declared.command.Command.{Command}
 use Rattle.pawn_pledge.specs.declared.command.Done.{Done}
@@ -43,9 +43,9 @@ use Rattle.pawn_book.specs.declared.change.Change.TheVariants.{AddTerms, PutPled
 use Rattle.pawn_book.specs.BookStep.{BookValue, Told, Refuses, Says, are_terms, bearer_commands, broker_commands, first_secret, is_live, judged_outcome, only_live, windowed, book_step, changed_book, created, first_receipt, head_of, is_agreed, is_book, is_flag, is_kind, is_opening, is_text, made_book, newest, next_terms, pledge_from, put_from, put_terms, take_pledge, taken_under, terms_at, with_reference, with_room, under_pledge, under_terms, live_at, pledge_in}
 use Rattle.pawn_book.specs.Laws.{ChangesDiffer, EntriesActOnce, IsEntry, RepeatsActOnce, book_run}
 use Rattle.pawn_book.proofs.Sounds.{absurd_none, each_at, some_is}
-use Rattle.pawn_book.specs.Keeping.{Grows}
+use Rattle.pawn_book.specs.Keeping.{Continues}
 use Rattle.pawn_book.proofs.KeptLemmas.{differs_moved, number_kept, put_there, reference_kept}
-use Rattle.pawn_book.proofs.EntryLemmas.{again_told}
+use Rattle.pawn_pledge.proofs.Repeats.{entered_again}
 use Rattle.pawn_book.proofs.Plans.{next_is, not_standing, past_row}
 use Rattle.pawn_book.proofs.GrowLemmas.{Grown, grown_same, next_pledges, run_grows}
 use Rattle.pawn_book.proofs.MadeLemmas.{BookIs, CommandIs, DidOn, MadeBy, PledgeIs, TermsAre, if_makes, made_by, number_made, receipt_made}
@@ -174,7 +174,7 @@ reference_added (q ∷ ps) p reference none same =
     ] none
 
 -- what was agreed is told of a pledge that is kept
-opening_kept : (p q : PledgeValue) (opening : Opening) → Grows p q → is_opening q opening ≡ is_opening p opening
+opening_kept : (p q : PledgeValue) (opening : Opening) → Continues p q → is_opening q opening ≡ is_opening p opening
 opening_kept p q opening kept =
     ap (λ t. is_text t opening.article && is_kind q.kind opening.kind && is_agreed q.agreed opening.agreed && is_flag q.five_days opening.five_days) kept.article
     ∙ ap (λ k. is_text p.article opening.article && is_kind k opening.kind && is_agreed q.agreed opening.agreed && is_flag q.five_days opening.five_days) kept.kind
@@ -182,10 +182,10 @@ opening_kept p q opening kept =
     ∙ ap (λ f. is_text p.article opening.article && is_kind p.kind opening.kind && is_agreed p.agreed opening.agreed && is_flag f opening.five_days) kept.five_days
 
 -- .. and its first receipt
-first_kept : (p q : PledgeValue) (issued : Issued) → p.secrets ≡ issued ∷ [] → Grows p q → first_receipt q ≡ first_receipt p
+first_kept : (p q : PledgeValue) (issued : Issued) → p.secrets ≡ issued ∷ [] → Continues p q → first_receipt q ≡ first_receipt p
 first_kept p q issued one kept =
     let secrets : first_secret q.secrets ≡ first_secret p.secrets =
-    ap first_secret (kept.secrets.1 ∙ ap (λ is. is ++ kept.secrets.0) one) ∙ ap first_secret (sym one) in
+    ap first_secret (kept.lists.secrets.1 ∙ ap (λ is. is ++ kept.lists.secrets.0) one) ∙ ap first_secret (sym one) in
     ap (λ n. let r : Receipt = record { number = n; secret = first_secret q.secrets } in r) kept.number
     ∙ ap (λ s. let r : Receipt = record { number = p.number; secret = s } in r) secrets
 
@@ -239,9 +239,9 @@ repeat_told before operator b stamp again caller change reply later making is = 
     from (CommandIs book n command stands never did) = absurd (never making)
 
 -- the pledge that a command changed stands at its number after any run
-stands_after : (book : BookValue) (operator b n : ℕ) (stamp : Stamp) (command : Command) (change : Change) (reply : Reply) (later : List (Stamp × Caller)) (did : DidOn book b n stamp command change reply)
+pub stands_after : (book : BookValue) (operator b n : ℕ) (stamp : Stamp) (command : Command) (change : Change) (reply : Reply) (later : List (Stamp × Caller)) (did : DidOn book b n stamp command change reply)
     → (after : BookValue) × (book_run (changed_book (Some book) change) operator b later ≡ Some after) × (after.key ≡ book.key)
-    × ((q : PledgeValue) × (pledge_from 1 after.pledges n ≡ Some q) × Grows did.next q)
+    × ((q : PledgeValue) × (pledge_from 1 after.pledges n ≡ Some q) × Continues did.next q)
 stands_after book operator b n stamp command change reply later did =
     let set : BookValue = record book { pledges = put_from 1 book.pledges n did.next } in
     let run = run_grows set set operator b later (grown_same set) in
@@ -251,11 +251,11 @@ stands_after book operator b n stamp command change reply later did =
     (after, ap (λ c. book_run (changed_book (Some book) c) operator b later) did.makes ∙ run.1, grown.key, found)
 
 -- the entries of a sound book's pledges are numbered
-numbered_in : (book : BookValue) (n : ℕ) (p : PledgeValue) → IsSoundBook book → pledge_from 1 book.pledges n ≡ Some p → AreNumbered 1 p.entries
+pub numbered_in : (book : BookValue) (n : ℕ) (p : PledgeValue) → IsSoundBook book → pledge_from 1 book.pledges n ≡ Some p → AreNumbered 1 p.entries
 numbered_in book n p sound at = (each_at IsStanding 1 book.pledges n p sound.standing at).replayable.entered.numbered
 
 -- a live receipt's pledge is the one at its number
-live_found : (s : ℕ) (q : PledgeValue) → is_some (only_live s (Some q)) ≡ true → only_live s (Some q) ≡ Some q
+pub live_found : (s : ℕ) (q : PledgeValue) → is_some (only_live s (Some q)) ≡ true → only_live s (Some q) ≡ Some q
 live_found s q is = from (is_live s q) is
   where
     from : (v : Bool) → is_some (if v then Some q else None) ≡ true → (if v then Some q else None) ≡ Some q
@@ -277,12 +277,12 @@ entry_told before operator b stamp again (Broker key (OnPledge n command)) chang
     ∙ ap (λ j. windowed after (judged_outcome b n j)) (told command did.old did.next q did.done entering (numbered_in before n did.old sound did.stands) did.step stands.3.2)
     ∙ ap (λ r. Says (Told r)) (sym did.says)
   where
-    told : (c : BrokerCommand) (p next q : PledgeValue) (done : Done) → IsEntry c → AreNumbered 1 p.entries → pledge_step p stamp (broker_command c) ≡ Changed next done → Grows next q
+    told : (c : BrokerCommand) (p next q : PledgeValue) (done : Done) → IsEntry c → AreNumbered 1 p.entries → pledge_step p stamp (broker_command c) ≡ Changed next done → Continues next q
         → pledge_step q again (broker_command c) ≡ Answered done
     told (broker.Draw seq pence) p next q done entering numbered step kept =
-        again_told p next q stamp.day again.day seq Draw pence (entry_of p seq) done kept.entries.0 numbered refl step kept.entries.1
+        entered_again p next q stamp again Draw seq pence done numbered step kept.lists
     told (broker.Repay seq pence) p next q done entering numbered step kept =
-        again_told p next q stamp.day again.day seq Repay pence (entry_of p seq) done kept.entries.0 numbered refl step kept.entries.1
+        entered_again p next q stamp again Repay seq pence done numbered step kept.lists
     told broker.Hold p next q done entering numbered step kept = absurd entering
     told broker.Release p next q done entering numbered step kept = absurd entering
     told (broker.Declare paper) p next q done entering numbered step kept = absurd entering
@@ -298,7 +298,7 @@ entry_told before operator b stamp again (Bearer (OnReceipt r (bearer.Repay seq 
     let kept = stands.3.2 in
     let live : is_some (only_live r.secret (Some q)) ≡ true =
     ap (λ o. is_some (only_live r.secret o)) (sym stands.3.1) ∙ ap (λ o. is_some (live_at (pledge_in o) r)) (sym stands.1) ∙ passes in
-    let told = again_told did.old did.next q stamp.day again.day seq Repay pence (entry_of did.old seq) did.done kept.entries.0 (numbered_in before r.number did.old sound did.stands) refl did.step kept.entries.1 in
+    let told = entered_again did.old did.next q stamp again Repay seq pence did.done (numbered_in before r.number did.old sound did.stands) did.step kept.lists in
     ap (λ o. book_step o operator b again (Bearer (OnReceipt r (bearer.Repay seq pence)))) stands.1
     ∙ ap (λ o. bearer_commands b r.number again command (only_live r.secret o)) stands.3.1
     ∙ ap (bearer_commands b r.number again command) (live_found r.secret q live)

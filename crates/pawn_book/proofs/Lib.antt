@@ -4,14 +4,15 @@ pub mod VisitLemmas
 pub mod Reading
 pub mod SoundLists
 pub mod Sounds
+pub mod Words
 pub mod Plans
 pub mod KeptLemmas
 pub mod CommandPlans
 pub mod ActLemmas
-pub mod EntryLemmas
 pub mod GrowLemmas
 pub mod MadeLemmas
 pub mod LawLemmas
+pub mod RepeatLemmas
 pub mod NextLemmas
 pub mod ListReads
 pub mod ListSaves

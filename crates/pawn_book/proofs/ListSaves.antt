@@ -13,7 +13,7 @@ use Rattle.pawn_book.specs.declared.change.Change.TheVariants.{MakeBook, AddTerm
 use Rattle.pawn_book.specs.BookStep.{BookValue, made_book, changed_book, pledge_from, put_from}
 use Rattle.pawn_book.specs.HostStep.{Host, rows, book_rows, pledge_rows, with_book}
 use Rattle.pawn_book.specs.Sound.{AreSound}
-use Rattle.pawn_book.specs.Keeping.{CanSave, Follows, Grows, changed}
+use Rattle.pawn_book.specs.Keeping.{CanSave, Follows, Continues, changed}
 use Rattle.pawn_book.specs.Books.{Books}
 use Rattle.pawn_book.specs.declared.fault.SaveError.TheVariants.{Full}
 use Rattle.pawn_book.specs.Listed.{IsKept, IsPlace, Saves, book_at, host_of, standing_rows}
@@ -107,7 +107,7 @@ follows_low h b n p at follows is =
     from at follows.0 same follows.2
   where
     from : (at other : BookValue) → other ≡ at
-        → ((n ≡ length other.pledges + 1) ⊎ ((old : PledgeValue) × (pledge_from 1 other.pledges n ≡ Some old) × Grows old p))
+        → ((n ≡ length other.pledges + 1) ⊎ ((old : PledgeValue) × (pledge_from 1 other.pledges n ≡ Some old) × Continues old p))
         → (1 ≤ n) × (n ≤ 1 + length at.pledges)
     from at other same (inl next) = let long : length other.pledges ≡ length at.pledges = ap (λ (k : BookValue). length k.pledges) same in (omega (arith, next), omega (arith, next, long))
     from at other same (inr standing) =

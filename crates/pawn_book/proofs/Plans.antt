@@ -2,8 +2,11 @@
 use Rattle.std.proofs.Common.{◌≡◌, ◌≢◌, ℕ, ◌+◌, ◌<◌, ◌≤◌, zero, suc, List, [], ◌∷◌, ◌++◌, length, Some, None, Ok, Err, refl, ◌∙◌, ap, sym, subst, arith, inl}
 use Rattle.std.specs.Prelude.{if◌then◌else◌, Option, Result, ◌==◌, Bool, true, false, nat_lt, nat_le, option_map}
 use Rattle.std.specs.FinMap.{get}
+use Rattle.std.specs.Str.{IsUtf8}
 use Rattle.std.proofs.lemmas.Bool.Decides.{nat_tests}
 use Rattle.pawn_terms.specs.Terms.{TermsValue, IsChecked}
+use Rattle.pawn_pledge.specs.Number.{IsNumber}
+use Rattle.pawn_pledge.specs.declared.record.Issued.{Issued}
 use Rattle.pawn_pledge.specs.Pledge.{PledgeValue}
 use Rattle.pawn_debt.specs.Answers.{is_bad_amount}
 use Rattle.pawn_debt.specs.Due.{credit_of}
@@ -25,7 +28,7 @@ use Rattle.pawn_book.specs.declared.change.Head.{Head}
 use Rattle.pawn_book.specs.BookStep.{BookValue, Makes, created, made, made_book, next_terms, put_terms, take_pledge, taken_under, under_pledge, with_room, terms_at, newest, with_reference, head_of, first_receipt, changed_book, pledge_from, pledge_in, put_from, is_text}
 use Rattle.pawn_book.specs.HostStep.{Host, with_book}
 use Rattle.pawn_book.specs.Limits.{IsCapacity, most_terms, most_pledges}
-use Rattle.pawn_book.specs.Sound.{IsSound, AreSound, AreNumberedFrom}
+use Rattle.pawn_book.specs.Sound.{AreNumberedFrom, AreSound, AreWords, HasTextsAndWords, IsSound, IsWord}
 use Rattle.pawn_book.specs.Keeping.{Plans, book_of, changed, number_of, pledges_of, terms_of}
 use Rattle.pawn_book.proofs.Sounds.{IsNext, absurd_none, some_is, sound_made, sound_next, sound_terms, sound_with}
 
@@ -39,10 +42,10 @@ past_row true why rest v is = cc is
 past_row false why rest v is = (refl, is)
 
 -- a book that doesn't stand is made
-pub book_plans : (h : Host) (b : ℕ) (new : NewBook) → IsText 60 new.name → IsCapacity new.capacity → IsSound h → get h.books b ≡ None
+pub book_plans : (h : Host) (b : ℕ) (new : NewBook) → IsNumber b → IsWord new.key → IsUtf8 new.name → IsText 60 new.name → IsCapacity new.capacity → IsSound h → get h.books b ≡ None
     → Plans h b (created (get h.books b) b new) (Ok (record { change = Some (MakeBook b new); reply = BookMade b }))
-book_plans h b new name capacity sound none =
-    (ap (λ o. created o b new) none, (refl, record { follows = none; sound = sound_with h b (made_book new) sound.books (sound_made new name capacity) }))
+book_plans h b new number key utf8 name capacity sound none =
+    (ap (λ o. created o b new) none, (refl, record { follows = none; sound = sound_with h b (made_book new) sound.books (number, sound_made new key utf8 name capacity) }))
 
 -- the next version of terms is added
 pub terms_plans : (h : Host) (b : ℕ) (at : BookValue) (new : NewTerms) (terms : TermsValue) → IsSound h → get h.books b ≡ Some at
@@ -57,7 +60,7 @@ terms_plans h b at new terms sound is none answer version few checked =
         refl,
         record {
           follows = (at, is, version);
-          sound = subst AreSound (sym same) (sound_with h b book sound.books (sound_terms at terms (sound.books b at is) checked few));
+          sound = subst AreSound (sym same) (sound_with h b book sound.books ((sound.books b at is).0, sound_terms at terms (sound.books b at is).1 checked few));
         },
       ),
     )
@@ -65,9 +68,9 @@ terms_plans h b at new terms sound is none answer version few checked =
 -- the next pledge is taken
 pub pledge_plans : (h : Host) (b : ℕ) (at : BookValue) (opening : Opening) (stamp : Stamp) (p : PledgeValue) → IsSound h → get h.books b ≡ Some at
     → with_reference at.pledges opening.reference ≡ None → taken_under (head_of at) opening stamp (newest at.terms) ≡ Ok p
-    → IsNext at p → IsStanding p
+    → IsNext at p → IsStanding p → HasTextsAndWords p
     → Plans h b (take_pledge at b opening stamp (with_reference at.pledges opening.reference)) (Ok (record { change = Some (PutPledge b p.number p); reply = Opened (first_receipt p) }))
-pledge_plans h b at opening stamp p sound is none answer next standing =
+pledge_plans h b at opening stamp p sound is none answer next standing written =
     let book : BookValue = record at { pledges = put_from 1 at.pledges p.number p } in
     let same : changed h (PutPledge b p.number p) ≡ with_book h b (Some book) =
     changed_is h b (PutPledge b p.number p) book refl (ap (λ o. changed_book o (PutPledge b p.number p)) is) in (
@@ -76,7 +79,7 @@ pledge_plans h b at opening stamp p sound is none answer next standing =
         refl,
         record {
           follows = (at, is, inl next.number);
-          sound = subst AreSound (sym same) (sound_with h b book sound.books (sound_next at p (sound.books b at is) next standing));
+          sound = subst AreSound (sym same) (sound_with h b book sound.books ((sound.books b at is).0, sound_next at p (sound.books b at is).1 next standing written));
         },
       ),
     )
@@ -114,7 +117,7 @@ found_by_number h b n reference sound is = from (get h.books b) refl is
 
     from : (o : Option BookValue) → get h.books b ≡ o → Some n ≡ number_of o reference → pledge_in o n ≡ with_reference (pledges_of o) reference
     from None e is = refl
-    from (Some book) e is = at book (sound.books b book e).numbered (with_reference book.pledges reference) refl is ∙ refl
+    from (Some book) e is = at book (sound.books b book e).1.numbered (with_reference book.pledges reference) refl is ∙ refl
 
 -- a reference that no number has
 pub no_number : (h : Host) (b : ℕ) (reference : List ℕ) → None ≡ number_of (get h.books b) reference → with_reference (pledges_of (get h.books b)) reference ≡ None
@@ -175,19 +178,22 @@ taken_is head opening stamp (Some terms) p is = from (started (head.pledges + 1)
         let same : q ≡ p = ap (λ (r : Result PledgeValue Refusal). result_unwrap_or r q) row.1 in
         (ap (λ (x : PledgeValue). x.number) (sym same) ∙ named q refl, grind (arith, nat_tests, row.0))
 
--- .. for what was asked, under the newest terms
+-- .. for what was asked, under the newest terms, with the stamp's word
+abbrev IsFirst : Stamp → List Issued → Type 0
+IsFirst stamp secrets = (issued : Issued) × (secrets ≡ issued ∷ []) × (issued.secret ≡ stamp.word)
+
 taken_as : (head : Head) (opening : Opening) (stamp : Stamp) (newest : Option TermsValue) (p : PledgeValue) → taken_under head opening stamp newest ≡ Ok p
-    → (p.reference ≡ opening.reference) × (p.version ≡ head.terms) × (newest ≡ Some p.terms)
+    → (p.reference ≡ opening.reference) × (p.version ≡ head.terms) × (newest ≡ Some p.terms) × (p.article ≡ opening.article) × IsFirst stamp p.secrets
 taken_as head opening stamp None p is = cc is
 taken_as head opening stamp (Some terms) p is = from (started (head.pledges + 1) opening head.terms terms stamp) refl is
   where
     Asked : PledgeValue → Type 0
-    Asked q = (q.reference ≡ opening.reference) × (q.version ≡ head.terms) × (Some terms ≡ Some q.terms)
+    Asked q = (q.reference ≡ opening.reference) × (q.version ≡ head.terms) × (Some terms ≡ Some q.terms) × (q.article ≡ opening.article) × IsFirst stamp q.secrets
 
     asked : (q : PledgeValue) → started (head.pledges + 1) opening head.terms terms stamp ≡ Ok q → Asked q
     asked q same =
         let row = past_row (is_bad_amount (credit_of opening.kind)) _ _ q same in
-        subst Asked (ap (λ (r : Result PledgeValue PledgeRefusal). result_unwrap_or r q) row.1) (refl, refl, refl)
+        subst Asked (ap (λ (r : Result PledgeValue PledgeRefusal). result_unwrap_or r q) row.1) (refl, refl, refl, refl, (_, refl, refl))
 
     from : (r : Result PledgeValue PledgeRefusal) → started (head.pledges + 1) opening head.terms terms stamp ≡ r → with_room head.pledges (under_pledge r) ≡ Ok p → Asked p
     from (Err why) at is = cc is
@@ -199,8 +205,9 @@ taken_as head opening stamp (Some terms) p is = from (started (head.pledges + 1)
 -- the next pledge, as a keeper tells of the book
 pub taken_plans : (h : Host) (b : ℕ) (at : BookValue) (head : Head) (opening : Opening) (stamp : Stamp) (p : PledgeValue) → IsSound h → get h.books b ≡ Some at → head ≡ head_of at
     → None ≡ with_reference (pledges_of (get h.books b)) opening.reference → taken_under head opening stamp (newest at.terms) ≡ Ok p → IsStanding p
+    → IsUtf8 opening.reference → IsUtf8 opening.article → IsWord stamp.word
     → Plans h b (take_pledge at b opening stamp (with_reference at.pledges opening.reference)) (Ok (record { change = Some (PutPledge b p.number p); reply = Opened (first_receipt p) }))
-taken_plans h b at head opening stamp p sound is heads none answer standing =
+taken_plans h b at head opening stamp p sound is heads none answer standing reference article word =
     let absent : with_reference at.pledges opening.reference ≡ None = sym (none ∙ ap (λ o. with_reference (pledges_of o) opening.reference) is) in
     let next : taken_under (head_of at) opening stamp (newest at.terms) ≡ Ok p = ap (λ (q : Head). taken_under q opening stamp (newest at.terms)) (sym heads) ∙ answer in
     let bounds = taken_is (head_of at) opening stamp (newest at.terms) p next in
@@ -212,4 +219,9 @@ taken_plans h b at head opening stamp p sound is heads none answer standing =
       under = ap (terms_at at.terms) asked.1 ∙ asked.2;
       few = bounds.1;
     } in
-    pledge_plans h b at opening stamp p sound is absent next is_next standing
+    let written : HasTextsAndWords p = record {
+      reference = subst IsUtf8 (sym asked.0) reference;
+      article = subst IsUtf8 (sym asked.3) article;
+      secrets = subst AreWords (sym asked.4.1) (subst IsWord (sym asked.4.2) word, tt);
+    } in
+    pledge_plans h b at opening stamp p sound is absent next is_next standing written

@@ -3,9 +3,11 @@ use Rattle.std.proofs.Common.{◌≡◌, ◌≢◌, ℕ, ◌+◌, ◌<◌, ◌�
 use Rattle.std.specs.Prelude.{if◌then◌else◌, Option, Bool, true, false, ◌==◌}
 use Rattle.std.specs.Cmp.{unsigned_tied}
 use Rattle.std.specs.FinMap.{get, get-insert}
+use Rattle.std.specs.Str.{IsUtf8}
 use Rattle.std.proofs.lemmas.Cmp.{nat_cmp_total}
 use Rattle.std.proofs.lemmas.Bool.Decides.{nat_tests}
 use Rattle.pawn_terms.specs.Terms.{TermsValue, IsChecked}
+use Rattle.pawn_pledge.specs.Number.{IsNumber}
 use Rattle.pawn_pledge.specs.Pledge.{PledgeValue}
 use Rattle.pawn_pledge.specs.Replayable.{Each, IsStanding}
 use Rattle.pawn_pledge.specs.Text.{IsText}
@@ -13,7 +15,7 @@ use Rattle.pawn_book.specs.declared.request.NewBook.{NewBook}
 use Rattle.pawn_book.specs.BookStep.{BookValue, made_book, pledge_from, pledge_in, put_from, with_reference}
 use Rattle.pawn_book.specs.HostStep.{Host, with_book}
 use Rattle.pawn_book.specs.Limits.{IsCapacity, most_terms, most_pledges}
-use Rattle.pawn_book.specs.Sound.{AreDistinct, AreNumberedFrom, AreSound, DoNotFall, IsSound, IsSoundBook, IsUnder}
+use Rattle.pawn_book.specs.Sound.{AreDistinct, AreNumberedFrom, AreSound, DoNotFall, HasTextsAndWords, IsSound, IsSoundAt, IsSoundBook, IsUnder, IsWord}
 pub use Rattle.pawn_book.proofs.SoundLists.{absurd_none, some_is}
 use Rattle.pawn_book.proofs.SoundLists.{each_under_more, references_push, versions_push}
 
@@ -21,27 +23,48 @@ use Rattle.pawn_book.proofs.SoundLists.{each_under_more, references_push, versio
 pub get-with_book : (h : Host) (b : ℕ) (book : BookValue) (q : ℕ) → get (with_book h b (Some book)).books q ≡ (if q == b then Some book else get h.books q)
 get-with_book h b book q = get-insert nat_cmp_total h.books b book q ∙ ap (λ v. if v then Some book else get h.books q) (unsigned_tied q b)
 
-pub sound_with : (h : Host) (b : ℕ) (book : BookValue) → AreSound h → IsSoundBook book → AreSound (with_book h b (Some book))
-sound_with h b book sound one q other is = from (q == b) (sym (get-with_book h b book q) ∙ is)
+pub sound_with : (h : Host) (b : ℕ) (book : BookValue) → AreSound h → IsSoundAt b book → AreSound (with_book h b (Some book))
+sound_with h b book sound one q other is = from (q == b) refl (sym (get-with_book h b book q) ∙ is)
   where
-    from : (v : Bool) → (if v then Some book else get h.books q) ≡ Some other → IsSoundBook other
-    from true is = subst IsSoundBook (some_is book other is) one
-    from false is = sound q other is
+    from : (v : Bool) → (q == b) ≡ v → (if v then Some book else get h.books q) ≡ Some other → IsSoundAt q other
+    from true here is =
+        let same : q ≡ b = grind (arith, nat_tests, here) in
+        (subst IsNumber (sym same) one.0, subst IsSoundBook (some_is book other is) one.1)
+    from false apart is = sound q other is
 
-pub sound_made : (new : NewBook) → IsText 60 new.name → IsCapacity new.capacity → IsSoundBook (made_book new)
-sound_made new name capacity = record { name = name; capacity = capacity; numbered = tt; standing = tt; references = tt; under = tt; versions = tt; checked = tt; terms = omega arith; pledges = omega arith }
+pub sound_made : (new : NewBook) → IsWord new.key → IsUtf8 new.name → IsText 60 new.name → IsCapacity new.capacity → IsSoundBook (made_book new)
+sound_made new key utf8 name capacity = record {
+  key = key;
+  imported = tt;
+  utf8 = utf8;
+  name = name;
+  capacity = capacity;
+  numbered = tt;
+  standing = tt;
+  written = tt;
+  references = tt;
+  under = tt;
+  versions = tt;
+  checked = tt;
+  terms = omega arith;
+  pledges = omega arith;
+}
 
-each_push : {A : Type 0} (P : A → Type 0) (xs : List A) (x : A) → Each P xs → P x → Each P (xs ++ x ∷ [])
+pub each_push : {A : Type 0} (P : A → Type 0) (xs : List A) (x : A) → Each P xs → P x → Each P (xs ++ x ∷ [])
 each_push P [] x all one = (one, tt)
 each_push P (y ∷ ys) x all one = (all.0, each_push P ys x all.1 one)
 
 pub sound_terms : (book : BookValue) (terms : TermsValue) → IsSoundBook book → IsChecked terms → length book.terms < most_terms
     → IsSoundBook (record book { terms = book.terms ++ terms ∷ [] })
 sound_terms book terms sound checked few = record {
+  key = sound.key;
+  imported = sound.imported;
+  utf8 = sound.utf8;
   name = sound.name;
   capacity = sound.capacity;
   numbered = sound.numbered;
   standing = sound.standing;
+  written = sound.written;
   references = sound.references;
   under = each_under_more book.terms terms book.pledges sound.under;
   versions = sound.versions;
@@ -90,9 +113,9 @@ pub record IsNext (book : BookValue) (p : PledgeValue) : Type 0 where
   pub few : length book.pledges < most_pledges
 
 -- a book with one pledge more
-pub sound_next : (book : BookValue) (p : PledgeValue) → IsSoundBook book → IsNext book p → IsStanding p
+pub sound_next : (book : BookValue) (p : PledgeValue) → IsSoundBook book → IsNext book p → IsStanding p → HasTextsAndWords p
     → IsSoundBook (record book { pledges = put_from 1 book.pledges p.number p })
-sound_next book p sound is_next standing =
+sound_next book p sound is_next standing written =
     let named = is_next.number in
     let few = is_next.few in
     let low : 1 ≤ p.number = omega (arith, named) in
@@ -100,10 +123,14 @@ sound_next book p sound is_next standing =
     let next : p.number ≡ 1 + length book.pledges = omega (arith, named) in
     let pushed = put_next 1 book.pledges p.number p next in
     record {
+      key = sound.key;
+      imported = sound.imported;
+      utf8 = sound.utf8;
       name = sound.name;
       capacity = sound.capacity;
       numbered = numbered_put 1 book.pledges p.number p sound.numbered refl low high;
       standing = each_put IsStanding 1 book.pledges p.number p sound.standing standing;
+      written = each_put HasTextsAndWords 1 book.pledges p.number p sound.written written;
       references = subst (λ ps. AreDistinct (map (λ p. p.reference) ps)) (sym pushed) (references_push book.pledges p sound.references is_next.reference);
       under = each_put (IsUnder book.terms) 1 book.pledges p.number p sound.under is_next.under;
       versions = subst (λ ps. DoNotFall 0 (map (λ p. p.version) ps)) (sym pushed)
@@ -136,5 +163,5 @@ standing_at h b n p sound is = from (get h.books b) refl is
     from : (o : Option BookValue) → get h.books b ≡ o → pledge_in o n ≡ Some p → IsStanding p × (p.number ≡ n)
     from None e is = absurd_none is
     from (Some book) e is =
-        let one = sound.books b book e in
+        let one = (sound.books b book e).1 in
         (each_at IsStanding 1 book.pledges n p one.standing is, numbered_at 1 book.pledges n p one.numbered is)

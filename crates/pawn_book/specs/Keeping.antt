@@ -5,9 +5,9 @@ use Rattle.pawn_terms.specs.Terms.{TermsValue}
 use Rattle.pawn_debt.specs.declared.entry.Entry.{Entry}
 use Rattle.pawn_pledge.specs.declared.command.Stamp.{Stamp}
 use Rattle.pawn_pledge.specs.declared.record.Booking.{Booking}
-use Rattle.pawn_pledge.specs.declared.record.Issued.{Issued}
 use Rattle.pawn_pledge.specs.declared.record.Extension.{Extension}
 use Rattle.pawn_pledge.specs.Pledge.{PledgeValue}
+use Rattle.pawn_pledge.specs.Growth.{Grows}
 use Rattle.pawn_book.specs.declared.request.Caller.{Caller}
 use Rattle.pawn_book.specs.declared.request.Caller.TheVariants.{Operator, Broker, Bearer}
 use Rattle.pawn_book.specs.declared.request.BrokerRequest.{BrokerRequest}
@@ -29,7 +29,7 @@ use Rattle.pawn_book.specs.declared.fault.SaveError.{SaveError}
 use Rattle.pawn_book.specs.declared.fault.SaveError.TheVariants as Save
 use Rattle.pawn_book.specs.BookStep.{BookValue, Told, Outcome, Refuses, Says, Makes, out_of, changed_book, confirmed_booking, pledge_from, with_reference, gated, head_of}
 use Rattle.pawn_book.specs.HostStep.{Host, rows, with_book, host_step, host_after}
-use Rattle.pawn_book.specs.Sound.{AreSound, IsSound, IsSoundBook}
+use Rattle.pawn_book.specs.Sound.{AreSound, HasUnsoundBook, IsSound}
 
 abbrev pub terms_of : Option BookValue → List TermsValue
 terms_of None = []
@@ -68,10 +68,6 @@ pub record Reads {K : Type 0} (stands : K → Host → Type 0) (honest serves : 
   pub back : honest new → serves new → (h : Host) → stands new h → stands old h
   pub tells : honest new → (h : Host) → stands old h → P h
 
--- a book of the host is not sound
-abbrev pub HasUnsoundBook : Host → Type 0
-HasUnsoundBook h = (b : ℕ) × (book : BookValue) × (get h.books b ≡ Some book) × (IsSoundBook book → ⊥)
-
 -- a stored row is told to be no record only of a host with a book that is not sound
 abbrev pub BlamesUnsound : {K T : Type 0} → (K → Host → Type 0) → (K → Type 0) → K → K → Result T KeepError → Type 0
 BlamesUnsound stands honest old new result = result ≡ Err (Keeper.Store NoRecord) → honest new → (h : Host) → stands old h → HasUnsoundBook h
@@ -107,7 +103,7 @@ abbrev pub changed : Host → Change → Host
 changed h change = with_book h (book_of change) (changed_book (get h.books (book_of change)) change)
 
 -- what was agreed on a pledge that stands stays, and its lists grow at their ends alone
-pub record Grows (old new : PledgeValue) : Type 0 where
+pub record Continues (old new : PledgeValue) : Type 0 where
   pub number : new.number ≡ old.number
   pub reference : new.reference ≡ old.reference
   pub article : new.article ≡ old.article
@@ -117,17 +113,15 @@ pub record Grows (old new : PledgeValue) : Type 0 where
   pub five_days : new.five_days ≡ old.five_days
   pub version : new.version ≡ old.version
   pub terms : new.terms ≡ old.terms
-  pub entries : (more : List Entry) × (new.entries ≡ old.entries ++ more)
-  pub secrets : (more : List Issued) × (new.secrets ≡ old.secrets ++ more)
-  pub extensions : (more : List Extension) × (new.extensions ≡ old.extensions ++ more)
+  pub lists : Grows old new
 
--- a new book; the next version of terms; the next pledge, or one that stands and grows
+-- a new book; the next version of terms; the next pledge, or one that stands and continues
 abbrev pub Follows : Host → Change → Type 0
 Follows h (MakeBook book new) = get h.books book ≡ None
 Follows h (AddTerms book version terms) = (at : BookValue) × (get h.books book ≡ Some at) × (version ≡ length at.terms + 1)
 Follows h (PutPledge book number pledge) =
     (at : BookValue) × (get h.books book ≡ Some at)
-    × ((number ≡ length at.pledges + 1) ⊎ ((old : PledgeValue) × (pledge_from 1 at.pledges number ≡ Some old) × Grows old pledge))
+    × ((number ≡ length at.pledges + 1) ⊎ ((old : PledgeValue) × (pledge_from 1 at.pledges number ≡ Some old) × Continues old pledge))
 
 -- a change that may be saved: it follows, and the changed host is sound, but for the limit on its rows
 pub record CanSave (h : Host) (change : Change) : Type 0 where

@@ -1,6 +1,12 @@
 -- What holds of every book, whatever is asked.
 use Rattle.std.specs.Prelude.{◌≡◌, ℕ, List, [], ◌∷◌, Option, Some, is_some, true}
+use Rattle.pawn_debt.specs.declared.entry.Sort.{Sort}
+use Rattle.pawn_pledge.specs.declared.command.Command.{Command}
+use Rattle.pawn_pledge.specs.declared.command.Done.{Done}
 use Rattle.pawn_pledge.specs.declared.command.Stamp.{Stamp}
+use Rattle.pawn_pledge.specs.Laws.{MayExtend, entering}
+use Rattle.pawn_pledge.specs.Pledge.{PledgeValue, end_of}
+use Rattle.pawn_book.specs.Commands.{bearer_command, broker_command}
 use Rattle.pawn_book.specs.declared.request.Caller.{Caller}
 use Rattle.pawn_book.specs.declared.request.Caller.TheVariants.{Operator, Broker, Bearer}
 use Rattle.pawn_book.specs.declared.request.BrokerRequest.{BrokerRequest}
@@ -12,8 +18,9 @@ use Rattle.pawn_book.specs.declared.request.BrokerCommand.TheVariants as broker
 use Rattle.pawn_book.specs.declared.request.BearerCommand.{BearerCommand}
 use Rattle.pawn_book.specs.declared.request.BearerCommand.TheVariants as bearer
 use Rattle.pawn_book.specs.declared.reply.Reply.{Reply}
+use Rattle.pawn_book.specs.declared.reply.Reply.TheVariants.{Commanded}
 use Rattle.pawn_book.specs.declared.change.Change.{Change}
-use Rattle.pawn_book.specs.BookStep.{BookValue, Told, Says, Makes, changed_book, book_after, book_step, live_at, pledge_in}
+use Rattle.pawn_book.specs.BookStep.{BookValue, Told, Says, Makes, changed_book, book_after, book_step, live_at, pledge_from, pledge_in}
 use Rattle.pawn_book.specs.Sound.{IsSoundBook}
 
 -- the book after requests, one after the other
@@ -98,3 +105,52 @@ EntriesActOnce =
     → IsSoundBook before → IsEntering caller → book_step (Some before) operator b stamp caller ≡ Makes change reply
     → StillPasses (book_run (changed_book (Some before) change) operator b later) caller
     → book_step (book_run (changed_book (Some before) change) operator b later) operator b again caller ≡ Says (Told reply)
+
+-- a caller commands pledge n
+abbrev pub BrokerAsks : BrokerRequest → ℕ → Command → Type 0
+BrokerAsks (asked.PutTerms new) n command = ⊥
+BrokerAsks (asked.TakePledge opening) n command = ⊥
+BrokerAsks (asked.OnPledge m own) n command = (m ≡ n) × (broker_command own ≡ command)
+BrokerAsks (asked.Show m) n command = ⊥
+
+abbrev pub BearerAsks : BearerRequest → ℕ → Command → Type 0
+BearerAsks (presented.Held receipts) n command = ⊥
+BearerAsks (presented.OnPledge receipt own) n command = (receipt.number ≡ n) × (bearer_command own ≡ command)
+
+abbrev pub Asks : Caller → ℕ → Command → Type 0
+Asks (Operator key new) n command = ⊥
+Asks (Broker key request) n command = BrokerAsks request n command
+Asks (Bearer request) n command = BearerAsks request n command
+
+-- a broker passes by the book's key, and a bearer by a live receipt
+abbrev pub Passes : Option BookValue → Caller → Type 0
+Passes book (Operator key new) = Unit {0}
+Passes book (Broker key request) = (at : BookValue) × (book ≡ Some at) × (at.key ≡ key)
+Passes book (Bearer request) = IsStillLive book request
+
+-- and so it is told to any caller that passes: what a bearer entered to the broker and to the bearer of a later receipt, and
+-- what the broker entered to a bearer
+abbrev pub EntriesActOnceForAll : Type 0
+EntriesActOnceForAll =
+    (before : BookValue) (operator b : ℕ) (stamp again : Stamp) (caller other : Caller) (n : ℕ) (sort : Sort) (seq pence : ℕ)
+    (change : Change) (reply : Reply) (later : List (Stamp × Caller))
+    → IsSoundBook before → Asks caller n (entering sort seq pence) → Asks other n (entering sort seq pence)
+    → book_step (Some before) operator b stamp caller ≡ Makes change reply
+    → Passes (book_run (changed_book (Some before) change) operator b later) other
+    → book_step (book_run (changed_book (Some before) change) operator b later) operator b again other ≡ Says (Told reply)
+
+-- an extension to the end that stands is told with that end, and changes nothing
+abbrev pub StandingEndIsTold : Type 0
+StandingEndIsTold =
+    (book : BookValue) (operator b n : ℕ) (stamp : Stamp) (p : PledgeValue)
+    → pledge_from 1 book.pledges n ≡ Some p → MayExtend p stamp.day
+    → book_step (Some book) operator b stamp (Broker book.key (asked.OnPledge n (broker.Extend (end_of p)))) ≡ Says (Told (Commanded n (Done.Extended (end_of p))))
+
+-- so an extension that was made is told the same again and makes none, whatever was asked in between, as long as its end stands
+abbrev pub ExtensionsActOnce : Type 0
+ExtensionsActOnce =
+    (before : BookValue) (operator b key n until : ℕ) (stamp again : Stamp) (change : Change) (reply : Reply) (later : List (Stamp × Caller)) (p : PledgeValue)
+    → book_step (Some before) operator b stamp (Broker key (asked.OnPledge n (broker.Extend until))) ≡ Makes change reply
+    → pledge_in (book_run (changed_book (Some before) change) operator b later) n ≡ Some p → end_of p ≡ until → MayExtend p again.day
+    → book_step (book_run (changed_book (Some before) change) operator b later) operator b again (Broker key (asked.OnPledge n (broker.Extend until)))
+    ≡ Says (Told reply)

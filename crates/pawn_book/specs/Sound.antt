@@ -1,8 +1,11 @@
 -- Hosts that can have come about.
-use Rattle.std.specs.Prelude.{◌≡◌, ℕ, ◌+◌, ◌≤◌, List, [], ◌∷◌, false, Some, length, map}
+use Rattle.std.specs.Prelude.{◌≡◌, ℕ, ◌+◌, ◌^◌, ◌≤◌, ◌<◌, List, [], ◌∷◌, false, Some, IfSome, length, map}
 use Rattle.std.specs.List.{list_any}
+use Rattle.std.specs.Str.{IsUtf8}
 use Rattle.std.specs.FinMap.{get}
 use Rattle.pawn_terms.specs.Terms.{TermsValue, IsChecked}
+use Rattle.pawn_pledge.specs.declared.record.Issued.{Issued}
+use Rattle.pawn_pledge.specs.Number.{IsNumber}
 use Rattle.pawn_pledge.specs.Pledge.{PledgeValue}
 use Rattle.pawn_pledge.specs.Replayable.{Each, IsStanding}
 use Rattle.pawn_pledge.specs.Text.{IsText}
@@ -29,13 +32,30 @@ DoNotFall n (m ∷ ms) = (n ≤ m) × DoNotFall m ms
 abbrev pub IsUnder : List TermsValue → PledgeValue → Type 0
 IsUnder terms p = terms_at terms p.version ≡ Some p.terms
 
+-- a key or a secret: a word of 128 bits
+abbrev pub IsWord : ℕ → Type 0
+IsWord n = n < 2 ^ 128
+
+abbrev pub AreWords : List Issued → Type 0
+AreWords issued = Each (λ i. IsWord i.secret) issued
+
+-- the texts of a pledge are UTF-8, and its secrets are words
+pub record HasTextsAndWords (p : PledgeValue) : Type 0 where
+  pub reference : IsUtf8 p.reference
+  pub article : IsUtf8 p.article
+  pub secrets : AreWords p.secrets
+
 -- a book within the limits: its pledges numbered from 1, each of which can have come about, with references that differ,
--- under terms that stand, the later ones under no earlier terms
+-- under terms that stand, the later ones under no earlier terms; its keys are words, and its texts UTF-8
 pub record IsSoundBook (book : BookValue) : Type 0 where
+  pub key : IsWord book.key
+  pub imported : IfSome book.imported (λ imported. IsWord imported.key)
+  pub utf8 : IsUtf8 book.name
   pub name : IsText 60 book.name
   pub capacity : IsCapacity book.capacity
   pub numbered : AreNumberedFrom 1 book.pledges
   pub standing : Each IsStanding book.pledges
+  pub written : Each HasTextsAndWords book.pledges
   pub references : AreDistinct (map (λ p. p.reference) book.pledges)
   pub under : Each (IsUnder book.terms) book.pledges
   pub versions : DoNotFall 0 (map (λ p. p.version) book.pledges)
@@ -43,9 +63,17 @@ pub record IsSoundBook (book : BookValue) : Type 0 where
   pub terms : length book.terms ≤ most_terms
   pub pledges : length book.pledges ≤ most_pledges
 
+-- a book that stands under a number
+abbrev pub IsSoundAt : ℕ → BookValue → Type 0
+IsSoundAt b book = IsNumber b × IsSoundBook book
+
 -- each book of a host
 abbrev pub AreSound : Host → Type 0
-AreSound h = (b : ℕ) (book : BookValue) → get h.books b ≡ Some book → IsSoundBook book
+AreSound h = (b : ℕ) (book : BookValue) → get h.books b ≡ Some book → IsSoundAt b book
+
+-- a book of the host is not sound
+abbrev pub HasUnsoundBook : Host → Type 0
+HasUnsoundBook h = (b : ℕ) × (book : BookValue) × (get h.books b ≡ Some book) × (IsSoundAt b book → ⊥)
 
 -- each book, and the rows within the limit
 pub record IsSound (h : Host) : Type 0 where

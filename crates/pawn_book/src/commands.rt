@@ -5,12 +5,12 @@ ghost use Rattle.pawn_terms.specs.Calendar.{IsStampDay};
 ghost use Rattle.pawn_pledge.specs.Replayable.{IsCommand};
 ghost use Rattle.pawn_pledge.specs.Step.{pledge_step};
 ghost use Rattle.pawn_book.specs.BookStep.{BookValue, bearer_commands, broker_commands, confirmed_booking, head_of, judged_outcome, live_at, pledge_from, pledge_in, windowed};
-ghost use Rattle.pawn_book.specs.Sound.{IsSound};
+ghost use Rattle.pawn_book.specs.Sound.{IsSound, IsWord};
 ghost use Rattle.pawn_book.specs.Keeping.{IsOutcome, IsQuiet, Plans, Reads, newly_confirmed, outcome_of};
 
 use crate::change::{Change, Head, Planned};
 use crate::keep::Keep;
-use crate::planning::{find_live, unwell};
+use crate::planning::{find_live, know_word, unwell};
 use crate::refusal::Refusal;
 use crate::reply::Reply;
 use pawn_pledge::{
@@ -73,10 +73,12 @@ fn commanded(
 ) -> Result<Planned, Refusal>
     ensures judged { IsOutcome (judged_outcome book number (pledge_step pledge stamp.now command.now)) result }
     ensures day { IsStampDay stamp.now.day }
+    ensures word { IsWord stamp.now.word }
     ensures store { result ≡ Err Refusal.Store → ⊥ }
 {
     // Whoever reads the day knows that it is one that a stamp may have.
     let _ = stamp.day.day();
+    know_word(stamp);
     match pledge.apply_telling(stamp, command) {
         Err(PledgeRefusal::Memory) => Err(Refusal::Memory),
         Err(refusal) => Err(Refusal::Pledge(refusal)),
@@ -131,7 +133,7 @@ fn roomed<K: Keep>(
 
 // The booking that a change confirms.
 fn newly_confirmed(planned: &Planned) -> Option<Booking>
-    ensures { result ≡ newly_confirmed planned.now.change planned.now.reply }
+    ensures value { result ≡ newly_confirmed planned.now.change planned.now.reply }
 {
     match planned.change {
         None => None,
@@ -141,7 +143,7 @@ fn newly_confirmed(planned: &Planned) -> Option<Booking>
 
 // The booking that is told to be confirmed.
 fn confirmed_booking(reply: Reply) -> Option<Booking>
-    ensures { result ≡ confirmed_booking reply }
+    ensures value { result ≡ confirmed_booking reply }
 {
     let Reply::Commanded { number: _, done } = reply else {
         return None;

@@ -21,7 +21,7 @@ pub use capacity::Capacity;
 pub use change::{Change, Head, Imported, Planned};
 pub use fault::{KeepError, SaveError, StoreFault};
 pub use keep::Keep;
-pub use laws::{changes_differ, entries_act_once, repeats_act_once};
+pub use laws::{changes_differ, entries_act_once, extensions_act_once, repeats_act_once};
 pub use list::{ListKeep, MOST_ROWS};
 pub use pawn_pledge::{
     Applied, Article, BadDay, BadReceipt, Booking, BookingState, Brief, Closing, Command, Day,

@@ -69,8 +69,8 @@ impl ListKeep {
 
     // Makes a book.
     fn make_book(&mut self, book: Number, new_book: &NewBook) -> Result<(), SaveError>
-        requires { CanSave (host_of self.old) (Change.MakeBook book new_book.now) }
-        ensures { Saves self.old (Change.MakeBook book new_book.now) result self.new }
+        requires can_save { CanSave (host_of self.old) (Change.MakeBook book new_book.now) }
+        ensures saves { Saves self.old (Change.MakeBook book new_book.now) result self.new }
     {
         let rows = self.rows + 1;
         if rows > self.limit {
@@ -96,8 +96,8 @@ impl ListKeep {
 
     // Adds the next version of a book's terms.
     fn add_terms(&mut self, book: Number, version: u64, terms: Terms) -> Result<(), SaveError>
-        requires { CanSave (host_of self.old) (Change.AddTerms book version terms) }
-        ensures { Saves self.old (Change.AddTerms book version terms) result self.new }
+        requires can_save { CanSave (host_of self.old) (Change.AddTerms book version terms) }
+        ensures saves { Saves self.old (Change.AddTerms book version terms) result self.new }
     {
         let rows = self.rows + 1;
         if rows > self.limit {
@@ -117,8 +117,8 @@ impl ListKeep {
 
     // Puts the next pledge, or one that stands.
     fn put_pledge(&mut self, book: Number, number: Number, pledge: &Pledge) -> Result<(), SaveError>
-        requires { CanSave (host_of self.old) (Change.PutPledge book number pledge.now) }
-        ensures { Saves self.old (Change.PutPledge book number pledge.now) result self.new }
+        requires can_save { CanSave (host_of self.old) (Change.PutPledge book number pledge.now) }
+        ensures saves { Saves self.old (Change.PutPledge book number pledge.now) result self.new }
     {
         let Some(place) = place_of(&self.books, book) else {
             unreachable!();
@@ -258,7 +258,7 @@ fn place_of(books: &[Kept], book: Number) -> Option<usize>
 
 // The book of a number.
 fn kept_at(books: &[Kept], book: Number) -> Option<&Kept>
-    ensures { MatchOption result (book_at (map entry_of books.now) book ≡ None) (λ kept. book_at (map entry_of books.now) book ≡ Some (entry_of kept.now).1) }
+    ensures found { MatchOption result (book_at (map entry_of books.now) book ≡ None) (λ kept. book_at (map entry_of books.now) book ≡ Some (entry_of kept.now).1) }
 {
     match place_of(books, book) {
         None => None,
@@ -268,7 +268,7 @@ fn kept_at(books: &[Kept], book: Number) -> Option<&Kept>
 
 // The terms of a version.
 fn standing_terms(terms: &[Terms], version: u64) -> Option<Terms>
-    ensures { result ≡ terms_at terms.now version }
+    ensures value { result ≡ terms_at terms.now version }
 {
     if version == 0 || version > terms.len() as u64 {
         return None;
@@ -278,7 +278,7 @@ fn standing_terms(terms: &[Terms], version: u64) -> Option<Terms>
 
 // The pledge of a number.
 fn pledge_at(pledges: &[Pledge], number: Number) -> Option<&Pledge>
-    ensures { MatchOption result (pledge_from 1 pledges.now number ≡ None) (λ pledge. pledge_from 1 pledges.now number ≡ Some pledge.now) }
+    ensures found { MatchOption result (pledge_from 1 pledges.now number ≡ None) (λ pledge. pledge_from 1 pledges.now number ≡ Some pledge.now) }
 {
     let place = number.get() as usize - 1;
     if place < pledges.len() {
@@ -290,7 +290,7 @@ fn pledge_at(pledges: &[Pledge], number: Number) -> Option<&Pledge>
 
 // The pledge of a number in a book.
 fn standing_pledge(books: &[Kept], book: Number, number: Number) -> Option<&Pledge>
-    ensures { MatchOption result (pledge_in (book_at (map entry_of books.now) book) number ≡ None) (λ pledge. pledge_in (book_at (map entry_of books.now) book) number ≡ Some pledge.now) }
+    ensures found { MatchOption result (pledge_in (book_at (map entry_of books.now) book) number ≡ None) (λ pledge. pledge_in (book_at (map entry_of books.now) book) number ≡ Some pledge.now) }
 {
     match kept_at(books, book) {
         None => None,
@@ -300,7 +300,7 @@ fn standing_pledge(books: &[Kept], book: Number, number: Number) -> Option<&Pled
 
 // The number of the pledge with a reference.
 fn number_with(pledges: &[Pledge], reference: &Reference) -> Option<Number>
-    ensures { result ≡ option_map (λ p. p.number) (with_reference pledges.now reference.now) }
+    ensures value { result ≡ option_map (λ p. p.number) (with_reference pledges.now reference.now) }
 {
     for pledge in pledges {
         if pledge.reference().as_str() == reference.as_str() {
@@ -312,7 +312,7 @@ fn number_with(pledges: &[Pledge], reference: &Reference) -> Option<Number>
 
 // What a book has beside its terms and pledges.
 fn head_in(books: &[Kept], book: Number) -> Result<Option<Head>, AllocError>
-    ensures { IfOk result (λ head. head ≡ option_map head_of (book_at (map entry_of books.now) book)) }
+    ensures value { IfOk result (λ head. head ≡ option_map head_of (book_at (map entry_of books.now) book)) }
 {
     let Some(kept) = kept_at(books, book) else {
         return Ok(None);
@@ -330,7 +330,7 @@ fn head_in(books: &[Kept], book: Number) -> Result<Option<Head>, AllocError>
 
 // The terms of a version of a book.
 fn terms_in(books: &[Kept], book: Number, version: u64) -> Option<Terms>
-    ensures { result ≡ terms_at (terms_of (book_at (map entry_of books.now) book)) version }
+    ensures value { result ≡ terms_at (terms_of (book_at (map entry_of books.now) book)) version }
 {
     let Some(kept) = kept_at(books, book) else {
         return None;
@@ -340,7 +340,7 @@ fn terms_in(books: &[Kept], book: Number, version: u64) -> Option<Terms>
 
 // The number of the pledge with a reference in a book.
 fn number_in(books: &[Kept], book: Number, reference: &Reference) -> Option<Number>
-    ensures { result ≡ number_of (book_at (map entry_of books.now) book) reference.now }
+    ensures value { result ≡ number_of (book_at (map entry_of books.now) book) reference.now }
 {
     let Some(kept) = kept_at(books, book) else {
         return None;
@@ -350,7 +350,7 @@ fn number_in(books: &[Kept], book: Number, reference: &Reference) -> Option<Numb
 
 // The pledge of a number in a book, as a value of its own.
 fn pledge_copy(books: &[Kept], book: Number, number: Number) -> Result<Option<Pledge>, AllocError>
-    ensures { IfOk result (λ pledge. pledge ≡ pledge_in (book_at (map entry_of books.now) book) number) }
+    ensures value { IfOk result (λ pledge. pledge ≡ pledge_in (book_at (map entry_of books.now) book) number) }
 {
     let Some(pledge) = standing_pledge(books, book, number) else {
         return Ok(None);
@@ -361,7 +361,7 @@ fn pledge_copy(books: &[Kept], book: Number, number: Number) -> Result<Option<Pl
 
 // The pledge of a number in a book, without its lists.
 fn brief_in(books: &[Kept], book: Number, number: Number) -> Result<Option<Brief>, AllocError>
-    ensures { IfOk result (λ brief. brief ≡ option_map brief_of (pledge_in (book_at (map entry_of books.now) book) number)) }
+    ensures value { IfOk result (λ brief. brief ≡ option_map brief_of (pledge_in (book_at (map entry_of books.now) book) number)) }
 {
     let Some(pledge) = standing_pledge(books, book, number) else {
         return Ok(None);
@@ -372,7 +372,7 @@ fn brief_in(books: &[Kept], book: Number, number: Number) -> Result<Option<Brief
 
 // The pledges of a book.
 fn pledges_in(books: &[Kept], book: Number) -> &[Pledge]
-    ensures { result.now ≡ pledges_of (book_at (map entry_of books.now) book) }
+    ensures value { result.now ≡ pledges_of (book_at (map entry_of books.now) book) }
 {
     match kept_at(books, book) {
         None => &[],
@@ -382,7 +382,7 @@ fn pledges_in(books: &[Kept], book: Number) -> &[Pledge]
 
 // Whether a booking for a day and a window is confirmed.
 fn is_confirmed_for(booking: Option<Booking>, day: Day, window: u64) -> bool
-    ensures { result ≡ is_confirmed_for day window booking }
+    ensures value { result ≡ is_confirmed_for day window booking }
 {
     match booking {
         None => false,
@@ -396,7 +396,7 @@ fn is_confirmed_for(booking: Option<Booking>, day: Day, window: u64) -> bool
 
 // How many pledges have a confirmed booking for a day and a window.
 fn confirmed_in(pledges: &[Pledge], day: Day, window: u64) -> usize
-    ensures { result ≡ confirmed_for pledges.now day window }
+    ensures value { result ≡ confirmed_for pledges.now day window }
 {
     pledges
         .iter()
@@ -406,7 +406,7 @@ fn confirmed_in(pledges: &[Pledge], day: Day, window: u64) -> usize
 
 // The number itself, or 0 where there is none.
 fn bound(after: Option<Number>) -> u32
-    ensures { result ≡ unwrap_or after 0 }
+    ensures value { result ≡ unwrap_or after 0 }
 {
     match after {
         None => 0,
@@ -416,7 +416,7 @@ fn bound(after: Option<Number>) -> u32
 
 // The least number of a book above one.
 fn next_number(books: &[Kept], after: u32) -> Option<Number>
-    ensures { IsLeastAbove (map entry_of books.now) after result }
+    ensures least { IsLeastAbove (map entry_of books.now) after result }
 {
     let mut next: Option<Number> = None;
     for kept in books {
@@ -427,7 +427,7 @@ fn next_number(books: &[Kept], after: u32) -> Option<Number>
 
 // A number in place of another, if it is less and above a third.
 fn nearer(number: Number, after: u32, next: Option<Number>) -> Option<Number>
-    ensures { result ≡ (if nat_lt after number && nat_lt number (unwrap_or next (number + 1)) then Some number else next) }
+    ensures value { result ≡ (if nat_lt after number && nat_lt number (unwrap_or next (number + 1)) then Some number else next) }
 {
     let is_less = match next {
         None => true,
@@ -441,7 +441,7 @@ fn nearer(number: Number, after: u32, next: Option<Number>) -> Option<Number>
 
 // The entries of a pledge in a book.
 fn entries_in(books: &[Kept], book: Number, number: Number) -> &[Entry]
-    ensures { result.now ≡ entries_of (pledge_in (book_at (map entry_of books.now) book) number) }
+    ensures value { result.now ≡ entries_of (pledge_in (book_at (map entry_of books.now) book) number) }
 {
     match standing_pledge(books, book, number) {
         None => &[],
@@ -451,7 +451,7 @@ fn entries_in(books: &[Kept], book: Number, number: Number) -> &[Entry]
 
 // The extensions of a pledge in a book.
 fn extensions_in(books: &[Kept], book: Number, number: Number) -> &[Extension]
-    ensures { result.now ≡ extensions_of (pledge_in (book_at (map entry_of books.now) book) number) }
+    ensures value { result.now ≡ extensions_of (pledge_in (book_at (map entry_of books.now) book) number) }
 {
     match standing_pledge(books, book, number) {
         None => &[],
@@ -461,7 +461,7 @@ fn extensions_in(books: &[Kept], book: Number, number: Number) -> &[Extension]
 
 // Hands the entries to the visitor until it wants no more.
 fn hand_entries<V: EntryVisitor>(entries: &[Entry], visitor: &mut V)
-    ensures { Visits V.step visitor.old visitor.new (λ given flow. IsShare given flow true entries.now) }
+    ensures visits { Visits V.step visitor.old visitor.new (λ given flow. IsShare given flow true entries.now) }
 {
     for entry in entries {
         match visitor.visit(entry) {
@@ -473,7 +473,7 @@ fn hand_entries<V: EntryVisitor>(entries: &[Entry], visitor: &mut V)
 
 // Hands the pledges to the visitor until it wants no more.
 fn hand_pledges<V: PledgeVisitor>(pledges: &[Pledge], visitor: &mut V)
-    ensures { Visits V.step visitor.old visitor.new (λ given flow. IsShare given flow true pledges.now) }
+    ensures visits { Visits V.step visitor.old visitor.new (λ given flow. IsShare given flow true pledges.now) }
 {
     for pledge in pledges {
         match visitor.visit(pledge) {
@@ -485,7 +485,7 @@ fn hand_pledges<V: PledgeVisitor>(pledges: &[Pledge], visitor: &mut V)
 
 // Hands the extensions to the visitor until it wants no more.
 fn hand_extensions<V: ExtensionVisitor>(extensions: &[Extension], visitor: &mut V)
-    ensures { Visits V.step visitor.old visitor.new (λ given flow. IsShare given flow true extensions.now) }
+    ensures visits { Visits V.step visitor.old visitor.new (λ given flow. IsShare given flow true extensions.now) }
 {
     for extension in extensions {
         match visitor.visit(extension) {
@@ -497,7 +497,7 @@ fn hand_extensions<V: ExtensionVisitor>(extensions: &[Extension], visitor: &mut 
 
 // The rows of a pledge.
 fn rows_of(pledge: &Pledge) -> u64
-    ensures { result ≡ pledge_rows pledge.now }
+    ensures value { result ≡ pledge_rows pledge.now }
 {
     let booking = match pledge.booking() {
         None => 0,
@@ -508,7 +508,7 @@ fn rows_of(pledge: &Pledge) -> u64
 
 // The rows of the pledge that stands at a number.
 fn rows_at(pledges: &[Pledge], number: Number) -> u64
-    ensures { result ≡ standing_rows (pledge_from 1 pledges.now number) }
+    ensures value { result ≡ standing_rows (pledge_from 1 pledges.now number) }
 {
     match pledge_at(pledges, number) {
         None => 0,
@@ -518,7 +518,7 @@ fn rows_at(pledges: &[Pledge], number: Number) -> u64
 
 // Puts a pledge at its number, the next or one that stands.
 fn put(pledges: &mut Vec<Pledge>, number: Number, pledge: Pledge) -> Result<(), AllocError>
-    requires { number ≤ 1 + length pledges.old.items }
+    requires within { number ≤ 1 + length pledges.old.items }
     ensures ok { OnOk result (pledges.new.items ≡ put_from 1 pledges.old.items number pledge) }
     ensures err { OnErr result (pledges.new.items ≡ pledges.old.items) }
 {

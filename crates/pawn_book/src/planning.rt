@@ -3,7 +3,8 @@ ghost use Rattle.std.specs.FinMap.{get};
 ghost use Rattle.pawn_terms.specs.Terms.{IsChecked};
 ghost use Rattle.pawn_pledge.specs.Replayable.{IsStanding};
 ghost use Rattle.pawn_book.specs.BookStep.{BookValue, are_terms, book_step, created, first_receipt, head_of, is_book, is_opening, live_at, newest, next_terms, pledge_in, put_terms, take_pledge, taken_under, terms_at, with_reference};
-ghost use Rattle.pawn_book.specs.Sound.{IsSound};
+ghost use Rattle.std.specs.Str.{IsUtf8};
+ghost use Rattle.pawn_book.specs.Sound.{IsSound, IsWord};
 ghost use Rattle.pawn_book.specs.Keeping.{Gates, IsQuiet, IsSteady, IsTaken, IsUnwell, IsWritten, Plans, Reads, pledges_of};
 
 use crate::change::{Change, Head, Planned};
@@ -127,6 +128,8 @@ fn plan_book<K: Keep>(keep: &mut K, book: Number, new_book: &NewBook) -> Result<
     ensures reads { Reads K.stands K.honest K.serves keep.old keep.new (λ h. IsSound h → Plans h book (created (get h.books book) book new_book.now) result) }
     ensures steady { IsQuiet K.steady keep.old keep.new result }
 {
+    // Whoever reads the number knows that it is one that a book may have.
+    let _ = book.get();
     let reply = Reply::BookMade(book);
     match keep.head(book) {
         Err(error) => Err(unwell(error)),
@@ -202,6 +205,7 @@ fn plan_pledge<K: Keep>(
         Plans h book (take_pledge at book opening.now stamp.now (with_reference at.pledges opening.now.reference)) result) }
     ensures steady { IsQuiet K.steady keep.old keep.new result }
 {
+    know_given(opening, stamp);
     match find_reference(keep, book, &opening.reference) {
         Err(error) => Err(unwell(error)),
         Ok(Some(pledge)) => {
@@ -229,6 +233,25 @@ fn plan_pledge<K: Keep>(
             }
         },
     }
+}
+
+// What a request gives for a new pledge: texts that are UTF-8, and a word of 128 bits.
+fn know_given(opening: &Opening, stamp: &Stamp)
+    ensures reference { IsUtf8 opening.now.reference }
+    ensures article { IsUtf8 opening.now.article }
+    ensures word { IsWord stamp.now.word }
+{
+    // Whoever reads these knows what they are.
+    let _ = opening.reference.as_str();
+    let _ = opening.article.as_str();
+    know_word(stamp);
+}
+
+// The word of a stamp is one of 128 bits.
+pub(crate) fn know_word(stamp: &Stamp)
+    ensures word { IsWord stamp.now.word }
+{
+    let _word = stamp.word;
 }
 
 // The pledge with a reference.
@@ -318,7 +341,7 @@ fn next_terms(standing: u64, new_terms: &NewTerms) -> Result<Terms, Refusal>
 
 // Whether a book has this key, name and capacity.
 fn is_book(head: &Head, new_book: &NewBook) -> bool
-    ensures { result ≡ is_book head.now new_book.now }
+    ensures value { result ≡ is_book head.now new_book.now }
 {
     head.key == new_book.key
         && head.name.as_str() == new_book.name.as_str()
@@ -327,7 +350,7 @@ fn is_book(head: &Head, new_book: &NewBook) -> bool
 
 // Whether terms are these three numbers.
 fn are_terms(terms: &Terms, new_terms: &NewTerms) -> bool
-    ensures { result ≡ are_terms terms.now new_terms.now }
+    ensures value { result ≡ are_terms terms.now new_terms.now }
 {
     terms.rate() == new_terms.rate
         && terms.keep_before() == new_terms.keep_before
@@ -336,7 +359,7 @@ fn are_terms(terms: &Terms, new_terms: &NewTerms) -> bool
 
 // Whether a pledge was opened so, its reference aside.
 fn is_opening(pledge: &Pledge, opening: &Opening) -> bool
-    ensures { result ≡ is_opening pledge.now opening.now }
+    ensures value { result ≡ is_opening pledge.now opening.now }
 {
     pledge.article().as_str() == opening.article.as_str()
         && pledge.kind() == opening.kind
@@ -346,7 +369,7 @@ fn is_opening(pledge: &Pledge, opening: &Opening) -> bool
 
 // The receipt that came with the opening.
 fn first_receipt(pledge: &Pledge) -> Receipt
-    ensures { result ≡ first_receipt pledge.now }
+    ensures value { result ≡ first_receipt pledge.now }
 {
     let secret = match pledge.secrets() {
         [first, ..] => first.secret,

@@ -1,7 +1,9 @@
 ghost use Rattle.std.specs.Prelude.{◌≡◌, ◌↔◌, IfOk, IsTrue};
 ghost use Rattle.pawn_pledge.specs.Replayable.{IsCommand};
 ghost use Rattle.pawn_pledge.specs.Text.{IsText};
+ghost use Rattle.std.specs.Str.{IsUtf8};
 ghost use Rattle.pawn_book.specs.Limits.{IsCapacity};
+ghost use Rattle.pawn_book.specs.Sound.{IsWord};
 ghost use Rattle.pawn_book.specs.Commands.{broker_command, bearer_command};
 ghost use Rattle.pawn_book.specs.Keeping.{IsBearerWrite, IsBrokerWrite, IsWritten};
 
@@ -59,10 +61,13 @@ impl NewBook {
         ensures same { IfOk result (λ new_book. new_book ≡ self.now) }
         ensures name { IsText 60 self.now.name }
         ensures capacity { IsCapacity self.now.capacity }
+        ensures utf8 { IsUtf8 self.now.name }
+        ensures key { IsWord self.now.key }
     {
         // Whoever reads these knows that they are within their limits.
         let _ = self.name.as_str();
         let _ = self.capacity.get();
+        let _ = self.key.word();
         let name = self.name.copy()?;
         Ok(NewBook {
             key: self.key,

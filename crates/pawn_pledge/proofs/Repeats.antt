@@ -129,7 +129,7 @@ standing_end_is_answered p stamp h =
     ∙ unless-past ((nat_lt (end_of p) x, Refusal.PeriodOver) ∷ []) _ (inside, tt)
     ∙ rw here refl
 
-extended-made : (p q : PledgeValue) (stamp : Stamp) (until : ℕ) (d : Done) → pledge_step p stamp (Command.Extend until) ≡ Changed q d → d ≡ Done.Extended until
+pub extended-made : (p q : PledgeValue) (stamp : Stamp) (until : ℕ) (d : Done) → pledge_step p stamp (Command.Extend until) ≡ Changed q d → d ≡ Done.Extended until
 extended-made p q stamp until d h =
     let x = stamp.day in
     let next : PledgeValue = with_extension p (record { day = x; until = until }) in

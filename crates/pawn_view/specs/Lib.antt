@@ -2,3 +2,4 @@ pub mod Ends
 pub mod Fault
 pub mod Text
 pub mod Shown
+pub mod Worked

@@ -6,11 +6,13 @@ mod lines;
 mod money;
 mod receipts;
 mod statements;
+mod worked;
 mod writing;
 
 pub use fault::ViewFault;
 pub use receipts::held;
 pub use statements::statement;
+pub use worked::{worked_lines, worked_statements, worked_words};
 pub use writing::{Writing, put, put_all, send};
 
 #[cfg(test)]

@@ -19,6 +19,8 @@ use std::io::{ErrorKind, Write};
 use std::process::Abort;
 use std::test::Fail;
 
+mod failing_writers;
+
 const OPERATOR: u128 = 1;
 
 const BROKER: u128 = 2;

@@ -8,7 +8,7 @@ ghost use Rattle.pawn_view.specs.Ends.{writing_inner, write_failed, written_of, 
 use std::io;
 use std::io::Write;
 
-/// A writer that remembers that it failed. No failed write is tried again.
+/// A writer that remembers that it failed.
 #[derive(Drop)]
 pub struct Writing<W> {
     inner: W,
@@ -43,7 +43,11 @@ impl<W> Writing<W> {
 }
 
 impl<W: Write> Writing<W> {
-    /// Hands on the answer of one write, and remembers a failure.
+    /// One write: it hands on the inner writer's answer, and remembers a failure.
+    ///
+    /// By contract what was written is as many bytes as the answer says, and nothing where it is an
+    /// error [`bytes`], and a failure stays [`failed`]. That it calls the inner writer once, and
+    /// once alone after a failure too, no contract of a writer can say: so much is tested.
     pub fn write(&mut self, bytes: &[u8]) -> io::Result<usize>
         ensures bound { WritesAtMost result bytes.now }
         ensures bytes { WriteAppends (written_of W.contents self.old) (written_of W.contents self.new) result bytes.now }
@@ -63,7 +67,8 @@ impl<W: Write> Writing<W> {
 }
 
 /// Writes these bytes, as many as the writer takes in each write, until all are written or the writer fails.
-/// The answer is how many were written.
+/// The answer is how many were written. After a failed write no other is made: so much is tested, and no contract of a
+/// writer can say it.
 ///
 /// The caller's condition: the writer has not failed.
 pub fn send<W: Write>(writer: &mut Writing<W>, bytes: &[u8]) -> usize

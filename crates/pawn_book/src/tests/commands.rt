@@ -1,10 +1,11 @@
 //! Commands on pledges of a book.
-use super::{KEY, OPERATOR, Step, ample, number, plays, receipt, take};
+use super::{KEY, OPERATOR, Step, ample, number, plays, receipt, rows_of_first, take};
 use crate::tests::{make, put};
 use crate::{
     BearerCommand, BearerRequest, Booking, BookingState, BrokerCommand, BrokerRequest, Caller, Day,
-    Decision, Done, Flow, Keep, ListKeep, Number, Paper, Pledge, PledgeRefusal, PledgeVisitor,
-    Receipt, Refusal, Reply, Request, RequestDay, Secret, Stamp, act, commit, plan,
+    Decision, Done, Entry, Flow, Keep, ListKeep, Number, Paper, Pledge, PledgeRefusal,
+    PledgeVisitor, Receipt, Refusal, Reply, Request, RequestDay, Secret, Sort, Stamp, act, commit,
+    plan,
 };
 use pawn_debt::DebtFault;
 use std::alloc::Global;
@@ -221,6 +222,97 @@ fn receipts_pass_on(alloc: Global, mut keep: ListKeep) -> Result<bool, Fail> {
 #[test]
 fn a_replaced_receipt_is_known_no_more(rt: HostRuntime) -> Result<(), Fail> {
     assert!(rt; receipts_pass_on(rt.alloc(), ample(rt.alloc()))?);
+    Ok(())
+}
+
+// What was repaid by an entry of pledge 1.
+fn repaid(seq: u64, pence: u64, on: &str) -> Result<Result<Done, Refusal>, Fail> {
+    Ok(Ok(Done::Entered(Entry {
+        seq,
+        day: day(on)?.day(),
+        sort: Sort::Repay,
+        pence,
+    })))
+}
+
+fn repeats_pass_on(alloc: Global, mut keep: ListKeep) -> Result<bool, Fail> {
+    let one = number(1)?;
+    let unknown = Err(Refusal::NoSuchReceipt);
+    let taken = Err(Refusal::Pledge(PledgeRefusal::SeqTaken));
+    let first = repaid(1, 1000, "2024-02-01")?;
+    let second = repaid(2, 500, "2024-02-03")?;
+    let declare = BrokerCommand::Declare(Paper::Sworn);
+    let declared = Ok(Done::Declared(Secret::of_word(900)));
+    let by_bearer = |seq: u64, pence: u64| BearerCommand::Repay { seq, pence };
+    let by_broker = |seq: u64, pence: u64| BrokerCommand::Repay { seq, pence };
+    let orders = [
+        bearer("2024-02-01", one, 33, by_bearer(1, 1000), first),
+        broker("2024-01-31", one, by_broker(1, 1000), first),
+        broker("2024-02-01", one, by_broker(1, 1001), taken),
+        broker("2024-02-02", one, declare, declared),
+        bearer("2024-02-03", one, 33, by_bearer(1, 1000), unknown),
+        bearer("2024-02-03", one, 900, by_bearer(1, 1000), first),
+        broker("2024-02-03", one, by_broker(2, 500), second),
+        bearer("2024-02-04", one, 900, by_bearer(2, 500), second),
+    ];
+    Ok(
+        opens_two(alloc, &mut keep)?
+            && obeys_all(alloc, &mut keep, &orders)?
+            && rows_of_first(&mut keep)? == 2,
+    )
+}
+
+#[test]
+fn a_repeat_is_told_to_whoever_passes(rt: HostRuntime) -> Result<(), Fail> {
+    assert!(rt; repeats_pass_on(rt.alloc(), ample(rt.alloc()))?);
+    Ok(())
+}
+
+fn ends_stand(alloc: Global, mut keep: ListKeep) -> Result<bool, Fail> {
+    let one = number(1)?;
+    let until = day("2024-08-31")?;
+    let extend = BrokerCommand::Extend { until };
+    let extended = Ok(Done::Extended { until: until.day() });
+    let late = Err(Refusal::Pledge(PledgeRefusal::Debt(DebtFault::EarlierDay)));
+    let orders = [
+        broker("2024-02-01", one, extend, extended),
+        broker("2024-03-01", one, extend, extended),
+        broker("2024-02-01", one, extend, extended),
+        broker("2024-01-31", one, extend, late),
+    ];
+    Ok(
+        opens_two(alloc, &mut keep)?
+            && obeys_all(alloc, &mut keep, &orders)?
+            && rows_of_first(&mut keep)? == 1,
+    )
+}
+
+#[test]
+fn an_extension_is_made_once(rt: HostRuntime) -> Result<(), Fail> {
+    assert!(rt; ends_stand(rt.alloc(), ample(rt.alloc()))?);
+    Ok(())
+}
+
+fn numbers_reach_far(alloc: Global, mut keep: ListKeep) -> Result<bool, Fail> {
+    let greatest = number(999_999_999)?;
+    let unknown = Err(Refusal::NoSuchReceipt);
+    let none = Err(Refusal::NoSuchPledge);
+    let orders = [
+        broker("2024-02-01", greatest, BrokerCommand::Hold, none),
+        bearer(
+            "2024-02-01",
+            greatest,
+            33,
+            BearerCommand::CancelBooking,
+            unknown,
+        ),
+    ];
+    Ok(opens_two(alloc, &mut keep)? && obeys_all(alloc, &mut keep, &orders)?)
+}
+
+#[test]
+fn the_greatest_number_is_no_pledges(rt: HostRuntime) -> Result<(), Fail> {
+    assert!(rt; numbers_reach_far(rt.alloc(), ample(rt.alloc()))?);
     Ok(())
 }
 

@@ -9,6 +9,6 @@ use Rattle.pawn_book.proofs.commands.plan_number.Goals as goal
 pub returns-clause-reads : goal.returns-clause-reads
 returns-clause-reads g c = reads_then c.pledge.ensures.reads c.roomed.ensures.reads (λ h told roomed sound at is heads.
     number_plans h c.args.book c.args.number at c.in-Ok-Some.pledge c.args.stamp.now c.args.command.now c.in-Ok.planned c.roomed.result sound is
-    (ok_is (c.in-Ok-Some.is ∙ ap Ok c.in-Ok-Some.field-0-is) told) c.commanded.ensures.day c.requires.within
+    (ok_is (c.in-Ok-Some.is ∙ ap Ok c.in-Ok-Some.field-0-is) told) c.commanded.ensures.day c.commanded.ensures.word c.requires.within
     (subst (IsOutcome (judged_outcome c.args.book c.args.number (pledge_step c.in-Ok-Some.pledge c.args.stamp.now c.args.command.now))) c.in-Ok.is c.commanded.ensures.judged)
     (roomed at is heads) c.roomed.ensures.same)

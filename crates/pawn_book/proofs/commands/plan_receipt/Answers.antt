@@ -6,4 +6,4 @@ use Rattle.pawn_book.proofs.commands.plan_receipt.Goals as goal
 pub returns-in-Ok-Some-clause-reads : goal.returns-in-Ok-Some-clause-reads
 returns-in-Ok-Some-clause-reads g c = reads_as c.find_live.ensures.reads (λ h told sound.
     receipt_plans h c.args.book c.args.receipt.now c.in-Ok-Some.pledge c.args.stamp.now c.args.command.now c.commanded.result sound
-    (ok_is (c.in-Ok-Some.is ∙ ap Ok c.in-Ok-Some.field-0-is) told) c.commanded.ensures.day c.requires.within c.commanded.ensures.judged)
+    (ok_is (c.in-Ok-Some.is ∙ ap Ok c.in-Ok-Some.field-0-is) told) c.commanded.ensures.day c.commanded.ensures.word c.requires.within c.commanded.ensures.judged)

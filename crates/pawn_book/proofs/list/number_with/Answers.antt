@@ -6,14 +6,16 @@ use Rattle.pawn_book.proofs.Places.{reference_here, reference_next, reference_pa
 use Rattle.pawn_book.proofs.list.number_with.Goals as goal
 
 pub returns-then-eq : goal.returns-then-eq
-returns-then-eq c =
-    let test : c.eq.result ≡ is_text c.pledge-item.result.reference c.args.reference.now =
-    c.eq.ensures ∙ ap (λ t. is_text t c.as_str-in-loop-pledge.result.now) (c.as_str.ensures.value ∙ c.reference.ensures)
-    ∙ ap (λ t. is_text c.pledge-item.result.reference t) c.as_str-in-loop-pledge.ensures.value in
-    ap Some c.number.ensures
-    ∙ ap (option_map (λ (p : PledgeValue). p.number))
-    (sym (reference_here c.args.pledges.now c.args.reference.now c.loop-pledge.pledge-index c.pledge-item.result c.loop-pledge-test.true c.pledge-item.is (sym test ∙ c.if-eq.true))
-    ∙ c.loop-pledge.invariant)
+returns-then-eq c = record {
+  value = (
+      let test : c.eq.result ≡ is_text c.pledge-item.result.reference c.args.reference.now =
+      c.eq.ensures ∙ ap (λ t. is_text t c.as_str-in-loop-pledge.result.now) (c.as_str.ensures.value ∙ c.reference.ensures)
+      ∙ ap (λ t. is_text c.pledge-item.result.reference t) c.as_str-in-loop-pledge.ensures.value in
+      ap Some c.number.ensures
+      ∙ ap (option_map (λ (p : PledgeValue). p.number))
+      (sym (reference_here c.args.pledges.now c.args.reference.now c.loop-pledge.pledge-index c.pledge-item.result c.loop-pledge-test.true c.pledge-item.is (sym test ∙ c.if-eq.true))
+      ∙ c.loop-pledge.invariant));
+}
 
 pub loop-pledge-preserved : goal.loop-pledge-preserved
 loop-pledge-preserved c =
@@ -24,6 +26,8 @@ loop-pledge-preserved c =
     ∙ c.loop-pledge.invariant
 
 pub returns : goal.returns
-returns c =
-    ap (option_map (λ (p : PledgeValue). p.number))
-    (sym (reference_past c.args.pledges.now c.args.reference.now c.loop-pledge.pledge-index c.loop-pledge-test.false) ∙ c.loop-pledge.invariant)
+returns c = record {
+  value = (
+      ap (option_map (λ (p : PledgeValue). p.number))
+      (sym (reference_past c.args.pledges.now c.args.reference.now c.loop-pledge.pledge-index c.loop-pledge-test.false) ∙ c.loop-pledge.invariant));
+}

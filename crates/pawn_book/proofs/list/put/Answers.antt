@@ -14,6 +14,6 @@ pub returns-clause-ok : goal.returns-clause-ok
 returns-clause-ok c =
     let len : c.len.result ≡ length c.args.pledges.now.items = c.len.ensures ∙ c.args.pledges.now.ok.0 in
     let next : c.args.number ≡ 1 + length c.args.pledges.now.items =
-    let value = c.get.ensures.value in let low = c.get.ensures.in_range.0 in let past = c.if-place-len.false in let most = c.requires in
+    let value = c.get.ensures.value in let low = c.get.ensures.in_range.0 in let past = c.if-place-len.false in let most = c.requires.within in
     omega (arith, value, low, past, most, len) in
     c.in_ok-push.ensures.items ∙ sym (put_next 1 c.args.pledges.now.items c.args.number c.args.pledge next)

@@ -15,6 +15,6 @@ returns-in-Ok-clause-reads g c = reads_then c.find_reference.ensures.reads c.tak
     (sym c.number-number.ensures)
     (subst (λ r. Plans h c.args.book (take_pledge at c.args.book c.args.opening.now c.args.stamp.now (with_reference at.pledges c.args.opening.now.reference))
     (Ok (record { change = Some (PutPledge c.args.book c.in-Ok.pledge.number c.in-Ok.pledge); reply = Opened r })))
-    (sym c.first_receipt-in-Ok.ensures)
+    (sym c.first_receipt-in-Ok.ensures.value)
     (taken_plans h c.args.book at c.args.head.now c.args.opening.now c.args.stamp.now c.in-Ok.pledge sound is heads
-    (ok_is (c.in-Ok-None.is ∙ ap Ok c.in-Ok-None.field-0-is) (found sound)) answer c.in-Ok.ensures.standing)))
+    (ok_is (c.in-Ok-None.is ∙ ap Ok c.in-Ok-None.field-0-is) (found sound)) answer c.in-Ok.ensures.standing c.know_given.ensures.reference c.know_given.ensures.article c.know_given.ensures.word)))

@@ -7,4 +7,4 @@ use Rattle.pawn_book.proofs.ListKeeping.{book_read, list_reads}
 use Rattle.pawn_book.proofs.list.ListKeepKeep.brief.Goals as goal
 
 pub returns-clause-reads : goal.returns-clause-reads
-returns-clause-reads c = list_reads c.args.self.now _ (c.in-Ok.ensures ∙ ap (λ o. option_map brief_of (pledge_in o c.args.number)) (ap (λ ks. book_at (map entry_of ks) c.args.book) c.deref.ensures.value ∙ book_read _ c.args.self.now c.args.book c.self.view_is))
+returns-clause-reads c = list_reads c.args.self.now _ (c.in-Ok.ensures.value ∙ ap (λ o. option_map brief_of (pledge_in o c.args.number)) (ap (λ ks. book_at (map entry_of ks) c.args.book) c.deref.ensures.value ∙ book_read _ c.args.self.now c.args.book c.self.view_is))

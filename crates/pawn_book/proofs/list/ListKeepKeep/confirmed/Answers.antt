@@ -6,5 +6,5 @@ use Rattle.pawn_book.proofs.ListKeeping.{book_read, list_reads}
 use Rattle.pawn_book.proofs.list.ListKeepKeep.confirmed.Goals as goal
 
 pub returns-clause-reads : goal.returns-clause-reads
-returns-clause-reads c = list_reads c.args.self.now _ (c.confirmed_in-count.ensures ∙ ap (λ ps. confirmed_for ps c.args.day c.args.window)
-    (c.pledges_in.ensures ∙ ap pledges_of (ap (λ ks. book_at (map entry_of ks) c.args.book) c.deref.ensures.value ∙ book_read _ c.args.self.now c.args.book c.self.view_is)))
+returns-clause-reads c = list_reads c.args.self.now _ (c.confirmed_in-count.ensures.value ∙ ap (λ ps. confirmed_for ps c.args.day c.args.window)
+    (c.pledges_in.ensures.value ∙ ap pledges_of (ap (λ ks. book_at (map entry_of ks) c.args.book) c.deref.ensures.value ∙ book_read _ c.args.self.now c.args.book c.self.view_is)))

@@ -6,5 +6,5 @@ use Rattle.pawn_book.proofs.list.ListKeepKeep.next_book.Goals as goal
 pub returns-clause-reads : goal.returns-clause-reads
 returns-clause-reads c = list_reads c.args.self.now _ (
     next_read _ c.args.self.now _ c.next_number-next.result c.self.view_is
-    (subst (λ n. IsLeastAbove (map entry_of c.self.inside.books.items) n c.next_number-next.result) c.bound.ensures
-    (subst (λ ks. IsLeastAbove (map entry_of ks) c.bound.result c.next_number-next.result) c.deref.ensures.value c.next_number-next.ensures)))
+    (subst (λ n. IsLeastAbove (map entry_of c.self.inside.books.items) n c.next_number-next.result) c.bound.ensures.value
+    (subst (λ ks. IsLeastAbove (map entry_of ks) c.bound.result c.next_number-next.result) c.deref.ensures.value c.next_number-next.ensures.least)))

@@ -5,16 +5,22 @@ use Rattle.pawn_book.specs.Listed.{host_of}
 use Rattle.pawn_book.proofs.list.ListKeepKeep.save.Goals as goal
 
 pub make_book-requires : goal.make_book-requires
-make_book-requires c =
-    subst (CanSave (host_of c.args.self.now)) c.in-MakeBook.is
-    (c.requires.can_save tt tt (host_of c.args.self.now) (subst (λ k. IsSound (host_of k)) c.self.view_is c.self.invariant.sound) refl)
+make_book-requires c = record {
+  can_save = (
+      subst (CanSave (host_of c.args.self.now)) c.in-MakeBook.is
+      (c.requires.can_save tt tt (host_of c.args.self.now) (subst (λ k. IsSound (host_of k)) c.self.view_is c.self.invariant.sound) refl));
+}
 
 pub add_terms-requires : goal.add_terms-requires
-add_terms-requires c =
-    subst (CanSave (host_of c.args.self.now)) c.in-AddTerms.is
-    (c.requires.can_save tt tt (host_of c.args.self.now) (subst (λ k. IsSound (host_of k)) c.self.view_is c.self.invariant.sound) refl)
+add_terms-requires c = record {
+  can_save = (
+      subst (CanSave (host_of c.args.self.now)) c.in-AddTerms.is
+      (c.requires.can_save tt tt (host_of c.args.self.now) (subst (λ k. IsSound (host_of k)) c.self.view_is c.self.invariant.sound) refl));
+}
 
 pub put_pledge-requires : goal.put_pledge-requires
-put_pledge-requires c =
-    subst (CanSave (host_of c.args.self.now)) c.in-PutPledge.is
-    (c.requires.can_save tt tt (host_of c.args.self.now) (subst (λ k. IsSound (host_of k)) c.self.view_is c.self.invariant.sound) refl)
+put_pledge-requires c = record {
+  can_save = (
+      subst (CanSave (host_of c.args.self.now)) c.in-PutPledge.is
+      (c.requires.can_save tt tt (host_of c.args.self.now) (subst (λ k. IsSound (host_of k)) c.self.view_is c.self.invariant.sound) refl));
+}

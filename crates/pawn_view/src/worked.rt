@@ -1,0 +1,22 @@
+ghost use Rattle.pawn_view.specs.Worked.{WorkedAmounts, WorkedDays, WorkedLines, WorkedBookings, WorkedClosings, WorkedStatements, WorkedCharges, WorkedEndings, WorkedReceipts};
+
+/// Amounts and days as they are written.
+pub fn worked_words()
+    ensures amounts { WorkedAmounts }
+    ensures days { WorkedDays }
+{}
+
+/// Lines of statements.
+pub fn worked_lines()
+    ensures lines { WorkedLines }
+    ensures bookings { WorkedBookings }
+    ensures closings { WorkedClosings }
+{}
+
+/// Statements of pledges, and what is shown for receipts.
+pub fn worked_statements()
+    ensures statements { WorkedStatements }
+    ensures charges { WorkedCharges }
+    ensures endings { WorkedEndings }
+    ensures receipts { WorkedReceipts }
+{}
