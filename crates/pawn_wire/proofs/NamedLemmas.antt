@@ -1,14 +1,23 @@
 -- Numbers by their texts.
-use Rattle.std.proofs.Common.{◌≡◌, ℕ, zero, suc, ◌+◌, ◌-◌, ◌<◌, ◌≤◌, List, ◌∷◌, get_or, Bool, true, false, Option, Some, None, IfSome, IfNone, refl, sym, ap, ◌∙◌, arith, inl, inr}
-use Rattle.std.specs.Prelude.{bytes_eq, if◌then◌else◌, decimal}
+use Rattle.std.proofs.Common.{◌≡◌, ℕ, zero, suc, ◌+◌, ◌-◌, ◌^◌, ◌<◌, ◌≤◌, List, [], ◌∷◌, length, get_or, lit<, subst, Bool, true, false, Option, Some, None, IfSome, IfNone, refl, sym, ap, ◌∙◌, arith, inl, inr}
+use Rattle.std.specs.Prelude.{IsTrue, ◌==◌, nat_lt, nat_le, not, ◌&&◌, slice_index, bytes_eq, if◌then◌else◌, decimal}
+use Rattle.std.specs.Char.{is_ascii_digit}
+use Rattle.std.specs.List.{list_all}
+use Rattle.std.specs.Str.Parse.{AllDigits, digits_value}
+use Rattle.std.proofs.Math.Nat.{pow-le-pow_right}
+use Rattle.std.proofs.lemmas.Bool.Decides.{nat_tests}
+use Rattle.std.proofs.lemmas.Grind.{common_steps}
+use Rattle.std.proofs.lemmas.Int.Digits.{digits_value-lt}
+use Rattle.std.proofs.lemmas.Str.Parse.{IsNumeralModel, digit_from_value}
 use Rattle.std.proofs.lemmas.Bool.{cases_lt, false≢true}
 use Rattle.std.proofs.lemmas.Slice.Eq.{bytes_eq-Decides}
-use Rattle.std.proofs.lemmas.Fmt.{decimal_injective, first_decimal}
+use Rattle.std.proofs.lemmas.Fmt.{decimal_digit, decimal_is_IsNumeral, decimal-digits_value, length-decimal-le, first_decimal}
 use Rattle.pawn_terms.specs.Calendar.{first_day, last_stamp_day, IsStampDay, civil_of, day_text}
 use Rattle.pawn_terms.proofs.CalendarLemmas.{civil_after_is, count_of}
 use Rattle.pawn_terms.proofs.TextLemmas.{civil_text-injective, civil_of-stamp}
 use Rattle.pawn_pledge.specs.Number.{IsNumber}
-use Rattle.pawn_wire.specs.Named.{named_from, number_said, day_said}
+use Rattle.pawn_wire.specs.Named.{named_from, is_numeral, number_said, day_said}
+use Rattle.pawn_wire.proofs.DigitLemmas.{both_true, all_digits}
 
 some_by_test : (b : Bool) (from n : ℕ) (rest : Option ℕ) → (b ≡ true → from ≡ n) → (b ≡ false → rest ≡ Some n) → (if b then Some from else rest) ≡ Some n
 some_by_test true from n rest hit miss = ap Some (hit refl)
@@ -74,19 +83,97 @@ named_from-none text_of from (suc more) text none =
 
 -- ---- numbers of books and pledges
 
+-- digits with no zero in front write the value that they have
+digits_model : IsNumeralModel (AllDigits 10) (digits_value 10)
+digits_model = record { to = λ ds h. h; from = λ ds h. h; same = λ ds h. refl }
+
+no_zero : (n : ℕ) → IsTrue (not (n == 48)) → n ≡ 48 → ⊥
+no_zero n h e = grind (arith, nat_tests)
+
+-- what the test of a numeral says
+record IsNumeral (text : List ℕ) : Type 0 where
+  digits : AllDigits 10 text
+  some : 0 < length text
+  few : length text ≤ 9
+  no_leading_zero : get_or text 0 0 ≡ 48 → ⊥
+
+numeral : (text : List ℕ) → IsTrue (is_numeral text) → IsNumeral text
+numeral text h =
+    let first = both_true (nat_lt 0 (length text) && nat_le (length text) 9 && list_all is_ascii_digit text) (not (slice_index text 0 == 48)) h in
+    let inner = both_true (nat_lt 0 (length text) && nat_le (length text) 9) (list_all is_ascii_digit text) first.0 in
+    let sizes = both_true (nat_lt 0 (length text)) (nat_le (length text) 9) inner.0 in
+    record {
+      digits = all_digits text inner.1;
+      some = grind (arith, nat_tests);
+      few = grind (arith, nat_tests);
+      no_leading_zero = no_zero (slice_index text 0) first.1;
+    }
+
+ascii_digits : (text : List ℕ) → AllDigits 10 text → list_all is_ascii_digit text ≡ true
+ascii_digits [] h = refl
+ascii_digits (c ∷ cs) h =
+    let range = digit_from_value c h.0 in
+    let here : is_ascii_digit c ≡ true = grind (arith, common_steps, nat_tests, range) in
+    rw here (ascii_digits cs h.1)
+
+is_numeral-of : (text : List ℕ) → AllDigits 10 text → 0 < length text → length text ≤ 9 → (get_or text 0 0 ≡ 48 → ⊥) → is_numeral text ≡ true
+is_numeral-of text digits some few no_leading_zero =
+    let a : nat_lt 0 (length text) ≡ true = grind (arith, nat_tests) in
+    let b : nat_le (length text) 9 ≡ true = grind (arith, nat_tests) in
+    let c : (slice_index text 0 == 48) ≡ false = grind (arith, nat_tests, no_leading_zero) in
+    rw (a, b, ascii_digits text digits, c) refl
+
+value_of_numeral : (text : List ℕ) → IsNumeral text → (decimal (digits_value 10 text) ≡ text) × (digits_value 10 text < 10 ^ 9)
+value_of_numeral text is =
+    let by_length : digits_value 10 text < 10 ^ length text = digits_value-lt 10 text is.digits in
+    let within : 10 ^ length text ≤ 10 ^ 9 = pow-le-pow_right (lit< tt) is.few in
+    (
+      decimal-digits_value digits_model text is.digits is.some (λ e. absurd (is.no_leading_zero e)) (omega arith),
+      omega arith,
+    )
+
 pub number_said-is : (n : ℕ) (text : List ℕ) → number_said text ≡ Some n → IsNumber n × (text ≡ decimal n)
-number_said-is n text e =
-    let is = named_from-is decimal 1 999999999 n text e in
-    ((is.low, omega (arith, is.high)), is.text_is)
+unfolding number_said
+number_said-is n text e = by_test (is_numeral text) refl e
+  where
+    by_test : (b : Bool) → is_numeral text ≡ b → (if b then Some (digits_value 10 text) else None) ≡ Some n → IsNumber n × (text ≡ decimal n)
+    by_test false test same = absurd cc
+    by_test true test same =
+        let is = numeral text test in
+        let value : digits_value 10 text ≡ n = cc in
+        let written = value_of_numeral text is in
+        let text_is : text ≡ decimal n = sym written.0 ∙ ap decimal value in
+        ((not_zero is n text_is, omega (arith, written.1, value)), text_is)
+      where
+        zero_first : (n : ℕ) → text ≡ decimal n → n ≡ 0 → get_or text 0 0 ≡ 48
+        zero_first n text_is zero_is = ap (λ (l : List ℕ). get_or l 0 0) (text_is ∙ ap decimal zero_is ∙ decimal_digit 0 (lit< tt))
+
+        not_zero : IsNumeral text → (n : ℕ) → text ≡ decimal n → 1 ≤ n
+        not_zero is zero text_is = absurd (is.no_leading_zero (zero_first 0 text_is refl))
+        not_zero is (suc n) text_is = omega arith
 
 pub number_said-some : (n : ℕ) (text : List ℕ) → IsNumber n → text ≡ decimal n → number_said text ≡ Some n
-number_said-some n text range e =
-    named_from-some decimal 1 999999999 n text
-    (λ m h. decimal_injective m n (omega (arith, h.high)) (omega (arith, range.1)) (sym h.text_is ∙ e))
-    (record { low = range.0; high = omega (arith, range.1); text_is = e })
+unfolding number_said
+number_said-some n text range e = subst (λ (t : List ℕ). (if is_numeral t then Some (digits_value 10 t) else None) ≡ Some n) (sym e) of_decimal
+  where
+    small : n < 2 ^ 64
+    small = omega (arith, range.1)
+
+    is : is_numeral (decimal n) ≡ true
+    is =
+        let numeral_of = decimal_is_IsNumeral n small in
+        is_numeral-of (decimal n) numeral_of.0.1 numeral_of.0.0 (length-decimal-le 9 n (lit< tt) (omega (arith, range.1)) small)
+        (λ first. omega (arith, first, first_decimal n range.0 small))
+
+    of_decimal : (if is_numeral (decimal n) then Some (digits_value 10 (decimal n)) else None) ≡ Some n
+    of_decimal = rw is (ap Some (decimal_is_IsNumeral n small).1)
 
 pub number_said-none : (text : List ℕ) → ((n : ℕ) → IsNumber n → text ≡ decimal n → ⊥) → number_said text ≡ None
-number_said-none text none = named_from-none decimal 1 999999999 text (λ n h. none n (h.low, omega (arith, h.high)) h.text_is)
+number_said-none text none = by_said (number_said text) refl
+  where
+    by_said : (o : Option ℕ) → number_said text ≡ o → number_said text ≡ None
+    by_said None e = e
+    by_said (Some n) e = (let is = number_said-is n text e in absurd (none n is.0 is.1))
 
 -- no number has a leading zero
 pub number_said-leading_zero : (rest : List ℕ) → number_said (48 ∷ rest) ≡ None

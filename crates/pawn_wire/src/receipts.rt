@@ -23,7 +23,7 @@ fn receipt_of(text: &[u8]) -> Option<Receipt>
 
 // The receipts that fields name, if each is one.
 fn collect(alloc: Global, bytes: &[u8], fields: &[HeaderSpan]) -> Result<Vec<Receipt>, WireFault>
-    requires { All (IsHeaderWithin (length bytes.now)) fields.now }
+    requires within { All (IsHeaderWithin (length bytes.now)) fields.now }
     ensures all { MatchResult result
         (λ v. all_said (presented (map (header_bytes bytes.now) fields.now)) ≡ Some v.items)
         (λ e. (e ≡ Memory) ⊎ ((e ≡ BadReceipt) × (all_said (presented (map (header_bytes bytes.now) fields.now)) ≡ None))) }
@@ -46,7 +46,7 @@ pub(crate) fn receipts(
     bytes: &[u8],
     fields: &[HeaderSpan],
 ) -> Result<Receipts, WireFault>
-    requires { All (IsHeaderWithin (length bytes.now)) fields.now }
+    requires within { All (IsHeaderWithin (length bytes.now)) fields.now }
     ensures value { Says result (receipts_said (presented (map (header_bytes bytes.now) fields.now))) }
 {
     let count = fields::count(bytes, fields, b"pledge-receipt");
@@ -62,7 +62,7 @@ pub(crate) fn receipts(
 
 // The one receipt that fields name.
 pub(crate) fn one(bytes: &[u8], fields: &[HeaderSpan]) -> Result<Receipt, WireFault>
-    requires { All (IsHeaderWithin (length bytes.now)) fields.now }
+    requires within { All (IsHeaderWithin (length bytes.now)) fields.now }
     ensures value { result ≡ one_said (presented (map (header_bytes bytes.now) fields.now)) }
 {
     match fields::find(bytes, fields, b"pledge-receipt") {
