@@ -126,8 +126,7 @@ is_numeral-of text digits some few no_leading_zero =
 value_of_numeral : (text : List ℕ) → IsNumeral text → (decimal (digits_value 10 text) ≡ text) × (digits_value 10 text < 10 ^ 9)
 value_of_numeral text is =
     let by_length : digits_value 10 text < 10 ^ length text = digits_value-lt 10 text is.digits in
-    let within : 10 ^ length text ≤ 10 ^ 9 = pow-le-pow_right (lit< tt) is.few in
-    (
+    let within : 10 ^ length text ≤ 10 ^ 9 = pow-le-pow_right (lit< tt) is.few in (
       decimal-digits_value digits_model text is.digits is.some (λ e. absurd (is.no_leading_zero e)) (omega arith),
       omega arith,
     )

@@ -1,0 +1,13 @@
+use Rattle.std.proofs.Common.{refl}
+use Rattle.std.specs.Str.{is_utf8, chars}
+use Rattle.serde_json.proofs.OnLiterals.{serde_json_on_literals}
+use Rattle.uuid.proofs.OnLiterals.{uuid_on_literals}
+use Rattle.pawn_wire.proofs.worked.worked_bodies.Goals as goal
+
+pub returns-clause-bodies : goal.returns-clause-bodies
+unfolding uuid_on_literals is_utf8 chars serde_json_on_literals
+returns-clause-bodies c = (refl, refl, refl, refl, refl, refl, refl)
+
+pub returns-clause-commands : goal.returns-clause-commands
+unfolding is_utf8 chars serde_json_on_literals
+returns-clause-commands c = (refl, refl, refl, refl, refl, refl, refl)
