@@ -1,6 +1,6 @@
 -- Requests, worked out.
-use Rattle.std.specs.Prelude.{◌≡◌, ℕ, List, [], ◌∷◌, codes, replicate, false, Option, Some, None, Ok, Err}
-use Rattle.pawn_debt.specs.declared.entry.Kind.TheVariants.{Fixed}
+use Rattle.std.specs.Prelude.{◌≡◌, ℕ, List, [], ◌∷◌, codes, replicate, false, true, Option, Some, None, Ok, Err}
+use Rattle.pawn_debt.specs.declared.entry.Kind.TheVariants.{Fixed, Running}
 use Rattle.pawn_pledge.specs.declared.command.Decision.TheVariants.{Confirm}
 use Rattle.pawn_pledge.specs.declared.command.Paper.TheVariants.{Sworn}
 use Rattle.pawn_pledge.specs.declared.receipt.Receipt.{Receipt}
@@ -13,7 +13,7 @@ use Rattle.pawn_wire.specs.Body.{new_book_of, new_terms_of, opening_of}
 use Rattle.pawn_wire.specs.Commands.{broker_said, bearer_said}
 use Rattle.pawn_wire.specs.Fields.{Pair}
 use Rattle.pawn_wire.specs.Member.{body_said}
-use Rattle.pawn_wire.specs.Named.{number_said}
+use Rattle.pawn_wire.specs.Named.{number_said, day_said}
 use Rattle.pawn_wire.specs.Receipts.{presented, receipt_said, receipts_said, one_said}
 use Rattle.pawn_wire.specs.Request.{place_of, keyed, request_by}
 use Rattle.pawn_wire.specs.WorkedHeads.{chunked, tells_length}
@@ -67,6 +67,21 @@ WorkedNumbers =
     × (number_said (codes "+7") ≡ None)
     × (number_said (codes "7a") ≡ None)
     × (number_said [] ≡ None)
+
+-- a day from 2000-01-01 to 2199-12-31, in its one spelling
+abbrev pub WorkedDays : Type 0
+WorkedDays =
+    (day_said (codes "2000-01-01") ≡ Some 10957)
+    × (day_said (codes "2000-02-29") ≡ Some 11016)
+    × (day_said (codes "2024-01-31") ≡ Some 19753)
+    × (day_said (codes "1999-12-31") ≡ None)
+    × (day_said (codes "2200-01-01") ≡ None)
+    × (day_said (codes "2001-02-29") ≡ None)
+    × (day_said (codes "2001-02-00") ≡ None)
+    × (day_said (codes "2001-13-01") ≡ None)
+    × (day_said (codes "2001-2-3") ≡ None)
+    × (day_said (codes "2001-02-03 ") ≡ None)
+    × (day_said [] ≡ None)
 
 -- a field that gives a key
 abbrev pub gives_key : List ℕ → Pair
@@ -125,6 +140,10 @@ WorkedBodies =
     × (body_said new_terms_of (codes "[]") ≡ Err BadBody)
     × (body_said opening_of (codes "{\"agreed\":null,\"article\":\"Gold ring\",\"five_days\":false,\"kind\":\"fixed\",\"pence\":10000,\"ref\":\"A1\"}")
     ≡ Ok (record { reference = codes "A1"; article = codes "Gold ring"; kind = Fixed 10000; agreed = None; five_days = false }))
+    × (body_said opening_of (codes "{\"agreed\":\"2001-02-28\",\"article\":\"Gold ring\",\"five_days\":true,\"kind\":\"running\",\"pence\":10000,\"ref\":\"A1\"}")
+    ≡ Ok (record { reference = codes "A1"; article = codes "Gold ring"; kind = Running 10000; agreed = Some 11381; five_days = true }))
+    × (body_said opening_of (codes "{\"agreed\":\"2001-02-29\",\"article\":\"Gold ring\",\"five_days\":true,\"kind\":\"running\",\"pence\":10000,\"ref\":\"A1\"}")
+    ≡ Err BadBody)
 
 -- bodies of commands
 abbrev pub WorkedCommands : Type 0
@@ -134,6 +153,10 @@ WorkedCommands =
     × (broker_said pledge.Declare (codes "{\"paper\":\"torn\"}") ≡ Err BadBody)
     × (broker_said pledge.Decide (codes "{\"yes\":true}") ≡ Ok (command.DecideBooking Confirm))
     × (broker_said pledge.Hold (codes "not read") ≡ Ok command.Hold)
+    × (broker_said pledge.Extend (codes "{\"until\":\"2001-02-28\"}") ≡ Ok (command.Extend 11381))
+    × (broker_said pledge.Extend (codes "{\"until\":\"2001-02-29\"}") ≡ Err BadBody)
+    × (broker_said pledge.Extend (codes "{\"until\":null}") ≡ Err BadBody)
+    × (bearer_said receipt.Ask (codes "{\"day\":\"2001-02-28\",\"window\":3}") ≡ Ok (asked.AskBooking 11381 3))
     × (bearer_said receipt.Redeem (codes "{\"paid\":10000}") ≡ Ok (asked.Redeem 10000))
     × (bearer_said receipt.Redeem (codes "{\"paid\":\"10000\"}") ≡ Err BadBody)
 

@@ -32,6 +32,7 @@ pub use request::read_request;
 pub use router::Router;
 pub use worked::{
     worked_bodies, worked_fields, worked_heads, worked_replies, worked_requests, worked_targets,
+    worked_texts,
 };
 
 #[cfg(test)]

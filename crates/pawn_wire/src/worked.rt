@@ -1,6 +1,6 @@
 ghost use Rattle.pawn_wire.specs.WorkedHeads.{WorkedHeads, WorkedLengths, WorkedConnections};
 ghost use Rattle.pawn_wire.specs.WorkedReplies.{WorkedStatuses, WorkedRefusals, WorkedFaults, WorkedAnswers};
-ghost use Rattle.pawn_wire.specs.WorkedRequests.{WorkedTargets, WorkedNoTargets, WorkedNumbers, WorkedKeys, WorkedReceipts, WorkedBodies, WorkedCommands, WorkedOrder, WorkedRequests};
+ghost use Rattle.pawn_wire.specs.WorkedRequests.{WorkedTargets, WorkedNoTargets, WorkedNumbers, WorkedDays, WorkedKeys, WorkedReceipts, WorkedBodies, WorkedCommands, WorkedOrder, WorkedRequests};
 
 /// Heads, their bodies' lengths, and the connections that they close.
 pub fn worked_heads()
@@ -9,11 +9,16 @@ pub fn worked_heads()
     ensures connections { WorkedConnections }
 {}
 
-/// Targets and the numbers in them.
+/// What targets ask for.
 pub fn worked_targets()
     ensures targets { WorkedTargets }
     ensures none { WorkedNoTargets }
+{}
+
+/// Numbers and days by their texts.
+pub fn worked_texts()
     ensures numbers { WorkedNumbers }
+    ensures days { WorkedDays }
 {}
 
 /// Keys and receipts in fields.

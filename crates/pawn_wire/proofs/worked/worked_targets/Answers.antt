@@ -11,7 +11,3 @@ returns-clause-targets c = (refl, refl, refl, refl, refl, refl, refl, refl)
 pub returns-clause-none : goal.returns-clause-none
 unfolding table_rows matchit_on_literals number_said
 returns-clause-none c = (refl, refl, refl, refl, refl, refl, refl)
-
-pub returns-clause-numbers : goal.returns-clause-numbers
-unfolding number_said
-returns-clause-numbers c = (refl, refl, refl, refl, refl, refl, refl, refl, refl)
