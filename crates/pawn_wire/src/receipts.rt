@@ -11,6 +11,8 @@ use httparse::spans::HeaderSpan;
 use pawn_book::{Receipt, Receipts};
 use std::alloc::Global;
 
+const MOST_RECEIPTS: usize = 32;
+
 // The receipt of a text.
 fn receipt_of(text: &[u8]) -> Option<Receipt>
     ensures value { result ≡ receipt_said text.now }
@@ -53,7 +55,7 @@ pub(crate) fn receipts(
     if count == 0 {
         return Err(WireFault::NoReceipt);
     }
-    if count > 32 {
+    if count > MOST_RECEIPTS {
         return Err(WireFault::TooManyReceipts);
     }
     let receipts = collect(alloc, bytes, fields)?;
