@@ -5,7 +5,7 @@ use Rattle.std.proofs.lemmas.Bool.Decides.{nat_tests}
 use Rattle.serde_json.specs.Data.{Data}
 use Rattle.std.specs.List.{before_first, after_first}
 use Rattle.serde_json.specs.Find.{get, as_number, as_u64, as_str, as_null}
-use Rattle.pawn_terms.specs.Calendar.{first_day, day_text, IsStampDay}
+use Rattle.pawn_terms.specs.Calendar.{IsStampDay}
 use Rattle.pawn_pledge.specs.Number.{IsNumber}
 use Rattle.pawn_pledge.specs.Secret.{secret_of_text}
 use Rattle.pawn_pledge.specs.Text.{is_text, IsText}
@@ -43,7 +43,7 @@ use Rattle.pawn_wire.specs.declared.route.PledgeAction.{PledgeAction}
 use Rattle.pawn_wire.specs.declared.route.PledgeAction.TheVariants.{Draw, Repay, Hold, Release, Declare, Decide, Sell, Extend}
 use Rattle.pawn_wire.specs.declared.route.ReceiptAction.{ReceiptAction}
 use Rattle.pawn_wire.specs.declared.route.ReceiptAction.TheVariants as q
-use Rattle.pawn_wire.proofs.NamedLemmas.{named_from-is, number_said-is}
+use Rattle.pawn_wire.proofs.NamedLemmas.{number_said-is, day_said-is}
 use Rattle.pawn_wire.proofs.ReceiptLemmas.{all_said-length}
 
 -- ---- chains
@@ -90,9 +90,7 @@ text_within : (most : ℕ) (name : List ℕ) (d : Data) (t : List ℕ) → text_
 text_within most name d t e = let s = given_some (string_at name d) (if_text most) t e in texted most s.0 t s.2
 
 day_within : (text : List ℕ) (day : ℕ) → day_said text ≡ Some day → IsStampDay day
-day_within text day e =
-    let is = named_from-is day_text first_day 73049 day text e in
-    (is.low, omega (arith, is.high))
+day_within text day e = (day_said-is day text e).0
 
 some_day : (member : Data) (agreed : Option ℕ) → day_or_null member ≡ Some agreed → IfSome agreed IsStampDay
 some_day member agreed e = by_null (is_some (as_null member)) (given (as_str member) day_said) refl e

@@ -15,3 +15,6 @@ pub mod Reply
 pub mod Request
 pub mod Route
 pub mod Status
+pub mod WorkedHeads
+pub mod WorkedReplies
+pub mod WorkedRequests

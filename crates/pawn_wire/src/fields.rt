@@ -19,7 +19,7 @@ pub(crate) enum Found {
 
 // Whether a field has this name, whatever the case of its letters.
 pub(crate) fn is_named(bytes: &[u8], field: &HeaderSpan, name: &[u8]) -> bool
-    requires { IsHeaderWithin (length bytes.now) field.now }
+    requires within { IsHeaderWithin (length bytes.now) field.now }
     ensures value { result ≡ str_eq_ignore_ascii_case (header_bytes bytes.now field.now).0 name.now }
 {
     field.name.of(bytes).eq_ignore_ascii_case(name)
@@ -27,7 +27,7 @@ pub(crate) fn is_named(bytes: &[u8], field: &HeaderSpan, name: &[u8]) -> bool
 
 // The fields with this name, whatever the case of its letters.
 pub(crate) fn find(bytes: &[u8], fields: &[HeaderSpan], name: &[u8]) -> Found
-    requires { All (IsHeaderWithin (length bytes.now)) fields.now }
+    requires within { All (IsHeaderWithin (length bytes.now)) fields.now }
     ensures found { IsFound bytes.now (values_of name.now (map (header_bytes bytes.now) fields.now)) result }
 {
     let mut found = Found::Missing;
@@ -44,7 +44,7 @@ pub(crate) fn find(bytes: &[u8], fields: &[HeaderSpan], name: &[u8]) -> Found
 
 // How many fields have this name.
 pub(crate) fn count(bytes: &[u8], fields: &[HeaderSpan], name: &[u8]) -> usize
-    requires { All (IsHeaderWithin (length bytes.now)) fields.now }
+    requires within { All (IsHeaderWithin (length bytes.now)) fields.now }
     ensures value { result ≡ length (values_of name.now (map (header_bytes bytes.now) fields.now)) }
 {
     let mut count = 0;
@@ -58,7 +58,7 @@ pub(crate) fn count(bytes: &[u8], fields: &[HeaderSpan], name: &[u8]) -> usize
 
 // Whether a field has this name and this value, whatever the case of their letters.
 fn is_pair(bytes: &[u8], field: &HeaderSpan, name: &[u8], value: &[u8]) -> bool
-    requires { IsHeaderWithin (length bytes.now) field.now }
+    requires within { IsHeaderWithin (length bytes.now) field.now }
     ensures value { result ≡ (str_eq_ignore_ascii_case (header_bytes bytes.now field.now).0 name.now
         && str_eq_ignore_ascii_case (header_bytes bytes.now field.now).1 value.now) }
 {
@@ -67,7 +67,7 @@ fn is_pair(bytes: &[u8], field: &HeaderSpan, name: &[u8], value: &[u8]) -> bool
 
 // Whether some field has this name and this value, whatever the case of their letters.
 pub(crate) fn has_value(bytes: &[u8], fields: &[HeaderSpan], name: &[u8], value: &[u8]) -> bool
-    requires { All (IsHeaderWithin (length bytes.now)) fields.now }
+    requires within { All (IsHeaderWithin (length bytes.now)) fields.now }
     ensures value { result ≡ list_any (λ v. str_eq_ignore_ascii_case v value.now)
         (values_of name.now (map (header_bytes bytes.now) fields.now)) }
 {
@@ -93,7 +93,7 @@ fn is_short_numeral(text: &[u8]) -> bool
 
 // The number that these digits write.
 fn number(text: &[u8]) -> u64
-    requires { IsTrue (is_short_numeral text.now) }
+    requires short { IsTrue (is_short_numeral text.now) }
     ensures value { result ≡ digits_value 10 text.now }
 {
     let mut number: u64 = 0;

@@ -61,7 +61,7 @@ pub fn read_head(bytes: &[u8]) -> HeadRead
 
 // The length of the body, by the fields.
 pub(crate) fn body_length(bytes: &[u8], fields: &[HeaderSpan]) -> Result<usize, HeadFault>
-    requires { All (IsHeaderWithin (length bytes.now)) fields.now }
+    requires within { All (IsHeaderWithin (length bytes.now)) fields.now }
     ensures value { result ≡ body_length (map (header_bytes bytes.now) fields.now) }
 {
     let Found::Missing = fields::find(bytes, fields, b"transfer-encoding") else {
@@ -80,7 +80,7 @@ pub(crate) fn body_length(bytes: &[u8], fields: &[HeaderSpan]) -> Result<usize, 
 
 // Whether the connection closes after the reply.
 fn closes(bytes: &[u8], head: &RequestSpans, fields: &[HeaderSpan]) -> bool
-    requires { All (IsHeaderWithin (length bytes.now)) fields.now }
+    requires within { All (IsHeaderWithin (length bytes.now)) fields.now }
     ensures value { result ≡ closes_by head.now.version (map (header_bytes bytes.now) fields.now) }
 {
     head.version == 0 || fields::has_value(bytes, fields, b"connection", b"close")

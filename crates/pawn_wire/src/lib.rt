@@ -16,6 +16,7 @@ mod request;
 mod route;
 mod router;
 mod status;
+mod worked;
 
 pub use fault::{HeadFault, WireFault};
 pub use head::{HeadFacts, HeadRead, MAX_HEAD, read_head};
@@ -29,6 +30,10 @@ pub use pawn_book::{
 pub use reply::{MEMORY_REPLY, Out, fault_reply, memory_reply, write_reply};
 pub use request::read_request;
 pub use router::Router;
+pub use worked::{
+    worked_bodies, worked_fields, worked_heads, worked_replies, worked_requests, worked_targets,
+    worked_texts,
+};
 
 #[cfg(test)]
 mod tests;

@@ -11,6 +11,8 @@ use httparse::spans::HeaderSpan;
 use pawn_book::{Receipt, Receipts};
 use std::alloc::Global;
 
+const MOST_RECEIPTS: usize = 32;
+
 // The receipt of a text.
 fn receipt_of(text: &[u8]) -> Option<Receipt>
     ensures value { result ≡ receipt_said text.now }
@@ -23,7 +25,7 @@ fn receipt_of(text: &[u8]) -> Option<Receipt>
 
 // The receipts that fields name, if each is one.
 fn collect(alloc: Global, bytes: &[u8], fields: &[HeaderSpan]) -> Result<Vec<Receipt>, WireFault>
-    requires { All (IsHeaderWithin (length bytes.now)) fields.now }
+    requires within { All (IsHeaderWithin (length bytes.now)) fields.now }
     ensures all { MatchResult result
         (λ v. all_said (presented (map (header_bytes bytes.now) fields.now)) ≡ Some v.items)
         (λ e. (e ≡ Memory) ⊎ ((e ≡ BadReceipt) × (all_said (presented (map (header_bytes bytes.now) fields.now)) ≡ None))) }
@@ -46,14 +48,14 @@ pub(crate) fn receipts(
     bytes: &[u8],
     fields: &[HeaderSpan],
 ) -> Result<Receipts, WireFault>
-    requires { All (IsHeaderWithin (length bytes.now)) fields.now }
+    requires within { All (IsHeaderWithin (length bytes.now)) fields.now }
     ensures value { Says result (receipts_said (presented (map (header_bytes bytes.now) fields.now))) }
 {
     let count = fields::count(bytes, fields, b"pledge-receipt");
     if count == 0 {
         return Err(WireFault::NoReceipt);
     }
-    if count > 32 {
+    if count > MOST_RECEIPTS {
         return Err(WireFault::TooManyReceipts);
     }
     let receipts = collect(alloc, bytes, fields)?;
@@ -62,7 +64,7 @@ pub(crate) fn receipts(
 
 // The one receipt that fields name.
 pub(crate) fn one(bytes: &[u8], fields: &[HeaderSpan]) -> Result<Receipt, WireFault>
-    requires { All (IsHeaderWithin (length bytes.now)) fields.now }
+    requires within { All (IsHeaderWithin (length bytes.now)) fields.now }
     ensures value { result ≡ one_said (presented (map (header_bytes bytes.now) fields.now)) }
 {
     match fields::find(bytes, fields, b"pledge-receipt") {

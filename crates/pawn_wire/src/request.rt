@@ -74,7 +74,7 @@ fn place_of(router: &Router, target: &[u8]) -> Option<Place>
 
 // The key that fields give.
 fn key(bytes: &[u8], fields: &[HeaderSpan]) -> Result<Secret, WireFault>
-    requires { All (IsHeaderWithin (length bytes.now)) fields.now }
+    requires within { All (IsHeaderWithin (length bytes.now)) fields.now }
     ensures value { result ≡ keyed (map (header_bytes bytes.now) fields.now) }
 {
     match fields::find(bytes, fields, b"pledge-key") {
@@ -92,7 +92,7 @@ fn create(
     fields: &[HeaderSpan],
     body: &[u8],
 ) -> Result<Request, WireFault>
-    requires { All (IsHeaderWithin (length bytes.now)) fields.now }
+    requires within { All (IsHeaderWithin (length bytes.now)) fields.now }
     ensures value { Says result (create_said book (map (header_bytes bytes.now) fields.now) body.now) }
 {
     let key = key(bytes, fields)?;
@@ -112,7 +112,7 @@ fn put_terms(
     fields: &[HeaderSpan],
     body: &[u8],
 ) -> Result<Request, WireFault>
-    requires { All (IsHeaderWithin (length bytes.now)) fields.now }
+    requires within { All (IsHeaderWithin (length bytes.now)) fields.now }
     ensures value { Says result (put_terms_said book (map (header_bytes bytes.now) fields.now) body.now) }
 {
     let key = key(bytes, fields)?;
@@ -135,7 +135,7 @@ fn take_pledge(
     fields: &[HeaderSpan],
     body: &[u8],
 ) -> Result<Request, WireFault>
-    requires { All (IsHeaderWithin (length bytes.now)) fields.now }
+    requires within { All (IsHeaderWithin (length bytes.now)) fields.now }
     ensures value { Says result (take_pledge_said book (map (header_bytes bytes.now) fields.now) body.now) }
 {
     let key = key(bytes, fields)?;
@@ -157,7 +157,7 @@ fn show(
     bytes: &[u8],
     fields: &[HeaderSpan],
 ) -> Result<Request, WireFault>
-    requires { All (IsHeaderWithin (length bytes.now)) fields.now }
+    requires within { All (IsHeaderWithin (length bytes.now)) fields.now }
     ensures value { Says result (show_said book item (map (header_bytes bytes.now) fields.now)) }
 {
     let number = item.ok_or(WireFault::NoRoute)?;
@@ -181,7 +181,7 @@ fn on_pledge(
     fields: &[HeaderSpan],
     body: &[u8],
 ) -> Result<Request, WireFault>
-    requires { All (IsHeaderWithin (length bytes.now)) fields.now }
+    requires within { All (IsHeaderWithin (length bytes.now)) fields.now }
     ensures value { Says result
         (on_pledge_said book item action (map (header_bytes bytes.now) fields.now) body.now) }
 {
@@ -204,7 +204,7 @@ fn held(
     bytes: &[u8],
     fields: &[HeaderSpan],
 ) -> Result<Request, WireFault>
-    requires { All (IsHeaderWithin (length bytes.now)) fields.now }
+    requires within { All (IsHeaderWithin (length bytes.now)) fields.now }
     ensures value { Says result (held_said book (map (header_bytes bytes.now) fields.now)) }
 {
     let receipts = receipts::receipts(alloc, bytes, fields)?;
@@ -223,7 +223,7 @@ fn on_receipt(
     fields: &[HeaderSpan],
     body: &[u8],
 ) -> Result<Request, WireFault>
-    requires { All (IsHeaderWithin (length bytes.now)) fields.now }
+    requires within { All (IsHeaderWithin (length bytes.now)) fields.now }
     ensures value { Says result
         (on_receipt_said book action (map (header_bytes bytes.now) fields.now) body.now) }
 {
@@ -243,7 +243,7 @@ fn asked(
     fields: &[HeaderSpan],
     body: &[u8],
 ) -> Result<Request, WireFault>
-    requires { All (IsHeaderWithin (length bytes.now)) fields.now }
+    requires within { All (IsHeaderWithin (length bytes.now)) fields.now }
     ensures value { Says result (said_at place.endpoint place.book place.item (map (header_bytes bytes.now) fields.now) body.now) }
 {
     match place.endpoint {
@@ -271,7 +271,7 @@ fn request_by(
     fields: &[HeaderSpan],
     body: &[u8],
 ) -> Result<Request, WireFault>
-    requires { All (IsHeaderWithin (length bytes.now)) fields.now }
+    requires within { All (IsHeaderWithin (length bytes.now)) fields.now }
     ensures value { Says result (request_by method.now target.now (map (header_bytes bytes.now) fields.now) body.now) }
 {
     let length = body_length(bytes, fields)?;

@@ -53,7 +53,7 @@ impl Router {
 
     // What a target asks for.
     pub(crate) fn find<'p>(&self, target: &'p str) -> Option<Asked<'p>>
-        requires { IsAscii target.now }
+        requires ascii { IsAscii target.now }
         ensures value { option_map asked result ≡ asked_of target.now }
     {
         match self.routes.at(target) {
@@ -72,7 +72,7 @@ impl Router {
 
 // The first two parts of a target that parameters took.
 fn first_two<'v>(params: &Params<'_, 'v>) -> (Option<&'v str>, Option<&'v str>)
-    requires { IsAscii params.now.path.now }
+    requires ascii { IsAscii params.now.path.now }
     ensures first { option_copied result.0 ≡ slice_get (map (λ p. p.1) (walk params.now.pattern.now params.now.text.now params.now.path.now params.now.names.now 0 0)) 0 }
     ensures second { option_copied result.1 ≡ slice_get (map (λ p. p.1) (walk params.now.pattern.now params.now.text.now params.now.path.now params.now.names.now 0 0)) 1 }
 {

@@ -1,6 +1,5 @@
 //! Requests as they come over the wire, and the replies to them.
 use crate::fault::{HeadFault, WireFault};
-use crate::head::{HeadRead, read_head};
 use crate::reply::{MEMORY_REPLY, Out, fault_reply, memory_reply, write_reply};
 use crate::request::read_request;
 use crate::router::Router;
@@ -12,6 +11,7 @@ use std::process::Abort;
 
 mod commands;
 mod done;
+mod heads;
 
 const KEY: u128 = 0x1111_1111_1111_1111_1111_1111_1111_1111;
 
@@ -371,74 +371,5 @@ fn judges_bodies(rt: HostRuntime) {
             );
         }
         _ => panic!(rt; "no terms"),
-    }
-}
-
-// A head with so many fields.
-fn with_fields(alloc: Global, fields: usize) -> Result<Vec<u8>, AllocError> {
-    let mut bytes = Vec::from_slice(alloc, b"GET / HTTP/1.1\r\n")?;
-    for _ in 0..fields {
-        bytes.extend_from_slice(b"a:b\r\n")?;
-    }
-    bytes.extend_from_slice(b"\r\n")?;
-    Ok(bytes)
-}
-
-// A head of so many bytes, 20 or more.
-fn with_length(alloc: Global, length: usize) -> Result<Vec<u8>, AllocError> {
-    let mut bytes = Vec::from_slice(alloc, b"GET / HTTP/1.1\r\na:")?;
-    for _ in 22..length {
-        bytes.extend_from_slice(b"b")?;
-    }
-    bytes.extend_from_slice(b"\r\n\r\n")?;
-    Ok(bytes)
-}
-
-#[test]
-fn bounds_heads(rt: HostRuntime) {
-    let alloc = rt.alloc();
-    for (fields, whole) in [(64, true), (65, false)] {
-        match with_fields(alloc, fields) {
-            Ok(bytes) => match read_head(bytes.as_slice()) {
-                HeadRead::Whole(facts) => assert!(rt; whole && facts.len == bytes.len()),
-                HeadRead::Fault(fault) => assert!(rt; !whole && fault == HeadFault::BadHead),
-                HeadRead::Partial => panic!(rt; "a partial head"),
-            },
-            Err(_) => panic!(rt; "no memory"),
-        }
-    }
-    for (length, whole) in [(8192, true), (8193, false)] {
-        match with_length(alloc, length) {
-            Ok(bytes) => match read_head(bytes.as_slice()) {
-                HeadRead::Whole(facts) => assert!(rt; whole && facts.len == length),
-                HeadRead::Fault(fault) => assert!(rt; !whole && fault == HeadFault::BadHead),
-                HeadRead::Partial => panic!(rt; "a partial head"),
-            },
-            Err(_) => panic!(rt; "no memory"),
-        }
-    }
-}
-
-#[test]
-fn tells_of_heads(rt: HostRuntime) {
-    assert!(rt; read_head(b"") == HeadRead::Partial);
-    assert!(rt; read_head(b"\r\n") == HeadRead::Partial);
-    assert!(rt; read_head(b"GET /books/7/he") == HeadRead::Partial);
-    assert!(rt; read_head(b"}") == HeadRead::Fault(HeadFault::BadHead));
-    let closing: [(&[u8], bool); 5] = [
-        (b"GET / HTTP/1.1\r\n\r\n", false),
-        (b"GET / HTTP/1.0\r\n\r\n", true),
-        (b"GET / HTTP/1.1\r\nConnection: \tCLOSE \r\n\r\n", true),
-        (b"GET / HTTP/1.1\r\nConnection: close, te\r\n\r\n", false),
-        (
-            b"GET / HTTP/1.1\r\nConnection: te\r\nconnection: close\r\n\r\n",
-            true,
-        ),
-    ];
-    for (bytes, closes) in closing {
-        match read_head(bytes) {
-            HeadRead::Whole(facts) => assert_eq!(rt; facts.closes, closes),
-            _ => panic!(rt; "no head"),
-        }
     }
 }

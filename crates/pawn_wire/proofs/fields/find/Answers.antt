@@ -9,7 +9,7 @@ pub loop-field-preserved : goal.loop-field-preserved
 loop-field-preserved c =
     elim c.if-is_named.branch [
       | then-is_named+in-Missing w ↦ let i : c.loop-field.found ≡ Missing = w.in-Missing.is in
-          rw w.found-is (find_first c.args.name.now c.args.bytes.now c.args.fields.now c.loop-field.field-index no_span c.loop-field-test.true (cc) (rw i at c.loop-field.invariant) (c.requires _ _ c.loop-field-test.true).1)
+          rw w.found-is (find_first c.args.name.now c.args.bytes.now c.args.fields.now c.loop-field.field-index no_span c.loop-field-test.true (cc) (rw i at c.loop-field.invariant) (c.requires.within _ _ c.loop-field-test.true).1)
       | then-is_named+in_default w ↦
           rw w.found-is (find_again c.args.name.now c.args.bytes.now c.args.fields.now c.loop-field.field-index no_span c.loop-field-test.true c.loop-field.found (cc) c.loop-field.invariant w.in_default.not-Missing)
       | else-is_named w ↦

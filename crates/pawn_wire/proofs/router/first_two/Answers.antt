@@ -6,14 +6,14 @@ use Rattle.pawn_wire.proofs.router.first_two.Goals as goal
 pub returns-in_default-next-clause-first : goal.returns-in_default-next-clause-first
 returns-in_default-next-clause-first c =
     let s = c.in-Some.ensures.steps in
-    first_part _ _ s.0 _ (walk_ascii c.args.params.now.pattern.now c.args.params.now.text.now c.args.params.now.path.now c.args.params.now.names.now 0 0 c.requires)
+    first_part _ _ s.0 _ (walk_ascii c.args.params.now.pattern.now c.args.params.now.text.now c.args.params.now.path.now c.args.params.now.names.now 0 0 c.requires.ascii)
     (sym c.iter-parts.ensures.value ∙ s.1) s.3
 
 -- src/route.rt:98:1
 pub returns-clause-first : goal.returns-clause-first
 returns-clause-first c =
     let s = c.in-Some.ensures.steps in
-    first_part _ _ s.0 _ (walk_ascii c.args.params.now.pattern.now c.args.params.now.text.now c.args.params.now.path.now c.args.params.now.names.now 0 0 c.requires)
+    first_part _ _ s.0 _ (walk_ascii c.args.params.now.pattern.now c.args.params.now.text.now c.args.params.now.path.now c.args.params.now.names.now 0 0 c.requires.ascii)
     (sym c.iter-parts.ensures.value ∙ s.1) s.3
 
 -- src/route.rt:98:1
@@ -21,5 +21,5 @@ pub returns-clause-second : goal.returns-clause-second
 returns-clause-second c =
     let s = c.in-Some.ensures.steps in
     let t = c.in-Some-next.ensures.steps in
-    second_part _ _ _ s.0 t.0 _ (walk_ascii c.args.params.now.pattern.now c.args.params.now.text.now c.args.params.now.path.now c.args.params.now.names.now 0 0 c.requires)
+    second_part _ _ _ s.0 t.0 _ (walk_ascii c.args.params.now.pattern.now c.args.params.now.text.now c.args.params.now.path.now c.args.params.now.names.now 0 0 c.requires.ascii)
     (sym c.iter-parts.ensures.value ∙ s.1) t.1 t.3

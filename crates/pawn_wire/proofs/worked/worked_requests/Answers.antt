@@ -1,0 +1,16 @@
+use Rattle.std.proofs.Common.{refl}
+use Rattle.std.specs.Str.{is_utf8, chars}
+use Rattle.matchit.proofs.OnLiterals.{matchit_on_literals}
+use Rattle.pawn_wire.specs.Route.{table_rows}
+use Rattle.serde_json.proofs.OnLiterals.{serde_json_on_literals}
+use Rattle.uuid.proofs.OnLiterals.{uuid_on_literals}
+use Rattle.pawn_wire.specs.Named.{number_said}
+use Rattle.pawn_wire.proofs.worked.worked_requests.Goals as goal
+
+pub returns-clause-requests : goal.returns-clause-requests
+unfolding table_rows matchit_on_literals number_said uuid_on_literals
+returns-clause-requests c = (refl, refl, refl, refl)
+
+pub returns-clause-order : goal.returns-clause-order
+unfolding table_rows matchit_on_literals number_said uuid_on_literals is_utf8 chars serde_json_on_literals
+returns-clause-order c = (refl, refl, refl, refl, refl, refl, refl, refl, refl, refl, refl)

@@ -1,0 +1,58 @@
+-- Replies, worked out.
+use Rattle.std.specs.Prelude.{◌≡◌, codes}
+use Rattle.pawn_pledge.specs.declared.receipt.Receipt.{Receipt}
+use Rattle.pawn_book.specs.declared.refusal.Refusal.TheVariants.{NoSuchReceipt, NotOperator, BookTaken, Full}
+use Rattle.pawn_book.specs.declared.reply.Reply.TheVariants.{BookMade, TermsPut, Opened}
+use Rattle.pawn_wire.specs.Reply.{memory_text, out_text}
+use Rattle.pawn_wire.specs.Status.{status_of}
+use Rattle.pawn_wire.specs.declared.fault.WireFault.TheVariants.{BadHead, NoRoute, BadBody}
+use Rattle.pawn_wire.specs.declared.reply.Out.TheVariants.{Done, Refused, Fault}
+
+-- the first number and the last of each kind: bad requests, forbidden, not found, unavailable, and conflicts between them
+abbrev pub WorkedStatuses : Type 0
+WorkedStatuses =
+    (status_of 101 ≡ 400) × (status_of 104 ≡ 400) × (status_of 201 ≡ 400) × (status_of 202 ≡ 409)
+    × (status_of 301 ≡ 409) × (status_of 312 ≡ 409) × (status_of 313 ≡ 400) × (status_of 314 ≡ 409)
+    × (status_of 401 ≡ 404) × (status_of 403 ≡ 404) × (status_of 404 ≡ 409) × (status_of 409 ≡ 409)
+    × (status_of 410 ≡ 403) × (status_of 411 ≡ 409) × (status_of 412 ≡ 409)
+    × (status_of 490 ≡ 503) × (status_of 492 ≡ 503)
+    × (status_of 601 ≡ 400) × (status_of 607 ≡ 400)
+    × (status_of 701 ≡ 400) × (status_of 705 ≡ 400) × (status_of 706 ≡ 404) × (status_of 707 ≡ 400) × (status_of 712 ≡ 400)
+
+-- the whole replies to refusals, one of each status
+abbrev pub WorkedRefusals : Type 0
+WorkedRefusals =
+    (out_text (Refused NoSuchReceipt)
+    ≡ codes "HTTP/1.1 404 Not Found\r\nContent-Length: 35\r\nContent-Type: application/json\r\n\r\n{\"code\":402,\"name\":\"NoSuchReceipt\"}")
+    × (out_text (Refused NotOperator)
+    ≡ codes "HTTP/1.1 403 Forbidden\r\nContent-Length: 33\r\nContent-Type: application/json\r\n\r\n{\"code\":410,\"name\":\"NotOperator\"}")
+    × (out_text (Refused BookTaken)
+    ≡ codes "HTTP/1.1 409 Conflict\r\nContent-Length: 31\r\nContent-Type: application/json\r\n\r\n{\"code\":404,\"name\":\"BookTaken\"}")
+    × (out_text (Refused Full)
+    ≡ codes "HTTP/1.1 503 Service Unavailable\r\nContent-Length: 26\r\nContent-Type: application/json\r\n\r\n{\"code\":490,\"name\":\"Full\"}")
+
+-- the whole replies to bytes that are no request, and the one where memory is wanting
+abbrev pub WorkedFaults : Type 0
+WorkedFaults =
+    (out_text (Fault BadHead)
+    ≡ codes "HTTP/1.1 400 Bad Request\r\nContent-Length: 29\r\nContent-Type: application/json\r\n\r\n{\"code\":701,\"name\":\"BadHead\"}")
+    × (out_text (Fault NoRoute)
+    ≡ codes "HTTP/1.1 404 Not Found\r\nContent-Length: 29\r\nContent-Type: application/json\r\n\r\n{\"code\":706,\"name\":\"NoRoute\"}")
+    × (out_text (Fault BadBody)
+    ≡ codes "HTTP/1.1 400 Bad Request\r\nContent-Length: 29\r\nContent-Type: application/json\r\n\r\n{\"code\":708,\"name\":\"BadBody\"}")
+    × (memory_text
+    ≡ codes "HTTP/1.1 503 Service Unavailable\r\nContent-Length: 28\r\nContent-Type: application/json\r\n\r\n{\"code\":491,\"name\":\"Memory\"}")
+
+-- the first receipt of pledge 1
+abbrev pub first_receipt : Receipt
+first_receipt = record { number = 1; secret = 0xda41597c_5157_488d_7724_e03fb8d84a37 }
+
+-- the whole replies to what was done
+abbrev pub WorkedAnswers : Type 0
+WorkedAnswers =
+    (out_text (Done (BookMade 7))
+    ≡ codes "HTTP/1.1 200 OK\r\nContent-Length: 10\r\nContent-Type: application/json\r\n\r\n{\"book\":7}")
+    × (out_text (Done (TermsPut 1))
+    ≡ codes "HTTP/1.1 200 OK\r\nContent-Length: 13\r\nContent-Type: application/json\r\n\r\n{\"version\":1}")
+    × (out_text (Done (Opened first_receipt))
+    ≡ codes "HTTP/1.1 200 OK\r\nContent-Length: 63\r\nContent-Type: application/json\r\n\r\n{\"number\":1,\"receipt\":\"1-da41597c-5157-488d-7724-e03fb8d84a37\"}")

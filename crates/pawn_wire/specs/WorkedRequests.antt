@@ -1,0 +1,188 @@
+-- Requests, worked out.
+use Rattle.std.specs.Prelude.{◌≡◌, ℕ, List, [], ◌∷◌, codes, replicate, false, true, Option, Some, None, Ok, Err}
+use Rattle.pawn_debt.specs.declared.entry.Kind.TheVariants.{Fixed, Running}
+use Rattle.pawn_pledge.specs.declared.command.Decision.TheVariants.{Confirm}
+use Rattle.pawn_pledge.specs.declared.command.Paper.TheVariants.{Sworn}
+use Rattle.pawn_pledge.specs.declared.receipt.Receipt.{Receipt}
+use Rattle.pawn_book.specs.declared.request.Caller.TheVariants.{Broker, Bearer}
+use Rattle.pawn_book.specs.declared.request.BrokerRequest.TheVariants as broker
+use Rattle.pawn_book.specs.declared.request.BearerRequest.TheVariants as bearer
+use Rattle.pawn_book.specs.declared.request.BrokerCommand.TheVariants as command
+use Rattle.pawn_book.specs.declared.request.BearerCommand.TheVariants as asked
+use Rattle.pawn_wire.specs.Body.{new_book_of, new_terms_of, opening_of}
+use Rattle.pawn_wire.specs.Commands.{broker_said, bearer_said}
+use Rattle.pawn_wire.specs.Fields.{Pair}
+use Rattle.pawn_wire.specs.Member.{body_said}
+use Rattle.pawn_wire.specs.Named.{number_said, day_said}
+use Rattle.pawn_wire.specs.Receipts.{presented, receipt_said, receipts_said, one_said}
+use Rattle.pawn_wire.specs.Request.{place_of, keyed, request_by}
+use Rattle.pawn_wire.specs.WorkedHeads.{chunked, tells_length}
+use Rattle.pawn_wire.specs.declared.fault.WireFault.TheVariants.{Transfer, BadLength, BodyTooLong, NoRoute, WrongMethod, BadBody, BadKey, BadReceipt, TooManyReceipts, NoReceipt}
+use Rattle.pawn_wire.specs.declared.request.Place.{Place}
+use Rattle.pawn_wire.specs.declared.route.Endpoint.{Endpoint}
+use Rattle.pawn_wire.specs.declared.route.Endpoint.TheVariants.{Create, PutTerms, TakePledge, Show, OnPledge, Held, OnReceipt}
+use Rattle.pawn_wire.specs.declared.route.PledgeAction.TheVariants as pledge
+use Rattle.pawn_wire.specs.declared.route.ReceiptAction.TheVariants as receipt
+
+-- an endpoint of a book
+abbrev pub of_book : ℕ → Endpoint → Option Place
+of_book book endpoint = Some (record { endpoint = endpoint; book = book; item = None })
+
+-- an endpoint of a pledge
+abbrev pub of_pledge : ℕ → ℕ → Endpoint → Option Place
+of_pledge book number endpoint = Some (record { endpoint = endpoint; book = book; item = Some number })
+
+-- what targets ask for
+abbrev pub WorkedTargets : Type 0
+WorkedTargets =
+    (place_of (codes "/books/7") ≡ of_book 7 Create)
+    × (place_of (codes "/books/7/terms") ≡ of_book 7 PutTerms)
+    × (place_of (codes "/books/12/pledges") ≡ of_book 12 TakePledge)
+    × (place_of (codes "/books/12/pledges/3") ≡ of_pledge 12 3 Show)
+    × (place_of (codes "/books/7/pledges/12/draw") ≡ of_pledge 7 12 (OnPledge pledge.Draw))
+    × (place_of (codes "/books/7/pledges/12/extend") ≡ of_pledge 7 12 (OnPledge pledge.Extend))
+    × (place_of (codes "/books/7/held") ≡ of_book 7 Held)
+    × (place_of (codes "/books/7/held/redeem") ≡ of_book 7 (OnReceipt receipt.Redeem))
+
+-- what is no target: another number, one in another spelling, and anything more or less
+abbrev pub WorkedNoTargets : Type 0
+WorkedNoTargets =
+    (place_of (codes "/books/07/held") ≡ None)
+    × (place_of (codes "/books/7/pledges/03") ≡ None)
+    × (place_of (codes "/books/7/pledges/x/draw") ≡ None)
+    × (place_of (codes "/books/7/held/") ≡ None)
+    × (place_of (codes "/books/7/held?x=1") ≡ None)
+    × (place_of (codes "/Books/7") ≡ None)
+    × (place_of (codes "/") ≡ None)
+
+-- a number is from 1 to 999,999,999, in its one spelling
+abbrev pub WorkedNumbers : Type 0
+WorkedNumbers =
+    (number_said (codes "1") ≡ Some 1)
+    × (number_said (codes "120") ≡ Some 120)
+    × (number_said (codes "999999999") ≡ Some 999999999)
+    × (number_said (codes "1000000000") ≡ None)
+    × (number_said (codes "0") ≡ None)
+    × (number_said (codes "07") ≡ None)
+    × (number_said (codes "+7") ≡ None)
+    × (number_said (codes "7a") ≡ None)
+    × (number_said [] ≡ None)
+
+-- a day from 2000-01-01 to 2199-12-31, in its one spelling
+abbrev pub WorkedDays : Type 0
+WorkedDays =
+    (day_said (codes "2000-01-01") ≡ Some 10957)
+    × (day_said (codes "2000-02-29") ≡ Some 11016)
+    × (day_said (codes "2024-01-31") ≡ Some 19753)
+    × (day_said (codes "1999-12-31") ≡ None)
+    × (day_said (codes "2200-01-01") ≡ None)
+    × (day_said (codes "2001-02-29") ≡ None)
+    × (day_said (codes "2001-02-00") ≡ None)
+    × (day_said (codes "2001-13-01") ≡ None)
+    × (day_said (codes "2001-2-3") ≡ None)
+    × (day_said (codes "2001-02-03 ") ≡ None)
+    × (day_said [] ≡ None)
+
+-- a field that gives a key
+abbrev pub gives_key : List ℕ → Pair
+gives_key value = (codes "Pledge-Key", value)
+
+abbrev pub operator_key : List ℕ
+operator_key = codes "11111111-1111-1111-1111-111111111111"
+
+-- exactly one key, in any of its forms
+abbrev pub WorkedKeys : Type 0
+WorkedKeys =
+    (keyed (gives_key operator_key ∷ []) ≡ Ok 0x11111111_1111_1111_1111_111111111111)
+    × (keyed ((codes "pledge-KEY", codes "{11111111-1111-1111-1111-111111111111}") ∷ []) ≡ Ok 0x11111111_1111_1111_1111_111111111111)
+    × (keyed [] ≡ Err BadKey)
+    × (keyed (gives_key (codes "1") ∷ []) ≡ Err BadKey)
+    × (keyed (gives_key operator_key ∷ gives_key operator_key ∷ []) ≡ Err BadKey)
+
+-- a receipt of pledge 1, and its text
+abbrev pub some_receipt : Receipt
+some_receipt = record { number = 1; secret = 0xda41597c_5157_488d_7724_e03fb8d84a37 }
+
+abbrev pub some_receipt_text : List ℕ
+some_receipt_text = codes "1-da41597c-5157-488d-7724-e03fb8d84a37"
+
+-- a field that presents a receipt
+abbrev pub presents : List ℕ → Pair
+presents value = (codes "Pledge-Receipt", value)
+
+-- one receipt, or 1 to 32: too many are told before malformed ones
+abbrev pub WorkedReceipts : Type 0
+WorkedReceipts =
+    (receipt_said some_receipt_text ≡ Some some_receipt)
+    × (receipt_said (codes "1-{da41597c-5157-488d-7724-e03fb8d84a37}") ≡ Some some_receipt)
+    × (receipt_said (codes "01-da41597c-5157-488d-7724-e03fb8d84a37") ≡ None)
+    × (receipt_said (codes "da41597c-5157-488d-7724-e03fb8d84a37") ≡ None)
+    × (receipt_said (codes "1") ≡ None)
+    × (one_said (presented (presents some_receipt_text ∷ [])) ≡ Ok some_receipt)
+    × (one_said (presented []) ≡ Err NoReceipt)
+    × (one_said (presented (presents some_receipt_text ∷ presents some_receipt_text ∷ [])) ≡ Err TooManyReceipts)
+    × (one_said (presented (presents (codes "1") ∷ [])) ≡ Err BadReceipt)
+    × (receipts_said [] ≡ Err NoReceipt)
+    × (receipts_said (some_receipt_text ∷ codes "1" ∷ []) ≡ Err BadReceipt)
+    × (receipts_said (replicate 32 some_receipt_text) ≡ Ok (replicate 32 some_receipt))
+    × (receipts_said (replicate 33 (codes "1")) ≡ Err TooManyReceipts)
+
+-- bodies that make a book, put terms or take a pledge
+abbrev pub WorkedBodies : Type 0
+WorkedBodies =
+    (body_said new_book_of (codes "{\"capacity\":2,\"key\":\"11111111-1111-1111-1111-111111111111\",\"name\":\"High Street\"}")
+    ≡ Ok (record { key = 0x11111111_1111_1111_1111_111111111111; name = codes "High Street"; capacity = 2 }))
+    × (body_said new_terms_of (codes "{\"keep_after\":4,\"keep_before\":3,\"rate\":9,\"rate\":2,\"version\":1}")
+    ≡ Ok (record { version = 1; rate = 2; keep_before = 3; keep_after = 4 }))
+    × (body_said new_terms_of (codes "{\"keep_after\":4,\"keep_before\":3,\"rate\":1.0,\"version\":1}") ≡ Err BadBody)
+    × (body_said new_terms_of (codes "{\"keep_after\":4,\"keep_before\":3,\"rate\":1000000000000,\"version\":1}") ≡ Err BadBody)
+    × (body_said new_terms_of (codes "{\"keep_after\":4,\"keep_before\":3,\"rate\":2}") ≡ Err BadBody)
+    × (body_said new_terms_of (codes "[]") ≡ Err BadBody)
+    × (body_said opening_of (codes "{\"agreed\":null,\"article\":\"Gold ring\",\"five_days\":false,\"kind\":\"fixed\",\"pence\":10000,\"ref\":\"A1\"}")
+    ≡ Ok (record { reference = codes "A1"; article = codes "Gold ring"; kind = Fixed 10000; agreed = None; five_days = false }))
+    × (body_said opening_of (codes "{\"agreed\":\"2001-02-28\",\"article\":\"Gold ring\",\"five_days\":true,\"kind\":\"running\",\"pence\":10000,\"ref\":\"A1\"}")
+    ≡ Ok (record { reference = codes "A1"; article = codes "Gold ring"; kind = Running 10000; agreed = Some 11381; five_days = true }))
+    × (body_said opening_of (codes "{\"agreed\":\"2001-02-29\",\"article\":\"Gold ring\",\"five_days\":true,\"kind\":\"running\",\"pence\":10000,\"ref\":\"A1\"}")
+    ≡ Err BadBody)
+
+-- bodies of commands
+abbrev pub WorkedCommands : Type 0
+WorkedCommands =
+    (broker_said pledge.Draw (codes "{\"pence\":500,\"seq\":1}") ≡ Ok (command.Draw 1 500))
+    × (broker_said pledge.Declare (codes "{\"paper\":\"sworn\"}") ≡ Ok (command.Declare Sworn))
+    × (broker_said pledge.Declare (codes "{\"paper\":\"torn\"}") ≡ Err BadBody)
+    × (broker_said pledge.Decide (codes "{\"yes\":true}") ≡ Ok (command.DecideBooking Confirm))
+    × (broker_said pledge.Hold (codes "not read") ≡ Ok command.Hold)
+    × (broker_said pledge.Extend (codes "{\"until\":\"2001-02-28\"}") ≡ Ok (command.Extend 11381))
+    × (broker_said pledge.Extend (codes "{\"until\":\"2001-02-29\"}") ≡ Err BadBody)
+    × (broker_said pledge.Extend (codes "{\"until\":null}") ≡ Err BadBody)
+    × (bearer_said receipt.Ask (codes "{\"day\":\"2001-02-28\",\"window\":3}") ≡ Ok (asked.AskBooking 11381 3))
+    × (bearer_said receipt.Redeem (codes "{\"paid\":10000}") ≡ Ok (asked.Redeem 10000))
+    × (bearer_said receipt.Redeem (codes "{\"paid\":\"10000\"}") ≡ Err BadBody)
+
+-- each fault is told before those that come after it
+abbrev pub WorkedOrder : Type 0
+WorkedOrder =
+    (request_by (codes "PUT") (codes "/nowhere") (tells_length (codes "x") ∷ chunked ∷ []) (codes "{}") ≡ Err Transfer)
+    × (request_by (codes "PUT") (codes "/nowhere") (tells_length (codes "x") ∷ []) (codes "{}") ≡ Err BadLength)
+    × (request_by (codes "PUT") (codes "/nowhere") (tells_length (codes "1048577") ∷ []) (codes "{}") ≡ Err BodyTooLong)
+    × (request_by (codes "PUT") (codes "/nowhere") (tells_length (codes "3") ∷ []) (codes "{}") ≡ Err BadLength)
+    × (request_by (codes "PUT") (codes "/nowhere") (tells_length (codes "2") ∷ []) (codes "{}") ≡ Err NoRoute)
+    × (request_by (codes "PUT") (codes "/books/7") (tells_length (codes "2") ∷ []) (codes "{}") ≡ Err WrongMethod)
+    × (request_by (codes "POST") (codes "/books/7") (tells_length (codes "2") ∷ []) (codes "{}") ≡ Err BadKey)
+    × (request_by (codes "POST") (codes "/books/7") (tells_length (codes "2") ∷ gives_key operator_key ∷ []) (codes "{}") ≡ Err BadBody)
+    × (request_by (codes "POST") (codes "/books/7/held/redeem") (tells_length (codes "2") ∷ []) (codes "{}") ≡ Err NoReceipt)
+    × (request_by (codes "POST") (codes "/books/7/held/redeem") (tells_length (codes "2") ∷ presents (codes "1") ∷ []) (codes "{}") ≡ Err BadReceipt)
+    × (request_by (codes "POST") (codes "/books/7/held/redeem") (tells_length (codes "2") ∷ presents some_receipt_text ∷ []) (codes "{}") ≡ Err BadBody)
+
+-- requests of the operator, of a broker and of a bearer
+abbrev pub WorkedRequests : Type 0
+WorkedRequests =
+    (request_by (codes "GET") (codes "/books/7/pledges/3") (gives_key operator_key ∷ []) []
+    ≡ Ok (record { book = 7; caller = Broker 0x11111111_1111_1111_1111_111111111111 (broker.Show 3) }))
+    × (request_by (codes "POST") (codes "/books/7/pledges/3/hold") (gives_key operator_key ∷ []) []
+    ≡ Ok (record { book = 7; caller = Broker 0x11111111_1111_1111_1111_111111111111 (broker.OnPledge 3 command.Hold) }))
+    × (request_by (codes "GET") (codes "/books/7/held") (presents some_receipt_text ∷ []) []
+    ≡ Ok (record { book = 7; caller = Bearer (bearer.Held (some_receipt ∷ [])) }))
+    × (request_by (codes "POST") (codes "/books/7/held/cancel") (presents some_receipt_text ∷ []) []
+    ≡ Ok (record { book = 7; caller = Bearer (bearer.OnPledge some_receipt asked.CancelBooking) }))
