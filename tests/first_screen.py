@@ -18,12 +18,15 @@ def steps():
     """The commands of the first screen, each with what it prints."""
     with open(os.path.join(TOP, "README.md")) as it:
         screen = it.read().split("## Run it\n")[1].split("\n## ")[0]
-    found = []
+    found, in_step = [], False
     for line in screen.splitlines():
         if line.startswith("    $ "):
             found.append((line[6:], []))
-        elif line.startswith("    ") and found:
+            in_step = True
+        elif in_step and line.startswith("    "):
             found[-1][1].append(line[4:])
+        else:
+            in_step = False
     return [(command, "\n".join(told)) for command, told in found if command.startswith(("curl ", "RECEIPT="))]
 
 
@@ -37,7 +40,7 @@ def the_first_screen():
             if command.startswith("RECEIPT="):
                 shell = f"RECEIPT={receipt}\n"
                 continue
-            ran = subprocess.run(["bash", "-c", shell + command], stdin=subprocess.DEVNULL, stdout=subprocess.PIPE, timeout=30)
+            ran = subprocess.run(["bash", "-c", shell + command], stdin=subprocess.DEVNULL, stdout=subprocess.PIPE, stderr=subprocess.DEVNULL, timeout=30)
             said = ran.stdout.decode().strip("\n")
             receipt = next(iter(RECEIPT.findall(said)), receipt)
             told = told.replace(days[0], str(today())).replace(days[1], str(six_months_after(today())))
