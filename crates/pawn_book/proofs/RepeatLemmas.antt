@@ -1,14 +1,13 @@
 -- What stands is told again, to whoever passes.
-use Rattle.std.proofs.Common.{◌≡◌, ℕ, List, Some, None, refl, ◌∙◌, ap, sym, subst, arith}
-use Rattle.std.specs.Prelude.{if◌then◌else◌, is_some, Option, ◌==◌, true, false}
+use Rattle.std.proofs.Common.{◌≡◌, ℕ, Some, refl, ◌∙◌, ap, sym, subst, arith}
+use Rattle.std.specs.Prelude.{if◌then◌else◌, is_some, Option, ◌==◌, true}
 use Rattle.std.proofs.lemmas.Bool.Decides.{nat_tests}
-use Rattle.pawn_debt.specs.declared.entry.Sort.{Sort}
 use Rattle.pawn_pledge.specs.declared.command.Command.{Command}
 use Rattle.pawn_pledge.specs.declared.command.Done.{Done}
 use Rattle.pawn_pledge.specs.declared.command.Stamp.{Stamp}
 use Rattle.pawn_pledge.specs.Laws.{entering}
 use Rattle.pawn_pledge.specs.Pledge.{PledgeValue, end_of}
-use Rattle.pawn_pledge.specs.Step.{Answered, Changed, pledge_step}
+use Rattle.pawn_pledge.specs.Step.{Answered, pledge_step}
 use Rattle.pawn_pledge.proofs.Repeats.{entered_again, extended-made, standing_end_is_answered}
 use Rattle.pawn_book.specs.declared.change.Change.{Change}
 use Rattle.pawn_book.specs.declared.refusal.Refusal.TheVariants.{NoSuchBook}
@@ -19,9 +18,9 @@ use Rattle.pawn_book.specs.declared.request.BrokerRequest.TheVariants.{PutTerms,
 use Rattle.pawn_book.specs.declared.request.BearerRequest.TheVariants.{Held, OnPledge as OnReceipt}
 use Rattle.pawn_book.specs.declared.request.Caller.{Caller}
 use Rattle.pawn_book.specs.declared.request.Caller.TheVariants.{Operator, Broker, Bearer}
-use Rattle.pawn_book.specs.BookStep.{BookValue, Makes, Refuses, Says, Told, bearer_commands, book_step, broker_commands, changed_book, judged_outcome, live_at, only_live, pledge_from, pledge_in, windowed}
+use Rattle.pawn_book.specs.BookStep.{BookValue, Makes, Refuses, Says, Told, bearer_commands, book_step, broker_commands, judged_outcome, live_at, only_live, pledge_from, pledge_in, windowed}
 use Rattle.pawn_book.specs.Commands.{bearer_command, broker_command}
-use Rattle.pawn_book.specs.Laws.{Asks, EntriesActOnceForAll, ExtensionsActOnce, Passes, StandingEndIsTold, book_run}
+use Rattle.pawn_book.specs.Laws.{Asks, EntriesActOnceForAll, ExtensionsActOnce, Passes, StandingEndIsTold}
 use Rattle.pawn_book.proofs.LawLemmas.{live_found, numbered_in, stands_after}
 use Rattle.pawn_book.proofs.MadeLemmas.{DidOn, if_makes, number_made, receipt_made}
 use Rattle.pawn_book.proofs.Sounds.{some_is}

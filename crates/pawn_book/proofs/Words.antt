@@ -1,5 +1,5 @@
 -- The secrets of a pledge stay words.
-use Rattle.std.proofs.Common.{◌≡◌, ℕ, ◌-◌, ◌==◌, nat_le, nat_lt, not, length, List, [], ◌∷◌, ◌++◌, Bool, true, false, Some, None, Ok, Err, refl, ap, subst}
+use Rattle.std.proofs.Common.{◌≡◌, ℕ, ◌-◌, ◌==◌, nat_le, nat_lt, not, length, List, [], ◌∷◌, Bool, true, false, Some, None, Ok, Err, subst}
 use Rattle.std.specs.Prelude.{if◌then◌else◌, Option, Result}
 use Rattle.pawn_terms.specs.Refusals.{first_of}
 use Rattle.pawn_debt.specs.declared.entry.Entry.{Entry}
@@ -21,7 +21,7 @@ use Rattle.pawn_pledge.specs.declared.record.Closing.{Closing}
 use Rattle.pawn_pledge.specs.declared.record.Issued.{Issued}
 use Rattle.pawn_pledge.specs.declared.refusal.Refusal.{Refusal}
 use Rattle.pawn_pledge.specs.Pledge.{PledgeValue, debt_of, end_of, is_passed, is_realisable, open_status, total_on}
-use Rattle.pawn_pledge.specs.Step.{Answered, Changed, Judged, Refused, ask_step, asked, bars, books, cancel_step, cancelled, closed, confirmed, decide_step, declare_bars, declare_step, declined, entered, entry_of, entry_step, extend_step, hold_step, in_state, is_ahead, is_repeat, issue_of, last_window, most_extensions, new_end_step, numbered_step, past, pledge_after, pledge_step, redeem_step, same_flag, sell_step, stands_for, unless, with_extension, with_secret}
+use Rattle.pawn_pledge.specs.Step.{Answered, Changed, Judged, ask_step, asked, bars, books, cancel_step, cancelled, closed, confirmed, decide_step, declare_bars, declare_step, declined, entered, entry_of, entry_step, extend_step, hold_step, in_state, is_ahead, is_repeat, issue_of, last_window, most_extensions, new_end_step, numbered_step, past, pledge_after, pledge_step, redeem_step, same_flag, sell_step, stands_for, unless, with_extension, with_secret}
 use Rattle.pawn_book.specs.Sound.{AreWords, IsWord}
 use Rattle.pawn_book.proofs.Sounds.{each_push}
 

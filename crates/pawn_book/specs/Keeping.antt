@@ -1,5 +1,5 @@
 -- What a keeper's calls say of the host that it stands for.
-use Rattle.std.specs.Prelude.{◌≡◌, ◌⊎◌, ℕ, ◌+◌, ◌≤◌, ◌<◌, List, [], ◌++◌, Option, Some, None, Result, Ok, Err, length, option_map, IfSome, IfErr}
+use Rattle.std.specs.Prelude.{◌≡◌, ◌⊎◌, ℕ, ◌+◌, ◌≤◌, ◌<◌, List, [], Option, Some, None, Result, Ok, Err, length, option_map, IfSome, IfErr}
 use Rattle.std.specs.FinMap.{get}
 use Rattle.pawn_terms.specs.Terms.{TermsValue}
 use Rattle.pawn_debt.specs.declared.entry.Entry.{Entry}

@@ -19,8 +19,8 @@ pub trait Keep {
     /// Its store has returned what was written.
     ghost honest: { Self → Type 0 };
 
-    /// Its store still answers: no fault has shut it. What it gave before a fault was so; what
-    /// it tells afterwards is refusals.
+    /// Its store still answers: no fault has shut it. One that serves now served before. Of a shut
+    /// store it is not said that it stands for no further host.
     ghost serves: { Self → Type 0 };
 
     /// Its store never fails.

@@ -97,13 +97,21 @@ fn no_failed_write_is_tried_again(rt: HostRuntime) {
     }
 }
 
+// Whether a write took so many bytes, or gave the inner writer's error.
+fn is_answer(answer: io::Result<usize>, taken: Option<usize>) -> bool {
+    match answer {
+        Ok(n) => taken == Some(n),
+        Err(error) => taken.is_none() && error.kind() == ErrorKind::BrokenPipe,
+    }
+}
+
 #[test]
 fn each_write_is_one_call(rt: HostRuntime) {
     for (failure, second) in [(Failure::Error, None), (Failure::Nothing, Some(0usize))] {
         let mut writer = failing_at(rt.alloc(), 2, failure);
         assert_eq!(rt; writer.write(b"Pledge 12").ok(), Some(7));
         assert!(rt; !writer.failed());
-        assert_eq!(rt; writer.write(b"12").ok(), second);
+        assert!(rt; is_answer(writer.write(b"12"), second));
         assert!(rt; writer.failed());
         put(&mut writer, b"12");
         assert_eq!(rt; writer.write(b"12").ok(), Some(2));
