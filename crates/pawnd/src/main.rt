@@ -113,5 +113,8 @@ fn open(rt: &HostRuntime, database: &str, operator: Secret) -> Result<Service<Li
         return Err(Fault::Store);
     }
     let keep = ListKeep::new(rt.alloc(), ROWS);
-    Service::new(rt.alloc(), keep, operator).map_err(|_| Fault::Memory)
+    match Service::new(rt.alloc(), keep, operator) {
+        Ok(service) => Ok(service),
+        Err(_) => Err(Fault::Memory),
+    }
 }
