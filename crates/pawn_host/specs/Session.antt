@@ -3,7 +3,7 @@ use Rattle.std.specs.Prelude.{◌≡◌, ◌≢◌, ℕ, ◌+◌, ◌<◌, ◌�
 use Rattle.std.specs.List.{concat}
 use Rattle.std.specs.Iterator.{Yields}
 use Rattle.std.specs.Io.KnownBytes.{Appends, Consumes}
-use Rattle.pawn_host.specs.Split.{at_end, cut, closed, faulted, at_limit, Splits, Begins, BeginsAndGoesOn, IsUnderWay, AreWanted}
+use Rattle.pawn_host.specs.Split.{at_end, cut, closed, faulted, at_limit, Splits, Begins, BeginsAndGoesOn, IsUnderWay, AreWanted, most_requests}
 use Rattle.pawn_pledge.specs.declared.command.Stamp.{Stamp}
 use Rattle.pawn_book.specs.HostStep.{Host}
 use Rattle.pawn_book.specs.Sound.{IsSound}
@@ -51,6 +51,26 @@ DueAfter Write left requests tail = ((tail ≡ []) × IfSome left (λ s. Begins 
 abbrev pub acted_of : Result Ended IoFault → ℕ
 acted_of (Ok ended) = ended.acted
 acted_of (Err fault) = fault.acted
+
+-- Fewer requests than the limit were acted on where a further one was looked for; a session ends by its limit with just as
+-- many, and one that was closed, or broke off over a reply, may have acted on the last of them.
+abbrev pub HasRoom : How → ℕ → Type 0
+HasRoom End acted = acted < most_requests
+HasRoom Cut acted = acted < most_requests
+HasRoom Closed acted = acted ≤ most_requests
+HasRoom Faulted acted = acted < most_requests
+HasRoom Limit acted = acted ≡ most_requests
+HasRoom NoStamp acted = acted < most_requests
+HasRoom Memory acted = acted < most_requests
+
+abbrev pub HadRoom : Cause → ℕ → Type 0
+HadRoom Read acted = acted < most_requests
+HadRoom Write acted = acted ≤ most_requests
+HadRoom Reads acted = acted < most_requests
+
+abbrev pub IsWithinMost : Result Ended IoFault → Type 0
+IsWithinMost (Ok ended) = HasRoom ended.how ended.acted
+IsWithinMost (Err fault) = HadRoom fault.cause fault.acted
 
 -- so many reads were made, each while more was wanted, and they took their bytes from the front of what was left
 pub record IsRead (count : ℕ) (before after : Option (List ℕ)) : Type 0 where

@@ -5,7 +5,7 @@ ghost use Rattle.pawn_book.specs.Keeping.{Of};
 ghost use Rattle.pawn_view.specs.Ends.{write_failed, written_of};
 ghost use Rattle.pawn_host.specs.Ends.{reads, read_failed, left_of};
 ghost use Rattle.pawn_host.specs.Finding.{IsFilled, Finds, FindsRest, HasHead, IfRequest, IsCausedBy, StopsBy, FilledBy, IsFetched};
-ghost use Rattle.pawn_host.specs.Session.{IsSession, IsFinished, IsRead, AreTaken, acted_of};
+ghost use Rattle.pawn_host.specs.Session.{IsSession, IsFinished, IsRead, IsWithinMost, AreTaken, acted_of};
 ghost use Rattle.pawn_host.specs.Keeps.{service_keep, service_operator, answer_bytes};
 
 use crate::reading::{MOST_READS, Reading};
@@ -252,6 +252,7 @@ impl<K: Keep> Service<K> {
         ensures stamps { AreTaken I.next_gives stamps.old stamps.new result }
         ensures reads { IsRead (reads reader.new) (left_of R.remaining reader.old) (left_of R.remaining reader.new) }
         ensures most { acted_of result ≤ 1000 }
+        ensures room { IsWithinMost result }
         ensures whole { OnOk result ((read_failed reader.new ≡ false) × (write_failed writer.new ≡ false)) }
         ensures cause { IfErr result (λ fault. IsCausedBy fault.cause (read_failed reader.new) (reads reader.new) (write_failed writer.new)) }
     {
