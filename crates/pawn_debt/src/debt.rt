@@ -49,7 +49,7 @@ impl Debt {
         taken: Day,
         ends: Day,
     ) -> Result<Debt, DebtFault>
-        ensures { result ≡ start_answer kind terms taken ends }
+        ensures value { result ≡ start_answer kind terms taken ends }
     {
         if kind.credit() == 0 || kind.credit() > MOST_PENCE {
             return Err(DebtFault::BadAmount);
@@ -78,8 +78,8 @@ impl Debt {
         entries: Entries,
         totals: Totals,
     ) -> Debt
-        requires { IsKept (record { kind = kind; terms = terms; taken = taken; ends = ends; entries = entries }) totals }
-        ensures { result ≡ record { kind = kind; terms = terms; taken = taken; ends = ends; entries = entries } }
+        requires kept { IsKept (record { kind = kind; terms = terms; taken = taken; ends = ends; entries = entries }) totals }
+        ensures value { result ≡ record { kind = kind; terms = terms; taken = taken; ends = ends; entries = entries } }
     {
         Debt {
             kind,
@@ -121,7 +121,7 @@ impl Debt {
 
     // What is owed on a day from the last entry's on.
     fn owed_on(&self, day: Day) -> Totals
-        requires { last_of self.now.taken self.now.entries ≤ day }
+        requires later { last_of self.now.taken self.now.entries ≤ day }
         ensures day { result.day ≡ day }
         ensures owed { owed_of result ≡ due self.now day }
         ensures principal_in { result.principal ≤ most_pence }
@@ -133,8 +133,8 @@ impl Debt {
 
     /// What is owed on a day that is not before the last entry or the day taken.
     pub fn owing(&self, day: Day) -> Owing
-        requires { last_of self.now.taken self.now.entries ≤ day }
-        ensures { result ≡ owing_of (due self.now day) }
+        requires later { last_of self.now.taken self.now.entries ≤ day }
+        ensures value { result ≡ owing_of (due self.now day) }
     {
         owing_after(&self.owed_on(day))
     }
@@ -200,7 +200,7 @@ impl Debt {
 
     /// The same debt again.
     pub fn copy(&self) -> Result<Debt, AllocError>
-        ensures { IfOk result (λ d. d ≡ self.now) }
+        ensures ok { IfOk result (λ d. d ≡ self.now) }
     {
         let entries = self.entries.copy()?;
         Ok(Debt {
@@ -217,14 +217,14 @@ impl Debt {
     pub fn extend(&mut self, ends: Day)
         requires later { self.old.ends ≤ ends }
         requires inside { last_of self.old.taken self.old.entries ≤ self.old.ends }
-        ensures { self.new ≡ record self.old { ends = ends } }
+        ensures state { self.new ≡ record self.old { ends = ends } }
     {
         self.ends = ends;
     }
 
     /// The day of the last entry, or else the day taken.
     pub fn last(&self) -> Day
-        ensures { result ≡ last_of self.now.taken self.now.entries }
+        ensures value { result ≡ last_of self.now.taken self.now.entries }
     {
         self.totals.day
     }
@@ -239,28 +239,28 @@ impl Debt {
 
     /// The terms of the agreement.
     pub fn terms(&self) -> Terms
-        ensures { result ≡ self.now.terms }
+        ensures value { result ≡ self.now.terms }
     {
         self.terms
     }
 
     /// The entries, in order.
     pub fn entries(&self) -> &[Entry]
-        ensures { result.now ≡ self.now.entries }
+        ensures value { result.now ≡ self.now.entries }
     {
         self.entries.as_slice()
     }
 
     /// The entries again, in order.
     pub fn copy_entries(&self) -> Result<Entries, AllocError>
-        ensures { IfOk result (λ e. e ≡ self.now.entries) }
+        ensures ok { IfOk result (λ e. e ≡ self.now.entries) }
     {
         self.entries.copy()
     }
 
     /// The entry of a number.
     pub fn entry(&self, seq: u64) -> Option<Entry>
-        ensures { result ≡ find (λ e. e.seq == seq) self.now.entries }
+        ensures value { result ≡ find (λ e. e.seq == seq) self.now.entries }
     {
         self.entries.find(seq)
     }
@@ -275,7 +275,7 @@ impl Debt {
 
     /// The end of the period.
     pub fn ends(&self) -> Day
-        ensures { result ≡ self.now.ends }
+        ensures value { result ≡ self.now.ends }
     {
         self.ends
     }

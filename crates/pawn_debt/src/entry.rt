@@ -17,7 +17,7 @@ pub enum Kind {
 impl Kind {
     /// The sum, or the limit.
     pub fn credit(self) -> u64
-        ensures { result ≡ credit_of self }
+        ensures value { result ≡ credit_of self }
     {
         match self {
             Kind::Fixed(sum) => sum,
@@ -71,7 +71,7 @@ impl Model for Entries {
 impl Entries {
     /// No entries.
     pub fn new(alloc: Global) -> Entries
-        ensures { result ≡ [] }
+        ensures value { result ≡ [] }
     {
         Entries {
             items: Vec::new(alloc),
@@ -80,14 +80,14 @@ impl Entries {
 
     /// The entries of a list.
     pub fn from_vec(items: Vec<Entry>) -> Entries
-        ensures { result ≡ items.items }
+        ensures value { result ≡ items.items }
     {
         Entries { items }
     }
 
     /// The list of the entries.
     pub fn into_vec(self) -> Vec<Entry>
-        ensures { result.items ≡ self }
+        ensures value { result.items ≡ self }
     {
         let Entries { items } = self;
         items
@@ -95,28 +95,28 @@ impl Entries {
 
     /// The entries as a slice.
     pub fn as_slice(&self) -> &[Entry]
-        ensures { result.now ≡ self.now }
+        ensures value { result.now ≡ self.now }
     {
         self.items.as_slice()
     }
 
     /// The first entry of a number, if there is one.
     pub fn find(&self, seq: u64) -> Option<Entry>
-        ensures { result ≡ find (λ e. e.seq == seq) self.now }
+        ensures value { result ≡ find (λ e. e.seq == seq) self.now }
     {
         find_entry(self.items.as_slice(), seq)
     }
 
     /// How many entries there are.
     pub fn len(&self) -> usize
-        ensures { result ≡ length self.now }
+        ensures value { result ≡ length self.now }
     {
         self.items.len()
     }
 
     /// Whether there is no entry.
     pub fn is_empty(&self) -> bool
-        ensures { IsTrue result ↔ (self.now ≡ []) }
+        ensures answer { IsTrue result ↔ (self.now ≡ []) }
     {
         self.items.is_empty()
     }
@@ -132,7 +132,7 @@ impl Entries {
 
     /// The same entries again.
     pub fn copy(&self) -> Result<Entries, AllocError>
-        ensures { IfOk result (λ e. e ≡ self.now) }
+        ensures ok { IfOk result (λ e. e ≡ self.now) }
     {
         let items = Vec::from_slice(*self.items.allocator(), &self.items)?;
         Ok(Entries { items })
@@ -141,7 +141,7 @@ impl Entries {
 
 // The first entry of a number.
 fn find_entry(entries: &[Entry], seq: u64) -> Option<Entry>
-    ensures { result ≡ find (λ e. e.seq == seq) entries.now }
+    ensures value { result ≡ find (λ e. e.seq == seq) entries.now }
 {
     for e in entries {
         if e.seq == seq {

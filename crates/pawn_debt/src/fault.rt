@@ -27,7 +27,7 @@ impl DebtFault {
 
     /// The number of the fault, as replies carry it.
     pub fn code(self) -> u16
-        ensures { result ≡ code_of self }
+        ensures value { result ≡ code_of self }
     {
         match self {
             DebtFault::BadAmount => 201,
@@ -42,7 +42,7 @@ impl DebtFault {
 
     /// The name of the fault, as replies carry it.
     pub fn name(self) -> &'static str
-        ensures { result.now ≡ name_of self }
+        ensures value { result.now ≡ name_of self }
     {
         match self {
             DebtFault::BadAmount => "BadAmount",
@@ -57,7 +57,7 @@ impl DebtFault {
 
     /// What was owing, in pence, where more was paid.
     pub fn total(self) -> Option<u64>
-        ensures { result ≡ fault_total self }
+        ensures value { result ≡ fault_total self }
     {
         match self {
             DebtFault::OverOwing { total } => Some(total),

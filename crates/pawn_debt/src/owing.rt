@@ -55,15 +55,15 @@ pub fn owing_from(totals: &Totals, terms: &Terms, ends: Day, day: Day) -> Owing
     requires later { totals.now.day ≤ day }
     requires principal_in { totals.now.principal ≤ most_pence }
     requires charges_in { totals.now.charges ≤ most_charges }
-    ensures { result ≡ owing_of (carried terms.now ends totals.now.day (day - totals.now.day) (owed_of totals.now)) }
+    ensures value { result ≡ owing_of (carried terms.now ends totals.now.day (day - totals.now.day) (owed_of totals.now)) }
 {
     owing_after(&carry(totals, *terms, ends, day))
 }
 
 // The pence that are owed.
 pub(crate) fn owing_after(totals: &Totals) -> Owing
-    requires { totals.now.principal ≤ most_pence }
-    ensures { result ≡ owing_of (owed_of totals.now) }
+    requires within { totals.now.principal ≤ most_pence }
+    ensures value { result ≡ owing_of (owed_of totals.now) }
 {
     let charges = totals.charges / PENNY;
     Owing {
@@ -75,7 +75,7 @@ pub(crate) fn owing_after(totals: &Totals) -> Owing
 
 // What is owed after a drawing.
 pub(crate) fn after_draw(owed: Totals, pence: u64) -> Totals
-    requires { owed.principal + pence ≤ most_pence }
+    requires within { owed.principal + pence ≤ most_pence }
     ensures day { result.day ≡ owed.day }
     ensures owed { owed_of result ≡ after_sort Draw pence (owed_of owed) }
     ensures principal_in { result.principal ≤ most_pence }

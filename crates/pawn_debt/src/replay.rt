@@ -43,7 +43,7 @@ fn accept(
     totals: &Totals,
     e: &Entry,
 ) -> Option<Totals>
-    requires { IsKept (record { kind = kind; terms = terms; taken = taken; ends = ends; entries = prior.now }) totals.now }
+    requires kept { IsKept (record { kind = kind; terms = terms; taken = taken; ends = ends; entries = prior.now }) totals.now }
     ensures accepted { IfSome result (λ t. IsAccepted (record { kind = kind; terms = terms; taken = taken; ends = ends; entries = prior.now }) e.now) }
     ensures kept { IfSome result (λ t. IsKept (record { kind = kind; terms = terms; taken = taken; ends = ends; entries = prior.now ++ e.now ∷ [] }) t) }
     ensures refused { IfNone result (IsAccepted (record { kind = kind; terms = terms; taken = taken; ends = ends; entries = prior.now }) e.now → ⊥) }
@@ -82,8 +82,8 @@ fn accept(
 
 // What is owed before there are entries.
 fn first_totals(kind: Kind, terms: Terms, taken: Day, ends: Day) -> Totals
-    requires { credit_of kind ≤ most_pence }
-    ensures { IsKept (record { kind = kind; terms = terms; taken = taken; ends = ends; entries = [] }) result }
+    requires within { credit_of kind ≤ most_pence }
+    ensures kept { IsKept (record { kind = kind; terms = terms; taken = taken; ends = ends; entries = [] }) result }
 {
     let _ = taken.count();
     Totals {
@@ -101,7 +101,7 @@ pub fn replay_entries(
     ends: Day,
     entries: &[Entry],
 ) -> Option<Totals>
-    requires { credit_of kind ≤ most_pence }
+    requires within { credit_of kind ≤ most_pence }
     ensures kept { IfSome result (λ t. IsKept (record { kind = kind; terms = terms; taken = taken; ends = ends; entries = entries.now }) t) }
     ensures accepted { IfSome result (λ t. AreAccepted (record { kind = kind; terms = terms; taken = taken; ends = ends; entries = entries.now }) [] entries.now) }
     ensures refused { IfNone result (AreAccepted (record { kind = kind; terms = terms; taken = taken; ends = ends; entries = entries.now }) [] entries.now → ⊥) }
@@ -136,7 +136,7 @@ pub fn owing_at(
 ) -> Owing
     requires kept { IsKept (record { kind = kind; terms = terms; taken = taken; ends = ends; entries = entries.now }) totals.now }
     requires later { totals.now.day ≤ day }
-    ensures { result ≡ owing_of (due (record { kind = kind; terms = terms; taken = taken; ends = ends; entries = entries.now }) day) }
+    ensures value { result ≡ owing_of (due (record { kind = kind; terms = terms; taken = taken; ends = ends; entries = entries.now }) day) }
 {
     owing_after(&owed_at(kind, terms, taken, ends, entries, totals, day))
 }

@@ -72,7 +72,7 @@ impl Model for Brief {
 impl Brief {
     /// The status on a day.
     pub fn status(&self, day: Day) -> Status
-        ensures { result ≡ brief_status self.now day }
+        ensures value { result ≡ brief_status self.now day }
     {
         match self.closing {
             Closing::Redeemed { .. } => Status::Redeemed,
@@ -87,141 +87,141 @@ impl Brief {
 
     /// What is owed on a day that is not before the last entry's, nor before the day taken.
     pub fn owing(&self, day: Day) -> Owing
-        requires { self.now.totals.day ≤ day }
-        ensures { result ≡ brief_owing self.now day }
+        requires later { self.now.totals.day ≤ day }
+        ensures value { result ≡ brief_owing self.now day }
     {
         owing_from(&self.totals, &self.terms, self.ends, day)
     }
 
     /// The pledge's number in its book.
     pub fn number(&self) -> Number
-        ensures { result ≡ self.now.number }
+        ensures value { result ≡ self.now.number }
     {
         self.number
     }
 
     /// The broker's reference.
     pub fn reference(&self) -> &Reference
-        ensures { result.now ≡ self.now.reference }
+        ensures value { result.now ≡ self.now.reference }
     {
         &self.reference
     }
 
     /// What was pawned.
     pub fn article(&self) -> &Article
-        ensures { result.now ≡ self.now.article }
+        ensures value { result.now ≡ self.now.article }
     {
         &self.article
     }
 
     /// The fixed sum, or the limit of a running account, in pence.
     pub fn kind(&self) -> Kind
-        ensures { result ≡ self.now.kind }
+        ensures value { result ≡ self.now.kind }
     {
         self.kind
     }
 
     /// The day on which the pledge was taken.
     pub fn taken(&self) -> Day
-        ensures { result ≡ self.now.taken }
+        ensures value { result ≡ self.now.taken }
     {
         self.taken
     }
 
     /// The agreed end of the period, if there is one.
     pub fn agreed(&self) -> Option<RequestDay>
-        ensures { result ≡ self.now.agreed }
+        ensures value { result ≡ self.now.agreed }
     {
         self.agreed
     }
 
     /// Whether five days of grace follow the end of the period.
     pub fn five_days(&self) -> bool
-        ensures { result ≡ self.now.five_days }
+        ensures value { result ≡ self.now.five_days }
     {
         self.five_days
     }
 
     /// The version of the terms in the book.
     pub fn version(&self) -> u64
-        ensures { result ≡ self.now.version }
+        ensures value { result ≡ self.now.version }
     {
         self.version
     }
 
     /// The terms of the agreement.
     pub fn terms(&self) -> Terms
-        ensures { result ≡ self.now.terms }
+        ensures value { result ≡ self.now.terms }
     {
         self.terms
     }
 
     /// How many drawings and repayments there are.
     pub fn entries(&self) -> usize
-        ensures { result ≡ self.now.entries }
+        ensures value { result ≡ self.now.entries }
     {
         self.entries
     }
 
     /// How many secrets were issued.
     pub fn secrets(&self) -> usize
-        ensures { result ≡ self.now.secrets }
+        ensures value { result ≡ self.now.secrets }
     {
         self.secrets
     }
 
     /// How many extensions of the period there are.
     pub fn extensions(&self) -> usize
-        ensures { result ≡ self.now.extensions }
+        ensures value { result ≡ self.now.extensions }
     {
         self.extensions
     }
 
     /// Whether redemption is barred.
     pub fn is_held(&self) -> bool
-        ensures { result ≡ self.now.held }
+        ensures value { result ≡ self.now.held }
     {
         self.held
     }
 
     /// The booking, if there is one.
     pub fn booking(&self) -> Option<Booking>
-        ensures { result ≡ self.now.booking }
+        ensures value { result ≡ self.now.booking }
     {
         self.booking
     }
 
     /// The day of the last change.
     pub fn last(&self) -> Day
-        ensures { result ≡ self.now.last }
+        ensures value { result ≡ self.now.last }
     {
         self.last
     }
 
     /// Whether the pledge is closed, and how.
     pub fn closing(&self) -> Closing
-        ensures { result ≡ self.now.closing }
+        ensures value { result ≡ self.now.closing }
     {
         self.closing
     }
 
     /// The live secret, unless the pledge is redeemed.
     pub fn live(&self) -> Option<Secret>
-        ensures { result ≡ self.now.live }
+        ensures value { result ≡ self.now.live }
     {
         self.live
     }
 
     /// The end of the period.
     pub fn ends(&self) -> Day
-        ensures { result ≡ self.now.ends }
+        ensures value { result ≡ self.now.ends }
     {
         self.ends
     }
 
     /// What is owed on the day of the last entry, or else on the day taken.
     pub fn totals(&self) -> Totals
-        ensures { result ≡ self.now.totals }
+        ensures value { result ≡ self.now.totals }
     {
         self.totals
     }

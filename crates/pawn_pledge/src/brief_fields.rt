@@ -58,7 +58,7 @@ impl Brief {
     fn of_checked(fields: BriefFields, terms: Terms) -> Brief
         requires within { IsBriefWithin (brief_in fields) }
         requires terms { terms ≡ (brief_in fields).terms }
-        ensures { result ≡ brief_in fields }
+        ensures value { result ≡ brief_in fields }
     {
         let BriefFields {
             number,
@@ -140,7 +140,7 @@ fn terms_within(fields: &BriefFields) -> Option<Terms>
 
 // Whether a sum or a limit is at least a penny and no larger than the largest.
 fn is_credit_within(kind: Kind) -> bool
-    ensures { IsTrue result ↔ ((1 ≤ credit_of kind) × (credit_of kind ≤ most_pence)) }
+    ensures answer { IsTrue result ↔ ((1 ≤ credit_of kind) × (credit_of kind ≤ most_pence)) }
 {
     let credit = kind.credit();
     1 <= credit && credit <= MOST_PENCE
@@ -148,14 +148,14 @@ fn is_credit_within(kind: Kind) -> bool
 
 // Whether a request may name both days.
 fn are_days_within(taken: Day, last: Day) -> bool
-    ensures { IsTrue result ↔ ((taken ≤ last_stamp_day) × (last ≤ last_stamp_day)) }
+    ensures answer { IsTrue result ↔ ((taken ≤ last_stamp_day) × (last ≤ last_stamp_day)) }
 {
     taken.count() <= LAST_DAY && last.count() <= LAST_DAY
 }
 
 // Whether there are no more entries, secrets and extensions than a pledge may have.
 fn are_counts_within(fields: &BriefFields) -> bool
-    ensures { IsTrue result ↔ ((fields.now.entries ≤ most_entries) × (fields.now.secrets ≤ most_secrets) × (fields.now.extensions ≤ most_extensions)) }
+    ensures answer { IsTrue result ↔ ((fields.now.entries ≤ most_entries) × (fields.now.secrets ≤ most_secrets) × (fields.now.extensions ≤ most_extensions)) }
 {
     fields.entries <= MOST_ENTRIES
         && fields.secrets <= MOST_SECRETS
@@ -163,7 +163,7 @@ fn are_counts_within(fields: &BriefFields) -> bool
 }
 
 fn is_booking_within(booking: Option<Booking>) -> bool
-    ensures { IsTrue result ↔ IfSome booking IsBookingWithin }
+    ensures answer { IsTrue result ↔ IfSome booking IsBookingWithin }
 {
     match booking {
         Some(booking) => booking.day.count() <= LAST_DAY && booking.window <= LAST_WINDOW,
@@ -172,7 +172,7 @@ fn is_booking_within(booking: Option<Booking>) -> bool
 }
 
 fn is_closing_within(closing: Closing) -> bool
-    ensures { IsTrue result ↔ IsClosingWithin closing }
+    ensures answer { IsTrue result ↔ IsClosingWithin closing }
 {
     match closing {
         Closing::Open => true,
@@ -182,7 +182,7 @@ fn is_closing_within(closing: Closing) -> bool
 }
 
 fn are_totals_within(totals: &Totals) -> bool
-    ensures { IsTrue result ↔ AreTotalsWithin totals.now }
+    ensures answer { IsTrue result ↔ AreTotalsWithin totals.now }
 {
     totals.day.count() <= LAST_DAY
         && totals.principal <= MOST_PENCE

@@ -80,7 +80,7 @@ pub struct Applied {
 impl Applied {
     // An answer without a change.
     pub(crate) fn answered(done: Done) -> Applied
-        ensures { result ≡ record { done = done; changed = false } }
+        ensures value { result ≡ record { done = done; changed = false } }
     {
         Applied {
             done,
@@ -90,7 +90,7 @@ impl Applied {
 
     // An answer with a change.
     pub(crate) fn changed(done: Done) -> Applied
-        ensures { result ≡ record { done = done; changed = true } }
+        ensures value { result ≡ record { done = done; changed = true } }
     {
         Applied {
             done,

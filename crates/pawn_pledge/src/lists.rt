@@ -24,7 +24,7 @@ impl Model for Secrets {
 impl Secrets {
     /// No secrets.
     pub fn new(alloc: Global) -> Secrets
-        ensures { result ≡ [] }
+        ensures value { result ≡ [] }
     {
         Secrets {
             items: Vec::new(alloc),
@@ -33,21 +33,21 @@ impl Secrets {
 
     /// The secrets of a list.
     pub fn from_vec(items: Vec<Issued>) -> Secrets
-        ensures { result ≡ items.items }
+        ensures value { result ≡ items.items }
     {
         Secrets { items }
     }
 
     /// The secrets as a slice.
     pub fn as_slice(&self) -> &[Issued]
-        ensures { result.now ≡ self.now }
+        ensures value { result.now ≡ self.now }
     {
         self.items.as_slice()
     }
 
     /// Whether a secret is among them.
     pub fn holds(&self, secret: Secret) -> bool
-        ensures { result ≡ list_any (λ i. i.secret == secret) self.now }
+        ensures value { result ≡ list_any (λ i. i.secret == secret) self.now }
     {
         self.items
             .iter()
@@ -56,14 +56,14 @@ impl Secrets {
 
     /// How many secrets there are.
     pub fn len(&self) -> usize
-        ensures { result ≡ length self.now }
+        ensures value { result ≡ length self.now }
     {
         self.items.len()
     }
 
     /// Whether there is no secret.
     pub fn is_empty(&self) -> bool
-        ensures { IsTrue result ↔ (self.now ≡ []) }
+        ensures answer { IsTrue result ↔ (self.now ≡ []) }
     {
         self.items.is_empty()
     }
@@ -79,7 +79,7 @@ impl Secrets {
 
     /// The same secrets again.
     pub fn copy(&self) -> Result<Secrets, AllocError>
-        ensures { IfOk result (λ secrets. secrets ≡ self.now) }
+        ensures ok { IfOk result (λ secrets. secrets ≡ self.now) }
     {
         let items = Vec::from_slice(*self.items.allocator(), &self.items)?;
         Ok(Secrets { items })
@@ -104,7 +104,7 @@ impl Model for Extensions {
 impl Extensions {
     /// No extensions.
     pub fn new(alloc: Global) -> Extensions
-        ensures { result ≡ [] }
+        ensures value { result ≡ [] }
     {
         Extensions {
             items: Vec::new(alloc),
@@ -113,28 +113,28 @@ impl Extensions {
 
     /// The extensions of a list.
     pub fn from_vec(items: Vec<Extension>) -> Extensions
-        ensures { result ≡ items.items }
+        ensures value { result ≡ items.items }
     {
         Extensions { items }
     }
 
     /// The extensions as a slice.
     pub fn as_slice(&self) -> &[Extension]
-        ensures { result.now ≡ self.now }
+        ensures value { result.now ≡ self.now }
     {
         self.items.as_slice()
     }
 
     /// How many extensions there are.
     pub fn len(&self) -> usize
-        ensures { result ≡ length self.now }
+        ensures value { result ≡ length self.now }
     {
         self.items.len()
     }
 
     /// Whether there is no extension.
     pub fn is_empty(&self) -> bool
-        ensures { IsTrue result ↔ (self.now ≡ []) }
+        ensures answer { IsTrue result ↔ (self.now ≡ []) }
     {
         self.items.is_empty()
     }
@@ -150,7 +150,7 @@ impl Extensions {
 
     /// The same extensions again.
     pub fn copy(&self) -> Result<Extensions, AllocError>
-        ensures { IfOk result (λ extensions. extensions ≡ self.now) }
+        ensures ok { IfOk result (λ extensions. extensions ≡ self.now) }
     {
         let items = Vec::from_slice(*self.items.allocator(), &self.items)?;
         Ok(Extensions { items })

@@ -69,7 +69,7 @@ pub(crate) fn extended_to(
 
 // Whether each drawing is in the period.
 fn are_drawn(ends: Day, entries: &[Entry]) -> bool
-    ensures { IsTrue result ↔ Each (λ e. IsDrawnBy ends e.sort e.day) entries.now }
+    ensures answer { IsTrue result ↔ Each (λ e. IsDrawnBy ends e.sort e.day) entries.now }
 {
     for e in entries {
         if let Sort::Draw = e.sort {
@@ -83,7 +83,7 @@ fn are_drawn(ends: Day, entries: &[Entry]) -> bool
 
 // Whether an issue after the first is of its sort.
 fn is_later_issue(credit: u64, sort: Issue) -> bool
-    ensures { IsTrue result ↔ IsLaterIssue credit sort }
+    ensures answer { IsTrue result ↔ IsLaterIssue credit sort }
 {
     match sort {
         Issue::Opening => false,
@@ -93,7 +93,7 @@ fn is_later_issue(credit: u64, sort: Issue) -> bool
 }
 
 fn are_later_issues(credit: u64, issued: &[Issued]) -> bool
-    ensures { IsTrue result ↔ Each (λ j. IsLaterIssue credit j.sort) issued.now }
+    ensures answer { IsTrue result ↔ Each (λ j. IsLaterIssue credit j.sort) issued.now }
 {
     for i in issued {
         if !is_later_issue(credit, i.sort) {
@@ -105,7 +105,7 @@ fn are_later_issues(credit: u64, issued: &[Issued]) -> bool
 
 // Whether a secret is among others.
 fn is_among(issued: &Issued, others: &[Issued]) -> bool
-    ensures { result ≡ list_any (λ i. i.secret == issued.now.secret) others.now }
+    ensures value { result ≡ list_any (λ i. i.secret == issued.now.secret) others.now }
 {
     let word = issued.secret.word();
     others.iter().any(|other| other.secret.word() == word)
@@ -113,7 +113,7 @@ fn is_among(issued: &Issued, others: &[Issued]) -> bool
 
 // Whether no secret stands twice.
 fn are_distinct(issued: &[Issued]) -> bool
-    ensures { IsTrue result ↔ AreDistinct issued.now }
+    ensures answer { IsTrue result ↔ AreDistinct issued.now }
 {
     for i in 0..issued.len() {
         if is_among(&issued[i], &issued[i + 1..]) {
@@ -125,7 +125,7 @@ fn are_distinct(issued: &[Issued]) -> bool
 
 // Whether days don't fall, from the day taken to the last.
 fn do_not_fall(taken: Day, last: Day, issued: &[Issued]) -> bool
-    ensures { IsTrue result ↔ (DoNotFall taken issued.now × (last_issue taken issued.now ≤ last)) }
+    ensures answer { IsTrue result ↔ (DoNotFall taken issued.now × (last_issue taken issued.now ≤ last)) }
 {
     let mut day = taken;
     for i in issued {
@@ -141,7 +141,7 @@ fn do_not_fall(taken: Day, last: Day, issued: &[Issued]) -> bool
 fn open_status_on(parts: &Parts, ends: Day, day: Day) -> Status
     requires ends { ends ≡ end_of (value_of parts.now) }
     requires taken { parts.now.taken ≤ last_stamp_day }
-    ensures { result ≡ open_status (value_of parts.now) day }
+    ensures value { result ≡ open_status (value_of parts.now) day }
 {
     let six = ends == parts.taken.six_months_after();
     let passes = six && parts.kind.credit() <= SMALL_CREDIT;
@@ -152,7 +152,7 @@ fn open_status_on(parts: &Parts, ends: Day, day: Day) -> Status
 fn is_passed_on(parts: &Parts, ends: Day, day: Day) -> bool
     requires ends { ends ≡ end_of (value_of parts.now) }
     requires taken { parts.now.taken ≤ last_stamp_day }
-    ensures { result ≡ is_passed (open_status (value_of parts.now) day) }
+    ensures value { result ≡ is_passed (open_status (value_of parts.now) day) }
 {
     match open_status_on(parts, ends, day) {
         Status::Passed => true,
@@ -163,7 +163,7 @@ fn is_passed_on(parts: &Parts, ends: Day, day: Day) -> bool
 
 // Whether a booking may have that state under that closing.
 fn is_over_under(closing: Closing, state: BookingState) -> bool
-    ensures { IsTrue result ↔ IsOverUnder closing state }
+    ensures answer { IsTrue result ↔ IsOverUnder closing state }
 {
     match closing {
         Closing::Open => true,
@@ -178,7 +178,7 @@ fn is_over_under(closing: Closing, state: BookingState) -> bool
 fn is_booked(parts: &Parts, ends: Day) -> bool
     requires ends { ends ≡ end_of (value_of parts.now) }
     requires taken { parts.now.taken ≤ last_stamp_day }
-    ensures { IsTrue result ↔ IsBooked (value_of parts.now) parts.now.booking }
+    ensures answer { IsTrue result ↔ IsBooked (value_of parts.now) parts.now.booking }
 {
     let Some(b) = parts.booking else {
         return true;
@@ -202,7 +202,7 @@ fn is_closed(parts: &Parts, terms: Terms, ends: Day, totals: &Totals) -> bool
     requires taken { parts.now.taken ≤ last_stamp_day }
     requires kept { IsOwed (debt_of (value_of parts.now)) totals.now }
     requires later { totals.now.day ≤ parts.now.last }
-    ensures { IsTrue result ↔ IsClosed (value_of parts.now) parts.now.closing }
+    ensures answer { IsTrue result ↔ IsClosed (value_of parts.now) parts.now.closing }
 {
     match parts.closing {
         Closing::Open => true,
@@ -239,7 +239,7 @@ fn is_closed(parts: &Parts, terms: Terms, ends: Day, totals: &Totals) -> bool
 
 // Whether the first secret is the opening's, and no later one is.
 fn are_issued(taken: Day, credit: u64, issued: &[Issued]) -> bool
-    ensures { IsTrue result ↔ AreIssued taken credit issued.now }
+    ensures answer { IsTrue result ↔ AreIssued taken credit issued.now }
 {
     let [first, rest @ ..] = issued else {
         return false;
@@ -256,14 +256,14 @@ fn are_issued(taken: Day, credit: u64, issued: &[Issued]) -> bool
 // The same of parts.
 fn are_drawn_in(parts: &Parts, ends: Day) -> bool
     requires ends { ends ≡ end_of (value_of parts.now) }
-    ensures { IsTrue result ↔ Each (λ e. IsDrawnBy (end_of (value_of parts.now)) e.sort e.day) parts.now.entries }
+    ensures answer { IsTrue result ↔ Each (λ e. IsDrawnBy (end_of (value_of parts.now)) e.sort e.day) parts.now.entries }
 {
     are_drawn(ends, parts.entries.as_slice())
 }
 
 // Whether each extension is to a day that a request may name.
 fn are_named(extensions: &[Extension]) -> bool
-    ensures { IsTrue result ↔ Each (λ e. e.until ≤ last_stamp_day) extensions.now }
+    ensures answer { IsTrue result ↔ Each (λ e. e.until ≤ last_stamp_day) extensions.now }
 {
     for extension in extensions {
         if extension.until.count() > LAST_DAY {
@@ -275,7 +275,7 @@ fn are_named(extensions: &[Extension]) -> bool
 
 // Whether the booking is for a day that a request may name.
 fn is_named(booking: Option<Booking>) -> bool
-    ensures { IsTrue result ↔ IfSome booking (λ b. b.day ≤ last_stamp_day) }
+    ensures answer { IsTrue result ↔ IfSome booking (λ b. b.day ≤ last_stamp_day) }
 {
     match booking {
         Some(booking) => booking.day.count() <= LAST_DAY,
@@ -365,7 +365,7 @@ fn is_limited(parts: &Parts) -> bool
 
 // Whether the secrets are ones that can have been issued.
 fn are_issued_in(parts: &Parts) -> bool
-    ensures { IsTrue result ↔ AreIssuedIn (value_of parts.now) }
+    ensures answer { IsTrue result ↔ AreIssuedIn (value_of parts.now) }
 {
     let issued = parts.secrets.as_slice();
     if !are_issued(parts.taken, parts.kind.credit(), issued) {

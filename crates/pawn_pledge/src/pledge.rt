@@ -105,7 +105,7 @@ impl Pledge {
         terms: Terms,
         stamp: &Stamp,
     ) -> Result<Pledge, Refusal>
-        ensures { IsStarted (started number opening version terms stamp.now) result }
+        ensures started { IsStarted (started number opening version terms stamp.now) result }
     {
         let taken = stamp.day.day();
         let ends = last_day(taken, agreed_end(opening.agreed));
@@ -145,7 +145,7 @@ impl Pledge {
 
     /// The status on a day.
     pub fn status(&self, day: Day) -> Status
-        ensures { result ≡ status_of self.now day }
+        ensures value { result ≡ status_of self.now day }
     {
         match self.closing {
             Closing::Redeemed { .. } => Status::Redeemed,
@@ -156,7 +156,7 @@ impl Pledge {
 
     // The status on a day, the closing aside.
     fn open_status(&self, day: Day) -> Status
-        ensures { result ≡ open_status self.now day }
+        ensures value { result ≡ open_status self.now day }
     {
         let ends = self.debt.ends();
         let six = ends == self.debt.taken().six_months_after();
@@ -166,7 +166,7 @@ impl Pledge {
 
     /// Whether a secret is the live one: the last that was issued, until the pledge is redeemed.
     pub fn is_live(&self, secret: &Secret) -> bool
-        ensures { IsTrue result ↔ (live_of self.now ≡ Some secret.now) }
+        ensures answer { IsTrue result ↔ (live_of self.now ≡ Some secret.now) }
     {
         match self.closing {
             Closing::Redeemed { .. } => false,
@@ -176,7 +176,7 @@ impl Pledge {
 
     /// The live secret, unless the pledge is redeemed.
     pub fn live(&self) -> Option<Secret>
-        ensures { result ≡ live_of self.now }
+        ensures value { result ≡ live_of self.now }
     {
         match self.closing {
             Closing::Redeemed { .. } => None,
@@ -186,7 +186,7 @@ impl Pledge {
 
     // The last secret that was issued.
     fn last_secret(&self) -> Secret
-        ensures { last_secret self.now.secrets ≡ Some result }
+        ensures value { last_secret self.now.secrets ≡ Some result }
     {
         let issued = self.secrets.as_slice();
         issued[issued.len() - 1].secret
@@ -194,98 +194,98 @@ impl Pledge {
 
     /// The pledge's number in its book.
     pub fn number(&self) -> Number
-        ensures { result ≡ self.now.number }
+        ensures value { result ≡ self.now.number }
     {
         self.number
     }
 
     /// The broker's reference.
     pub fn reference(&self) -> &Reference
-        ensures { result.now ≡ self.now.reference }
+        ensures value { result.now ≡ self.now.reference }
     {
         &self.reference
     }
 
     /// What was pawned.
     pub fn article(&self) -> &Article
-        ensures { result.now ≡ self.now.article }
+        ensures value { result.now ≡ self.now.article }
     {
         &self.article
     }
 
     /// The fixed sum, or the limit of a running account, in pence.
     pub fn kind(&self) -> Kind
-        ensures { result ≡ self.now.kind }
+        ensures value { result ≡ self.now.kind }
     {
         self.debt.kind()
     }
 
     /// The day on which the pledge was taken.
     pub fn taken(&self) -> Day
-        ensures { result ≡ self.now.taken }
+        ensures value { result ≡ self.now.taken }
     {
         self.debt.taken()
     }
 
     /// The agreed end of the period, if there is one.
     pub fn agreed(&self) -> Option<RequestDay>
-        ensures { result ≡ self.now.agreed }
+        ensures value { result ≡ self.now.agreed }
     {
         self.agreed
     }
 
     /// Whether five days of grace follow the end of the period.
     pub fn five_days(&self) -> bool
-        ensures { result ≡ self.now.five_days }
+        ensures value { result ≡ self.now.five_days }
     {
         self.five_days
     }
 
     /// The version of the terms in the book.
     pub fn version(&self) -> u64
-        ensures { result ≡ self.now.version }
+        ensures value { result ≡ self.now.version }
     {
         self.version
     }
 
     /// The terms of the agreement.
     pub fn terms(&self) -> Terms
-        ensures { result ≡ self.now.terms }
+        ensures value { result ≡ self.now.terms }
     {
         self.debt.terms()
     }
 
     /// The drawings and repayments, in order.
     pub fn entries(&self) -> &[Entry]
-        ensures { result.now ≡ self.now.entries }
+        ensures value { result.now ≡ self.now.entries }
     {
         self.debt.entries()
     }
 
     /// The issued secrets, in order.
     pub fn secrets(&self) -> &[Issued]
-        ensures { result.now ≡ self.now.secrets }
+        ensures value { result.now ≡ self.now.secrets }
     {
         self.secrets.as_slice()
     }
 
     /// The extensions of the period, in order.
     pub fn extensions(&self) -> &[Extension]
-        ensures { result.now ≡ self.now.extensions }
+        ensures value { result.now ≡ self.now.extensions }
     {
         self.extensions.as_slice()
     }
 
     /// Whether redemption is barred.
     pub fn is_held(&self) -> bool
-        ensures { result ≡ self.now.held }
+        ensures value { result ≡ self.now.held }
     {
         self.held
     }
 
     /// The booking, if there is one.
     pub fn booking(&self) -> Option<Booking>
-        ensures { result ≡ self.now.booking }
+        ensures value { result ≡ self.now.booking }
     {
         self.booking
     }
@@ -300,22 +300,22 @@ impl Pledge {
 
     /// Whether the pledge is closed, and how.
     pub fn closing(&self) -> Closing
-        ensures { result ≡ self.now.closing }
+        ensures value { result ≡ self.now.closing }
     {
         self.closing
     }
 
     /// The end of the period.
     pub fn ends(&self) -> Day
-        ensures { result ≡ end_of self.now }
+        ensures value { result ≡ end_of self.now }
     {
         self.debt.ends()
     }
 
     /// What is owed on a day that is not before the last entry's, nor before the day taken.
     pub fn owing(&self, day: Day) -> Owing
-        requires { last_of self.now.taken self.now.entries ≤ day }
-        ensures { result ≡ owing_of (due (debt_of self.now) day) }
+        requires later { last_of self.now.taken self.now.entries ≤ day }
+        ensures value { result ≡ owing_of (due (debt_of self.now) day) }
     {
         self.debt.owing(day)
     }
@@ -331,7 +331,7 @@ impl Pledge {
 
     /// The same pledge again.
     pub fn copy(&self) -> Result<Pledge, AllocError>
-        ensures { IfOk result (λ p. p ≡ self.now) }
+        ensures ok { IfOk result (λ p. p ≡ self.now) }
     {
         let reference = self.reference.copy()?;
         let article = self.article.copy()?;
@@ -357,7 +357,7 @@ impl Pledge {
 
     /// The record of the pledge as plain fields.
     pub fn parts(&self) -> Result<Parts, AllocError>
-        ensures { IfOk result (λ parts. value_of parts ≡ self.now) }
+        ensures ok { IfOk result (λ parts. value_of parts ≡ self.now) }
     {
         let terms = self.debt.terms();
         let reference = self.reference.copy()?;
@@ -406,7 +406,7 @@ impl Pledge {
         requires terms { terms ≡ (value_of parts).terms }
         requires ends { ends ≡ end_of (value_of parts) }
         requires kept { IsOwed (debt_of (value_of parts)) totals }
-        ensures { result ≡ value_of parts }
+        ensures value { result ≡ value_of parts }
     {
         let Parts {
             number,
@@ -448,7 +448,7 @@ impl Pledge {
 
     /// The pledge without its lists.
     pub fn brief(&self) -> Result<Brief, AllocError>
-        ensures { IfOk result (λ b. b ≡ brief_of self.now) }
+        ensures ok { IfOk result (λ b. b ≡ brief_of self.now) }
     {
         let reference = self.reference.copy()?;
         let article = self.article.copy()?;
@@ -490,7 +490,7 @@ pub(crate) fn agreed_end(agreed: Option<RequestDay>) -> Option<Day>
 // The status on a day, by the end of the period, whether the five days apply, and whether the
 // property passes.
 pub(crate) fn status_in(ends: Day, five_days: bool, passes: bool, day: Day) -> Status
-    ensures { result ≡ status_in ends five_days passes day }
+    ensures value { result ≡ status_in ends five_days passes day }
 {
     if day.count() <= ends.count() {
         Status::Inside

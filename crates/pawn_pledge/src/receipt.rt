@@ -21,14 +21,14 @@ pub struct BadReceipt;
 impl BadReceipt {
     /// The number of the fault, as replies carry it.
     pub fn code(self) -> u16
-        ensures { result ≡ 710 }
+        ensures value { result ≡ 710 }
     {
         710
     }
 
     /// The name of the fault, as replies carry it.
     pub fn name(self) -> &'static str
-        ensures { result.now ≡ codes "BadReceipt" }
+        ensures value { result.now ≡ codes "BadReceipt" }
     {
         "BadReceipt"
     }
@@ -72,7 +72,7 @@ impl Receipt {
 
     /// The text of the receipt: its number, a hyphen, and the hyphenated secret with small letters.
     pub fn text(self, alloc: Global) -> Result<String, AllocError>
-        ensures { IfOk result (λ t. string_bytes t ≡ receipt_text self) }
+        ensures ok { IfOk result (λ t. string_bytes t ≡ receipt_text self) }
     {
         let secret = self.secret.text(alloc)?;
         let mut buffer = Buffer::new();
@@ -85,7 +85,7 @@ impl Receipt {
 
 // The place of the first hyphen.
 fn hyphen_at(text: &[u8]) -> Option<usize>
-    ensures { result ≡ position (λ b. b == 45) text.now }
+    ensures value { result ≡ position (λ b. b == 45) text.now }
 {
     text.iter().position(|byte| *byte == b'-')
 }

@@ -50,7 +50,7 @@ impl Refusal {
 
     /// The number of the refusal, as replies carry it.
     pub fn code(self) -> u16
-        ensures { result ≡ code_of self }
+        ensures value { result ≡ code_of self }
     {
         match self {
             Refusal::Debt(fault) => fault.code(),
@@ -76,7 +76,7 @@ impl Refusal {
 
     /// The name of the refusal, as replies carry it.
     pub fn name(self) -> &'static str
-        ensures { result.now ≡ name_of self }
+        ensures value { result.now ≡ name_of self }
     {
         match self {
             Refusal::Debt(fault) => fault.name(),
@@ -102,7 +102,7 @@ impl Refusal {
 
     /// What is owing, in pence, where another sum was paid.
     pub fn total(self) -> Option<u64>
-        ensures { result ≡ refusal_total self }
+        ensures value { result ≡ refusal_total self }
     {
         match self {
             Refusal::Debt(fault) => fault.total(),

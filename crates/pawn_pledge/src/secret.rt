@@ -22,21 +22,21 @@ impl Model for Secret {
 impl Secret {
     /// The secret of a word.
     pub fn of_word(word: u128) -> Secret
-        ensures { result ≡ word }
+        ensures value { result ≡ word }
     {
         Secret { word }
     }
 
     /// The word of the secret.
     pub fn word(self) -> u128
-        ensures { result ≡ self }
+        ensures value { result ≡ self }
     {
         self.word
     }
 
     /// The secret of a text in any of the four forms of a UUID.
     pub fn of_text(text: &[u8]) -> Option<Secret>
-        ensures { result ≡ secret_of_text text.now }
+        ensures value { result ≡ secret_of_text text.now }
     {
         match Uuid::try_parse_ascii(text) {
             Ok(id) => Some(Secret { word: id.as_u128() }),
@@ -46,7 +46,7 @@ impl Secret {
 
     /// The hyphenated text of the secret, with small letters.
     pub fn text(self, alloc: Global) -> Result<String, AllocError>
-        ensures { IfOk result (λ t. string_bytes t ≡ secret_text self) }
+        ensures ok { IfOk result (λ t. string_bytes t ≡ secret_text self) }
     {
         let mut buffer = Uuid::encode_buffer();
         let text = Uuid::from_u128(self.word)

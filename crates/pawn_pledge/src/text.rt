@@ -43,7 +43,7 @@ impl<const MOST: usize> Text<MOST> {
 
     /// The same text again.
     pub fn copy(&self) -> Result<Text<MOST>, AllocError>
-        ensures { IfOk result (λ t. t ≡ self.now) }
+        ensures ok { IfOk result (λ t. t ≡ self.now) }
     {
         let string = String::from_str(*self.string.allocator(), self.string.as_str())?;
         Ok(Text { string })
@@ -52,14 +52,14 @@ impl<const MOST: usize> Text<MOST> {
 
 // Whether a text has 1 to so many bytes, none of them a control character of ASCII.
 fn is_text(most: usize, text: &str) -> bool
-    ensures { result ≡ is_text most text.now }
+    ensures value { result ≡ is_text most text.now }
 {
     let bytes = text.as_bytes();
     !bytes.is_empty() && bytes.len() <= most && are_plain(bytes)
 }
 
 fn are_plain(bytes: &[u8]) -> bool
-    ensures { result ≡ list_all is_plain bytes.now }
+    ensures value { result ≡ list_all is_plain bytes.now }
 {
     bytes.iter().all(|byte| *byte >= 0x20 && *byte != 0x7F)
 }

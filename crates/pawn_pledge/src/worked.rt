@@ -34,7 +34,7 @@ pub fn worked_closings()
 
 /// Longer periods.
 pub fn worked_extensions()
-    ensures { WorkedExtensions }
+    ensures extensions { WorkedExtensions }
 {}
 
 /// Texts of secrets and receipts.

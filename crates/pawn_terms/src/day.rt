@@ -24,14 +24,14 @@ pub struct BadDay;
 impl BadDay {
     /// The number of the fault, as replies carry it.
     pub fn code(self) -> u16
-        ensures { result ≡ 101 }
+        ensures value { result ≡ 101 }
     {
         101
     }
 
     /// The name of the fault, as replies carry it.
     pub fn name(self) -> &'static str
-        ensures { result.now ≡ codes "BadDay" }
+        ensures value { result.now ≡ codes "BadDay" }
     {
         "BadDay"
     }
@@ -97,8 +97,8 @@ impl Day {
 
     /// The day so many days later.
     pub fn plus_days(self, days: u32) -> Day
-        requires { self + days ≤ final_day }
-        ensures { result ≡ self + days }
+        requires within { self + days ≤ final_day }
+        ensures value { result ≡ self + days }
     {
         Day {
             number: self.number + days,
@@ -109,7 +109,7 @@ impl Day {
     fn of_date(date: civil::Date) -> Day
         requires low { pos 10957 ≤ℤ epoch_day date }
         requires high { epoch_day date ≤ℤ pos 120529 }
-        ensures { pos result ≡ epoch_day date }
+        ensures number { pos result ≡ epoch_day date }
     {
         Day {
             number: date.to_unix_epoch_day() as u32,
@@ -153,15 +153,15 @@ impl Day {
 
     /// The text `2024-01-31`.
     pub fn text(self) -> [u8; 10]
-        ensures { result ≡ day_text self }
+        ensures value { result ≡ day_text self }
     {
         date_text(self.date())
     }
 
     /// The same day six calendar months later, or that month's last day where it is shorter.
     pub fn six_months_after(self) -> Day
-        requires { self ≤ last_stamp_day }
-        ensures { result ≡ six_months self }
+        requires within { self ≤ last_stamp_day }
+        ensures value { result ≡ six_months self }
     {
         Day::of_date(six_months_on(self.date()))
     }
@@ -169,8 +169,8 @@ impl Day {
 
 // The text of a date of the library from 2000 on.
 fn date_text(date: civil::Date) -> [u8; 10]
-    requires { pos 0 ≤ℤ date.year }
-    ensures { result ≡ civil_text (record { year = unsigned_abs date.year; month = date.month; day = date.day }) }
+    requires year { pos 0 ≤ℤ date.year }
+    ensures value { result ≡ civil_text (record { year = unsigned_abs date.year; month = date.month; day = date.day }) }
 {
     let year = date.year as u32;
     let month = date.month as u32;
@@ -191,7 +191,7 @@ fn date_text(date: civil::Date) -> [u8; 10]
 
 // The character of a number's last digit.
 fn digit_of(number: u32) -> u8
-    ensures { result ≡ digit number }
+    ensures value { result ≡ digit number }
 {
     b'0' + (number % 10) as u8
 }
@@ -234,7 +234,7 @@ fn two_digits(tens: u8, ones: u8) -> Option<u8>
 fn six_months_on(date: civil::Date) -> civil::Date
     requires year { IsShiftable date (pos 6) }
     requires day { IsEpochDay (add_months date (pos 6)) }
-    ensures { epoch_day result ≡ add_months date (pos 6) }
+    ensures number { epoch_day result ≡ add_months date (pos 6) }
 {
     Date::from_plain(date)
         .checked_add(6i64.months())
@@ -245,8 +245,8 @@ fn six_months_on(date: civil::Date) -> civil::Date
 /// The last day of a pledge's period as it was first agreed: the later of the day six months after
 /// it was taken and the agreed end. An earlier agreed end has no effect.
 pub fn last_day(taken: Day, agreed: Option<Day>) -> Day
-    requires { taken ≤ last_stamp_day }
-    ensures { result ≡ period_end taken agreed }
+    requires within { taken ≤ last_stamp_day }
+    ensures value { result ≡ period_end taken agreed }
 {
     let six = taken.six_months_after();
     match agreed {

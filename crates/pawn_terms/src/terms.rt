@@ -25,7 +25,7 @@ impl TermsFault {
 
     /// The number of the fault, as replies carry it.
     pub fn code(self) -> u16
-        ensures { result ≡ code_of self }
+        ensures value { result ≡ code_of self }
     {
         match self {
             TermsFault::RateTooHigh => 102,
@@ -36,7 +36,7 @@ impl TermsFault {
 
     /// The name of the fault, as replies carry it.
     pub fn name(self) -> &'static str
-        ensures { result.now ≡ name_of self }
+        ensures value { result.now ≡ name_of self }
     {
         match self {
             TermsFault::RateTooHigh => "RateTooHigh",
@@ -88,7 +88,7 @@ impl Terms {
     /// up to the end and after it in millionths of a penny per day. Otherwise the first fault, in
     /// the order of `TermsFault`.
     pub fn check(rate: u64, keep_before: u64, keep_after: u64) -> Result<Terms, TermsFault>
-        ensures { result ≡ terms_answer rate keep_before keep_after }
+        ensures value { result ≡ terms_answer rate keep_before keep_after }
     {
         if rate > MOST_RATE {
             return Err(TermsFault::RateTooHigh);

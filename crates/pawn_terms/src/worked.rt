@@ -14,5 +14,5 @@ pub fn worked_ends()
 
 /// Terms at their limits, and past them.
 pub fn worked_terms()
-    ensures { WorkedTerms }
+    ensures terms { WorkedTerms }
 {}

@@ -16,7 +16,7 @@ impl Pledge {
     /// One command: what it answers, or the first refusal that applies. Where it is refused, the
     /// pledge is unchanged. Memory is wanted for an entry, a secret or an extension alone.
     pub fn apply(&mut self, stamp: &Stamp, command: &Command) -> Result<Done, Refusal>
-        ensures { IsStep (pledge_step self.old stamp.now command.now) self.old result self.new }
+        ensures step { IsStep (pledge_step self.old stamp.now command.now) self.old result self.new }
     {
         match self.apply_telling(stamp, command) {
             Ok(applied) => Ok(applied.done),
@@ -27,7 +27,7 @@ impl Pledge {
     /// The same, and whether the command changed the pledge: one that was made already is answered
     /// again and changes nothing.
     pub fn apply_telling(&mut self, stamp: &Stamp, command: &Command) -> Result<Applied, Refusal>
-        ensures { IsApplied (pledge_step self.old stamp.now command.now) self.old result self.new }
+        ensures step { IsApplied (pledge_step self.old stamp.now command.now) self.old result self.new }
     {
         let day = stamp.day.day();
         match *command {
@@ -67,7 +67,7 @@ impl Pledge {
 
     // A drawing or a repayment. One whose number stands already is answered as the first time.
     fn enter(&mut self, day: Day, seq: u64, sort: Sort, pence: u64) -> Result<Applied, Refusal>
-        ensures { IsApplied (numbered_step self.old day seq sort pence (entry_of self.old seq)) self.old result self.new }
+        ensures step { IsApplied (numbered_step self.old day seq sort pence (entry_of self.old seq)) self.old result self.new }
     {
         let standing = self.debt.entry(seq);
         self.enter_once(standing, day, seq, sort, pence)
@@ -82,7 +82,7 @@ impl Pledge {
         sort: Sort,
         pence: u64,
     ) -> Result<Applied, Refusal>
-        ensures { IsApplied (numbered_step self.old day seq sort pence standing) self.old result self.new }
+        ensures step { IsApplied (numbered_step self.old day seq sort pence standing) self.old result self.new }
     {
         if let Some(entry) = standing {
             if !is_repeat(&entry, sort, pence) {
@@ -102,14 +102,14 @@ impl Pledge {
 
     // Whether an entry's number is 0, or past the next.
     fn is_ahead(&self, seq: u64) -> bool
-        ensures { result ≡ is_ahead self.now seq }
+        ensures value { result ≡ is_ahead self.now seq }
     {
         seq == 0 || seq > self.debt.count() as u64 + 1
     }
 
     fn draw(&mut self, day: Day, pence: u64) -> Result<Applied, Refusal>
-        requires { self.old.last ≤ day }
-        ensures { IsApplied (entry_step self.old day Sort.Draw pence) self.old result self.new }
+        requires later { self.old.last ≤ day }
+        ensures step { IsApplied (entry_step self.old day Sort.Draw pence) self.old result self.new }
     {
         if day > self.debt.ends() {
             return Err(Refusal::PeriodOver);
@@ -126,8 +126,8 @@ impl Pledge {
     }
 
     fn repay(&mut self, day: Day, pence: u64) -> Result<Applied, Refusal>
-        requires { self.old.last ≤ day }
-        ensures { IsApplied (entry_step self.old day Sort.Repay pence) self.old result self.new }
+        requires later { self.old.last ≤ day }
+        ensures step { IsApplied (entry_step self.old day Sort.Repay pence) self.old result self.new }
     {
         let entry = Entry {
             seq: self.debt.count() as u64 + 1,
@@ -142,7 +142,7 @@ impl Pledge {
 
     // Sets the flag that bars redemption.
     fn hold(&mut self, day: Day, flag: bool) -> Result<Applied, Refusal>
-        ensures { IsApplied (unless (bars self.old day) (hold_step self.old day flag)) self.old result self.new }
+        ensures step { IsApplied (unless (bars self.old day) (hold_step self.old day flag)) self.old result self.new }
     {
         self.gate(day)?;
         if self.held == flag {
@@ -155,7 +155,7 @@ impl Pledge {
 
     // Issues the stamp's word as the new secret.
     fn declare(&mut self, stamp: &Stamp, paper: Paper) -> Result<Applied, Refusal>
-        ensures { IsApplied (unless (bars self.old stamp.now.day) (declare_step self.old stamp.now paper)) self.old result self.new }
+        ensures step { IsApplied (unless (bars self.old stamp.now.day) (declare_step self.old stamp.now paper)) self.old result self.new }
     {
         let day = stamp.day.day();
         self.gate(day)?;
@@ -189,7 +189,7 @@ impl Pledge {
     fn issue(&mut self, issued: Issued) -> Result<Applied, Refusal>
         requires few { length self.old.secrets < most_secrets }
         requires later { self.old.last ≤ issued.day }
-        ensures { IsApplied (Changed (with_secret self.old issued) (Done.Declared issued.secret)) self.old result self.new }
+        ensures step { IsApplied (Changed (with_secret self.old issued) (Done.Declared issued.secret)) self.old result self.new }
     {
         let day = issued.day;
         let secret = issued.secret;
@@ -204,8 +204,8 @@ impl Pledge {
 
     // Keeps a booking.
     fn book(&mut self, day: Day, booking: &Booking) -> Result<Applied, Refusal>
-        requires { self.old.last ≤ day }
-        ensures { IsApplied (books self.old day booking.now) self.old result self.new }
+        requires later { self.old.last ≤ day }
+        ensures step { IsApplied (books self.old day booking.now) self.old result self.new }
     {
         self.booking = Some(*booking);
         self.last = day;
@@ -214,7 +214,7 @@ impl Pledge {
 
     // Asks for a day and a window.
     fn ask(&mut self, day: Day, wanted: Day, window: u64) -> Result<Applied, Refusal>
-        ensures { IsApplied (unless (bars self.old day) (ask_step self.old day wanted window)) self.old result self.new }
+        ensures step { IsApplied (unless (bars self.old day) (ask_step self.old day wanted window)) self.old result self.new }
     {
         self.gate(day)?;
         if window > LAST_WINDOW {
@@ -231,8 +231,8 @@ impl Pledge {
 
     // The same, where nothing is to be refused any more.
     fn ask_once(&mut self, day: Day, wanted: Day, window: u64) -> Result<Applied, Refusal>
-        requires { self.old.last ≤ day }
-        ensures { IsApplied (asked self.old day wanted window self.old.booking) self.old result self.new }
+        requires later { self.old.last ≤ day }
+        ensures step { IsApplied (asked self.old day wanted window self.old.booking) self.old result self.new }
     {
         let asked = Booking {
             day: wanted,
@@ -249,7 +249,7 @@ impl Pledge {
 
     // Gives a booking up.
     fn cancel(&mut self, day: Day) -> Result<Applied, Refusal>
-        ensures { IsApplied (unless (bars self.old day) (cancel_step self.old day self.old.booking)) self.old result self.new }
+        ensures step { IsApplied (unless (bars self.old day) (cancel_step self.old day self.old.booking)) self.old result self.new }
     {
         self.gate(day)?;
         let Some(booking) = self.booking else {
@@ -266,7 +266,7 @@ impl Pledge {
 
     // Confirms or refuses a booking.
     fn decide(&mut self, day: Day, decision: Decision) -> Result<Applied, Refusal>
-        ensures { IsApplied (unless (bars self.old day) (decide_step self.old day decision self.old.booking)) self.old result self.new }
+        ensures step { IsApplied (unless (bars self.old day) (decide_step self.old day decision self.old.booking)) self.old result self.new }
     {
         self.gate(day)?;
         let Some(booking) = self.booking else {
@@ -279,8 +279,8 @@ impl Pledge {
     }
 
     fn confirm(&mut self, day: Day, booking: &Booking) -> Result<Applied, Refusal>
-        requires { self.old.last ≤ day }
-        ensures { IsApplied (confirmed self.old day booking.now booking.now.state) self.old result self.new }
+        requires later { self.old.last ≤ day }
+        ensures step { IsApplied (confirmed self.old day booking.now booking.now.state) self.old result self.new }
     {
         match booking.state {
             BookingState::Asked => {
@@ -295,8 +295,8 @@ impl Pledge {
     }
 
     fn decline(&mut self, day: Day, booking: &Booking) -> Result<Applied, Refusal>
-        requires { self.old.last ≤ day }
-        ensures { IsApplied (declined self.old day booking.now booking.now.state) self.old result self.new }
+        requires later { self.old.last ≤ day }
+        ensures step { IsApplied (declined self.old day booking.now booking.now.state) self.old result self.new }
     {
         match booking.state {
             BookingState::Asked | BookingState::Confirmed => {
@@ -309,7 +309,7 @@ impl Pledge {
 
     // Closes the pledge on payment of what is owed.
     fn redeem(&mut self, day: Day, paid: u64) -> Result<Applied, Refusal>
-        ensures { IsApplied (unless (bars self.old day) (redeem_step self.old day paid)) self.old result self.new }
+        ensures step { IsApplied (unless (bars self.old day) (redeem_step self.old day paid)) self.old result self.new }
     {
         self.gate(day)?;
         if self.held {
@@ -327,7 +327,7 @@ impl Pledge {
 
     // Closes the pledge by sale.
     fn sell(&mut self, day: Day, net: u64) -> Result<Applied, Refusal>
-        ensures { IsApplied (unless (bars self.old day) (sell_step self.old day net)) self.old result self.new }
+        ensures step { IsApplied (unless (bars self.old day) (sell_step self.old day net)) self.old result self.new }
     {
         self.gate(day)?;
         let Status::Realisable = self.open_status(day) else {
@@ -349,7 +349,7 @@ impl Pledge {
 
     // Agrees on a later end of the period.
     fn extend(&mut self, day: Day, until: Day) -> Result<Applied, Refusal>
-        ensures { IsApplied (unless (bars self.old day) (extend_step self.old day until)) self.old result self.new }
+        ensures step { IsApplied (unless (bars self.old day) (extend_step self.old day until)) self.old result self.new }
     {
         self.gate(day)?;
         let ends = self.debt.ends();
@@ -373,7 +373,7 @@ impl Pledge {
         requires later { self.old.last ≤ extension.day }
         requires inside { extension.day ≤ end_of self.old }
         requires longer { end_of self.old < extension.until }
-        ensures { IsApplied (Changed (with_extension self.old extension) (Done.Extended extension.until)) self.old result self.new }
+        ensures step { IsApplied (Changed (with_extension self.old extension) (Done.Extended extension.until)) self.old result self.new }
     {
         let day = extension.day;
         let until = extension.until;
@@ -391,7 +391,7 @@ impl Pledge {
 impl Booking {
     // The same booking in another state.
     fn in_state(self, state: BookingState) -> Booking
-        ensures { result ≡ in_state self state }
+        ensures value { result ≡ in_state self state }
     {
         Booking {
             day: self.day,
@@ -404,7 +404,7 @@ impl Booking {
 impl BookingState {
     // Whether a booking is asked for or confirmed.
     fn is_standing(self) -> bool
-        ensures { result ≡ is_standing self }
+        ensures value { result ≡ is_standing self }
     {
         match self {
             BookingState::Asked | BookingState::Confirmed => true,
@@ -414,7 +414,7 @@ impl BookingState {
 
     // The state once the pledge is closed.
     fn after_closing(self) -> BookingState
-        ensures { result ≡ state_after self }
+        ensures value { result ≡ state_after self }
     {
         match self {
             BookingState::Asked | BookingState::Confirmed => BookingState::Cancelled,
@@ -427,7 +427,7 @@ impl BookingState {
 impl Paper {
     // How a secret is issued on the paper.
     fn issue(self) -> Issue
-        ensures { result ≡ issue_of self }
+        ensures value { result ≡ issue_of self }
     {
         match self {
             Paper::Sworn => Issue::Sworn,
@@ -438,7 +438,7 @@ impl Paper {
 
 // A booking once its pledge is closed.
 fn booking_after(booking: Option<Booking>) -> Option<Booking>
-    ensures { result ≡ booking_after booking }
+    ensures value { result ≡ booking_after booking }
 {
     match booking {
         None => None,
@@ -448,7 +448,7 @@ fn booking_after(booking: Option<Booking>) -> Option<Booking>
 
 // Whether an entry that stands is asked for again.
 fn is_repeat(entry: &Entry, sort: Sort, pence: u64) -> bool
-    ensures { result ≡ is_repeat entry.now sort pence }
+    ensures value { result ≡ is_repeat entry.now sort pence }
 {
     entry.sort == sort && entry.pence == pence
 }

@@ -9,9 +9,9 @@ pub returns-then-eq : goal.returns-then-eq
 returns-then-eq c = record {
   value = (
       let test : c.eq.result ≡ is_text c.pledge-item.result.reference c.args.reference.now =
-      c.eq.ensures ∙ ap (λ t. is_text t c.as_str-in-loop-pledge.result.now) (c.as_str.ensures.value ∙ c.reference.ensures)
+      c.eq.ensures ∙ ap (λ t. is_text t c.as_str-in-loop-pledge.result.now) (c.as_str.ensures.value ∙ c.reference.ensures.value)
       ∙ ap (λ t. is_text c.pledge-item.result.reference t) c.as_str-in-loop-pledge.ensures.value in
-      ap Some c.number.ensures
+      ap Some c.number.ensures.value
       ∙ ap (option_map (λ (p : PledgeValue). p.number))
       (sym (reference_here c.args.pledges.now c.args.reference.now c.loop-pledge.pledge-index c.pledge-item.result c.loop-pledge-test.true c.pledge-item.is (sym test ∙ c.if-eq.true))
       ∙ c.loop-pledge.invariant));
@@ -20,7 +20,7 @@ returns-then-eq c = record {
 pub loop-pledge-preserved : goal.loop-pledge-preserved
 loop-pledge-preserved c =
     let test : c.eq.result ≡ is_text c.pledge-item.result.reference c.args.reference.now =
-    c.eq.ensures ∙ ap (λ t. is_text t c.as_str-in-loop-pledge.result.now) (c.as_str.ensures.value ∙ c.reference.ensures)
+    c.eq.ensures ∙ ap (λ t. is_text t c.as_str-in-loop-pledge.result.now) (c.as_str.ensures.value ∙ c.reference.ensures.value)
     ∙ ap (λ t. is_text c.pledge-item.result.reference t) c.as_str-in-loop-pledge.ensures.value in
     sym (reference_next c.args.pledges.now c.args.reference.now c.loop-pledge.pledge-index c.pledge-item.result c.loop-pledge-test.true c.pledge-item.is (sym test ∙ c.if-eq.false))
     ∙ c.loop-pledge.invariant

@@ -12,7 +12,7 @@ returns-in-Ok-clause-reads g c = reads_then c.find_reference.ensures.reads c.tak
     let answer = subst (IsTaken (taken_under c.args.head.now c.args.opening.now c.args.stamp.now (newest at.terms))) c.in-Ok.is (taken at is heads) in
     subst (λ n. Plans h c.args.book (take_pledge at c.args.book c.args.opening.now c.args.stamp.now (with_reference at.pledges c.args.opening.now.reference))
     (Ok (record { change = Some (PutPledge c.args.book n c.in-Ok.pledge); reply = Opened c.first_receipt-in-Ok.result })))
-    (sym c.number-number.ensures)
+    (sym c.number-number.ensures.value)
     (subst (λ r. Plans h c.args.book (take_pledge at c.args.book c.args.opening.now c.args.stamp.now (with_reference at.pledges c.args.opening.now.reference))
     (Ok (record { change = Some (PutPledge c.args.book c.in-Ok.pledge.number c.in-Ok.pledge); reply = Opened r })))
     (sym c.first_receipt-in-Ok.ensures.value)

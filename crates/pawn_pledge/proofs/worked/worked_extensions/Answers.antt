@@ -6,4 +6,4 @@ use Rattle.pawn_pledge.proofs.worked.worked_extensions.Goals as goal
 
 pub returns : goal.returns
 unfolding civil_after days_from_civil day_count days_of_years days_of_months due_after
-returns c = (refl, refl, refl, refl, refl, refl, refl, refl, refl, refl, refl)
+returns c = record { extensions = (refl, refl, refl, refl, refl, refl, refl, refl, refl, refl, refl) }

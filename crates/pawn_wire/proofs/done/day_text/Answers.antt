@@ -11,5 +11,5 @@ ok_by X P Q (Err e) h x = absurd (h.0 x)
 
 pub unwrap-requires : goal.unwrap-requires
 unwrap-requires c =
-    let ascii : IsAscii c.text-bytes.result = rw c.text-bytes.ensures (day_ascii c.args.day) in
+    let ascii : IsAscii c.text-bytes.result = rw c.text-bytes.ensures.value (day_ascii c.args.day) in
     ok_by _ _ _ c.from_utf8.result c.from_utf8.ensures.cases (IsUtf8-from_ascii c.text-bytes.result ascii)

@@ -123,7 +123,7 @@ invariant_of-self-2 c =
     let list = map-set entry_of ks c.in-Some.place next
     ∙ ap (set (map entry_of ks) c.in-Some.place)
     (entry_is next c.args.book kept.made kept.terms.items (put_from 1 kept.pledges.items c.args.number c.args.pledge.now) kept.imported number refl refl
-    (c.in-Ok-put.ensures.ok ∙ ap (put_from 1 kept.pledges.items c.args.number) c.in-Ok.ensures) refl) in
+    (c.in-Ok-put.ensures.ok ∙ ap (put_from 1 kept.pledges.items c.args.number) c.in-Ok.ensures.ok) refl) in
     (pledge_saved _ c.args.self.now (record { books = map entry_of (set ks c.in-Some.place next); limit = c.self.inside.limit }) _ ((c.from.result + c.from-2.result) - c.from-3.result)
     c.args.book c.args.number c.args.pledge.now c.in-Some.place (entry_of kept).1 c.self.invariant c.self.view_is c.requires.can_save place found list refl
     (subst (λ (k : BookValue). ((c.from.result + c.from-2.result) - c.from-3.result) + standing_rows (pledge_from 1 k.pledges c.args.number) ≡ c.self.inside.rows + pledge_rows c.args.pledge.now) same sums)
@@ -155,7 +155,7 @@ returns c = record {
       let list = map-set entry_of ks c.in-Some.place next
       ∙ ap (set (map entry_of ks) c.in-Some.place)
       (entry_is next c.args.book kept.made kept.terms.items (put_from 1 kept.pledges.items c.args.number c.args.pledge.now) kept.imported number refl refl
-      (c.in-Ok-put.ensures.ok ∙ ap (put_from 1 kept.pledges.items c.args.number) c.in-Ok.ensures) refl) in
+      (c.in-Ok-put.ensures.ok ∙ ap (put_from 1 kept.pledges.items c.args.number) c.in-Ok.ensures.ok) refl) in
       (pledge_saved _ c.args.self.now (record { books = map entry_of (set ks c.in-Some.place next); limit = c.self.inside.limit }) _ ((c.from.result + c.from-2.result) - c.from-3.result)
       c.args.book c.args.number c.args.pledge.now c.in-Some.place (entry_of kept).1 c.self.invariant c.self.view_is c.requires.can_save place found list refl
       (subst (λ (k : BookValue). ((c.from.result + c.from-2.result) - c.from-3.result) + standing_rows (pledge_from 1 k.pledges c.args.number) ≡ c.self.inside.rows + pledge_rows c.args.pledge.now) same sums)

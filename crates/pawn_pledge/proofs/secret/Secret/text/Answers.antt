@@ -6,4 +6,4 @@ use Rattle.pawn_pledge.proofs.secret.Secret.text.Goals as goal
 
 pub returns : goal.returns
 returns c =
-    IfOk-weaker c.from_str.result _ _ (λ t e. e ∙ c.encode_lower-text.ensures.text ∙ ap (λ (xs : List ℕ). hyphenated_text lower xs) (c.hyphenated.ensures ∙ c.from_u128.ensures) ∙ ap secret_text c.self.view_is) c.from_str.ensures.ok
+    record { ok = IfOk-weaker c.from_str.result _ _ (λ t e. e ∙ c.encode_lower-text.ensures.text ∙ ap (λ (xs : List ℕ). hyphenated_text lower xs) (c.hyphenated.ensures ∙ c.from_u128.ensures) ∙ ap secret_text c.self.view_is) c.from_str.ensures.ok }
