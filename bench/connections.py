@@ -18,15 +18,12 @@ sys.path.insert(0, os.path.join(os.path.dirname(os.path.abspath(__file__)), "../
 if len(sys.argv) > 1:
     os.environ["PAWND"] = sys.argv[1]
 
-from service import BROKER, OPERATOR, PROGRAM, SEED, Server, request  # noqa: E402
+from service import OPERATOR, PROGRAM, SEED, Server  # noqa: E402
+import requests  # noqa: E402  (the other script of this folder)
 
 COUNT = 499
-START = [
-    request("POST", "/books/7", f"Pledge-Key: {OPERATOR}", body=f'{{"capacity":2,"key":"{BROKER}","name":"High Street"}}'),
-    request("POST", "/books/7/terms", f"Pledge-Key: {BROKER}", body='{"keep_after":0,"keep_before":0,"rate":0,"version":1}')]
-OPENINGS = [
-    request("POST", "/books/7/pledges", f"Pledge-Key: {BROKER}",
-            body=f'{{"article":"Gold ring","five_days":false,"kind":"fixed","pence":10000,"ref":"A{n}"}}') for n in range(COUNT)]
+START = list(requests.start())
+OPENINGS = [requests.opening(n) for n in range(COUNT)]
 
 
 def read_reply(peer):
@@ -41,31 +38,30 @@ def read_reply(peer):
     return body
 
 
-def over_one(port, requests):
+def over_one(port, asked):
     with socket.create_connection(("127.0.0.1", port)) as peer:
         peer.setsockopt(socket.IPPROTO_TCP, socket.TCP_NODELAY, 1)
         told = []
-        for asked in requests:
-            peer.sendall(asked)
+        for one in asked:
+            peer.sendall(one)
             told.append(read_reply(peer))
         return told
 
 
-def over_many(port, requests):
-    return [over_one(port, [asked])[0] for asked in requests]
+def over_many(port, asked):
+    return [over_one(port, [one])[0] for one in asked]
 
 
-def timed(name, call, port, requests):
+def timed(name, call, port, asked):
     begun = time.perf_counter()
-    told = call(port, requests)
+    told = call(port, asked)
     taken = time.perf_counter() - begun
-    print(f"{name:52}{taken / len(requests) * 1e6:10.1f} microseconds each")
+    print(f"{name:52}{taken / len(asked) * 1e6:10.1f} microseconds each")
     return told
 
 
 def views(told):
-    receipts = [body.split(b'"receipt":"')[1].split(b'"')[0].decode() for body in told]
-    return [request("GET", "/books/7/held", f"Pledge-Receipt: {receipt}") for receipt in receipts]
+    return [requests.view(receipt) for receipt in requests.receipts(b"".join(told))]
 
 
 def echo(listener):
@@ -77,7 +73,7 @@ def echo(listener):
                 peer.sendall(b"HTTP/1.1 200 OK\r\nContent-Length: 156\r\n\r\n" + b"x" * 156)
 
 
-def through_answer(name, requests, before):
+def through_answer(name, asked, before):
     """The time of these requests behind others, less that of the others."""
     def taken(stream):
         best = None
@@ -87,7 +83,7 @@ def through_answer(name, requests, before):
             spent = time.perf_counter() - begun
             best = spent if best is None else min(best, spent)
         return best
-    print(f"{name:52}{(taken(before + requests) - taken(before)) / len(requests) * 1e6:10.1f} microseconds each")
+    print(f"{name:52}{(taken(before + asked) - taken(before)) / len(asked) * 1e6:10.1f} microseconds each")
 
 
 def main():

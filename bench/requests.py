@@ -9,46 +9,37 @@ and so for repayments of one penny on each of 499 pledges. Repayments on one ple
 entries grow, each span less the one before it. Start and the reading of the stream are included where
 nothing is taken off.
 """
-import glob
 import os
 import resource
 import subprocess
 import sys
 import time
 
-OPERATOR = "11111111-1111-1111-1111-111111111111"
-BOOK = "22222222-2222-2222-2222-222222222222"
-SEED = "0" * 64
+sys.path.insert(0, os.path.join(os.path.dirname(os.path.abspath(__file__)), "../tests"))
+if len(sys.argv) > 1:
+    os.environ["PAWND"] = sys.argv[1]
+
+from service import BROKER, OPERATOR, PROGRAM, SEED, request  # noqa: E402
+
 RUNS = 9
 
 
-def request(method, target, fields, body=""):
-    lines = [f"{method} {target} HTTP/1.1", "Host: x"]
-    lines += [f"{name}: {value}" for name, value in fields]
-    if body:
-        lines.append(f"Content-Length: {len(body)}")
-    return ("\r\n".join(lines) + "\r\n\r\n" + body).encode()
-
-
 def start():
-    yield request("POST", "/books/7", [("Pledge-Key", OPERATOR)],
-                  f'{{"capacity":2,"key":"{BOOK}","name":"High Street"}}')
-    yield request("POST", "/books/7/terms", [("Pledge-Key", BOOK)],
-                  '{"keep_after":0,"keep_before":0,"rate":0,"version":1}')
+    yield request("POST", "/books/7", f"Pledge-Key: {OPERATOR}", body=f'{{"capacity":2,"key":"{BROKER}","name":"High Street"}}')
+    yield request("POST", "/books/7/terms", f"Pledge-Key: {BROKER}", body='{"keep_after":0,"keep_before":0,"rate":0,"version":1}')
 
 
 def opening(n):
-    return request("POST", "/books/7/pledges", [("Pledge-Key", BOOK)],
-                   '{"article":"Gold ring","five_days":false,"kind":"fixed","pence":10000,'
-                   f'"ref":"A{n}"}}')
+    return request("POST", "/books/7/pledges", f"Pledge-Key: {BROKER}",
+                   body=f'{{"article":"Gold ring","five_days":false,"kind":"fixed","pence":10000,"ref":"A{n}"}}')
 
 
 def view(receipt):
-    return request("GET", "/books/7/held", [("Pledge-Receipt", receipt)])
+    return request("GET", "/books/7/held", f"Pledge-Receipt: {receipt}")
 
 
 def repayment(receipt, seq):
-    return request("POST", "/books/7/held/repay", [("Pledge-Receipt", receipt)], f'{{"pence":1,"seq":{seq}}}')
+    return request("POST", "/books/7/held/repay", f"Pledge-Receipt: {receipt}", body=f'{{"pence":1,"seq":{seq}}}')
 
 
 def answer(program, stream):
@@ -72,9 +63,8 @@ def line(name, count, seconds):
 
 
 def main():
-    built = glob.glob(os.path.join(os.path.dirname(__file__), "../crates/pawnd/out/**/pawnd"), recursive=True)
-    program = sys.argv[1] if len(sys.argv) > 1 else next(iter(built), None)
-    if program is None:
+    program = PROGRAM
+    if not os.path.exists(program):
         sys.exit("no program: run `rt run` in crates/pawnd first, or name one")
     _, nothing = answer(program, b"".join(start()))
     many, openings = answer(program, b"".join(start()) + b"".join(map(opening, range(998))))
@@ -101,4 +91,5 @@ def main():
     print(f"peak memory: {peak} KiB")
 
 
-main()
+if __name__ == "__main__":
+    main()
