@@ -34,7 +34,7 @@ fn charges_and_a_repayment(rt: HostRuntime) -> Result<(), Fail> {
     let totals = debt.totals();
     assert_eq!(rt; totals.day.number(), 19753);
     assert_eq!(rt; totals.principal, 9800);
-    assert_eq!(rt; totals.charges, 100_000);
+    assert_eq!(rt; totals.millionths, 100_000);
     assert!(rt; totals.day <= later);
     let terms = debt.terms();
     assert_eq!(rt;
@@ -140,7 +140,7 @@ fn a_debt_of_its_entries(rt: HostRuntime) -> Result<(), Fail> {
     assert_eq!(rt; again.kind(), kind);
     assert_eq!(rt; again.entries(), debt.entries());
     assert_eq!(rt; again.totals(), debt.totals());
-    assert_eq!(rt; again.totals().charges, 30_000);
+    assert_eq!(rt; again.totals().millionths, 30_000);
     assert!(rt; debt.last() <= later);
     assert!(rt; again.last() <= later);
     assert_eq!(rt; again.owing(later), debt.owing(later));

@@ -2,6 +2,7 @@
 use Rattle.std.specs.Prelude.{◌≡◌, ℕ, zero, suc, ◌+◌, ◌-◌, ◌≤◌, ◌<◌, ◌/◌, ◌%◌, ◌==◌, nat_lt, nat_le, min, max, Bool, not, ◌&&◌, ◌||◌, if◌then◌else◌, List, [], ◌∷◌, Option, Some, None, pos}
 use Rattle.std.specs.Int.{IsInRange}
 use Rattle.jiff_core.specs.Calendar.{days_in_month, days_from_civil}
+pub use Rattle.pawn_terms.specs.Limits.{first_day, last_stamp_day, final_day}
 
 -- a day as a calendar names it
 pub record Civil : Type 0 where
@@ -34,16 +35,6 @@ next_day c =
 unfoldable pub civil_after : ℕ → Civil
 civil_after zero = record { year = 2000; month = 1; day = 1 }
 civil_after (suc n) = next_day (civil_after n)
-
--- the number of 2000-01-01, of 2199-12-31 and of 2299-12-31, counted from 1970-01-01
-abbrev pub first_day : ℕ
-first_day = 10957
-
-abbrev pub last_stamp_day : ℕ
-last_stamp_day = 84005
-
-abbrev pub final_day : ℕ
-final_day = 120529
 
 -- a number that is a day's
 abbrev pub IsDayNumber : ℕ → Type 0

@@ -1,5 +1,5 @@
 -- Refusals in order.
-use Rattle.std.specs.Prelude.{◌≡◌, ◌⊎◌, Bool, false, if◌then◌else◌, List, [], ◌∷◌, Result, Ok, Err}
+use Rattle.std.specs.Prelude.{◌≡◌, ◌⊎◌, Bool, false, if◌then◌else◌, List, [], ◌∷◌, Result, Ok, Err, IsOk}
 
 -- the first refusal whose condition holds, or else the answer
 abbrev pub first_of : {V E : Type 0} → List (Bool × E) → Result V E → Result V E
@@ -15,3 +15,7 @@ NoneApplies (row ∷ rows) = (row.0 ≡ false) × NoneApplies rows
 abbrev pub IsSaid : {V E : Type 0} → (E → Type 0) → Result V E → Result V E → Type 0
 IsSaid excuse said (Ok value) = said ≡ Ok value
 IsSaid excuse said (Err why) = excuse why ⊎ (said ≡ Err why)
+
+-- memory was wanting in place of an acceptance
+abbrev pub IsWant : {V E : Type 0} → E → Result V E → E → Type 0
+IsWant memory said why = (why ≡ memory) × IsOk said

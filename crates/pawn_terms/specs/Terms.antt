@@ -1,5 +1,6 @@
 -- The terms of an agreement.
 use Rattle.std.specs.Prelude.{ℕ, ◌≤◌}
+pub use Rattle.pawn_terms.specs.Limits.{most_rate, most_keep}
 
 -- the rate of interest in millionths per day, and the charges for safe keeping
 -- up to the end of the period and after it, in millionths of a penny per day
@@ -7,14 +8,6 @@ pub record TermsValue : Type 0 where
   pub rate : ℕ
   pub keep_before : ℕ
   pub keep_after : ℕ
-
--- two per cent a day
-abbrev pub most_rate : ℕ
-most_rate = 20000
-
--- ten pence a day
-abbrev pub most_keep : ℕ
-most_keep = 10000000
 
 -- safe keeping is not dearer after the end than before it
 abbrev pub IsChecked : TermsValue → Type 0
