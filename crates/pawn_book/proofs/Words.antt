@@ -7,7 +7,7 @@ use Rattle.pawn_debt.specs.declared.entry.Sort.{Sort}
 use Rattle.pawn_debt.specs.declared.entry.Sort.TheVariants.{Draw, Repay}
 use Rattle.pawn_debt.specs.declared.fault.DebtFault.{DebtFault}
 use Rattle.pawn_debt.specs.declared.fault.DebtFault.TheVariants.{BadAmount}
-use Rattle.pawn_debt.specs.Answers.{draw_answer, most_pence, repay_answer}
+use Rattle.pawn_debt.specs.Answers.{draw_answer, repay_answer}
 use Rattle.pawn_debt.specs.Due.{DebtValue}
 use Rattle.pawn_pledge.specs.declared.command.Command.{Command}
 use Rattle.pawn_pledge.specs.declared.command.Decision.{Decision}
@@ -24,6 +24,7 @@ use Rattle.pawn_pledge.specs.Pledge.{PledgeValue, debt_of, end_of, is_passed, is
 use Rattle.pawn_pledge.specs.Step.{Answered, Changed, Judged, ask_step, asked, bars, books, cancel_step, cancelled, closed, confirmed, decide_step, declare_bars, declare_step, declined, entered, entry_of, entry_step, extend_step, hold_step, in_state, is_ahead, is_repeat, issue_of, last_window, most_extensions, new_end_step, numbered_step, past, pledge_after, pledge_step, redeem_step, same_flag, sell_step, stands_for, unless, with_extension, with_secret}
 use Rattle.pawn_book.specs.Sound.{AreWords, IsWord}
 use Rattle.pawn_book.proofs.Sounds.{each_push}
+use Rattle.pawn_debt.specs.Limits.{most_pence}
 
 -- the secrets are words after a step
 abbrev LeavesWords : PledgeValue → Judged → Type 0
