@@ -84,7 +84,7 @@ pub data Move (p : PledgeValue) (x : ℕ) (command : Command) (q : PledgeValue) 
       → last_of p.agreement.taken p.entries ≤ x → length p.entries < most_entries → IsDrawnBy (end_of p) sort x
       → q ≡ record p { entries = p.entries ++ new_entry p x sort pence ∷ []; standing = changed_on p.standing x } → Move p x command q
   Holding : (flag : Bool) → same_flag p.standing.held flag ≡ false → q ≡ settled p (held_on p.standing flag x) → Move p x command q
-  Declaring : (paper : Paper) (word : ℕ) → NoneApplies (declare_bars p (record { day = x; word = word }) paper)
+  Declaring : (paper : Paper) (word : ℕ) → NoneApplies (declare_bars p paper word)
       → q ≡ with_secret p (record { day = x; sort = issue_of paper; secret = word }) → Move p x command q
   Asking : (b : Booking) → x ≤ b.day → IsNotPassed p b.day → b.window ≤ last_window → b.state ≡ BookingState.Asked → (p.standing.booking ≡ Some b → ⊥)
       → (IsCommand command → b.day ≤ last_stamp_day) → q ≡ settled p (booked_on p.standing b x) → Move p x command q
@@ -139,7 +139,7 @@ hold-moves p q c x flag d h =
 declare-moves : (p q : PledgeValue) (c : Command) (stamp : Stamp) (paper : Paper) (d : Done) → declare_step p stamp paper ≡ Changed q d → Move p stamp.day c q
 declare-moves p q c stamp paper d h =
     let next : PledgeValue = with_secret p (record { day = stamp.day; sort = issue_of paper; secret = stamp.word }) in
-    let a = unless-changed (declare_bars p stamp paper) (Changed next (Done.Declared stamp.word)) q d h in
+    let a = unless-changed (declare_bars p paper stamp.word) (Changed next (Done.Declared stamp.word)) q d h in
     Declaring paper stamp.word a.0 (changed-is next q _ d a.1)
 
 -- bookings; one for that day and window that doesn't stand is another than the one asked for

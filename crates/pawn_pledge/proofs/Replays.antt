@@ -101,7 +101,7 @@ later-issue : (p : PledgeValue) (paper : Paper) → (is_written paper && not (is
 later-issue p Paper.Written h = small_enough (credit_of p.agreement.opening.kind) h
 later-issue p Paper.Sworn h = tt
 
-pub stays-declared : (p : PledgeValue) (x word : ℕ) (paper : Paper) → IsReplayable p → IsGated p x → NoneApplies (declare_bars p (record { day = x; word = word }) paper)
+pub stays-declared : (p : PledgeValue) (x word : ℕ) (paper : Paper) → IsReplayable p → IsGated p x → NoneApplies (declare_bars p paper word)
     → IsReplayable (with_secret p (record { day = x; sort = issue_of paper; secret = word }))
 stays-declared p x word paper h g ok =
     let i : Issued = record { day = x; sort = issue_of paper; secret = word } in
