@@ -7,7 +7,7 @@ ghost use Rattle.pawn_debt.specs.Kept.{IsKept, owed_of, totals_of};
 ghost use Rattle.pawn_debt.specs.Replay.{CanStand};
 ghost use Rattle.pawn_debt.specs.Limits.{most_pence, most_entries, most_a_day, most_millionths};
 
-use crate::entry::{Entries, Entry, Kind, Sort};
+use crate::entry::{Entries, Entry, Kind, Sort, find_entry};
 use crate::fault::DebtFault;
 use crate::limits::{MOST_ENTRIES, MOST_PENCE};
 use crate::owing::{Owing, Totals, after_draw, after_repay, carry, owing_after};
@@ -260,7 +260,7 @@ impl Debt {
     pub fn entry(&self, seq: u64) -> Option<Entry>
         ensures value { result ≡ find (λ e. e.seq == seq) self.now.entries }
     {
-        self.entries.find(seq)
+        find_entry(self.entries.as_slice(), seq)
     }
 
     /// The day taken.
