@@ -6,7 +6,8 @@ ghost use Rattle.pawn_pledge.specs.Brief.{brief_status, brief_owing, IsBookingWi
 ghost use Rattle.pawn_debt.specs.Limits.{most_pence, most_entries, most_millionths};
 
 use crate::limits::{
-    LAST_STAMP_DAY, LAST_WINDOW, MOST_MILLIONTHS, MOST_ENTRIES, MOST_EXTENSIONS, MOST_PENCE, MOST_SECRETS,
+    LAST_STAMP_DAY, LAST_WINDOW, MOST_ENTRIES, MOST_EXTENSIONS, MOST_MILLIONTHS, MOST_PENCE,
+    MOST_SECRETS,
 };
 use crate::record::{Agreement, Booking, Closing, Standing, Status};
 use crate::secret::Secret;

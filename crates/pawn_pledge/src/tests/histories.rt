@@ -1,6 +1,6 @@
 //! Histories of pledges, and the parts of what became of them.
-use super::{day, is_same_again, plain};
-use crate::{Command, Decision, Paper, Pledge, RequestDay, Stamp};
+use super::{day, is_same_again, pledge};
+use crate::{Command, Decision, Kind, Paper, Pledge, RequestDay, Stamp};
 use std::alloc::Global;
 use std::test::Fail;
 
@@ -47,7 +47,7 @@ fn apply_chosen(pledge: &mut Pledge, turns: &[(Stamp, Command)], chosen: u32) {
 
 fn pledge_of(alloc: Global, pence: u64, chosen: u32) -> Result<Pledge, Fail> {
     let turns = turns()?;
-    let mut pledge = plain(alloc, pence)?;
+    let mut pledge = pledge(alloc, Kind::Fixed(pence))?;
     apply_chosen(&mut pledge, &turns, chosen);
     Ok(pledge)
 }
