@@ -8,6 +8,7 @@ use Rattle.pawn_terms.proofs.RefusalLemmas.{first_of-ok}
 use Rattle.pawn_debt.specs.declared.fault.DebtFault.TheVariants.{BadAmount}
 use Rattle.pawn_debt.specs.Due.{credit_of}
 use Rattle.pawn_debt.specs.Answers.{is_bad_amount}
+use Rattle.pawn_debt.specs.Limits.{most_pence}
 use Rattle.pawn_pledge.specs.declared.record.Issue.TheVariants as Issue
 use Rattle.pawn_pledge.specs.declared.record.Closing.TheVariants as Closing
 use Rattle.pawn_pledge.specs.Pledge.{PledgeValue, end_of}
@@ -17,7 +18,6 @@ use Rattle.pawn_pledge.specs.Replayable.{IsNotPassed, IsStanding}
 use Rattle.pawn_pledge.specs.Laws.{StartsStanding}
 use Rattle.pawn_pledge.proofs.Moves.{not_below}
 use Rattle.pawn_pledge.proofs.Replays.{period_end-late}
-use Rattle.pawn_debt.specs.Limits.{most_pence}
 
 inside-not_passed : (p : PledgeValue) (x : ℕ) → x ≤ end_of p → IsNotPassed p x
 inside-not_passed p x h = let t : nat_le x (end_of p) ≡ true = grind (arith, nat_tests, h) in rw t refl

@@ -2,7 +2,7 @@
 use Rattle.std.specs.Prelude.{◌≡◌, ℕ, ◌+◌, ◌-◌, nat_lt, nat_le, ◌==◌, ◌&&◌, ◌||◌, not, Bool, true, false, if◌then◌else◌, List, [], ◌∷◌, ◌++◌, length, find, Option, Some, None, Result, Ok, Err, IsOk, ◌⊎◌}
 use Rattle.std.specs.List.{list_any}
 use Rattle.pawn_terms.specs.declared.terms.Rates.{Rates}
-use Rattle.pawn_terms.specs.Refusals.{first_of, IsSaid, IsWant}
+use Rattle.pawn_terms.specs.Refusals.{first_of}
 use Rattle.pawn_debt.specs.declared.entry.Entry.{Entry}
 use Rattle.pawn_debt.specs.declared.entry.Sort.{Sort}
 use Rattle.pawn_debt.specs.declared.entry.Sort.TheVariants.{Draw, Repay}
@@ -10,6 +10,7 @@ use Rattle.pawn_debt.specs.declared.fault.DebtFault.{DebtFault}
 use Rattle.pawn_debt.specs.declared.fault.DebtFault.TheVariants.{EarlierDay, BadAmount}
 use Rattle.pawn_debt.specs.Due.{DebtValue, credit_of}
 use Rattle.pawn_debt.specs.Answers.{draw_answer, repay_answer, is_bad_amount}
+use Rattle.pawn_debt.specs.Limits.{most_pence}
 use Rattle.pawn_pledge.specs.declared.record.Opening.{Opening}
 use Rattle.pawn_pledge.specs.declared.record.Issued.{Issued}
 use Rattle.pawn_pledge.specs.declared.record.Issue.{Issue}
@@ -26,18 +27,9 @@ use Rattle.pawn_pledge.specs.declared.command.Command.{Command}
 use Rattle.pawn_pledge.specs.declared.command.Done.{Done}
 use Rattle.pawn_pledge.specs.declared.command.Applied.{Applied}
 use Rattle.pawn_pledge.specs.declared.refusal.Refusal.{Refusal}
+use Rattle.pawn_pledge.specs.Limits.{most_secrets, most_extensions, last_window}
 use Rattle.pawn_pledge.specs.Refusal.{refusal_of}
 use Rattle.pawn_pledge.specs.Pledge.{PledgeValue, changed_on, settled, end_of, is_small, debt_of, total_on, open_status, is_passed, is_realisable}
-use Rattle.pawn_debt.specs.Limits.{most_pence}
-
-abbrev pub most_secrets : ℕ
-most_secrets = 101
-
-abbrev pub most_extensions : ℕ
-most_extensions = 99
-
-abbrev pub last_window : ℕ
-last_window = 15
 
 -- a pledge as it is taken: its one secret is the stamp's word
 abbrev pub started : ℕ → Opening → ℕ → Rates → Stamp → Result PledgeValue Refusal
@@ -353,4 +345,5 @@ IsApplied judged old (Err fault) new = (new ≡ old) × ((judged ≡ Refused fau
 
 -- a new pledge is what the rules say, or memory was wanted
 abbrev pub IsStarted : Result PledgeValue Refusal → Result PledgeValue Refusal → Type 0
-IsStarted answer result = IsSaid (IsWant Refusal.Memory answer) answer result
+IsStarted answer (Ok new) = answer ≡ Ok new
+IsStarted answer (Err fault) = (answer ≡ Err fault) ⊎ ((fault ≡ Refusal.Memory) × IsOk answer)

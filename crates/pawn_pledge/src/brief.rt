@@ -1,18 +1,18 @@
 ghost use Rattle.std.specs.Prelude.{◌≡◌, ◌≤◌, ◌↔◌, IsTrue, OnErr, IfOk, IfErr, IfSome, IfNone};
-ghost use Rattle.pawn_terms.specs.Calendar.{last_stamp_day};
+ghost use Rattle.pawn_terms.specs.Limits.{last_stamp_day};
 ghost use Rattle.pawn_debt.specs.Due.{credit_of};
-ghost use Rattle.pawn_pledge.specs.Step.{most_secrets, most_extensions};
-ghost use Rattle.pawn_pledge.specs.Brief.{brief_status, brief_owing, IsBookingWithin, IsClosingWithin, AreTotalsWithin, IsBriefWithin};
 ghost use Rattle.pawn_debt.specs.Limits.{most_pence, most_entries, most_millionths};
+ghost use Rattle.pawn_pledge.specs.Brief.{brief_status, brief_owing, IsBookingWithin, IsClosingWithin, AreTotalsWithin, IsBriefWithin};
+ghost use Rattle.pawn_pledge.specs.Limits.{most_secrets, most_extensions};
 
-use crate::limits::{
-    LAST_STAMP_DAY, LAST_WINDOW, MOST_ENTRIES, MOST_EXTENSIONS, MOST_MILLIONTHS, MOST_PENCE,
-    MOST_SECRETS,
-};
+use crate::limits::{LAST_WINDOW, MOST_EXTENSIONS, MOST_SECRETS};
 use crate::record::{Agreement, Booking, Closing, Standing, Status};
 use crate::secret::Secret;
 use crate::status::status_under;
-use pawn_debt::{Day, Kind, Owing, Terms, Totals, owing_from};
+use pawn_debt::{
+    Day, Kind, MOST_ENTRIES, MOST_MILLIONTHS, MOST_PENCE, Owing, Terms, Totals, owing_from,
+};
+use pawn_terms::LAST_STAMP_DAY;
 use std::marker::Model;
 
 /// How many entries, secrets and extensions a pledge has.
@@ -47,7 +47,7 @@ pub struct Brief {
 
 impl Model for Brief {
     ghost use Rattle.std.specs.Prelude.{◌≡◌, ◌≤◌};
-    ghost use Rattle.pawn_terms.specs.Calendar.{last_stamp_day};
+    ghost use Rattle.pawn_terms.specs.Limits.{last_stamp_day};
     ghost use Rattle.pawn_debt.specs.Limits.{most_pence, most_millionths};
     ghost use Rattle.pawn_pledge.specs.declared.brief.BriefFields.{BriefFields};
 

@@ -1,17 +1,18 @@
 ghost use Rattle.std.specs.Prelude.{◌≡◌, ◌≤◌, ◌↔◌, IsTrue, IfSome, IfNone};
-ghost use Rattle.pawn_terms.specs.Calendar.{last_stamp_day};
+ghost use Rattle.pawn_terms.specs.Limits.{last_stamp_day};
 ghost use Rattle.pawn_debt.specs.Kept.{IsKept as IsOwed};
 ghost use Rattle.pawn_pledge.specs.Pledge.{debt_of, end_of, end_after, open_status, is_passed};
 ghost use Rattle.pawn_pledge.specs.Parts.{IsTyped, IsLimited, AreIssuedIn};
 ghost use Rattle.pawn_pledge.specs.Replayable.{Each, IsLaterIssue, AreIssued, AreDistinct, DoNotFall, last_issue, IsDrawnBy, AreExtended, last_extension, IsOverUnder, IsBooked, IsClosed, IsStanding};
 
-use crate::limits::{LAST_STAMP_DAY, LAST_WINDOW, MOST_EXTENSIONS, MOST_PENCE, MOST_SECRETS};
+use crate::limits::{LAST_WINDOW, MOST_EXTENSIONS, MOST_SECRETS};
 use crate::record::{
     Agreement, Booking, BookingState, Closing, Extension, Extensions, Issue, Issued, Secrets,
     Standing, Status,
 };
 use crate::status::{is_small, status_by};
-use pawn_debt::{Day, Entries, Entry, Sort, Terms, Totals, owing_at, replay_entries};
+use pawn_debt::{Day, Entries, Entry, MOST_PENCE, Sort, Terms, Totals, owing_at, replay_entries};
+use pawn_terms::LAST_STAMP_DAY;
 
 /// The record of a pledge as plain fields, be it one that a pledge can have or not.
 #[derive(Drop)]
