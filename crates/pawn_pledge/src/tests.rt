@@ -8,7 +8,6 @@ use std::test::Fail;
 
 mod briefs;
 mod histories;
-mod limits;
 
 // A command on a day, with a word, and what it is to answer.
 #[derive(Clone, Copy)]
