@@ -6,7 +6,8 @@ use Rattle.pawn_pledge.specs.declared.record.Extension.{Extension}
 use Rattle.pawn_pledge.specs.declared.command.Stamp.{Stamp}
 use Rattle.pawn_pledge.specs.declared.command.Command.{Command}
 use Rattle.pawn_pledge.specs.Pledge.{PledgeValue, end_of}
-use Rattle.pawn_pledge.specs.Step.{Judged, Refused, Answered, Changed, new_entry, pledge_step, pledge_after}
+use Rattle.pawn_pledge.specs.Words.{new_entry}
+use Rattle.pawn_pledge.specs.Step.{Judged, Refused, Answered, Changed, pledge_step, pledge_after}
 use Rattle.pawn_pledge.specs.Growth.{Grows, StaysOrGrows}
 use Rattle.pawn_pledge.specs.Laws.{ListsGrow}
 use Rattle.pawn_pledge.proofs.Moves.{Move, pledge_moves, Entering, Holding, Declaring, Asking, Marking, Redeeming, Selling, Extending}

@@ -9,7 +9,8 @@ use Rattle.pawn_pledge.specs.declared.record.Closing.{Closing}
 use Rattle.pawn_pledge.specs.declared.command.Stamp.{Stamp}
 use Rattle.pawn_pledge.specs.declared.command.Command.{Command}
 use Rattle.pawn_pledge.specs.Pledge.{PledgeValue, last_secret, live_under, live_of}
-use Rattle.pawn_pledge.specs.Step.{Judged, Refused, Answered, Changed, is_open, issue_of, pledge_step, pledge_after}
+use Rattle.pawn_pledge.specs.Words.{is_open, issue_of}
+use Rattle.pawn_pledge.specs.Step.{Judged, Refused, Answered, Changed, pledge_step, pledge_after}
 use Rattle.pawn_pledge.specs.Growth.{StaysOrGrows}
 use Rattle.pawn_pledge.specs.Laws.{NeverLiveAgain}
 use Rattle.pawn_pledge.proofs.Moves.{IsGated, Move, pledge_moves, Entering, Holding, Declaring, Asking, Marking, Redeeming, Selling, Extending}
