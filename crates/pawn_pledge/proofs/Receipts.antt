@@ -3,7 +3,6 @@ use Rattle.std.proofs.Common.{◌≡◌, ℕ, ◌-◌, ◌==◌, ◌||◌, Bool,
 use Rattle.std.specs.List.{list_any}
 use Rattle.std.proofs.lemmas.Bool.{true≢false}
 use Rattle.std.proofs.lemmas.List.Folds.{list_any-append}
-use Rattle.pawn_terms.specs.Terms.{IsChecked}
 use Rattle.pawn_pledge.specs.declared.record.Issued.{Issued}
 use Rattle.pawn_pledge.specs.declared.record.Closing.{Closing}
 use Rattle.pawn_pledge.specs.declared.command.Stamp.{Stamp}
@@ -17,20 +16,6 @@ use Rattle.pawn_pledge.proofs.Moves.{IsGated, Move, pledge_moves, Entering, Hold
 -- no command gets past a closing
 pub closed-moved : (c : Closing) → is_open c ≡ false → c ≡ Closing.Open → ⊥
 closed-moved c shut is = true≢false (sym (ap is_open is) ∙ shut)
-
--- no move changes the terms
-pub terms-moved : (p q : PledgeValue) (c : Command) (w x : ℕ) → IsChecked p.agreement.terms → Move p x w c q → IsChecked q.agreement.terms
-terms-moved p q c w x h m = subst IsChecked (sym (same m)) h
-  where
-    same : Move p x w c q → q.agreement.terms ≡ p.agreement.terms
-    same (Entering sort pence ok late few drawn is) = ap (λ (v : PledgeValue). v.agreement.terms) is
-    same (Holding flag new is) = ap (λ (v : PledgeValue). v.agreement.terms) is
-    same (Declaring paper ok is) = ap (λ (v : PledgeValue). v.agreement.terms) is
-    same (Asking b later live small state new named is) = ap (λ (v : PledgeValue). v.agreement.terms) is
-    same (Marking b state at new is) = ap (λ (v : PledgeValue). v.agreement.terms) is
-    same (Redeeming paid free total is) = ap (λ (v : PledgeValue). v.agreement.terms) is
-    same (Selling net status small is) = ap (λ (v : PledgeValue). v.agreement.terms) is
-    same (Extending until inside longer few named is) = ap (λ (v : PledgeValue). v.agreement.terms) is
 
 -- the last of a list that one was put on
 last_of-push : (xs : List Issued) (x : Issued) → slice_get (xs ++ x ∷ []) (length xs) ≡ Some x
