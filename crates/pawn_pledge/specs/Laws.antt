@@ -50,6 +50,12 @@ StaysStanding =
     (p next : PledgeValue) (stamp : Stamp) (command : Command) (done : Done)
     → IsStampDay stamp.day → IsCommand command → IsStanding p → pledge_step p stamp command ≡ Changed next done → IsStanding next
 
+-- a change leaves what was agreed when the pledge was taken
+abbrev pub AgreementStays : Type 0
+AgreementStays =
+    (p next : PledgeValue) (stamp : Stamp) (command : Command) (done : Done)
+    → pledge_step p stamp command ≡ Changed next done → next.agreement ≡ p.agreement
+
 -- a change changes something
 abbrev pub ChangesDiffer : Type 0
 ChangesDiffer =
