@@ -13,7 +13,7 @@ use Rattle.pawn_book.specs.declared.change.Change.TheVariants.{MakeBook, AddTerm
 use Rattle.pawn_book.specs.BookStep.{BookValue, made_book, changed_book, pledge_from, put_from}
 use Rattle.pawn_book.specs.HostStep.{Host, rows, book_rows, pledge_rows, with_book}
 use Rattle.pawn_book.specs.Sound.{AreSound}
-use Rattle.pawn_book.specs.Keeping.{CanSave, Follows, Continues, changed}
+use Rattle.pawn_book.specs.Changes.{CanSave, Follows, Continues, changed}
 use Rattle.pawn_book.specs.Books.{Books}
 use Rattle.pawn_book.specs.declared.fault.SaveError.TheVariants.{Full}
 use Rattle.pawn_book.specs.Listed.{IsKept, IsPlace, Saves, book_at, host_of, standing_rows}

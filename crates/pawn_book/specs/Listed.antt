@@ -1,5 +1,5 @@
 -- The host of books in a list.
-use Rattle.std.specs.Prelude.{◌≡◌, ◌≢◌, ℕ, zero, suc, ◌≤◌, ◌<◌, List, [], ◌∷◌, Option, Some, None, Result, Ok, Err, ◌==◌, if◌then◌else◌}
+use Rattle.std.specs.Prelude.{◌≡◌, ◌≢◌, ℕ, zero, suc, ◌≤◌, ◌<◌, List, [], ◌∷◌, Option, Some, None, Result, Ok, Err, ◌==◌, if◌then◌else◌, ⊤}
 use Rattle.std.specs.FinMap.{from_entries}
 use Rattle.pawn_book.specs.declared.list.Kept.{Kept}
 use Rattle.pawn_book.specs.declared.change.Change.{Change}
@@ -9,7 +9,8 @@ use Rattle.pawn_book.specs.BookStep.{BookValue}
 use Rattle.pawn_pledge.specs.Pledge.{PledgeValue}
 use Rattle.pawn_book.specs.HostStep.{Host, rows, pledge_rows}
 use Rattle.pawn_book.specs.Sound.{IsSound}
-use Rattle.pawn_book.specs.Keeping.{changed}
+use Rattle.pawn_book.specs.Changes.{changed}
+use Rattle.pawn_book.specs.Keeping.{Keeping}
 use Rattle.pawn_book.specs.Books.{Books}
 
 -- a book of the list, with its number
@@ -65,3 +66,7 @@ Saves old change (Ok done) new = (host_of new ≡ changed (host_of old) change) 
 Saves old change (Err Full) new = (new ≡ old) × (old.limit < rows (changed (host_of old) change))
 Saves old change (Err Memory) new = new ≡ old
 Saves old change (Err (Store fault)) new = ⊥
+
+-- a list is always honest, serves and is steady
+abbrev pub list_keeping : Keeping Books
+list_keeping = record { stands = λ k h. h ≡ host_of k; honest = λ k. ⊤; serves = λ k. ⊤; steady = λ k. ⊤ }

@@ -2,7 +2,8 @@ ghost use Rattle.std.specs.Prelude.{[], ◌≡◌, ◌<◌, ◌≤◌, ◌+◌, 
 ghost use Rattle.pawn_pledge.specs.Brief.{brief_of};
 ghost use Rattle.pawn_book.specs.BookStep.{confirmed_for, head_of, is_confirmed_for, pledge_from, pledge_in, put_from, terms_at, with_reference};
 ghost use Rattle.pawn_book.specs.HostStep.{pledge_rows};
-ghost use Rattle.pawn_book.specs.Keeping.{CanSave, entries_of, extensions_of, number_of, pledges_of, terms_of};
+ghost use Rattle.pawn_book.specs.Changes.{CanSave};
+ghost use Rattle.pawn_book.specs.Keeping.{entries_of, extensions_of, number_of, pledges_of, terms_of};
 ghost use Rattle.pawn_book.specs.Listed.{IsLeastAbove, IsPlace, Saves, book_at, entry_of, host_of, standing_rows};
 ghost use Rattle.pawn_book.specs.Visits.{Visits, IsShare};
 
@@ -142,16 +143,9 @@ impl ListKeep {
 }
 
 impl Keep for ListKeep {
-    ghost use Rattle.std.specs.Prelude.{◌≡◌, ⊤};
-    ghost use Rattle.pawn_book.specs.Listed.{host_of};
+    ghost use Rattle.pawn_book.specs.Listed.{list_keeping};
 
-    ghost stands = { λ k h. h ≡ host_of k };
-
-    ghost honest = { λ k. ⊤ };
-
-    ghost serves = { λ k. ⊤ };
-
-    ghost steady = { λ k. ⊤ };
+    ghost keeping = { list_keeping };
 
     fn head(&mut self, book: Number) -> Result<Option<Head>, KeepError> {
         let Ok(head) = head_in(&self.books, book) else {

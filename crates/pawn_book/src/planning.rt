@@ -5,7 +5,8 @@ ghost use Rattle.pawn_pledge.specs.Replayable.{IsStanding};
 ghost use Rattle.pawn_book.specs.BookStep.{BookValue, are_terms, book_step, created, first_receipt, head_of, is_book, is_opening, live_at, newest, next_terms, pledge_in, put_terms, take_pledge, taken_under, terms_at, with_reference};
 ghost use Rattle.std.specs.Str.{IsUtf8};
 ghost use Rattle.pawn_book.specs.Sound.{IsSound, IsWord};
-ghost use Rattle.pawn_book.specs.Keeping.{Gates, IsQuiet, IsSteady, IsTaken, IsUnwell, IsWritten, Plans, Reads, pledges_of};
+ghost use Rattle.pawn_book.specs.Keeping.{IsQuiet, IsSteady, Reads, pledges_of};
+ghost use Rattle.pawn_book.specs.Plans.{Gates, IsTaken, IsUnwell, IsWritten, Plans};
 
 use crate::change::{Change, Head, Planned};
 use crate::commands::{plan_number, plan_receipt};
@@ -28,8 +29,8 @@ const MOST_PLEDGES: u64 = 1_000_000;
 /// The head of a book, for the holder of its key. Refused as `NoSuchBook` where the book does not
 /// stand or the key is another's.
 pub fn gate<K: Keep>(keep: &mut K, book: Number, key: Secret) -> Result<Head, Refusal>
-    ensures reads { Reads K.stands K.honest K.serves keep.old keep.new (λ h. Gates (get h.books book) key result) }
-    ensures steady { IsQuiet K.steady keep.old keep.new result }
+    ensures reads { Reads K.keeping keep.old keep.new (λ h. Gates (get h.books book) key result) }
+    ensures steady { IsQuiet K.keeping keep.old result }
 {
     match keep.head(book) {
         Err(error) => Err(unwell(error)),
@@ -50,8 +51,8 @@ pub fn find_live<K: Keep>(
     book: Number,
     receipt: &Receipt,
 ) -> Result<Option<Pledge>, KeepError>
-    ensures reads { Reads K.stands K.honest K.serves keep.old keep.new (λ h. IfOk result (λ pledge. pledge ≡ live_at (pledge_in (get h.books book)) receipt.now)) }
-    ensures steady { IsSteady K.steady keep.old keep.new result }
+    ensures reads { Reads K.keeping keep.old keep.new (λ h. IfOk result (λ pledge. pledge ≡ live_at (pledge_in (get h.books book)) receipt.now)) }
+    ensures steady { IsSteady K.keeping keep.old result }
 {
     match keep.pledge(book, receipt.number)? {
         None => Ok(None),
@@ -75,8 +76,8 @@ pub fn plan<K: Keep>(
     request: &Request,
 ) -> Result<Planned, Refusal>
     requires written { IsWritten request.now.caller }
-    ensures reads { Reads K.stands K.honest K.serves keep.old keep.new (λ h. IsSound h → Plans h request.now.book (book_step (get h.books request.now.book) operator request.now.book stamp.now request.now.caller) result) }
-    ensures steady { IsQuiet K.steady keep.old keep.new result }
+    ensures reads { Reads K.keeping keep.old keep.new (λ h. IsSound h → Plans h request.now.book (book_step (get h.books request.now.book) operator request.now.book stamp.now request.now.caller) result) }
+    ensures steady { IsQuiet K.keeping keep.old result }
 {
     match &request.caller {
         Caller::Operator { key, new_book } => {
@@ -125,8 +126,8 @@ pub(crate) fn unwell(error: KeepError) -> Refusal
 
 // A book that is to be made, or stands with the same key, name and capacity.
 fn plan_book<K: Keep>(keep: &mut K, book: Number, new_book: &NewBook) -> Result<Planned, Refusal>
-    ensures reads { Reads K.stands K.honest K.serves keep.old keep.new (λ h. IsSound h → Plans h book (created (get h.books book) book new_book.now) result) }
-    ensures steady { IsQuiet K.steady keep.old keep.new result }
+    ensures reads { Reads K.keeping keep.old keep.new (λ h. IsSound h → Plans h book (created (get h.books book) book new_book.now) result) }
+    ensures steady { IsQuiet K.keeping keep.old result }
 {
     // Whoever reads the number knows that it is one that a book may have.
     let _ = book.get();
@@ -161,9 +162,9 @@ fn plan_terms<K: Keep>(
     head: &Head,
     new_terms: &NewTerms,
 ) -> Result<Planned, Refusal>
-    ensures reads { Reads K.stands K.honest K.serves keep.old keep.new (λ h. IsSound h → (at : BookValue) → get h.books book ≡ Some at → head.now ≡ head_of at →
+    ensures reads { Reads K.keeping keep.old keep.new (λ h. IsSound h → (at : BookValue) → get h.books book ≡ Some at → head.now ≡ head_of at →
         Plans h book (put_terms at book new_terms.now (terms_at at.terms new_terms.now.version)) result) }
-    ensures steady { IsQuiet K.steady keep.old keep.new result }
+    ensures steady { IsQuiet K.keeping keep.old result }
 {
     let version = new_terms.version;
     let reply = Reply::TermsPut(version);
@@ -201,9 +202,9 @@ fn plan_pledge<K: Keep>(
     opening: &Opening,
     stamp: &Stamp,
 ) -> Result<Planned, Refusal>
-    ensures reads { Reads K.stands K.honest K.serves keep.old keep.new (λ h. IsSound h → (at : BookValue) → get h.books book ≡ Some at → head.now ≡ head_of at →
+    ensures reads { Reads K.keeping keep.old keep.new (λ h. IsSound h → (at : BookValue) → get h.books book ≡ Some at → head.now ≡ head_of at →
         Plans h book (take_pledge at book opening.now stamp.now (with_reference at.pledges opening.now.reference)) result) }
-    ensures steady { IsQuiet K.steady keep.old keep.new result }
+    ensures steady { IsQuiet K.keeping keep.old result }
 {
     know_given(opening, stamp);
     match find_reference(keep, book, &opening.reference) {
@@ -260,8 +261,8 @@ fn find_reference<K: Keep>(
     book: Number,
     reference: &Reference,
 ) -> Result<Option<Pledge>, KeepError>
-    ensures reads { Reads K.stands K.honest K.serves keep.old keep.new (λ h. IsSound h → IfOk result (λ pledge. pledge ≡ with_reference (pledges_of (get h.books book)) reference.now)) }
-    ensures steady { IsSteady K.steady keep.old keep.new result }
+    ensures reads { Reads K.keeping keep.old keep.new (λ h. IsSound h → IfOk result (λ pledge. pledge ≡ with_reference (pledges_of (get h.books book)) reference.now)) }
+    ensures steady { IsSteady K.keeping keep.old result }
 {
     match keep.find_ref(book, reference) {
         Err(error) => Err(error),
@@ -279,10 +280,10 @@ fn take<K: Keep>(
     opening: &Opening,
     stamp: &Stamp,
 ) -> Result<Pledge, Refusal>
-    ensures reads { Reads K.stands K.honest K.serves keep.old keep.new (λ h. (at : BookValue) → get h.books book ≡ Some at → head.now ≡ head_of at →
+    ensures reads { Reads K.keeping keep.old keep.new (λ h. (at : BookValue) → get h.books book ≡ Some at → head.now ≡ head_of at →
         IsTaken (taken_under head.now opening.now stamp.now (newest at.terms)) result) }
     ensures standing { IfOk result IsStanding }
-    ensures steady { IsQuiet K.steady keep.old keep.new result }
+    ensures steady { IsQuiet K.keeping keep.old result }
 {
     match keep.terms(book, head.terms) {
         Err(error) => Err(unwell(error)),

@@ -85,9 +85,9 @@ pub(crate) fn put_statement<K: Keep, W: Write>(
     day: Day,
     writer: &mut Writing<W>,
 ) -> Result<(), KeepError>
-    ensures shares { Reads K.stands K.honest K.serves keep.old keep.new (λ h. IsSound h → (p : PledgeValue) → pledge_at h book number ≡ Some p → brief.now ≡ brief_of p
+    ensures shares { Reads K.keeping keep.old keep.new (λ h. IsSound h → (p : PledgeValue) → pledge_at h book number ≡ Some p → brief.now ≡ brief_of p
         → PutsShare W.contents writer.old (statement_text day p) (is_ok result) writer.new) }
-    ensures steady { IsSteady K.steady keep.old keep.new result }
+    ensures steady { IsSteady K.keeping keep.old result }
 {
     put_first(writer, brief);
     match keep.extensions(book, number, writer) {
@@ -110,7 +110,7 @@ pub fn statement<K: Keep, W: Write>(
     writer: &mut Writing<W>,
 ) -> Result<(), ViewFault>
     requires fine { write_failed writer.old ≡ false }
-    ensures shows { Reads K.stands K.honest K.serves keep.old keep.new (λ h. IsSound h → Shows W.contents ViewFault.NoSuchPledge writer.old (statement_of h book number day) result writer.new) }
+    ensures shows { Reads K.keeping keep.old keep.new (λ h. IsSound h → Shows W.contents ViewFault.NoSuchPledge writer.old (statement_of h book number day) result writer.new) }
     ensures write { IsErrOf result ViewFault.Write → write_failed writer.new ≡ true }
     ensures steady { IsQuietView K.steady keep.old keep.new result }
 {
