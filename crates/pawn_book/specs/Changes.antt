@@ -44,4 +44,3 @@ Follows h (PutPledge book number pledge) =
 pub record CanSave (h : Host) (change : Change) : Type 0 where
   pub follows : Follows h change
   pub sound : AreSound (changed h change)
-

@@ -9,8 +9,8 @@ ghost use Rattle.pawn_book.specs.Visits.{Visits, IsShare};
 
 use crate::change::{Change, Head};
 use crate::fault::{KeepError, SaveError};
-use crate::visit::{EntryVisitor, ExtensionVisitor, PledgeVisitor};
-use pawn_pledge::{Brief, Day, Number, Pledge, Reference, Terms};
+use crate::visit::Visitor;
+use pawn_pledge::{Brief, Day, Entry, Extension, Number, Pledge, Reference, Terms};
 
 /// What keeps a host, however it is kept. Only `save` changes the host.
 pub trait Keep {
@@ -44,7 +44,7 @@ pub trait Keep {
         ensures errs { Errs keeping self.old self.new result };
 
     /// Hands the visitor the pledges of a book in order of their numbers, until it wants no more.
-    fn walk<V: PledgeVisitor>(&mut self, book: Number, visitor: &mut V) -> Result<(), KeepError>
+    fn walk<V: Visitor<Pledge>>(&mut self, book: Number, visitor: &mut V) -> Result<(), KeepError>
         ensures reads { Visits V.step visitor.old visitor.new (λ given flow.
             Reads keeping self.old self.new (λ h. IsShare given flow (is_ok result) (pledges_of (get h.books book)))) }
         ensures errs { Errs keeping self.old self.new result };
@@ -60,7 +60,7 @@ pub trait Keep {
         ensures errs { Errs keeping self.old self.new result };
 
     /// Hands the visitor the entries of a pledge in order, until it wants no more.
-    fn entries<V: EntryVisitor>(
+    fn entries<V: Visitor<Entry>>(
         &mut self,
         book: Number,
         number: Number,
@@ -71,7 +71,7 @@ pub trait Keep {
         ensures errs { Errs keeping self.old self.new result };
 
     /// Hands the visitor the extensions of a pledge in order, until it wants no more.
-    fn extensions<V: ExtensionVisitor>(
+    fn extensions<V: Visitor<Extension>>(
         &mut self,
         book: Number,
         number: Number,

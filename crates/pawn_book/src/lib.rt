@@ -38,7 +38,7 @@ pub use request::{
     BearerCommand, BearerRequest, BrokerCommand, BrokerRequest, Caller, Name, NewBook, NewTerms,
     Request,
 };
-pub use visit::{EntryVisitor, ExtensionVisitor, Flow, PledgeVisitor};
+pub use visit::{Flow, Visitor};
 
 #[cfg(test)]
 mod tests;

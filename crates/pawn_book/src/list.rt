@@ -11,7 +11,7 @@ use crate::change::{Change, Head, Imported};
 use crate::fault::{KeepError, SaveError};
 use crate::keep::Keep;
 use crate::request::NewBook;
-use crate::visit::{EntryVisitor, ExtensionVisitor, Flow, PledgeVisitor};
+use crate::visit::{Flow, Visitor};
 use pawn_pledge::{
     Booking, BookingState, Brief, Day, Entry, Extension, Number, Pledge, Reference, Terms,
 };
@@ -180,8 +180,8 @@ impl Keep for ListKeep {
         Ok(count as u64)
     }
 
-    fn walk<V: PledgeVisitor>(&mut self, book: Number, visitor: &mut V) -> Result<(), KeepError> {
-        hand_pledges(pledges_in(&self.books, book), visitor);
+    fn walk<V: Visitor<Pledge>>(&mut self, book: Number, visitor: &mut V) -> Result<(), KeepError> {
+        hand(pledges_in(&self.books, book), visitor);
         Ok(())
     }
 
@@ -197,23 +197,23 @@ impl Keep for ListKeep {
         Ok(brief)
     }
 
-    fn entries<V: EntryVisitor>(
+    fn entries<V: Visitor<Entry>>(
         &mut self,
         book: Number,
         number: Number,
         visitor: &mut V,
     ) -> Result<(), KeepError> {
-        hand_entries(entries_in(&self.books, book, number), visitor);
+        hand(entries_in(&self.books, book, number), visitor);
         Ok(())
     }
 
-    fn extensions<V: ExtensionVisitor>(
+    fn extensions<V: Visitor<Extension>>(
         &mut self,
         book: Number,
         number: Number,
         visitor: &mut V,
     ) -> Result<(), KeepError> {
-        hand_extensions(extensions_in(&self.books, book, number), visitor);
+        hand(extensions_in(&self.books, book, number), visitor);
         Ok(())
     }
 
@@ -453,36 +453,12 @@ fn extensions_in(books: &[Kept], book: Number, number: Number) -> &[Extension]
     }
 }
 
-// Hands the entries to the visitor until it wants no more.
-fn hand_entries<V: EntryVisitor>(entries: &[Entry], visitor: &mut V)
-    ensures visits { Visits V.step visitor.old visitor.new (λ given flow. IsShare given flow true entries.now) }
+// Hands the items to the visitor until it wants no more.
+fn hand<T, V: Visitor<T>>(items: &[T], visitor: &mut V)
+    ensures visits { Visits V.step visitor.old visitor.new (λ given flow. IsShare given flow true items.now) }
 {
-    for entry in entries {
-        match visitor.visit(entry) {
-            Flow::Go => {}
-            Flow::Stop => return,
-        }
-    }
-}
-
-// Hands the pledges to the visitor until it wants no more.
-fn hand_pledges<V: PledgeVisitor>(pledges: &[Pledge], visitor: &mut V)
-    ensures visits { Visits V.step visitor.old visitor.new (λ given flow. IsShare given flow true pledges.now) }
-{
-    for pledge in pledges {
-        match visitor.visit(pledge) {
-            Flow::Go => {}
-            Flow::Stop => return,
-        }
-    }
-}
-
-// Hands the extensions to the visitor until it wants no more.
-fn hand_extensions<V: ExtensionVisitor>(extensions: &[Extension], visitor: &mut V)
-    ensures visits { Visits V.step visitor.old visitor.new (λ given flow. IsShare given flow true extensions.now) }
-{
-    for extension in extensions {
-        match visitor.visit(extension) {
+    for item in items {
+        match visitor.visit(item) {
             Flow::Go => {}
             Flow::Stop => return,
         }

@@ -16,12 +16,11 @@ use crate::lines::{
 };
 use crate::writing::Writing;
 use pawn_book::{
-    Brief, Closing, Day, Entry, EntryVisitor, Extension, ExtensionVisitor, Flow, Keep, KeepError,
-    Number,
+    Brief, Closing, Day, Entry, Extension, Flow, Keep, KeepError, Number, Visitor,
 };
 use std::io::Write;
 
-impl<W: Write> EntryVisitor for Writing<W> {
+impl<W: Write> Visitor<Entry> for Writing<W> {
     ghost step = { λ v e flow w. PutsLine W.contents entry_line v e flow w };
 
     fn visit(&mut self, entry: &Entry) -> Flow {
@@ -30,7 +29,7 @@ impl<W: Write> EntryVisitor for Writing<W> {
     }
 }
 
-impl<W: Write> ExtensionVisitor for Writing<W> {
+impl<W: Write> Visitor<Extension> for Writing<W> {
     ghost step = { λ v e flow w. PutsLine W.contents extended_line v e flow w };
 
     fn visit(&mut self, extension: &Extension) -> Flow {

@@ -8,6 +8,6 @@ use Rattle.pawn_book.proofs.list.ListKeepKeep.extensions.Goals as goal
 
 pub returns-clause-reads : goal.returns-clause-reads
 returns-clause-reads g c =
-    let visits = c.hand_extensions.ensures.visits in
+    let visits = c.hand.ensures.visits in
     let same = c.extensions_in.ensures.value ∙ ap (λ o. extensions_of (pledge_in o c.args.number)) (ap (λ ks. book_at (map entry_of ks) c.args.book) c.deref.ensures.value ∙ book_read _ c.args.self.now c.args.book c.self.view_is) in
     (visits.0, visits.1, visits.2, list_reads c.args.self.now _ (subst (IsShare visits.0 visits.1 true) same visits.3))
