@@ -9,6 +9,7 @@ use Rattle.pawn_book.specs.declared.visit.Flow.{Flow}
 use Rattle.pawn_book.specs.declared.visit.Flow.TheVariants.{Go, Stop}
 use Rattle.pawn_book.specs.BookStep.{pledge_in, live_at, are_unknown}
 use Rattle.pawn_book.specs.HostStep.{Host}
+use Rattle.pawn_book.specs.Keeping.{Keeping}
 use Rattle.pawn_view.specs.declared.writing.Writing.{Writing}
 use Rattle.pawn_view.specs.declared.fault.ViewFault.{ViewFault}
 use Rattle.pawn_view.specs.declared.fault.ViewFault.TheVariants as fault
@@ -58,6 +59,5 @@ Shows contents missing old text (Err fault.NoSuchPledge) new = (missing ≡ faul
 Shows contents missing old text (Err fault.NoSuchReceipt) new = (missing ≡ fault.NoSuchReceipt) × (text ≡ None) × (new ≡ old)
 
 -- over a steady keeper no text is refused by a fault of the store
-pub record IsQuietView {K U : Type 0} (steady : K → Type 0) (old new : K) (result : Result U ViewFault) : Type 0 where
-  pub stays : steady old → steady new
-  pub never : steady old → result ≡ Err fault.Store → ⊥
+abbrev pub IsQuietView : {K U : Type 0} → Keeping K → K → Result U ViewFault → Type 0
+IsQuietView k old result = k.steady old → result ≡ Err fault.Store → ⊥

@@ -124,7 +124,7 @@ pub fn held<K: Keep, W: Write>(
     requires fine { write_failed writer.old ≡ false }
     ensures shows { Reads K.keeping keep.old keep.new (λ h. IsSound h → Shows W.contents ViewFault.NoSuchReceipt writer.old (held_of h book receipts.now day) result writer.new) }
     ensures write { IsErrOf result ViewFault.Write → write_failed writer.new ≡ true }
-    ensures steady { IsQuietView K.steady keep.old keep.new result }
+    ensures steady { IsQuietView K.keeping keep.old result }
 {
     match is_any_live(keep, book, receipts) {
         Ok(true) => {}

@@ -111,7 +111,7 @@ pub fn statement<K: Keep, W: Write>(
     requires fine { write_failed writer.old ≡ false }
     ensures shows { Reads K.keeping keep.old keep.new (λ h. IsSound h → Shows W.contents ViewFault.NoSuchPledge writer.old (statement_of h book number day) result writer.new) }
     ensures write { IsErrOf result ViewFault.Write → write_failed writer.new ≡ true }
-    ensures steady { IsQuietView K.steady keep.old keep.new result }
+    ensures steady { IsQuietView K.keeping keep.old result }
 {
     let brief = match keep.brief(book, number) {
         Ok(Some(brief)) => brief,

@@ -9,6 +9,5 @@ use Rattle.pawn_view.proofs.receipts.put_further.Given as goal
 
 abbrev pub invariant-loop-receipt : goal.invariant-loop-receipt
 invariant-loop-receipt g l = record {
-  shares : Reads g.K.Keep.stands g.K.Keep.honest g.K.Keep.serves l.fn.keep l.keep (λ h. IsSound h → PutsShare g.W.Write.contents l.fn.writer (further_texts l.day (map (live_at (pledge_in (get h.books l.book))) (take l.receipt-index l.receipts))) true l.writer);
-  steady : g.K.Keep.steady l.fn.keep → g.K.Keep.steady l.keep;
+  shares : Reads g.K.Keep.keeping l.fn.keep l.keep (λ h. IsSound h → PutsShare g.W.Write.contents l.fn.writer (further_texts l.day (map (live_at (pledge_in (get h.books l.book))) (take l.receipt-index l.receipts))) true l.writer);
 }
