@@ -1,11 +1,11 @@
-ghost use Rattle.std.specs.Prelude.{[], ◌≡◌, ◌<◌, ◌≤◌, ◌+◌, ◌&&◌, if◌then◌else◌, IfNone, IfOk, IfSome, MatchOption, None, OnErr, OnOk, Some, length, map, nat_lt, option_map, true, unwrap_or};
+ghost use Rattle.std.specs.Prelude.{[], ◌≡◌, ◌<◌, ◌≤◌, ◌+◌, ◌&&◌, if◌then◌else◌, IfNone, IfOk, IfSome, MatchOption, None, OnErr, OnOk, Some, length, map, nat_lt, option_map, unwrap_or};
 ghost use Rattle.pawn_pledge.specs.Brief.{brief_of};
 ghost use Rattle.pawn_book.specs.BookStep.{confirmed_for, head_of, is_confirmed_for, pledge_from, pledge_in, put_from, terms_at, with_reference};
 ghost use Rattle.pawn_book.specs.HostStep.{pledge_rows};
 ghost use Rattle.pawn_book.specs.Changes.{CanSave};
 ghost use Rattle.pawn_book.specs.Keeping.{entries_of, extensions_of, number_of, pledges_of, terms_of};
 ghost use Rattle.pawn_book.specs.Listed.{IsLeastAbove, IsPlace, Saves, book_at, entry_of, host_of, standing_rows};
-ghost use Rattle.pawn_book.specs.Visits.{Visits, IsShare};
+ghost use Rattle.pawn_book.specs.Visits.{IsShare, Visits, Whole};
 
 use crate::change::{Change, Head, Imported};
 use crate::fault::{KeepError, SaveError};
@@ -455,7 +455,7 @@ fn extensions_in(books: &[Kept], book: Number, number: Number) -> &[Extension]
 
 // Hands the items to the visitor until it wants no more.
 fn hand<T, V: Visitor<T>>(items: &[T], visitor: &mut V)
-    ensures visits { Visits V.step visitor.old visitor.new (λ given flow. IsShare given flow true items.now) }
+    ensures visits { Visits V.step visitor.old visitor.new (λ given flow. IsShare given flow Whole items.now) }
 {
     for item in items {
         match visitor.visit(item) {

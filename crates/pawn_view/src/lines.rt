@@ -211,6 +211,7 @@ fn put_redeemed<W: Write>(writer: &mut Writing<W>, day: Day, paid: u64)
 }
 
 // `Sold 2024-08-01 net 90.00 surplus 0.00 shortfall 10.00`.
+#[tactic(auto, using(std::proofs::Common::append_assoc))]
 fn put_sold<W: Write>(writer: &mut Writing<W>, day: Day, net: u64, surplus: u64, shortfall: u64)
     ensures puts { Puts W.contents writer.old (sold_line day net surplus shortfall) writer.new }
 {
