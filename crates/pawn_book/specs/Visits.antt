@@ -15,9 +15,9 @@ pub data End : Type 0 where
   Front : End
 
 -- where a call ends that may err on the way
-abbrev pub end_of : {T E : Type 0} → Result T E → End
-end_of (Ok t) = Whole
-end_of (Err e) = Front
+abbrev pub call_end : {T E : Type 0} → Result T E → End
+call_end (Ok t) = Whole
+call_end (Err e) = Front
 
 -- what was handed is a front of the list, and all of it where the visitor never answered Stop and the call did not err
 abbrev pub IsShare : {T : Type 0} → List T → Flow → End → List T → Type 0

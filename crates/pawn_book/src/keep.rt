@@ -5,7 +5,7 @@ ghost use Rattle.pawn_book.specs.BookStep.{confirmed_for, head_of, pledge_in, te
 ghost use Rattle.pawn_book.specs.HostStep.{Host};
 ghost use Rattle.pawn_book.specs.Changes.{CanSave};
 ghost use Rattle.pawn_book.specs.Keeping.{Errs, IsNextBook, Keeping, Of, Reads, Saves, entries_of, extensions_of, number_of, pledges_of, terms_of};
-ghost use Rattle.pawn_book.specs.Visits.{IsShare, Visits, end_of};
+ghost use Rattle.pawn_book.specs.Visits.{IsShare, Visits, call_end};
 
 use crate::change::{Change, Head};
 use crate::fault::{KeepError, SaveError};
@@ -46,7 +46,7 @@ pub trait Keep {
     /// Hands the visitor the pledges of a book in order of their numbers, until it wants no more.
     fn walk<V: Visitor<Pledge>>(&mut self, book: Number, visitor: &mut V) -> Result<(), KeepError>
         ensures reads { Visits V.step visitor.old visitor.new (λ given flow.
-            Reads keeping self.old self.new (λ h. IsShare given flow (end_of result) (pledges_of (get h.books book)))) }
+            Reads keeping self.old self.new (λ h. IsShare given flow (call_end result) (pledges_of (get h.books book)))) }
         ensures errs { Errs keeping self.old self.new result };
 
     /// The least number of a book above one, or above none at all.
@@ -67,7 +67,7 @@ pub trait Keep {
         visitor: &mut V,
     ) -> Result<(), KeepError>
         ensures reads { Visits V.step visitor.old visitor.new (λ given flow.
-            Reads keeping self.old self.new (λ h. IsShare given flow (end_of result) (entries_of (pledge_in (get h.books book) number)))) }
+            Reads keeping self.old self.new (λ h. IsShare given flow (call_end result) (entries_of (pledge_in (get h.books book) number)))) }
         ensures errs { Errs keeping self.old self.new result };
 
     /// Hands the visitor the extensions of a pledge in order, until it wants no more.
@@ -78,7 +78,7 @@ pub trait Keep {
         visitor: &mut V,
     ) -> Result<(), KeepError>
         ensures reads { Visits V.step visitor.old visitor.new (λ given flow.
-            Reads keeping self.old self.new (λ h. IsShare given flow (end_of result) (extensions_of (pledge_in (get h.books book) number)))) }
+            Reads keeping self.old self.new (λ h. IsShare given flow (call_end result) (extensions_of (pledge_in (get h.books book) number)))) }
         ensures errs { Errs keeping self.old self.new result };
 
     /// Makes a change, unless the rows would be above the limit.

@@ -1,10 +1,11 @@
 //! The statements of the receipts that a bearer presents.
-ghost use Rattle.std.specs.Prelude.{◌≡◌, false, true, not, is_ok, option_map, IfOk, IsErrOf, [], ◌∷◌};
+ghost use Rattle.std.specs.Prelude.{◌≡◌, false, true, not, option_map, IfOk, IsErrOf, [], ◌∷◌};
 ghost use Rattle.std.specs.FinMap.{get};
 ghost use Rattle.pawn_pledge.specs.Brief.{brief_of};
 ghost use Rattle.pawn_book.specs.BookStep.{pledge_in, live_at, are_unknown};
 ghost use Rattle.pawn_book.specs.Sound.{IsSound};
 ghost use Rattle.pawn_book.specs.Keeping.{Reads, IsSteady};
+ghost use Rattle.pawn_book.specs.Visits.{call_end};
 ghost use Rattle.pawn_view.specs.Ends.{Puts, write_failed};
 ghost use Rattle.pawn_view.specs.Text.{shown_text, further_texts, held_text};
 ghost use Rattle.pawn_view.specs.Shown.{PutsShare, Shows, IsQuietView, live_pledges, held_of};
@@ -54,7 +55,7 @@ fn put_shown<K: Keep, W: Write>(
     day: Day,
     writer: &mut Writing<W>,
 ) -> Result<(), KeepError>
-    ensures shares { Reads K.keeping keep.old keep.new (λ h. IsSound h → PutsShare W.contents writer.old (shown_text day (live_at (pledge_in (get h.books book)) receipt.now)) (is_ok result) writer.new) }
+    ensures shares { Reads K.keeping keep.old keep.new (λ h. IsSound h → PutsShare W.contents writer.old (shown_text day (live_at (pledge_in (get h.books book)) receipt.now)) (call_end result) writer.new) }
     ensures steady { IsSteady K.keeping keep.old result }
 {
     match live_brief(keep, book, receipt) {
@@ -75,7 +76,7 @@ fn put_further<K: Keep, W: Write>(
     day: Day,
     writer: &mut Writing<W>,
 ) -> Result<(), KeepError>
-    ensures shares { Reads K.keeping keep.old keep.new (λ h. IsSound h → PutsShare W.contents writer.old (further_texts day (live_pledges h book receipts.now)) (is_ok result) writer.new) }
+    ensures shares { Reads K.keeping keep.old keep.new (λ h. IsSound h → PutsShare W.contents writer.old (further_texts day (live_pledges h book receipts.now)) (call_end result) writer.new) }
     ensures steady { IsSteady K.keeping keep.old result }
 {
     for receipt in receipts {
@@ -96,7 +97,7 @@ fn put_held<K: Keep, W: Write>(
     day: Day,
     writer: &mut Writing<W>,
 ) -> Result<(), KeepError>
-    ensures shares { Reads K.keeping keep.old keep.new (λ h. IsSound h → PutsShare W.contents writer.old (held_text day (live_pledges h book receipts.now)) (is_ok result) writer.new) }
+    ensures shares { Reads K.keeping keep.old keep.new (λ h. IsSound h → PutsShare W.contents writer.old (held_text day (live_pledges h book receipts.now)) (call_end result) writer.new) }
     ensures steady { IsSteady K.keeping keep.old result }
 {
     let [first, rest @ ..] = receipts else {

@@ -1,9 +1,10 @@
 //! The statement of a pledge.
-ghost use Rattle.std.specs.Prelude.{◌≡◌, ◌≤◌, false, true, Some, is_ok, max, IsErrOf};
+ghost use Rattle.std.specs.Prelude.{◌≡◌, ◌≤◌, false, true, Some, max, IsErrOf};
 ghost use Rattle.pawn_pledge.specs.Pledge.{PledgeValue};
 ghost use Rattle.pawn_pledge.specs.Brief.{brief_of, brief_status, brief_owing};
 ghost use Rattle.pawn_book.specs.Sound.{IsSound};
 ghost use Rattle.pawn_book.specs.Keeping.{Reads, IsSteady};
+ghost use Rattle.pawn_book.specs.Visits.{call_end};
 ghost use Rattle.pawn_view.specs.Fault.{ending_of};
 ghost use Rattle.pawn_view.specs.Ends.{Puts, write_failed};
 ghost use Rattle.pawn_view.specs.Text.{first_lines, state_lines, statement_text, extended_line, entry_line};
@@ -85,7 +86,7 @@ pub(crate) fn put_statement<K: Keep, W: Write>(
     writer: &mut Writing<W>,
 ) -> Result<(), KeepError>
     ensures shares { Reads K.keeping keep.old keep.new (λ h. IsSound h → (p : PledgeValue) → pledge_at h book number ≡ Some p → brief.now ≡ brief_of p
-        → PutsShare W.contents writer.old (statement_text day p) (is_ok result) writer.new) }
+        → PutsShare W.contents writer.old (statement_text day p) (call_end result) writer.new) }
     ensures steady { IsSteady K.keeping keep.old result }
 {
     put_first(writer, brief);
