@@ -8,6 +8,7 @@ use Rattle.pawn_book.specs.declared.fault.SaveError.TheVariants.{Full, Memory, S
 use Rattle.pawn_book.specs.BookStep.{BookValue}
 use Rattle.pawn_pledge.specs.Pledge.{PledgeValue}
 use Rattle.pawn_book.specs.HostStep.{Host, rows, pledge_rows}
+use Rattle.pawn_book.specs.Limits.{most_rows}
 use Rattle.pawn_book.specs.Sound.{IsSound}
 use Rattle.pawn_book.specs.Changes.{changed}
 use Rattle.pawn_book.specs.Keeping.{Keeping}
@@ -58,7 +59,7 @@ host_of k = record { books = from_entries k.books; limit = k.limit }
 pub record IsKept (k : Books) (count : ℕ) : Type 0 where
   pub sound : IsSound (host_of k)
   pub counted : count ≡ rows (host_of k)
-  pub limit : k.limit ≤ 10000000
+  pub limit : k.limit ≤ most_rows
 
 -- the change is made, or nothing is, and then for want of rows or of memory
 abbrev pub Saves : Books → Change → Result (Unit {0}) SaveError → Books → Type 0

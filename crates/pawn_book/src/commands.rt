@@ -10,8 +10,8 @@ ghost use Rattle.pawn_book.specs.Keeping.{IsQuiet, Reads};
 ghost use Rattle.pawn_book.specs.Plans.{IsOutcome, Plans, newly_confirmed, outcome_of};
 
 use crate::change::{Change, Head, Planned};
+use crate::gates::{find_live, know_word, unwell};
 use crate::keep::Keep;
-use crate::planning::{find_live, know_word, unwell};
 use crate::refusal::Refusal;
 use crate::reply::Reply;
 use pawn_pledge::{

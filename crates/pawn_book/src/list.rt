@@ -10,6 +10,7 @@ ghost use Rattle.pawn_book.specs.Visits.{IsShare, Visits, Whole};
 use crate::change::{Change, Head, Imported};
 use crate::fault::{KeepError, SaveError};
 use crate::keep::Keep;
+use crate::limits::MOST_ROWS;
 use crate::request::NewBook;
 use crate::visit::{Flow, Visitor};
 use pawn_pledge::{
@@ -17,9 +18,6 @@ use pawn_pledge::{
 };
 use std::alloc::{AllocError, Global};
 use std::marker::Model;
-
-/// At most as many rows are kept.
-pub const MOST_ROWS: u64 = 10_000_000;
 
 /// A book in the list.
 #[derive(Drop)]

@@ -5,7 +5,7 @@ use Rattle.pawn_book.specs.BookStep.{newest, take_pledge, taken_under, with_refe
 use Rattle.pawn_book.specs.Plans.{IsTaken, Plans}
 use Rattle.pawn_book.proofs.Plans.{taken_plans}
 use Rattle.pawn_book.proofs.Reading.{ok_is, reads_then}
-use Rattle.pawn_book.proofs.planning.plan_pledge.Goals as goal
+use Rattle.pawn_book.proofs.openings.plan_pledge.Goals as goal
 
 pub returns-in-Ok-clause-reads : goal.returns-in-Ok-clause-reads
 returns-in-Ok-clause-reads g c = reads_then c.find_reference.ensures.reads c.take.ensures.reads (λ h found taken sound at is heads.
