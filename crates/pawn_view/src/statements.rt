@@ -12,8 +12,8 @@ ghost use Rattle.pawn_view.specs.Shown.{PutsLine, PutsShare, Shows, IsQuietView,
 
 use crate::fault::{ViewFault, view_fault};
 use crate::lines::{
-    put_article, put_booking, put_closing, put_ends, put_entry, put_extended, put_held, put_kind,
-    put_owed, put_pledge, put_status, put_taken,
+    put_booking, put_closing, put_day, put_entry, put_extended, put_held, put_kind, put_number,
+    put_owed, put_status, put_text,
 };
 use crate::writing::Writing;
 use pawn_book::{
@@ -43,11 +43,11 @@ impl<W: Write> Visitor<Extension> for Writing<W> {
 fn put_first<W: Write>(writer: &mut Writing<W>, brief: &Brief)
     ensures puts { Puts W.contents writer.old (first_lines brief.now.number brief.now.article brief.now.kind brief.now.taken brief.now.ends) writer.new }
 {
-    put_pledge(writer, brief.number().get());
-    put_article(writer, brief.article().as_str());
+    put_number(writer, b"Pledge ", brief.number().get());
+    put_text(writer, b"Article ", brief.article().as_str());
     put_kind(writer, brief.kind());
-    put_taken(writer, brief.taken());
-    put_ends(writer, brief.ends());
+    put_day(writer, b"Taken ", brief.taken());
+    put_day(writer, b"Ends ", brief.ends());
 }
 
 // The lines between the extensions and the entries.
