@@ -3,7 +3,8 @@ use Rattle.std.proofs.Common.{◌≡◌, ℕ, zero, suc, ◌+◌, ◌-◌, ◌*�
 use Rattle.std.proofs.lemmas.Nat.{mul-le}
 use Rattle.std.proofs.lemmas.List.{append-nil}
 use Rattle.std.proofs.lemmas.Bool.Decides.{nat_tests}
-use Rattle.pawn_terms.specs.Terms.{TermsValue, IsChecked}
+use Rattle.pawn_terms.specs.declared.terms.Rates.{Rates}
+use Rattle.pawn_terms.specs.Terms.{IsChecked}
 use Rattle.pawn_terms.proofs.RefusalLemmas.{first_of-is_ok}
 use Rattle.pawn_debt.specs.declared.entry.Entry.{Entry}
 use Rattle.pawn_debt.specs.declared.entry.Kind.{Kind}
@@ -17,7 +18,7 @@ use Rattle.pawn_debt.specs.Kept.{most_a_day}
 use Rattle.pawn_debt.proofs.DueLemmas.{carried-principal}
 use Rattle.pawn_debt.proofs.EntryLemmas.{due-from-last, due-pushed, due-start, pushed, last-le, AreOrdered-push, last_of-push}
 
-keep-small : (t : TermsValue) (ends x : ℕ) → IsChecked t → keep_on t ends x ≤ 10000000
+keep-small : (t : Rates) (ends x : ℕ) → IsChecked t → keep_on t ends x ≤ 10000000
 keep-small t ends x h = from (nat_le x ends)
   where
     from : (b : Bool) → (if b then t.keep_before else t.keep_after) ≤ 10000000
@@ -25,7 +26,7 @@ keep-small t ends x h = from (nat_le x ends)
     from false = omega (arith, h.1, h.2)
 
 -- no day adds more than the most
-carried-small : (t : TermsValue) (ends x n : ℕ) (o : Due) → IsChecked t → o.principal ≤ most_pence → (carried t ends x n o).charges ≤ o.charges + n * most_a_day
+carried-small : (t : Rates) (ends x n : ℕ) (o : Due) → IsChecked t → o.principal ≤ most_pence → (carried t ends x n o).charges ≤ o.charges + n * most_a_day
 unfolding carried
 carried-small t ends x zero o h small = omega arith
 carried-small t ends x (suc n) o h small =

@@ -1,7 +1,7 @@
 -- What the calls on a debt answer: the first refusal that applies, or the new debt.
 use Rattle.std.specs.Prelude.{◌≡◌, ℕ, ◌+◌, nat_lt, nat_le, Bool, true, false, ◌||◌, ◌==◌, List, [], ◌∷◌, ◌++◌, length, Result, Ok, Err, IsOk, ◌⊎◌}
 use Rattle.pawn_terms.specs.Refusals.{first_of}
-use Rattle.pawn_terms.specs.Terms.{TermsValue}
+use Rattle.pawn_terms.specs.declared.terms.Rates.{Rates}
 use Rattle.pawn_debt.specs.declared.entry.Sort.{Sort}
 use Rattle.pawn_debt.specs.declared.entry.Sort.TheVariants.{Draw, Repay}
 use Rattle.pawn_debt.specs.declared.entry.Kind.{Kind}
@@ -32,7 +32,7 @@ with_entry p day sort pence =
     record p { entries = p.entries ++ record { seq = length p.entries + 1; day = day; sort = sort; pence = pence } ∷ [] }
 
 -- a debt begins with no entries
-abbrev pub start_answer : Kind → TermsValue → ℕ → ℕ → Result DebtValue DebtFault
+abbrev pub start_answer : Kind → Rates → ℕ → ℕ → Result DebtValue DebtFault
 start_answer kind terms taken ends =
     first_of
     ((is_bad_amount (credit_of kind), BadAmount) ∷ [])

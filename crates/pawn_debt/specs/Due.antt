@@ -1,6 +1,6 @@
 -- What is owed on a day, told day by day.
 use Rattle.std.specs.Prelude.{ℕ, zero, suc, ◌+◌, ◌-◌, ◌*◌, ◌/◌, ◌≤◌, ◌==◌, nat_le, min, if◌then◌else◌, List, [], ◌∷◌, filter}
-use Rattle.pawn_terms.specs.Terms.{TermsValue}
+use Rattle.pawn_terms.specs.declared.terms.Rates.{Rates}
 use Rattle.pawn_debt.specs.declared.entry.Entry.{Entry}
 use Rattle.pawn_debt.specs.declared.entry.Sort.{Sort}
 use Rattle.pawn_debt.specs.declared.entry.Sort.TheVariants.{Draw, Repay}
@@ -15,7 +15,7 @@ pub record Due : Type 0 where
 -- a debt: its kind and terms, the day on which it was taken, the end of its period, and its entries in order
 pub record DebtValue : Type 0 where
   pub kind : Kind
-  pub terms : TermsValue
+  pub terms : Rates
   pub taken : ℕ
   pub ends : ℕ
   pub entries : List Entry
@@ -52,12 +52,12 @@ after_entries due [] = due
 after_entries due (e ∷ es) = after_entries (after_entry due e) es
 
 -- a day's charge for safe keeping
-abbrev pub keep_on : TermsValue → ℕ → ℕ → ℕ
+abbrev pub keep_on : Rates → ℕ → ℕ → ℕ
 keep_on terms ends x = if nat_le x ends then terms.keep_before else terms.keep_after
 
 -- what is owed on the day x before its entries, from what was owed on the day before: the charges grow
 -- by interest on the principal and by safe keeping
-abbrev pub accrued : TermsValue → ℕ → ℕ → Due → Due
+abbrev pub accrued : Rates → ℕ → ℕ → Due → Due
 accrued terms ends x due =
     record { principal = due.principal; charges = due.charges + due.principal * terms.rate + keep_on terms ends x }
 
@@ -77,7 +77,7 @@ abbrev pub due : DebtValue → ℕ → Due
 due p x = due_after p (x - p.taken)
 
 -- what is owed n days after the day x, where no entries come in between
-unfoldable pub carried : TermsValue → ℕ → ℕ → ℕ → Due → Due
+unfoldable pub carried : Rates → ℕ → ℕ → ℕ → Due → Due
 carried terms ends x zero owed = owed
 carried terms ends x (suc n) owed = accrued terms ends (x + suc n) (carried terms ends x n owed)
 

@@ -12,7 +12,7 @@ pub use debt::Debt;
 pub use entry::{Entries, Entry, Kind, Sort};
 pub use fault::DebtFault;
 pub use owing::{Owing, Totals, owing_from};
-pub use pawn_terms::{Day, Terms};
+pub use pawn_terms::{Day, Rates, Terms};
 pub use replay::{owing_at, replay_entries};
 pub use worked::{worked_debts, worked_entries};
 

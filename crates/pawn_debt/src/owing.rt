@@ -41,8 +41,9 @@ pub(crate) fn carry(totals: &Totals, terms: Terms, ends: Day, day: Day) -> Total
     let start = totals.day.count();
     let days = (day.count() - start) as u64;
     let inside = (day.count().min(ends.count()).saturating_sub(start)) as u64;
-    let interest = days * (totals.principal * terms.rate());
-    let keep = inside * terms.keep_before() + (days - inside) * terms.keep_after();
+    let rates = terms.rates();
+    let interest = days * (totals.principal * rates.rate);
+    let keep = inside * rates.keep_before + (days - inside) * rates.keep_after;
     Totals {
         day,
         principal: totals.principal,

@@ -24,9 +24,10 @@ use Rattle.pawn_pledge.specs.declared.command.Decision.TheVariants.{Confirm, Ref
 use Rattle.pawn_pledge.specs.declared.command.Command.{Command}
 use Rattle.pawn_pledge.specs.declared.command.Done.{Done}
 use Rattle.pawn_pledge.specs.declared.refusal.Refusal.{Refusal}
-use Rattle.pawn_pledge.specs.Pledge.{PledgeValue, end_of, debt_of, total_on, open_status, is_passed, is_realisable}
-use Rattle.pawn_pledge.specs.Step.{Judged, Answered, Changed, past, unless, bars, is_open, is_repeat, is_ahead, new_entry, entered, entry_step, numbered_step, same_flag, hold_step, declare_bars, with_secret, issue_of, declare_step, books, in_state, is_standing, stands_for, asked, ask_step, cancelled, cancel_step, confirmed, declined, decide_step, closed, redeem_step, sell_step, with_extension, extend_step, pledge_step, last_window, most_extensions}
-use Rattle.pawn_pledge.specs.Replayable.{IsNotPassed, IsDrawnBy, IsCommand}
+use Rattle.pawn_pledge.specs.Pledge.{PledgeValue, changed_on, settled, end_of, debt_of, total_on, open_status, is_passed, is_realisable}
+use Rattle.pawn_pledge.specs.Step.{Judged, Answered, Changed, past, unless, bars, is_open, is_repeat, is_ahead, new_entry, entered, entry_step, numbered_step, same_flag, held_on, hold_step, declare_bars, with_secret, issue_of, declare_step, booked_on, books, in_state, is_standing, stands_for, asked, ask_step, cancelled, cancel_step, confirmed, declined, decide_step, closed, redeem_step, sell_step, with_extension, extend_step, pledge_step, last_window, most_extensions}
+use Rattle.pawn_pledge.specs.Replayable.{IsNotPassed, IsDrawnBy}
+use Rattle.pawn_pledge.specs.Commands.{IsCommand}
 
 -- a step that changes was not refused on the way
 past-changed : (g : Result (Unit {0}) Refusal) (own : Judged) (q : PledgeValue) (d : Done) → past g own ≡ Changed q d → (g ≡ Ok tt) × (own ≡ Changed q d)
@@ -65,8 +66,8 @@ not_same a b h e = grind (arith, nat_tests, h, e)
 
 -- nothing bars a command
 pub record IsGated (p : PledgeValue) (x : ℕ) : Type 0 where
-  pub later : p.last ≤ x
-  pub standing : p.closing ≡ Closing.Open
+  pub later : p.standing.last ≤ x
+  pub standing : p.standing.closing ≡ Closing.Open
   pub not_passed : IsNotPassed p x
 
 open-is : (c : Closing) → not (is_open c) ≡ false → c ≡ Closing.Open
@@ -75,21 +76,21 @@ open-is (Closing.Redeemed day paid) h = absurd (true≢false h)
 open-is (Closing.Sold day net) h = absurd (true≢false h)
 
 gate-is : (p : PledgeValue) (x : ℕ) → NoneApplies (bars p x) → IsGated p x
-gate-is p x h = record { later = not_below x p.last h.0; standing = open-is p.closing h.1.0; not_passed = h.1.1.0 }
+gate-is p x h = record { later = not_below x p.standing.last h.0; standing = open-is p.standing.closing h.1.0; not_passed = h.1.1.0 }
 
 -- what a step that changes does; a day that the command names is one that a request can give
 pub data Move (p : PledgeValue) (x : ℕ) (command : Command) (q : PledgeValue) : Type 0 where
   Entering : (sort : Sort) (pence : ℕ) → sort_answer sort (debt_of p) x pence ≡ Ok (with_entry (debt_of p) x sort pence)
-      → last_of p.taken p.entries ≤ x → length p.entries < most_entries → IsDrawnBy (end_of p) sort x
-      → q ≡ record p { entries = p.entries ++ new_entry p x sort pence ∷ []; last = x } → Move p x command q
-  Holding : (flag : Bool) → same_flag p.held flag ≡ false → q ≡ record p { held = flag; last = x } → Move p x command q
+      → last_of p.agreement.taken p.entries ≤ x → length p.entries < most_entries → IsDrawnBy (end_of p) sort x
+      → q ≡ record p { entries = p.entries ++ new_entry p x sort pence ∷ []; standing = changed_on p.standing x } → Move p x command q
+  Holding : (flag : Bool) → same_flag p.standing.held flag ≡ false → q ≡ settled p (held_on p.standing flag x) → Move p x command q
   Declaring : (paper : Paper) (word : ℕ) → NoneApplies (declare_bars p (record { day = x; word = word }) paper)
       → q ≡ with_secret p (record { day = x; sort = issue_of paper; secret = word }) → Move p x command q
-  Asking : (b : Booking) → x ≤ b.day → IsNotPassed p b.day → b.window ≤ last_window → b.state ≡ BookingState.Asked → (p.booking ≡ Some b → ⊥)
-      → (IsCommand command → b.day ≤ last_stamp_day) → q ≡ record p { booking = Some b; last = x } → Move p x command q
-  Marking : (b : Booking) (state : BookingState) → p.booking ≡ Some b → (b.state ≡ state → ⊥)
-      → q ≡ record p { booking = Some (in_state b state); last = x } → Move p x command q
-  Redeeming : (paid : ℕ) → p.held ≡ false → paid ≡ total_on p x → q ≡ closed p x (Closing.Redeemed x paid) → Move p x command q
+  Asking : (b : Booking) → x ≤ b.day → IsNotPassed p b.day → b.window ≤ last_window → b.state ≡ BookingState.Asked → (p.standing.booking ≡ Some b → ⊥)
+      → (IsCommand command → b.day ≤ last_stamp_day) → q ≡ settled p (booked_on p.standing b x) → Move p x command q
+  Marking : (b : Booking) (state : BookingState) → p.standing.booking ≡ Some b → (b.state ≡ state → ⊥)
+      → q ≡ settled p (booked_on p.standing (in_state b state) x) → Move p x command q
+  Redeeming : (paid : ℕ) → p.standing.held ≡ false → paid ≡ total_on p x → q ≡ closed p x (Closing.Redeemed x paid) → Move p x command q
   Selling : (net : ℕ) → open_status p x ≡ Status.Realisable → net ≤ most_pence → q ≡ closed p x (Closing.Sold x net) → Move p x command q
   Extending : (until : ℕ) → x ≤ end_of p → end_of p < until → length p.extensions < most_extensions
       → (IsCommand command → until ≤ last_stamp_day) → q ≡ with_extension p (record { day = x; until = until }) → Move p x command q
@@ -99,9 +100,9 @@ entered-moves : (p q : PledgeValue) (c : Command) (x : ℕ) (sort : Sort) (pence
     → sort_answer sort (debt_of p) x pence ≡ r → IsDrawnBy (end_of p) sort x → entered p x sort pence r ≡ Changed q d → Move p x c q
 entered-moves p q c x sort pence (Ok v) d is drawn h =
     let a = sort_answer-ok sort (debt_of p) v x pence is in
-    let moved : q ≡ record p { entries = v.entries; last = x } = changed-is (record p { entries = v.entries; last = x }) q _ d h in
+    let moved : q ≡ record p { entries = v.entries; standing = changed_on p.standing x } = changed-is (record p { entries = v.entries; standing = changed_on p.standing x }) q _ d h in
     Entering sort pence (is ∙ ap (λ (w : DebtValue). Ok w) a.2) a.0 a.1 drawn
-    (moved ∙ ap (λ (w : DebtValue). record p { entries = w.entries; last = x }) a.2)
+    (moved ∙ ap (λ (w : DebtValue). record p { entries = w.entries; standing = changed_on p.standing x }) a.2)
 entered-moves p q c x sort pence (Err fault) d is drawn h = cc
 
 entry-moves : (p q : PledgeValue) (c : Command) (x : ℕ) (sort : Sort) (pence : ℕ) (d : Done) → entry_step p x sort pence ≡ Changed q d → Move p x c q
@@ -131,8 +132,8 @@ numbered-moves p q c x seq sort pence None d h =
 -- the flag
 hold-moves : (p q : PledgeValue) (c : Command) (x : ℕ) (flag : Bool) (d : Done) → hold_step p x flag ≡ Changed q d → Move p x c q
 hold-moves p q c x flag d h =
-    let a = if-unanswered (same_flag p.held flag) _ _ q d h in
-    Holding flag a.0 (changed-is (record p { held = flag; last = x }) q _ d a.1)
+    let a = if-unanswered (same_flag p.standing.held flag) _ _ q d h in
+    Holding flag a.0 (changed-is (settled p (held_on p.standing flag x)) q _ d a.1)
 
 -- declarations
 declare-moves : (p q : PledgeValue) (c : Command) (stamp : Stamp) (paper : Paper) (d : Done) → declare_step p stamp paper ≡ Changed q d → Move p stamp.day c q
@@ -145,11 +146,11 @@ declare-moves p q c stamp paper d h =
 stands-asked : (b : Booking) → b.state ≡ BookingState.Asked → stands_for b b.day b.window ≡ true
 stands-asked b e = let s : is_standing b.state ≡ true = rw e refl in grind (arith, nat_tests, s)
 
-asked-moves : (p q : PledgeValue) (c : Command) (x day window : ℕ) (o : Option Booking) (d : Done) → p.booking ≡ o → x ≤ day → IsNotPassed p day → window ≤ last_window
+asked-moves : (p q : PledgeValue) (c : Command) (x day window : ℕ) (o : Option Booking) (d : Done) → p.standing.booking ≡ o → x ≤ day → IsNotPassed p day → window ≤ last_window
     → (IsCommand c → day ≤ last_stamp_day) → asked p x day window o ≡ Changed q d → Move p x c q
 asked-moves p q c x day window None d is later live small named h =
     let b : Booking = record { day = day; window = window; state = BookingState.Asked } in
-    Asking b later live small refl (λ e. let f : None ≡ Some b = sym is ∙ e in cc) named (changed-is (record p { booking = Some b; last = x }) q _ d h)
+    Asking b later live small refl (λ e. let f : None ≡ Some b = sym is ∙ e in cc) named (changed-is (settled p (booked_on p.standing b x)) q _ d h)
 asked-moves p q c x day window (Some o) d is later live small named h =
     let b : Booking = record { day = day; window = window; state = BookingState.Asked } in
     let a = if-unanswered (stands_for o day window) _ _ q d h in
@@ -158,32 +159,32 @@ asked-moves p q c x day window (Some o) d is later live small named h =
     let g : o ≡ b = cc in
     let t : stands_for o day window ≡ true = ap (λ (k : Booking). stands_for k day window) g ∙ stands-asked b refl in
     true≢false (sym t ∙ a.0))
-    named (changed-is (record p { booking = Some b; last = x }) q _ d a.1)
+    named (changed-is (settled p (booked_on p.standing b x)) q _ d a.1)
 
 ask-moves : (p q : PledgeValue) (c : Command) (x day window : ℕ) (d : Done) → (IsCommand c → day ≤ last_stamp_day) → ask_step p x day window ≡ Changed q d → Move p x c q
 ask-moves p q c x day window d named h =
     let rows : List (Bool × Refusal) = (nat_lt last_window window, Refusal.BadWindow) ∷ (nat_lt day x, Refusal.BookingDay) ∷ (is_passed (open_status p day), Refusal.BookingDay) ∷ [] in
-    let a = unless-changed rows (asked p x day window p.booking) q d h in
-    asked-moves p q c x day window p.booking d refl (not_below day x a.0.1.0) a.0.1.1.0 (not_below last_window window a.0.0) named a.1
+    let a = unless-changed rows (asked p x day window p.standing.booking) q d h in
+    asked-moves p q c x day window p.standing.booking d refl (not_below day x a.0.1.0) a.0.1.1.0 (not_below last_window window a.0.0) named a.1
 
-marked : (p q : PledgeValue) (c : Command) (x : ℕ) (b : Booking) (state : BookingState) (d : Done) → p.booking ≡ Some b → (b.state ≡ state → ⊥) → books p x (in_state b state) ≡ Changed q d → Move p x c q
-marked p q c x b state d is other h = Marking b state is other (changed-is (record p { booking = Some (in_state b state); last = x }) q _ d h)
+marked : (p q : PledgeValue) (c : Command) (x : ℕ) (b : Booking) (state : BookingState) (d : Done) → p.standing.booking ≡ Some b → (b.state ≡ state → ⊥) → books p x (in_state b state) ≡ Changed q d → Move p x c q
+marked p q c x b state d is other h = Marking b state is other (changed-is (settled p (booked_on p.standing (in_state b state) x)) q _ d h)
 
 -- two states that differ
 other : (s t u : BookingState) → s ≡ t → (t ≡ u → ⊥) → s ≡ u → ⊥
 other s t u e n f = n (sym e ∙ f)
 
-cancelled-moves : (p q : PledgeValue) (c : Command) (x : ℕ) (b : Booking) (s : BookingState) (d : Done) → p.booking ≡ Some b → b.state ≡ s → cancelled p x b s ≡ Changed q d → Move p x c q
+cancelled-moves : (p q : PledgeValue) (c : Command) (x : ℕ) (b : Booking) (s : BookingState) (d : Done) → p.standing.booking ≡ Some b → b.state ≡ s → cancelled p x b s ≡ Changed q d → Move p x c q
 cancelled-moves p q c x b BookingState.Asked d is at h = marked p q c x b BookingState.Cancelled d is (other b.state BookingState.Asked BookingState.Cancelled at (λ e. cc)) h
 cancelled-moves p q c x b BookingState.Confirmed d is at h = marked p q c x b BookingState.Cancelled d is (other b.state BookingState.Confirmed BookingState.Cancelled at (λ e. cc)) h
 cancelled-moves p q c x b BookingState.Refused d is at h = cc
 cancelled-moves p q c x b BookingState.Cancelled d is at h = cc
 
-cancel-moves : (p q : PledgeValue) (c : Command) (x : ℕ) (o : Option Booking) (d : Done) → p.booking ≡ o → cancel_step p x o ≡ Changed q d → Move p x c q
+cancel-moves : (p q : PledgeValue) (c : Command) (x : ℕ) (o : Option Booking) (d : Done) → p.standing.booking ≡ o → cancel_step p x o ≡ Changed q d → Move p x c q
 cancel-moves p q c x None d is h = cc
 cancel-moves p q c x (Some b) d is h = cancelled-moves p q c x b b.state d is refl h
 
-confirmed-moves : (p q : PledgeValue) (c : Command) (x : ℕ) (b : Booking) (s : BookingState) (d : Done) → p.booking ≡ Some b → b.state ≡ s → confirmed p x b s ≡ Changed q d → Move p x c q
+confirmed-moves : (p q : PledgeValue) (c : Command) (x : ℕ) (b : Booking) (s : BookingState) (d : Done) → p.standing.booking ≡ Some b → b.state ≡ s → confirmed p x b s ≡ Changed q d → Move p x c q
 confirmed-moves p q c x b BookingState.Asked d is at h =
     let a = unless-changed ((nat_lt b.day x, Refusal.BookingDay) ∷ []) (books p x (in_state b BookingState.Confirmed)) q d h in
     marked p q c x b BookingState.Confirmed d is (other b.state BookingState.Asked BookingState.Confirmed at (λ e. cc)) a.1
@@ -191,13 +192,13 @@ confirmed-moves p q c x b BookingState.Confirmed d is at h = cc
 confirmed-moves p q c x b BookingState.Refused d is at h = cc
 confirmed-moves p q c x b BookingState.Cancelled d is at h = cc
 
-declined-moves : (p q : PledgeValue) (c : Command) (x : ℕ) (b : Booking) (s : BookingState) (d : Done) → p.booking ≡ Some b → b.state ≡ s → declined p x b s ≡ Changed q d → Move p x c q
+declined-moves : (p q : PledgeValue) (c : Command) (x : ℕ) (b : Booking) (s : BookingState) (d : Done) → p.standing.booking ≡ Some b → b.state ≡ s → declined p x b s ≡ Changed q d → Move p x c q
 declined-moves p q c x b BookingState.Asked d is at h = marked p q c x b BookingState.Refused d is (other b.state BookingState.Asked BookingState.Refused at (λ e. cc)) h
 declined-moves p q c x b BookingState.Confirmed d is at h = marked p q c x b BookingState.Refused d is (other b.state BookingState.Confirmed BookingState.Refused at (λ e. cc)) h
 declined-moves p q c x b BookingState.Refused d is at h = cc
 declined-moves p q c x b BookingState.Cancelled d is at h = cc
 
-decide-moves : (p q : PledgeValue) (c : Command) (x : ℕ) (decision : Decision) (o : Option Booking) (d : Done) → p.booking ≡ o → decide_step p x decision o ≡ Changed q d → Move p x c q
+decide-moves : (p q : PledgeValue) (c : Command) (x : ℕ) (decision : Decision) (o : Option Booking) (d : Done) → p.standing.booking ≡ o → decide_step p x decision o ≡ Changed q d → Move p x c q
 decide-moves p q c x Confirm None d is h = cc
 decide-moves p q c x Refuse None d is h = cc
 decide-moves p q c x Confirm (Some b) d is h = confirmed-moves p q c x b b.state d is refl h
@@ -206,7 +207,7 @@ decide-moves p q c x Refuse (Some b) d is h = declined-moves p q c x b b.state d
 -- closings
 redeem-moves : (p q : PledgeValue) (c : Command) (x paid : ℕ) (d : Done) → redeem_step p x paid ≡ Changed q d → Move p x c q
 redeem-moves p q c x paid d h =
-    let rows : List (Bool × Refusal) = (p.held, Refusal.Held) ∷ (not (paid == total_on p x), Refusal.WrongAmount (total_on p x)) ∷ [] in
+    let rows : List (Bool × Refusal) = (p.standing.held, Refusal.Held) ∷ (not (paid == total_on p x), Refusal.WrongAmount (total_on p x)) ∷ [] in
     let next : PledgeValue = closed p x (Closing.Redeemed x paid) in
     let a = unless-changed rows (Changed next (Done.Redeemed x paid)) q d h in
     Redeeming paid a.0.0 (not_other paid (total_on p x) a.0.1.0) (changed-is next q _ d a.1)
@@ -248,8 +249,8 @@ pledge_moves p q stamp Command.Hold d h = gated p q _ stamp.day _ d (λ k. hold-
 pledge_moves p q stamp Command.Release d h = gated p q _ stamp.day _ d (λ k. hold-moves p q _ stamp.day false d k) h
 pledge_moves p q stamp (Command.Declare paper) d h = gated p q _ stamp.day _ d (λ k. declare-moves p q _ stamp paper d k) h
 pledge_moves p q stamp (Command.AskBooking day window) d h = gated p q _ stamp.day _ d (λ k. ask-moves p q _ stamp.day day window d (λ n. n.1) k) h
-pledge_moves p q stamp Command.CancelBooking d h = gated p q _ stamp.day _ d (λ k. cancel-moves p q _ stamp.day p.booking d refl k) h
-pledge_moves p q stamp (Command.DecideBooking decision) d h = gated p q _ stamp.day _ d (λ k. decide-moves p q _ stamp.day decision p.booking d refl k) h
+pledge_moves p q stamp Command.CancelBooking d h = gated p q _ stamp.day _ d (λ k. cancel-moves p q _ stamp.day p.standing.booking d refl k) h
+pledge_moves p q stamp (Command.DecideBooking decision) d h = gated p q _ stamp.day _ d (λ k. decide-moves p q _ stamp.day decision p.standing.booking d refl k) h
 pledge_moves p q stamp (Command.Redeem paid) d h = gated p q _ stamp.day _ d (λ k. redeem-moves p q _ stamp.day paid d k) h
 pledge_moves p q stamp (Command.Sell net) d h = gated p q _ stamp.day _ d (λ k. sell-moves p q _ stamp.day net d k) h
 pledge_moves p q stamp (Command.Extend until) d h = gated p q _ stamp.day _ d (λ k. extend-moves p q _ stamp.day until d (λ n. n.1) k) h

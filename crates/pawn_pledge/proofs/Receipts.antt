@@ -18,18 +18,18 @@ pub closed-moved : (c : Closing) → is_open c ≡ false → c ≡ Closing.Open 
 closed-moved c shut is = true≢false (sym (ap is_open is) ∙ shut)
 
 -- no move changes the terms
-pub terms-moved : (p q : PledgeValue) (c : Command) (x : ℕ) → IsChecked p.terms → Move p x c q → IsChecked q.terms
+pub terms-moved : (p q : PledgeValue) (c : Command) (x : ℕ) → IsChecked p.agreement.terms → Move p x c q → IsChecked q.agreement.terms
 terms-moved p q c x h m = subst IsChecked (sym (same m)) h
   where
-    same : Move p x c q → q.terms ≡ p.terms
-    same (Entering sort pence ok late few drawn is) = ap (λ (v : PledgeValue). v.terms) is
-    same (Holding flag new is) = ap (λ (v : PledgeValue). v.terms) is
-    same (Declaring paper word ok is) = ap (λ (v : PledgeValue). v.terms) is
-    same (Asking b later live small state new named is) = ap (λ (v : PledgeValue). v.terms) is
-    same (Marking b state at new is) = ap (λ (v : PledgeValue). v.terms) is
-    same (Redeeming paid free total is) = ap (λ (v : PledgeValue). v.terms) is
-    same (Selling net status small is) = ap (λ (v : PledgeValue). v.terms) is
-    same (Extending until inside longer few named is) = ap (λ (v : PledgeValue). v.terms) is
+    same : Move p x c q → q.agreement.terms ≡ p.agreement.terms
+    same (Entering sort pence ok late few drawn is) = ap (λ (v : PledgeValue). v.agreement.terms) is
+    same (Holding flag new is) = ap (λ (v : PledgeValue). v.agreement.terms) is
+    same (Declaring paper word ok is) = ap (λ (v : PledgeValue). v.agreement.terms) is
+    same (Asking b later live small state new named is) = ap (λ (v : PledgeValue). v.agreement.terms) is
+    same (Marking b state at new is) = ap (λ (v : PledgeValue). v.agreement.terms) is
+    same (Redeeming paid free total is) = ap (λ (v : PledgeValue). v.agreement.terms) is
+    same (Selling net status small is) = ap (λ (v : PledgeValue). v.agreement.terms) is
+    same (Extending until inside longer few named is) = ap (λ (v : PledgeValue). v.agreement.terms) is
 
 -- the list of secrets stays, or grows by one that is not in it
 pub secrets-moved : (p q : PledgeValue) (c : Command) (x : ℕ) → Move p x c q
@@ -60,23 +60,23 @@ pub record IsDead (p : PledgeValue) (secret : ℕ) : Type 0 where
   pub dead : live_of p ≡ Some secret → ⊥
 
 -- where secrets and closing stay, it stays so
-dead-same : (p q : PledgeValue) (secret : ℕ) → IsDead p secret → q.secrets ≡ p.secrets → q.closing ≡ p.closing → IsDead q secret
+dead-same : (p q : PledgeValue) (secret : ℕ) → IsDead p secret → q.secrets ≡ p.secrets → q.standing.closing ≡ p.standing.closing → IsDead q secret
 dead-same p q secret h secrets closing =
     record {
       issued = ap (λ (l : List Issued). list_any (λ (i : Issued). i.secret == secret) l) secrets ∙ h.issued;
-      dead = λ k. h.dead (sym (ap (λ (c : Closing). live_under c (last_secret p.secrets)) closing) ∙ sym (ap (λ (l : List Issued). live_under q.closing (last_secret l)) secrets) ∙ k);
+      dead = λ k. h.dead (sym (ap (λ (c : Closing). live_under c (last_secret p.secrets)) closing) ∙ sym (ap (λ (l : List Issued). live_under q.standing.closing (last_secret l)) secrets) ∙ k);
     }
 
 -- the same, of a move that changes neither
-dead-kept : (p q r : PledgeValue) (secret : ℕ) → IsDead p secret → q ≡ r → r.secrets ≡ p.secrets → r.closing ≡ p.closing → IsDead q secret
+dead-kept : (p q r : PledgeValue) (secret : ℕ) → IsDead p secret → q ≡ r → r.secrets ≡ p.secrets → r.standing.closing ≡ p.standing.closing → IsDead q secret
 dead-kept p q r secret h is secrets closing =
-    dead-same p q secret h (ap (λ (v : PledgeValue). v.secrets) is ∙ secrets) (ap (λ (v : PledgeValue). v.closing) is ∙ closing)
+    dead-same p q secret h (ap (λ (v : PledgeValue). v.secrets) is ∙ secrets) (ap (λ (v : PledgeValue). v.standing.closing) is ∙ closing)
 
 list_any-first : (secret : ℕ) (xs ys : List Issued) → list_any (λ (i : Issued). i.secret == secret) xs ≡ true → list_any (λ (i : Issued). i.secret == secret) (xs ++ ys) ≡ true
 list_any-first secret xs ys h =
     list_any-append (λ (i : Issued). i.secret == secret) xs ys ∙ ap (λ (b : Bool). b || list_any (λ (i : Issued). i.secret == secret) ys) h
 
-dead-declared : (p q : PledgeValue) (x : ℕ) (new : Issued) (secret : ℕ) → IsDead p secret → IsGated p x → q.secrets ≡ p.secrets ++ new ∷ [] → q.closing ≡ p.closing
+dead-declared : (p q : PledgeValue) (x : ℕ) (new : Issued) (secret : ℕ) → IsDead p secret → IsGated p x → q.secrets ≡ p.secrets ++ new ∷ [] → q.standing.closing ≡ p.standing.closing
     → list_any (λ (i : Issued). i.secret == new.secret) p.secrets ≡ false → IsDead q secret
 dead-declared p q x new secret h g secrets closing fresh =
     record {
@@ -95,7 +95,7 @@ dead-moved : (p q : PledgeValue) (c : Command) (x secret : ℕ) → IsDead p sec
 dead-moved p q c x secret h g (Entering sort pence ok late few drawn is) = dead-kept p q _ secret h is refl refl
 dead-moved p q c x secret h g (Holding flag new is) = dead-kept p q _ secret h is refl refl
 dead-moved p q c x secret h g (Declaring paper word ok is) =
-    dead-declared p q x (record { day = x; sort = issue_of paper; secret = word }) secret h g (ap (λ (v : PledgeValue). v.secrets) is) (ap (λ (v : PledgeValue). v.closing) is) ok.1.1.0
+    dead-declared p q x (record { day = x; sort = issue_of paper; secret = word }) secret h g (ap (λ (v : PledgeValue). v.secrets) is) (ap (λ (v : PledgeValue). v.standing.closing) is) ok.1.1.0
 dead-moved p q c x secret h g (Asking b later live small state new named is) = dead-kept p q _ secret h is refl refl
 dead-moved p q c x secret h g (Marking b state at new is) = dead-kept p q _ secret h is refl refl
 dead-moved p q c x secret h g (Redeeming paid free total is) =

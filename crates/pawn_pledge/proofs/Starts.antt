@@ -29,22 +29,11 @@ good_amount n h =
 pub starts_standing : StartsStanding
 starts_standing number opening version terms stamp p known within checked day h =
     let first : PledgeValue = record {
-      number = number;
-      reference = opening.reference;
-      article = opening.article;
-      kind = opening.kind;
-      taken = stamp.day;
-      agreed = opening.agreed;
-      five_days = opening.five_days;
-      version = version;
-      terms = terms;
+      agreement = record { number = number; opening = opening; taken = stamp.day; version = version; terms = terms };
       entries = [];
       secrets = record { day = stamp.day; sort = Issue.Opening; secret = stamp.word } ∷ [];
       extensions = [];
-      held = false;
-      booking = None;
-      last = stamp.day;
-      closing = Closing.Open;
+      standing = record { held = false; booking = None; last = stamp.day; closing = Closing.Open };
     } in
     let a = first_of-ok ((is_bad_amount (credit_of opening.kind), Refusal.Debt BadAmount) ∷ []) (Ok first) p h in
     let is : first ≡ p = cc in
@@ -63,9 +52,7 @@ starts_standing number opening version terms stamp p known within checked day h 
       };
       within = record {
         number = known;
-        reference = within.reference;
-        article = within.article;
-        agreed = within.agreed;
+        opening = within;
         entries = omega arith;
         secrets = omega arith;
         extensions = omega arith;

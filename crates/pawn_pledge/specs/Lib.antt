@@ -10,7 +10,7 @@ pub mod Growth
 pub mod Replayable
 pub mod Parts
 pub mod Brief
-pub mod BriefFields
+pub mod Commands
 pub mod Laws
 pub mod Worked
 pub mod WorkedTexts

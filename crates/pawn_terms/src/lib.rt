@@ -8,7 +8,7 @@ mod worked;
 
 pub use day::{BadDay, Day, last_day};
 pub use request_day::RequestDay;
-pub use terms::{Terms, TermsFault};
+pub use terms::{Rates, Terms, TermsFault};
 pub use worked::{worked_days, worked_ends, worked_terms};
 
 #[cfg(test)]

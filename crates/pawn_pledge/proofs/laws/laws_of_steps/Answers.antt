@@ -32,4 +32,4 @@ returns-clause-differ c p next stamp command done step =
 
 pub returns-clause-closed : goal.returns-clause-closed
 returns-clause-closed c p next stamp command done closed step =
-    closed-moved p.closing closed (pledge_moves p next stamp command done step).0.standing
+    closed-moved p.standing.closing closed (pledge_moves p next stamp command done step).0.standing
