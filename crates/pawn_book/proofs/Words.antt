@@ -20,8 +20,8 @@ use Rattle.pawn_pledge.specs.declared.record.BookingState.{BookingState}
 use Rattle.pawn_pledge.specs.declared.record.Closing.{Closing}
 use Rattle.pawn_pledge.specs.declared.record.Issued.{Issued}
 use Rattle.pawn_pledge.specs.declared.refusal.Refusal.{Refusal}
-use Rattle.pawn_pledge.specs.Pledge.{PledgeValue, debt_of, end_of, is_passed, is_realisable, open_status, total_on}
-use Rattle.pawn_pledge.specs.Step.{Answered, Changed, Judged, ask_step, asked, bars, books, cancel_step, cancelled, closed, confirmed, decide_step, declare_bars, declare_step, declined, entered, entry_of, entry_step, extend_step, hold_step, in_state, is_ahead, is_repeat, issue_of, last_window, most_extensions, new_end_step, numbered_step, past, pledge_after, pledge_step, redeem_step, same_flag, sell_step, stands_for, unless, with_extension, with_secret}
+use Rattle.pawn_pledge.specs.Pledge.{PledgeValue, settled, debt_of, end_of, is_passed, is_realisable, open_status, total_on}
+use Rattle.pawn_pledge.specs.Step.{Answered, Changed, Judged, ask_step, asked, bars, books, cancel_step, cancelled, closed, confirmed, decide_step, declare_bars, declare_step, declined, entered, entry_of, entry_step, extend_step, held_on, hold_step, in_state, is_ahead, is_repeat, issue_of, last_window, most_extensions, new_end_step, numbered_step, past, pledge_after, pledge_step, redeem_step, same_flag, sell_step, stands_for, unless, with_extension, with_secret}
 use Rattle.pawn_book.specs.Sound.{AreWords, IsWord}
 use Rattle.pawn_book.proofs.Sounds.{each_push}
 
@@ -55,7 +55,7 @@ numbered_leaves p x seq sort pence None words =
     unless_leaves p ((is_ahead p seq, Refusal.SeqAhead) ∷ []) (unless (bars p x) (entry_step p x sort pence)) words (unless_leaves p (bars p x) (entry_step p x sort pence) words (entry_leaves p x sort pence words))
 
 hold_leaves : (p : PledgeValue) (x : ℕ) (flag : Bool) → AreWords p.secrets → LeavesWords p (hold_step p x flag)
-hold_leaves p x flag words = either_leaves p (same_flag p.held flag) (Answered (Done.Held flag)) (Changed (record p { held = flag; last = x }) (Done.Held flag)) words words
+hold_leaves p x flag words = either_leaves p (same_flag p.standing.held flag) (Answered (Done.Held flag)) (Changed (settled p (held_on p.standing flag x)) (Done.Held flag)) words words
 
 declare_leaves : (p : PledgeValue) (stamp : Stamp) (paper : Paper) → IsWord stamp.word → AreWords p.secrets → LeavesWords p (declare_step p stamp paper)
 declare_leaves p stamp paper word words =
@@ -64,7 +64,7 @@ declare_leaves p stamp paper word words =
 
 ask_leaves : (p : PledgeValue) (x day window : ℕ) → AreWords p.secrets → LeavesWords p (ask_step p x day window)
 ask_leaves p x day window words =
-    unless_leaves p ((nat_lt last_window window, Refusal.BadWindow) ∷ (nat_lt day x, Refusal.BookingDay) ∷ (is_passed (open_status p day), Refusal.BookingDay) ∷ []) (asked p x day window p.booking) words (from p.booking)
+    unless_leaves p ((nat_lt last_window window, Refusal.BadWindow) ∷ (nat_lt day x, Refusal.BookingDay) ∷ (is_passed (open_status p day), Refusal.BookingDay) ∷ []) (asked p x day window p.standing.booking) words (from p.standing.booking)
   where
     from : (o : Option Booking) → LeavesWords p (asked p x day window o)
     from None = words
@@ -108,7 +108,7 @@ extend_leaves p x until words =
 
 redeem_leaves : (p : PledgeValue) (x paid : ℕ) → AreWords p.secrets → LeavesWords p (redeem_step p x paid)
 redeem_leaves p x paid words =
-    unless_leaves p ((p.held, Refusal.Held) ∷ (not (paid == total_on p x), Refusal.WrongAmount (total_on p x)) ∷ [])
+    unless_leaves p ((p.standing.held, Refusal.Held) ∷ (not (paid == total_on p x), Refusal.WrongAmount (total_on p x)) ∷ [])
     (Changed (closed p x (Closing.Redeemed x paid)) (Done.Redeemed x paid)) words words
 
 sell_leaves : (p : PledgeValue) (x net : ℕ) → AreWords p.secrets → LeavesWords p (sell_step p x net)
@@ -124,8 +124,8 @@ step_leaves p stamp Command.Hold word words = unless_leaves p (bars p stamp.day)
 step_leaves p stamp Command.Release word words = unless_leaves p (bars p stamp.day) (hold_step p stamp.day false) words (hold_leaves p stamp.day false words)
 step_leaves p stamp (Command.Declare paper) word words = unless_leaves p (bars p stamp.day) (declare_step p stamp paper) words (declare_leaves p stamp paper word words)
 step_leaves p stamp (Command.AskBooking day window) word words = unless_leaves p (bars p stamp.day) (ask_step p stamp.day day window) words (ask_leaves p stamp.day day window words)
-step_leaves p stamp Command.CancelBooking word words = unless_leaves p (bars p stamp.day) (cancel_step p stamp.day p.booking) words (cancel_leaves p stamp.day p.booking words)
-step_leaves p stamp (Command.DecideBooking decision) word words = unless_leaves p (bars p stamp.day) (decide_step p stamp.day decision p.booking) words (decide_leaves p stamp.day decision p.booking words)
+step_leaves p stamp Command.CancelBooking word words = unless_leaves p (bars p stamp.day) (cancel_step p stamp.day p.standing.booking) words (cancel_leaves p stamp.day p.standing.booking words)
+step_leaves p stamp (Command.DecideBooking decision) word words = unless_leaves p (bars p stamp.day) (decide_step p stamp.day decision p.standing.booking) words (decide_leaves p stamp.day decision p.standing.booking words)
 step_leaves p stamp (Command.Redeem paid) word words = unless_leaves p (bars p stamp.day) (redeem_step p stamp.day paid) words (redeem_leaves p stamp.day paid words)
 step_leaves p stamp (Command.Sell net) word words = unless_leaves p (bars p stamp.day) (sell_step p stamp.day net) words (sell_leaves p stamp.day net words)
 step_leaves p stamp (Command.Extend until) word words = unless_leaves p (bars p stamp.day) (extend_step p stamp.day until) words (extend_leaves p stamp.day until words)

@@ -32,7 +32,7 @@ brief_first b = first_lines b.number b.article b.kind b.taken b.ends
 abbrev pub brief_state : BriefValue → ℕ → List ℕ
 brief_state b day = state_lines (brief_status b day) (brief_owing b day) b.held b.booking b.closing
 
-first_of_brief : (p : PledgeValue) (b : BriefValue) → b ≡ brief_of p → brief_first b ≡ first_lines p.number p.article p.kind p.taken (end_of p)
+first_of_brief : (p : PledgeValue) (b : BriefValue) → b ≡ brief_of p → brief_first b ≡ first_lines p.agreement.number p.agreement.opening.article p.agreement.opening.kind p.agreement.taken (end_of p)
 first_of_brief p b is = ap brief_first is
 
 -- the day on which a brief is shown
@@ -40,12 +40,12 @@ abbrev pub brief_day : BriefValue → ℕ → ℕ
 brief_day b day = max (open_or_last b.closing b.last day) b.totals.day
 
 state_of_brief : (p : PledgeValue) (b : BriefValue) (v day : ℕ) → b ≡ brief_of p → IsTold p → v ≡ brief_day b day
-    → brief_state b v ≡ state_on (shown_day p.closing p.last day) p
+    → brief_state b v ≡ state_on (shown_day p.standing.closing p.standing.last day) p
 state_of_brief p b v day is told v_is =
-    let day_is : v ≡ shown_day p.closing p.last day = v_is ∙ ap (λ (x : BriefValue). brief_day x day) is ∙ told.day day in
+    let day_is : v ≡ shown_day p.standing.closing p.standing.last day = v_is ∙ ap (λ (x : BriefValue). brief_day x day) is ∙ told.day day in
     let owed : brief_owing (brief_of p) v ≡ owing_of (due (debt_of p) v) = subst (λ (x : ℕ). brief_owing (brief_of p) x ≡ owing_of (due (debt_of p) x)) (sym day_is) (told.owing day) in
     ap (λ (x : BriefValue). brief_state x v) is
-    ∙ ap (λ (o : Owing). state_lines (status_of p v) o p.held p.booking p.closing) owed
+    ∙ ap (λ (o : Owing). state_lines (status_of p v) o p.standing.held p.standing.booking p.standing.closing) owed
     ∙ ap (λ (x : ℕ). state_on x p) day_is
 
 -- what was handed of a list of the pledge
@@ -59,8 +59,8 @@ pub statement_cut : {W : Type 0} (contents : W → Option (List ℕ)) (a b c : W
     → Handed (PutsLine contents extended_line) b given flow c → IsShare given flow Front (extensions_of o)
     → PutsShare contents a (statement_text day p) Front c
 statement_cut contents a b c day o p brief given flow at is first handed share =
-    let head = first_lines p.number p.article p.kind p.taken (end_of p) in
-    let rest = state_on (shown_day p.closing p.last day) p ++ flat_map entry_line p.entries in
+    let head = first_lines p.agreement.number p.agreement.opening.article p.agreement.opening.kind p.agreement.taken (end_of p) in
+    let rest = state_on (shown_day p.standing.closing p.standing.last day) p ++ flat_map entry_line p.entries in
     share_then contents a b c head (flat_map extended_line p.extensions ++ rest) Front
     (share_puts contents a b head (subst (λ (t : List ℕ). Puts contents a t b) (first_of_brief p brief is) first))
     (share_more contents b c (flat_map extended_line p.extensions) rest
@@ -75,9 +75,9 @@ pub statement_whole : {W : Type 0} (contents : W → Option (List ℕ)) (a b c d
     → Handed (PutsLine contents entry_line) d given' flow' e → IsShare given' flow' end (entries_of o)
     → PutsShare contents a (statement_text day p) end e
 statement_whole contents a b c d e day v o p brief end given flow given' flow' at is told v_is first handed share state handed' share' =
-    let head = first_lines p.number p.article p.kind p.taken (end_of p) in
+    let head = first_lines p.agreement.number p.agreement.opening.article p.agreement.opening.kind p.agreement.taken (end_of p) in
     let extended = flat_map extended_line p.extensions in
-    let on = state_on (shown_day p.closing p.last day) p in
+    let on = state_on (shown_day p.standing.closing p.standing.last day) p in
     let entries = flat_map entry_line p.entries in
     share_then contents a b e head (extended ++ (on ++ entries)) end
     (share_puts contents a b head (subst (λ (t : List ℕ). Puts contents a t b) (first_of_brief p brief is) first))

@@ -121,14 +121,14 @@ state_lines status owing held booking closing =
 
 -- how a pledge stands on a day
 abbrev pub state_on : ℕ → PledgeValue → List ℕ
-state_on day p = state_lines (status_of p day) (owing_of (due (debt_of p) day)) p.held p.booking p.closing
+state_on day p = state_lines (status_of p day) (owing_of (due (debt_of p) day)) p.standing.held p.standing.booking p.standing.closing
 
 -- a pledge's statement, asked for on a day
 abbrev pub statement_text : ℕ → PledgeValue → List ℕ
 statement_text day p =
-    first_lines p.number p.article p.kind p.taken (end_of p)
+    first_lines p.agreement.number p.agreement.opening.article p.agreement.opening.kind p.agreement.taken (end_of p)
     ++ (flat_map extended_line p.extensions
-    ++ (state_on (shown_day p.closing p.last day) p
+    ++ (state_on (shown_day p.standing.closing p.standing.last day) p
     ++ flat_map entry_line p.entries))
 
 -- a pledge's statement, or the line of an unknown receipt
