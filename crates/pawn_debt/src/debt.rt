@@ -6,7 +6,7 @@ ghost use Rattle.pawn_debt.specs.Answers.{most_pence, most_entries, start_answer
 ghost use Rattle.pawn_debt.specs.Kept.{IsKept, owed_of, totals_of, most_a_day, most_charges};
 ghost use Rattle.pawn_debt.specs.Replay.{CanStand};
 
-use crate::entry::{Entries, Entry, Kind, Sort};
+use crate::entry::{Entries, Entry, Kind, Sort, find_entry};
 use crate::fault::DebtFault;
 use crate::owing::{Owing, Totals, after_draw, after_repay, carry, owing_after};
 use crate::replay::replay_entries;
@@ -262,7 +262,7 @@ impl Debt {
     pub fn entry(&self, seq: u64) -> Option<Entry>
         ensures value { result ≡ find (λ e. e.seq == seq) self.now.entries }
     {
-        self.entries.find(seq)
+        find_entry(self.entries.as_slice(), seq)
     }
 
     /// The day taken.

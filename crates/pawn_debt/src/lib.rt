@@ -6,6 +6,7 @@ mod entry;
 mod fault;
 mod owing;
 mod replay;
+mod rows;
 mod worked;
 
 pub use debt::Debt;
@@ -14,6 +15,7 @@ pub use fault::DebtFault;
 pub use owing::{Owing, Totals, owing_from};
 pub use pawn_terms::{Day, Rates, Terms};
 pub use replay::{owing_at, replay_entries};
+pub use rows::Rows;
 pub use worked::{worked_debts, worked_entries};
 
 #[cfg(test)]

@@ -101,7 +101,7 @@ later-issue : (p : PledgeValue) (paper : Paper) → (is_written paper && not (is
 later-issue p Paper.Written h = small_enough (credit_of p.agreement.opening.kind) h
 later-issue p Paper.Sworn h = tt
 
-pub stays-declared : (p : PledgeValue) (x word : ℕ) (paper : Paper) → IsReplayable p → IsGated p x → NoneApplies (declare_bars p (record { day = x; word = word }) paper)
+pub stays-declared : (p : PledgeValue) (x word : ℕ) (paper : Paper) → IsReplayable p → IsGated p x → NoneApplies (declare_bars p paper word)
     → IsReplayable (with_secret p (record { day = x; sort = issue_of paper; secret = word }))
 stays-declared p x word paper h g ok =
     let i : Issued = record { day = x; sort = issue_of paper; secret = word } in
@@ -190,29 +190,29 @@ closed-booked p c x None h = tt
 closed-booked p c x (Some b) h = (h.0, h.1, h.2, state_after-under c b.state)
 
 -- whatever the move
-pub stays-moved : (p q : PledgeValue) (c : Command) (x : ℕ) → IsReplayable p → IsGated p x → Move p x c q → IsReplayable q
-stays-moved p q c x h g (Entering sort pence ok late few drawn is) = subst IsReplayable (sym is) (stays-entered p x pence sort h g ok late drawn)
-stays-moved p q c x h g (Holding flag new is) =
+pub stays-moved : (p q : PledgeValue) (c : Command) (w x : ℕ) → IsReplayable p → IsGated p x → Move p x w c q → IsReplayable q
+stays-moved p q c w x h g (Entering sort pence ok late few drawn is) = subst IsReplayable (sym is) (stays-entered p x pence sort h g ok late drawn)
+stays-moved p q c w x h g (Holding flag new is) =
     let s : Standing = held_on p.standing flag x in
     subst IsReplayable (sym is) (stays-settled p s h g.later g.not_passed (still-open (settled p s) p.standing.closing g.standing) h.booked)
-stays-moved p q c x h g (Declaring paper word ok is) = subst IsReplayable (sym is) (stays-declared p x word paper h g ok)
-stays-moved p q c x h g (Asking b later live small state new named is) =
+stays-moved p q c w x h g (Declaring paper ok is) = subst IsReplayable (sym is) (stays-declared p x w paper h g ok)
+stays-moved p q c w x h g (Asking b later live small state new named is) =
     let s : Standing = booked_on p.standing b x in
     subst IsReplayable (sym is) (stays-settled p s h g.later g.not_passed (still-open (settled p s) p.standing.closing g.standing)
     (omega (arith, h.last_in, g.later, later), live, small, open-booked p.standing.closing b.state g.standing))
-stays-moved p q c x h g (Marking b state at new is) =
+stays-moved p q c w x h g (Marking b state at new is) =
     let P : Option Booking → Type 0 = λ o. IsBooked p o in
     let old : IsBooked p (Some b) = subst P at h.booked in
     let s : Standing = booked_on p.standing (in_state b state) x in
     subst IsReplayable (sym is) (stays-settled p s h g.later g.not_passed (still-open (settled p s) p.standing.closing g.standing)
     (old.0, old.1, old.2, open-booked p.standing.closing state g.standing))
-stays-moved p q c x h g (Redeeming paid free total is) =
+stays-moved p q c w x h g (Redeeming paid free total is) =
     let o = Closing.Redeemed x paid in
     subst IsReplayable (sym is) (stays-settled p (closed_on p.standing o x) h g.later g.not_passed (refl, total, free) (closed-booked p o x p.standing.booking h.booked))
-stays-moved p q c x h g (Selling net status small is) =
+stays-moved p q c w x h g (Selling net status small is) =
     let o = Closing.Sold x net in
     subst IsReplayable (sym is) (stays-settled p (closed_on p.standing o x) h g.later g.not_passed (refl, status, small) (closed-booked p o x p.standing.booking h.booked))
-stays-moved p q c x h g (Extending until inside longer few named is) = subst IsReplayable (sym is) (stays-extended p x until h g inside longer)
+stays-moved p q c w x h g (Extending until inside longer few named is) = subst IsReplayable (sym is) (stays-extended p x until h g inside longer)
 
 -- and a move keeps the limits
 settled-within : (p : PledgeValue) (s : Standing) → s.last ≤ last_stamp_day → IfSome s.booking (λ b. b.day ≤ last_stamp_day) → IsWithin p → IsWithin (settled p s)
@@ -223,8 +223,8 @@ closing-within : (o : Option Booking) → IfSome o (λ b. b.day ≤ last_stamp_d
 closing-within None h = h
 closing-within (Some b) h = h
 
-pub within-moved : (p q : PledgeValue) (c : Command) (x : ℕ) → x ≤ last_stamp_day → IsCommand c → IsWithin p → Move p x c q → IsWithin q
-within-moved p q c x stamped given h (Entering sort pence ok late few drawn is) =
+pub within-moved : (p q : PledgeValue) (c : Command) (w x : ℕ) → x ≤ last_stamp_day → IsCommand c → IsWithin p → Move p x w c q → IsWithin q
+within-moved p q c w x stamped given h (Entering sort pence ok late few drawn is) =
     subst IsWithin (sym is) (record {
       number = h.number;
       opening = h.opening;
@@ -235,9 +235,9 @@ within-moved p q c x stamped given h (Entering sort pence ok late few drawn is) 
       booking = h.booking;
       last = stamped;
     })
-within-moved p q c x stamped given h (Holding flag new is) = subst IsWithin (sym is) (settled-within p (held_on p.standing flag x) stamped h.booking h)
-within-moved p q c x stamped given h (Declaring paper word ok is) =
-    let i : Issued = record { day = x; sort = issue_of paper; secret = word } in
+within-moved p q c w x stamped given h (Holding flag new is) = subst IsWithin (sym is) (settled-within p (held_on p.standing flag x) stamped h.booking h)
+within-moved p q c w x stamped given h (Declaring paper ok is) =
+    let i : Issued = record { day = x; sort = issue_of paper; secret = w } in
     subst IsWithin (sym is) (record {
       number = h.number;
       opening = h.opening;
@@ -248,17 +248,17 @@ within-moved p q c x stamped given h (Declaring paper word ok is) =
       booking = h.booking;
       last = stamped;
     })
-within-moved p q c x stamped given h (Asking b later live small state new named is) =
+within-moved p q c w x stamped given h (Asking b later live small state new named is) =
     subst IsWithin (sym is) (settled-within p (booked_on p.standing b x) stamped (named given) h)
-within-moved p q c x stamped given h (Marking b state at new is) =
+within-moved p q c w x stamped given h (Marking b state at new is) =
     let P : Option Booking → Type 0 = λ o. IfSome o (λ k. k.day ≤ last_stamp_day) in
     let old : P (Some b) = subst P at h.booking in
     subst IsWithin (sym is) (settled-within p (booked_on p.standing (in_state b state) x) stamped old h)
-within-moved p q c x stamped given h (Redeeming paid free total is) =
+within-moved p q c w x stamped given h (Redeeming paid free total is) =
     subst IsWithin (sym is) (settled-within p (closed_on p.standing (Closing.Redeemed x paid) x) stamped (closing-within p.standing.booking h.booking) h)
-within-moved p q c x stamped given h (Selling net status small is) =
+within-moved p q c w x stamped given h (Selling net status small is) =
     subst IsWithin (sym is) (settled-within p (closed_on p.standing (Closing.Sold x net) x) stamped (closing-within p.standing.booking h.booking) h)
-within-moved p q c x stamped given h (Extending until inside longer few named is) =
+within-moved p q c w x stamped given h (Extending until inside longer few named is) =
     let e : Extension = record { day = x; until = until } in
     subst IsWithin (sym is) (record {
       number = h.number;
@@ -285,17 +285,17 @@ closes : (p : PledgeValue) (c : Closing) → p.standing.closing ≡ Closing.Open
 closes p c standing e n = n (e ∙ standing)
 
 -- and something is another
-pub differs-moved : (p q : PledgeValue) (c : Command) (x : ℕ) → IsGated p x → Move p x c q → q ≡ p → ⊥
-differs-moved p q c x g (Entering sort pence ok late few drawn is) same =
+pub differs-moved : (p q : PledgeValue) (c : Command) (w x : ℕ) → IsGated p x → Move p x w c q → q ≡ p → ⊥
+differs-moved p q c w x g (Entering sort pence ok late few drawn is) same =
     grown p.entries (record { seq = length p.entries + 1; day = x; sort = sort; pence = pence }) (ap (λ (v : PledgeValue). v.entries) (sym is ∙ same))
-differs-moved p q c x g (Holding flag new is) same = another_flag p.standing.held flag new (ap (λ (v : PledgeValue). v.standing.held) (sym is ∙ same))
-differs-moved p q c x g (Declaring paper word ok is) same =
-    grown p.secrets (record { day = x; sort = issue_of paper; secret = word }) (ap (λ (v : PledgeValue). v.secrets) (sym is ∙ same))
-differs-moved p q c x g (Asking b later live small state new named is) same = new (sym (ap (λ (v : PledgeValue). v.standing.booking) (sym is ∙ same)))
-differs-moved p q c x g (Marking b state at new is) same =
+differs-moved p q c w x g (Holding flag new is) same = another_flag p.standing.held flag new (ap (λ (v : PledgeValue). v.standing.held) (sym is ∙ same))
+differs-moved p q c w x g (Declaring paper ok is) same =
+    grown p.secrets (record { day = x; sort = issue_of paper; secret = w }) (ap (λ (v : PledgeValue). v.secrets) (sym is ∙ same))
+differs-moved p q c w x g (Asking b later live small state new named is) same = new (sym (ap (λ (v : PledgeValue). v.standing.booking) (sym is ∙ same)))
+differs-moved p q c w x g (Marking b state at new is) same =
     let e : Some (in_state b state) ≡ Some b = ap (λ (v : PledgeValue). v.standing.booking) (sym is ∙ same) ∙ at in
     let f : in_state b state ≡ b = cc in
     new (sym (ap (λ (k : Booking). k.state) f))
-differs-moved p q c x g (Redeeming paid free total is) same = closes p (Closing.Redeemed x paid) g.standing (ap (λ (v : PledgeValue). v.standing.closing) (sym is ∙ same)) (λ e. cc)
-differs-moved p q c x g (Selling net status small is) same = closes p (Closing.Sold x net) g.standing (ap (λ (v : PledgeValue). v.standing.closing) (sym is ∙ same)) (λ e. cc)
-differs-moved p q c x g (Extending until inside longer few named is) same = grown p.extensions (record { day = x; until = until }) (ap (λ (v : PledgeValue). v.extensions) (sym is ∙ same))
+differs-moved p q c w x g (Redeeming paid free total is) same = closes p (Closing.Redeemed x paid) g.standing (ap (λ (v : PledgeValue). v.standing.closing) (sym is ∙ same)) (λ e. cc)
+differs-moved p q c w x g (Selling net status small is) same = closes p (Closing.Sold x net) g.standing (ap (λ (v : PledgeValue). v.standing.closing) (sym is ∙ same)) (λ e. cc)
+differs-moved p q c w x g (Extending until inside longer few named is) same = grown p.extensions (record { day = x; until = until }) (ap (λ (v : PledgeValue). v.extensions) (sym is ∙ same))

@@ -61,12 +61,12 @@ ClosedStays =
     (p next : PledgeValue) (stamp : Stamp) (command : Command) (done : Done)
     → is_open p.standing.closing ≡ false → pledge_step p stamp command ≡ Changed next done → ⊥
 
--- the list of secrets stays, or grows at its end by one that is not in it
+-- the list of secrets stays, or grows at its end by the stamp's word, which is not in it
 abbrev pub SecretsGrow : Type 0
 SecretsGrow =
     (p next : PledgeValue) (stamp : Stamp) (command : Command) (done : Done)
     → pledge_step p stamp command ≡ Changed next done
-    → StaysOrGrows (λ issued. list_any (λ i. i.secret == issued.secret) p.secrets ≡ false) p.secrets next.secrets
+    → StaysOrGrows (λ issued. (issued.secret ≡ stamp.word) × (list_any (λ i. i.secret == stamp.word) p.secrets ≡ false)) p.secrets next.secrets
 
 -- the entries stay, or grow at their end by the next, on the stamp's day
 abbrev pub EntriesGrow : Type 0

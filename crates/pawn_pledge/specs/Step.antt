@@ -149,11 +149,11 @@ abbrev pub issue_of : Paper → Issue
 issue_of Paper.Sworn = Issue.Sworn
 issue_of Paper.Written = Issue.Written
 
-abbrev pub declare_bars : PledgeValue → Stamp → Paper → List (Bool × Refusal)
-declare_bars p stamp paper =
+abbrev pub declare_bars : PledgeValue → Paper → ℕ → List (Bool × Refusal)
+declare_bars p paper word =
     (is_written paper && not (is_small (credit_of p.agreement.opening.kind)), Refusal.NotSmall)
     ∷ (nat_le most_secrets (length p.secrets), Refusal.DeclarationsFull)
-    ∷ (list_any (λ issued. issued.secret == stamp.word) p.secrets, Refusal.SecretUsed)
+    ∷ (list_any (λ issued. issued.secret == word) p.secrets, Refusal.SecretUsed)
     ∷ []
 
 -- the pledge with one more secret
@@ -163,7 +163,7 @@ with_secret p issued = record p { secrets = p.secrets ++ issued ∷ []; standing
 -- the stamp's word is the new and only live secret
 abbrev pub declare_step : PledgeValue → Stamp → Paper → Judged
 declare_step p stamp paper =
-    unless (declare_bars p stamp paper)
+    unless (declare_bars p paper stamp.word)
     (Changed (with_secret p (record { day = stamp.day; sort = issue_of paper; secret = stamp.word })) (Done.Declared stamp.word))
 
 -- bookings

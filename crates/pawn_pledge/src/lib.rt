@@ -5,7 +5,6 @@ mod brief;
 mod command;
 mod laws;
 mod limits;
-mod lists;
 mod number;
 mod parts;
 mod pledge;
@@ -22,16 +21,17 @@ pub use command::{Applied, BearerCommand, BrokerCommand, Command, Decision, Done
 pub use laws::{
     laws_of_briefs, laws_of_lists, laws_of_receipts, laws_of_repeats, laws_of_steps, laws_of_texts,
 };
-pub use lists::{Extensions, Secrets};
 pub use number::Number;
 pub use parts::Parts;
-pub use pawn_debt::{Day, DebtFault, Entries, Entry, Kind, Owing, Rates, Sort, Terms, Totals};
+pub use pawn_debt::{
+    Day, DebtFault, Entries, Entry, Kind, Owing, Rates, Rows, Sort, Terms, Totals,
+};
 pub use pawn_terms::{BadDay, RequestDay};
 pub use pledge::Pledge;
 pub use receipt::{BadReceipt, Receipt};
 pub use record::{
-    Agreement, Article, Booking, BookingState, Closing, Extension, Issue, Issued, Opening,
-    Reference, Standing, Status,
+    Agreement, Article, Booking, BookingState, Closing, Extension, Extensions, Issue, Issued,
+    Opening, Reference, Secrets, Standing, Status,
 };
 pub use refusal::Refusal;
 pub use secret::Secret;

@@ -1,5 +1,4 @@
-ghost use Rattle.std.specs.Prelude.{◌≡◌, ◌≤◌, ◌==◌, ◌↔◌, IsTrue, IfSome, IfNone};
-ghost use Rattle.std.specs.List.{list_any};
+ghost use Rattle.std.specs.Prelude.{◌≡◌, ◌≤◌, ◌↔◌, IsTrue, IfSome, IfNone};
 ghost use Rattle.pawn_terms.specs.Calendar.{last_stamp_day};
 ghost use Rattle.pawn_debt.specs.Kept.{IsKept as IsOwed};
 ghost use Rattle.pawn_pledge.specs.Pledge.{debt_of, end_of, end_after, open_status, is_passed};
@@ -7,9 +6,9 @@ ghost use Rattle.pawn_pledge.specs.Parts.{IsTyped, IsLimited, AreIssuedIn};
 ghost use Rattle.pawn_pledge.specs.Replayable.{Each, IsLaterIssue, AreIssued, AreDistinct, DoNotFall, last_issue, IsDrawnBy, AreExtended, last_extension, IsOverUnder, IsBooked, IsClosed, IsStanding};
 
 use crate::limits::{LAST_DAY, LAST_WINDOW, MOST_EXTENSIONS, MOST_PENCE, MOST_SECRETS};
-use crate::lists::{Extensions, Secrets};
 use crate::record::{
-    Agreement, Booking, BookingState, Closing, Extension, Issue, Issued, Standing, Status,
+    Agreement, Booking, BookingState, Closing, Extension, Extensions, Issue, Issued, Secrets,
+    Standing, Status,
 };
 use crate::status::{is_small, status_by};
 use pawn_debt::{Day, Entries, Entry, Sort, Terms, Totals, owing_at, replay_entries};
@@ -86,20 +85,12 @@ fn are_later_issues(credit: u64, issued: &[Issued]) -> bool
     true
 }
 
-// Whether a secret is among others.
-fn is_among(issued: &Issued, others: &[Issued]) -> bool
-    ensures value { result ≡ list_any (λ i. i.secret == issued.now.secret) others.now }
-{
-    let word = issued.secret.word();
-    others.iter().any(|other| other.secret.word() == word)
-}
-
 // Whether no secret stands twice.
 fn are_distinct(issued: &[Issued]) -> bool
     ensures answer { IsTrue result ↔ AreDistinct issued.now }
 {
     for i in 0..issued.len() {
-        if is_among(&issued[i], &issued[i + 1..]) {
+        if issued[i].is_among(&issued[i + 1..]) {
             return false;
         }
     }

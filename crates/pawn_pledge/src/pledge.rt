@@ -12,10 +12,11 @@ mod steps;
 
 use crate::brief::{Brief, BriefFields, Counts};
 use crate::command::Stamp;
-use crate::lists::{Extensions, Secrets};
 use crate::number::Number;
 use crate::parts::{Parts, judge};
-use crate::record::{Agreement, Closing, Extension, Issue, Issued, Opening, Standing, Status};
+use crate::record::{
+    Agreement, Closing, Extension, Extensions, Issue, Issued, Opening, Secrets, Standing, Status,
+};
 use crate::refusal::Refusal;
 use crate::secret::Secret;
 use crate::status::{status_by, status_under};

@@ -1,7 +1,7 @@
 use crate::number::Number;
 use crate::secret::Secret;
 use crate::text::Text;
-use pawn_debt::{Day, Kind, Rates};
+use pawn_debt::{Day, Kind, Rates, Rows};
 use pawn_terms::{RequestDay, last_day};
 use std::alloc::AllocError;
 
@@ -124,6 +124,22 @@ pub struct Issued {
     pub secret: Secret,
 }
 
+impl Issued {
+    ghost use Rattle.std.specs.Prelude.{◌≡◌, ◌==◌};
+    ghost use Rattle.std.specs.List.{list_any};
+
+    // Whether its secret is among others.
+    pub(crate) fn is_among(&self, others: &[Issued]) -> bool
+        ensures value { result ≡ list_any (λ i. i.secret == self.now.secret) others.now }
+    {
+        let word = self.secret.word();
+        others.iter().any(|other| other.secret.word() == word)
+    }
+}
+
+/// The issued secrets, in order.
+pub type Secrets = Rows<Issued>;
+
 /// Where a booking stands.
 #[derive(Clone, Copy, Debug, PartialEq, Eq, Hash)]
 pub enum BookingState {
@@ -147,6 +163,9 @@ pub struct Extension {
     pub day: Day,
     pub until: Day,
 }
+
+/// The extensions of a period, in order.
+pub type Extensions = Rows<Extension>;
 
 /// Whether a pledge was closed, and how. Sums are in pence.
 #[derive(Clone, Copy, Debug, PartialEq, Eq, Hash)]

@@ -160,18 +160,18 @@ impl Pledge {
     {
         let day = stamp.day.day();
         self.gate(day)?;
-        self.may_declare(stamp, paper)?;
         let issued = Issued {
             day,
             sort: paper.issue(),
             secret: Secret::of_word(stamp.word),
         };
+        self.may_declare(paper, &issued)?;
         self.issue(issued)
     }
 
     // What is refused for a declaration alone.
-    fn may_declare(&self, stamp: &Stamp, paper: Paper) -> Result<(), Refusal>
-        ensures answer { result ≡ first_of (declare_bars self.now stamp.now paper) (Ok tt) }
+    fn may_declare(&self, paper: Paper, issued: &Issued) -> Result<(), Refusal>
+        ensures answer { result ≡ first_of (declare_bars self.now paper issued.now.secret) (Ok tt) }
         ensures few { OnOk result (length self.now.secrets < most_secrets) }
     {
         if paper == Paper::Written && !is_small(self.debt.kind().credit()) {
@@ -180,7 +180,7 @@ impl Pledge {
         if self.secrets.len() >= MOST_SECRETS {
             return Err(Refusal::DeclarationsFull);
         }
-        if self.secrets.holds(Secret::of_word(stamp.word)) {
+        if issued.is_among(self.secrets.as_slice()) {
             return Err(Refusal::SecretUsed);
         }
         Ok(())
