@@ -26,12 +26,12 @@ kept_on p q r f s = record { agreement = s.agreement ∙ f.agreement; lists = gr
 
 -- no command takes any of it away
 pub kept_moved : (p q : PledgeValue) (stamp : Stamp) (c : Command) (d : Done) → pledge_step p stamp c ≡ Changed q d → Continues p q
-kept_moved p q stamp c d h = let m = (pledge_moves p q stamp c d h).1 in record { agreement = agreed m; lists = grows-moved p q c stamp.day m }
+kept_moved p q stamp c d h = let m = (pledge_moves p q stamp c d h).1 in record { agreement = agreed m; lists = grows-moved p q c stamp.word stamp.day m }
   where
-    agreed : Move p stamp.day c q → q.agreement ≡ p.agreement
+    agreed : Move p stamp.day stamp.word c q → q.agreement ≡ p.agreement
     agreed (Entering sort pence ok late few drawn is) = ap (λ (r : PledgeValue). r.agreement) is
     agreed (Holding flag new is) = ap (λ (r : PledgeValue). r.agreement) is
-    agreed (Declaring paper word ok is) = ap (λ (r : PledgeValue). r.agreement) is
+    agreed (Declaring paper ok is) = ap (λ (r : PledgeValue). r.agreement) is
     agreed (Asking b later live small state new named is) = ap (λ (r : PledgeValue). r.agreement) is
     agreed (Marking b state at new is) = ap (λ (r : PledgeValue). r.agreement) is
     agreed (Redeeming paid free total is) = ap (λ (r : PledgeValue). r.agreement) is
@@ -43,13 +43,13 @@ pub stands_moved : (p q : PledgeValue) (stamp : Stamp) (c : Command) (d : Done) 
 stands_moved p q stamp c d day given h step =
     let g = pledge_moves p q stamp c d step in
     record {
-      terms = terms-moved p q c stamp.day h.terms g.1;
-      replayable = stays-moved p q c stamp.day h.replayable g.0 g.1;
-      within = within-moved p q c stamp.day day.1 given h.within g.1;
+      terms = terms-moved p q c stamp.word stamp.day h.terms g.1;
+      replayable = stays-moved p q c stamp.word stamp.day h.replayable g.0 g.1;
+      within = within-moved p q c stamp.word stamp.day day.1 given h.within g.1;
     }
 
 pub differs_moved : (p q : PledgeValue) (stamp : Stamp) (c : Command) (d : Done) → pledge_step p stamp c ≡ Changed q d → q ≡ p → ⊥
-differs_moved p q stamp c d step = let g = pledge_moves p q stamp c d step in differs-moved p q c stamp.day g.0 g.1
+differs_moved p q stamp c d step = let g = pledge_moves p q stamp c d step in differs-moved p q c stamp.word stamp.day g.0 g.1
 
 -- each pledge of a list is kept in another, at its place
 abbrev pub AreKept : List PledgeValue → List PledgeValue → Type 0
