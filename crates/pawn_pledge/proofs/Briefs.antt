@@ -1,7 +1,7 @@
 -- A brief of a pledge that can stand is within its limits.
 use Rattle.std.proofs.Common.{◌≤◌, Option, Some, None, arith}
 use Rattle.std.specs.Prelude.{IfSome}
-use Rattle.pawn_terms.specs.Calendar.{last_stamp_day}
+use Rattle.pawn_terms.specs.Limits.{last_stamp_day}
 use Rattle.pawn_debt.proofs.Bounds.{accepted-bounded}
 use Rattle.pawn_pledge.specs.declared.record.Booking.{Booking}
 use Rattle.pawn_pledge.specs.declared.record.Closing.{Closing}
@@ -38,6 +38,6 @@ brief_is_within p h =
       totals = (
         omega (arith, r.entered.before, last),
         bounded.principal,
-        omega (arith, bounded.charges, r.entered.before, last),
+        omega (arith, bounded.millionths, r.entered.before, last),
       );
     }

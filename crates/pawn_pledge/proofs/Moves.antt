@@ -2,17 +2,18 @@
 use Rattle.std.proofs.Common.{◌≡◌, ℕ, ◌<◌, ◌≤◌, ◌==◌, nat_lt, nat_le, Bool, true, false, not, if◌then◌else◌, List, [], ◌∷◌, ◌++◌, length, Option, Some, None, Result, Ok, Err, refl, sym, ap, ◌∙◌, arith}
 use Rattle.std.proofs.lemmas.Bool.{true≢false}
 use Rattle.std.proofs.lemmas.Bool.Decides.{nat_tests}
-use Rattle.pawn_terms.specs.Calendar.{last_stamp_day}
 use Rattle.pawn_terms.specs.Refusals.{first_of, NoneApplies}
 use Rattle.pawn_terms.proofs.RefusalLemmas.{first_of-ok}
+use Rattle.pawn_terms.specs.Limits.{last_stamp_day}
 use Rattle.pawn_debt.specs.declared.entry.Entry.{Entry}
 use Rattle.pawn_debt.specs.declared.entry.Sort.{Sort}
 use Rattle.pawn_debt.specs.declared.entry.Sort.TheVariants.{Draw, Repay}
 use Rattle.pawn_debt.specs.declared.fault.DebtFault.{DebtFault}
 use Rattle.pawn_debt.specs.Due.{DebtValue, last_of}
-use Rattle.pawn_debt.specs.Answers.{draw_answer, repay_answer, with_entry, most_pence, most_entries}
+use Rattle.pawn_debt.specs.Answers.{draw_answer, repay_answer, with_entry}
 use Rattle.pawn_debt.specs.Replay.{sort_answer}
 use Rattle.pawn_debt.proofs.ReplayLemmas.{sort_answer-ok}
+use Rattle.pawn_debt.specs.Limits.{most_pence, most_entries}
 use Rattle.pawn_pledge.specs.declared.record.Booking.{Booking}
 use Rattle.pawn_pledge.specs.declared.record.BookingState.{BookingState}
 use Rattle.pawn_pledge.specs.declared.record.Closing.{Closing}
@@ -25,9 +26,10 @@ use Rattle.pawn_pledge.specs.declared.command.Command.{Command}
 use Rattle.pawn_pledge.specs.declared.command.Done.{Done}
 use Rattle.pawn_pledge.specs.declared.refusal.Refusal.{Refusal}
 use Rattle.pawn_pledge.specs.Pledge.{PledgeValue, changed_on, settled, end_of, debt_of, total_on, open_status, is_passed, is_realisable}
-use Rattle.pawn_pledge.specs.Step.{Judged, Answered, Changed, past, unless, bars, is_open, is_repeat, is_ahead, new_entry, entered, entry_step, numbered_step, same_flag, held_on, hold_step, declare_bars, with_secret, issue_of, declare_step, booked_on, books, in_state, is_standing, stands_for, asked, ask_step, cancelled, cancel_step, confirmed, declined, decide_step, closed, redeem_step, sell_step, with_extension, extend_step, pledge_step, last_window, most_extensions}
+use Rattle.pawn_pledge.specs.Step.{Judged, Answered, Changed, past, unless, bars, is_open, is_repeat, is_ahead, new_entry, entered, entry_step, numbered_step, same_flag, held_on, hold_step, declare_bars, with_secret, issue_of, declare_step, booked_on, books, in_state, is_standing, stands_for, asked, ask_step, cancelled, cancel_step, confirmed, declined, decide_step, closed, redeem_step, sell_step, with_extension, extend_step, pledge_step}
 use Rattle.pawn_pledge.specs.Replayable.{IsNotPassed, IsDrawnBy}
 use Rattle.pawn_pledge.specs.Commands.{IsCommand}
+use Rattle.pawn_pledge.specs.Limits.{last_window, most_extensions}
 
 -- a step that changes was not refused on the way
 past-changed : (g : Result (Unit {0}) Refusal) (own : Judged) (q : PledgeValue) (d : Done) → past g own ≡ Changed q d → (g ≡ Ok tt) × (own ≡ Changed q d)

@@ -18,11 +18,12 @@ use Rattle.pawn_pledge.specs.declared.command.Done.{Done}
 use Rattle.pawn_pledge.specs.declared.refusal.Refusal.{Refusal}
 use Rattle.pawn_pledge.specs.Pledge.{PledgeValue, changed_on, debt_of, end_of}
 use Rattle.pawn_pledge.specs.Replayable.{AreNumbered}
-use Rattle.pawn_pledge.specs.Step.{Answered, Changed, Judged, past, bars, entered, entry_of, entry_step, is_ahead, is_repeat, most_extensions, new_entry, numbered_step, pledge_step, same_sort, unless, with_extension}
+use Rattle.pawn_pledge.specs.Step.{Answered, Changed, Judged, past, bars, entered, entry_of, entry_step, is_ahead, is_repeat, new_entry, numbered_step, pledge_step, same_sort, unless, with_extension}
 use Rattle.pawn_pledge.specs.Growth.{Grows}
 use Rattle.pawn_pledge.specs.Laws.{entering, EntriesActOnce, StandingEndIsAnswered, ExtensionsActOnce, pledge_after_all}
 use Rattle.pawn_pledge.proofs.Moves.{unless-changed, if-unanswered}
 use Rattle.pawn_pledge.proofs.Growth.{lists_grow}
+use Rattle.pawn_pledge.specs.Limits.{most_extensions}
 
 -- what is not refused comes to what follows
 pub unless-past : (rows : List (Bool × Refusal)) (own : Judged) → NoneApplies rows → unless rows own ≡ own

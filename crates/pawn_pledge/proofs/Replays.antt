@@ -2,8 +2,9 @@
 use Rattle.std.proofs.Common.{◌≡◌, ℕ, ◌+◌, ◌<◌, ◌≤◌, ◌==◌, max, nat_le, Bool, true, false, not, ◌&&◌, if◌then◌else◌, List, [], ◌∷◌, ◌++◌, length, Option, Some, None, Ok, refl, sym, ap, subst, ◌∙◌, arith, length-append, IfSome}
 use Rattle.std.proofs.lemmas.Bool.{true≢false, false≢true}
 use Rattle.std.proofs.lemmas.Bool.Decides.{nat_tests}
-use Rattle.pawn_terms.specs.Calendar.{period_end, six_months, last_stamp_day}
+use Rattle.pawn_terms.specs.Calendar.{period_end, six_months}
 use Rattle.pawn_terms.specs.Refusals.{NoneApplies}
+use Rattle.pawn_terms.specs.Limits.{last_stamp_day}
 use Rattle.pawn_debt.specs.declared.entry.Entry.{Entry}
 use Rattle.pawn_debt.specs.declared.entry.Sort.{Sort}
 use Rattle.pawn_debt.specs.declared.entry.Sort.TheVariants.{Draw, Repay}
@@ -21,12 +22,13 @@ use Rattle.pawn_pledge.specs.declared.record.Closing.{Closing}
 use Rattle.pawn_pledge.specs.declared.record.Status.TheVariants as Status
 use Rattle.pawn_pledge.specs.declared.command.Paper.{Paper}
 use Rattle.pawn_pledge.specs.declared.command.Command.{Command}
-use Rattle.pawn_pledge.specs.Pledge.{PledgeValue, changed_on, settled, first_end, end_of, is_small, small_credit, debt_of, is_passed}
-use Rattle.pawn_pledge.specs.Step.{same_flag, held_on, booked_on, closed_on, closed, is_written, issue_of, new_entry, declare_bars, with_secret, in_state, state_after, booking_after, with_extension, most_secrets}
+use Rattle.pawn_pledge.specs.Pledge.{PledgeValue, changed_on, settled, first_end, end_of, is_small, debt_of, is_passed}
+use Rattle.pawn_pledge.specs.Step.{same_flag, held_on, booked_on, closed_on, closed, is_written, issue_of, new_entry, declare_bars, with_secret, in_state, state_after, booking_after, with_extension}
 use Rattle.pawn_pledge.specs.Replayable.{IsNotPassed, IsLaterIssue, IsDrawnBy, IsClosed, IsOver, IsOverUnder, IsBooked, IsReplayable, IsWithin}
 use Rattle.pawn_pledge.specs.Commands.{IsCommand}
 use Rattle.pawn_pledge.proofs.Moves.{not_most, IsGated, Move, Entering, Holding, Declaring, Asking, Marking, Redeeming, Selling, Extending}
 use Rattle.pawn_pledge.proofs.Pushes.{Each-push, Each-map, Each-all, AreIssued-push, AreDistinct-push, DoNotFall-push, last_issue-push, AreNumbered-push, AreOrdered-each, end_after-push, end_after-le, AreExtended-push, last_extension-push}
+use Rattle.pawn_pledge.specs.Limits.{small_credit, most_secrets}
 
 -- not passed, where the last case is not
 unpassed : (a b : Bool) → is_passed (if a then Status.Inside else if b then Status.Grace else Status.Realisable) ≡ false

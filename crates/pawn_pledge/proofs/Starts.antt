@@ -7,7 +7,8 @@ use Rattle.pawn_terms.proofs.SixMonths.{six_months-later}
 use Rattle.pawn_terms.proofs.RefusalLemmas.{first_of-ok}
 use Rattle.pawn_debt.specs.declared.fault.DebtFault.TheVariants.{BadAmount}
 use Rattle.pawn_debt.specs.Due.{credit_of}
-use Rattle.pawn_debt.specs.Answers.{is_bad_amount, most_pence}
+use Rattle.pawn_debt.specs.Answers.{is_bad_amount}
+use Rattle.pawn_debt.specs.Limits.{most_pence}
 use Rattle.pawn_pledge.specs.declared.record.Issue.TheVariants as Issue
 use Rattle.pawn_pledge.specs.declared.record.Closing.TheVariants as Closing
 use Rattle.pawn_pledge.specs.Pledge.{PledgeValue, end_of}

@@ -1,19 +1,19 @@
 -- A pledge without its lists, and the limits of its fields.
 use Rattle.std.specs.Prelude.{ℕ, ◌-◌, ◌≤◌, length, IfSome}
-use Rattle.pawn_terms.specs.Calendar.{last_stamp_day}
 use Rattle.pawn_terms.specs.Terms.{IsChecked}
+use Rattle.pawn_terms.specs.Limits.{last_stamp_day}
 use Rattle.pawn_debt.specs.declared.owing.Totals.{Totals}
 use Rattle.pawn_debt.specs.declared.owing.Owing.{Owing}
 use Rattle.pawn_debt.specs.Due.{credit_of, carried}
 use Rattle.pawn_debt.specs.Owing.{owing_of}
-use Rattle.pawn_debt.specs.Answers.{most_pence, most_entries}
-use Rattle.pawn_debt.specs.Kept.{owed_of, totals_of, most_charges}
+use Rattle.pawn_debt.specs.Kept.{owed_of, totals_of}
+use Rattle.pawn_debt.specs.Limits.{most_pence, most_entries, most_millionths}
 use Rattle.pawn_pledge.specs.declared.record.Booking.{Booking}
 use Rattle.pawn_pledge.specs.declared.record.Closing.{Closing}
 use Rattle.pawn_pledge.specs.declared.record.Status.{Status}
 use Rattle.pawn_pledge.specs.declared.brief.BriefFields.{BriefFields}
 use Rattle.pawn_pledge.specs.Pledge.{PledgeValue, end_of, debt_of, live_of, status_by, status_under}
-use Rattle.pawn_pledge.specs.Step.{most_secrets, most_extensions, last_window}
+use Rattle.pawn_pledge.specs.Limits.{most_secrets, most_extensions, last_window}
 
 abbrev pub brief_of : PledgeValue → BriefFields
 brief_of p = record {
@@ -45,7 +45,7 @@ IsClosingWithin (Closing.Sold day net) = (day ≤ last_stamp_day) × (net ≤ mo
 
 -- what was owed on a day that a request may name, in numbers that charges can be carried on from
 abbrev pub AreTotalsWithin : Totals → Type 0
-AreTotalsWithin t = (t.day ≤ last_stamp_day) × (t.principal ≤ most_pence) × (t.charges ≤ most_charges)
+AreTotalsWithin t = (t.day ≤ last_stamp_day) × (t.principal ≤ most_pence) × (t.millionths ≤ most_millionths)
 
 -- the limits of a brief, but for those that the types of its fields keep
 pub record IsBriefWithin (b : BriefFields) : Type 0 where

@@ -1,9 +1,9 @@
 -- What the fields of a pledge keep.
 use Rattle.std.specs.Prelude.{◌≡◌, ◌≤◌, length}
-use Rattle.pawn_terms.specs.Calendar.{last_stamp_day}
+use Rattle.pawn_terms.specs.Limits.{last_stamp_day}
 use Rattle.pawn_debt.specs.Due.{DebtValue, last_of}
 use Rattle.pawn_pledge.specs.Pledge.{PledgeValue, debt_of}
-use Rattle.pawn_pledge.specs.Step.{most_secrets}
+use Rattle.pawn_pledge.specs.Limits.{most_secrets}
 
 -- the debt is the record's, the last change is not before the last entry, and there is a secret
 pub record IsKept (p : PledgeValue) (d : DebtValue) : Type 0 where

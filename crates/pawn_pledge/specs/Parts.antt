@@ -1,12 +1,12 @@
 -- What is found of a record before a pledge is made.
 use Rattle.std.specs.Prelude.{◌≤◌, length, IfSome}
-use Rattle.pawn_terms.specs.Calendar.{last_stamp_day}
+use Rattle.pawn_terms.specs.Limits.{last_stamp_day}
 use Rattle.pawn_debt.specs.Due.{credit_of}
-use Rattle.pawn_debt.specs.Answers.{most_pence}
+use Rattle.pawn_debt.specs.Limits.{most_pence}
 use Rattle.pawn_pledge.specs.Number.{IsNumber}
 use Rattle.pawn_pledge.specs.Pledge.{PledgeValue}
-use Rattle.pawn_pledge.specs.Step.{most_secrets, most_extensions}
 use Rattle.pawn_pledge.specs.Replayable.{Each, IsOpening, AreIssued, AreDistinct, DoNotFall, last_issue}
+use Rattle.pawn_pledge.specs.Limits.{most_secrets, most_extensions}
 
 -- what the types of parts keep
 pub record IsTyped (p : PledgeValue) : Type 0 where

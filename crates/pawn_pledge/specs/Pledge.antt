@@ -3,6 +3,7 @@ use Rattle.std.specs.Prelude.{ℕ, ◌+◌, ◌-◌, max, [], ◌∷◌, nat_le,
 use Rattle.pawn_terms.specs.Calendar.{period_end, six_months}
 use Rattle.pawn_debt.specs.Due.{DebtValue, due, credit_of}
 use Rattle.pawn_debt.specs.Owing.{total_of}
+use Rattle.pawn_pledge.specs.Limits.{small_credit}
 use Rattle.pawn_pledge.specs.declared.record.Issued.{Issued}
 use Rattle.pawn_pledge.specs.declared.record.Extension.{Extension}
 use Rattle.pawn_pledge.specs.declared.record.Agreement.{Agreement}
@@ -28,10 +29,7 @@ end_after ends (e ∷ es) = end_after (max ends e.until) es
 abbrev pub end_of : PledgeValue → ℕ
 end_of p = end_after (first_end p.agreement) p.extensions
 
--- up to 75 pounds
-abbrev pub small_credit : ℕ
-small_credit = 7500
-
+-- a credit is small
 abbrev pub is_small : ℕ → Bool
 is_small pence = nat_le pence small_credit
 

@@ -1,14 +1,15 @@
 -- Which records can have come about by commands.
 use Rattle.std.specs.Prelude.{◌≡◌, ℕ, ◌+◌, ◌≤◌, ◌<◌, ◌==◌, max, false, List, [], ◌∷◌, length, Option, Some, None, IfSome}
 use Rattle.std.specs.List.{list_any}
-use Rattle.pawn_terms.specs.Calendar.{last_stamp_day, IsStampDay}
+use Rattle.pawn_terms.specs.Calendar.{IsStampDay}
 use Rattle.pawn_terms.specs.Terms.{IsChecked}
+use Rattle.pawn_terms.specs.Limits.{last_stamp_day}
 use Rattle.pawn_debt.specs.declared.entry.Entry.{Entry}
 use Rattle.pawn_debt.specs.declared.entry.Sort.{Sort}
 use Rattle.pawn_debt.specs.declared.entry.Sort.TheVariants.{Draw, Repay}
 use Rattle.pawn_debt.specs.Due.{credit_of, last_of, AreOrdered}
-use Rattle.pawn_debt.specs.Answers.{most_pence, most_entries}
 use Rattle.pawn_debt.specs.Replay.{AreAccepted}
+use Rattle.pawn_debt.specs.Limits.{most_pence, most_entries}
 use Rattle.pawn_pledge.specs.declared.record.Issued.{Issued}
 use Rattle.pawn_pledge.specs.declared.record.Issue.{Issue}
 use Rattle.pawn_pledge.specs.declared.record.Extension.{Extension}
@@ -19,8 +20,8 @@ use Rattle.pawn_pledge.specs.declared.record.Status.TheVariants as Status
 use Rattle.pawn_pledge.specs.declared.record.Opening.{Opening}
 use Rattle.pawn_pledge.specs.Number.{IsNumber}
 use Rattle.pawn_pledge.specs.Text.{IsText}
-use Rattle.pawn_pledge.specs.Pledge.{PledgeValue, first_end, end_of, total_on, debt_of, open_status, is_passed, small_credit}
-use Rattle.pawn_pledge.specs.Step.{most_secrets, most_extensions, last_window}
+use Rattle.pawn_pledge.specs.Pledge.{PledgeValue, first_end, end_of, total_on, debt_of, open_status, is_passed}
+use Rattle.pawn_pledge.specs.Limits.{small_credit, most_secrets, most_extensions, last_window}
 
 -- each element of a list
 abbrev pub Each : {A : Type 0} → (A → Type 0) → List A → Type 0

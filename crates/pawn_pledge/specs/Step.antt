@@ -9,7 +9,8 @@ use Rattle.pawn_debt.specs.declared.entry.Sort.TheVariants.{Draw, Repay}
 use Rattle.pawn_debt.specs.declared.fault.DebtFault.{DebtFault}
 use Rattle.pawn_debt.specs.declared.fault.DebtFault.TheVariants.{EarlierDay, BadAmount}
 use Rattle.pawn_debt.specs.Due.{DebtValue, credit_of}
-use Rattle.pawn_debt.specs.Answers.{draw_answer, repay_answer, is_bad_amount, most_pence}
+use Rattle.pawn_debt.specs.Answers.{draw_answer, repay_answer, is_bad_amount}
+use Rattle.pawn_debt.specs.Limits.{most_pence}
 use Rattle.pawn_pledge.specs.declared.record.Opening.{Opening}
 use Rattle.pawn_pledge.specs.declared.record.Issued.{Issued}
 use Rattle.pawn_pledge.specs.declared.record.Issue.{Issue}
@@ -26,17 +27,9 @@ use Rattle.pawn_pledge.specs.declared.command.Command.{Command}
 use Rattle.pawn_pledge.specs.declared.command.Done.{Done}
 use Rattle.pawn_pledge.specs.declared.command.Applied.{Applied}
 use Rattle.pawn_pledge.specs.declared.refusal.Refusal.{Refusal}
+use Rattle.pawn_pledge.specs.Limits.{most_secrets, most_extensions, last_window}
 use Rattle.pawn_pledge.specs.Refusal.{refusal_of}
 use Rattle.pawn_pledge.specs.Pledge.{PledgeValue, changed_on, settled, end_of, is_small, debt_of, total_on, open_status, is_passed, is_realisable}
-
-abbrev pub most_secrets : ℕ
-most_secrets = 101
-
-abbrev pub most_extensions : ℕ
-most_extensions = 99
-
-abbrev pub last_window : ℕ
-last_window = 15
 
 -- a pledge as it is taken: its one secret is the stamp's word
 abbrev pub started : ℕ → Opening → ℕ → Rates → Stamp → Result PledgeValue Refusal

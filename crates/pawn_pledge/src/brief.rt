@@ -1,18 +1,18 @@
 ghost use Rattle.std.specs.Prelude.{◌≡◌, ◌≤◌, ◌↔◌, IsTrue, OnErr, IfOk, IfErr, IfSome, IfNone};
-ghost use Rattle.pawn_terms.specs.Calendar.{last_stamp_day};
+ghost use Rattle.pawn_terms.specs.Limits.{last_stamp_day};
 ghost use Rattle.pawn_debt.specs.Due.{credit_of};
-ghost use Rattle.pawn_debt.specs.Answers.{most_pence, most_entries};
-ghost use Rattle.pawn_debt.specs.Kept.{most_charges};
-ghost use Rattle.pawn_pledge.specs.Step.{most_secrets, most_extensions};
+ghost use Rattle.pawn_debt.specs.Limits.{most_pence, most_entries, most_millionths};
 ghost use Rattle.pawn_pledge.specs.Brief.{brief_status, brief_owing, IsBookingWithin, IsClosingWithin, AreTotalsWithin, IsBriefWithin};
+ghost use Rattle.pawn_pledge.specs.Limits.{most_secrets, most_extensions};
 
-use crate::limits::{
-    LAST_DAY, LAST_WINDOW, MOST_CHARGES, MOST_ENTRIES, MOST_EXTENSIONS, MOST_PENCE, MOST_SECRETS,
-};
+use crate::limits::{LAST_WINDOW, MOST_EXTENSIONS, MOST_SECRETS};
 use crate::record::{Agreement, Booking, Closing, Standing, Status};
 use crate::secret::Secret;
 use crate::status::status_under;
-use pawn_debt::{Day, Kind, Owing, Terms, Totals, owing_from};
+use pawn_debt::{
+    Day, Kind, MOST_ENTRIES, MOST_MILLIONTHS, MOST_PENCE, Owing, Terms, Totals, owing_from,
+};
+use pawn_terms::LAST_STAMP_DAY;
 use std::marker::Model;
 
 /// How many entries, secrets and extensions a pledge has.
@@ -47,16 +47,15 @@ pub struct Brief {
 
 impl Model for Brief {
     ghost use Rattle.std.specs.Prelude.{◌≡◌, ◌≤◌};
-    ghost use Rattle.pawn_terms.specs.Calendar.{last_stamp_day};
-    ghost use Rattle.pawn_debt.specs.Answers.{most_pence};
-    ghost use Rattle.pawn_debt.specs.Kept.{most_charges};
+    ghost use Rattle.pawn_terms.specs.Limits.{last_stamp_day};
+    ghost use Rattle.pawn_debt.specs.Limits.{most_pence, most_millionths};
     ghost use Rattle.pawn_pledge.specs.declared.brief.BriefFields.{BriefFields};
 
     ghost Value = { BriefFields };
 
     ghost view = { λ b. b.fields };
 
-    ghost invariant = { λ b. (b.terms ≡ b.fields.agreement.terms) × (b.fields.agreement.taken ≤ last_stamp_day) × (b.fields.totals.principal ≤ most_pence) × (b.fields.totals.charges ≤ most_charges) };
+    ghost invariant = { λ b. (b.terms ≡ b.fields.agreement.terms) × (b.fields.agreement.taken ≤ last_stamp_day) × (b.fields.totals.principal ≤ most_pence) × (b.fields.totals.millionths ≤ most_millionths) };
 }
 
 impl Brief {
@@ -77,7 +76,7 @@ impl Brief {
         requires terms { terms ≡ fields.agreement.terms }
         requires taken { fields.agreement.taken ≤ last_stamp_day }
         requires principal_in { fields.totals.principal ≤ most_pence }
-        requires charges_in { fields.totals.charges ≤ most_charges }
+        requires millionths_in { fields.totals.millionths ≤ most_millionths }
         ensures value { result ≡ fields }
     {
         Brief { fields, terms }
@@ -150,7 +149,7 @@ fn is_credit_within(kind: Kind) -> bool
 fn are_days_within(taken: Day, last: Day) -> bool
     ensures answer { IsTrue result ↔ ((taken ≤ last_stamp_day) × (last ≤ last_stamp_day)) }
 {
-    taken.count() <= LAST_DAY && last.count() <= LAST_DAY
+    taken.count() <= LAST_STAMP_DAY && last.count() <= LAST_STAMP_DAY
 }
 
 // Whether there are no more entries, secrets and extensions than a pledge may have.
@@ -166,7 +165,7 @@ fn is_booking_within(booking: Option<Booking>) -> bool
     ensures answer { IsTrue result ↔ IfSome booking IsBookingWithin }
 {
     match booking {
-        Some(booking) => booking.day.count() <= LAST_DAY && booking.window <= LAST_WINDOW,
+        Some(booking) => booking.day.count() <= LAST_STAMP_DAY && booking.window <= LAST_WINDOW,
         None => true,
     }
 }
@@ -176,15 +175,15 @@ fn is_closing_within(closing: Closing) -> bool
 {
     match closing {
         Closing::Open => true,
-        Closing::Redeemed { day, .. } => day.count() <= LAST_DAY,
-        Closing::Sold { day, net } => day.count() <= LAST_DAY && net <= MOST_PENCE,
+        Closing::Redeemed { day, .. } => day.count() <= LAST_STAMP_DAY,
+        Closing::Sold { day, net } => day.count() <= LAST_STAMP_DAY && net <= MOST_PENCE,
     }
 }
 
 fn are_totals_within(totals: &Totals) -> bool
     ensures answer { IsTrue result ↔ AreTotalsWithin totals.now }
 {
-    totals.day.count() <= LAST_DAY
+    totals.day.count() <= LAST_STAMP_DAY
         && totals.principal <= MOST_PENCE
-        && totals.charges <= MOST_CHARGES
+        && totals.millionths <= MOST_MILLIONTHS
 }

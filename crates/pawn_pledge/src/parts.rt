@@ -1,17 +1,18 @@
 ghost use Rattle.std.specs.Prelude.{◌≡◌, ◌≤◌, ◌↔◌, IsTrue, IfSome, IfNone};
-ghost use Rattle.pawn_terms.specs.Calendar.{last_stamp_day};
+ghost use Rattle.pawn_terms.specs.Limits.{last_stamp_day};
 ghost use Rattle.pawn_debt.specs.Kept.{IsKept as IsOwed};
 ghost use Rattle.pawn_pledge.specs.Pledge.{debt_of, end_of, end_after, open_status, is_passed};
 ghost use Rattle.pawn_pledge.specs.Parts.{IsTyped, IsLimited, AreIssuedIn};
 ghost use Rattle.pawn_pledge.specs.Replayable.{Each, IsLaterIssue, AreIssued, AreDistinct, DoNotFall, last_issue, IsDrawnBy, AreExtended, last_extension, IsOverUnder, IsBooked, IsClosed, IsStanding};
 
-use crate::limits::{LAST_DAY, LAST_WINDOW, MOST_EXTENSIONS, MOST_PENCE, MOST_SECRETS};
+use crate::limits::{LAST_WINDOW, MOST_EXTENSIONS, MOST_SECRETS};
 use crate::record::{
     Agreement, Booking, BookingState, Closing, Extension, Extensions, Issue, Issued, Secrets,
     Standing, Status,
 };
 use crate::status::{is_small, status_by};
-use pawn_debt::{Day, Entries, Entry, Sort, Terms, Totals, owing_at, replay_entries};
+use pawn_debt::{Day, Entries, Entry, MOST_PENCE, Sort, Terms, Totals, owing_at, replay_entries};
+use pawn_terms::LAST_STAMP_DAY;
 
 /// The record of a pledge as plain fields, be it one that a pledge can have or not.
 #[derive(Drop)]
@@ -229,7 +230,7 @@ fn are_named(extensions: &[Extension]) -> bool
     ensures answer { IsTrue result ↔ Each (λ e. e.until ≤ last_stamp_day) extensions.now }
 {
     for extension in extensions {
-        if extension.until.count() > LAST_DAY {
+        if extension.until.count() > LAST_STAMP_DAY {
             return false;
         }
     }
@@ -241,7 +242,7 @@ fn is_named(booking: Option<Booking>) -> bool
     ensures answer { IsTrue result ↔ IfSome booking (λ b. b.day ≤ last_stamp_day) }
 {
     match booking {
-        Some(booking) => booking.day.count() <= LAST_DAY,
+        Some(booking) => booking.day.count() <= LAST_STAMP_DAY,
         None => true,
     }
 }
@@ -318,7 +319,7 @@ fn is_limited(parts: &Parts) -> bool
     if credit == 0 || credit > MOST_PENCE {
         return false;
     }
-    if parts.standing.last.count() > LAST_DAY {
+    if parts.standing.last.count() > LAST_STAMP_DAY {
         return false;
     }
     if parts.secrets.len() > MOST_SECRETS {

@@ -1,8 +1,8 @@
 ghost use Rattle.std.specs.Prelude.{◌≡◌, ◌≤◌, ◌↔◌, IsTrue, Some, OnErr, IfOk, IfErr};
 ghost use Rattle.pawn_debt.specs.Due.{due, last_of};
 ghost use Rattle.pawn_debt.specs.Owing.{owing_of};
-ghost use Rattle.pawn_debt.specs.Answers.{most_pence};
-ghost use Rattle.pawn_debt.specs.Kept.{IsKept as IsOwed, most_charges, totals_of};
+ghost use Rattle.pawn_debt.specs.Kept.{IsKept as IsOwed, totals_of};
+ghost use Rattle.pawn_debt.specs.Limits.{most_pence, most_millionths};
 ghost use Rattle.pawn_pledge.specs.Pledge.{status_of, open_status, last_secret, live_of, end_of, debt_of};
 ghost use Rattle.pawn_pledge.specs.Step.{started, IsStarted};
 ghost use Rattle.pawn_pledge.specs.Replayable.{IsStanding};
@@ -211,7 +211,7 @@ impl Pledge {
     pub fn totals(&self) -> Totals
         ensures value { result ≡ totals_of (debt_of self.now) }
         ensures principal_in { result.principal ≤ most_pence }
-        ensures charges_in { result.charges ≤ most_charges }
+        ensures millionths_in { result.millionths ≤ most_millionths }
     {
         self.debt.totals()
     }

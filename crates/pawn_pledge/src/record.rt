@@ -79,7 +79,7 @@ pub struct Agreement {
 
 impl Agreement {
     ghost use Rattle.std.specs.Prelude.{◌≡◌, ◌≤◌, IfOk};
-    ghost use Rattle.pawn_terms.specs.Calendar.{last_stamp_day};
+    ghost use Rattle.pawn_terms.specs.Limits.{last_stamp_day};
     ghost use Rattle.pawn_pledge.specs.Pledge.{first_end};
 
     /// The same again.

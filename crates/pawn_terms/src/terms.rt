@@ -1,13 +1,10 @@
 ghost use Rattle.std.specs.Prelude.{◌≡◌};
 ghost use Rattle.pawn_terms.specs.Terms.{IsChecked};
 
+use crate::limits::{MOST_KEEP, MOST_RATE};
 use std::error::Error;
 use std::fmt;
 use std::marker::Model;
-
-const MOST_RATE: u64 = 20_000;
-
-const MOST_KEEP: u64 = 10_000_000;
 
 /// Why three numbers are no terms.
 #[derive(Clone, Copy, Debug, PartialEq, Eq, Hash)]

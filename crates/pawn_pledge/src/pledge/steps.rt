@@ -2,16 +2,17 @@ ghost use Rattle.std.specs.Prelude.{◌≡◌, ◌≤◌, ◌<◌, length, Ok, O
 ghost use Rattle.pawn_terms.specs.Refusals.{first_of};
 ghost use Rattle.pawn_debt.specs.declared.entry.Entry.{Entry};
 ghost use Rattle.pawn_pledge.specs.Pledge.{end_of};
-ghost use Rattle.pawn_pledge.specs.Step.{Changed, unless, bars, declare_bars, most_secrets, pledge_step, numbered_step, entry_of, entry_step, hold_step, declare_step, ask_step, asked, cancel_step, decide_step, confirmed, declined, redeem_step, sell_step, extend_step, books, in_state, is_standing, state_after, booking_after, with_secret, with_extension, issue_of, is_ahead, is_repeat, IsStep, IsApplied};
+ghost use Rattle.pawn_pledge.specs.Step.{Changed, unless, bars, declare_bars, pledge_step, numbered_step, entry_of, entry_step, hold_step, declare_step, ask_step, asked, cancel_step, decide_step, confirmed, declined, redeem_step, sell_step, extend_step, books, in_state, is_standing, state_after, booking_after, with_secret, with_extension, issue_of, is_ahead, is_repeat, IsStep, IsApplied};
+ghost use Rattle.pawn_pledge.specs.Limits.{most_secrets};
 
 use super::Pledge;
 use crate::command::{Applied, Command, Decision, Done, Paper, Stamp};
-use crate::limits::{LAST_WINDOW, MOST_EXTENSIONS, MOST_PENCE, MOST_SECRETS};
+use crate::limits::{LAST_WINDOW, MOST_EXTENSIONS, MOST_SECRETS};
 use crate::record::{Booking, BookingState, Closing, Extension, Issue, Issued, Status};
 use crate::refusal::Refusal;
 use crate::secret::Secret;
 use crate::status::is_small;
-use pawn_debt::{Day, DebtFault, Entry, Sort};
+use pawn_debt::{Day, DebtFault, Entry, MOST_PENCE, Sort};
 
 impl Pledge {
     /// One command: what it answers, or the first refusal that applies. Where it is refused, the

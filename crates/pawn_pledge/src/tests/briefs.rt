@@ -66,7 +66,7 @@ fn fields(alloc: Global) -> Result<BriefFields, Fail> {
         totals: Totals {
             day: taken,
             principal: 10_000,
-            charges: 0,
+            millionths: 0,
         },
     })
 }
@@ -122,7 +122,7 @@ fn a_brief_at_its_limits(rt: HostRuntime) -> Result<(), Fail> {
     most.totals = Totals {
         day: last,
         principal: 100_000_000,
-        charges: 1_000_000_000_000_000_000,
+        millionths: 1_000_000_000_000_000_000,
     };
     assert!(rt; !is_handed_back(most));
     Ok(())
@@ -199,7 +199,7 @@ fn fields_past_the_last_day(rt: HostRuntime) -> Result<(), Fail> {
 
 #[test]
 fn fields_with_other_totals(rt: HostRuntime) -> Result<(), Fail> {
-    for (day, principal, charges) in [
+    for (day, principal, millionths) in [
         (past_day()?, 1, 0),
         (last_day()?, 100_000_001, 0),
         (last_day()?, 1, 1_000_000_000_000_000_001),
@@ -208,9 +208,9 @@ fn fields_with_other_totals(rt: HostRuntime) -> Result<(), Fail> {
         fields.totals = Totals {
             day,
             principal,
-            charges,
+            millionths,
         };
-        assert!(rt; is_handed_back(fields), "at {principal} and {charges}");
+        assert!(rt; is_handed_back(fields), "at {principal} and {millionths}");
     }
     Ok(())
 }
@@ -221,6 +221,6 @@ fn totals_of_a_pledge(rt: HostRuntime) -> Result<(), Fail> {
     let totals = pledge.totals();
     assert_eq!(rt; totals.day, day(b"2024-04-02")?);
     assert_eq!(rt; totals.principal, 9_000);
-    assert_eq!(rt; totals.charges, 0);
+    assert_eq!(rt; totals.millionths, 0);
     Ok(())
 }
