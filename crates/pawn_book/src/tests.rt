@@ -1,8 +1,8 @@
 use crate::{
     Article, BearerRequest, BrokerRequest, Caller, Capacity, Entry, Extension, Flow, Keep, Kind,
-    ListKeep, Name, NewBook, NewTerms, Number, Opening, Receipt, Receipts, Reference, Refusal,
-    Reply, Request, RequestDay, Secret, Stamp, Status, TermsFault, Visitor, act, find_live, gate,
-    plan,
+    ListKeep, Name, NewBook, NewTerms, Number, Opening, Rates, Receipt, Receipts, Reference,
+    Refusal, Reply, Request, RequestDay, Secret, Stamp, Status, TermsFault, Visitor, act,
+    find_live, gate, plan,
 };
 use pawn_debt::DebtFault;
 use std::alloc::Global;
