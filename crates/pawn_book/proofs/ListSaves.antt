@@ -5,7 +5,7 @@ use Rattle.std.specs.Ordering.{nat_cmp}
 use Rattle.std.specs.FinMap.{get, empty, entries, from_entries, get-empty, len-empty, len-entries}
 use Rattle.std.proofs.lemmas.Bool.Decides.{nat_tests}
 use Rattle.std.proofs.lemmas.List.Sums.{sum_by-cons}
-use Rattle.pawn_terms.specs.Terms.{TermsValue}
+use Rattle.pawn_terms.specs.declared.terms.Rates.{Rates}
 use Rattle.pawn_pledge.specs.Pledge.{PledgeValue}
 use Rattle.pawn_book.specs.declared.request.NewBook.{NewBook}
 use Rattle.pawn_book.specs.declared.change.Change.{Change}
@@ -13,9 +13,10 @@ use Rattle.pawn_book.specs.declared.change.Change.TheVariants.{MakeBook, AddTerm
 use Rattle.pawn_book.specs.BookStep.{BookValue, made_book, changed_book, pledge_from, put_from}
 use Rattle.pawn_book.specs.HostStep.{Host, rows, book_rows, pledge_rows, with_book}
 use Rattle.pawn_book.specs.Sound.{AreSound}
-use Rattle.pawn_book.specs.Keeping.{CanSave, Follows, Continues, changed}
+use Rattle.pawn_book.specs.Changes.{CanSave, Follows, Continues, changed}
 use Rattle.pawn_book.specs.Books.{Books}
 use Rattle.pawn_book.specs.declared.fault.SaveError.TheVariants.{Full}
+use Rattle.pawn_book.specs.Limits.{most_rows}
 use Rattle.pawn_book.specs.Listed.{IsKept, IsPlace, Saves, book_at, host_of, standing_rows}
 use Rattle.pawn_book.proofs.RowSums.{part, rows-with_book}
 use Rattle.pawn_book.proofs.Places.{pledge_within}
@@ -33,7 +34,7 @@ no_rows limit =
     ap (λ es. sum_by book_rows (map (λ e. e.1) es)) none
 
 -- an empty list is kept
-pub kept_empty : (limit : ℕ) → limit ≤ 10000000 → IsKept (record { books = []; limit = limit }) 0
+pub kept_empty : (limit : ℕ) → limit ≤ most_rows → IsKept (record { books = []; limit = limit }) 0
 kept_empty limit few =
     let none = no_rows limit in
     record {
@@ -43,7 +44,7 @@ kept_empty limit few =
     }
 
 -- a list that stands for the changed host is kept
-pub kept_changed : (k next : Books) (count : ℕ) (change : Change) → k.limit ≤ 10000000 → next.limit ≡ k.limit → host_of next ≡ changed (host_of k) change
+pub kept_changed : (k next : Books) (count : ℕ) (change : Change) → k.limit ≤ most_rows → next.limit ≡ k.limit → host_of next ≡ changed (host_of k) change
     → AreSound (changed (host_of k) change) → count ≡ rows (changed (host_of k) change) → count ≤ k.limit → IsKept next count
 kept_changed k next count change few same is sound counted fits =
     let all : rows (host_of next) ≡ count = ap rows is ∙ sym counted in
@@ -66,7 +67,7 @@ set_is : (h : Host) (b : ℕ) (at book : BookValue) (change : Option BookValue �
 set_is h b at book change is made = ap (with_book h b) (ap change is ∙ made)
 
 -- one row more for a version of terms
-pub terms_rows : (h : Host) (b : ℕ) (at : BookValue) (version : ℕ) (terms : TermsValue) → get h.books b ≡ Some at → rows (changed h (AddTerms b version terms)) ≡ rows h + 1
+pub terms_rows : (h : Host) (b : ℕ) (at : BookValue) (version : ℕ) (terms : Rates) → get h.books b ≡ Some at → rows (changed h (AddTerms b version terms)) ≡ rows h + 1
 terms_rows h b at version terms is =
     let book : BookValue = record at { terms = at.terms ++ terms ∷ [] } in
     let same : changed h (AddTerms b version terms) ≡ with_book h b (Some book) = set_is h b at book (λ o. changed_book o (AddTerms b version terms)) is refl in
@@ -153,7 +154,7 @@ make_full k old count b new kept is can over =
     (refl, omega (arith, more, counted, over))) can
 
 -- the next terms, put at the book's place
-pub terms_saved : (k old next : Books) (count b version : ℕ) (terms : TermsValue) (i : ℕ) (at : BookValue) → IsKept k count → k ≡ old → CanSave (host_of old) (AddTerms b version terms)
+pub terms_saved : (k old next : Books) (count b version : ℕ) (terms : Rates) (i : ℕ) (at : BookValue) → IsKept k count → k ≡ old → CanSave (host_of old) (AddTerms b version terms)
     → IsPlace k.books b i → book_at k.books b ≡ Some at → next.books ≡ set k.books i (b, record at { terms = at.terms ++ terms ∷ [] }) → next.limit ≡ k.limit → count + 1 ≤ k.limit
     → IsKept next (count + 1) × Saves old (AddTerms b version terms) (Ok tt) next
 terms_saved k old next count b version terms i at kept is can place stands list limit room =
@@ -170,7 +171,7 @@ terms_saved k old next count b version terms i at kept is can place stands list 
     let count_is : count + 1 ≡ rows (changed (host_of k) (AddTerms b version terms)) = omega (arith, more, counted) in
     (kept_changed k next (count + 1) (AddTerms b version terms) kept.limit limit same can.sound count_is room, (same, omega (arith, count_is, room)))) can
 
-pub terms_full : (k old : Books) (count b version : ℕ) (terms : TermsValue) → IsKept k count → k ≡ old → CanSave (host_of old) (AddTerms b version terms) → k.limit < count + 1
+pub terms_full : (k old : Books) (count b version : ℕ) (terms : Rates) → IsKept k count → k ≡ old → CanSave (host_of old) (AddTerms b version terms) → k.limit < count + 1
     → Saves old (AddTerms b version terms) (Err Full) old
 terms_full k old count b version terms kept is can over =
     let P : Books → Type 0 = λ old. CanSave (host_of old) (AddTerms b version terms) → Saves old (AddTerms b version terms) (Err Full) old in

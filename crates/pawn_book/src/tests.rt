@@ -1,8 +1,8 @@
 use crate::{
-    Article, BearerRequest, BrokerRequest, Caller, Capacity, Entry, EntryVisitor, Extension,
-    ExtensionVisitor, Flow, Keep, Kind, ListKeep, Name, NewBook, NewTerms, Number, Opening,
-    Receipt, Receipts, Reference, Refusal, Reply, Request, RequestDay, Secret, Stamp, Status,
-    TermsFault, act, find_live, gate, plan,
+    Article, BearerRequest, BrokerRequest, Caller, Capacity, Entry, Extension, Flow, Keep, Kind,
+    ListKeep, Name, NewBook, NewTerms, Number, Opening, Rates, Receipt, Receipts, Reference,
+    Refusal, Reply, Request, RequestDay, Secret, Stamp, Status, TermsFault, Visitor, act,
+    find_live, gate, plan,
 };
 use pawn_debt::DebtFault;
 use std::alloc::Global;
@@ -142,9 +142,11 @@ fn asked_by(alloc: Global, ask: Ask) -> Result<Caller, Fail> {
             keep_after,
         } => BrokerRequest::PutTerms(NewTerms {
             version,
-            rate,
-            keep_before,
-            keep_after,
+            rates: Rates {
+                rate,
+                keep_before,
+                keep_after,
+            },
         }),
         Ask::Take { reference, pence } => {
             BrokerRequest::TakePledge(opening(alloc, reference, pence)?)
@@ -329,7 +331,7 @@ fn the_row_limit_comes_last(rt: HostRuntime) -> Result<(), Fail> {
 fn is_live(keep: &mut ListKeep, book: u64, receipt: Receipt) -> Result<bool, Fail> {
     let book = number(book)?;
     match find_live(keep, book, &receipt) {
-        Ok(Some(live)) => Ok(live.reference().as_str() == "A1"),
+        Ok(Some(live)) => Ok(live.agreement().opening.reference.as_str() == "A1"),
         _ => Ok(false),
     }
 }
@@ -379,7 +381,7 @@ struct Count {
     extensions: u64,
 }
 
-impl EntryVisitor for Count {
+impl Visitor<Entry> for Count {
     ghost use Rattle.std.specs.Prelude.{⊤};
 
     ghost step = { λ v e flow w. ⊤ };
@@ -390,7 +392,7 @@ impl EntryVisitor for Count {
     }
 }
 
-impl ExtensionVisitor for Count {
+impl Visitor<Extension> for Count {
     ghost use Rattle.std.specs.Prelude.{⊤};
 
     ghost step = { λ v e flow w. ⊤ };

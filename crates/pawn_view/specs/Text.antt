@@ -10,6 +10,8 @@ use Rattle.pawn_debt.specs.declared.entry.Sort.TheVariants.{Draw, Repay}
 use Rattle.pawn_debt.specs.declared.owing.Owing.{Owing}
 use Rattle.pawn_debt.specs.Due.{due}
 use Rattle.pawn_debt.specs.Owing.{owing_of}
+use Rattle.pawn_pledge.specs.declared.record.Agreement.{Agreement}
+use Rattle.pawn_pledge.specs.declared.record.Standing.{Standing}
 use Rattle.pawn_pledge.specs.declared.record.Extension.{Extension}
 use Rattle.pawn_pledge.specs.declared.record.Booking.{Booking}
 use Rattle.pawn_pledge.specs.declared.record.BookingState.{BookingState}
@@ -28,22 +30,23 @@ money pence = decimal (pence / 100) ++ (codes "." ++ (digit (pence / 10) ∷ dig
 unfoldable pub date_text : ℕ → List ℕ
 date_text day = day_text day
 
-abbrev pub pledge_line : ℕ → List ℕ
-pledge_line number = codes "Pledge " ++ (decimal number ++ codes "\n")
+-- a line: what it is of, and a text, a number, a day or an amount
+abbrev pub text_line : List ℕ → List ℕ → List ℕ
+text_line label text = label ++ (text ++ codes "\n")
 
-abbrev pub article_line : List ℕ → List ℕ
-article_line article = codes "Article " ++ (article ++ codes "\n")
+abbrev pub number_line : List ℕ → ℕ → List ℕ
+number_line label number = text_line label (decimal number)
+
+abbrev pub day_line : List ℕ → ℕ → List ℕ
+day_line label day = text_line label (date_text day)
+
+abbrev pub amount_line : List ℕ → ℕ → List ℕ
+amount_line label pence = text_line label (money pence)
 
 -- the sum, or the limit
 abbrev pub kind_line : Kind → List ℕ
-kind_line (Fixed sum) = codes "Kind fixed " ++ (money sum ++ codes "\n")
-kind_line (Running limit) = codes "Kind running " ++ (money limit ++ codes "\n")
-
-abbrev pub taken_line : ℕ → List ℕ
-taken_line day = codes "Taken " ++ (date_text day ++ codes "\n")
-
-abbrev pub ends_line : ℕ → List ℕ
-ends_line day = codes "Ends " ++ (date_text day ++ codes "\n")
+kind_line (Fixed sum) = amount_line (codes "Kind fixed ") sum
+kind_line (Running limit) = amount_line (codes "Kind running ") limit
 
 abbrev pub extended_line : Extension → List ℕ
 extended_line e = codes "Extended " ++ (date_text e.day ++ (codes " to " ++ (date_text e.until ++ codes "\n")))
@@ -56,19 +59,11 @@ status_line status.Passed = codes "Status passed\n"
 status_line status.Redeemed = codes "Status redeemed\n"
 status_line status.Sold = codes "Status sold\n"
 
-abbrev pub principal_line : ℕ → List ℕ
-principal_line pence = codes "Principal " ++ (money pence ++ codes "\n")
-
-abbrev pub charges_line : ℕ → List ℕ
-charges_line pence = codes "Charges " ++ (money pence ++ codes "\n")
-
-abbrev pub owing_line : ℕ → List ℕ
-owing_line pence = codes "Owing " ++ (money pence ++ codes "\n")
-
 -- what is owed, absent where the property passed
 abbrev pub owed_lines : Status → Owing → List ℕ
 owed_lines status.Passed owing = []
-owed_lines _ owing = principal_line owing.principal ++ (charges_line owing.charges ++ owing_line owing.total)
+owed_lines _ owing =
+    amount_line (codes "Principal ") owing.principal ++ (amount_line (codes "Charges ") owing.charges ++ amount_line (codes "Owing ") owing.total)
 
 abbrev pub held_line : Bool → List ℕ
 held_line true = codes "Held yes\n"
@@ -113,25 +108,29 @@ shown_day (Redeemed closed paid) last day = closed
 shown_day (Sold closed net) last day = closed
 
 -- the lines above the extensions: number, article, kind, day taken, end of the period
-abbrev pub first_lines : ℕ → List ℕ → Kind → ℕ → ℕ → List ℕ
-first_lines number article kind taken ends =
-    pledge_line number ++ (article_line article ++ (kind_line kind ++ (taken_line taken ++ ends_line ends)))
+abbrev pub first_lines : Agreement → ℕ → List ℕ
+first_lines agreement ends =
+    number_line (codes "Pledge ") agreement.number
+    ++ (text_line (codes "Article ") agreement.opening.article
+    ++ (kind_line agreement.opening.kind
+    ++ (day_line (codes "Taken ") agreement.taken
+    ++ day_line (codes "Ends ") ends)))
 
 -- the lines between the extensions and the entries
-abbrev pub state_lines : Status → Owing → Bool → Option Booking → Closing → List ℕ
-state_lines status owing held booking closing =
-    status_line status ++ (owed_lines status owing ++ (held_line held ++ (booking_line booking ++ closing_line closing owing.total)))
+abbrev pub state_lines : Status → Owing → Standing → List ℕ
+state_lines status owing s =
+    status_line status ++ (owed_lines status owing ++ (held_line s.held ++ (booking_line s.booking ++ closing_line s.closing owing.total)))
 
 -- how a pledge stands on a day
 abbrev pub state_on : ℕ → PledgeValue → List ℕ
-state_on day p = state_lines (status_of p day) (owing_of (due (debt_of p) day)) p.held p.booking p.closing
+state_on day p = state_lines (status_of p day) (owing_of (due (debt_of p) day)) p.standing
 
 -- a pledge's statement, asked for on a day
 abbrev pub statement_text : ℕ → PledgeValue → List ℕ
 statement_text day p =
-    first_lines p.number p.article p.kind p.taken (end_of p)
+    first_lines p.agreement (end_of p)
     ++ (flat_map extended_line p.extensions
-    ++ (state_on (shown_day p.closing p.last day) p
+    ++ (state_on (shown_day p.standing.closing p.standing.last day) p
     ++ flat_map entry_line p.entries))
 
 -- a pledge's statement, or the line of an unknown receipt

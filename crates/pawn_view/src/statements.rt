@@ -1,9 +1,10 @@
 //! The statement of a pledge.
-ghost use Rattle.std.specs.Prelude.{◌≡◌, ◌≤◌, false, true, Some, is_ok, max, IsErrOf};
+ghost use Rattle.std.specs.Prelude.{◌≡◌, ◌≤◌, false, true, Some, max, IsErrOf};
 ghost use Rattle.pawn_pledge.specs.Pledge.{PledgeValue};
 ghost use Rattle.pawn_pledge.specs.Brief.{brief_of, brief_status, brief_owing};
 ghost use Rattle.pawn_book.specs.Sound.{IsSound};
 ghost use Rattle.pawn_book.specs.Keeping.{Reads, IsSteady};
+ghost use Rattle.pawn_book.specs.Visits.{call_end};
 ghost use Rattle.pawn_view.specs.Fault.{ending_of};
 ghost use Rattle.pawn_view.specs.Ends.{Puts, write_failed};
 ghost use Rattle.pawn_view.specs.Text.{first_lines, state_lines, statement_text, extended_line, entry_line};
@@ -11,17 +12,14 @@ ghost use Rattle.pawn_view.specs.Shown.{PutsLine, PutsShare, Shows, IsQuietView,
 
 use crate::fault::{ViewFault, view_fault};
 use crate::lines::{
-    put_article, put_booking, put_closing, put_ends, put_entry, put_extended, put_held, put_kind,
-    put_owed, put_pledge, put_status, put_taken,
+    put_booking, put_closing, put_day, put_entry, put_extended, put_held, put_kind, put_number,
+    put_owed, put_status, put_text,
 };
 use crate::writing::Writing;
-use pawn_book::{
-    Brief, Closing, Day, Entry, EntryVisitor, Extension, ExtensionVisitor, Flow, Keep, KeepError,
-    Number,
-};
+use pawn_book::{Brief, Closing, Day, Entry, Extension, Flow, Keep, KeepError, Number, Visitor};
 use std::io::Write;
 
-impl<W: Write> EntryVisitor for Writing<W> {
+impl<W: Write> Visitor<Entry> for Writing<W> {
     ghost step = { λ v e flow w. PutsLine W.contents entry_line v e flow w };
 
     fn visit(&mut self, entry: &Entry) -> Flow {
@@ -30,7 +28,7 @@ impl<W: Write> EntryVisitor for Writing<W> {
     }
 }
 
-impl<W: Write> ExtensionVisitor for Writing<W> {
+impl<W: Write> Visitor<Extension> for Writing<W> {
     ghost step = { λ v e flow w. PutsLine W.contents extended_line v e flow w };
 
     fn visit(&mut self, extension: &Extension) -> Flow {
@@ -41,39 +39,43 @@ impl<W: Write> ExtensionVisitor for Writing<W> {
 
 // The lines above the extensions.
 fn put_first<W: Write>(writer: &mut Writing<W>, brief: &Brief)
-    ensures puts { Puts W.contents writer.old (first_lines brief.now.number brief.now.article brief.now.kind brief.now.taken brief.now.ends) writer.new }
+    ensures puts { Puts W.contents writer.old (first_lines brief.now.agreement brief.now.ends) writer.new }
 {
-    put_pledge(writer, brief.number().get());
-    put_article(writer, brief.article().as_str());
-    put_kind(writer, brief.kind());
-    put_taken(writer, brief.taken());
-    put_ends(writer, brief.ends());
+    let fields = brief.fields();
+    let agreement = &fields.agreement;
+    put_number(writer, b"Pledge ", agreement.number.get());
+    put_text(writer, b"Article ", agreement.opening.article.as_str());
+    put_kind(writer, agreement.opening.kind);
+    put_day(writer, b"Taken ", agreement.taken);
+    put_day(writer, b"Ends ", fields.ends);
 }
 
 // The lines between the extensions and the entries.
 fn put_state<W: Write>(writer: &mut Writing<W>, brief: &Brief, day: Day)
     requires later { brief.now.totals.day ≤ day }
-    ensures puts { Puts W.contents writer.old (state_lines (brief_status brief.now day) (brief_owing brief.now day) brief.now.held brief.now.booking brief.now.closing) writer.new }
+    ensures puts { Puts W.contents writer.old (state_lines (brief_status brief.now day) (brief_owing brief.now day) brief.now.standing) writer.new }
 {
     let status = brief.status(day);
     let owing = brief.owing(day);
     put_status(writer, status);
     put_owed(writer, status, &owing);
-    put_held(writer, brief.is_held());
-    put_booking(writer, brief.booking());
-    put_closing(writer, brief.closing(), owing.total);
+    let standing = &brief.fields().standing;
+    put_held(writer, standing.held);
+    put_booking(writer, standing.booking);
+    put_closing(writer, standing.closing, owing.total);
 }
 
 // The day of which the statement speaks. What is owed is known from the day of the last entry on, which is never past
 // the day of the last change.
 fn shown_day(brief: &Brief, day: Day) -> Day
-    ensures answer { result ≡ max (open_or_last brief.now.closing brief.now.last day) brief.now.totals.day }
+    ensures answer { result ≡ max (open_or_last brief.now.standing.closing brief.now.standing.last day) brief.now.totals.day }
 {
-    let shown = match brief.closing() {
-        Closing::Open => day.max(brief.last()),
-        _ => brief.last(),
+    let fields = brief.fields();
+    let shown = match fields.standing.closing {
+        Closing::Open => day.max(fields.standing.last),
+        _ => fields.standing.last,
     };
-    shown.max(brief.totals().day)
+    shown.max(fields.totals.day)
 }
 
 // Puts the statement of the pledge that this brief is of.
@@ -85,9 +87,9 @@ pub(crate) fn put_statement<K: Keep, W: Write>(
     day: Day,
     writer: &mut Writing<W>,
 ) -> Result<(), KeepError>
-    ensures shares { Reads K.stands K.honest K.serves keep.old keep.new (λ h. IsSound h → (p : PledgeValue) → pledge_at h book number ≡ Some p → brief.now ≡ brief_of p
-        → PutsShare W.contents writer.old (statement_text day p) (is_ok result) writer.new) }
-    ensures steady { IsSteady K.steady keep.old keep.new result }
+    ensures shares { Reads K.keeping keep.old keep.new (λ h. IsSound h → (p : PledgeValue) → pledge_at h book number ≡ Some p → brief.now ≡ brief_of p
+        → PutsShare W.contents writer.old (statement_text day p) (call_end result) writer.new) }
+    ensures steady { IsSteady K.keeping keep.old result }
 {
     put_first(writer, brief);
     match keep.extensions(book, number, writer) {
@@ -110,9 +112,9 @@ pub fn statement<K: Keep, W: Write>(
     writer: &mut Writing<W>,
 ) -> Result<(), ViewFault>
     requires fine { write_failed writer.old ≡ false }
-    ensures shows { Reads K.stands K.honest K.serves keep.old keep.new (λ h. IsSound h → Shows W.contents ViewFault.NoSuchPledge writer.old (statement_of h book number day) result writer.new) }
+    ensures shows { Reads K.keeping keep.old keep.new (λ h. IsSound h → Shows W.contents ViewFault.NoSuchPledge writer.old (statement_of h book number day) result writer.new) }
     ensures write { IsErrOf result ViewFault.Write → write_failed writer.new ≡ true }
-    ensures steady { IsQuietView K.steady keep.old keep.new result }
+    ensures steady { IsQuietView K.keeping keep.old result }
 {
     let brief = match keep.brief(book, number) {
         Ok(Some(brief)) => brief,
