@@ -12,7 +12,8 @@ use Rattle.pawn_book.specs.declared.change.Change.{Change}
 use Rattle.pawn_book.specs.BookStep.{BookValue, Outcome, Refuses, Says, Makes, Told, out_of, changed_book, book_step}
 use Rattle.pawn_book.specs.HostStep.{Host, limited, host_step, host_after, with_book, rows}
 use Rattle.pawn_book.specs.Sound.{IsSound}
-use Rattle.pawn_book.specs.Keeping.{IsUnwell, Plans, Acts, Commits, book_of, changed, stepped}
+use Rattle.pawn_book.specs.Changes.{book_of, changed}
+use Rattle.pawn_book.specs.Plans.{IsUnwell, Plans, Acts, Commits, stepped}
 
 -- the step of the request's book
 abbrev pub step_of : Host → ℕ → Stamp → Request → Outcome

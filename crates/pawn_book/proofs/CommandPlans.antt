@@ -19,7 +19,8 @@ use Rattle.pawn_book.specs.declared.reply.Reply.{Reply}
 use Rattle.pawn_book.specs.BookStep.{BookValue, Makes, Outcome, Refuses, Says, bearer_commands, broker_commands, changed_book, is_live, judged_outcome, live_at, only_live, pledge_from, pledge_in, put_from, terms_at, windowed}
 use Rattle.pawn_book.specs.HostStep.{Host, with_book}
 use Rattle.pawn_book.specs.Sound.{AreDistinct, AreSound, AreWords, DoNotFall, HasTextsAndWords, IsSound, IsSoundBook, IsUnder, IsWord}
-use Rattle.pawn_book.specs.Keeping.{CanSave, Continues, IsOutcome, Plans, book_of, changed, outcome_of}
+use Rattle.pawn_book.specs.Changes.{CanSave, Continues, book_of, changed}
+use Rattle.pawn_book.specs.Plans.{IsOutcome, Plans, outcome_of}
 use Rattle.pawn_book.proofs.KeptLemmas.{kept_moved, stands_moved}
 use Rattle.pawn_book.proofs.Places.{pledge_within}
 use Rattle.pawn_book.proofs.Words.{words_moved}

@@ -14,7 +14,7 @@ use Rattle.pawn_pledge.proofs.Moves.{Asking, Declaring, Entering, Extending, Hol
 use Rattle.pawn_pledge.proofs.Receipts.{terms-moved}
 use Rattle.pawn_pledge.proofs.Replays.{differs-moved, stays-moved, within-moved}
 use Rattle.pawn_book.specs.BookStep.{is_text, pledge_from, put_from, with_reference}
-use Rattle.pawn_book.specs.Keeping.{Continues}
+use Rattle.pawn_book.specs.Changes.{Continues}
 use Rattle.pawn_book.proofs.Sounds.{absurd_none, some_is}
 
 kept_by : (p q : PledgeValue) → q.number ≡ p.number → q.reference ≡ p.reference → q.article ≡ p.article → q.kind ≡ p.kind → q.taken ≡ p.taken → q.agreed ≡ p.agreed → q.five_days ≡ p.five_days → q.version ≡ p.version → q.terms ≡ p.terms

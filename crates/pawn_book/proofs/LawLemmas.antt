@@ -43,7 +43,7 @@ use Rattle.pawn_book.specs.declared.change.Change.TheVariants.{AddTerms, PutPled
 use Rattle.pawn_book.specs.BookStep.{BookValue, Told, Refuses, Says, are_terms, bearer_commands, broker_commands, first_secret, is_live, judged_outcome, only_live, windowed, book_step, changed_book, created, first_receipt, head_of, is_agreed, is_book, is_flag, is_kind, is_opening, is_text, made_book, newest, next_terms, pledge_from, put_from, put_terms, take_pledge, taken_under, terms_at, with_reference, with_room, under_pledge, under_terms, live_at, pledge_in}
 use Rattle.pawn_book.specs.Laws.{ChangesDiffer, EntriesActOnce, IsEntry, RepeatsActOnce, book_run}
 use Rattle.pawn_book.proofs.Sounds.{absurd_none, each_at, some_is}
-use Rattle.pawn_book.specs.Keeping.{Continues}
+use Rattle.pawn_book.specs.Changes.{Continues}
 use Rattle.pawn_book.proofs.KeptLemmas.{differs_moved, number_kept, put_there, reference_kept}
 use Rattle.pawn_pledge.proofs.Repeats.{entered_again}
 use Rattle.pawn_book.proofs.Plans.{next_is, not_standing, past_row}

@@ -6,15 +6,14 @@ use Rattle.pawn_book.specs.BookStep.{BookValue}
 use Rattle.pawn_book.specs.HostStep.{Host}
 use Rattle.pawn_book.specs.Keeping.{IsNextBook, Reads}
 use Rattle.pawn_book.specs.Books.{Books}
-use Rattle.pawn_book.specs.Listed.{IsLeastAbove, book_at, host_of}
+use Rattle.pawn_book.specs.Listed.{IsLeastAbove, book_at, host_of, list_keeping}
 use Rattle.pawn_book.proofs.ListReads.{get-book_at}
 
 -- a read tells what is so of the list's host
-pub list_reads : (k : Books) (P : Host → Type 0) → P (host_of k) → Reads (λ (k : Books) h. h ≡ host_of k) (λ (k : Books). ⊤) (λ (k : Books). ⊤) k k P
+pub list_reads : (k : Books) (P : Host → Type 0) → P (host_of k) → Reads list_keeping k k P
 list_reads k P told = record {
-  past = λ honest. honest;
+  on = record { past = λ honest. honest; served = λ honest now. now; stays = λ steady. steady };
   same = λ honest h is. is;
-  served = λ honest now. now;
   back = λ honest now h is. is;
   tells = λ honest h is. subst P (sym is) told;
 }

@@ -13,9 +13,10 @@ use Rattle.pawn_book.specs.declared.change.Change.TheVariants.{MakeBook, AddTerm
 use Rattle.pawn_book.specs.BookStep.{BookValue, made_book, changed_book, pledge_from, put_from}
 use Rattle.pawn_book.specs.HostStep.{Host, rows, book_rows, pledge_rows, with_book}
 use Rattle.pawn_book.specs.Sound.{AreSound}
-use Rattle.pawn_book.specs.Keeping.{CanSave, Follows, Continues, changed}
+use Rattle.pawn_book.specs.Changes.{CanSave, Follows, Continues, changed}
 use Rattle.pawn_book.specs.Books.{Books}
 use Rattle.pawn_book.specs.declared.fault.SaveError.TheVariants.{Full}
+use Rattle.pawn_book.specs.Limits.{most_rows}
 use Rattle.pawn_book.specs.Listed.{IsKept, IsPlace, Saves, book_at, host_of, standing_rows}
 use Rattle.pawn_book.proofs.RowSums.{part, rows-with_book}
 use Rattle.pawn_book.proofs.Places.{pledge_within}
@@ -33,7 +34,7 @@ no_rows limit =
     ap (λ es. sum_by book_rows (map (λ e. e.1) es)) none
 
 -- an empty list is kept
-pub kept_empty : (limit : ℕ) → limit ≤ 10000000 → IsKept (record { books = []; limit = limit }) 0
+pub kept_empty : (limit : ℕ) → limit ≤ most_rows → IsKept (record { books = []; limit = limit }) 0
 kept_empty limit few =
     let none = no_rows limit in
     record {
@@ -43,7 +44,7 @@ kept_empty limit few =
     }
 
 -- a list that stands for the changed host is kept
-pub kept_changed : (k next : Books) (count : ℕ) (change : Change) → k.limit ≤ 10000000 → next.limit ≡ k.limit → host_of next ≡ changed (host_of k) change
+pub kept_changed : (k next : Books) (count : ℕ) (change : Change) → k.limit ≤ most_rows → next.limit ≡ k.limit → host_of next ≡ changed (host_of k) change
     → AreSound (changed (host_of k) change) → count ≡ rows (changed (host_of k) change) → count ≤ k.limit → IsKept next count
 kept_changed k next count change few same is sound counted fits =
     let all : rows (host_of next) ≡ count = ap rows is ∙ sym counted in

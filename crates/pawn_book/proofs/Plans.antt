@@ -29,7 +29,9 @@ use Rattle.pawn_book.specs.BookStep.{BookValue, Makes, created, made, made_book,
 use Rattle.pawn_book.specs.HostStep.{Host, with_book}
 use Rattle.pawn_book.specs.Limits.{IsCapacity, most_terms, most_pledges}
 use Rattle.pawn_book.specs.Sound.{AreNumberedFrom, AreSound, AreWords, HasTextsAndWords, IsSound, IsWord}
-use Rattle.pawn_book.specs.Keeping.{Plans, book_of, changed, number_of, pledges_of, terms_of}
+use Rattle.pawn_book.specs.Changes.{book_of, changed}
+use Rattle.pawn_book.specs.Keeping.{number_of, pledges_of, terms_of}
+use Rattle.pawn_book.specs.Plans.{Plans}
 use Rattle.pawn_book.proofs.Sounds.{IsNext, absurd_none, some_is, sound_made, sound_next, sound_terms, sound_with}
 
 -- the book of a change, set in the host

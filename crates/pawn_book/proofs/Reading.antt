@@ -2,23 +2,29 @@
 use Rattle.std.proofs.Common.{◌≡◌, subst, Ok}
 use Rattle.std.specs.Prelude.{Result, IfOk}
 use Rattle.pawn_book.specs.HostStep.{Host}
-use Rattle.pawn_book.specs.Keeping.{Reads}
+use Rattle.pawn_book.specs.Keeping.{GoesOn, Keeping, Reads}
+
+-- a keeper goes on after one call, and after another
+pub on_then : {K : Type 0} {k : Keeping K} {a b c : K} → GoesOn k a b → GoesOn k b c → GoesOn k a c
+on_then f s = record {
+  past = λ honest. f.past (s.past honest);
+  served = λ honest now. f.served (s.past honest) (s.served honest now);
+  stays = λ steady. s.stays (f.stays steady);
+}
 
 -- what two reads tell, told by both together
-pub reads_then : {K : Type 0} {stands : K → Host → Type 0} {honest serves : K → Type 0} {a b c : K} {P Q R : Host → Type 0}
-    → Reads stands honest serves a b P → Reads stands honest serves b c Q → ((h : Host) → P h → Q h → R h) → Reads stands honest serves a c R
+pub reads_then : {K : Type 0} {k : Keeping K} {a b c : K} {P Q R : Host → Type 0}
+    → Reads k a b P → Reads k b c Q → ((h : Host) → P h → Q h → R h) → Reads k a c R
 reads_then f s both = record {
-  past = λ honest. f.past (s.past honest);
-  same = λ honest h at. s.same honest h (f.same (s.past honest) h at);
-  served = λ honest now. f.served (s.past honest) (s.served honest now);
-  back = λ honest now h at. f.back (s.past honest) (s.served honest now) h (s.back honest now h at);
-  tells = λ honest h at. both h (f.tells (s.past honest) h at) (s.tells honest h (f.same (s.past honest) h at));
+  on = on_then f.on s.on;
+  same = λ honest h at. s.same honest h (f.same (s.on.past honest) h at);
+  back = λ honest now h at. f.back (s.on.past honest) (s.on.served honest now) h (s.back honest now h at);
+  tells = λ honest h at. both h (f.tells (s.on.past honest) h at) (s.tells honest h (f.same (s.on.past honest) h at));
 }
 
 -- what a read tells, in other words
-pub reads_as : {K : Type 0} {stands : K → Host → Type 0} {honest serves : K → Type 0} {a b : K} {P Q : Host → Type 0}
-    → Reads stands honest serves a b P → ((h : Host) → P h → Q h) → Reads stands honest serves a b Q
-reads_as f as_q = record { past = f.past; same = f.same; served = f.served; back = f.back; tells = λ honest h at. as_q h (f.tells honest h at) }
+pub reads_as : {K : Type 0} {k : Keeping K} {a b : K} {P Q : Host → Type 0} → Reads k a b P → ((h : Host) → P h → Q h) → Reads k a b Q
+reads_as f as_q = record { on = f.on; same = f.same; back = f.back; tells = λ honest h at. as_q h (f.tells honest h at) }
 
 -- what an Ok holds is what was told of it
 pub ok_is : {T E : Type 0} {r : Result T E} {v x : T} → r ≡ Ok v → IfOk r (λ p. p ≡ x) → v ≡ x

@@ -1,9 +1,9 @@
 -- What a visitor was handed, item by item.
-use Rattle.std.proofs.Common.{◌≡◌, ◌∙◌, ℕ, true, List, [], ◌∷◌, ◌++◌, refl, sym, ap, subst, inl, inr, ◌<◌, ◌+◌, length, take, drop, get_or, append_assoc}
+use Rattle.std.proofs.Common.{◌≡◌, ◌∙◌, ℕ, List, [], ◌∷◌, ◌++◌, refl, sym, ap, subst, inl, inr, ◌<◌, ◌+◌, length, take, drop, get_or, append_assoc}
 use Rattle.std.proofs.lemmas.List.{take_more, drop_more, take-append-drop}
 use Rattle.pawn_book.specs.declared.visit.Flow.{Flow}
 use Rattle.pawn_book.specs.declared.visit.Flow.TheVariants.{Go, Stop}
-use Rattle.pawn_book.specs.Visits.{Handed, IsShare, Visits}
+use Rattle.pawn_book.specs.Visits.{Handed, IsShare, Visits, Whole}
 
 -- a list, cut at a place
 pub cut_at : {X : Type 0} (xs : List X) (i : ℕ) (d : X) → i < length xs → take i xs ++ get_or xs i d ∷ drop (i + 1) xs ≡ xs
@@ -21,7 +21,7 @@ handed-snoc step v u w (y ∷ xs) x flow before here = elim before [
 
 -- it stopped at the item at this place
 pub visits_stopped : {V T : Type 0} (step : V → T → Flow → V → Type 0) (v u w : V) (xs : List T) (i : ℕ) (x : T) → i < length xs → x ≡ get_or xs i x
-    → Handed step v (take i xs) Go u → step u x Stop w → Visits step v w (λ given flow. IsShare given flow true xs)
+    → Handed step v (take i xs) Go u → step u x Stop w → Visits step v w (λ given flow. IsShare given flow Whole xs)
 visits_stopped step v u w xs i x lt is before here = (
   take i xs ++ x ∷ [],
   Stop,

@@ -5,7 +5,9 @@ pub mod BookStep
 pub mod HostStep
 pub mod Runs
 pub mod Visits
+pub mod Changes
 pub mod Keeping
+pub mod Plans
 pub mod Sound
 pub mod Books
 pub mod Listed

@@ -1,14 +1,24 @@
--- How much there may be of what a book holds.
+-- The limits of books.
 use Rattle.std.specs.Prelude.{ℕ, ◌≤◌, List, length}
 use Rattle.pawn_pledge.specs.declared.receipt.Receipt.{Receipt}
 
 -- the bookings of one window that a book confirms
+abbrev pub most_bookings : ℕ
+most_bookings = 1000
+
 abbrev pub IsCapacity : ℕ → Type 0
-IsCapacity n = (1 ≤ n) × (n ≤ 1000)
+IsCapacity n = (1 ≤ n) × (n ≤ most_bookings)
 
 -- the receipts that are presented at once
+abbrev pub most_receipts : ℕ
+most_receipts = 32
+
 abbrev pub AreFew : List Receipt → Type 0
-AreFew receipts = (1 ≤ length receipts) × (length receipts ≤ 32)
+AreFew receipts = (1 ≤ length receipts) × (length receipts ≤ most_receipts)
+
+-- the rows of a host
+abbrev pub most_rows : ℕ
+most_rows = 10000000
 
 -- the versions of a book's terms
 abbrev pub most_terms : ℕ

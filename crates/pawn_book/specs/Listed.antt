@@ -1,5 +1,5 @@
 -- The host of books in a list.
-use Rattle.std.specs.Prelude.{◌≡◌, ◌≢◌, ℕ, zero, suc, ◌≤◌, ◌<◌, List, [], ◌∷◌, Option, Some, None, Result, Ok, Err, ◌==◌, if◌then◌else◌}
+use Rattle.std.specs.Prelude.{◌≡◌, ◌≢◌, ℕ, zero, suc, ◌≤◌, ◌<◌, List, [], ◌∷◌, Option, Some, None, Result, Ok, Err, ◌==◌, if◌then◌else◌, ⊤}
 use Rattle.std.specs.FinMap.{from_entries}
 use Rattle.pawn_book.specs.declared.list.Kept.{Kept}
 use Rattle.pawn_book.specs.declared.change.Change.{Change}
@@ -8,8 +8,10 @@ use Rattle.pawn_book.specs.declared.fault.SaveError.TheVariants.{Full, Memory, S
 use Rattle.pawn_book.specs.BookStep.{BookValue}
 use Rattle.pawn_pledge.specs.Pledge.{PledgeValue}
 use Rattle.pawn_book.specs.HostStep.{Host, rows, pledge_rows}
+use Rattle.pawn_book.specs.Limits.{most_rows}
 use Rattle.pawn_book.specs.Sound.{IsSound}
-use Rattle.pawn_book.specs.Keeping.{changed}
+use Rattle.pawn_book.specs.Changes.{changed}
+use Rattle.pawn_book.specs.Keeping.{Keeping}
 use Rattle.pawn_book.specs.Books.{Books}
 
 -- a book of the list, with its number
@@ -57,7 +59,7 @@ host_of k = record { books = from_entries k.books; limit = k.limit }
 pub record IsKept (k : Books) (count : ℕ) : Type 0 where
   pub sound : IsSound (host_of k)
   pub counted : count ≡ rows (host_of k)
-  pub limit : k.limit ≤ 10000000
+  pub limit : k.limit ≤ most_rows
 
 -- the change is made, or nothing is, and then for want of rows or of memory
 abbrev pub Saves : Books → Change → Result (Unit {0}) SaveError → Books → Type 0
@@ -65,3 +67,7 @@ Saves old change (Ok done) new = (host_of new ≡ changed (host_of old) change) 
 Saves old change (Err Full) new = (new ≡ old) × (old.limit < rows (changed (host_of old) change))
 Saves old change (Err Memory) new = new ≡ old
 Saves old change (Err (Store fault)) new = ⊥
+
+-- a list is always honest, serves and is steady
+abbrev pub list_keeping : Keeping Books
+list_keeping = record { stands = λ k h. h ≡ host_of k; honest = λ k. ⊤; serves = λ k. ⊤; steady = λ k. ⊤ }

@@ -1,5 +1,5 @@
 -- What a visitor was handed.
-use Rattle.std.specs.Prelude.{Bool, true, List, [], ◌∷◌, ◌++◌, ◌≡◌, ◌⊎◌}
+use Rattle.std.specs.Prelude.{List, [], ◌∷◌, ◌++◌, ◌≡◌, ◌⊎◌, Result, Ok, Err}
 use Rattle.pawn_book.specs.declared.visit.Flow.{Flow}
 use Rattle.pawn_book.specs.declared.visit.Flow.TheVariants.{Go, Stop}
 
@@ -9,9 +9,19 @@ Handed step v [] flow w = (flow ≡ Go) × (v ≡ w)
 Handed {V = V} step v (x ∷ xs) flow w =
     ((u : V) × step v x Go u × Handed step u xs flow w) ⊎ ((flow ≡ Stop) × (xs ≡ []) × step v x Stop w)
 
--- what was handed is a front of the list, and all of it where the visitor never answered Stop and the call answered Ok
-abbrev pub IsShare : {T : Type 0} → List T → Flow → Bool → List T → Type 0
-IsShare {T = T} given flow ok items = (left : List T) × (given ++ left ≡ items) × (flow ≡ Go → ok ≡ true → left ≡ [])
+-- how much is handed out, or goes out: all, or a front
+pub data End : Type 0 where
+  Whole : End
+  Front : End
+
+-- where a call ends that may err on the way
+abbrev pub call_end : {T E : Type 0} → Result T E → End
+call_end (Ok t) = Whole
+call_end (Err e) = Front
+
+-- what was handed is a front of the list, and all of it where the visitor never answered Stop and the call did not err
+abbrev pub IsShare : {T : Type 0} → List T → Flow → End → List T → Type 0
+IsShare {T = T} given flow end items = (left : List T) × (given ++ left ≡ items) × (flow ≡ Go → end ≡ Whole → left ≡ [])
 
 -- the visitor was handed some items, of which a fact holds
 abbrev pub Visits : {V T : Type 0} → (V → T → Flow → V → Type 0) → V → V → (List T → Flow → Type 0) → Type 0

@@ -1,5 +1,7 @@
 ghost use Rattle.std.specs.Prelude.{◌≡◌, IfSome};
-ghost use Rattle.pawn_book.specs.Keeping.{Acts, CanSave, Commits, IsQuiet, IsWritten, Of};
+ghost use Rattle.pawn_book.specs.Changes.{CanSave};
+ghost use Rattle.pawn_book.specs.Keeping.{GoesOn, IsQuiet, Of};
+ghost use Rattle.pawn_book.specs.Plans.{Acts, Commits, IsWritten};
 
 use crate::change::Planned;
 use crate::fault::SaveError;
@@ -13,11 +15,10 @@ use std::alloc::Global;
 
 /// Makes what was planned. Refused as `Full` where the rows would be above the limit.
 pub fn commit<K: Keep>(keep: &mut K, planned: &Planned) -> Result<(), Refusal>
-    requires saves { K.serves keep.old → Of K.stands K.honest keep.old keep.old (λ h. IfSome planned.now.change (CanSave h)) }
-    ensures past { K.honest keep.new → K.honest keep.old }
-    ensures served { K.honest keep.new → K.serves keep.new → K.serves keep.old }
-    ensures commits { Of K.stands K.honest keep.old keep.new (λ h. Commits h planned.now.change result (K.stands keep.new)) }
-    ensures steady { IsQuiet K.steady keep.old keep.new result }
+    requires saves { K.keeping.serves keep.old → Of K.keeping keep.old keep.old (λ h. IfSome planned.now.change (CanSave h)) }
+    ensures on { GoesOn K.keeping keep.old keep.new }
+    ensures commits { Of K.keeping keep.old keep.new (λ h. Commits h planned.now.change result (K.keeping.stands keep.new)) }
+    ensures steady { IsQuiet K.keeping keep.old result }
 {
     match &planned.change {
         None => Ok(()),
@@ -39,10 +40,9 @@ pub fn act<K: Keep>(
     request: &Request,
 ) -> Result<Reply, Refusal>
     requires written { IsWritten request.now.caller }
-    ensures past { K.honest keep.new → K.honest keep.old }
-    ensures served { K.honest keep.new → K.serves keep.new → K.serves keep.old }
-    ensures acts { Of K.stands K.honest keep.old keep.new (λ h. Acts h operator stamp.now request.now result (K.stands keep.new)) }
-    ensures steady { IsQuiet K.steady keep.old keep.new result }
+    ensures on { GoesOn K.keeping keep.old keep.new }
+    ensures acts { Of K.keeping keep.old keep.new (λ h. Acts h operator stamp.now request.now result (K.keeping.stands keep.new)) }
+    ensures steady { IsQuiet K.keeping keep.old result }
 {
     let planned = match plan(alloc, keep, operator, stamp, request) {
         Err(refusal) => return Err(refusal),

@@ -1,6 +1,7 @@
 ghost use Rattle.std.specs.Prelude.{◌≡◌, ℕ, ◌≤◌, IfSome, IsSome, ◌↔◌};
 ghost use Rattle.pawn_book.specs.Limits.{IsCapacity};
 
+use crate::limits::MOST_BOOKINGS;
 use std::marker::Model;
 
 /// How many bookings of one window a book confirms: 1 to 1,000. A contract sees the number.
@@ -26,7 +27,7 @@ impl Capacity {
         ensures some { IsSome result ↔ IsCapacity bookings }
     {
         match u32::try_from(bookings) {
-            Ok(bookings) if (1..=1000).contains(&bookings) => Some(Capacity { bookings }),
+            Ok(bookings) if (1..=MOST_BOOKINGS).contains(&bookings) => Some(Capacity { bookings }),
             _ => None,
         }
     }

@@ -6,11 +6,12 @@ ghost use Rattle.pawn_pledge.specs.Replayable.{IsCommand};
 ghost use Rattle.pawn_pledge.specs.Step.{pledge_step};
 ghost use Rattle.pawn_book.specs.BookStep.{BookValue, bearer_commands, broker_commands, confirmed_booking, head_of, judged_outcome, live_at, pledge_from, pledge_in, windowed};
 ghost use Rattle.pawn_book.specs.Sound.{IsSound, IsWord};
-ghost use Rattle.pawn_book.specs.Keeping.{IsOutcome, IsQuiet, Plans, Reads, newly_confirmed, outcome_of};
+ghost use Rattle.pawn_book.specs.Keeping.{IsQuiet, Reads};
+ghost use Rattle.pawn_book.specs.Plans.{IsOutcome, Plans, newly_confirmed, outcome_of};
 
 use crate::change::{Change, Head, Planned};
+use crate::gates::{find_live, know_word, unwell};
 use crate::keep::Keep;
-use crate::planning::{find_live, know_word, unwell};
 use crate::refusal::Refusal;
 use crate::reply::Reply;
 use pawn_pledge::{
@@ -27,9 +28,9 @@ pub(crate) fn plan_number<K: Keep>(
     command: &Command,
 ) -> Result<Planned, Refusal>
     requires within { IsCommand command.now }
-    ensures reads { Reads K.stands K.honest K.serves keep.old keep.new (λ h. IsSound h → (at : BookValue) → get h.books book ≡ Some at → head.now ≡ head_of at →
+    ensures reads { Reads K.keeping keep.old keep.new (λ h. IsSound h → (at : BookValue) → get h.books book ≡ Some at → head.now ≡ head_of at →
         Plans h book (broker_commands at book number stamp.now command.now (pledge_from 1 at.pledges number)) result) }
-    ensures steady { IsQuiet K.steady keep.old keep.new result }
+    ensures steady { IsQuiet K.keeping keep.old result }
 {
     let pledge = match keep.pledge(book, number) {
         Err(error) => return Err(unwell(error)),
@@ -52,9 +53,9 @@ pub(crate) fn plan_receipt<K: Keep>(
     command: &Command,
 ) -> Result<Planned, Refusal>
     requires within { IsCommand command.now }
-    ensures reads { Reads K.stands K.honest K.serves keep.old keep.new (λ h. IsSound h →
+    ensures reads { Reads K.keeping keep.old keep.new (λ h. IsSound h →
         Plans h book (bearer_commands book receipt.now.number stamp.now command.now (live_at (pledge_in (get h.books book)) receipt.now)) result) }
-    ensures steady { IsQuiet K.steady keep.old keep.new result }
+    ensures steady { IsQuiet K.keeping keep.old result }
 {
     match find_live(keep, book, receipt) {
         Err(error) => Err(unwell(error)),
@@ -112,10 +113,10 @@ fn roomed<K: Keep>(
     head: &Head,
     planned: Planned,
 ) -> Result<Planned, Refusal>
-    ensures reads { Reads K.stands K.honest K.serves keep.old keep.new (λ h. (at : BookValue) → get h.books book ≡ Some at → head.now ≡ head_of at →
+    ensures reads { Reads K.keeping keep.old keep.new (λ h. (at : BookValue) → get h.books book ≡ Some at → head.now ≡ head_of at →
         IsOutcome (windowed at (outcome_of planned.change planned.reply)) result) }
     ensures same { IfOk result (λ p. p ≡ planned) }
-    ensures steady { IsQuiet K.steady keep.old keep.new result }
+    ensures steady { IsQuiet K.keeping keep.old result }
 {
     let Some(booking) = newly_confirmed(&planned) else {
         return Ok(planned);

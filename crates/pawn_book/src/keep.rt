@@ -1,112 +1,88 @@
-ghost use Rattle.std.specs.Prelude.{◌≡◌, ◌≤◌, ◌<◌, IfOk, OnOk, OnErr, IfErr, is_ok, option_map, unwrap_or};
+ghost use Rattle.std.specs.Prelude.{◌≡◌, IfOk, option_map, unwrap_or};
 ghost use Rattle.std.specs.FinMap.{get};
 ghost use Rattle.pawn_pledge.specs.Brief.{brief_of};
 ghost use Rattle.pawn_book.specs.BookStep.{confirmed_for, head_of, pledge_in, terms_at};
-ghost use Rattle.pawn_book.specs.HostStep.{Host, rows};
-ghost use Rattle.pawn_book.specs.Keeping.{Reads, Of, BlamesUnsound, IsSteady, CanSave, changed, terms_of, pledges_of, number_of, entries_of, extensions_of, IsNextBook, IsWant};
-ghost use Rattle.pawn_book.specs.Visits.{Visits, IsShare};
+ghost use Rattle.pawn_book.specs.HostStep.{Host};
+ghost use Rattle.pawn_book.specs.Changes.{CanSave};
+ghost use Rattle.pawn_book.specs.Keeping.{Errs, IsNextBook, Keeping, Of, Reads, Saves, entries_of, extensions_of, number_of, pledges_of, terms_of};
+ghost use Rattle.pawn_book.specs.Visits.{IsShare, Visits, call_end};
 
 use crate::change::{Change, Head};
 use crate::fault::{KeepError, SaveError};
-use crate::visit::{EntryVisitor, ExtensionVisitor, PledgeVisitor};
-use pawn_pledge::{Brief, Day, Number, Pledge, Reference, Terms};
+use crate::visit::Visitor;
+use pawn_pledge::{Brief, Day, Entry, Extension, Number, Pledge, Reference, Terms};
 
 /// What keeps a host, however it is kept. Only `save` changes the host.
 pub trait Keep {
-    /// The hosts that it stands for.
-    ghost stands: { Self → Host → Type 0 };
-
-    /// Its store has returned what was written.
-    ghost honest: { Self → Type 0 };
-
-    /// Its store still answers: no fault has shut it. One that serves now served before. Of a shut
-    /// store it is not said that it stands for no further host.
-    ghost serves: { Self → Type 0 };
-
-    /// Its store never fails.
-    ghost steady: { Self → Type 0 };
+    /// What is known of it: the hosts that it stands for; whether its store has returned what was
+    /// written, still answers, and never fails.
+    ghost keeping: { Keeping Self };
 
     /// The head of a book, if the book stands.
     fn head(&mut self, book: Number) -> Result<Option<Head>, KeepError>
-        ensures reads { Reads stands honest serves self.old self.new (λ h. IfOk result (λ head. head ≡ option_map head_of (get h.books book))) }
-        ensures no_record { BlamesUnsound stands honest self.old self.new result }
-        ensures steady { IsSteady steady self.old self.new result };
+        ensures reads { Reads keeping self.old self.new (λ h. IfOk result (λ head. head ≡ option_map head_of (get h.books book))) }
+        ensures errs { Errs keeping self.old self.new result };
 
     /// The terms of a version.
     fn terms(&mut self, book: Number, version: u64) -> Result<Option<Terms>, KeepError>
-        ensures reads { Reads stands honest serves self.old self.new (λ h. IfOk result (λ terms. terms ≡ terms_at (terms_of (get h.books book)) version)) }
-        ensures no_record { BlamesUnsound stands honest self.old self.new result }
-        ensures steady { IsSteady steady self.old self.new result };
+        ensures reads { Reads keeping self.old self.new (λ h. IfOk result (λ terms. terms ≡ terms_at (terms_of (get h.books book)) version)) }
+        ensures errs { Errs keeping self.old self.new result };
 
     /// The pledge of a number.
     fn pledge(&mut self, book: Number, number: Number) -> Result<Option<Pledge>, KeepError>
-        ensures reads { Reads stands honest serves self.old self.new (λ h. IfOk result (λ pledge. pledge ≡ pledge_in (get h.books book) number)) }
-        ensures no_record { BlamesUnsound stands honest self.old self.new result }
-        ensures steady { IsSteady steady self.old self.new result };
+        ensures reads { Reads keeping self.old self.new (λ h. IfOk result (λ pledge. pledge ≡ pledge_in (get h.books book) number)) }
+        ensures errs { Errs keeping self.old self.new result };
 
     /// The number of the pledge with a reference.
     fn find_ref(&mut self, book: Number, reference: &Reference) -> Result<Option<Number>, KeepError>
-        ensures reads { Reads stands honest serves self.old self.new (λ h. IfOk result (λ number. number ≡ number_of (get h.books book) reference.now)) }
-        ensures no_record { BlamesUnsound stands honest self.old self.new result }
-        ensures steady { IsSteady steady self.old self.new result };
+        ensures reads { Reads keeping self.old self.new (λ h. IfOk result (λ number. number ≡ number_of (get h.books book) reference.now)) }
+        ensures errs { Errs keeping self.old self.new result };
 
     /// How many pledges have a confirmed booking for a day and a window.
     fn confirmed(&mut self, book: Number, day: Day, window: u64) -> Result<u64, KeepError>
-        ensures reads { Reads stands honest serves self.old self.new (λ h. IfOk result (λ count. count ≡ confirmed_for (pledges_of (get h.books book)) day window)) }
-        ensures no_record { BlamesUnsound stands honest self.old self.new result }
-        ensures steady { IsSteady steady self.old self.new result };
+        ensures reads { Reads keeping self.old self.new (λ h. IfOk result (λ count. count ≡ confirmed_for (pledges_of (get h.books book)) day window)) }
+        ensures errs { Errs keeping self.old self.new result };
 
     /// Hands the visitor the pledges of a book in order of their numbers, until it wants no more.
-    fn walk<V: PledgeVisitor>(&mut self, book: Number, visitor: &mut V) -> Result<(), KeepError>
+    fn walk<V: Visitor<Pledge>>(&mut self, book: Number, visitor: &mut V) -> Result<(), KeepError>
         ensures reads { Visits V.step visitor.old visitor.new (λ given flow.
-            Reads stands honest serves self.old self.new (λ h. IsShare given flow (is_ok result) (pledges_of (get h.books book)))) }
-        ensures no_record { BlamesUnsound stands honest self.old self.new result }
-        ensures steady { IsSteady steady self.old self.new result };
+            Reads keeping self.old self.new (λ h. IsShare given flow (call_end result) (pledges_of (get h.books book)))) }
+        ensures errs { Errs keeping self.old self.new result };
 
     /// The least number of a book above one, or above none at all.
     fn next_book(&mut self, after: Option<Number>) -> Result<Option<Number>, KeepError>
-        ensures reads { Reads stands honest serves self.old self.new (λ h. IfOk result (λ next. IsNextBook h (unwrap_or after 0) next)) }
-        ensures no_record { BlamesUnsound stands honest self.old self.new result }
-        ensures steady { IsSteady steady self.old self.new result };
+        ensures reads { Reads keeping self.old self.new (λ h. IfOk result (λ next. IsNextBook h (unwrap_or after 0) next)) }
+        ensures errs { Errs keeping self.old self.new result };
 
     /// The pledge of a number without its lists.
     fn brief(&mut self, book: Number, number: Number) -> Result<Option<Brief>, KeepError>
-        ensures reads { Reads stands honest serves self.old self.new (λ h. IfOk result (λ brief. brief ≡ option_map brief_of (pledge_in (get h.books book) number))) }
-        ensures no_record { BlamesUnsound stands honest self.old self.new result }
-        ensures steady { IsSteady steady self.old self.new result };
+        ensures reads { Reads keeping self.old self.new (λ h. IfOk result (λ brief. brief ≡ option_map brief_of (pledge_in (get h.books book) number))) }
+        ensures errs { Errs keeping self.old self.new result };
 
     /// Hands the visitor the entries of a pledge in order, until it wants no more.
-    fn entries<V: EntryVisitor>(
+    fn entries<V: Visitor<Entry>>(
         &mut self,
         book: Number,
         number: Number,
         visitor: &mut V,
     ) -> Result<(), KeepError>
         ensures reads { Visits V.step visitor.old visitor.new (λ given flow.
-            Reads stands honest serves self.old self.new (λ h. IsShare given flow (is_ok result) (entries_of (pledge_in (get h.books book) number)))) }
-        ensures no_record { BlamesUnsound stands honest self.old self.new result }
-        ensures steady { IsSteady steady self.old self.new result };
+            Reads keeping self.old self.new (λ h. IsShare given flow (call_end result) (entries_of (pledge_in (get h.books book) number)))) }
+        ensures errs { Errs keeping self.old self.new result };
 
     /// Hands the visitor the extensions of a pledge in order, until it wants no more.
-    fn extensions<V: ExtensionVisitor>(
+    fn extensions<V: Visitor<Extension>>(
         &mut self,
         book: Number,
         number: Number,
         visitor: &mut V,
     ) -> Result<(), KeepError>
         ensures reads { Visits V.step visitor.old visitor.new (λ given flow.
-            Reads stands honest serves self.old self.new (λ h. IsShare given flow (is_ok result) (extensions_of (pledge_in (get h.books book) number)))) }
-        ensures no_record { BlamesUnsound stands honest self.old self.new result }
-        ensures steady { IsSteady steady self.old self.new result };
+            Reads keeping self.old self.new (λ h. IsShare given flow (call_end result) (extensions_of (pledge_in (get h.books book) number)))) }
+        ensures errs { Errs keeping self.old self.new result };
 
     /// Makes a change, unless the rows would be above the limit.
     fn save(&mut self, change: &Change) -> Result<(), SaveError>
-        requires can_save { serves self.old → Of stands honest self.old self.old (λ h. CanSave h change.now) }
-        ensures past { honest self.new → honest self.old }
-        ensures served { honest self.new → serves self.new → serves self.old }
-        ensures ok { OnOk result (Of stands honest self.old self.new (λ h. stands self.new (changed h change.now) × (rows (changed h change.now) ≤ h.limit))) }
-        ensures full { result ≡ Err SaveError.Full → Of stands honest self.old self.new (λ h. h.limit < rows (changed h change.now)) }
-        ensures err { OnErr result (Of stands honest self.old self.new (λ h. stands self.new h)) }
-        ensures stays { steady self.old → steady self.new }
-        ensures never { steady self.old → IfErr result (λ e. IsWant e) };
+        requires can_save { keeping.serves self.old → Of keeping self.old self.old (λ h. CanSave h change.now) }
+        ensures saves { Saves keeping self.old self.new change.now result };
 }

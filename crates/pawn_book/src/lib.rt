@@ -8,21 +8,27 @@ mod commands;
 mod fault;
 mod keep;
 mod laws;
+mod gates;
+mod limits;
 mod list;
+mod openings;
 mod planning;
 mod receipts;
 mod refusal;
 mod reply;
 mod request;
+mod set_up;
 mod visit;
 
 pub use acting::{act, commit};
 pub use capacity::Capacity;
 pub use change::{Change, Head, Imported, Planned};
 pub use fault::{KeepError, SaveError, StoreFault};
+pub use gates::{find_live, gate};
 pub use keep::Keep;
 pub use laws::{changes_differ, entries_act_once, extensions_act_once, repeats_act_once};
-pub use list::{ListKeep, MOST_ROWS};
+pub use limits::{MOST_BOOKINGS, MOST_RECEIPTS, MOST_ROWS};
+pub use list::ListKeep;
 pub use pawn_pledge::{
     Applied, Article, BadDay, BadReceipt, Booking, BookingState, Brief, Closing, Command, Day,
     Decision, Done, Entry, Extension, Issue, Issued, Kind, Number, Opening, Owing, Paper, Pledge,
@@ -30,15 +36,15 @@ pub use pawn_pledge::{
     Text,
 };
 pub use pawn_terms::TermsFault;
-pub use planning::{find_live, gate, plan};
-pub use receipts::{MOST_RECEIPTS, Receipts};
+pub use planning::plan;
+pub use receipts::Receipts;
 pub use refusal::Refusal;
 pub use reply::Reply;
 pub use request::{
     BearerCommand, BearerRequest, BrokerCommand, BrokerRequest, Caller, Name, NewBook, NewTerms,
     Request,
 };
-pub use visit::{EntryVisitor, ExtensionVisitor, Flow, PledgeVisitor};
+pub use visit::{Flow, Visitor};
 
 #[cfg(test)]
 mod tests;

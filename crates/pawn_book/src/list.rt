@@ -1,24 +1,23 @@
-ghost use Rattle.std.specs.Prelude.{[], ◌≡◌, ◌<◌, ◌≤◌, ◌+◌, ◌&&◌, if◌then◌else◌, IfNone, IfOk, IfSome, MatchOption, None, OnErr, OnOk, Some, length, map, nat_lt, option_map, true, unwrap_or};
+ghost use Rattle.std.specs.Prelude.{[], ◌≡◌, ◌<◌, ◌≤◌, ◌+◌, ◌&&◌, if◌then◌else◌, IfNone, IfOk, IfSome, MatchOption, None, OnErr, OnOk, Some, length, map, nat_lt, option_map, unwrap_or};
 ghost use Rattle.pawn_pledge.specs.Brief.{brief_of};
 ghost use Rattle.pawn_book.specs.BookStep.{confirmed_for, head_of, is_confirmed_for, pledge_from, pledge_in, put_from, terms_at, with_reference};
 ghost use Rattle.pawn_book.specs.HostStep.{pledge_rows};
-ghost use Rattle.pawn_book.specs.Keeping.{CanSave, entries_of, extensions_of, number_of, pledges_of, terms_of};
+ghost use Rattle.pawn_book.specs.Changes.{CanSave};
+ghost use Rattle.pawn_book.specs.Keeping.{entries_of, extensions_of, number_of, pledges_of, terms_of};
 ghost use Rattle.pawn_book.specs.Listed.{IsLeastAbove, IsPlace, Saves, book_at, entry_of, host_of, standing_rows};
-ghost use Rattle.pawn_book.specs.Visits.{Visits, IsShare};
+ghost use Rattle.pawn_book.specs.Visits.{IsShare, Visits, Whole};
 
 use crate::change::{Change, Head, Imported};
 use crate::fault::{KeepError, SaveError};
 use crate::keep::Keep;
+use crate::limits::MOST_ROWS;
 use crate::request::NewBook;
-use crate::visit::{EntryVisitor, ExtensionVisitor, Flow, PledgeVisitor};
+use crate::visit::{Flow, Visitor};
 use pawn_pledge::{
     Booking, BookingState, Brief, Day, Entry, Extension, Number, Pledge, Reference, Terms,
 };
 use std::alloc::{AllocError, Global};
 use std::marker::Model;
-
-/// At most as many rows are kept.
-pub const MOST_ROWS: u64 = 10_000_000;
 
 /// A book in the list.
 #[derive(Drop)]
@@ -142,16 +141,9 @@ impl ListKeep {
 }
 
 impl Keep for ListKeep {
-    ghost use Rattle.std.specs.Prelude.{◌≡◌, ⊤};
-    ghost use Rattle.pawn_book.specs.Listed.{host_of};
+    ghost use Rattle.pawn_book.specs.Listed.{list_keeping};
 
-    ghost stands = { λ k h. h ≡ host_of k };
-
-    ghost honest = { λ k. ⊤ };
-
-    ghost serves = { λ k. ⊤ };
-
-    ghost steady = { λ k. ⊤ };
+    ghost keeping = { list_keeping };
 
     fn head(&mut self, book: Number) -> Result<Option<Head>, KeepError> {
         let Ok(head) = head_in(&self.books, book) else {
@@ -186,8 +178,8 @@ impl Keep for ListKeep {
         Ok(count as u64)
     }
 
-    fn walk<V: PledgeVisitor>(&mut self, book: Number, visitor: &mut V) -> Result<(), KeepError> {
-        hand_pledges(pledges_in(&self.books, book), visitor);
+    fn walk<V: Visitor<Pledge>>(&mut self, book: Number, visitor: &mut V) -> Result<(), KeepError> {
+        hand(pledges_in(&self.books, book), visitor);
         Ok(())
     }
 
@@ -203,23 +195,23 @@ impl Keep for ListKeep {
         Ok(brief)
     }
 
-    fn entries<V: EntryVisitor>(
+    fn entries<V: Visitor<Entry>>(
         &mut self,
         book: Number,
         number: Number,
         visitor: &mut V,
     ) -> Result<(), KeepError> {
-        hand_entries(entries_in(&self.books, book, number), visitor);
+        hand(entries_in(&self.books, book, number), visitor);
         Ok(())
     }
 
-    fn extensions<V: ExtensionVisitor>(
+    fn extensions<V: Visitor<Extension>>(
         &mut self,
         book: Number,
         number: Number,
         visitor: &mut V,
     ) -> Result<(), KeepError> {
-        hand_extensions(extensions_in(&self.books, book, number), visitor);
+        hand(extensions_in(&self.books, book, number), visitor);
         Ok(())
     }
 
@@ -459,36 +451,12 @@ fn extensions_in(books: &[Kept], book: Number, number: Number) -> &[Extension]
     }
 }
 
-// Hands the entries to the visitor until it wants no more.
-fn hand_entries<V: EntryVisitor>(entries: &[Entry], visitor: &mut V)
-    ensures visits { Visits V.step visitor.old visitor.new (λ given flow. IsShare given flow true entries.now) }
+// Hands the items to the visitor until it wants no more.
+fn hand<T, V: Visitor<T>>(items: &[T], visitor: &mut V)
+    ensures visits { Visits V.step visitor.old visitor.new (λ given flow. IsShare given flow Whole items.now) }
 {
-    for entry in entries {
-        match visitor.visit(entry) {
-            Flow::Go => {}
-            Flow::Stop => return,
-        }
-    }
-}
-
-// Hands the pledges to the visitor until it wants no more.
-fn hand_pledges<V: PledgeVisitor>(pledges: &[Pledge], visitor: &mut V)
-    ensures visits { Visits V.step visitor.old visitor.new (λ given flow. IsShare given flow true pledges.now) }
-{
-    for pledge in pledges {
-        match visitor.visit(pledge) {
-            Flow::Go => {}
-            Flow::Stop => return,
-        }
-    }
-}
-
-// Hands the extensions to the visitor until it wants no more.
-fn hand_extensions<V: ExtensionVisitor>(extensions: &[Extension], visitor: &mut V)
-    ensures visits { Visits V.step visitor.old visitor.new (λ given flow. IsShare given flow true extensions.now) }
-{
-    for extension in extensions {
-        match visitor.visit(extension) {
+    for item in items {
+        match visitor.visit(item) {
             Flow::Go => {}
             Flow::Stop => return,
         }

@@ -1,11 +1,9 @@
 ghost use Rattle.std.specs.Prelude.{◌≡◌, ◌↔◌, IfSome, IsSome};
 ghost use Rattle.pawn_book.specs.Limits.{AreFew};
 
+use crate::limits::MOST_RECEIPTS;
 use pawn_pledge::Receipt;
 use std::marker::Model;
-
-/// At most as many receipts are presented at once.
-pub const MOST_RECEIPTS: usize = 32;
 
 /// The receipts that a bearer presents, in that order: 1 to 32 of them. A contract sees their list.
 #[derive(Drop)]

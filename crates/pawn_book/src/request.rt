@@ -5,7 +5,7 @@ ghost use Rattle.std.specs.Str.{IsUtf8};
 ghost use Rattle.pawn_book.specs.Limits.{IsCapacity};
 ghost use Rattle.pawn_book.specs.Sound.{IsWord};
 ghost use Rattle.pawn_book.specs.Commands.{broker_command, bearer_command};
-ghost use Rattle.pawn_book.specs.Keeping.{IsBearerWrite, IsBrokerWrite, IsWritten};
+ghost use Rattle.pawn_book.specs.Plans.{IsBearerWrite, IsBrokerWrite, IsWritten};
 
 use crate::capacity::Capacity;
 use crate::receipts::Receipts;

@@ -1,8 +1,8 @@
 use crate::{
-    Article, BearerRequest, BrokerRequest, Caller, Capacity, Entry, EntryVisitor, Extension,
-    ExtensionVisitor, Flow, Keep, Kind, ListKeep, Name, NewBook, NewTerms, Number, Opening,
-    Receipt, Receipts, Reference, Refusal, Reply, Request, RequestDay, Secret, Stamp, Status,
-    TermsFault, act, find_live, gate, plan,
+    Article, BearerRequest, BrokerRequest, Caller, Capacity, Entry, Extension, Flow, Keep, Kind,
+    ListKeep, Name, NewBook, NewTerms, Number, Opening, Receipt, Receipts, Reference, Refusal,
+    Reply, Request, RequestDay, Secret, Stamp, Status, TermsFault, Visitor, act, find_live, gate,
+    plan,
 };
 use pawn_debt::DebtFault;
 use std::alloc::Global;
@@ -379,7 +379,7 @@ struct Count {
     extensions: u64,
 }
 
-impl EntryVisitor for Count {
+impl Visitor<Entry> for Count {
     ghost use Rattle.std.specs.Prelude.{⊤};
 
     ghost step = { λ v e flow w. ⊤ };
@@ -390,7 +390,7 @@ impl EntryVisitor for Count {
     }
 }
 
-impl ExtensionVisitor for Count {
+impl Visitor<Extension> for Count {
     ghost use Rattle.std.specs.Prelude.{⊤};
 
     ghost step = { λ v e flow w. ⊤ };

@@ -1,5 +1,3 @@
-use pawn_pledge::{Entry, Extension, Pledge};
-
 /// Whether a visitor wants more.
 #[derive(Clone, Copy, Debug, PartialEq, Eq)]
 pub enum Flow {
@@ -7,38 +5,14 @@ pub enum Flow {
     Stop,
 }
 
-/// What is handed the entries of a pledge, one by one.
-pub trait EntryVisitor {
-    ghost use Rattle.pawn_debt.specs.declared.entry.Entry.{Entry};
+/// What is handed the items of a list, one by one: a book's pledges, or a pledge's entries or
+/// extensions.
+pub trait Visitor<T> {
     ghost use Rattle.pawn_book.specs.declared.visit.Flow.{Flow};
 
-    /// What one call does: the value before, the entry, the answer, the value after.
-    ghost step: { Self → Entry → Flow → Self → Type 0 };
+    /// What one call does: the value before, the item, the answer, the value after.
+    ghost step: { Self → T → Flow → Self → Type 0 };
 
-    fn visit(&mut self, entry: &Entry) -> Flow
-        ensures steps { step self.old entry.now result self.new };
-}
-
-/// What is handed the extensions of a pledge, one by one.
-pub trait ExtensionVisitor {
-    ghost use Rattle.pawn_pledge.specs.declared.record.Extension.{Extension};
-    ghost use Rattle.pawn_book.specs.declared.visit.Flow.{Flow};
-
-    /// What one call does: the value before, the extension, the answer, the value after.
-    ghost step: { Self → Extension → Flow → Self → Type 0 };
-
-    fn visit(&mut self, extension: &Extension) -> Flow
-        ensures steps { step self.old extension.now result self.new };
-}
-
-/// What is handed the pledges of a book, one by one.
-pub trait PledgeVisitor {
-    ghost use Rattle.pawn_pledge.specs.Pledge.{PledgeValue};
-    ghost use Rattle.pawn_book.specs.declared.visit.Flow.{Flow};
-
-    /// What one call does: the value before, the pledge, the answer, the value after.
-    ghost step: { Self → PledgeValue → Flow → Self → Type 0 };
-
-    fn visit(&mut self, pledge: &Pledge) -> Flow
-        ensures steps { step self.old pledge.now result self.new };
+    fn visit(&mut self, item: &T) -> Flow
+        ensures steps { step self.old item.now result self.new };
 }

@@ -1,11 +1,13 @@
 -- What is shown for receipts, one after the other.
 use Rattle.std.proofs.Common.{◌≡◌, ◌∙◌, ℕ, zero, suc, ◌+◌, ◌-◌, ◌<◌, ◌≤◌, arith, Bool, true, false, List, [], ◌∷◌, ◌++◌, length, take, drop, get_or, map, Option, Some, None, codes, refl, sym, ap, subst, if◌then◌else◌, Result}
-use Rattle.std.specs.Prelude.{option_map, not, is_ok}
+use Rattle.std.specs.Prelude.{option_map, not}
 use Rattle.std.proofs.lemmas.List.{take_more, take_rest, append-nil, map-append}
 use Rattle.pawn_pledge.specs.declared.receipt.Receipt.{Receipt}
 use Rattle.pawn_pledge.specs.Pledge.{PledgeValue}
 use Rattle.pawn_pledge.specs.Brief.{BriefValue, brief_of}
 use Rattle.pawn_book.specs.BookStep.{is_live, only_live, live_at, are_unknown}
+use Rattle.pawn_book.specs.Visits.{End, Front, Whole, call_end}
+use Rattle.pawn_book.proofs.VisitLemmas.{cut_at}
 use Rattle.pawn_view.specs.declared.writing.Writing.{Writing}
 use Rattle.pawn_book.specs.declared.fault.KeepError.{KeepError}
 use Rattle.pawn_view.specs.declared.fault.ViewFault.{ViewFault}
@@ -13,7 +15,7 @@ use Rattle.pawn_view.specs.Ends.{write_failed, Puts}
 use Rattle.pawn_view.specs.Fault.{ending_of}
 use Rattle.pawn_view.specs.Text.{statement_text, shown_text, further_texts, held_text}
 use Rattle.pawn_view.specs.Shown.{PutsShare, Shows}
-use Rattle.pawn_view.proofs.PutLemmas.{flat_map-append, cut_at}
+use Rattle.pawn_view.proofs.PutLemmas.{flat_map-append}
 use Rattle.pawn_view.proofs.ShareLemmas.{share_puts, share_more, share_then}
 use Rattle.pawn_view.proofs.StatementLemmas.{some_same, shows_ended}
 
@@ -60,15 +62,15 @@ unknown_more f receipts i x lt at before is =
 -- ---- one receipt
 
 -- the statement of the pledge that a live receipt is of
-pub shown_statement : {W : Type 0} (contents : W → Option (List ℕ)) (a w : Writing W) (day : ℕ) (pledges : ℕ → Option PledgeValue) (r : Receipt) (brief : BriefValue) (ok : Bool)
+pub shown_statement : {W : Type 0} (contents : W → Option (List ℕ)) (a w : Writing W) (day : ℕ) (pledges : ℕ → Option PledgeValue) (r : Receipt) (brief : BriefValue) (end : End)
     → Some brief ≡ option_map brief_of (live_at pledges r)
-    → ((p : PledgeValue) → pledges r.number ≡ Some p → brief ≡ brief_of p → PutsShare contents a (statement_text day p) ok w)
-    → PutsShare contents a (shown_text day (live_at pledges r)) ok w
-shown_statement contents a w day pledges r brief ok is share =
-    elim (pledges r.number) as (λ (o : Option PledgeValue). pledges r.number ≡ o → Some brief ≡ option_map brief_of (only_live r.secret o) → PutsShare contents a (shown_text day (only_live r.secret o)) ok w) [
+    → ((p : PledgeValue) → pledges r.number ≡ Some p → brief ≡ brief_of p → PutsShare contents a (statement_text day p) end w)
+    → PutsShare contents a (shown_text day (live_at pledges r)) end w
+shown_statement contents a w day pledges r brief end is share =
+    elim (pledges r.number) as (λ (o : Option PledgeValue). pledges r.number ≡ o → Some brief ≡ option_map brief_of (only_live r.secret o) → PutsShare contents a (shown_text day (only_live r.secret o)) end w) [
       | None ↦ λ at said. cc
       | Some p ↦ λ at said.
-          elim (is_live r.secret p) as (λ (b : Bool). Some brief ≡ option_map brief_of (if b then Some p else None) → PutsShare contents a (shown_text day (if b then Some p else None)) ok w) [
+          elim (is_live r.secret p) as (λ (b : Bool). Some brief ≡ option_map brief_of (if b then Some p else None) → PutsShare contents a (shown_text day (if b then Some p else None)) end w) [
             | true ↦ λ e. share p at (some_same e)
             | false ↦ λ e. cc
           ] said
@@ -96,30 +98,30 @@ further_more f day receipts i d lt =
     ∙ ap (λ (t : List ℕ). further_texts day (map f (take i receipts)) ++ t) (append-nil (further day (f (get_or receipts i d))))
 
 -- one receipt more after those before it
-further_shown : {W : Type 0} (contents : W → Option (List ℕ)) (a b c w : Writing W) (day : ℕ) (before : List ℕ) (p : Option PledgeValue) (ok : Bool)
-    → PutsShare contents a before true b → Puts contents b (codes "\n") c → PutsShare contents c (shown_text day p) ok w
-    → PutsShare contents a (before ++ further day p) ok w
-further_shown contents a b c w day before p ok first blank share =
-    share_then contents a b w before (further day p) ok first
-    (share_then contents b c w (codes "\n") (shown_text day p) ok (share_puts contents b c (codes "\n") blank) share)
+further_shown : {W : Type 0} (contents : W → Option (List ℕ)) (a b c w : Writing W) (day : ℕ) (before : List ℕ) (p : Option PledgeValue) (end : End)
+    → PutsShare contents a before Whole b → Puts contents b (codes "\n") c → PutsShare contents c (shown_text day p) end w
+    → PutsShare contents a (before ++ further day p) end w
+further_shown contents a b c w day before p end first blank share =
+    share_then contents a b w before (further day p) end first
+    (share_then contents b c w (codes "\n") (shown_text day p) end (share_puts contents b c (codes "\n") blank) share)
 
 further_goes_on_in : {W : Type 0} (contents : W → Option (List ℕ)) (a b c w : Writing W) (day : ℕ) (f : Receipt → Option PledgeValue) (receipts : List Receipt) (i : ℕ) (d : Receipt) → i < length receipts
-    → PutsShare contents a (further_texts day (map f (take i receipts))) true b → Puts contents b (codes "\n") c → PutsShare contents c (shown_text day (f (get_or receipts i d))) true w
-    → PutsShare contents a (further_texts day (map f (take (i + 1) receipts))) true w
+    → PutsShare contents a (further_texts day (map f (take i receipts))) Whole b → Puts contents b (codes "\n") c → PutsShare contents c (shown_text day (f (get_or receipts i d))) Whole w
+    → PutsShare contents a (further_texts day (map f (take (i + 1) receipts))) Whole w
 further_goes_on_in contents a b c w day f receipts i d lt first blank share =
-    subst (λ (t : List ℕ). PutsShare contents a t true w) (sym (further_more f day receipts i d lt))
-    (further_shown contents a b c w day (further_texts day (map f (take i receipts))) (f (get_or receipts i d)) true first blank share)
+    subst (λ (t : List ℕ). PutsShare contents a t Whole w) (sym (further_more f day receipts i d lt))
+    (further_shown contents a b c w day (further_texts day (map f (take i receipts))) (f (get_or receipts i d)) Whole first blank share)
 
 further_stops_in : {W : Type 0} (contents : W → Option (List ℕ)) (a b c w : Writing W) (day : ℕ) (f : Receipt → Option PledgeValue) (receipts : List Receipt) (i : ℕ) (d : Receipt) → i < length receipts
-    → PutsShare contents a (further_texts day (map f (take i receipts))) true b → Puts contents b (codes "\n") c → PutsShare contents c (shown_text day (f (get_or receipts i d))) false w
-    → PutsShare contents a (further_texts day (map f receipts)) false w
+    → PutsShare contents a (further_texts day (map f (take i receipts))) Whole b → Puts contents b (codes "\n") c → PutsShare contents c (shown_text day (f (get_or receipts i d))) Front w
+    → PutsShare contents a (further_texts day (map f receipts)) Front w
 further_stops_in contents a b c w day f receipts i d lt first blank share =
     let x = get_or receipts i d in
     let rest = further_texts day (map f (drop (i + 1) receipts)) in
-    subst (λ (t : List ℕ). PutsShare contents a t false w) (sym (further_cut f day receipts i d lt))
-    (share_then contents a b w (further_texts day (map f (take i receipts))) (further day (f x) ++ rest) false first
+    subst (λ (t : List ℕ). PutsShare contents a t Front w) (sym (further_cut f day receipts i d lt))
+    (share_then contents a b w (further_texts day (map f (take i receipts))) (further day (f x) ++ rest) Front first
     (share_more contents b w (further day (f x)) rest
-    (share_then contents b c w (codes "\n") (shown_text day (f x)) false (share_puts contents b c (codes "\n") blank) share)))
+    (share_then contents b c w (codes "\n") (shown_text day (f x)) Front (share_puts contents b c (codes "\n") blank) share)))
 
 -- the first, and then the rest
 held_is : (f : Receipt → Option PledgeValue) (day : ℕ) (receipts : List Receipt) (x : Receipt) → 1 ≤ length receipts → x ≡ get_or receipts 0 x
@@ -129,35 +131,35 @@ held_is f day (r ∷ rs) x some at =
     ap (λ (q : Receipt). shown_text day (f q) ++ further_texts day (map f rs)) (sym at)
     ∙ ap (λ (qs : List Receipt). shown_text day (f x) ++ further_texts day (map f qs)) (sym (take_rest (r ∷ rs) 1))
 
-pub held_goes_on : {W : Type 0} (contents : W → Option (List ℕ)) (a b w : Writing W) (day : ℕ) (f : Receipt → Option PledgeValue) (receipts : List Receipt) (x : Receipt) (ok : Bool) → 1 ≤ length receipts → x ≡ get_or receipts 0 x
-    → PutsShare contents a (shown_text day (f x)) true b → PutsShare contents b (further_texts day (map f (take (length receipts - 1) (drop 1 receipts)))) ok w
-    → PutsShare contents a (held_text day (map f receipts)) ok w
-held_goes_on contents a b w day f receipts x ok some at first rest =
-    subst (λ (t : List ℕ). PutsShare contents a t ok w) (sym (held_is f day receipts x some at))
-    (share_then contents a b w (shown_text day (f x)) (further_texts day (map f (take (length receipts - 1) (drop 1 receipts)))) ok first rest)
+pub held_goes_on : {W : Type 0} (contents : W → Option (List ℕ)) (a b w : Writing W) (day : ℕ) (f : Receipt → Option PledgeValue) (receipts : List Receipt) (x : Receipt) (end : End) → 1 ≤ length receipts → x ≡ get_or receipts 0 x
+    → PutsShare contents a (shown_text day (f x)) Whole b → PutsShare contents b (further_texts day (map f (take (length receipts - 1) (drop 1 receipts)))) end w
+    → PutsShare contents a (held_text day (map f receipts)) end w
+held_goes_on contents a b w day f receipts x end some at first rest =
+    subst (λ (t : List ℕ). PutsShare contents a t end w) (sym (held_is f day receipts x some at))
+    (share_then contents a b w (shown_text day (f x)) (further_texts day (map f (take (length receipts - 1) (drop 1 receipts)))) end first rest)
 
 pub held_stops : {W : Type 0} (contents : W → Option (List ℕ)) (a w : Writing W) (day : ℕ) (f : Receipt → Option PledgeValue) (receipts : List Receipt) (x : Receipt) → 1 ≤ length receipts → x ≡ get_or receipts 0 x
-    → PutsShare contents a (shown_text day (f x)) false w
-    → PutsShare contents a (held_text day (map f receipts)) false w
+    → PutsShare contents a (shown_text day (f x)) Front w
+    → PutsShare contents a (held_text day (map f receipts)) Front w
 held_stops contents a w day f receipts x some at first =
-    subst (λ (t : List ℕ). PutsShare contents a t false w) (sym (held_is f day receipts x some at))
+    subst (λ (t : List ℕ). PutsShare contents a t Front w) (sym (held_is f day receipts x some at))
     (share_more contents a w (shown_text day (f x)) (further_texts day (map f (take (length receipts - 1) (drop 1 receipts)))) first)
 
 -- the text of receipts one of which is live
 pub held_shows : {W : Type 0} (contents : W → Option (List ℕ)) (missing : ViewFault) (a w : Writing W) (text : List ℕ) (unknown : Bool) (done : Result (Unit {0}) KeepError) (answer : Result (Unit {0}) ViewFault)
-    → write_failed a ≡ false → answer ≡ ending_of done (write_failed w) → true ≡ not unknown → PutsShare contents a text (is_ok done) w
+    → write_failed a ≡ false → answer ≡ ending_of done (write_failed w) → true ≡ not unknown → PutsShare contents a text (call_end done) w
     → Shows contents missing a (if unknown then None else Some text) answer w
 held_shows contents missing a w text true done answer fine is known share = cc
 held_shows contents missing a w text false done answer fine is known share = shows_ended contents missing a w text done answer fine is share
 
 pub further_goes_on : {W : Type 0} (contents : W → Option (List ℕ)) (a b c w : Writing W) (day : ℕ) (f : Receipt → Option PledgeValue) (receipts : List Receipt) (i : ℕ) (x : Receipt) → i < length receipts → x ≡ get_or receipts i x
-    → PutsShare contents a (further_texts day (map f (take i receipts))) true b → Puts contents b (codes "\n") c → PutsShare contents c (shown_text day (f x)) true w
-    → PutsShare contents a (further_texts day (map f (take (i + 1) receipts))) true w
+    → PutsShare contents a (further_texts day (map f (take i receipts))) Whole b → Puts contents b (codes "\n") c → PutsShare contents c (shown_text day (f x)) Whole w
+    → PutsShare contents a (further_texts day (map f (take (i + 1) receipts))) Whole w
 further_goes_on contents a b c w day f receipts i x lt at first blank share =
-    further_goes_on_in contents a b c w day f receipts i x lt first blank (subst (λ (y : Receipt). PutsShare contents c (shown_text day (f y)) true w) at share)
+    further_goes_on_in contents a b c w day f receipts i x lt first blank (subst (λ (y : Receipt). PutsShare contents c (shown_text day (f y)) Whole w) at share)
 
 pub further_stops : {W : Type 0} (contents : W → Option (List ℕ)) (a b c w : Writing W) (day : ℕ) (f : Receipt → Option PledgeValue) (receipts : List Receipt) (i : ℕ) (x : Receipt) → i < length receipts → x ≡ get_or receipts i x
-    → PutsShare contents a (further_texts day (map f (take i receipts))) true b → Puts contents b (codes "\n") c → PutsShare contents c (shown_text day (f x)) false w
-    → PutsShare contents a (further_texts day (map f receipts)) false w
+    → PutsShare contents a (further_texts day (map f (take i receipts))) Whole b → Puts contents b (codes "\n") c → PutsShare contents c (shown_text day (f x)) Front w
+    → PutsShare contents a (further_texts day (map f receipts)) Front w
 further_stops contents a b c w day f receipts i x lt at first blank share =
-    further_stops_in contents a b c w day f receipts i x lt first blank (subst (λ (y : Receipt). PutsShare contents c (shown_text day (f y)) false w) at share)
+    further_stops_in contents a b c w day f receipts i x lt first blank (subst (λ (y : Receipt). PutsShare contents c (shown_text day (f y)) Front w) at share)

@@ -6,18 +6,18 @@ use Rattle.std.proofs.lemmas.List.{append-nil}
 use Rattle.std.proofs.lemmas.Bool.{cases_Bool}
 use Rattle.pawn_book.specs.declared.visit.Flow.{Flow}
 use Rattle.pawn_book.specs.declared.visit.Flow.TheVariants.{Go, Stop}
-use Rattle.pawn_book.specs.Visits.{Handed, IsShare}
+use Rattle.pawn_book.specs.Visits.{End, Front, Handed, IsShare, Whole}
 use Rattle.pawn_view.specs.declared.writing.Writing.{Writing}
 use Rattle.pawn_view.specs.Ends.{write_failed, Puts}
 use Rattle.pawn_view.specs.Shown.{PutsLine, PutsShare}
-use Rattle.pawn_view.proofs.PutLemmas.{puts_nil, puts_then, failed_puts, flat_map-append}
+use Rattle.pawn_view.proofs.PutLemmas.{puts_nil, puts_then, flat_map-append}
 
 -- the lines of what was handed were put
 lines_put : {W T : Type 0} (contents : W → Option (List ℕ)) (line : T → List ℕ) (v w : Writing W) (xs : List T) (flow : Flow)
     → Handed (PutsLine contents line) v xs flow w → Puts contents v (flat_map line xs) w
 lines_put contents line v w [] flow handed = subst (λ (u : Writing _). Puts contents v [] u) handed.1 (puts_nil contents v)
 lines_put contents line v w (x ∷ xs) flow handed = elim handed [
-  | inl going ↦ puts_then contents v going.0 w (line x) (flat_map line xs) going.1.0 (lines_put contents line going.0 w xs flow going.2)
+  | inl going ↦ puts_then going.1.0 (lines_put contents line going.0 w xs flow going.2)
   | inr stopped ↦ subst (λ (ys : List _). Puts contents v (line x ++ flat_map line ys) w) (sym stopped.1)
       (subst (λ (t : List ℕ). Puts contents v t w) (sym (append-nil (line x))) stopped.2.0)
 ]
@@ -32,9 +32,9 @@ never_stopped contents line v w (x ∷ xs) flow handed fine = elim handed [
 ]
 
 -- what was put of the lines of a list that was handed out
-pub lines_share : {W T : Type 0} (contents : W → Option (List ℕ)) (line : T → List ℕ) (v w : Writing W) (given items : List T) (flow : Flow) (ok : Bool)
-    → Handed (PutsLine contents line) v given flow w → IsShare given flow ok items → PutsShare contents v (flat_map line items) ok w
-lines_share contents line v w given items flow ok handed (left, whole, all) = (
+pub lines_share : {W T : Type 0} (contents : W → Option (List ℕ)) (line : T → List ℕ) (v w : Writing W) (given items : List T) (flow : Flow) (end : End)
+    → Handed (PutsLine contents line) v given flow w → IsShare given flow end items → PutsShare contents v (flat_map line items) end w
+lines_share contents line v w given items flow end handed (left, whole, all) = (
   flat_map line given,
   flat_map line left,
   sym (flat_map-append line given left) ∙ ap (flat_map line) whole,
@@ -43,19 +43,19 @@ lines_share contents line v w given items flow ok handed (left, whole, all) = (
 )
 
 -- a text that was put
-pub share_puts : {W : Type 0} (contents : W → Option (List ℕ)) (a b : Writing W) (s : List ℕ) → Puts contents a s b → PutsShare contents a s true b
+pub share_puts : {W : Type 0} (contents : W → Option (List ℕ)) (a b : Writing W) (s : List ℕ) → Puts contents a s b → PutsShare contents a s Whole b
 share_puts contents a b s puts = (s, [], append-nil s, puts, λ fine done. refl)
 
 -- a text that was cut, and what would have come behind it
-pub share_more : {W : Type 0} (contents : W → Option (List ℕ)) (a b : Writing W) (s t : List ℕ) → PutsShare contents a s false b → PutsShare contents a (s ++ t) false b
+pub share_more : {W : Type 0} (contents : W → Option (List ℕ)) (a b : Writing W) (s t : List ℕ) → PutsShare contents a s Front b → PutsShare contents a (s ++ t) Front b
 share_more contents a b s t (out, rest, whole, puts, all) =
     (out, rest ++ t, sym (append_assoc out rest t) ∙ ap (λ (x : List ℕ). x ++ t) whole, puts, λ fine done. cc)
 
 -- a text and then another
-pub share_then : {W : Type 0} (contents : W → Option (List ℕ)) (a b c : Writing W) (s t : List ℕ) (ok : Bool) → PutsShare contents a s true b → PutsShare contents b t ok c → PutsShare contents a (s ++ t) ok c
-share_then contents a b c s t ok (out, rest, whole, puts, all) (out', rest', whole', puts', all') = elim (cases_Bool (write_failed b)) [
+pub share_then : {W : Type 0} (contents : W → Option (List ℕ)) (a b c : Writing W) (s t : List ℕ) (end : End) → PutsShare contents a s Whole b → PutsShare contents b t end c → PutsShare contents a (s ++ t) end c
+share_then contents a b c s t end (out, rest, whole, puts, all) (out', rest', whole', puts', all') = elim (cases_Bool (write_failed b)) [
   | inl failed ↦
-      let same = failed_puts contents b c out' failed puts' in (
+      let same = puts'.failed failed in (
         out,
         rest ++ t,
         sym (append_assoc out rest t) ∙ ap (λ (x : List ℕ). x ++ t) whole,
@@ -67,7 +67,7 @@ share_then contents a b c s t ok (out, rest, whole, puts, all) (out', rest', who
         s ++ out',
         rest',
         append_assoc s out' rest' ∙ ap (λ (x : List ℕ). s ++ x) whole',
-        puts_then contents a b c s out' (subst (λ (x : List ℕ). Puts contents a x b) all_out puts) puts',
+        puts_then (subst (λ (x : List ℕ). Puts contents a x b) all_out puts) puts',
         all',
       )
 ]

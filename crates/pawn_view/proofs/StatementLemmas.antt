@@ -1,7 +1,7 @@
 -- A statement, put part by part.
 use Rattle.std.proofs.Common.{◌≡◌, ◌∙◌, ℕ, Bool, true, false, List, ◌++◌, Option, Some, None, Result, Ok, Err, refl, sym, ap, subst}
 use Rattle.std.specs.List.{flat_map}
-use Rattle.std.specs.Prelude.{max, not, is_ok, option_map, unwrap_or}
+use Rattle.std.specs.Prelude.{max, option_map, unwrap_or}
 use Rattle.std.proofs.lemmas.List.{append-nil}
 use Rattle.pawn_debt.specs.declared.entry.Entry.{Entry}
 use Rattle.pawn_debt.specs.declared.owing.Owing.{Owing}
@@ -13,7 +13,7 @@ use Rattle.pawn_pledge.specs.Brief.{BriefValue, brief_of, brief_status, brief_ow
 use Rattle.pawn_book.specs.declared.visit.Flow.{Flow}
 use Rattle.pawn_book.specs.declared.fault.KeepError.{KeepError}
 use Rattle.pawn_book.specs.declared.fault.KeepError.TheVariants as error
-use Rattle.pawn_book.specs.Visits.{Handed, IsShare}
+use Rattle.pawn_book.specs.Visits.{End, Front, Handed, IsShare, Whole, call_end}
 use Rattle.pawn_book.specs.Keeping.{entries_of, extensions_of}
 use Rattle.pawn_view.specs.declared.writing.Writing.{Writing}
 use Rattle.pawn_view.specs.declared.fault.ViewFault.{ViewFault}
@@ -21,18 +21,9 @@ use Rattle.pawn_view.specs.Ends.{write_failed, Written, PutFront, Puts}
 use Rattle.pawn_view.specs.Fault.{ending_of}
 use Rattle.pawn_view.specs.Text.{first_lines, state_lines, state_on, shown_day, statement_text, extended_line, entry_line}
 use Rattle.pawn_view.specs.Shown.{PutsLine, PutsShare, Shows, open_or_last}
-use Rattle.pawn_view.proofs.PutLemmas.{puts_then, fine_puts, front-more}
+use Rattle.pawn_view.proofs.PutLemmas.{front-more, now_by}
 use Rattle.pawn_view.proofs.ShareLemmas.{lines_share, share_puts, share_more, share_then}
 use Rattle.pawn_view.proofs.SoundLemmas.{IsTold}
-
--- five texts, one after the other
-pub puts_five : {W : Type 0} (contents : W → Option (List ℕ)) (a b c d e f : Writing W) (s t u v w : List ℕ)
-    → Puts contents a s b → Puts contents b t c → Puts contents c u d → Puts contents d v e → Puts contents e w f
-    → Puts contents a (s ++ (t ++ (u ++ (v ++ w)))) f
-puts_five contents a b c d e f s t u v w first second third fourth fifth =
-    puts_then contents a b f s (t ++ (u ++ (v ++ w))) first
-    (puts_then contents b c f t (u ++ (v ++ w)) second
-    (puts_then contents c d f u (v ++ w) third (puts_then contents d e f v w fourth fifth)))
 
 -- the lines of a brief above the extensions, and below them
 abbrev pub brief_first : BriefValue → List ℕ
@@ -58,73 +49,72 @@ state_of_brief p b v day is told v_is =
     ∙ ap (λ (x : ℕ). state_on x p) day_is
 
 -- what was handed of a list of the pledge
-share_at : {T : Type 0} (items : Option PledgeValue → List T) (o : Option PledgeValue) (p : PledgeValue) (given : List T) (flow : Flow) (ok : Bool)
-    → o ≡ Some p → IsShare given flow ok (items o) → IsShare given flow ok (items (Some p))
-share_at items o p given flow ok is share = subst (λ (x : Option PledgeValue). IsShare given flow ok (items x)) is share
+share_at : {T : Type 0} (items : Option PledgeValue → List T) (o : Option PledgeValue) (p : PledgeValue) (given : List T) (flow : Flow) (end : End)
+    → o ≡ Some p → IsShare given flow end (items o) → IsShare given flow end (items (Some p))
+share_at items o p given flow end is share = subst (λ (x : Option PledgeValue). IsShare given flow end (items x)) is share
 
 -- a statement whose extensions were not all handed out
 pub statement_cut : {W : Type 0} (contents : W → Option (List ℕ)) (a b c : Writing W) (day : ℕ) (o : Option PledgeValue) (p : PledgeValue) (brief : BriefValue) (given : List Extension) (flow : Flow)
     → o ≡ Some p → brief ≡ brief_of p → Puts contents a (brief_first brief) b
-    → Handed (PutsLine contents extended_line) b given flow c → IsShare given flow false (extensions_of o)
-    → PutsShare contents a (statement_text day p) false c
+    → Handed (PutsLine contents extended_line) b given flow c → IsShare given flow Front (extensions_of o)
+    → PutsShare contents a (statement_text day p) Front c
 statement_cut contents a b c day o p brief given flow at is first handed share =
     let head = first_lines p.number p.article p.kind p.taken (end_of p) in
     let rest = state_on (shown_day p.closing p.last day) p ++ flat_map entry_line p.entries in
-    share_then contents a b c head (flat_map extended_line p.extensions ++ rest) false
+    share_then contents a b c head (flat_map extended_line p.extensions ++ rest) Front
     (share_puts contents a b head (subst (λ (t : List ℕ). Puts contents a t b) (first_of_brief p brief is) first))
     (share_more contents b c (flat_map extended_line p.extensions) rest
-    (lines_share contents extended_line b c given p.extensions flow false handed (share_at extensions_of o p given flow false at share)))
+    (lines_share contents extended_line b c given p.extensions flow Front handed (share_at extensions_of o p given flow Front at share)))
 
 -- a statement whose parts were all put
-pub statement_whole : {W : Type 0} (contents : W → Option (List ℕ)) (a b c d e : Writing W) (day v : ℕ) (o : Option PledgeValue) (p : PledgeValue) (brief : BriefValue) (ok : Bool)
+pub statement_whole : {W : Type 0} (contents : W → Option (List ℕ)) (a b c d e : Writing W) (day v : ℕ) (o : Option PledgeValue) (p : PledgeValue) (brief : BriefValue) (end : End)
     (given : List Extension) (flow : Flow) (given' : List Entry) (flow' : Flow)
     → o ≡ Some p → brief ≡ brief_of p → IsTold p → v ≡ brief_day brief day → Puts contents a (brief_first brief) b
-    → Handed (PutsLine contents extended_line) b given flow c → IsShare given flow true (extensions_of o)
+    → Handed (PutsLine contents extended_line) b given flow c → IsShare given flow Whole (extensions_of o)
     → Puts contents c (brief_state brief v) d
-    → Handed (PutsLine contents entry_line) d given' flow' e → IsShare given' flow' ok (entries_of o)
-    → PutsShare contents a (statement_text day p) ok e
-statement_whole contents a b c d e day v o p brief ok given flow given' flow' at is told v_is first handed share state handed' share' =
+    → Handed (PutsLine contents entry_line) d given' flow' e → IsShare given' flow' end (entries_of o)
+    → PutsShare contents a (statement_text day p) end e
+statement_whole contents a b c d e day v o p brief end given flow given' flow' at is told v_is first handed share state handed' share' =
     let head = first_lines p.number p.article p.kind p.taken (end_of p) in
     let extended = flat_map extended_line p.extensions in
     let on = state_on (shown_day p.closing p.last day) p in
     let entries = flat_map entry_line p.entries in
-    share_then contents a b e head (extended ++ (on ++ entries)) ok
+    share_then contents a b e head (extended ++ (on ++ entries)) end
     (share_puts contents a b head (subst (λ (t : List ℕ). Puts contents a t b) (first_of_brief p brief is) first))
-    (share_then contents b c e extended (on ++ entries) ok
-    (lines_share contents extended_line b c given p.extensions flow true handed (share_at extensions_of o p given flow true at share))
-    (share_then contents c d e on entries ok
+    (share_then contents b c e extended (on ++ entries) end
+    (lines_share contents extended_line b c given p.extensions flow Whole handed (share_at extensions_of o p given flow Whole at share))
+    (share_then contents c d e on entries end
     (share_puts contents c d on (subst (λ (t : List ℕ). Puts contents c t d) (state_of_brief p brief v day is told v_is) state))
-    (lines_share contents entry_line d e given' p.entries flow' ok handed' (share_at entries_of o p given' flow' ok at share'))))
+    (lines_share contents entry_line d e given' p.entries flow' end handed' (share_at entries_of o p given' flow' end at share'))))
 
 -- ---- how a text ends
 
 -- a writer that failed was given a front of the text
-ended_failed : {W : Type 0} (contents : W → Option (List ℕ)) (a w : Writing W) (text : List ℕ) (ok : Bool) → write_failed a ≡ false → write_failed w ≡ true → PutsShare contents a text ok w → Written contents a text false w
-ended_failed contents a w text ok fine failed (out, rest, whole, puts, all) =
-    let front : Written contents a out false w = subst (λ (v : Bool). Written contents a out (not v) w) failed (fine_puts contents a w out fine puts) in
-    subst (λ (t : List ℕ). PutFront contents a t true w) whole (front-more contents a w out rest true front)
+ended_failed : {W : Type 0} (contents : W → Option (List ℕ)) (a w : Writing W) (text : List ℕ) (end : End) → write_failed a ≡ false → write_failed w ≡ true → PutsShare contents a text end w → Written contents a text Front w
+ended_failed contents a w text end fine failed (out, rest, whole, puts, all) =
+    let front = now_by contents a w out true failed (puts.fine fine) in
+    (subst (λ (t : List ℕ). PutFront contents a t w) whole (front-more contents a w out rest front.0), failed)
 
-ended_whole : {W : Type 0} (contents : W → Option (List ℕ)) (a w : Writing W) (text : List ℕ) → write_failed a ≡ false → write_failed w ≡ false → PutsShare contents a text true w → Written contents a text true w
+ended_whole : {W : Type 0} (contents : W → Option (List ℕ)) (a w : Writing W) (text : List ℕ) → write_failed a ≡ false → write_failed w ≡ false → PutsShare contents a text Whole w → Written contents a text Whole w
 ended_whole contents a w text fine going (out, rest, whole, puts, all) =
-    let written : Written contents a out true w = subst (λ (v : Bool). Written contents a out (not v) w) going (fine_puts contents a w out fine puts) in
-    subst (λ (t : List ℕ). Written contents a t true w) (sym (append-nil out) ∙ ap (λ (x : List ℕ). out ++ x) (sym (all going refl)) ∙ whole) written
+    subst (λ (t : List ℕ). Written contents a t Whole w) (sym (append-nil out) ∙ ap (λ (x : List ℕ). out ++ x) (sym (all going refl)) ∙ whole)
+    (now_by contents a w out false going (puts.fine fine))
 
-ended_cut : {W : Type 0} (contents : W → Option (List ℕ)) (a w : Writing W) (text : List ℕ) (ok : Bool) → write_failed a ≡ false → write_failed w ≡ false → PutsShare contents a text ok w → PutFront contents a text false w
-ended_cut contents a w text ok fine going (out, rest, whole, puts, all) =
-    let written : Written contents a out true w = subst (λ (v : Bool). Written contents a out (not v) w) going (fine_puts contents a w out fine puts) in
-    (out, rest, whole, written.0, written.1)
+ended_cut : {W : Type 0} (contents : W → Option (List ℕ)) (a w : Writing W) (text : List ℕ) (end : End) → write_failed a ≡ false → write_failed w ≡ false → PutsShare contents a text end w
+    → PutFront contents a text w × (write_failed w ≡ false)
+ended_cut contents a w text end fine going (out, rest, whole, puts, all) =
+    let written = now_by contents a w out false going (puts.fine fine) in ((out, rest, whole, written.0), going)
 
 shows_by : {W : Type 0} (contents : W → Option (List ℕ)) (missing : ViewFault) (a w : Writing W) (text : List ℕ) (done : Result (Unit {0}) KeepError) (failed : Bool)
-    → write_failed a ≡ false → write_failed w ≡ failed → PutsShare contents a text (is_ok done) w → Shows contents missing a (Some text) (ending_of done failed) w
-shows_by contents missing a w text (Ok u) true fine now share = (text, refl, ended_failed contents a w text true fine now share)
-shows_by contents missing a w text (Err e) true fine now share = (text, refl, ended_failed contents a w text false fine now share)
+    → write_failed a ≡ false → write_failed w ≡ failed → PutsShare contents a text (call_end done) w → Shows contents missing a (Some text) (ending_of done failed) w
+shows_by contents missing a w text done true fine now share = (text, refl, ended_failed contents a w text (call_end done) fine now share)
 shows_by contents missing a w text (Ok u) false fine now share = (text, refl, ended_whole contents a w text fine now share)
-shows_by contents missing a w text (Err error.Memory) false fine now share = ended_cut contents a w text false fine now share
-shows_by contents missing a w text (Err (error.Store why)) false fine now share = ended_cut contents a w text false fine now share
+shows_by contents missing a w text (Err error.Memory) false fine now share = ended_cut contents a w text Front fine now share
+shows_by contents missing a w text (Err (error.Store why)) false fine now share = ended_cut contents a w text Front fine now share
 
 -- the text was put, and the answer says how that ended
 pub shows_ended : {W : Type 0} (contents : W → Option (List ℕ)) (missing : ViewFault) (a w : Writing W) (text : List ℕ) (done : Result (Unit {0}) KeepError) (answer : Result (Unit {0}) ViewFault)
-    → write_failed a ≡ false → answer ≡ ending_of done (write_failed w) → PutsShare contents a text (is_ok done) w → Shows contents missing a (Some text) answer w
+    → write_failed a ≡ false → answer ≡ ending_of done (write_failed w) → PutsShare contents a text (call_end done) w → Shows contents missing a (Some text) answer w
 shows_ended contents missing a w text done answer fine is share =
     subst (λ (r : Result (Unit {0}) ViewFault). Shows contents missing a (Some text) r w) (sym is) (shows_by contents missing a w text done (write_failed w) fine refl share)
 
@@ -134,7 +124,7 @@ some_same {a = a} e = ap (λ (o : Option _). unwrap_or o a) e
 -- the same of the pledge that the brief is of
 pub statement_shows : {W : Type 0} (contents : W → Option (List ℕ)) (missing : ViewFault) (a w : Writing W) (day : ℕ) (o : Option PledgeValue) (brief : BriefValue) (done : Result (Unit {0}) KeepError) (answer : Result (Unit {0}) ViewFault)
     → write_failed a ≡ false → answer ≡ ending_of done (write_failed w) → Some brief ≡ option_map brief_of o
-    → ((p : PledgeValue) → o ≡ Some p → brief ≡ brief_of p → PutsShare contents a (statement_text day p) (is_ok done) w)
+    → ((p : PledgeValue) → o ≡ Some p → brief ≡ brief_of p → PutsShare contents a (statement_text day p) (call_end done) w)
     → Shows contents missing a (option_map (statement_text day) o) answer w
 statement_shows contents missing a w day None brief done answer fine is at share = cc
 statement_shows contents missing a w day (Some p) brief done answer fine is at share =

@@ -1,6 +1,7 @@
 -- What clauses read of a `Writing`, and what it is to have written a text.
-use Rattle.std.specs.Prelude.{ℕ, Bool, true, false, not, List, [], ◌∷◌, ◌++◌, ◌==◌, ◌≡◌, Option, Result, Ok, Err}
+use Rattle.std.specs.Prelude.{ℕ, Bool, true, false, List, [], ◌∷◌, ◌++◌, ◌==◌, ◌≡◌, Option, Result, Ok, Err}
 use Rattle.std.specs.Io.KnownBytes.{Appends}
+use Rattle.pawn_book.specs.Visits.{End, Front, Whole}
 use Rattle.pawn_view.specs.declared.writing.Writing.{Writing}
 
 -- the writer inside
@@ -21,20 +22,21 @@ is_write_failure (Err e) bytes = true
 is_write_failure (Ok n) [] = false
 is_write_failure (Ok n) (b ∷ bytes) = n == 0
 
--- a front of the text went out, and this is what the writer is then
-abbrev pub PutFront : {W : Type 0} → (W → Option (List ℕ)) → Writing W → List ℕ → Bool → Writing W → Type 0
-PutFront contents old text failed new =
-    (out : List ℕ) × (rest : List ℕ) × (out ++ rest ≡ text) × Appends (written_of contents old) (written_of contents new) out × (write_failed new ≡ failed)
+-- a front of the text went out
+abbrev pub PutFront : {W : Type 0} → (W → Option (List ℕ)) → Writing W → List ℕ → Writing W → Type 0
+PutFront contents old text new = (out : List ℕ) × (rest : List ℕ) × (out ++ rest ≡ text) × Appends (written_of contents old) (written_of contents new) out
 
 -- the text went out, or a front of it where the writer failed
-abbrev pub Written : {W : Type 0} → (W → Option (List ℕ)) → Writing W → List ℕ → Bool → Writing W → Type 0
-Written contents old text true new = Appends (written_of contents old) (written_of contents new) text × (write_failed new ≡ false)
-Written contents old text false new = PutFront contents old text true new
+abbrev pub Written : {W : Type 0} → (W → Option (List ℕ)) → Writing W → List ℕ → End → Writing W → Type 0
+Written contents old text Whole new = Appends (written_of contents old) (written_of contents new) text × (write_failed new ≡ false)
+Written contents old text Front new = PutFront contents old text new × (write_failed new ≡ true)
 
--- the text went out, or a front of it where the writer failed; nothing was written by one that had failed before
-abbrev pub PutsFrom : {W : Type 0} → Bool → (W → Option (List ℕ)) → Writing W → List ℕ → Writing W → Type 0
-PutsFrom true contents old text new = new ≡ old
-PutsFrom false contents old text new = Written contents old text (not (write_failed new)) new
+-- a writer that fails puts a front
+abbrev pub end_by : Bool → End
+end_by true = Front
+end_by false = Whole
 
-abbrev pub Puts : {W : Type 0} → (W → Option (List ℕ)) → Writing W → List ℕ → Writing W → Type 0
-Puts contents old text new = PutsFrom (write_failed old) contents old text new
+-- the text went out, or a front of it where the writer failed; nothing is written by one that had failed before
+pub record Puts {W : Type 0} (contents : W → Option (List ℕ)) (old : Writing W) (text : List ℕ) (new : Writing W) : Type 0 where
+  pub failed : write_failed old ≡ true → new ≡ old
+  pub fine : write_failed old ≡ false → Written contents old text (end_by (write_failed new)) new

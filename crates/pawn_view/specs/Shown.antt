@@ -1,5 +1,5 @@
 -- What a call that writes a text answers.
-use Rattle.std.specs.Prelude.{ℕ, Bool, true, false, max, List, [], ◌++◌, Option, Some, None, Result, Ok, Err, ◌≡◌, map, option_map, unwrap_or, if◌then◌else◌}
+use Rattle.std.specs.Prelude.{ℕ, false, max, List, [], ◌++◌, Option, Some, None, Result, Ok, Err, ◌≡◌, map, option_map, unwrap_or, if◌then◌else◌}
 use Rattle.std.specs.FinMap.{get}
 use Rattle.pawn_pledge.specs.declared.receipt.Receipt.{Receipt}
 use Rattle.pawn_pledge.specs.declared.record.Closing.{Closing}
@@ -9,6 +9,8 @@ use Rattle.pawn_book.specs.declared.visit.Flow.{Flow}
 use Rattle.pawn_book.specs.declared.visit.Flow.TheVariants.{Go, Stop}
 use Rattle.pawn_book.specs.BookStep.{pledge_in, live_at, are_unknown}
 use Rattle.pawn_book.specs.HostStep.{Host}
+use Rattle.pawn_book.specs.Keeping.{Keeping}
+use Rattle.pawn_book.specs.Visits.{End, Front, Whole}
 use Rattle.pawn_view.specs.declared.writing.Writing.{Writing}
 use Rattle.pawn_view.specs.declared.fault.ViewFault.{ViewFault}
 use Rattle.pawn_view.specs.declared.fault.ViewFault.TheVariants as fault
@@ -26,9 +28,9 @@ open_or_last (Redeemed closed paid) last day = last
 open_or_last (Sold closed net) last day = last
 
 -- a front of the text was put, and all of it where the calls on the way succeeded and the writer has not failed
-abbrev pub PutsShare : {W : Type 0} → (W → Option (List ℕ)) → Writing W → List ℕ → Bool → Writing W → Type 0
-PutsShare contents old text ok new =
-    (out : List ℕ) × (rest : List ℕ) × (out ++ rest ≡ text) × Puts contents old out new × (write_failed new ≡ false → ok ≡ true → rest ≡ [])
+abbrev pub PutsShare : {W : Type 0} → (W → Option (List ℕ)) → Writing W → List ℕ → End → Writing W → Type 0
+PutsShare contents old text end new =
+    (out : List ℕ) × (rest : List ℕ) × (out ++ rest ≡ text) × Puts contents old out new × (write_failed new ≡ false → end ≡ Whole → rest ≡ [])
 
 -- the pledge of a number in a book of the host
 abbrev pub pledge_at : Host → ℕ → ℕ → Option PledgeValue
@@ -50,14 +52,13 @@ held_of h book receipts day =
 -- the text went out, or why not all of it. A refusal writes nothing, and comes just where there is nothing to show;
 -- where the writer failed, or the keeper wanted memory or failed, a front of the text went out
 abbrev pub Shows : {W U : Type 0} → (W → Option (List ℕ)) → ViewFault → Writing W → Option (List ℕ) → Result U ViewFault → Writing W → Type 0
-Shows contents missing old text (Ok u) new = (t : List ℕ) × (text ≡ Some t) × Written contents old t true new
-Shows contents missing old text (Err fault.Write) new = (t : List ℕ) × (text ≡ Some t) × Written contents old t false new
-Shows contents missing old text (Err fault.Memory) new = PutFront contents old (unwrap_or text []) false new
-Shows contents missing old text (Err fault.Store) new = PutFront contents old (unwrap_or text []) false new
+Shows contents missing old text (Ok u) new = (t : List ℕ) × (text ≡ Some t) × Written contents old t Whole new
+Shows contents missing old text (Err fault.Write) new = (t : List ℕ) × (text ≡ Some t) × Written contents old t Front new
+Shows contents missing old text (Err fault.Memory) new = PutFront contents old (unwrap_or text []) new × (write_failed new ≡ false)
+Shows contents missing old text (Err fault.Store) new = PutFront contents old (unwrap_or text []) new × (write_failed new ≡ false)
 Shows contents missing old text (Err fault.NoSuchPledge) new = (missing ≡ fault.NoSuchPledge) × (text ≡ None) × (new ≡ old)
 Shows contents missing old text (Err fault.NoSuchReceipt) new = (missing ≡ fault.NoSuchReceipt) × (text ≡ None) × (new ≡ old)
 
 -- over a steady keeper no text is refused by a fault of the store
-pub record IsQuietView {K U : Type 0} (steady : K → Type 0) (old new : K) (result : Result U ViewFault) : Type 0 where
-  pub stays : steady old → steady new
-  pub never : steady old → result ≡ Err fault.Store → ⊥
+abbrev pub IsQuietView : {K U : Type 0} → Keeping K → K → Result U ViewFault → Type 0
+IsQuietView k old result = k.steady old → result ≡ Err fault.Store → ⊥

@@ -28,22 +28,23 @@ money pence = decimal (pence / 100) ++ (codes "." ++ (digit (pence / 10) ∷ dig
 unfoldable pub date_text : ℕ → List ℕ
 date_text day = day_text day
 
-abbrev pub pledge_line : ℕ → List ℕ
-pledge_line number = codes "Pledge " ++ (decimal number ++ codes "\n")
+-- a line: what it is of, and a text, a number, a day or an amount
+abbrev pub text_line : List ℕ → List ℕ → List ℕ
+text_line label text = label ++ (text ++ codes "\n")
 
-abbrev pub article_line : List ℕ → List ℕ
-article_line article = codes "Article " ++ (article ++ codes "\n")
+abbrev pub number_line : List ℕ → ℕ → List ℕ
+number_line label number = text_line label (decimal number)
+
+abbrev pub day_line : List ℕ → ℕ → List ℕ
+day_line label day = text_line label (date_text day)
+
+abbrev pub amount_line : List ℕ → ℕ → List ℕ
+amount_line label pence = text_line label (money pence)
 
 -- the sum, or the limit
 abbrev pub kind_line : Kind → List ℕ
-kind_line (Fixed sum) = codes "Kind fixed " ++ (money sum ++ codes "\n")
-kind_line (Running limit) = codes "Kind running " ++ (money limit ++ codes "\n")
-
-abbrev pub taken_line : ℕ → List ℕ
-taken_line day = codes "Taken " ++ (date_text day ++ codes "\n")
-
-abbrev pub ends_line : ℕ → List ℕ
-ends_line day = codes "Ends " ++ (date_text day ++ codes "\n")
+kind_line (Fixed sum) = amount_line (codes "Kind fixed ") sum
+kind_line (Running limit) = amount_line (codes "Kind running ") limit
 
 abbrev pub extended_line : Extension → List ℕ
 extended_line e = codes "Extended " ++ (date_text e.day ++ (codes " to " ++ (date_text e.until ++ codes "\n")))
@@ -56,19 +57,11 @@ status_line status.Passed = codes "Status passed\n"
 status_line status.Redeemed = codes "Status redeemed\n"
 status_line status.Sold = codes "Status sold\n"
 
-abbrev pub principal_line : ℕ → List ℕ
-principal_line pence = codes "Principal " ++ (money pence ++ codes "\n")
-
-abbrev pub charges_line : ℕ → List ℕ
-charges_line pence = codes "Charges " ++ (money pence ++ codes "\n")
-
-abbrev pub owing_line : ℕ → List ℕ
-owing_line pence = codes "Owing " ++ (money pence ++ codes "\n")
-
 -- what is owed, absent where the property passed
 abbrev pub owed_lines : Status → Owing → List ℕ
 owed_lines status.Passed owing = []
-owed_lines _ owing = principal_line owing.principal ++ (charges_line owing.charges ++ owing_line owing.total)
+owed_lines _ owing =
+    amount_line (codes "Principal ") owing.principal ++ (amount_line (codes "Charges ") owing.charges ++ amount_line (codes "Owing ") owing.total)
 
 abbrev pub held_line : Bool → List ℕ
 held_line true = codes "Held yes\n"
@@ -115,7 +108,11 @@ shown_day (Sold closed net) last day = closed
 -- the lines above the extensions: number, article, kind, day taken, end of the period
 abbrev pub first_lines : ℕ → List ℕ → Kind → ℕ → ℕ → List ℕ
 first_lines number article kind taken ends =
-    pledge_line number ++ (article_line article ++ (kind_line kind ++ (taken_line taken ++ ends_line ends)))
+    number_line (codes "Pledge ") number
+    ++ (text_line (codes "Article ") article
+    ++ (kind_line kind
+    ++ (day_line (codes "Taken ") taken
+    ++ day_line (codes "Ends ") ends)))
 
 -- the lines between the extensions and the entries
 abbrev pub state_lines : Status → Owing → Bool → Option Booking → Closing → List ℕ

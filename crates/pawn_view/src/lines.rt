@@ -3,7 +3,7 @@
 //! Each puts its line, and takes no memory.
 ghost use Rattle.std.specs.Prelude.{◌≡◌, ◌++◌, codes};
 ghost use Rattle.pawn_view.specs.Ends.{Puts};
-ghost use Rattle.pawn_view.specs.Text.{pledge_line, article_line, kind_line, taken_line, ends_line, extended_line, status_line, principal_line, charges_line, owing_line, owed_lines, held_line, booking_line, redeemed_line, sold_line, closing_line, entry_line, sort_word, state_word, date_text, money};
+ghost use Rattle.pawn_view.specs.Text.{text_line, number_line, day_line, amount_line, kind_line, extended_line, status_line, owed_lines, held_line, booking_line, redeemed_line, sold_line, closing_line, entry_line, sort_word, state_word, date_text, money};
 
 use crate::money::pence_text;
 use crate::writing::{Writing, put, put_all};
@@ -19,26 +19,33 @@ fn date_text(day: Day) -> [u8; 10]
     day.text()
 }
 
-/// `Pledge 1`.
-pub(crate) fn put_pledge<W: Write>(writer: &mut Writing<W>, number: u32)
-    ensures puts { Puts W.contents writer.old (pledge_line number) writer.new }
+/// What a line is of, and a text.
+pub(crate) fn put_text<W: Write>(writer: &mut Writing<W>, label: &[u8], text: &str)
+    ensures puts { Puts W.contents writer.old (text_line label.now text.now) writer.new }
+{
+    put_all(writer, &[label, text.as_bytes(), b"\n"]);
+}
+
+/// What a line is of, and a number.
+pub(crate) fn put_number<W: Write>(writer: &mut Writing<W>, label: &[u8], number: u32)
+    ensures puts { Puts W.contents writer.old (number_line label.now number) writer.new }
 {
     put_all(
         writer,
-        &[b"Pledge ", Buffer::new().format(number).as_bytes(), b"\n"],
+        &[label, Buffer::new().format(number).as_bytes(), b"\n"],
     );
 }
 
-/// `Article Gold ring`.
-pub(crate) fn put_article<W: Write>(writer: &mut Writing<W>, article: &str)
-    ensures puts { Puts W.contents writer.old (article_line article.now) writer.new }
+/// What a line is of, and a day.
+pub(crate) fn put_day<W: Write>(writer: &mut Writing<W>, label: &[u8], day: Day)
+    ensures puts { Puts W.contents writer.old (day_line label.now day) writer.new }
 {
-    put_all(writer, &[b"Article ", article.as_bytes(), b"\n"]);
+    put_all(writer, &[label, &date_text(day), b"\n"]);
 }
 
-// A line with an amount at its end.
-fn put_amount<W: Write>(writer: &mut Writing<W>, label: &[u8], pence: u64)
-    ensures puts { Puts W.contents writer.old (label.now ++ (money pence ++ codes "\n")) writer.new }
+/// What a line is of, and an amount in pence.
+pub(crate) fn put_amount<W: Write>(writer: &mut Writing<W>, label: &[u8], pence: u64)
+    ensures puts { Puts W.contents writer.old (amount_line label.now pence) writer.new }
 {
     put_all(
         writer,
@@ -59,20 +66,6 @@ pub(crate) fn put_kind<W: Write>(writer: &mut Writing<W>, kind: Kind)
         Kind::Fixed(sum) => put_amount(writer, b"Kind fixed ", sum),
         Kind::Running(limit) => put_amount(writer, b"Kind running ", limit),
     }
-}
-
-/// `Taken 2024-01-31`.
-pub(crate) fn put_taken<W: Write>(writer: &mut Writing<W>, day: Day)
-    ensures puts { Puts W.contents writer.old (taken_line day) writer.new }
-{
-    put_all(writer, &[b"Taken ", &date_text(day), b"\n"]);
-}
-
-/// `Ends 2024-07-31`.
-pub(crate) fn put_ends<W: Write>(writer: &mut Writing<W>, day: Day)
-    ensures puts { Puts W.contents writer.old (ends_line day) writer.new }
-{
-    put_all(writer, &[b"Ends ", &date_text(day), b"\n"]);
 }
 
 /// `Extended 2024-07-31 to 2024-09-30`.
@@ -114,23 +107,11 @@ pub(crate) fn put_status<W: Write>(writer: &mut Writing<W>, status: Status)
 
 // `Principal 100.00`, `Charges 0.00` and `Owing 100.00`.
 fn put_owing<W: Write>(writer: &mut Writing<W>, owing: &Owing)
-    ensures puts { Puts W.contents writer.old (principal_line owing.now.principal ++ (charges_line owing.now.charges ++ owing_line owing.now.total)) writer.new }
+    ensures puts { Puts W.contents writer.old (amount_line (codes "Principal ") owing.now.principal ++ (amount_line (codes "Charges ") owing.now.charges ++ amount_line (codes "Owing ") owing.now.total)) writer.new }
 {
-    put_all(
-        writer,
-        &[
-            b"Principal ",
-            Buffer::new().format(owing.principal / 100).as_bytes(),
-            &pence_text(owing.principal),
-            b"\nCharges ",
-            Buffer::new().format(owing.charges / 100).as_bytes(),
-            &pence_text(owing.charges),
-            b"\nOwing ",
-            Buffer::new().format(owing.total / 100).as_bytes(),
-            &pence_text(owing.total),
-            b"\n",
-        ],
-    );
+    put_amount(writer, b"Principal ", owing.principal);
+    put_amount(writer, b"Charges ", owing.charges);
+    put_amount(writer, b"Owing ", owing.total);
 }
 
 /// The three lines of what is owed, or none where the property passed.
@@ -211,6 +192,7 @@ fn put_redeemed<W: Write>(writer: &mut Writing<W>, day: Day, paid: u64)
 }
 
 // `Sold 2024-08-01 net 90.00 surplus 0.00 shortfall 10.00`.
+#[tactic(auto, using(std::proofs::Common::append_assoc))]
 fn put_sold<W: Write>(writer: &mut Writing<W>, day: Day, net: u64, surplus: u64, shortfall: u64)
     ensures puts { Puts W.contents writer.old (sold_line day net surplus shortfall) writer.new }
 {

@@ -1,10 +1,11 @@
 //! The statements of the receipts that a bearer presents.
-ghost use Rattle.std.specs.Prelude.{◌≡◌, false, true, not, is_ok, option_map, IfOk, IsErrOf, [], ◌∷◌};
+ghost use Rattle.std.specs.Prelude.{◌≡◌, false, true, not, option_map, IfOk, IsErrOf, [], ◌∷◌};
 ghost use Rattle.std.specs.FinMap.{get};
 ghost use Rattle.pawn_pledge.specs.Brief.{brief_of};
 ghost use Rattle.pawn_book.specs.BookStep.{pledge_in, live_at, are_unknown};
 ghost use Rattle.pawn_book.specs.Sound.{IsSound};
 ghost use Rattle.pawn_book.specs.Keeping.{Reads, IsSteady};
+ghost use Rattle.pawn_book.specs.Visits.{call_end};
 ghost use Rattle.pawn_view.specs.Ends.{Puts, write_failed};
 ghost use Rattle.pawn_view.specs.Text.{shown_text, further_texts, held_text};
 ghost use Rattle.pawn_view.specs.Shown.{PutsShare, Shows, IsQuietView, live_pledges, held_of};
@@ -21,8 +22,8 @@ fn live_brief<K: Keep>(
     book: Number,
     receipt: &Receipt,
 ) -> Result<Option<Brief>, KeepError>
-    ensures reads { Reads K.stands K.honest K.serves keep.old keep.new (λ h. IfOk result (λ brief. brief ≡ option_map brief_of (live_at (pledge_in (get h.books book)) receipt.now))) }
-    ensures steady { IsSteady K.steady keep.old keep.new result }
+    ensures reads { Reads K.keeping keep.old keep.new (λ h. IfOk result (λ brief. brief ≡ option_map brief_of (live_at (pledge_in (get h.books book)) receipt.now))) }
+    ensures steady { IsSteady K.keeping keep.old result }
 {
     match keep.brief(book, receipt.number) {
         Ok(Some(brief)) if brief.live() == Some(receipt.secret) => Ok(Some(brief)),
@@ -33,8 +34,8 @@ fn live_brief<K: Keep>(
 
 // Whether one of the receipts is live.
 fn is_any_live<K: Keep>(keep: &mut K, book: Number, receipts: &[Receipt]) -> Result<bool, KeepError>
-    ensures reads { Reads K.stands K.honest K.serves keep.old keep.new (λ h. IfOk result (λ live. live ≡ not (are_unknown (live_pledges h book receipts.now)))) }
-    ensures steady { IsSteady K.steady keep.old keep.new result }
+    ensures reads { Reads K.keeping keep.old keep.new (λ h. IfOk result (λ live. live ≡ not (are_unknown (live_pledges h book receipts.now)))) }
+    ensures steady { IsSteady K.keeping keep.old result }
 {
     for receipt in receipts {
         match live_brief(keep, book, receipt) {
@@ -54,8 +55,8 @@ fn put_shown<K: Keep, W: Write>(
     day: Day,
     writer: &mut Writing<W>,
 ) -> Result<(), KeepError>
-    ensures shares { Reads K.stands K.honest K.serves keep.old keep.new (λ h. IsSound h → PutsShare W.contents writer.old (shown_text day (live_at (pledge_in (get h.books book)) receipt.now)) (is_ok result) writer.new) }
-    ensures steady { IsSteady K.steady keep.old keep.new result }
+    ensures shares { Reads K.keeping keep.old keep.new (λ h. IsSound h → PutsShare W.contents writer.old (shown_text day (live_at (pledge_in (get h.books book)) receipt.now)) (call_end result) writer.new) }
+    ensures steady { IsSteady K.keeping keep.old result }
 {
     match live_brief(keep, book, receipt) {
         Ok(Some(brief)) => put_statement(keep, book, receipt.number, &brief, day, writer),
@@ -75,8 +76,8 @@ fn put_further<K: Keep, W: Write>(
     day: Day,
     writer: &mut Writing<W>,
 ) -> Result<(), KeepError>
-    ensures shares { Reads K.stands K.honest K.serves keep.old keep.new (λ h. IsSound h → PutsShare W.contents writer.old (further_texts day (live_pledges h book receipts.now)) (is_ok result) writer.new) }
-    ensures steady { IsSteady K.steady keep.old keep.new result }
+    ensures shares { Reads K.keeping keep.old keep.new (λ h. IsSound h → PutsShare W.contents writer.old (further_texts day (live_pledges h book receipts.now)) (call_end result) writer.new) }
+    ensures steady { IsSteady K.keeping keep.old result }
 {
     for receipt in receipts {
         put(writer, b"\n");
@@ -96,8 +97,8 @@ fn put_held<K: Keep, W: Write>(
     day: Day,
     writer: &mut Writing<W>,
 ) -> Result<(), KeepError>
-    ensures shares { Reads K.stands K.honest K.serves keep.old keep.new (λ h. IsSound h → PutsShare W.contents writer.old (held_text day (live_pledges h book receipts.now)) (is_ok result) writer.new) }
-    ensures steady { IsSteady K.steady keep.old keep.new result }
+    ensures shares { Reads K.keeping keep.old keep.new (λ h. IsSound h → PutsShare W.contents writer.old (held_text day (live_pledges h book receipts.now)) (call_end result) writer.new) }
+    ensures steady { IsSteady K.keeping keep.old result }
 {
     let [first, rest @ ..] = receipts else {
         return Ok(());
@@ -122,9 +123,9 @@ pub fn held<K: Keep, W: Write>(
     writer: &mut Writing<W>,
 ) -> Result<(), ViewFault>
     requires fine { write_failed writer.old ≡ false }
-    ensures shows { Reads K.stands K.honest K.serves keep.old keep.new (λ h. IsSound h → Shows W.contents ViewFault.NoSuchReceipt writer.old (held_of h book receipts.now day) result writer.new) }
+    ensures shows { Reads K.keeping keep.old keep.new (λ h. IsSound h → Shows W.contents ViewFault.NoSuchReceipt writer.old (held_of h book receipts.now day) result writer.new) }
     ensures write { IsErrOf result ViewFault.Write → write_failed writer.new ≡ true }
-    ensures steady { IsQuietView K.steady keep.old keep.new result }
+    ensures steady { IsQuietView K.keeping keep.old result }
 {
     match is_any_live(keep, book, receipts) {
         Ok(true) => {}

@@ -1,9 +1,10 @@
 //! The statement of a pledge.
-ghost use Rattle.std.specs.Prelude.{◌≡◌, ◌≤◌, false, true, Some, is_ok, max, IsErrOf};
+ghost use Rattle.std.specs.Prelude.{◌≡◌, ◌≤◌, false, true, Some, max, IsErrOf};
 ghost use Rattle.pawn_pledge.specs.Pledge.{PledgeValue};
 ghost use Rattle.pawn_pledge.specs.Brief.{brief_of, brief_status, brief_owing};
 ghost use Rattle.pawn_book.specs.Sound.{IsSound};
 ghost use Rattle.pawn_book.specs.Keeping.{Reads, IsSteady};
+ghost use Rattle.pawn_book.specs.Visits.{call_end};
 ghost use Rattle.pawn_view.specs.Fault.{ending_of};
 ghost use Rattle.pawn_view.specs.Ends.{Puts, write_failed};
 ghost use Rattle.pawn_view.specs.Text.{first_lines, state_lines, statement_text, extended_line, entry_line};
@@ -11,17 +12,16 @@ ghost use Rattle.pawn_view.specs.Shown.{PutsLine, PutsShare, Shows, IsQuietView,
 
 use crate::fault::{ViewFault, view_fault};
 use crate::lines::{
-    put_article, put_booking, put_closing, put_ends, put_entry, put_extended, put_held, put_kind,
-    put_owed, put_pledge, put_status, put_taken,
+    put_booking, put_closing, put_day, put_entry, put_extended, put_held, put_kind, put_number,
+    put_owed, put_status, put_text,
 };
 use crate::writing::Writing;
 use pawn_book::{
-    Brief, Closing, Day, Entry, EntryVisitor, Extension, ExtensionVisitor, Flow, Keep, KeepError,
-    Number,
+    Brief, Closing, Day, Entry, Extension, Flow, Keep, KeepError, Number, Visitor,
 };
 use std::io::Write;
 
-impl<W: Write> EntryVisitor for Writing<W> {
+impl<W: Write> Visitor<Entry> for Writing<W> {
     ghost step = { λ v e flow w. PutsLine W.contents entry_line v e flow w };
 
     fn visit(&mut self, entry: &Entry) -> Flow {
@@ -30,7 +30,7 @@ impl<W: Write> EntryVisitor for Writing<W> {
     }
 }
 
-impl<W: Write> ExtensionVisitor for Writing<W> {
+impl<W: Write> Visitor<Extension> for Writing<W> {
     ghost step = { λ v e flow w. PutsLine W.contents extended_line v e flow w };
 
     fn visit(&mut self, extension: &Extension) -> Flow {
@@ -43,11 +43,11 @@ impl<W: Write> ExtensionVisitor for Writing<W> {
 fn put_first<W: Write>(writer: &mut Writing<W>, brief: &Brief)
     ensures puts { Puts W.contents writer.old (first_lines brief.now.number brief.now.article brief.now.kind brief.now.taken brief.now.ends) writer.new }
 {
-    put_pledge(writer, brief.number().get());
-    put_article(writer, brief.article().as_str());
+    put_number(writer, b"Pledge ", brief.number().get());
+    put_text(writer, b"Article ", brief.article().as_str());
     put_kind(writer, brief.kind());
-    put_taken(writer, brief.taken());
-    put_ends(writer, brief.ends());
+    put_day(writer, b"Taken ", brief.taken());
+    put_day(writer, b"Ends ", brief.ends());
 }
 
 // The lines between the extensions and the entries.
@@ -85,9 +85,9 @@ pub(crate) fn put_statement<K: Keep, W: Write>(
     day: Day,
     writer: &mut Writing<W>,
 ) -> Result<(), KeepError>
-    ensures shares { Reads K.stands K.honest K.serves keep.old keep.new (λ h. IsSound h → (p : PledgeValue) → pledge_at h book number ≡ Some p → brief.now ≡ brief_of p
-        → PutsShare W.contents writer.old (statement_text day p) (is_ok result) writer.new) }
-    ensures steady { IsSteady K.steady keep.old keep.new result }
+    ensures shares { Reads K.keeping keep.old keep.new (λ h. IsSound h → (p : PledgeValue) → pledge_at h book number ≡ Some p → brief.now ≡ brief_of p
+        → PutsShare W.contents writer.old (statement_text day p) (call_end result) writer.new) }
+    ensures steady { IsSteady K.keeping keep.old result }
 {
     put_first(writer, brief);
     match keep.extensions(book, number, writer) {
@@ -110,9 +110,9 @@ pub fn statement<K: Keep, W: Write>(
     writer: &mut Writing<W>,
 ) -> Result<(), ViewFault>
     requires fine { write_failed writer.old ≡ false }
-    ensures shows { Reads K.stands K.honest K.serves keep.old keep.new (λ h. IsSound h → Shows W.contents ViewFault.NoSuchPledge writer.old (statement_of h book number day) result writer.new) }
+    ensures shows { Reads K.keeping keep.old keep.new (λ h. IsSound h → Shows W.contents ViewFault.NoSuchPledge writer.old (statement_of h book number day) result writer.new) }
     ensures write { IsErrOf result ViewFault.Write → write_failed writer.new ≡ true }
-    ensures steady { IsQuietView K.steady keep.old keep.new result }
+    ensures steady { IsQuietView K.keeping keep.old result }
 {
     let brief = match keep.brief(book, number) {
         Ok(Some(brief)) => brief,

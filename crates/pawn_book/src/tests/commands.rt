@@ -3,9 +3,8 @@ use super::{KEY, OPERATOR, Step, ample, number, plays, receipt, rows_of_first, t
 use crate::tests::{make, put};
 use crate::{
     BearerCommand, BearerRequest, Booking, BookingState, BrokerCommand, BrokerRequest, Caller, Day,
-    Decision, Done, Entry, Flow, Keep, ListKeep, Number, Paper, Pledge, PledgeRefusal,
-    PledgeVisitor, Receipt, Refusal, Reply, Request, RequestDay, Secret, Sort, Stamp, act, commit,
-    plan,
+    Decision, Done, Entry, Flow, Keep, ListKeep, Number, Paper, Pledge, PledgeRefusal, Receipt,
+    Refusal, Reply, Request, RequestDay, Secret, Sort, Stamp, Visitor, act, commit, plan,
 };
 use pawn_debt::DebtFault;
 use std::alloc::Global;
@@ -425,7 +424,7 @@ struct Sum {
     left: u32,
 }
 
-impl PledgeVisitor for Sum {
+impl Visitor<Pledge> for Sum {
     ghost use Rattle.std.specs.Prelude.{⊤};
 
     ghost step = { λ v p flow w. ⊤ };

@@ -17,5 +17,4 @@ loop-receipt-preserved g c = record {
   reads = reads_then c.loop-receipt.invariant.reads c.live_brief.ensures.reads (λ h before said.
       unknown_more (live_at (pledge_in (get h.books c.args.book))) c.args.receipts.now c.loop-receipt.receipt-index c.receipt-item.result
       c.loop-receipt-test.true c.receipt-item.is before (rw (c.in-Ok-None.is, c.in-Ok-None.field-0-is) at said));
-  steady = λ steady. c.live_brief.ensures.steady.stays (c.loop-receipt.invariant.steady steady);
 }

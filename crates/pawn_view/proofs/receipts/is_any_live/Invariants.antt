@@ -6,6 +6,5 @@ use Rattle.pawn_view.proofs.receipts.is_any_live.Given as goal
 
 abbrev pub invariant-loop-receipt : goal.invariant-loop-receipt
 invariant-loop-receipt g l = record {
-  reads : Reads g.K.Keep.stands g.K.Keep.honest g.K.Keep.serves l.fn.keep l.keep (λ h. are_unknown (map (live_at (pledge_in (get h.books l.book))) (take l.receipt-index l.receipts)) ≡ true);
-  steady : g.K.Keep.steady l.fn.keep → g.K.Keep.steady l.keep;
+  reads : Reads g.K.Keep.keeping l.fn.keep l.keep (λ h. are_unknown (map (live_at (pledge_in (get h.books l.book))) (take l.receipt-index l.receipts)) ≡ true);
 }

@@ -15,5 +15,4 @@ loop-receipt-preserved g c = record {
   shares = reads_then c.loop-receipt.invariant.shares c.put_shown.ensures.shares (λ h first share sound.
       further_goes_on g.W.Write.contents c.args.writer.now c.loop-receipt.writer c.put.new.writer c.put_shown.new.writer c.args.day (live_at (pledge_in (get h.books c.args.book))) c.args.receipts.now c.loop-receipt.receipt-index c.receipt-item.result
       c.loop-receipt-test.true c.receipt-item.is (first sound) c.put.ensures.puts (rw c.in-Ok.is at (share sound)));
-  steady = λ steady. c.put_shown.ensures.steady.stays (c.loop-receipt.invariant.steady steady);
 }

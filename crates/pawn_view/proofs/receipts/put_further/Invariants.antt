@@ -1,14 +1,14 @@
-use Rattle.std.proofs.Common.{true, take, map}
+use Rattle.std.proofs.Common.{take, map}
 use Rattle.std.specs.FinMap.{get}
 use Rattle.pawn_book.specs.BookStep.{pledge_in, live_at}
 use Rattle.pawn_book.specs.Sound.{IsSound}
 use Rattle.pawn_book.specs.Keeping.{Reads}
+use Rattle.pawn_book.specs.Visits.{Whole}
 use Rattle.pawn_view.specs.Text.{further_texts}
 use Rattle.pawn_view.specs.Shown.{PutsShare}
 use Rattle.pawn_view.proofs.receipts.put_further.Given as goal
 
 abbrev pub invariant-loop-receipt : goal.invariant-loop-receipt
 invariant-loop-receipt g l = record {
-  shares : Reads g.K.Keep.stands g.K.Keep.honest g.K.Keep.serves l.fn.keep l.keep (λ h. IsSound h → PutsShare g.W.Write.contents l.fn.writer (further_texts l.day (map (live_at (pledge_in (get h.books l.book))) (take l.receipt-index l.receipts))) true l.writer);
-  steady : g.K.Keep.steady l.fn.keep → g.K.Keep.steady l.keep;
+  shares : Reads g.K.Keep.keeping l.fn.keep l.keep (λ h. IsSound h → PutsShare g.W.Write.contents l.fn.writer (further_texts l.day (map (live_at (pledge_in (get h.books l.book))) (take l.receipt-index l.receipts))) Whole l.writer);
 }

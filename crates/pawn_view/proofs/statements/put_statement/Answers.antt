@@ -1,4 +1,4 @@
-use Rattle.std.specs.Prelude.{is_ok}
+use Rattle.pawn_book.specs.Visits.{call_end}
 use Rattle.pawn_view.specs.Shown.{pledge_at}
 use Rattle.pawn_book.proofs.Reading.{reads_as, reads_then}
 use Rattle.pawn_view.proofs.SoundLemmas.{told_of_sound}
@@ -17,5 +17,5 @@ returns-clause-shares g c =
     let (given, flow, handed, reads) = c.extensions.ensures.reads in
     let (given', flow', handed', reads') = c.entries.ensures.reads in
     reads_then reads reads' (λ h share share' sound p at is.
-    statement_whole g.W.Write.contents c.args.writer.now c.put_first.new.writer c.extensions.new.visitor c.put_state.new.writer c.entries.new.visitor c.args.day c.shown_day.result (pledge_at h c.args.book c.args.number) p c.args.brief.now (is_ok c.entries.result) given flow given' flow'
+    statement_whole g.W.Write.contents c.args.writer.now c.put_first.new.writer c.extensions.new.visitor c.put_state.new.writer c.entries.new.visitor c.args.day c.shown_day.result (pledge_at h c.args.book c.args.number) p c.args.brief.now (call_end c.entries.result) given flow given' flow'
     at is (told_of_sound h sound c.args.book c.args.number p at) c.shown_day.ensures.answer c.put_first.ensures.puts handed (rw c.in-Ok.is at share) c.put_state.ensures.puts handed' share')

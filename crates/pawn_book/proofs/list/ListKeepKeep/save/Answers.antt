@@ -1,6 +1,6 @@
 use Rattle.std.proofs.Common.{refl, subst}
 use Rattle.pawn_book.specs.Sound.{IsSound}
-use Rattle.pawn_book.specs.Keeping.{CanSave}
+use Rattle.pawn_book.specs.Changes.{CanSave}
 use Rattle.pawn_book.specs.Listed.{host_of}
 use Rattle.pawn_book.proofs.list.ListKeepKeep.save.Goals as goal
 

@@ -1,7 +1,7 @@
 use Rattle.std.proofs.Common.{◌∙◌, ap, Ok, sym}
 use Rattle.pawn_book.proofs.Plans.{next_plans}
 use Rattle.pawn_book.proofs.Reading.{ok_is, reads_as}
-use Rattle.pawn_book.proofs.planning.plan_terms.Goals as goal
+use Rattle.pawn_book.proofs.set_up.plan_terms.Goals as goal
 
 pub returns-in-Ok-clause-reads : goal.returns-in-Ok-clause-reads
 returns-in-Ok-clause-reads g c = reads_as c.terms.ensures.reads (λ h told sound at is heads.

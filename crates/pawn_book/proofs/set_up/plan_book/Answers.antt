@@ -3,10 +3,10 @@ use Rattle.std.specs.FinMap.{get}
 use Rattle.pawn_book.specs.declared.change.Change.TheVariants.{MakeBook}
 use Rattle.pawn_book.specs.declared.reply.Reply.TheVariants.{BookMade}
 use Rattle.pawn_book.specs.BookStep.{created}
-use Rattle.pawn_book.specs.Keeping.{Plans}
+use Rattle.pawn_book.specs.Plans.{Plans}
 use Rattle.pawn_book.proofs.Plans.{book_plans, no_head}
 use Rattle.pawn_book.proofs.Reading.{ok_is, reads_as}
-use Rattle.pawn_book.proofs.planning.plan_book.Goals as goal
+use Rattle.pawn_book.proofs.set_up.plan_book.Goals as goal
 
 pub returns-in-Ok-clause-reads : goal.returns-in-Ok-clause-reads
 returns-in-Ok-clause-reads g c = reads_as c.head.ensures.reads (λ h told sound.

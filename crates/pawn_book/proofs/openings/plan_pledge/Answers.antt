@@ -2,10 +2,10 @@ use Rattle.std.proofs.Common.{◌∙◌, ap, Ok, Some, subst, sym}
 use Rattle.pawn_book.specs.declared.change.Change.TheVariants.{PutPledge}
 use Rattle.pawn_book.specs.declared.reply.Reply.TheVariants.{Opened}
 use Rattle.pawn_book.specs.BookStep.{newest, take_pledge, taken_under, with_reference}
-use Rattle.pawn_book.specs.Keeping.{IsTaken, Plans}
+use Rattle.pawn_book.specs.Plans.{IsTaken, Plans}
 use Rattle.pawn_book.proofs.Plans.{taken_plans}
 use Rattle.pawn_book.proofs.Reading.{ok_is, reads_then}
-use Rattle.pawn_book.proofs.planning.plan_pledge.Goals as goal
+use Rattle.pawn_book.proofs.openings.plan_pledge.Goals as goal
 
 pub returns-in-Ok-clause-reads : goal.returns-in-Ok-clause-reads
 returns-in-Ok-clause-reads g c = reads_then c.find_reference.ensures.reads c.take.ensures.reads (λ h found taken sound at is heads.

@@ -1,0 +1,46 @@
+-- What a change makes of a host, and which may be saved.
+use Rattle.std.specs.Prelude.{◌≡◌, ◌⊎◌, ℕ, ◌+◌, None, Some, length}
+use Rattle.std.specs.FinMap.{get}
+use Rattle.pawn_pledge.specs.Pledge.{PledgeValue}
+use Rattle.pawn_pledge.specs.Growth.{Grows}
+use Rattle.pawn_book.specs.declared.change.Change.{Change}
+use Rattle.pawn_book.specs.declared.change.Change.TheVariants.{MakeBook, AddTerms, PutPledge}
+use Rattle.pawn_book.specs.BookStep.{BookValue, changed_book, pledge_from}
+use Rattle.pawn_book.specs.HostStep.{Host, with_book}
+use Rattle.pawn_book.specs.Sound.{AreSound}
+
+-- the book of a change
+abbrev pub book_of : Change → ℕ
+book_of (MakeBook book new) = book
+book_of (AddTerms book version terms) = book
+book_of (PutPledge book number pledge) = book
+
+-- the host with a change
+abbrev pub changed : Host → Change → Host
+changed h change = with_book h (book_of change) (changed_book (get h.books (book_of change)) change)
+
+-- what was agreed on a pledge that stands stays, and its lists grow at their ends alone
+pub record Continues (old new : PledgeValue) : Type 0 where
+  pub number : new.number ≡ old.number
+  pub reference : new.reference ≡ old.reference
+  pub article : new.article ≡ old.article
+  pub kind : new.kind ≡ old.kind
+  pub taken : new.taken ≡ old.taken
+  pub agreed : new.agreed ≡ old.agreed
+  pub five_days : new.five_days ≡ old.five_days
+  pub version : new.version ≡ old.version
+  pub terms : new.terms ≡ old.terms
+  pub lists : Grows old new
+
+-- a new book; the next version of terms; the next pledge, or one that stands and continues
+abbrev pub Follows : Host → Change → Type 0
+Follows h (MakeBook book new) = get h.books book ≡ None
+Follows h (AddTerms book version terms) = (at : BookValue) × (get h.books book ≡ Some at) × (version ≡ length at.terms + 1)
+Follows h (PutPledge book number pledge) =
+    (at : BookValue) × (get h.books book ≡ Some at)
+    × ((number ≡ length at.pledges + 1) ⊎ ((old : PledgeValue) × (pledge_from 1 at.pledges number ≡ Some old) × Continues old pledge))
+
+-- a change that may be saved: it follows, and the changed host is sound, but for the limit on its rows
+pub record CanSave (h : Host) (change : Change) : Type 0 where
+  pub follows : Follows h change
+  pub sound : AreSound (changed h change)

@@ -1,0 +1,91 @@
+-- What is planned and made of a request.
+use Rattle.std.specs.Prelude.{◌≡◌, ◌⊎◌, ℕ, ◌≤◌, ◌<◌, Option, Some, None, Result, Ok, Err, IfSome}
+use Rattle.pawn_pledge.specs.declared.command.Stamp.{Stamp}
+use Rattle.pawn_pledge.specs.declared.record.Booking.{Booking}
+use Rattle.pawn_pledge.specs.Pledge.{PledgeValue}
+use Rattle.pawn_book.specs.declared.request.Caller.{Caller}
+use Rattle.pawn_book.specs.declared.request.Caller.TheVariants.{Operator, Broker, Bearer}
+use Rattle.pawn_book.specs.declared.request.BrokerRequest.{BrokerRequest}
+use Rattle.pawn_book.specs.declared.request.BrokerRequest.TheVariants as broker
+use Rattle.pawn_book.specs.declared.request.BearerRequest.{BearerRequest}
+use Rattle.pawn_book.specs.declared.request.BearerRequest.TheVariants as bearer
+use Rattle.pawn_book.specs.declared.request.Request.{Request}
+use Rattle.pawn_book.specs.declared.reply.Reply.{Reply}
+use Rattle.pawn_book.specs.declared.refusal.Refusal.{Refusal}
+use Rattle.pawn_book.specs.declared.refusal.Refusal.TheVariants as No
+use Rattle.pawn_book.specs.declared.change.Head.{Head}
+use Rattle.pawn_book.specs.declared.change.Change.{Change}
+use Rattle.pawn_book.specs.declared.change.Planned.{Planned}
+use Rattle.pawn_book.specs.BookStep.{BookValue, Told, Outcome, Refuses, Says, Makes, out_of, confirmed_booking, gated, head_of}
+use Rattle.pawn_book.specs.HostStep.{Host, rows, host_step, host_after}
+use Rattle.pawn_book.specs.Sound.{IsSound}
+use Rattle.pawn_book.specs.Changes.{CanSave, book_of, changed}
+
+-- want of memory, or a fault of the store
+abbrev pub IsUnwell : Refusal → Type 0
+IsUnwell why = (why ≡ No.Memory) ⊎ (why ≡ No.Store)
+
+-- what a plan says of a request's step
+abbrev pub outcome_of : Option Change → Reply → Outcome
+outcome_of None reply = Says (Told reply)
+outcome_of (Some change) reply = Makes change reply
+
+-- the plan is the outcome: its reply, and its change, which may be saved
+abbrev pub Plans : Host → ℕ → Outcome → Result Planned Refusal → Type 0
+Plans h b outcome (Ok planned) =
+    (outcome ≡ outcome_of planned.change planned.reply) × IfSome planned.change (λ change. (book_of change ≡ b) × CanSave h change)
+Plans h b outcome (Err why) = IsUnwell why ⊎ (outcome ≡ Refuses why)
+
+-- the answer is the outcome, or a keeper did not answer
+abbrev pub IsOutcome : Outcome → Result Planned Refusal → Type 0
+IsOutcome outcome (Ok planned) = outcome ≡ outcome_of planned.change planned.reply
+IsOutcome outcome (Err why) = IsUnwell why ⊎ (outcome ≡ Refuses why)
+
+-- the booking that a plan's change confirms
+abbrev pub newly_confirmed : Option Change → Reply → Option Booking
+newly_confirmed None reply = None
+newly_confirmed (Some change) reply = confirmed_booking reply
+
+-- a pledge is taken by the rules, or refused by them, or a keeper did not answer
+abbrev pub IsTaken : Result PledgeValue Refusal → Result PledgeValue Refusal → Type 0
+IsTaken answer (Ok p) = answer ≡ Ok p
+IsTaken answer (Err why) = IsUnwell why ⊎ (answer ≡ Err why)
+
+-- the gate lets the holder of the book's key in, and no one else
+abbrev pub Gates : Option BookValue → ℕ → Result Head Refusal → Type 0
+Gates book key (Ok head) = (at : BookValue) × (book ≡ Some at) × (head ≡ head_of at) × (at.key ≡ key)
+Gates book key (Err why) = IsUnwell why ⊎ ((why ≡ No.NoSuchBook) × ((step : BookValue → Outcome) → gated book key step ≡ Refuses No.NoSuchBook))
+
+-- what came of a plan's change: there was room for it, or nothing changed
+abbrev pub Commits : Host → Option Change → Result (Unit {0}) Refusal → (Host → Type 0) → Type 0
+Commits h None (Ok done) stands = stands h
+Commits h None (Err why) stands = ⊥
+Commits h (Some change) (Ok done) stands = stands (changed h change) × (rows (changed h change) ≤ h.limit)
+Commits h (Some change) (Err why) stands =
+    stands h × (IsUnwell why ⊎ ((why ≡ No.Full) × (h.limit < rows (changed h change))))
+
+-- the host after a request
+abbrev pub stepped : Host → ℕ → Stamp → Request → Host
+stepped h operator stamp request = host_after h request.book (host_step h operator stamp request)
+
+-- the answer is the host's step, and the keeper goes on to the host after it, which is sound
+abbrev pub Acts : Host → ℕ → Stamp → Request → Result Reply Refusal → (Host → Type 0) → Type 0
+Acts h operator stamp request (Ok reply) stands =
+    (out_of (host_step h operator stamp request) ≡ Told reply) × stands (stepped h operator stamp request) × IsSound (stepped h operator stamp request)
+Acts h operator stamp request (Err why) stands = stands h × (IsUnwell why ⊎ (host_step h operator stamp request ≡ Refuses why))
+
+-- a request that may change its book
+abbrev pub IsBrokerWrite : BrokerRequest → Type 0
+IsBrokerWrite (broker.PutTerms new) = Unit {0}
+IsBrokerWrite (broker.TakePledge opening) = Unit {0}
+IsBrokerWrite (broker.OnPledge number command) = Unit {0}
+IsBrokerWrite (broker.Show number) = ⊥
+
+abbrev pub IsBearerWrite : BearerRequest → Type 0
+IsBearerWrite (bearer.Held receipts) = ⊥
+IsBearerWrite (bearer.OnPledge receipt command) = Unit {0}
+
+abbrev pub IsWritten : Caller → Type 0
+IsWritten (Operator key new) = Unit {0}
+IsWritten (Broker key asked) = IsBrokerWrite asked
+IsWritten (Bearer asked) = IsBearerWrite asked

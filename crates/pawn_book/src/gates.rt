@@ -1,0 +1,71 @@
+//! Who is let in, and to what.
+ghost use Rattle.std.specs.Prelude.{◌≡◌, IfOk};
+ghost use Rattle.std.specs.FinMap.{get};
+ghost use Rattle.pawn_book.specs.BookStep.{live_at, pledge_in};
+ghost use Rattle.pawn_book.specs.Sound.{IsWord};
+ghost use Rattle.pawn_book.specs.Keeping.{IsQuiet, IsSteady, Reads};
+ghost use Rattle.pawn_book.specs.Plans.{Gates, IsUnwell};
+
+use crate::change::Head;
+use crate::fault::KeepError;
+use crate::keep::Keep;
+use crate::refusal::Refusal;
+use pawn_pledge::{Number, Pledge, Receipt, Secret, Stamp};
+
+/// The head of a book, for the holder of its key. Refused as `NoSuchBook` where the book does not
+/// stand or the key is another's.
+pub fn gate<K: Keep>(keep: &mut K, book: Number, key: Secret) -> Result<Head, Refusal>
+    ensures reads { Reads K.keeping keep.old keep.new (λ h. Gates (get h.books book) key result) }
+    ensures steady { IsQuiet K.keeping keep.old result }
+{
+    match keep.head(book) {
+        Err(error) => Err(unwell(error)),
+        Ok(None) => Err(Refusal::NoSuchBook),
+        Ok(Some(head)) => {
+            if head.key == key {
+                Ok(head)
+            } else {
+                Err(Refusal::NoSuchBook)
+            }
+        }
+    }
+}
+
+/// The pledge of a receipt, if the receipt is live in the book.
+pub fn find_live<K: Keep>(
+    keep: &mut K,
+    book: Number,
+    receipt: &Receipt,
+) -> Result<Option<Pledge>, KeepError>
+    ensures reads { Reads K.keeping keep.old keep.new (λ h. IfOk result (λ pledge. pledge ≡ live_at (pledge_in (get h.books book)) receipt.now)) }
+    ensures steady { IsSteady K.keeping keep.old result }
+{
+    match keep.pledge(book, receipt.number)? {
+        None => Ok(None),
+        Some(pledge) => {
+            if pledge.is_live(&receipt.secret) {
+                Ok(Some(pledge))
+            } else {
+                Ok(None)
+            }
+        }
+    }
+}
+
+// The refusal for a keeper that did not answer.
+pub(crate) fn unwell(error: KeepError) -> Refusal
+    ensures unwell { IsUnwell result }
+    ensures memory { error ≡ KeepError.Memory → result ≡ Refusal.Memory }
+{
+    match error {
+        KeepError::Memory => Refusal::Memory,
+        KeepError::Store(_) => Refusal::Store,
+    }
+}
+
+// The word of a stamp is one of 128 bits.
+pub(crate) fn know_word(stamp: &Stamp)
+    ensures word { IsWord stamp.now.word }
+{
+    let _word = stamp.word;
+}

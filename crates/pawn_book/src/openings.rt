@@ -1,0 +1,168 @@
+//! Plans of new pledges.
+ghost use Rattle.std.specs.Prelude.{◌≡◌, Err, IfOk, Some};
+ghost use Rattle.std.specs.FinMap.{get};
+ghost use Rattle.std.specs.Str.{IsUtf8};
+ghost use Rattle.pawn_pledge.specs.Replayable.{IsStanding};
+ghost use Rattle.pawn_book.specs.BookStep.{BookValue, first_receipt, head_of, is_opening, newest, take_pledge, taken_under, with_reference};
+ghost use Rattle.pawn_book.specs.Sound.{IsSound, IsWord};
+ghost use Rattle.pawn_book.specs.Keeping.{IsQuiet, IsSteady, Reads, pledges_of};
+ghost use Rattle.pawn_book.specs.Plans.{IsTaken, Plans};
+
+use crate::change::{Change, Head, Planned};
+use crate::fault::KeepError;
+use crate::gates::{know_word, unwell};
+use crate::keep::Keep;
+use crate::limits::MOST_PLEDGES;
+use crate::refusal::Refusal;
+use crate::reply::Reply;
+use pawn_pledge::{
+    Number, Opening, Pledge, Receipt, Reference, Refusal as PledgeRefusal, Secret, Stamp, Terms,
+};
+use std::alloc::Global;
+
+// A pledge that is to be taken, or stands under the reference.
+pub(crate) fn plan_pledge<K: Keep>(
+    alloc: Global,
+    keep: &mut K,
+    book: Number,
+    head: &Head,
+    opening: &Opening,
+    stamp: &Stamp,
+) -> Result<Planned, Refusal>
+    ensures reads { Reads K.keeping keep.old keep.new (λ h. IsSound h → (at : BookValue) → get h.books book ≡ Some at → head.now ≡ head_of at →
+        Plans h book (take_pledge at book opening.now stamp.now (with_reference at.pledges opening.now.reference)) result) }
+    ensures steady { IsQuiet K.keeping keep.old result }
+{
+    know_given(opening, stamp);
+    match find_reference(keep, book, &opening.reference) {
+        Err(error) => Err(unwell(error)),
+        Ok(Some(pledge)) => {
+            if !is_opening(&pledge, opening) {
+                return Err(Refusal::RefTaken);
+            }
+            Ok(Planned {
+                change: None,
+                reply: Reply::Opened(first_receipt(&pledge)),
+            })
+        }
+        Ok(None) => match take(alloc, keep, book, head, opening, stamp) {
+            Err(refusal) => Err(refusal),
+            Ok(pledge) => {
+                let reply = Reply::Opened(first_receipt(&pledge));
+                let number = pledge.number();
+                Ok(Planned {
+                    change: Some(Change::PutPledge {
+                        book,
+                        number,
+                        pledge,
+                    }),
+                    reply,
+                })
+            }
+        },
+    }
+}
+
+// What a request gives for a new pledge: texts that are UTF-8, and a word of 128 bits.
+fn know_given(opening: &Opening, stamp: &Stamp)
+    ensures reference { IsUtf8 opening.now.reference }
+    ensures article { IsUtf8 opening.now.article }
+    ensures word { IsWord stamp.now.word }
+{
+    // Whoever reads these knows what they are.
+    let _ = opening.reference.as_str();
+    let _ = opening.article.as_str();
+    know_word(stamp);
+}
+
+// The pledge with a reference.
+fn find_reference<K: Keep>(
+    keep: &mut K,
+    book: Number,
+    reference: &Reference,
+) -> Result<Option<Pledge>, KeepError>
+    ensures reads { Reads K.keeping keep.old keep.new (λ h. IsSound h → IfOk result (λ pledge. pledge ≡ with_reference (pledges_of (get h.books book)) reference.now)) }
+    ensures steady { IsSteady K.keeping keep.old result }
+{
+    match keep.find_ref(book, reference) {
+        Err(error) => Err(error),
+        Ok(None) => Ok(None),
+        Ok(Some(number)) => keep.pledge(book, number),
+    }
+}
+
+// A new pledge, one past the book's last, under its newest terms.
+fn take<K: Keep>(
+    alloc: Global,
+    keep: &mut K,
+    book: Number,
+    head: &Head,
+    opening: &Opening,
+    stamp: &Stamp,
+) -> Result<Pledge, Refusal>
+    ensures reads { Reads K.keeping keep.old keep.new (λ h. (at : BookValue) → get h.books book ≡ Some at → head.now ≡ head_of at →
+        IsTaken (taken_under head.now opening.now stamp.now (newest at.terms)) result) }
+    ensures standing { IfOk result IsStanding }
+    ensures steady { IsQuiet K.keeping keep.old result }
+{
+    match keep.terms(book, head.terms) {
+        Err(error) => Err(unwell(error)),
+        Ok(None) => Err(Refusal::NoTerms),
+        Ok(Some(terms)) => start(alloc, head, opening, terms, stamp),
+    }
+}
+
+// A new pledge under these terms, one past the last of a book with that head.
+fn start(
+    alloc: Global,
+    head: &Head,
+    opening: &Opening,
+    terms: Terms,
+    stamp: &Stamp,
+) -> Result<Pledge, Refusal>
+    ensures taken { IsTaken (taken_under head.now opening.now stamp.now (Some terms)) result }
+    ensures standing { IfOk result IsStanding }
+    ensures store { result ≡ Err Refusal.Store → ⊥ }
+{
+    let Some(number) = Number::new(head.pledges.min(MOST_PLEDGES) + 1) else {
+        unreachable!();
+    };
+    let Ok(opening) = opening.copy() else {
+        return Err(Refusal::Memory);
+    };
+    match Pledge::start(alloc, number, opening, head.terms, terms, stamp) {
+        Err(PledgeRefusal::Memory) => Err(Refusal::Memory),
+        Err(refusal) => Err(Refusal::Pledge(refusal)),
+        Ok(pledge) => {
+            if head.pledges >= MOST_PLEDGES {
+                Err(Refusal::PledgesFull)
+            } else {
+                Ok(pledge)
+            }
+        }
+    }
+}
+
+// Whether a pledge was opened so, its reference aside.
+fn is_opening(pledge: &Pledge, opening: &Opening) -> bool
+    ensures value { result ≡ is_opening pledge.now opening.now }
+{
+    pledge.article().as_str() == opening.article.as_str()
+        && pledge.kind() == opening.kind
+        && pledge.agreed() == opening.agreed
+        && pledge.five_days() == opening.five_days
+}
+
+// The receipt that came with the opening.
+fn first_receipt(pledge: &Pledge) -> Receipt
+    ensures value { result ≡ first_receipt pledge.now }
+{
+    let secret = match pledge.secrets() {
+        [first, ..] => first.secret,
+        [] => Secret::of_word(0),
+    };
+    Receipt {
+        number: pledge.number(),
+        secret,
+    }
+}

@@ -1,0 +1,121 @@
+//! Plans of books and of their terms.
+ghost use Rattle.std.specs.Prelude.{◌≡◌, IfOk};
+ghost use Rattle.std.specs.FinMap.{get};
+ghost use Rattle.pawn_terms.specs.Terms.{IsChecked};
+ghost use Rattle.pawn_book.specs.BookStep.{BookValue, are_terms, created, head_of, is_book, next_terms, put_terms, terms_at};
+ghost use Rattle.pawn_book.specs.Sound.{IsSound};
+ghost use Rattle.pawn_book.specs.Keeping.{IsQuiet, Reads};
+ghost use Rattle.pawn_book.specs.Plans.{Plans};
+
+use crate::change::{Change, Head, Planned};
+use crate::gates::unwell;
+use crate::keep::Keep;
+use crate::limits::MOST_TERMS;
+use crate::refusal::Refusal;
+use crate::reply::Reply;
+use crate::request::{NewBook, NewTerms};
+use pawn_pledge::{Number, Terms};
+
+// A book that is to be made, or stands with the same key, name and capacity.
+pub(crate) fn plan_book<K: Keep>(keep: &mut K, book: Number, new_book: &NewBook) -> Result<Planned, Refusal>
+    ensures reads { Reads K.keeping keep.old keep.new (λ h. IsSound h → Plans h book (created (get h.books book) book new_book.now) result) }
+    ensures steady { IsQuiet K.keeping keep.old result }
+{
+    // Whoever reads the number knows that it is one that a book may have.
+    let _ = book.get();
+    let reply = Reply::BookMade(book);
+    match keep.head(book) {
+        Err(error) => Err(unwell(error)),
+        Ok(Some(head)) => {
+            if !is_book(&head, new_book) {
+                return Err(Refusal::BookTaken);
+            }
+            Ok(Planned {
+                change: None,
+                reply,
+            })
+        }
+        Ok(None) => {
+            let Ok(new_book) = new_book.copy() else {
+                return Err(Refusal::Memory);
+            };
+            Ok(Planned {
+                change: Some(Change::MakeBook { book, new_book }),
+                reply,
+            })
+        }
+    }
+}
+
+// Whether a book has this key, name and capacity.
+fn is_book(head: &Head, new_book: &NewBook) -> bool
+    ensures value { result ≡ is_book head.now new_book.now }
+{
+    head.key == new_book.key
+        && head.name.as_str() == new_book.name.as_str()
+        && head.capacity == new_book.capacity
+}
+
+// Terms that are to be put under a version, or stand under it.
+pub(crate) fn plan_terms<K: Keep>(
+    keep: &mut K,
+    book: Number,
+    head: &Head,
+    new_terms: &NewTerms,
+) -> Result<Planned, Refusal>
+    ensures reads { Reads K.keeping keep.old keep.new (λ h. IsSound h → (at : BookValue) → get h.books book ≡ Some at → head.now ≡ head_of at →
+        Plans h book (put_terms at book new_terms.now (terms_at at.terms new_terms.now.version)) result) }
+    ensures steady { IsQuiet K.keeping keep.old result }
+{
+    let version = new_terms.version;
+    let reply = Reply::TermsPut(version);
+    match keep.terms(book, version) {
+        Err(error) => Err(unwell(error)),
+        Ok(Some(terms)) => {
+            if !are_terms(&terms, new_terms) {
+                return Err(Refusal::TermsSeq);
+            }
+            Ok(Planned {
+                change: None,
+                reply,
+            })
+        }
+        Ok(None) => match next_terms(head.terms, new_terms) {
+            Err(refusal) => Err(refusal),
+            Ok(terms) => Ok(Planned {
+                change: Some(Change::AddTerms {
+                    book,
+                    version,
+                    terms,
+                }),
+                reply,
+            }),
+        },
+    }
+}
+
+// Whether terms are these three numbers.
+fn are_terms(terms: &Terms, new_terms: &NewTerms) -> bool
+    ensures value { result ≡ are_terms terms.now new_terms.now }
+{
+    terms.rate() == new_terms.rate
+        && terms.keep_before() == new_terms.keep_before
+        && terms.keep_after() == new_terms.keep_after
+}
+
+// The terms of the next version, where so many stand.
+fn next_terms(standing: u64, new_terms: &NewTerms) -> Result<Terms, Refusal>
+    ensures value { result ≡ next_terms standing new_terms.now }
+    ensures checked { IfOk result IsChecked }
+{
+    if new_terms.version == 0 || new_terms.version - 1 > standing {
+        return Err(Refusal::TermsSeq);
+    }
+    if standing >= MOST_TERMS {
+        return Err(Refusal::TermsFull);
+    }
+    match Terms::check(new_terms.rate, new_terms.keep_before, new_terms.keep_after) {
+        Ok(terms) => Ok(terms),
+        Err(fault) => Err(Refusal::Terms(fault)),
+    }
+}
