@@ -10,13 +10,14 @@ use Rattle.pawn_host.specs.Laws.{refusal_of, refusals, MayGoOn}
 use Rattle.std.specs.Prelude.{nat_le}
 use Rattle.std.proofs.lemmas.Bool.Decides.{nat_tests}
 use Rattle.httparse.specs.Grammar.{HasNoRequest}
-use Rattle.pawn_wire.specs.Head.{max_head}
+use Rattle.pawn_wire.specs.Limits.{max_head}
 use Rattle.std.specs.List.{concat}
 use Rattle.std.proofs.lemmas.List.{take-append-le, take_all, append_cancel_left}
 use Rattle.std.proofs.lemmas.List.Elements.{All-head, All-tail}
 use Rattle.httparse.specs.Grammar.{RequestHead, ReadsRequest, print_request}
 use Rattle.httparse.proofs.GrammarLemmas.{request_unique}
-use Rattle.pawn_wire.specs.Head.{ReadsHead, IsBadHead, fields_of, body_length, max_fields, closes_by}
+use Rattle.pawn_wire.specs.Head.{ReadsHead, IsBadHead, fields_of, body_length, closes_by}
+use Rattle.pawn_wire.specs.Limits.{max_fields}
 use Rattle.pawn_wire.specs.declared.fault.WireFault.{WireFault}
 use Rattle.pawn_wire.specs.declared.fault.HeadFault.{HeadFault}
 use Rattle.pawn_wire.specs.declared.fault.HeadFault.TheVariants.{BadHead}

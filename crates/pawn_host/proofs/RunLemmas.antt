@@ -21,7 +21,7 @@ use Rattle.pawn_book.specs.BookStep.{BookValue, Out, Told, Denied, Shown, Outcom
 use Rattle.pawn_book.specs.HostStep.{Host, limited, host_step, host_after}
 use Rattle.pawn_book.specs.Sound.{IsSound}
 use Rattle.pawn_book.specs.Runs.{read_as, no_memory, no_store, Answered}
-use Rattle.pawn_book.specs.Keeping.{Acts, Gates, IsUnwell, stepped}
+use Rattle.pawn_book.specs.Plans.{Acts, Gates, IsUnwell, stepped}
 use Rattle.pawn_view.specs.Text.{held_text, statement_text}
 use Rattle.pawn_view.specs.Shown.{live_pledges, held_of, pledge_at, statement_of}
 use Rattle.pawn_wire.specs.Request.{Reads}
@@ -32,17 +32,17 @@ use Rattle.pawn_wire.specs.declared.fault.WireFault.TheVariants as f
 use Rattle.pawn_host.specs.declared.service.Answer.{Answer}
 use Rattle.pawn_host.specs.declared.service.Answer.TheVariants.{Bytes, Memory}
 use Rattle.pawn_host.specs.Run.{said_text}
-use Rattle.pawn_host.specs.Keeps.{answer_bytes, IsKeyOf, Tells, IsActed}
+use Rattle.pawn_host.specs.Keeps.{Start, answer_bytes, IsKeyOf, Tells, IsActed}
 
 -- memory was wanting, and nothing changed
-pub acted_memory : (Steady : Type 0) (operator : ℕ) (h : Host) (stamp : Stamp) (bytes reply : List ℕ) (at : Host → Type 0) → reply ≡ memory_text → at h → IsSound h
-    → IsActed Steady operator h stamp bytes reply at
-acted_memory Steady operator h stamp bytes reply at is stands sound = record { mark = no_memory; marked = tt; text = is; stands_for = stands; sound = sound }
+pub acted_memory : (start : Start) (stamp : Stamp) (bytes reply : List ℕ) (at : Host → Type 0) → reply ≡ memory_text → at start.host → IsSound start.host
+    → IsActed start stamp bytes reply at
+acted_memory start stamp bytes reply at is stands sound = record { mark = no_memory; marked = tt; text = is; stands_for = stands; sound = sound }
 
 -- the store failed, and nothing changed
-acted_store : (Steady : Type 0) (operator : ℕ) (h : Host) (stamp : Stamp) (bytes reply : List ℕ) (at : Host → Type 0) → reply ≡ out_text (wire.Refused No.Store) → at h → IsSound h → (Steady → ⊥)
-    → IsActed Steady operator h stamp bytes reply at
-acted_store Steady operator h stamp bytes reply at is stands sound unsteady = record { mark = no_store; marked = unsteady; text = is; stands_for = stands; sound = sound }
+acted_store : (start : Start) (stamp : Stamp) (bytes reply : List ℕ) (at : Host → Type 0) → reply ≡ out_text (wire.Refused No.Store) → at start.host → IsSound start.host → (start.Steady → ⊥)
+    → IsActed start stamp bytes reply at
+acted_store start stamp bytes reply at is stands sound unsteady = record { mark = no_store; marked = unsteady; text = is; stands_for = stands; sound = sound }
 
 -- ---- bytes that are no request
 
@@ -63,26 +63,26 @@ is_memory f.Memory = inl refl
 err_same : (a b : WireFault) → ◌≡◌ {A = Result Request WireFault} (Err a) (Err b) → a ≡ b
 err_same a b e = cc
 
-faulted_bytes : (Steady : Type 0) (operator : ℕ) (h : Host) (stamp : Stamp) (bytes reply : List ℕ) (at : Host → Type 0) (e : WireFault)
-    → (e ≡ f.Memory) ⊎ Reads bytes (Err e) → reply ≡ fault_text e → at h → IsSound h → IsActed Steady operator h stamp bytes reply at
-faulted_bytes Steady operator h stamp bytes reply at e (inl m) is stands sound = acted_memory Steady operator h stamp bytes reply at (is ∙ ap fault_text m) stands sound
-faulted_bytes Steady operator h stamp bytes reply at e (inr x) is stands sound = elim (is_memory e) [
-  | inl m ↦ acted_memory Steady operator h stamp bytes reply at (is ∙ ap fault_text m) stands sound
+faulted_bytes : (start : Start) (stamp : Stamp) (bytes reply : List ℕ) (at : Host → Type 0) (e : WireFault)
+    → (e ≡ f.Memory) ⊎ Reads bytes (Err e) → reply ≡ fault_text e → at start.host → IsSound start.host → IsActed start stamp bytes reply at
+faulted_bytes start stamp bytes reply at e (inl m) is stands sound = acted_memory start stamp bytes reply at (is ∙ ap fault_text m) stands sound
+faulted_bytes start stamp bytes reply at e (inr x) is stands sound = elim (is_memory e) [
+  | inl m ↦ acted_memory start stamp bytes reply at (is ∙ ap fault_text m) stands sound
   | inr other ↦ record { mark = read_as (Err e); marked = (x, λ m. other (err_same e f.Memory m)); text = is; stands_for = stands; sound = sound }
 ]
 
-pub acted_fault : (Steady : Type 0) (operator : ℕ) (h : Host) (stamp : Stamp) (bytes : List ℕ) (answer : Answer) (at : Host → Type 0) (e : WireFault)
-    → (e ≡ f.Memory) ⊎ Reads bytes (Err e) → Tells answer (out_text (wire.Fault e)) → at h → IsSound h → IsActed Steady operator h stamp bytes (answer_bytes answer) at
-acted_fault Steady operator h stamp bytes (Bytes v) at e read is stands sound = faulted_bytes Steady operator h stamp bytes v.items at e read is stands sound
-acted_fault Steady operator h stamp bytes Memory at e read is stands sound = acted_memory Steady operator h stamp bytes memory_text at refl stands sound
+pub acted_fault : (start : Start) (stamp : Stamp) (bytes : List ℕ) (answer : Answer) (at : Host → Type 0) (e : WireFault)
+    → (e ≡ f.Memory) ⊎ Reads bytes (Err e) → Tells answer (out_text (wire.Fault e)) → at start.host → IsSound start.host → IsActed start stamp bytes (answer_bytes answer) at
+acted_fault start stamp bytes (Bytes v) at e read is stands sound = faulted_bytes start stamp bytes v.items at e read is stands sound
+acted_fault start stamp bytes Memory at e read is stands sound = acted_memory start stamp bytes memory_text at refl stands sound
 
 -- ---- requests
 
 -- the step of the host was told
-acted_said : (Steady : Type 0) (operator : ℕ) (h : Host) (stamp : Stamp) (bytes reply : List ℕ) (at : Host → Type 0) (request : Request) (out : Out)
-    → Reads bytes (Ok request) → out_of (host_step h operator stamp request) ≡ out → reply ≡ said_text (Answered out)
-    → at (stepped h operator stamp request) → IsSound (stepped h operator stamp request) → IsActed Steady operator h stamp bytes reply at
-acted_said Steady operator h stamp bytes reply at request out read is text stands sound = record {
+acted_said : (start : Start) (stamp : Stamp) (bytes reply : List ℕ) (at : Host → Type 0) (request : Request) (out : Out)
+    → Reads bytes (Ok request) → out_of (host_step start.host start.operator stamp request) ≡ out → reply ≡ said_text (Answered out)
+    → at (stepped start.host start.operator stamp request) → IsSound (stepped start.host start.operator stamp request) → IsActed start stamp bytes reply at
+acted_said start stamp bytes reply at request out read is text stands sound = record {
   mark = read_as (Ok request);
   marked = (read, λ m. cc);
   text = text ∙ ap (λ (o : Out). said_text (Answered o)) (sym is);
@@ -91,22 +91,22 @@ acted_said Steady operator h stamp bytes reply at request out read is text stand
 }
 
 -- it was refused, and that was told
-pub acted_refused : (Steady : Type 0) (operator : ℕ) (h : Host) (stamp : Stamp) (bytes : List ℕ) (answer : Answer) (at : Host → Type 0) (request : Request) (why : Refusal)
-    → Reads bytes (Ok request) → Tells answer (out_text (wire.Refused why)) → at h → IsSound h → IsUnwell why ⊎ (host_step h operator stamp request ≡ Refuses why) → (Steady → why ≡ No.Store → ⊥)
-    → IsActed Steady operator h stamp bytes (answer_bytes answer) at
-acted_refused Steady operator h stamp bytes Memory at request why read is stands sound refused calm = acted_memory Steady operator h stamp bytes memory_text at refl stands sound
-acted_refused Steady operator h stamp bytes (Bytes v) at request why read is stands sound (inl (inl memory)) calm =
-    acted_memory Steady operator h stamp bytes v.items at (is ∙ ap (λ (w : Refusal). out_text (wire.Refused w)) memory) stands sound
-acted_refused Steady operator h stamp bytes (Bytes v) at request why read is stands sound (inl (inr store)) calm =
-    acted_store Steady operator h stamp bytes v.items at (is ∙ ap (λ (w : Refusal). out_text (wire.Refused w)) store) stands sound (λ steady. calm steady store)
-acted_refused Steady operator h stamp bytes (Bytes v) at request why read is stands sound (inr step) calm =
-    let after : stepped h operator stamp request ≡ h = ap (λ (o : Outcome). host_after h request.book o) step in
-    acted_said Steady operator h stamp bytes v.items at request (Denied why) read (ap out_of step) is (subst at (sym after) stands) (subst IsSound (sym after) sound)
+pub acted_refused : (start : Start) (stamp : Stamp) (bytes : List ℕ) (answer : Answer) (at : Host → Type 0) (request : Request) (why : Refusal)
+    → Reads bytes (Ok request) → Tells answer (out_text (wire.Refused why)) → at start.host → IsSound start.host → IsUnwell why ⊎ (host_step start.host start.operator stamp request ≡ Refuses why) → (start.Steady → why ≡ No.Store → ⊥)
+    → IsActed start stamp bytes (answer_bytes answer) at
+acted_refused start stamp bytes Memory at request why read is stands sound refused calm = acted_memory start stamp bytes memory_text at refl stands sound
+acted_refused start stamp bytes (Bytes v) at request why read is stands sound (inl (inl memory)) calm =
+    acted_memory start stamp bytes v.items at (is ∙ ap (λ (w : Refusal). out_text (wire.Refused w)) memory) stands sound
+acted_refused start stamp bytes (Bytes v) at request why read is stands sound (inl (inr store)) calm =
+    acted_store start stamp bytes v.items at (is ∙ ap (λ (w : Refusal). out_text (wire.Refused w)) store) stands sound (λ steady. calm steady store)
+acted_refused start stamp bytes (Bytes v) at request why read is stands sound (inr step) calm =
+    let after : stepped start.host start.operator stamp request ≡ start.host = ap (λ (o : Outcome). host_after start.host request.book o) step in
+    acted_said start stamp bytes v.items at request (Denied why) read (ap out_of step) is (subst at (sym after) stands) (subst IsSound (sym after) sound)
 
 -- it was acted on, and that was told
-pub acted_done : (Steady : Type 0) (operator : ℕ) (h : Host) (stamp : Stamp) (bytes text : List ℕ) (at : Host → Type 0) (request : Request) (reply : Reply)
-    → Reads bytes (Ok request) → text ≡ out_text (wire.Done reply) → Acts h operator stamp request (Ok reply) at → IsActed Steady operator h stamp bytes text at
-acted_done Steady operator h stamp bytes text at request reply read is acts = acted_said Steady operator h stamp bytes text at request (Told reply) read acts.0 is acts.1 acts.2
+pub acted_done : (start : Start) (stamp : Stamp) (bytes text : List ℕ) (at : Host → Type 0) (request : Request) (reply : Reply)
+    → Reads bytes (Ok request) → text ≡ out_text (wire.Done reply) → Acts start.host start.operator stamp request (Ok reply) at → IsActed start stamp bytes text at
+acted_done start stamp bytes text at request reply read is acts = acted_said start stamp bytes text at request (Told reply) read acts.0 is acts.1 acts.2
 
 pub err_is : {V : Type 0} (r : Result V Refusal) (why : Refusal) → r ≡ Err why → why ≡ No.Store → r ≡ Err No.Store
 err_is r why is store = is ∙ ap (λ (w : Refusal). Err w) store
@@ -145,19 +145,19 @@ nothing_shown h operator stamp book day receipts is =
     step_unknown h operator stamp book receipts (text_unknown (are_unknown (live_pledges h book receipts)) (held_text day (live_pledges h book receipts)) is)
 
 -- the text of the receipts was told
-pub acted_shown : (Steady : Type 0) (operator : ℕ) (h : Host) (stamp : Stamp) (bytes : List ℕ) (answer : Answer) (at : Host → Type 0) (book day : ℕ) (receipts : List Receipt) (text out : List ℕ)
-    → Reads bytes (Ok (held_request book receipts)) → day ≡ stamp.day → held_of h book receipts day ≡ Some text → text ≡ out
-    → Tells answer (reply_text 200 (codes "text/plain; charset=utf-8") out) → at h → IsSound h
-    → IsActed Steady operator h stamp bytes (answer_bytes answer) at
-acted_shown Steady operator h stamp bytes Memory at book day receipts text out read day_is is all tells stands sound = acted_memory Steady operator h stamp bytes memory_text at refl stands sound
-acted_shown Steady operator h stamp bytes (Bytes v) at book day receipts text out read day_is is all tells stands sound =
-    let shown = live_pledges h book receipts in
+pub acted_shown : (start : Start) (stamp : Stamp) (bytes : List ℕ) (answer : Answer) (at : Host → Type 0) (book day : ℕ) (receipts : List Receipt) (text out : List ℕ)
+    → Reads bytes (Ok (held_request book receipts)) → day ≡ stamp.day → held_of start.host book receipts day ≡ Some text → text ≡ out
+    → Tells answer (reply_text 200 (codes "text/plain; charset=utf-8") out) → at start.host → IsSound start.host
+    → IsActed start stamp bytes (answer_bytes answer) at
+acted_shown start stamp bytes Memory at book day receipts text out read day_is is all tells stands sound = acted_memory start stamp bytes memory_text at refl stands sound
+acted_shown start stamp bytes (Bytes v) at book day receipts text out read day_is is all tells stands sound =
+    let shown = live_pledges start.host book receipts in
     let known = text_known (are_unknown shown) (held_text day shown) text is in
-    let step = step_known h operator stamp book receipts known.0 in
+    let step = step_known start.host start.operator stamp book receipts known.0 in
     let request : Request = held_request book receipts in
-    let after : stepped h operator stamp request ≡ h = ap (λ (o : Outcome). host_after h book o) step in
+    let after : stepped start.host start.operator stamp request ≡ start.host = ap (λ (o : Outcome). host_after start.host book o) step in
     let same : out ≡ held_text stamp.day shown = sym all ∙ known.1 ∙ ap (λ (x : ℕ). held_text x shown) day_is in
-    acted_said Steady operator h stamp bytes v.items at request (Shown stamp.day shown) read (ap out_of step) (tells ∙ ap (reply_text 200 (codes "text/plain; charset=utf-8")) same)
+    acted_said start stamp bytes v.items at request (Shown stamp.day shown) read (ap out_of step) (tells ∙ ap (reply_text 200 (codes "text/plain; charset=utf-8")) same)
     (subst at (sym after) stands) (subst IsSound (sym after) sound)
 
 -- ---- a pledge
@@ -186,25 +186,25 @@ no_pledge h operator stamp book key number day with_key none = step_key h operat
     from (Some p) none = cc none
 
 -- the statement of a pledge was told
-pub acted_statement : (Steady : Type 0) (operator : ℕ) (h : Host) (stamp : Stamp) (bytes : List ℕ) (answer : Answer) (at : Host → Type 0) (book key number day : ℕ) (text out : List ℕ)
-    → Reads bytes (Ok (show_request book key number)) → IsKeyOf h book key → day ≡ stamp.day → statement_of h book number day ≡ Some text → text ≡ out
-    → Tells answer (reply_text 200 (codes "text/plain; charset=utf-8") out) → at h → IsSound h
-    → IsActed Steady operator h stamp bytes (answer_bytes answer) at
-acted_statement Steady operator h stamp bytes Memory at book key number day text out read with_key day_is is all tells stands sound =
-    acted_memory Steady operator h stamp bytes memory_text at refl stands sound
-acted_statement Steady operator h stamp bytes (Bytes v) at book key number day text out read with_key day_is is all tells stands sound =
-    from (pledge_at h book number) refl is
+pub acted_statement : (start : Start) (stamp : Stamp) (bytes : List ℕ) (answer : Answer) (at : Host → Type 0) (book key number day : ℕ) (text out : List ℕ)
+    → Reads bytes (Ok (show_request book key number)) → IsKeyOf start.host book key → day ≡ stamp.day → statement_of start.host book number day ≡ Some text → text ≡ out
+    → Tells answer (reply_text 200 (codes "text/plain; charset=utf-8") out) → at start.host → IsSound start.host
+    → IsActed start stamp bytes (answer_bytes answer) at
+acted_statement start stamp bytes Memory at book key number day text out read with_key day_is is all tells stands sound =
+    acted_memory start stamp bytes memory_text at refl stands sound
+acted_statement start stamp bytes (Bytes v) at book key number day text out read with_key day_is is all tells stands sound =
+    from (pledge_at start.host book number) refl is
   where
-    from : (o : Option PledgeValue) → pledge_at h book number ≡ o → option_map (statement_text day) o ≡ Some text → IsActed Steady operator h stamp bytes v.items at
+    from : (o : Option PledgeValue) → pledge_at start.host book number ≡ o → option_map (statement_text day) o ≡ Some text → IsActed start stamp bytes v.items at
     from None there is = cc is
     from (Some p) there is =
         let request : Request = show_request book key number in
-        let step : host_step h operator stamp request ≡ Says (Shown stamp.day (Some p ∷ [])) =
-        step_key h operator stamp book key number with_key ∙ ap (λ o. limited h book (shown stamp o)) there in
-        let after : stepped h operator stamp request ≡ h = ap (λ (o : Outcome). host_after h book o) step in
+        let step : host_step start.host start.operator stamp request ≡ Says (Shown stamp.day (Some p ∷ [])) =
+        step_key start.host start.operator stamp book key number with_key ∙ ap (λ o. limited start.host book (shown stamp o)) there in
+        let after : stepped start.host start.operator stamp request ≡ start.host = ap (λ (o : Outcome). host_after start.host book o) step in
         let same : out ≡ held_text stamp.day (Some p ∷ []) =
         sym all ∙ sym (some_same is) ∙ ap (λ (x : ℕ). statement_text x p) day_is ∙ sym (append-nil (statement_text stamp.day p)) in
-        acted_said Steady operator h stamp bytes v.items at request (Shown stamp.day (Some p ∷ [])) read (ap out_of step)
+        acted_said start stamp bytes v.items at request (Shown stamp.day (Some p ∷ [])) read (ap out_of step)
         (tells ∙ ap (reply_text 200 (codes "text/plain; charset=utf-8")) same) (subst at (sym after) stands) (subst IsSound (sym after) sound)
 
 -- the key was another's, or the keeper did not answer

@@ -1,12 +1,15 @@
 -- What clauses read of a service and its answers.
-use Rattle.std.specs.Prelude.{◌≡◌, ℕ, List, Some, map, All}
+use Rattle.std.specs.Prelude.{◌≡◌, ℕ, List, Some, Ok, map, All}
 use Rattle.std.specs.FinMap.{get}
 use Rattle.pawn_pledge.specs.declared.command.Stamp.{Stamp}
 use Rattle.pawn_book.specs.BookStep.{BookValue}
 use Rattle.pawn_book.specs.HostStep.{Host}
+use Rattle.pawn_book.specs.Keeping.{Keeping, GoesOn, Of}
 use Rattle.pawn_book.specs.Sound.{IsSound}
+use Rattle.pawn_book.specs.declared.request.Request.{Request}
 use Rattle.pawn_book.specs.Runs.{Mark, marked_after, marked_said}
 use Rattle.pawn_wire.specs.Reply.{memory_text}
+use Rattle.pawn_wire.specs.Request.{Reads}
 use Rattle.pawn_wire.specs.declared.fault.WireFault.{WireFault}
 use Rattle.pawn_host.specs.declared.service.Service.{Service}
 use Rattle.pawn_host.specs.declared.service.Answer.{Answer}
@@ -34,19 +37,53 @@ abbrev pub Tells : Answer → List ℕ → Type 0
 Tells (Bytes v) text = v.items ≡ text
 Tells Memory text = Unit {0}
 
--- one item of a run led from a host to the reply and to a sound host that the keeper stands for, for some mark
-pub record IsActed (Steady : Type 0) (operator : ℕ) (h : Host) (stamp : Stamp) (bytes reply : List ℕ) (stands : Host → Type 0) : Type 0 where
-  pub mark : Mark WireFault
-  pub marked : IsMarkOf Steady bytes mark
-  pub text : reply ≡ said_text (marked_said h operator stamp mark)
-  pub stands_for : stands (marked_after h operator stamp mark)
-  pub sound : IsSound (marked_after h operator stamp mark)
+-- where a call of the service starts: over a keeper that was steady or was not, for an operator, and from a host
+pub record Start : Type 1 where
+  pub Steady : Type 0
+  pub operator : ℕ
+  pub host : Host
 
--- the run of these items, with some marks, led from a host to these answers and to a sound host that the keeper stands for
-pub record IsRun (Steady : Type 0) (operator : ℕ) (h : Host) (given : List (Stamp × List ℕ)) (answers : List (List ℕ)) (stands : Host → Type 0) : Type 0 where
+abbrev pub start_of : {K : Type 0} → Keeping K → Service K → Host → Start
+start_of k s h = record { Steady = k.steady (service_keep s); operator = service_operator s; host = h }
+
+-- the same, from another host
+abbrev pub from_host : Start → Host → Start
+from_host start h = record { Steady = start.Steady; operator = start.operator; host = h }
+
+-- a service goes on after a call: its keeper does, and its operator stays
+pub record StaysOpen {K : Type 0} (k : Keeping K) (old new : Service K) : Type 0 where
+  pub on : GoesOn k (service_keep old) (service_keep new)
+  pub operator : service_operator new ≡ service_operator old
+
+-- P of each sound host that the service's keeper stood for, if it is honest now: of where the call started, and of what the
+-- keeper stands for after it
+abbrev pub Serves : {K : Type 0} → Keeping K → Service K → Service K → (Start → (Host → Type 0) → Type 0) → Type 0
+Serves k old new P = Of k (service_keep old) (service_keep new) (λ h. P (start_of k old h) (k.stands (service_keep new)))
+
+-- one item of a run led to the reply and to a sound host that the keeper stands for, for some mark
+pub record IsActed (start : Start) (stamp : Stamp) (bytes reply : List ℕ) (stands : Host → Type 0) : Type 0 where
+  pub mark : Mark WireFault
+  pub marked : IsMarkOf start.Steady bytes mark
+  pub text : reply ≡ said_text (marked_said start.host start.operator stamp mark)
+  pub stands_for : stands (marked_after start.host start.operator stamp mark)
+  pub sound : IsSound (marked_after start.host start.operator stamp mark)
+
+-- the same of whatever bytes say the request
+abbrev pub Answers : Start → Stamp → Request → List ℕ → (Host → Type 0) → Type 0
+Answers start stamp request reply stands = (bytes : List ℕ) → Reads bytes (Ok request) → IsActed start stamp bytes reply stands
+
+-- the host after these items, and their replies
+abbrev pub host_by : Start → List Item → Host
+host_by start items = host_after start.host start.operator items
+
+abbrev pub replies_by : Start → List Item → List (List ℕ)
+replies_by start items = replies start.host start.operator items
+
+-- the run of these items, with some marks, led to these answers and to a sound host that the keeper stands for
+pub record IsRun (start : Start) (given : List (Stamp × List ℕ)) (answers : List (List ℕ)) (stands : Host → Type 0) : Type 0 where
   pub items : List Item
-  pub marked : All (IsMarked Steady) items
+  pub marked : All (IsMarked start.Steady) items
   pub given_is : map handed items ≡ given
-  pub answers_are : answers ≡ replies h operator items
-  pub stands_for : stands (host_after h operator items)
-  pub sound : IsSound (host_after h operator items)
+  pub answers_are : answers ≡ replies_by start items
+  pub stands_for : stands (host_by start items)
+  pub sound : IsSound (host_by start items)

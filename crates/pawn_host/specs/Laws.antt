@@ -3,7 +3,7 @@ use Rattle.std.specs.Prelude.{◌≡◌, ℕ, ◌<◌, ◌≤◌, ◌⊎◌, All
 use Rattle.std.specs.List.{concat}
 use Rattle.httparse.specs.Grammar.{RequestHead, ReadsRequest, EndsInTarget, HasNoRequest}
 use Rattle.httparse.specs.Spans.{RequestOverflows}
-use Rattle.pawn_wire.specs.Head.{max_fields, max_head}
+use Rattle.pawn_wire.specs.Limits.{max_fields, max_head}
 use Rattle.pawn_wire.specs.declared.fault.HeadFault.{HeadFault}
 use Rattle.pawn_wire.specs.declared.fault.HeadFault.TheVariants.{BadHead}
 use Rattle.pawn_wire.specs.declared.fault.WireFault.{WireFault}

@@ -10,7 +10,8 @@ use Rattle.pawn_book.specs.Sound.{IsSound}
 use Rattle.pawn_wire.specs.Fault.{wire_fault}
 use Rattle.pawn_wire.specs.Reply.{memory_text, fault_text}
 use Rattle.pawn_wire.specs.declared.fault.HeadFault.{HeadFault}
-use Rattle.pawn_host.specs.Run.{Item, IsMarked, host_after, replies}
+use Rattle.pawn_host.specs.Keeps.{Start, host_by, replies_by}
+use Rattle.pawn_host.specs.Run.{Item, IsMarked}
 use Rattle.pawn_host.specs.declared.session.How.{How}
 use Rattle.pawn_host.specs.declared.session.How.TheVariants.{End, Cut, Closed, Faulted, Limit, NoStamp, Memory}
 use Rattle.pawn_host.specs.declared.session.Ended.{Ended}
@@ -25,27 +26,31 @@ abbrev pub requests_of : List Item → List (List ℕ)
 requests_of items = map (λ i. i.bytes) items
 
 -- all that is answered to these items
-abbrev pub answer_text : Host → ℕ → List Item → List ℕ
-answer_text h operator items = concat (replies h operator items)
+abbrev pub answer_text : Start → List Item → List ℕ
+answer_text start items = concat (replies_by start items)
 
--- how a session ended, and what was written after the replies
+-- all that is due: the replies, and a last text after them
+abbrev pub due_text : Start → List Item → List ℕ → List ℕ
+due_text start items last = answer_text start items ++ last
+
+-- how a session ended, and with which last text
 abbrev pub EndsAs : How → Option (List ℕ) → List (List ℕ) → List ℕ → Type 0
-EndsAs End left requests tail = (tail ≡ []) × IfSome left (λ s. Splits s requests at_end)
-EndsAs Cut left requests tail = (tail ≡ []) × IfSome left (λ s. Splits s requests cut)
-EndsAs Closed left requests tail = (tail ≡ []) × IfSome left (λ s. Splits s requests closed)
-EndsAs Limit left requests tail = (tail ≡ []) × IfSome left (λ s. Splits s requests at_limit)
-EndsAs Faulted left requests tail = (f : HeadFault) × (tail ≡ fault_text (wire_fault f)) × IfSome left (λ s. Splits s requests (faulted f))
-EndsAs NoStamp left requests tail = (tail ≡ []) × IfSome left (λ s. BeginsAndGoesOn s requests)
-EndsAs Memory left requests tail = (tail ≡ memory_text) × IfSome left (λ s. IsUnderWay s requests)
+EndsAs End left requests last = (last ≡ []) × IfSome left (λ s. Splits s requests at_end)
+EndsAs Cut left requests last = (last ≡ []) × IfSome left (λ s. Splits s requests cut)
+EndsAs Closed left requests last = (last ≡ []) × IfSome left (λ s. Splits s requests closed)
+EndsAs Limit left requests last = (last ≡ []) × IfSome left (λ s. Splits s requests at_limit)
+EndsAs Faulted left requests last = (f : HeadFault) × (last ≡ fault_text (wire_fault f)) × IfSome left (λ s. Splits s requests (faulted f))
+EndsAs NoStamp left requests last = (last ≡ []) × IfSome left (λ s. BeginsAndGoesOn s requests)
+EndsAs Memory left requests last = (last ≡ memory_text) × IfSome left (λ s. IsUnderWay s requests)
 
 -- what was due after the replies where a session was broken off. What broke a read off came before a further request was
 -- found, so where the stream was still under way; a write may also have failed at a request's reply, or at the last text
 abbrev pub DueAfter : Cause → Option (List ℕ) → List (List ℕ) → List ℕ → Type 0
-DueAfter Read left requests tail = (tail ≡ []) × IfSome left (λ s. IsUnderWay s requests)
-DueAfter Reads left requests tail = (tail ≡ []) × IfSome left (λ s. IsUnderWay s requests)
-DueAfter Write left requests tail = ((tail ≡ []) × IfSome left (λ s. Begins s requests))
-    ⊎ ((tail ≡ memory_text) × IfSome left (λ s. IsUnderWay s requests))
-    ⊎ ((f : HeadFault) × (tail ≡ fault_text (wire_fault f)) × IfSome left (λ s. Splits s requests (faulted f)))
+DueAfter Read left requests last = (last ≡ []) × IfSome left (λ s. IsUnderWay s requests)
+DueAfter Reads left requests last = (last ≡ []) × IfSome left (λ s. IsUnderWay s requests)
+DueAfter Write left requests last = ((last ≡ []) × IfSome left (λ s. Begins s requests))
+    ⊎ ((last ≡ memory_text) × IfSome left (λ s. IsUnderWay s requests))
+    ⊎ ((f : HeadFault) × (last ≡ fault_text (wire_fault f)) × IfSome left (λ s. Splits s requests (faulted f)))
 
 -- the requests that a session acted on, however it ended
 abbrev pub acted_of : Result Ended IoFault → ℕ
@@ -102,39 +107,48 @@ module _ {S : Type 0} (steps : S → Option Stamp → S → Type 0) where
     pub taken : Yields steps from stamps to
     pub left : IsLeft result to new
 
-module _ {S : Type 0} (steps : S → Option Stamp → S → Type 0) (from new_stamps : S) (Steady : Type 0) (operator : ℕ) (h : Host) where
+-- what a session is given: where the service starts, the stamps, and, where they are told, the bytes of its stream and
+-- what was written before
+pub record Given (S : Type 0) : Type 1 where
+  pub start : Start
+  pub stamps : S
+  pub stream : Option (List ℕ)
+  pub written : Option (List ℕ)
+
+module _ {S : Type 0} (steps : S → Option Stamp → S → Type 0) (given : Given S) where
   -- items with the stamps that the iterator gave; the keeper stands for the host after them, which is sound
   pub record IsServed (items : List Item) (to : S) (stands : Host → Type 0) : Type 0 where
-    pub marked : All (IsMarked Steady) items
-    pub taken : Yields steps from (stamps_of items) to
-    pub stands_for : stands (host_after h operator items)
-    pub sound : IsSound (host_after h operator items)
+    pub marked : All (IsMarked given.start.Steady) items
+    pub taken : Yields steps given.stamps (stamps_of items) to
+    pub stands_for : stands (host_by given.start items)
+    pub sound : IsSound (host_by given.start items)
 
   -- the session ended, having acted on its stream's first requests and written their replies
-  pub record HasEnded (left : Option (List ℕ)) (stands : Host → Type 0) (old new : Option (List ℕ)) (ended : Ended) : Type 0 where
+  pub record HasEnded (stamps : S) (stands : Host → Type 0) (written : Option (List ℕ)) (ended : Ended) : Type 0 where
     pub items : List Item
     pub to : S
-    pub tail : List ℕ
+    pub last : List ℕ
     pub served : IsServed items to stands
-    pub stamps : IsLeftBy steps ended.how to new_stamps
+    pub left : IsLeftBy steps ended.how to stamps
     pub count : length items ≡ ended.acted
-    pub wrote : Appends old new (answer_text h operator items ++ tail)
-    pub ends : EndsAs ended.how left (requests_of items) tail
+    pub wrote : Appends given.written written (due_text given.start items last)
+    pub ends : EndsAs ended.how given.stream (requests_of items) last
 
   -- the session was broken off
-  pub record IsBrokenOff (left : Option (List ℕ)) (stands : Host → Type 0) (old new : Option (List ℕ)) (fault : IoFault) : Type 0 where
+  pub record IsBrokenOff (stamps : S) (stands : Host → Type 0) (written : Option (List ℕ)) (fault : IoFault) : Type 0 where
     pub items : List Item
-    pub tail : List ℕ
-    pub served : IsServed items new_stamps stands
+    pub last : List ℕ
+    pub served : IsServed items stamps stands
     pub count : length items ≡ fault.acted
-    pub sent : fault.sent ≤ length (answer_text h operator items ++ tail)
-    pub all_sent : fault.cause ≢ Write → fault.sent ≡ length (answer_text h operator items ++ tail)
-    pub wrote : Appends old new (take fault.sent (answer_text h operator items ++ tail))
-    pub due : DueAfter fault.cause left (requests_of items) tail
+    pub sent : fault.sent ≤ length (due_text given.start items last)
+    pub all_sent : fault.cause ≢ Write → fault.sent ≡ length (due_text given.start items last)
+    pub wrote : Appends given.written written (take fault.sent (due_text given.start items last))
+    pub due : DueAfter fault.cause given.stream (requests_of items) last
 
-  abbrev pub IsSession : Option (List ℕ) → (Host → Type 0) → Option (List ℕ) → Option (List ℕ) → Result Ended IoFault → Type 0
-  IsSession left stands old new (Ok ended) = HasEnded left stands old new ended
-  IsSession left stands old new (Err fault) = IsBrokenOff left stands old new fault
+  -- what a session did, by the stamps that are left, the hosts that the keeper stands for, and what is written now
+  abbrev pub IsSession : S → (Host → Type 0) → Option (List ℕ) → Result Ended IoFault → Type 0
+  IsSession stamps stands written (Ok ended) = HasEnded stamps stands written ended
+  IsSession stamps stands written (Err fault) = IsBrokenOff stamps stands written fault
 
 -- the last text was written, or a part of it
 abbrev pub IsFinished : How → ℕ → ℕ → List ℕ → Option (List ℕ) → Option (List ℕ) → Result Ended IoFault → Type 0

@@ -1,7 +1,8 @@
 -- A stream as whole requests and a rest.
 use Rattle.std.specs.Prelude.{◌≡◌, ◌≢◌, ℕ, ◌<◌, ◌≤◌, ◌⊎◌, Bool, true, false, List, [], ◌∷◌, ◌++◌, length, Ok, Err}
 use Rattle.httparse.specs.Grammar.{RequestHead, HasNoRequest, MayBecomeRequest}
-use Rattle.pawn_wire.specs.Head.{ReadsHead, IsBadHead, fields_of, body_length, closes_by, max_head}
+use Rattle.pawn_wire.specs.Head.{ReadsHead, IsBadHead, fields_of, body_length, closes_by}
+use Rattle.pawn_wire.specs.Limits.{max_head}
 use Rattle.pawn_wire.specs.declared.fault.HeadFault.{HeadFault}
 use Rattle.pawn_wire.specs.declared.fault.HeadFault.TheVariants.{BadHead}
 

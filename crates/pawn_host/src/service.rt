@@ -1,13 +1,11 @@
 //! The service over a keeper: one request, or a list of them.
-ghost use Rattle.std.specs.Prelude.{◌≡◌, ℕ, List, IfOk, OnErr, Ok, map, vec_len, vec_capacity, length};
-ghost use Rattle.pawn_book.specs.declared.request.Request.{Request};
+ghost use Rattle.std.specs.Prelude.{◌≡◌, IfOk, OnErr, map};
 ghost use Rattle.pawn_book.specs.declared.request.Caller.TheVariants.{Bearer, Broker};
 ghost use Rattle.pawn_book.specs.declared.request.BearerRequest.TheVariants.{Held};
 ghost use Rattle.pawn_book.specs.declared.request.BrokerRequest.TheVariants.{Show};
-ghost use Rattle.pawn_book.specs.Keeping.{IsWritten, Of};
+ghost use Rattle.pawn_book.specs.Plans.{IsWritten};
 ghost use Rattle.pawn_wire.specs.Reply.{out_text};
-ghost use Rattle.pawn_wire.specs.Request.{Reads};
-ghost use Rattle.pawn_host.specs.Keeps.{service_keep, service_operator, answer_bytes, IsKeyOf, Tells, IsActed, IsRun};
+ghost use Rattle.pawn_host.specs.Keeps.{service_keep, service_operator, answer_bytes, IsKeyOf, Tells, StaysOpen, Serves, Answers, IsActed, IsRun};
 
 use pawn_book::{
     BearerRequest, BrokerRequest, Caller, Keep, Number, Receipts, Refusal, Request, Secret, Stamp,
@@ -28,7 +26,7 @@ pub enum Answer {
 #[derive(Drop)]
 pub struct Service<K> {
     keep: K,
-    operator: Secret,
+    pub(crate) operator: Secret,
     router: Router,
     pub(crate) alloc: Global,
 }
@@ -64,11 +62,9 @@ impl<K: Keep> Service<K> {
 
     // Shows what receipts stand for.
     fn show(&mut self, stamp: &Stamp, book: Number, receipts: &Receipts) -> Answer
-        ensures honest { K.honest (service_keep self.new) → K.honest (service_keep self.old) }
-        ensures acted { Of K.stands K.honest (service_keep self.old) (service_keep self.new) (λ h. (bytes : List ℕ) → Reads bytes (Ok (record { book = book; caller = Bearer (Held receipts.now) }))
-            → IsActed (K.steady (service_keep self.old)) (service_operator self.old) h stamp.now bytes (answer_bytes result) (K.stands (service_keep self.new))) }
-        ensures steady { K.steady (service_keep self.old) → K.steady (service_keep self.new) }
-        ensures operator { service_operator self.new ≡ service_operator self.old }
+        ensures stays { StaysOpen K.keeping self.old self.new }
+        ensures acted { Serves K.keeping self.old self.new
+            (λ start. Answers start stamp.now (record { book = book; caller = Bearer (Held receipts.now) }) (answer_bytes result)) }
     {
         let mut writer = Writing::new(Vec::new(self.alloc));
         let day = stamp.day.day();
@@ -87,11 +83,9 @@ impl<K: Keep> Service<K> {
 
     // Shows a pledge to the holder of its book's key.
     fn show_pledge(&mut self, stamp: &Stamp, book: Number, key: Secret, number: Number) -> Answer
-        ensures honest { K.honest (service_keep self.new) → K.honest (service_keep self.old) }
-        ensures acted { Of K.stands K.honest (service_keep self.old) (service_keep self.new) (λ h. (bytes : List ℕ) → Reads bytes (Ok (record { book = book; caller = Broker key (Show number) }))
-            → IsActed (K.steady (service_keep self.old)) (service_operator self.old) h stamp.now bytes (answer_bytes result) (K.stands (service_keep self.new))) }
-        ensures steady { K.steady (service_keep self.old) → K.steady (service_keep self.new) }
-        ensures operator { service_operator self.new ≡ service_operator self.old }
+        ensures stays { StaysOpen K.keeping self.old self.new }
+        ensures acted { Serves K.keeping self.old self.new
+            (λ start. Answers start stamp.now (record { book = book; caller = Broker key (Show number) }) (answer_bytes result)) }
     {
         match gate(&mut self.keep, book, key) {
             Err(refusal) => return told(self.alloc, &Out::Refused(refusal)),
@@ -102,11 +96,9 @@ impl<K: Keep> Service<K> {
 
     // Shows a pledge of a book whose key was given.
     fn show_number(&mut self, stamp: &Stamp, book: Number, key: Secret, number: Number) -> Answer
-        ensures honest { K.honest (service_keep self.new) → K.honest (service_keep self.old) }
-        ensures acted { Of K.stands K.honest (service_keep self.old) (service_keep self.new) (λ h. (bytes : List ℕ) → Reads bytes (Ok (record { book = book; caller = Broker key (Show number) }))
-            → IsKeyOf h book key → IsActed (K.steady (service_keep self.old)) (service_operator self.old) h stamp.now bytes (answer_bytes result) (K.stands (service_keep self.new))) }
-        ensures steady { K.steady (service_keep self.old) → K.steady (service_keep self.new) }
-        ensures operator { service_operator self.new ≡ service_operator self.old }
+        ensures stays { StaysOpen K.keeping self.old self.new }
+        ensures acted { Serves K.keeping self.old self.new (λ start stands. IsKeyOf start.host book key
+            → Answers start stamp.now (record { book = book; caller = Broker key (Show number) }) (answer_bytes result) stands) }
     {
         let mut writer = Writing::new(Vec::new(self.alloc));
         let day = stamp.day.day();
@@ -130,11 +122,8 @@ impl<K: Keep> Service<K> {
         asked: &BrokerRequest,
     ) -> Answer
         requires asks { request.now.caller ≡ Broker key asked.now }
-        ensures honest { K.honest (service_keep self.new) → K.honest (service_keep self.old) }
-        ensures acted { Of K.stands K.honest (service_keep self.old) (service_keep self.new) (λ h. (bytes : List ℕ) → Reads bytes (Ok request.now)
-            → IsActed (K.steady (service_keep self.old)) (service_operator self.old) h stamp.now bytes (answer_bytes result) (K.stands (service_keep self.new))) }
-        ensures steady { K.steady (service_keep self.old) → K.steady (service_keep self.new) }
-        ensures operator { service_operator self.new ≡ service_operator self.old }
+        ensures stays { StaysOpen K.keeping self.old self.new }
+        ensures acted { Serves K.keeping self.old self.new (λ start. Answers start stamp.now request.now (answer_bytes result)) }
     {
         match asked {
             BrokerRequest::PutTerms(_) => self.act(stamp, request),
@@ -147,11 +136,8 @@ impl<K: Keep> Service<K> {
     // Answers what a bearer asks.
     fn answer_bearer(&mut self, stamp: &Stamp, request: &Request, asked: &BearerRequest) -> Answer
         requires asks { request.now.caller ≡ Bearer asked.now }
-        ensures honest { K.honest (service_keep self.new) → K.honest (service_keep self.old) }
-        ensures acted { Of K.stands K.honest (service_keep self.old) (service_keep self.new) (λ h. (bytes : List ℕ) → Reads bytes (Ok request.now)
-            → IsActed (K.steady (service_keep self.old)) (service_operator self.old) h stamp.now bytes (answer_bytes result) (K.stands (service_keep self.new))) }
-        ensures steady { K.steady (service_keep self.old) → K.steady (service_keep self.new) }
-        ensures operator { service_operator self.new ≡ service_operator self.old }
+        ensures stays { StaysOpen K.keeping self.old self.new }
+        ensures acted { Serves K.keeping self.old self.new (λ start. Answers start stamp.now request.now (answer_bytes result)) }
     {
         match asked {
             BearerRequest::Held(receipts) => self.show(stamp, request.book, receipts),
@@ -162,11 +148,8 @@ impl<K: Keep> Service<K> {
     // Acts on a request that may change its book. The reply is built before the change is made.
     fn act(&mut self, stamp: &Stamp, request: &Request) -> Answer
         requires written { IsWritten request.now.caller }
-        ensures honest { K.honest (service_keep self.new) → K.honest (service_keep self.old) }
-        ensures acted { Of K.stands K.honest (service_keep self.old) (service_keep self.new) (λ h. (bytes : List ℕ) → Reads bytes (Ok request.now)
-            → IsActed (K.steady (service_keep self.old)) (service_operator self.old) h stamp.now bytes (answer_bytes result) (K.stands (service_keep self.new))) }
-        ensures steady { K.steady (service_keep self.old) → K.steady (service_keep self.new) }
-        ensures operator { service_operator self.new ≡ service_operator self.old }
+        ensures stays { StaysOpen K.keeping self.old self.new }
+        ensures acted { Serves K.keeping self.old self.new (λ start. Answers start stamp.now request.now (answer_bytes result)) }
     {
         match plan(self.alloc, &mut self.keep, self.operator, stamp, request) {
             Err(refusal) => told(self.alloc, &Out::Refused(refusal)),
@@ -182,11 +165,8 @@ impl<K: Keep> Service<K> {
 
     /// Answers one whole request.
     pub fn answer_one(&mut self, stamp: &Stamp, bytes: &[u8]) -> Answer
-        ensures honest { K.honest (service_keep self.new) → K.honest (service_keep self.old) }
-        ensures acted { Of K.stands K.honest (service_keep self.old) (service_keep self.new) (λ h.
-            IsActed (K.steady (service_keep self.old)) (service_operator self.old) h stamp.now bytes.now (answer_bytes result) (K.stands (service_keep self.new))) }
-        ensures steady { K.steady (service_keep self.old) → K.steady (service_keep self.new) }
-        ensures operator { service_operator self.new ≡ service_operator self.old }
+        ensures stays { StaysOpen K.keeping self.old self.new }
+        ensures acted { Serves K.keeping self.old self.new (λ start. IsActed start stamp.now bytes.now (answer_bytes result)) }
     {
         let request = match read_request(self.alloc, &self.router, bytes) {
             Ok(request) => request,
@@ -201,11 +181,9 @@ impl<K: Keep> Service<K> {
 
     /// Answers these items in their order. Where there is no room for the answers, nothing was done.
     pub fn run(&mut self, items: &[(Stamp, Vec<u8>)]) -> Result<Vec<Answer>, AllocError>
-        ensures honest { K.honest (service_keep self.new) → K.honest (service_keep self.old) }
-        ensures run { IfOk result (λ answers. Of K.stands K.honest (service_keep self.old) (service_keep self.new) (λ h.
-            IsRun (K.steady (service_keep self.old)) (service_operator self.old) h (map (λ p. (p.0, p.1.items)) items.now) (map answer_bytes answers.items) (K.stands (service_keep self.new)))) }
-        ensures steady { K.steady (service_keep self.old) → K.steady (service_keep self.new) }
-        ensures operator { service_operator self.new ≡ service_operator self.old }
+        ensures stays { StaysOpen K.keeping self.old self.new }
+        ensures run { IfOk result (λ answers. Serves K.keeping self.old self.new
+            (λ start. IsRun start (map (λ p. (p.0, p.1.items)) items.now) (map answer_bytes answers.items))) }
         ensures err { OnErr result (self.new ≡ self.old) }
     {
         let mut answers = Vec::with_capacity(self.alloc, items.len())?;

@@ -1,12 +1,11 @@
 //! One connection: requests are read, answered and their replies written, one after the other.
 ghost use Rattle.std.specs.Prelude.{◌≡◌, ◌≢◌, ◌+◌, ◌<◌, ◌≤◌, ◌++◌, [], true, false, length, drop, IfSome, IfErr, OnOk, vec_len, ◌*◌, ◌^◌};
 ghost use Rattle.std.specs.Io.KnownBytes.{Keeps, prepend_known};
-ghost use Rattle.pawn_book.specs.Keeping.{Of};
 ghost use Rattle.pawn_view.specs.Ends.{write_failed, written_of};
 ghost use Rattle.pawn_host.specs.Ends.{reads, read_failed, left_of};
 ghost use Rattle.pawn_host.specs.Finding.{IsFilled, Finds, FindsRest, HasHead, IfRequest, IsCausedBy, StopsBy, FilledBy, IsFetched};
-ghost use Rattle.pawn_host.specs.Session.{IsSession, IsFinished, IsRead, IsWithinMost, AreTaken, acted_of};
-ghost use Rattle.pawn_host.specs.Keeps.{service_keep, service_operator, answer_bytes};
+ghost use Rattle.pawn_host.specs.Session.{IsSession, IsFinished, IsRead, IsWithinMost, AreTaken};
+ghost use Rattle.pawn_host.specs.Keeps.{StaysOpen, Serves, answer_bytes};
 
 use crate::reading::{MOST_READS, Reading};
 use crate::service::{Answer, Service};
@@ -244,14 +243,12 @@ impl<K: Keep> Service<K> {
         requires fresh { reads reader.old ≡ 0 }
         requires fine { write_failed writer.old ≡ false }
         requires can { I.can_next stamps.old }
-        ensures honest { K.honest (service_keep self.new) → K.honest (service_keep self.old) }
-        ensures session { Of K.stands K.honest (service_keep self.old) (service_keep self.new) (λ h. IsSession I.next_gives stamps.old stamps.new (K.steady (service_keep self.old)) (service_operator self.old) h
-            (left_of R.remaining reader.old) (K.stands (service_keep self.new)) (written_of W.contents writer.old) (written_of W.contents writer.new) result) }
-        ensures steady { K.steady (service_keep self.old) → K.steady (service_keep self.new) }
-        ensures operator { service_operator self.new ≡ service_operator self.old }
+        ensures stays { StaysOpen K.keeping self.old self.new }
+        ensures session { Serves K.keeping self.old self.new (λ start stands. IsSession I.next_gives
+            (record { start = start; stamps = stamps.old; stream = left_of R.remaining reader.old; written = written_of W.contents writer.old })
+            stamps.new stands (written_of W.contents writer.new) result) }
         ensures stamps { AreTaken I.next_gives stamps.old stamps.new result }
         ensures reads { IsRead (reads reader.new) (left_of R.remaining reader.old) (left_of R.remaining reader.new) }
-        ensures most { acted_of result ≤ 1000 }
         ensures room { IsWithinMost result }
         ensures whole { OnOk result ((read_failed reader.new ≡ false) × (write_failed writer.new ≡ false)) }
         ensures cause { IfErr result (λ fault. IsCausedBy fault.cause (read_failed reader.new) (reads reader.new) (write_failed writer.new)) }

@@ -9,7 +9,7 @@ use Rattle.std.proofs.lemmas.Str.Parse.{digit_at}
 use Rattle.std.proofs.lemmas.List.{take_more}
 use Rattle.std.proofs.lemmas.Grind.{common_steps}
 use Rattle.std.proofs.Math.Nat.{pow-le-pow_right}
-use Rattle.pawn_wire.specs.Fields.{is_short_numeral}
+use Rattle.pawn_wire.specs.Numeral.{is_short_numeral}
 
 pub digit_small : (c : ℕ) → IsTrue (is_ascii_digit c) → (digit_value c ≡ c - 48) × (48 ≤ c) × (c < 58)
 digit_small c h = grind (arith, common_steps)

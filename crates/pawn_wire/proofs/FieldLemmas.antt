@@ -1,6 +1,6 @@
 -- On the fields of a head.
-use Rattle.std.proofs.Common.{◌≡◌, ℕ, ◌+◌, ◌<◌, List, [], ◌∷◌, ◌++◌, length, map, take, get_or, refl, ap, ◌∙◌, arith, Some, None, Bool, true, false, append-nil, length-append}
-use Rattle.httparse.specs.declared.spans.Span.{Span}
+use Rattle.std.proofs.Common.{◌≡◌, ℕ, ◌+◌, ◌<◌, List, [], ◌∷◌, ◌++◌, length, map, take, get_or, refl, ap, subst, ◌∙◌, arith, Some, None, Bool, true, false, append-nil, length-append}
+use Rattle.std.specs.Borrow.{Bor}
 use Rattle.pawn_wire.specs.declared.fields.Found.{Found}
 use Rattle.pawn_wire.specs.declared.fields.Found.TheVariants.{Missing, One, Several}
 use Rattle.std.specs.Prelude.{◌&&◌, ◌||◌, if◌then◌else◌}
@@ -11,7 +11,7 @@ use Rattle.std.specs.Str.{str_eq_ignore_ascii_case}
 use Rattle.std.proofs.lemmas.List.{map_more}
 use Rattle.std.proofs.lemmas.List.Elements.{filter_map-append}
 use Rattle.httparse.specs.declared.spans.HeaderSpan.{HeaderSpan}
-use Rattle.httparse.specs.Spans.{header_bytes, span_bytes, IsWithin}
+use Rattle.httparse.specs.Spans.{header_bytes}
 use Rattle.pawn_wire.specs.Fields.{values_of, value_under, IsFound}
 
 abbrev pub no_span : HeaderSpan
@@ -25,35 +25,33 @@ values_more name bytes fs i d h =
     ap (values_of name) (map_more (header_bytes bytes) fs i d h)
     ∙ filter_map-append (value_under name) (map (header_bytes bytes) (take i fs)) (header_bytes bytes (get_or fs i d) ∷ [])
 
-pub found_pass : (bytes : List ℕ) (vs : List (List ℕ)) (f : Found) → IsFound bytes vs f → IsFound bytes (vs ++ []) f
-found_pass bytes vs f h = rw append-nil h
+found_pass : (vs : List (List ℕ)) (f : Found) → IsFound vs f → IsFound (vs ++ []) f
+found_pass vs f h = rw append-nil h
 
-pub found_first : (bytes : List ℕ) (vs : List (List ℕ)) (s : Span) → IsFound bytes vs Missing → IsWithin (length bytes) s
-    → IsFound bytes (vs ++ span_bytes bytes s ∷ []) (One s)
-found_first bytes vs s h w = (w.0, w.1, ap (λ xs. xs ++ span_bytes bytes s ∷ []) h)
+found_first : (vs : List (List ℕ)) (value : Bor (List ℕ)) → IsFound vs Missing → IsFound (vs ++ value.now ∷ []) (One value)
+found_first vs value h = ap (λ xs. xs ++ value.now ∷ []) h
 
-pub found_again : (bytes : List ℕ) (vs : List (List ℕ)) (v : List ℕ) (f : Found) → IsFound bytes vs f → (f ≡ Missing → ⊥)
-    → IsFound bytes (vs ++ v ∷ []) Several
-found_again bytes vs v Missing h other = absurd (other refl)
-found_again bytes vs v (One s) h other = simp length-append (omega (arith, ap length h.2))
-found_again bytes vs v Several h other = simp length-append (omega arith)
+found_again : (vs : List (List ℕ)) (v : List ℕ) (f : Found) → IsFound vs f → (f ≡ Missing → ⊥) → IsFound (vs ++ v ∷ []) Several
+found_again vs v Missing h other = absurd (other refl)
+found_again vs v (One value) h other = simp length-append (omega (arith, ap length h))
+found_again vs v Several h other = simp length-append (omega arith)
 
 module _ (name bytes : List ℕ) (fs : List HeaderSpan) (i : ℕ) (d : HeaderSpan) (fits : i < length fs) where
   pub find_other : (f : Found) → str_eq_ignore_ascii_case (header_bytes bytes (get_or fs i d)).0 name ≡ false
-      → IsFound bytes (values_of name (map (header_bytes bytes) (take i fs))) f
-      → IsFound bytes (values_of name (map (header_bytes bytes) (take (i + 1) fs))) f
-  find_other f e h = rw (values_more name bytes fs i d fits, e) (found_pass bytes _ f h)
+      → IsFound (values_of name (map (header_bytes bytes) (take i fs))) f
+      → IsFound (values_of name (map (header_bytes bytes) (take (i + 1) fs))) f
+  find_other f e h = rw (values_more name bytes fs i d fits, e) (found_pass _ f h)
 
-  pub find_first : str_eq_ignore_ascii_case (header_bytes bytes (get_or fs i d)).0 name ≡ true
-      → IsFound bytes (values_of name (map (header_bytes bytes) (take i fs))) Missing
-      → IsWithin (length bytes) (get_or fs i d).value
-      → IsFound bytes (values_of name (map (header_bytes bytes) (take (i + 1) fs))) (One (get_or fs i d).value)
-  find_first e h w = rw (values_more name bytes fs i d fits, e) (found_first bytes _ (get_or fs i d).value h w)
+  pub find_first : (value : Bor (List ℕ)) → value.now ≡ (header_bytes bytes (get_or fs i d)).1 → str_eq_ignore_ascii_case (header_bytes bytes (get_or fs i d)).0 name ≡ true
+      → IsFound (values_of name (map (header_bytes bytes) (take i fs))) Missing
+      → IsFound (values_of name (map (header_bytes bytes) (take (i + 1) fs))) (One value)
+  find_first value is e h =
+      rw (values_more name bytes fs i d fits, e) (subst (λ (v : List ℕ). IsFound (values_of name (map (header_bytes bytes) (take i fs)) ++ v ∷ []) (One value)) is (found_first _ value h))
 
   pub find_again : (f : Found) → str_eq_ignore_ascii_case (header_bytes bytes (get_or fs i d)).0 name ≡ true
-      → IsFound bytes (values_of name (map (header_bytes bytes) (take i fs))) f → (f ≡ Missing → ⊥)
-      → IsFound bytes (values_of name (map (header_bytes bytes) (take (i + 1) fs))) Several
-  find_again f e h other = rw (values_more name bytes fs i d fits, e) (found_again bytes _ _ f h other)
+      → IsFound (values_of name (map (header_bytes bytes) (take i fs))) f → (f ≡ Missing → ⊥)
+      → IsFound (values_of name (map (header_bytes bytes) (take (i + 1) fs))) Several
+  find_again f e h other = rw (values_more name bytes fs i d fits, e) (found_again _ _ f h other)
 
   -- one field more, under a test of the value
   pub says_more : (t : List ℕ → Bool) → list_any t (values_of name (map (header_bytes bytes) (take (i + 1) fs)))

@@ -8,7 +8,8 @@ use Rattle.httparse.specs.declared.spans.RequestSpans.{RequestSpans}
 use Rattle.pawn_wire.specs.declared.fault.HeadFault.{HeadFault}
 use Rattle.httparse.specs.declared.spans.HeaderSpan.{HeaderSpan}
 use Rattle.httparse.proofs.GrammarLemmas.{ReadsRequest-append}
-use Rattle.pawn_wire.specs.Head.{ReadsHead, NeverHasHead, max_head, max_fields, body_length, closes_by, fields_of}
+use Rattle.pawn_wire.specs.Head.{ReadsHead, NeverHasHead, body_length, closes_by, fields_of}
+use Rattle.pawn_wire.specs.Limits.{max_head, max_fields}
 
 -- what follows the front is no part of the head
 pub reads_on : (s : List ℕ) (n : ℕ) (h : RequestHead) (rest : List ℕ) → ReadsRequest (take n s) h rest → ReadsRequest s h (rest ++ drop n s)

@@ -6,7 +6,8 @@ use Rattle.httparse.specs.Grammar.{RequestHead, print_request, HasNoRequest}
 use Rattle.httparse.specs.Spans.{RequestOverflows, header_bytes, span_bytes, IsRequestAt}
 use Rattle.httparse.specs.declared.spans.HeaderSpan.{HeaderSpan}
 use Rattle.httparse.specs.declared.spans.RequestSpans.{RequestSpans}
-use Rattle.pawn_wire.specs.Head.{ReadsHead, fields_of, max_head, max_fields}
+use Rattle.pawn_wire.specs.Head.{ReadsHead, fields_of}
+use Rattle.pawn_wire.specs.Limits.{max_head, max_fields}
 use Rattle.pawn_wire.specs.Chain.{Says}
 use Rattle.pawn_wire.specs.declared.fault.WireFault.{WireFault}
 use Rattle.pawn_wire.specs.Request.{request_by, IsRead, Reads}

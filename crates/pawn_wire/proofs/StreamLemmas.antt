@@ -1,16 +1,17 @@
 -- Heads at the front of a stream, and what follows them.
-use Rattle.std.proofs.Common.{◌≡◌, ℕ, ◌+◌, ◌<◌, ◌≤◌, List, [], ◌∷◌, ◌++◌, length, refl, sym, ap, ◌∙◌, arith, append_assoc, append-nil, length-append, take, Result, Ok, Err, inl, inr, true, false, Option, Some, None}
-use Rattle.std.specs.Prelude.{IsTrue, codes, nat_le, if◌then◌else◌}
+use Rattle.std.proofs.Common.{◌≡◌, ℕ, ◌+◌, ◌<◌, ◌≤◌, List, [], ◌∷◌, ◌++◌, length, refl, sym, ap, ◌∙◌, arith, append_assoc, append-nil, length-append, take, Ok, inl, inr, true, false}
+use Rattle.std.specs.Prelude.{IsTrue, Bool, nat_lt, unwrap_or}
 use Rattle.std.proofs.lemmas.Bool.Decides.{nat_tests}
 use Rattle.std.proofs.lemmas.List.Elements.{All-cons, All-nil}
 use Rattle.std.proofs.Math.Seq.{take-append-add}
 use Rattle.httparse.specs.Grammar.{RequestHead, IsRequestHead, print_request, is_token_byte, is_uri_byte, lf}
 use Rattle.httparse.specs.Spans.{RequestOverflows}
 use Rattle.httparse.proofs.GrammarLemmas.{ReadsRequest-append, print_request-append}
-use Rattle.pawn_wire.specs.Fields.{decimal_of, values_of}
-use Rattle.pawn_wire.specs.Head.{ReadsHead, NeverHasHead, IsBadHead, IsHead, fields_of, length_in_limit, unless_coded, max_fields, max_head, max_body}
-use Rattle.pawn_wire.specs.declared.fault.HeadFault.{HeadFault}
-use Rattle.pawn_wire.specs.declared.fault.HeadFault.TheVariants.{BodyTooLong}
+use Rattle.pawn_terms.specs.Refusals.{first_of}
+use Rattle.pawn_wire.specs.Fields.{Pair}
+use Rattle.pawn_wire.specs.Head.{ReadsHead, NeverHasHead, IsBadHead, IsHead, fields_of, length_by, body_length}
+use Rattle.pawn_wire.specs.Limits.{max_fields, max_head, max_body}
+use Rattle.pawn_wire.specs.declared.fault.HeadFault.TheVariants.{Transfer, BadLength, BodyTooLong}
 use Rattle.pawn_wire.specs.declared.head.HeadFacts.{HeadFacts}
 
 -- a head stays one, whatever follows
@@ -71,22 +72,18 @@ nil_is_no_bad_head (inr full) = omega (arith, full.0)
 
 -- ---- a head's facts are small
 
-within_limit : (d : Option ℕ) (n : ℕ) → length_in_limit d ≡ Ok n → n ≤ max_body
-within_limit None n e = absurd cc
-within_limit (Some m) n e =
-    elim (nat_le m 1048576) as (λ v. nat_le m 1048576 ≡ v → ◌≡◌ {A = Result ℕ HeadFault} (if v then Ok m else Err BodyTooLong) (Ok n) → n ≤ max_body) [
-      | true ↦ λ t same. (let k : m ≡ n = cc in grind (arith, nat_tests, k, t))
-      | false ↦ λ t same. absurd cc
-    ] refl e
-
-said_within : (coded lengths : List (List ℕ)) (n : ℕ) → unless_coded coded lengths ≡ Ok n → n ≤ max_body
-said_within [] [] n e = (let k : 0 ≡ n = cc in omega arith)
-said_within [] (v ∷ []) n e = within_limit (decimal_of v) n e
-said_within [] (v ∷ w ∷ vs) n e = absurd cc
-said_within (c ∷ cs) lengths n e = absurd cc
+body_within : (fields : List Pair) (n : ℕ) → body_length fields ≡ Ok n → n ≤ max_body
+body_within fields n e = by_test _ _ (unwrap_or (length_by fields) 0) (nat_lt max_body (unwrap_or (length_by fields) 0)) refl e
+  where
+    by_test : (coded bad : Bool) (told : ℕ) (long : Bool) → nat_lt max_body told ≡ long
+        → first_of ((coded, Transfer) ∷ (bad, BadLength) ∷ (long, BodyTooLong) ∷ []) (Ok told) ≡ Ok n → n ≤ max_body
+    by_test true bad told long is same = absurd cc
+    by_test false true told long is same = absurd cc
+    by_test false false told true is same = absurd cc
+    by_test false false told false is same = (let k : told ≡ n = cc in grind (arith, nat_tests, k, is))
 
 -- a head and its body have few bytes
 pub small_head : (h : RequestHead) (f : HeadFacts) → length (print_request h) ≤ max_head → IsHead h f → f.len + f.body ≤ max_head + max_body
 small_head h f small is =
-    let body = said_within (values_of (codes "transfer-encoding") (fields_of h)) (values_of (codes "content-length") (fields_of h)) f.body is.body in
+    let body = body_within (fields_of h) f.body is.body in
     omega (arith, body, is.len, small)

@@ -1,92 +1,31 @@
--- What some targets ask for, one at a time.
-use Rattle.std.proofs.Common.{◌≡◌, Some, None, refl}
-use Rattle.std.specs.Prelude.{codes}
+-- The targets of the table are found, a few at a time, since each is computed.
+use Rattle.std.proofs.Common.{ℕ, List, [], ◌∷◌, take, drop, zero, suc, refl}
 use Rattle.matchit.proofs.OnLiterals.{matchit_on_literals}
-use Rattle.pawn_wire.specs.Route.{table_rows, asked_of}
-use Rattle.pawn_wire.specs.declared.route.Endpoint.TheVariants as e
-use Rattle.pawn_wire.specs.declared.route.PledgeAction.TheVariants as p
-use Rattle.pawn_wire.specs.declared.route.ReceiptAction.TheVariants as q
+use Rattle.pawn_pledge.specs.Replayable.{Each}
+use Rattle.pawn_wire.specs.Laws.{IsTargetFound}
+use Rattle.pawn_wire.specs.Route.{table_rows, table}
 
-pub finds_book : asked_of (codes "/books/7") ≡ Some (record { endpoint = e.Create; book = Some (codes "7"); item = None })
-unfolding table_rows matchit_on_literals
-finds_book = refl
+pub each_part : {A : Type 0} (P : A → Type 0) (n : ℕ) (xs : List A) → Each P (take n xs) → Each P (drop n xs) → Each P xs
+each_part P zero xs front rest = rest
+each_part P (suc n) [] front rest = rest
+each_part P (suc n) (x ∷ xs) front rest = (front.0, each_part P n xs front.1 rest)
 
-pub finds_terms : asked_of (codes "/books/7/terms") ≡ Some (record { endpoint = e.PutTerms; book = Some (codes "7"); item = None })
+pub first_targets : Each IsTargetFound (take 4 table)
 unfolding table_rows matchit_on_literals
-finds_terms = refl
+first_targets = (refl, (refl, (refl, (refl, tt))))
 
-pub finds_pledges : asked_of (codes "/books/12/pledges") ≡ Some (record { endpoint = e.TakePledge; book = Some (codes "12"); item = None })
+pub second_targets : Each IsTargetFound (take 4 (drop 4 table))
 unfolding table_rows matchit_on_literals
-finds_pledges = refl
+second_targets = (refl, (refl, (refl, (refl, tt))))
 
-pub finds_pledge : asked_of (codes "/books/12/pledges/3") ≡ Some (record { endpoint = e.Show; book = Some (codes "12"); item = Some (codes "3") })
+pub third_targets : Each IsTargetFound (take 4 (drop 8 table))
 unfolding table_rows matchit_on_literals
-finds_pledge = refl
+third_targets = (refl, (refl, (refl, (refl, tt))))
 
-pub finds_draw : asked_of (codes "/books/7/pledges/12/draw") ≡ Some (record { endpoint = e.OnPledge p.Draw; book = Some (codes "7"); item = Some (codes "12") })
+pub fourth_targets : Each IsTargetFound (take 4 (drop 12 table))
 unfolding table_rows matchit_on_literals
-finds_draw = refl
+fourth_targets = (refl, (refl, (refl, (refl, tt))))
 
-pub finds_repay : asked_of (codes "/books/7/pledges/12/repay") ≡ Some (record { endpoint = e.OnPledge p.Repay; book = Some (codes "7"); item = Some (codes "12") })
+pub last_targets : Each IsTargetFound (drop 16 table)
 unfolding table_rows matchit_on_literals
-finds_repay = refl
-
-pub finds_hold : asked_of (codes "/books/7/pledges/12/hold") ≡ Some (record { endpoint = e.OnPledge p.Hold; book = Some (codes "7"); item = Some (codes "12") })
-unfolding table_rows matchit_on_literals
-finds_hold = refl
-
-pub finds_release : asked_of (codes "/books/7/pledges/12/release") ≡ Some (record { endpoint = e.OnPledge p.Release; book = Some (codes "7"); item = Some (codes "12") })
-unfolding table_rows matchit_on_literals
-finds_release = refl
-
-pub finds_declare : asked_of (codes "/books/7/pledges/12/declare") ≡ Some (record { endpoint = e.OnPledge p.Declare; book = Some (codes "7"); item = Some (codes "12") })
-unfolding table_rows matchit_on_literals
-finds_declare = refl
-
-pub finds_decide : asked_of (codes "/books/7/pledges/12/decide") ≡ Some (record { endpoint = e.OnPledge p.Decide; book = Some (codes "7"); item = Some (codes "12") })
-unfolding table_rows matchit_on_literals
-finds_decide = refl
-
-pub finds_sell : asked_of (codes "/books/7/pledges/12/sell") ≡ Some (record { endpoint = e.OnPledge p.Sell; book = Some (codes "7"); item = Some (codes "12") })
-unfolding table_rows matchit_on_literals
-finds_sell = refl
-
-pub finds_extend : asked_of (codes "/books/7/pledges/12/extend") ≡ Some (record { endpoint = e.OnPledge p.Extend; book = Some (codes "7"); item = Some (codes "12") })
-unfolding table_rows matchit_on_literals
-finds_extend = refl
-
-pub finds_held : asked_of (codes "/books/7/held") ≡ Some (record { endpoint = e.Held; book = Some (codes "7"); item = None })
-unfolding table_rows matchit_on_literals
-finds_held = refl
-
-pub finds_held_repay : asked_of (codes "/books/7/held/repay") ≡ Some (record { endpoint = e.OnReceipt q.Repay; book = Some (codes "7"); item = None })
-unfolding table_rows matchit_on_literals
-finds_held_repay = refl
-
-pub finds_held_ask : asked_of (codes "/books/7/held/ask") ≡ Some (record { endpoint = e.OnReceipt q.Ask; book = Some (codes "7"); item = None })
-unfolding table_rows matchit_on_literals
-finds_held_ask = refl
-
-pub finds_held_cancel : asked_of (codes "/books/7/held/cancel") ≡ Some (record { endpoint = e.OnReceipt q.Cancel; book = Some (codes "7"); item = None })
-unfolding table_rows matchit_on_literals
-finds_held_cancel = refl
-
-pub finds_held_redeem : asked_of (codes "/books/7/held/redeem") ≡ Some (record { endpoint = e.OnReceipt q.Redeem; book = Some (codes "7"); item = None })
-unfolding table_rows matchit_on_literals
-finds_held_redeem = refl
-
-pub finds_no_action : asked_of (codes "/books/7/held/nope") ≡ None
-unfolding table_rows matchit_on_literals
-finds_no_action = refl
-
-pub finds_query : asked_of (codes "/books/7/held?x=1") ≡ None
-unfolding table_rows matchit_on_literals
-finds_query = refl
-
-pub finds_slash : asked_of (codes "/books/7/held/") ≡ None
-unfolding table_rows matchit_on_literals
-finds_slash = refl
-
-pub finds_nowhere : asked_of (codes "/nowhere") ≡ None
-unfolding table_rows matchit_on_literals
-finds_nowhere = refl
+last_targets = (refl, tt)

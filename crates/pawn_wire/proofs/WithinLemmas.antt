@@ -1,6 +1,6 @@
 -- What bytes say is within the limits of its parts.
 use Rattle.std.proofs.Common.{◌≡◌, ℕ, ◌≤◌, List, [], ◌∷◌, length, Bool, true, false, Option, Some, None, IfSome, Result, Ok, Err, refl, sym, ap, subst, arith, inl, inr}
-use Rattle.std.specs.Prelude.{◌==◌, ◌&&◌, nat_le, nat_lt, bytes_eq, if◌then◌else◌, is_some, option_map, option_and_then, codes}
+use Rattle.std.specs.Prelude.{◌==◌, ◌&&◌, not, nat_le, nat_lt, bytes_eq, if◌then◌else◌, is_some, option_map, option_and_then, slice_get, codes}
 use Rattle.std.proofs.lemmas.Bool.Decides.{nat_tests}
 use Rattle.serde_json.specs.Data.{Data}
 use Rattle.std.specs.List.{before_first, after_first}
@@ -12,9 +12,13 @@ use Rattle.pawn_pledge.specs.Text.{is_text, IsText}
 use Rattle.pawn_pledge.specs.Replayable.{IsOpening}
 use Rattle.pawn_pledge.specs.declared.record.Opening.{Opening}
 use Rattle.pawn_pledge.specs.declared.receipt.Receipt.{Receipt}
+use Rattle.pawn_terms.specs.Refusals.{first_of}
+use Rattle.pawn_pledge.specs.declared.command.Command.{Command}
+use Rattle.pawn_book.specs.Commands.{broker_command, bearer_command}
 use Rattle.pawn_book.specs.Limits.{IsCapacity, AreFew}
 use Rattle.pawn_book.specs.declared.request.NewBook.{NewBook}
 use Rattle.pawn_book.specs.declared.request.Request.{Request}
+use Rattle.pawn_book.specs.declared.request.Caller.{Caller}
 use Rattle.pawn_book.specs.declared.request.Caller.TheVariants.{Operator, Broker, Bearer}
 use Rattle.pawn_book.specs.declared.request.BrokerRequest.TheVariants as broker
 use Rattle.pawn_book.specs.declared.request.BearerRequest.TheVariants as bearer
@@ -24,25 +28,25 @@ use Rattle.pawn_book.specs.declared.request.BearerCommand.{BearerCommand}
 use Rattle.pawn_book.specs.declared.request.BearerCommand.TheVariants as r
 use Rattle.pawn_wire.specs.Body.{new_book_of, new_terms_of, opening_of, kind_of, day_or_null, day_if_any, optional_day_at}
 use Rattle.pawn_wire.specs.Chain.{after, given, or_fault}
-use Rattle.pawn_wire.specs.Commands.{entry_of, paper_of, decision_of, asked_booking_of, broker_said, bearer_said}
+use Rattle.pawn_wire.specs.Commands.{entry_of, paper_of, decision_of, booking_of, command_said}
 use Rattle.pawn_wire.specs.Fields.{Pair}
 use Rattle.pawn_wire.specs.Head.{fields_of}
-use Rattle.pawn_wire.specs.Laws.{IsShort, IsBrokerCommandWithin, IsBearerCommandWithin, IsCallerWithin}
+use Rattle.pawn_wire.specs.Laws.{IsShort, IsCommandWithin, IsCallerWithin}
+use Rattle.pawn_wire.specs.Limits.{max_number, most_receipts}
 use Rattle.pawn_wire.specs.Member.{json_of, in_range, number_at, string_at, flag_at, if_text, text_at, key_at, day_at, body_said}
 use Rattle.pawn_wire.specs.Named.{number_said, day_said}
-use Rattle.pawn_wire.specs.Receipts.{is_hyphen, receipt_said, all_said, presented, receipts_said, one_said}
-use Rattle.pawn_wire.specs.Request.{framed, place_of, place_asked, item_said, is_ascii_text, keyed, said_at, request_by, Reads}
+use Rattle.pawn_wire.specs.Receipts.{is_hyphen, receipt_said, all_said, presented, receipt_faults, receipts_said, one_said}
+use Rattle.pawn_wire.specs.Request.{framing_faults, place_of, place_asked, item_said, is_ascii_text, keyed, caller_said, request_by, Reads}
 use Rattle.pawn_wire.specs.Route.{AskedFor, asked_of, method_of}
+use Rattle.pawn_wire.specs.Senders.{of_broker, of_bearer}
 use Rattle.pawn_wire.specs.declared.commands.NewEntry.{NewEntry}
 use Rattle.pawn_wire.specs.declared.fault.WireFault.{WireFault}
-use Rattle.pawn_wire.specs.declared.fault.WireFault.TheVariants.{NoRoute, WrongMethod, BadReceipt, TooManyReceipts, NoReceipt}
+use Rattle.pawn_wire.specs.declared.fault.WireFault.TheVariants.{NoRoute, WrongMethod, BadBody, BadReceipt, TooManyReceipts, NoReceipt}
 use Rattle.pawn_wire.specs.declared.request.Place.{Place}
 use Rattle.pawn_wire.specs.declared.route.Endpoint.{Endpoint}
 use Rattle.pawn_wire.specs.declared.route.Endpoint.TheVariants.{Create, PutTerms, TakePledge, Show, OnPledge, Held, OnReceipt}
-use Rattle.pawn_wire.specs.declared.route.PledgeAction.{PledgeAction}
-use Rattle.pawn_wire.specs.declared.route.PledgeAction.TheVariants.{Draw, Repay, Hold, Release, Declare, Decide, Sell, Extend}
-use Rattle.pawn_wire.specs.declared.route.ReceiptAction.{ReceiptAction}
-use Rattle.pawn_wire.specs.declared.route.ReceiptAction.TheVariants as q
+use Rattle.pawn_wire.specs.declared.route.Action.{Action}
+use Rattle.pawn_wire.specs.declared.route.Action.TheVariants.{Draw, Repay, Hold, Release, Declare, Ask, Cancel, Decide, Redeem, Sell, Extend}
 use Rattle.pawn_wire.proofs.NamedLemmas.{number_said-is, day_said-is}
 use Rattle.pawn_wire.proofs.ReceiptLemmas.{all_said-length}
 
@@ -60,14 +64,15 @@ or_fault_ok : {A : Type 0} (fault : WireFault) (x : Option A) (a : A) → or_fau
 or_fault_ok fault None a e = absurd cc
 or_fault_ok fault (Some b) a e = (let same : b ≡ a = cc in ap Some same)
 
-unless_ok : {A : Type 0} (b : Bool) (x : Result A WireFault) (fault : WireFault) (a : A) → (if b then x else Err fault) ≡ Ok a → x ≡ Ok a
-unless_ok true x fault a e = e
-unless_ok false x fault a e = absurd cc
+first_ok : {A : Type 0} (rows : List (Bool × WireFault)) (answer : Result A WireFault) (a : A) → first_of rows answer ≡ Ok a → answer ≡ Ok a
+first_ok [] answer a e = e
+first_ok ((true, fault) ∷ rows) answer a e = absurd cc
+first_ok ((false, fault) ∷ rows) answer a e = first_ok rows answer a e
 
-body_ok : {A : Type 0} (part : Data → Option A) (body : List ℕ) (a : A) → body_said part body ≡ Ok a → (d : Data) × (part d ≡ Some a)
-body_ok part body a e =
-    let d = given_some (json_of body) part a (or_fault_ok _ (given (json_of body) part) a e) in
-    (d.0, d.2)
+-- what holds of each value that a part gives holds of the one that it gave
+mapped : {A B : Type 0} (P : B → Type 0) (f : A → B) (x : Option A) (b : B) → option_map f x ≡ Some b → ((a : A) → x ≡ Some a → P (f a)) → P b
+mapped P f None b e each = absurd cc
+mapped P f (Some a) b e each = (let same : f a ≡ b = cc in subst P same (each a refl))
 
 -- ---- parts
 
@@ -134,10 +139,10 @@ opening_within d opening e =
     })
 
 few_within : (values : List (List ℕ)) (receipts : List Receipt) → receipts_said values ≡ Ok receipts → AreFew receipts
-few_within values receipts e = by_test (length values == 0) (nat_lt 32 (length values)) refl refl e
+few_within values receipts e = by_test (length values == 0) (nat_lt most_receipts (length values)) refl refl e
   where
-    by_test : (a b : Bool) → (length values == 0) ≡ a → nat_lt 32 (length values) ≡ b
-        → (if a then Err NoReceipt else if b then Err TooManyReceipts else or_fault BadReceipt (all_said values)) ≡ Ok receipts → AreFew receipts
+    by_test : (a b : Bool) → (length values == 0) ≡ a → nat_lt most_receipts (length values) ≡ b
+        → first_of ((a, NoReceipt) ∷ (b, TooManyReceipts) ∷ []) (or_fault BadReceipt (all_said values)) ≡ Ok receipts → AreFew receipts
     by_test true b none many same = absurd cc
     by_test false true none many same = absurd cc
     by_test false false none many same =
@@ -149,9 +154,9 @@ few_within values receipts e = by_test (length values == 0) (nat_lt 32 (length v
 number_within : (name : List ℕ) (d : Data) (n : ℕ) → number_at name d ≡ Some n → IsShort n
 number_within name d n e = number_chain (option_and_then as_u64 (option_and_then as_number (get name d))) e
   where
-    number_chain : (said : Option ℕ) → option_and_then (in_range 0 999999999999) said ≡ Some n → IsShort n
+    number_chain : (said : Option ℕ) → option_and_then (in_range 0 max_number) said ≡ Some n → IsShort n
     number_chain None same = absurd cc
-    number_chain (Some m) same = (ranged 0 999999999999 m n same).1
+    number_chain (Some m) same = (ranged 0 max_number m n same).1
 
 entry_within : (d : Data) (entry : NewEntry) → entry_of d ≡ Some entry → IsShort entry.seq × IsShort entry.pence
 entry_within d entry e =
@@ -164,67 +169,38 @@ entry_within d entry e =
 day_at_within : (name : List ℕ) (d : Data) (day : ℕ) → day_at name d ≡ Some day → IsStampDay day
 day_at_within name d day e = let text = given_some (string_at name d) day_said day e in day_within text.0 day text.2
 
-booking_within : (d : Data) (command : BearerCommand) → asked_booking_of d ≡ Some command → IsBearerCommandWithin command
+booking_within : (d : Data) (command : Command) → booking_of d ≡ Some command → IsCommandWithin command
 booking_within d command e =
     let day = given_some (day_at (codes "day") d) _ command e in
     let window = given_some (number_at (codes "window") d) _ command day.2 in
-    let same : ◌≡◌ {A = BearerCommand} (r.AskBooking day.0 window.0) command = cc (window.2) in
-    subst (λ (c : BearerCommand). IsBearerCommandWithin c) same
-    (day_at_within (codes "day") d day.0 day.1, number_within (codes "window") d window.0 window.1)
+    let same : ◌≡◌ {A = Command} (Command.AskBooking day.0 window.0) command = cc (window.2) in
+    subst IsCommandWithin same (day_at_within (codes "day") d day.0 day.1, number_within (codes "window") d window.0 window.1)
 
-broker_within : (action : PledgeAction) (body : List ℕ) (command : BrokerCommand) → broker_said action body ≡ Ok command → IsBrokerCommandWithin command
-broker_within Draw body command e =
-    let entry = after_ok (body_said entry_of body) _ command e in
-    let said = body_ok entry_of body entry.0 entry.1 in
-    let same : ◌≡◌ {A = BrokerCommand} (b.Draw entry.0.seq entry.0.pence) command = cc (entry.2) in
-    subst (λ (c : BrokerCommand). IsBrokerCommandWithin c) same (entry_within said.0 entry.0 said.1)
-broker_within Repay body command e =
-    let entry = after_ok (body_said entry_of body) _ command e in
-    let said = body_ok entry_of body entry.0 entry.1 in
-    let same : ◌≡◌ {A = BrokerCommand} (b.Repay entry.0.seq entry.0.pence) command = cc (entry.2) in
-    subst (λ (c : BrokerCommand). IsBrokerCommandWithin c) same (entry_within said.0 entry.0 said.1)
-broker_within Hold body command e =
-    let same : ◌≡◌ {A = BrokerCommand} b.Hold command = cc in
-    subst (λ (c : BrokerCommand). IsBrokerCommandWithin c) same tt
-broker_within Release body command e =
-    let same : ◌≡◌ {A = BrokerCommand} b.Release command = cc in
-    subst (λ (c : BrokerCommand). IsBrokerCommandWithin c) same tt
-broker_within Declare body command e =
-    let paper = after_ok (body_said paper_of body) _ command e in
-    let same : ◌≡◌ {A = BrokerCommand} (b.Declare paper.0) command = cc (paper.2) in
-    subst (λ (c : BrokerCommand). IsBrokerCommandWithin c) same tt
-broker_within Decide body command e =
-    let decision = after_ok (body_said decision_of body) _ command e in
-    let same : ◌≡◌ {A = BrokerCommand} (b.DecideBooking decision.0) command = cc (decision.2) in
-    subst (λ (c : BrokerCommand). IsBrokerCommandWithin c) same tt
-broker_within Sell body command e =
-    let net = after_ok (body_said (number_at (codes "net")) body) _ command e in
-    let said = body_ok (number_at (codes "net")) body net.0 net.1 in
-    let same : ◌≡◌ {A = BrokerCommand} (b.Sell net.0) command = cc (net.2) in
-    subst (λ (c : BrokerCommand). IsBrokerCommandWithin c) same (number_within (codes "net") said.0 net.0 said.1)
-broker_within Extend body command e =
-    let until = after_ok (body_said (day_at (codes "until")) body) _ command e in
-    let said = body_ok (day_at (codes "until")) body until.0 until.1 in
-    let same : ◌≡◌ {A = BrokerCommand} (b.Extend until.0) command = cc (until.2) in
-    subst (λ (c : BrokerCommand). IsBrokerCommandWithin c) same (day_at_within (codes "until") said.0 until.0 said.1)
+of_body : {A : Type 0} (P : A → Type 0) (part : Data → Option A) (body : List ℕ) (a : A) → body_said part body ≡ Some a → ((d : Data) → part d ≡ Some a → P a) → P a
+of_body P part body a e each = (let d = given_some (json_of body) part a e in each d.0 d.2)
 
-bearer_within : (action : ReceiptAction) (body : List ℕ) (command : BearerCommand) → bearer_said action body ≡ Ok command → IsBearerCommandWithin command
-bearer_within q.Repay body command e =
-    let entry = after_ok (body_said entry_of body) _ command e in
-    let said = body_ok entry_of body entry.0 entry.1 in
-    let same : ◌≡◌ {A = BearerCommand} (r.Repay entry.0.seq entry.0.pence) command = cc (entry.2) in
-    subst (λ (c : BearerCommand). IsBearerCommandWithin c) same (entry_within said.0 entry.0 said.1)
-bearer_within q.Ask body command e =
-    let said = body_ok asked_booking_of body command e in
-    booking_within said.0 command said.1
-bearer_within q.Cancel body command e =
-    let same : ◌≡◌ {A = BearerCommand} r.CancelBooking command = cc in
-    subst (λ (c : BearerCommand). IsBearerCommandWithin c) same tt
-bearer_within q.Redeem body command e =
-    let paid = after_ok (body_said (number_at (codes "paid")) body) _ command e in
-    let said = body_ok (number_at (codes "paid")) body paid.0 paid.1 in
-    let same : ◌≡◌ {A = BearerCommand} (r.Redeem paid.0) command = cc (paid.2) in
-    subst (λ (c : BearerCommand). IsBearerCommandWithin c) same (number_within (codes "paid") said.0 paid.0 said.1)
+command_within : (action : Action) (body : List ℕ) (command : Command) → command_said action body ≡ Some command → IsCommandWithin command
+command_within Draw body command e =
+    mapped IsCommandWithin (λ entry. Command.Draw entry.seq entry.pence) (body_said entry_of body) command e
+    (λ entry is. of_body (λ (n : NewEntry). IsShort n.seq × IsShort n.pence) entry_of body entry is (λ d. entry_within d entry))
+command_within Repay body command e =
+    mapped IsCommandWithin (λ entry. Command.Repay entry.seq entry.pence) (body_said entry_of body) command e
+    (λ entry is. of_body (λ (n : NewEntry). IsShort n.seq × IsShort n.pence) entry_of body entry is (λ d. entry_within d entry))
+command_within Hold body command e = (let same : Command.Hold ≡ command = cc in subst IsCommandWithin same tt)
+command_within Release body command e = (let same : Command.Release ≡ command = cc in subst IsCommandWithin same tt)
+command_within Declare body command e = mapped IsCommandWithin Command.Declare (body_said paper_of body) command e (λ paper is. tt)
+command_within Ask body command e = of_body IsCommandWithin booking_of body command e (λ d. booking_within d command)
+command_within Cancel body command e = (let same : Command.CancelBooking ≡ command = cc in subst IsCommandWithin same tt)
+command_within Decide body command e = mapped IsCommandWithin Command.DecideBooking (body_said decision_of body) command e (λ decision is. tt)
+command_within Redeem body command e =
+    mapped IsCommandWithin Command.Redeem (body_said (number_at (codes "paid")) body) command e
+    (λ paid is. of_body IsShort (number_at (codes "paid")) body paid is (λ d. number_within (codes "paid") d paid))
+command_within Sell body command e =
+    mapped IsCommandWithin Command.Sell (body_said (number_at (codes "net")) body) command e
+    (λ net is. of_body IsShort (number_at (codes "net")) body net is (λ d. number_within (codes "net") d net))
+command_within Extend body command e =
+    mapped IsCommandWithin Command.Extend (body_said (day_at (codes "until")) body) command e
+    (λ until is. of_body IsStampDay (day_at (codes "until")) body until is (λ d. day_at_within (codes "until") d until))
 
 receipt_within : (text : List ℕ) (receipt : Receipt) → receipt_said text ≡ Some receipt → IsNumber receipt.number
 receipt_within text receipt e =
@@ -238,56 +214,73 @@ receipt_within text receipt e =
         subst (λ (x : Receipt). IsNumber x.number) k range
 
 one_within : (values : List (List ℕ)) (receipt : Receipt) → one_said values ≡ Ok receipt → IsNumber receipt.number
-one_within [] receipt e = absurd cc
-one_within (value ∷ []) receipt e = receipt_within value receipt (or_fault_ok BadReceipt (receipt_said value) receipt e)
-one_within (value ∷ other ∷ values) receipt e = absurd cc
+one_within values receipt e =
+    let one = or_fault_ok BadReceipt (given (slice_get values 0) receipt_said) receipt (first_ok (receipt_faults 1 values) (or_fault BadReceipt (given (slice_get values 0) receipt_said)) receipt e) in
+    let value = given_some (slice_get values 0) receipt_said receipt one in
+    receipt_within value.0 receipt value.2
 
 -- ---- requests
 
-item_is : (item : Option ℕ) (number : ℕ) → or_fault NoRoute item ≡ Ok number → IfSome item IsNumber → IsNumber number
-item_is item number e range = subst (λ (o : Option ℕ). IfSome o IsNumber) (or_fault_ok NoRoute item number e) range
+of_broker_is : (command : Command) (sent : BrokerCommand) → of_broker command ≡ Some sent → command ≡ broker_command sent
+of_broker_is (Command.Draw seq pence) sent e = (let same : ◌≡◌ {A = BrokerCommand} (b.Draw seq pence) sent = cc in ap broker_command same)
+of_broker_is (Command.Repay seq pence) sent e = (let same : ◌≡◌ {A = BrokerCommand} (b.Repay seq pence) sent = cc in ap broker_command same)
+of_broker_is Command.Hold sent e = (let same : ◌≡◌ {A = BrokerCommand} b.Hold sent = cc in ap broker_command same)
+of_broker_is Command.Release sent e = (let same : ◌≡◌ {A = BrokerCommand} b.Release sent = cc in ap broker_command same)
+of_broker_is (Command.Declare paper) sent e = (let same : ◌≡◌ {A = BrokerCommand} (b.Declare paper) sent = cc in ap broker_command same)
+of_broker_is (Command.AskBooking day window) sent e = absurd cc
+of_broker_is Command.CancelBooking sent e = absurd cc
+of_broker_is (Command.DecideBooking decision) sent e = (let same : ◌≡◌ {A = BrokerCommand} (b.DecideBooking decision) sent = cc in ap broker_command same)
+of_broker_is (Command.Redeem paid) sent e = absurd cc
+of_broker_is (Command.Sell net) sent e = (let same : ◌≡◌ {A = BrokerCommand} (b.Sell net) sent = cc in ap broker_command same)
+of_broker_is (Command.Extend until) sent e = (let same : ◌≡◌ {A = BrokerCommand} (b.Extend until) sent = cc in ap broker_command same)
 
-said_within : (endpoint : Endpoint) (book : ℕ) (item : Option ℕ) (fields : List Pair) (body : List ℕ) (request : Request) → IsNumber book → IfSome item IsNumber
-    → said_at endpoint book item fields body ≡ Ok request → IsNumber request.book × IsCallerWithin request.caller
-said_within Create book item fields body request range numbered e =
-    let key = after_ok (keyed fields) _ request e in
-    let new = after_ok (body_said new_book_of body) _ request key.2 in
-    let said = body_ok new_book_of body new.0 new.1 in
-    let same : ◌≡◌ {A = Request} (record { book = book; caller = Operator key.0 new.0 }) request = cc (new.2) in
-    subst (λ (r : Request). IsNumber r.book × IsCallerWithin r.caller) same (range, new_book_within said.0 new.0 said.1)
-said_within PutTerms book item fields body request range numbered e =
-    let key = after_ok (keyed fields) _ request e in
-    let terms = after_ok (body_said new_terms_of body) _ request key.2 in
-    let same : ◌≡◌ {A = Request} (record { book = book; caller = Broker key.0 (broker.PutTerms terms.0) }) request = cc (terms.2) in
-    subst (λ (r : Request). IsNumber r.book × IsCallerWithin r.caller) same (range, tt)
-said_within TakePledge book item fields body request range numbered e =
-    let key = after_ok (keyed fields) _ request e in
-    let opening = after_ok (body_said opening_of body) _ request key.2 in
-    let said = body_ok opening_of body opening.0 opening.1 in
-    let same : ◌≡◌ {A = Request} (record { book = book; caller = Broker key.0 (broker.TakePledge opening.0) }) request = cc (opening.2) in
-    subst (λ (r : Request). IsNumber r.book × IsCallerWithin r.caller) same (range, opening_within said.0 opening.0 said.1)
-said_within Show book item fields body request range numbered e =
-    let number = after_ok (or_fault NoRoute item) _ request e in
-    let key = after_ok (keyed fields) _ request number.2 in
-    let same : ◌≡◌ {A = Request} (record { book = book; caller = Broker key.0 (broker.Show number.0) }) request = cc (key.2) in
-    subst (λ (r : Request). IsNumber r.book × IsCallerWithin r.caller) same (range, item_is item number.0 number.1 numbered)
-said_within (OnPledge action) book item fields body request range numbered e =
-    let number = after_ok (or_fault NoRoute item) _ request e in
-    let key = after_ok (keyed fields) _ request number.2 in
-    let command = after_ok (broker_said action body) _ request key.2 in
-    let same : ◌≡◌ {A = Request} (record { book = book; caller = Broker key.0 (broker.OnPledge number.0 command.0) }) request = cc (command.2) in
-    subst (λ (r : Request). IsNumber r.book × IsCallerWithin r.caller) same
-    (range, (item_is item number.0 number.1 numbered, broker_within action body command.0 command.1))
-said_within (OnReceipt action) book item fields body request range numbered e =
-    let receipt = after_ok (one_said (presented fields)) _ request e in
-    let command = after_ok (bearer_said action body) _ request receipt.2 in
-    let same : ◌≡◌ {A = Request} (record { book = book; caller = Bearer (bearer.OnPledge receipt.0 command.0) }) request = cc (command.2) in
-    subst (λ (r : Request). IsNumber r.book × IsCallerWithin r.caller) same
-    (range, (one_within (presented fields) receipt.0 receipt.1, bearer_within action body command.0 command.1))
-said_within Held book item fields body request range numbered e =
-    let receipts = after_ok (receipts_said (presented fields)) _ request e in
-    let same : ◌≡◌ {A = Request} (record { book = book; caller = Bearer (bearer.Held receipts.0) }) request = cc (receipts.2) in
-    subst (λ (r : Request). IsNumber r.book × IsCallerWithin r.caller) same (range, few_within (presented fields) receipts.0 receipts.1)
+of_bearer_is : (command : Command) (sent : BearerCommand) → of_bearer command ≡ Some sent → command ≡ bearer_command sent
+of_bearer_is (Command.Draw seq pence) sent e = absurd cc
+of_bearer_is (Command.Repay seq pence) sent e = (let same : ◌≡◌ {A = BearerCommand} (r.Repay seq pence) sent = cc in ap bearer_command same)
+of_bearer_is Command.Hold sent e = absurd cc
+of_bearer_is Command.Release sent e = absurd cc
+of_bearer_is (Command.Declare paper) sent e = absurd cc
+of_bearer_is (Command.AskBooking day window) sent e = (let same : ◌≡◌ {A = BearerCommand} (r.AskBooking day window) sent = cc in ap bearer_command same)
+of_bearer_is Command.CancelBooking sent e = (let same : ◌≡◌ {A = BearerCommand} r.CancelBooking sent = cc in ap bearer_command same)
+of_bearer_is (Command.DecideBooking decision) sent e = absurd cc
+of_bearer_is (Command.Redeem paid) sent e = (let same : ◌≡◌ {A = BearerCommand} (r.Redeem paid) sent = cc in ap bearer_command same)
+of_bearer_is (Command.Sell net) sent e = absurd cc
+of_bearer_is (Command.Extend until) sent e = absurd cc
+
+caller_within : (endpoint : Endpoint) (item : Option ℕ) (fields : List Pair) (body : List ℕ) (caller : Caller) → IfSome item IsNumber
+    → caller_said endpoint item fields body ≡ Ok caller → IsCallerWithin caller
+caller_within Create item fields body caller numbered e =
+    let key = after_ok (keyed fields) _ caller e in
+    mapped IsCallerWithin (Operator key.0) (body_said new_book_of body) caller (or_fault_ok BadBody _ caller key.2)
+    (λ new is. of_body (λ (b : NewBook). IsText 60 b.name × IsCapacity b.capacity) new_book_of body new is (λ d. new_book_within d new))
+caller_within PutTerms item fields body caller numbered e =
+    let key = after_ok (keyed fields) _ caller e in
+    mapped IsCallerWithin (λ terms. Broker key.0 (broker.PutTerms terms)) (body_said new_terms_of body) caller (or_fault_ok BadBody _ caller key.2) (λ terms is. tt)
+caller_within TakePledge item fields body caller numbered e =
+    let key = after_ok (keyed fields) _ caller e in
+    mapped IsCallerWithin (λ opening. Broker key.0 (broker.TakePledge opening)) (body_said opening_of body) caller (or_fault_ok BadBody _ caller key.2)
+    (λ opening is. of_body IsOpening opening_of body opening is (λ d. opening_within d opening))
+caller_within Show item fields body caller numbered e =
+    let key = after_ok (keyed fields) _ caller e in
+    mapped IsCallerWithin (λ number. Broker key.0 (broker.Show number)) item caller (or_fault_ok BadBody _ caller key.2)
+    (λ number is. subst (λ (o : Option ℕ). IfSome o IsNumber) is numbered)
+caller_within (OnPledge action) item fields body caller numbered e =
+    let key = after_ok (keyed fields) _ caller e in
+    let number = given_some item _ caller (or_fault_ok BadBody _ caller key.2) in
+    mapped IsCallerWithin (λ command. Broker key.0 (broker.OnPledge number.0 command)) (given (command_said action body) of_broker) caller number.2
+    (λ command is.
+    let said = given_some (command_said action body) of_broker command is in
+    (subst (λ (o : Option ℕ). IfSome o IsNumber) number.1 numbered, subst IsCommandWithin (of_broker_is said.0 command said.2) (command_within action body said.0 said.1)))
+caller_within Held item fields body caller numbered e =
+    let receipts = after_ok (receipts_said (presented fields)) _ caller e in
+    let same : Bearer (bearer.Held receipts.0) ≡ caller = cc (receipts.2) in
+    subst IsCallerWithin same (few_within (presented fields) receipts.0 receipts.1)
+caller_within (OnReceipt action) item fields body caller numbered e =
+    let receipt = after_ok (one_said (presented fields)) _ caller e in
+    mapped IsCallerWithin (λ command. Bearer (bearer.OnPledge receipt.0 command)) (given (command_said action body) of_bearer) caller (or_fault_ok BadBody _ caller receipt.2)
+    (λ command is.
+    let said = given_some (command_said action body) of_bearer command is in
+    (one_within (presented fields) receipt.0 receipt.1, subst IsCommandWithin (of_bearer_is said.0 command said.2) (command_within action body said.0 said.1)))
 
 -- a place names numbers
 abbrev IsPlaceWithin : Place → Type 0
@@ -326,11 +319,12 @@ place_within target place e = by_test (is_ascii_text target) e
 request_within : (method target : List ℕ) (fields : List Pair) (body : List ℕ) (request : Request)
     → request_by method target fields body ≡ Ok request → IsNumber request.book × IsCallerWithin request.caller
 request_within method target fields body request e =
-    let sized = after_ok (framed fields (length body)) _ request e in
-    let place = after_ok (or_fault NoRoute (place_of target)) _ request sized.2 in
-    let said = unless_ok (bytes_eq (method_of place.0.endpoint) method) (said_at place.0.endpoint place.0.book place.0.item fields body) WrongMethod request place.2 in
+    let place = after_ok (or_fault NoRoute (place_of target)) _ request (first_ok (framing_faults fields body) _ request e) in
+    let caller = after_ok (caller_said place.0.endpoint place.0.item fields body) _ request (first_ok ((not (bytes_eq (method_of place.0.endpoint) method), WrongMethod) ∷ []) _ request place.2) in
     let within = place_within target place.0 (or_fault_ok NoRoute (place_of target) place.0 place.1) in
-    said_within place.0.endpoint place.0.book place.0.item fields body request within.0 within.1 said
+    let same : ◌≡◌ {A = Request} (record { book = place.0.book; caller = caller.0 }) request = cc (caller.2) in
+    subst (λ (r : Request). IsNumber r.book × IsCallerWithin r.caller) same
+    (within.0, caller_within place.0.endpoint place.0.item fields body caller.0 within.1 caller.1)
 
 -- a request that bytes say is within the limits of its parts
 pub reads_within : (bytes : List ℕ) (request : Request) → Reads bytes (Ok request) → IsNumber request.book × IsCallerWithin request.caller

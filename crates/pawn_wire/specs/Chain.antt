@@ -3,7 +3,7 @@ use Rattle.std.specs.Prelude.{◌≡◌, ◌⊎◌, Option, Some, None, Result, 
 use Rattle.pawn_wire.specs.declared.fault.WireFault.{WireFault}
 use Rattle.pawn_wire.specs.declared.fault.WireFault.TheVariants.{Memory}
 
--- one step, and then what it gives the next; or its fault
+-- one step, and then what it gives the next, or its fault
 abbrev pub after : {A B : Type 0} → Result A WireFault → (A → Result B WireFault) → Result B WireFault
 after (Ok a) next = next a
 after (Err fault) next = Err fault

@@ -1,24 +1,18 @@
 -- Heads of requests.
-use Rattle.std.specs.Prelude.{◌≡◌, ℕ, ◌<◌, ◌≤◌, ◌⊎◌, ◌||◌, ◌==◌, nat_le, Bool, List, [], ◌∷◌, ◌++◌, length, map, codes, if◌then◌else◌, Option, Some, None, Result, Ok, Err}
+use Rattle.std.specs.Prelude.{◌≡◌, ℕ, ◌<◌, ◌≤◌, ◌⊎◌, ◌||◌, ◌==◌, nat_lt, Bool, List, [], ◌∷◌, ◌++◌, length, map, codes, Option, Some, None, is_none, unwrap_or, Result, Ok, Err}
 use Rattle.std.specs.List.{list_any}
 use Rattle.std.specs.Str.{str_eq_ignore_ascii_case}
 use Rattle.httparse.specs.Grammar.{RequestHead, ReadsRequest, print_request, HasNoRequest, MayBecomeRequest}
 use Rattle.httparse.specs.Spans.{name_and_value, RequestOverflows}
-use Rattle.pawn_wire.specs.Fields.{Pair, values_of, decimal_of}
+use Rattle.pawn_terms.specs.Refusals.{first_of}
+use Rattle.pawn_wire.specs.Fields.{Pair, values_of}
+use Rattle.pawn_wire.specs.Limits.{max_head, max_fields, max_body}
+use Rattle.pawn_wire.specs.Numeral.{decimal_of}
 use Rattle.pawn_wire.specs.declared.fault.HeadFault.{HeadFault}
 use Rattle.pawn_wire.specs.declared.fault.HeadFault.TheVariants.{BadHead, Transfer, BadLength, BodyTooLong}
 use Rattle.pawn_wire.specs.declared.head.HeadRead.{HeadRead}
 use Rattle.pawn_wire.specs.declared.head.HeadRead.TheVariants.{Whole, Partial, Fault}
 use Rattle.pawn_wire.specs.declared.head.HeadFacts.{HeadFacts}
-
-abbrev pub max_head : ℕ
-max_head = 8192
-
-abbrev pub max_fields : ℕ
-max_fields = 64
-
-abbrev pub max_body : ℕ
-max_body = 1048576
 
 -- the names and values of a head
 abbrev pub fields_of : RequestHead → List Pair
@@ -37,25 +31,26 @@ NeverHasHead stream = (more : List ℕ) (h : RequestHead) (rest : List ℕ) → 
 abbrev pub IsBadHead : List ℕ → Type 0
 IsBadHead stream = RequestOverflows max_fields stream ⊎ ((max_head ≤ length stream) × NeverHasHead stream)
 
--- a length, which has 1 to 19 digits
-abbrev pub length_in_limit : Option ℕ → Result ℕ HeadFault
-length_in_limit None = Err BadLength
-length_in_limit (Some n) = if nat_le n max_body then Ok n else Err BodyTooLong
+-- the length that the values of `Content-Length` say, in 1 to 19 digits; where there is none, no body follows
+abbrev pub length_said : List (List ℕ) → Option ℕ
+length_said [] = Some 0
+length_said (v ∷ []) = decimal_of v
+length_said (v ∷ w ∷ vs) = None
 
--- what the values of `Content-Length` say
-abbrev pub length_said : List (List ℕ) → Result ℕ HeadFault
-length_said [] = Ok 0
-length_said (v ∷ []) = length_in_limit (decimal_of v)
-length_said (v ∷ w ∷ vs) = Err BadLength
+abbrev pub length_by : List Pair → Option ℕ
+length_by fields = length_said (values_of (codes "content-length") fields)
 
--- the length of the body, or the fault of these fields, given those of `Transfer-Encoding`
-abbrev pub unless_coded : List (List ℕ) → List (List ℕ) → Result ℕ HeadFault
-unless_coded [] lengths = length_said lengths
-unless_coded (v ∷ vs) lengths = Err Transfer
+-- the faults of a head's fields, in their order
+abbrev pub field_faults : List Pair → List (Bool × HeadFault)
+field_faults fields =
+    (nat_lt 0 (length (values_of (codes "transfer-encoding") fields)), Transfer)
+    ∷ (is_none (length_by fields), BadLength)
+    ∷ (nat_lt max_body (unwrap_or (length_by fields) 0), BodyTooLong)
+    ∷ []
 
+-- the length of the body, or the first fault of the fields
 abbrev pub body_length : List Pair → Result ℕ HeadFault
-body_length fields =
-    unless_coded (values_of (codes "transfer-encoding") fields) (values_of (codes "content-length") fields)
+body_length fields = first_of (field_faults fields) (Ok (unwrap_or (length_by fields) 0))
 
 -- the connection closes after the reply
 abbrev pub closes_by : ℕ → List Pair → Bool

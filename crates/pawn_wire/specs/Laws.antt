@@ -1,35 +1,33 @@
 -- Laws of the definitions.
-use Rattle.std.specs.Prelude.{◌∷◌, ◌≡◌, ℕ, ◌≤◌, List, codes, Bool, IsTrue, ◌&&◌, not, ◌==◌, nat_le, Option, Some, None, Result, Ok, decimal}
+use Rattle.std.specs.Prelude.{[], ◌∷◌, ◌++◌, ◌≡◌, ℕ, ◌≤◌, List, codes, Bool, true, false, IsTrue, ◌&&◌, not, ◌==◌, nat_le, if◌then◌else◌, Option, Some, None, Result, Ok, decimal}
 use Rattle.std.specs.List.{list_all}
 use Rattle.serde_json.specs.Data.{Members, number, unsigned, string, boolean, object, member, no_members}
 use Rattle.serde_json.specs.Written.{compact_text}
 use Rattle.pawn_terms.specs.Calendar.{IsStampDay, day_text}
 use Rattle.pawn_debt.specs.declared.entry.Entry.{Entry}
 use Rattle.pawn_pledge.specs.Number.{IsNumber}
+use Rattle.pawn_pledge.specs.declared.command.Command.{Command}
 use Rattle.pawn_pledge.specs.declared.record.Booking.{Booking}
 use Rattle.pawn_pledge.specs.Text.{IsText}
-use Rattle.pawn_pledge.specs.Replayable.{IsOpening}
+use Rattle.pawn_pledge.specs.Replayable.{IsOpening, Each}
+use Rattle.pawn_book.specs.Commands.{broker_command, bearer_command}
 use Rattle.pawn_book.specs.Limits.{IsCapacity, AreFew}
 use Rattle.pawn_book.specs.declared.request.Request.{Request}
 use Rattle.pawn_book.specs.declared.request.Caller.{Caller}
 use Rattle.pawn_book.specs.declared.request.Caller.TheVariants.{Operator, Broker, Bearer}
 use Rattle.pawn_book.specs.declared.request.BrokerRequest.TheVariants.{PutTerms, TakePledge, Show}
 use Rattle.pawn_book.specs.declared.request.BrokerRequest.TheVariants as broker
-use Rattle.pawn_book.specs.declared.request.BrokerCommand.{BrokerCommand}
-use Rattle.pawn_book.specs.declared.request.BrokerCommand.TheVariants as b
 use Rattle.pawn_book.specs.declared.request.BearerRequest.TheVariants.{Held}
 use Rattle.pawn_book.specs.declared.request.BearerRequest.TheVariants as bearer
-use Rattle.pawn_book.specs.declared.request.BearerCommand.{BearerCommand}
-use Rattle.pawn_book.specs.declared.request.BearerCommand.TheVariants as r
 use Rattle.pawn_wire.specs.Bodies.{book_text, version_text, opened_text, refusal_text}
 use Rattle.pawn_wire.specs.Done.{sort_text, state_text, entered_text, held_text, declared_text, booked_text, redeemed_text, sold_text, extended_text}
+use Rattle.pawn_wire.specs.Limits.{max_number}
 use Rattle.pawn_wire.specs.Named.{number_said}
 use Rattle.pawn_wire.specs.Request.{Reads}
-use Rattle.pawn_wire.specs.Route.{asked_of}
+use Rattle.pawn_wire.specs.Route.{table, asked_of}
 use Rattle.pawn_wire.specs.declared.fault.WireFault.{WireFault}
+use Rattle.pawn_wire.specs.declared.route.Endpoint.{Endpoint}
 use Rattle.pawn_wire.specs.declared.route.Endpoint.TheVariants as e
-use Rattle.pawn_wire.specs.declared.route.PledgeAction.TheVariants as p
-use Rattle.pawn_wire.specs.declared.route.ReceiptAction.TheVariants as q
 
 -- no byte that a JSON text escapes
 abbrev pub is_plain : List ℕ → Bool
@@ -86,35 +84,31 @@ pub record BodiesAreJson : Type 0 where
 
 -- a number of at most 12 digits
 abbrev pub IsShort : ℕ → Type 0
-IsShort n = n ≤ 999999999999
+IsShort n = n ≤ max_number
 
--- the numbers of a broker's command are short, and its day is one that a request may name
-abbrev pub IsBrokerCommandWithin : BrokerCommand → Type 0
-IsBrokerCommandWithin (b.Draw seq pence) = IsShort seq × IsShort pence
-IsBrokerCommandWithin (b.Repay seq pence) = IsShort seq × IsShort pence
-IsBrokerCommandWithin b.Hold = Unit {0}
-IsBrokerCommandWithin b.Release = Unit {0}
-IsBrokerCommandWithin (b.Declare paper) = Unit {0}
-IsBrokerCommandWithin (b.DecideBooking decision) = Unit {0}
-IsBrokerCommandWithin (b.Sell net) = IsShort net
-IsBrokerCommandWithin (b.Extend until) = IsStampDay until
-
--- the same of a bearer's command
-abbrev pub IsBearerCommandWithin : BearerCommand → Type 0
-IsBearerCommandWithin (r.Repay seq pence) = IsShort seq × IsShort pence
-IsBearerCommandWithin (r.AskBooking day window) = IsStampDay day × IsShort window
-IsBearerCommandWithin r.CancelBooking = Unit {0}
-IsBearerCommandWithin (r.Redeem paid) = IsShort paid
+-- the numbers of a command are short, and its day is one that a request may name
+abbrev pub IsCommandWithin : Command → Type 0
+IsCommandWithin (Command.Draw seq pence) = IsShort seq × IsShort pence
+IsCommandWithin (Command.Repay seq pence) = IsShort seq × IsShort pence
+IsCommandWithin Command.Hold = Unit {0}
+IsCommandWithin Command.Release = Unit {0}
+IsCommandWithin (Command.Declare paper) = Unit {0}
+IsCommandWithin (Command.AskBooking day window) = IsStampDay day × IsShort window
+IsCommandWithin Command.CancelBooking = Unit {0}
+IsCommandWithin (Command.DecideBooking decision) = Unit {0}
+IsCommandWithin (Command.Redeem paid) = IsShort paid
+IsCommandWithin (Command.Sell net) = IsShort net
+IsCommandWithin (Command.Extend until) = IsStampDay until
 
 -- what a caller asks is within the limits of its parts
 abbrev pub IsCallerWithin : Caller → Type 0
 IsCallerWithin (Operator key new_book) = IsText 60 new_book.name × IsCapacity new_book.capacity
 IsCallerWithin (Broker key (PutTerms terms)) = Unit {0}
 IsCallerWithin (Broker key (TakePledge opening)) = IsOpening opening
-IsCallerWithin (Broker key (broker.OnPledge n command)) = IsNumber n × IsBrokerCommandWithin command
+IsCallerWithin (Broker key (broker.OnPledge n command)) = IsNumber n × IsCommandWithin (broker_command command)
 IsCallerWithin (Broker key (Show n)) = IsNumber n
 IsCallerWithin (Bearer (Held receipts)) = AreFew receipts
-IsCallerWithin (Bearer (bearer.OnPledge receipt command)) = IsNumber receipt.number × IsBearerCommandWithin command
+IsCallerWithin (Bearer (bearer.OnPledge receipt command)) = IsNumber receipt.number × IsCommandWithin (bearer_command command)
 
 -- a request that bytes say is of a book's number, and within the limits of its parts
 abbrev pub RequestsAreWithin : Type 0
@@ -132,26 +126,26 @@ pub record NumbersAreSaid : Type 0 where
   pub is : (n : ℕ) (text : List ℕ) → number_said text ≡ Some n → IsNumber n × (text ≡ decimal n)
   pub leading_zero : (rest : List ℕ) → number_said (48 ∷ rest) ≡ None
 
--- what some targets ask for, and of which book
-pub record TargetsAreFound : Type 0 where
-  pub book : asked_of (codes "/books/7") ≡ Some (record { endpoint = e.Create; book = Some (codes "7"); item = None })
-  pub terms : asked_of (codes "/books/7/terms") ≡ Some (record { endpoint = e.PutTerms; book = Some (codes "7"); item = None })
-  pub pledges : asked_of (codes "/books/12/pledges") ≡ Some (record { endpoint = e.TakePledge; book = Some (codes "12"); item = None })
-  pub pledge : asked_of (codes "/books/12/pledges/3") ≡ Some (record { endpoint = e.Show; book = Some (codes "12"); item = Some (codes "3") })
-  pub draw : asked_of (codes "/books/7/pledges/12/draw") ≡ Some (record { endpoint = e.OnPledge p.Draw; book = Some (codes "7"); item = Some (codes "12") })
-  pub repay : asked_of (codes "/books/7/pledges/12/repay") ≡ Some (record { endpoint = e.OnPledge p.Repay; book = Some (codes "7"); item = Some (codes "12") })
-  pub hold : asked_of (codes "/books/7/pledges/12/hold") ≡ Some (record { endpoint = e.OnPledge p.Hold; book = Some (codes "7"); item = Some (codes "12") })
-  pub release : asked_of (codes "/books/7/pledges/12/release") ≡ Some (record { endpoint = e.OnPledge p.Release; book = Some (codes "7"); item = Some (codes "12") })
-  pub declare : asked_of (codes "/books/7/pledges/12/declare") ≡ Some (record { endpoint = e.OnPledge p.Declare; book = Some (codes "7"); item = Some (codes "12") })
-  pub decide : asked_of (codes "/books/7/pledges/12/decide") ≡ Some (record { endpoint = e.OnPledge p.Decide; book = Some (codes "7"); item = Some (codes "12") })
-  pub sell : asked_of (codes "/books/7/pledges/12/sell") ≡ Some (record { endpoint = e.OnPledge p.Sell; book = Some (codes "7"); item = Some (codes "12") })
-  pub extend : asked_of (codes "/books/7/pledges/12/extend") ≡ Some (record { endpoint = e.OnPledge p.Extend; book = Some (codes "7"); item = Some (codes "12") })
-  pub held : asked_of (codes "/books/7/held") ≡ Some (record { endpoint = e.Held; book = Some (codes "7"); item = None })
-  pub held_repay : asked_of (codes "/books/7/held/repay") ≡ Some (record { endpoint = e.OnReceipt q.Repay; book = Some (codes "7"); item = None })
-  pub held_ask : asked_of (codes "/books/7/held/ask") ≡ Some (record { endpoint = e.OnReceipt q.Ask; book = Some (codes "7"); item = None })
-  pub held_cancel : asked_of (codes "/books/7/held/cancel") ≡ Some (record { endpoint = e.OnReceipt q.Cancel; book = Some (codes "7"); item = None })
-  pub held_redeem : asked_of (codes "/books/7/held/redeem") ≡ Some (record { endpoint = e.OnReceipt q.Redeem; book = Some (codes "7"); item = None })
-  pub no_action : asked_of (codes "/books/7/held/nope") ≡ None
-  pub query : asked_of (codes "/books/7/held?x=1") ≡ None
-  pub slash : asked_of (codes "/books/7/held/") ≡ None
-  pub nowhere : asked_of (codes "/nowhere") ≡ None
+-- the form of a target, with 7 for the book and 12 for the pledge that it names in braces
+abbrev pub filled : Bool → List ℕ → List ℕ
+filled in_braces [] = []
+filled true (c ∷ form) = if c == 125 then filled false form else (if c == 98 then codes "7" else codes "12") ++ filled true form
+filled false (c ∷ form) = if c == 123 then filled true form else c ∷ filled false form
+
+-- the number that a target for the endpoint names beside its book
+abbrev pub pledge_for : Endpoint → Option (List ℕ)
+pledge_for e.Create = None
+pledge_for e.PutTerms = None
+pledge_for e.TakePledge = None
+pledge_for e.Show = Some (codes "12")
+pledge_for (e.OnPledge action) = Some (codes "12")
+pledge_for e.Held = None
+pledge_for (e.OnReceipt action) = None
+
+-- the target of a row of the table is found, with its endpoint and its numbers
+abbrev pub IsTargetFound : List ℕ × Endpoint → Type 0
+IsTargetFound row =
+    asked_of (filled false row.0) ≡ Some (record { endpoint = row.1; book = Some (codes "7"); item = pledge_for row.1 })
+
+abbrev pub TargetsAreFound : Type 0
+TargetsAreFound = Each IsTargetFound table

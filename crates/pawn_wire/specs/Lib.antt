@@ -8,12 +8,15 @@ pub mod Fault
 pub mod Fields
 pub mod Head
 pub mod Laws
+pub mod Limits
 pub mod Member
 pub mod Named
+pub mod Numeral
 pub mod Receipts
 pub mod Reply
 pub mod Request
 pub mod Route
+pub mod Senders
 pub mod Status
 pub mod WorkedHeads
 pub mod WorkedReplies

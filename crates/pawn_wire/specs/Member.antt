@@ -8,7 +8,8 @@ use Rattle.serde_json.specs.View.{view}
 use Rattle.serde_json.specs.declared.value.Value.{Value}
 use Rattle.pawn_pledge.specs.Text.{is_text}
 use Rattle.pawn_pledge.specs.Secret.{secret_of_text}
-use Rattle.pawn_wire.specs.Chain.{given, or_fault}
+use Rattle.pawn_wire.specs.Chain.{given}
+use Rattle.pawn_wire.specs.Limits.{max_number}
 use Rattle.pawn_wire.specs.Named.{day_said}
 use Rattle.pawn_wire.specs.declared.fault.WireFault.{WireFault}
 use Rattle.pawn_wire.specs.declared.fault.WireFault.TheVariants.{BadBody, Memory}
@@ -28,7 +29,7 @@ in_range least most n = if nat_le least n && nat_le n most then Some n else None
 
 -- a member that is a whole number of at most 12 digits, not written as a float
 abbrev pub number_at : List ℕ → Data → Option ℕ
-number_at name d = option_and_then (in_range 0 999999999999) (option_and_then as_u64 (option_and_then as_number (get name d)))
+number_at name d = option_and_then (in_range 0 max_number) (option_and_then as_u64 (option_and_then as_number (get name d)))
 
 -- a member that is a text
 abbrev pub string_at : List ℕ → Data → Option (List ℕ)
@@ -55,5 +56,5 @@ abbrev pub day_at : List ℕ → Data → Option ℕ
 day_at name d = given (string_at name d) day_said
 
 -- what a body says
-abbrev pub body_said : {A : Type 0} → (Data → Option A) → List ℕ → Result A WireFault
-body_said part body = or_fault BadBody (given (json_of body) part)
+abbrev pub body_said : {A : Type 0} → (Data → Option A) → List ℕ → Option A
+body_said part body = given (json_of body) part

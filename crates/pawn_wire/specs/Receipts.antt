@@ -1,10 +1,12 @@
 -- Receipts that fields name.
-use Rattle.std.specs.Prelude.{ℕ, ◌==◌, Bool, List, [], ◌∷◌, length, nat_lt, if◌then◌else◌, codes, Option, Some, option_map, Result, Err}
+use Rattle.std.specs.Prelude.{ℕ, ◌==◌, Bool, List, [], ◌∷◌, length, nat_lt, slice_get, codes, Option, Some, option_map, Result}
 use Rattle.std.specs.List.{before_first, after_first}
 use Rattle.pawn_pledge.specs.Secret.{secret_of_text}
 use Rattle.pawn_pledge.specs.declared.receipt.Receipt.{Receipt}
+use Rattle.pawn_terms.specs.Refusals.{first_of}
 use Rattle.pawn_wire.specs.Chain.{given, or_fault}
 use Rattle.pawn_wire.specs.Fields.{Pair, values_of}
+use Rattle.pawn_wire.specs.Limits.{most_receipts}
 use Rattle.pawn_wire.specs.Named.{number_said}
 use Rattle.pawn_wire.specs.declared.fault.WireFault.{WireFault}
 use Rattle.pawn_wire.specs.declared.fault.WireFault.TheVariants.{NoReceipt, TooManyReceipts, BadReceipt}
@@ -30,15 +32,17 @@ all_said (value ∷ values) =
 abbrev pub presented : List Pair → List (List ℕ)
 presented fields = values_of (codes "pledge-receipt") fields
 
+-- no receipt is presented, or more than so many
+abbrev pub receipt_faults : ℕ → List (List ℕ) → List (Bool × WireFault)
+receipt_faults most values =
+    (length values == 0, NoReceipt)
+    ∷ (nat_lt most (length values), TooManyReceipts)
+    ∷ []
+
 -- 1 to 32 receipts
 abbrev pub receipts_said : List (List ℕ) → Result (List Receipt) WireFault
-receipts_said values =
-    if length values == 0 then Err NoReceipt
-    else if nat_lt 32 (length values) then Err TooManyReceipts
-    else or_fault BadReceipt (all_said values)
+receipts_said values = first_of (receipt_faults most_receipts values) (or_fault BadReceipt (all_said values))
 
 -- exactly one receipt
 abbrev pub one_said : List (List ℕ) → Result Receipt WireFault
-one_said [] = Err NoReceipt
-one_said (value ∷ []) = or_fault BadReceipt (receipt_said value)
-one_said (value ∷ other ∷ values) = Err TooManyReceipts
+one_said values = first_of (receipt_faults 1 values) (or_fault BadReceipt (given (slice_get values 0) receipt_said))

@@ -1,39 +1,38 @@
 -- Requests.
-use Rattle.std.specs.Prelude.{◌≡◌, ℕ, ◌⊎◌, ◌==◌, nat_lt, Bool, List, [], ◌∷◌, length, codes, bytes_eq, if◌then◌else◌, Option, Some, None, option_map, Result, Ok, Err, MatchResult}
+use Rattle.std.specs.Prelude.{◌≡◌, ℕ, ◌⊎◌, ◌==◌, nat_lt, Bool, not, List, [], ◌∷◌, ◌++◌, map, length, codes, bytes_eq, if◌then◌else◌, Option, Some, None, option_map, unwrap_or, Result, Ok, Err, MatchResult}
 use Rattle.std.specs.List.{list_all}
 use Rattle.httparse.specs.Grammar.{RequestHead}
+use Rattle.pawn_terms.specs.Refusals.{first_of}
 use Rattle.pawn_pledge.specs.Secret.{secret_of_text}
 use Rattle.pawn_book.specs.declared.request.Request.{Request}
+use Rattle.pawn_book.specs.declared.request.Caller.{Caller}
 use Rattle.pawn_book.specs.declared.request.Caller.TheVariants.{Operator, Broker, Bearer}
 use Rattle.pawn_book.specs.declared.request.BrokerRequest.TheVariants as broker
 use Rattle.pawn_book.specs.declared.request.BearerRequest.TheVariants as bearer
 use Rattle.pawn_wire.specs.Body.{new_book_of, new_terms_of, opening_of}
 use Rattle.pawn_wire.specs.Chain.{after, given, or_fault}
-use Rattle.pawn_wire.specs.Commands.{broker_said, bearer_said}
+use Rattle.pawn_wire.specs.Commands.{command_said}
 use Rattle.pawn_wire.specs.Fault.{wire_fault}
 use Rattle.pawn_wire.specs.Fields.{Pair, values_of}
-use Rattle.pawn_wire.specs.Head.{ReadsHead, fields_of, body_length}
+use Rattle.pawn_wire.specs.Head.{ReadsHead, fields_of, length_by, field_faults}
 use Rattle.pawn_wire.specs.Member.{body_said}
 use Rattle.pawn_wire.specs.Named.{number_said}
 use Rattle.pawn_wire.specs.Receipts.{presented, receipts_said, one_said}
 use Rattle.pawn_wire.specs.Route.{AskedFor, asked_of, method_of}
+use Rattle.pawn_wire.specs.Senders.{of_broker, of_bearer}
 use Rattle.pawn_wire.specs.declared.fault.HeadFault.{HeadFault}
 use Rattle.pawn_wire.specs.declared.fault.WireFault.{WireFault}
-use Rattle.pawn_wire.specs.declared.fault.WireFault.TheVariants.{BadHead, BadLength, NoRoute, WrongMethod, BadKey, Memory}
+use Rattle.pawn_wire.specs.declared.fault.WireFault.TheVariants.{BadHead, BadLength, NoRoute, WrongMethod, BadBody, BadKey, Memory}
 use Rattle.pawn_wire.specs.declared.request.Place.{Place}
 use Rattle.pawn_wire.specs.declared.route.Endpoint.{Endpoint}
 use Rattle.pawn_wire.specs.declared.route.Endpoint.TheVariants.{Create, PutTerms, TakePledge, Show, OnPledge, Held, OnReceipt}
-use Rattle.pawn_wire.specs.declared.route.PledgeAction.{PledgeAction}
-use Rattle.pawn_wire.specs.declared.route.ReceiptAction.{ReceiptAction}
 
--- a head's fault is a request's
-abbrev pub of_head : {A : Type 0} → Result A HeadFault → Result A WireFault
-of_head (Ok a) = Ok a
-of_head (Err fault) = Err (wire_fault fault)
-
--- the body is as long as the fields say
-abbrev pub framed : List Pair → ℕ → Result ℕ WireFault
-framed fields n = after (of_head (body_length fields)) (λ m. if m == n then Ok m else Err BadLength)
+-- the faults by which a head and its body can't be parted from what follows, in their order
+abbrev pub framing_faults : List Pair → List ℕ → List (Bool × WireFault)
+framing_faults fields body =
+    map (λ row. (row.0, wire_fault row.1)) (field_faults fields)
+    ++ (not (unwrap_or (length_by fields) 0 == length body), BadLength)
+    ∷ []
 
 abbrev pub is_ascii_text : List ℕ → Bool
 is_ascii_text text = list_all (λ b. nat_lt b 128) text
@@ -63,77 +62,34 @@ key_said (value ∷ other ∷ values) = None
 abbrev pub keyed : List Pair → Result ℕ WireFault
 keyed fields = or_fault BadKey (key_said (values_of (codes "pledge-key") fields))
 
--- the request to make a book
-abbrev pub create_said : ℕ → List Pair → List ℕ → Result Request WireFault
-create_said book fields body =
-    after (keyed fields)
-    (λ key. after (body_said new_book_of body)
-    (λ new_book. Ok (record { book = book; caller = Operator key new_book })))
+-- Who asks at an endpoint, and what for: by its key or its receipts, and then by what its body says.
+abbrev pub caller_said : Endpoint → Option ℕ → List Pair → List ℕ → Result Caller WireFault
+caller_said Create item fields body =
+    after (keyed fields) (λ key. or_fault BadBody (option_map (Operator key) (body_said new_book_of body)))
+caller_said PutTerms item fields body =
+    after (keyed fields) (λ key. or_fault BadBody (option_map (λ terms. Broker key (broker.PutTerms terms)) (body_said new_terms_of body)))
+caller_said TakePledge item fields body =
+    after (keyed fields) (λ key. or_fault BadBody (option_map (λ opening. Broker key (broker.TakePledge opening)) (body_said opening_of body)))
+caller_said Show item fields body =
+    after (keyed fields) (λ key. or_fault BadBody (option_map (λ number. Broker key (broker.Show number)) item))
+caller_said (OnPledge action) item fields body =
+    after (keyed fields) (λ key. or_fault BadBody (given item
+    (λ number. option_map (λ command. Broker key (broker.OnPledge number command)) (given (command_said action body) of_broker))))
+caller_said Held item fields body =
+    after (receipts_said (presented fields)) (λ receipts. Ok (Bearer (bearer.Held receipts)))
+caller_said (OnReceipt action) item fields body =
+    after (one_said (presented fields)) (λ receipt. or_fault BadBody
+    (option_map (λ command. Bearer (bearer.OnPledge receipt command)) (given (command_said action body) of_bearer)))
 
--- the request to put terms
-abbrev pub put_terms_said : ℕ → List Pair → List ℕ → Result Request WireFault
-put_terms_said book fields body =
-    after (keyed fields)
-    (λ key. after (body_said new_terms_of body)
-    (λ terms. Ok (record { book = book; caller = Broker key (broker.PutTerms terms) })))
-
--- the request to take a pledge
-abbrev pub take_pledge_said : ℕ → List Pair → List ℕ → Result Request WireFault
-take_pledge_said book fields body =
-    after (keyed fields)
-    (λ key. after (body_said opening_of body)
-    (λ opening. Ok (record { book = book; caller = Broker key (broker.TakePledge opening) })))
-
--- the request to show a pledge
-abbrev pub show_said : ℕ → Option ℕ → List Pair → Result Request WireFault
-show_said book item fields =
-    after (or_fault NoRoute item)
-    (λ number. after (keyed fields)
-    (λ key. Ok (record { book = book; caller = Broker key (broker.Show number) })))
-
--- the request to command a pledge
-abbrev pub on_pledge_said : ℕ → Option ℕ → PledgeAction → List Pair → List ℕ → Result Request WireFault
-on_pledge_said book item action fields body =
-    after (or_fault NoRoute item)
-    (λ number. after (keyed fields)
-    (λ key. after (broker_said action body)
-    (λ command. Ok (record { book = book; caller = Broker key (broker.OnPledge number command) }))))
-
--- the request to show what receipts stand for
-abbrev pub held_said : ℕ → List Pair → Result Request WireFault
-held_said book fields =
-    after (receipts_said (presented fields))
-    (λ receipts. Ok (record { book = book; caller = Bearer (bearer.Held receipts) }))
-
--- the request to command the pledge of a receipt
-abbrev pub on_receipt_said : ℕ → ReceiptAction → List Pair → List ℕ → Result Request WireFault
-on_receipt_said book action fields body =
-    after (one_said (presented fields))
-    (λ receipt. after (bearer_said action body)
-    (λ command. Ok (record { book = book; caller = Bearer (bearer.OnPledge receipt command) })))
-
--- what is asked of a book, or of one of its pledges, at an endpoint
-abbrev pub said_at : Endpoint → ℕ → Option ℕ → List Pair → List ℕ → Result Request WireFault
-said_at Create book item fields body = create_said book fields body
-said_at PutTerms book item fields body = put_terms_said book fields body
-said_at TakePledge book item fields body = take_pledge_said book fields body
-said_at Show book item fields body = show_said book item fields
-said_at (OnPledge action) book item fields body = on_pledge_said book item action fields body
-said_at Held book item fields body = held_said book fields
-said_at (OnReceipt action) book item fields body = on_receipt_said book action fields body
-
--- the same, if the method is the endpoint's
-abbrev pub said_by : Place → List ℕ → List Pair → List ℕ → Result Request WireFault
-said_by place method fields body =
-    if bytes_eq (method_of place.endpoint) method then said_at place.endpoint place.book place.item fields body
-    else Err WrongMethod
-
--- what the parts of a head and a body say: their lengths, the target, the method, and then the rest
+-- What the parts of a head and a body say, or the first fault that applies: of the framing, of the target, of the method,
+-- and then of who asks and what for.
 abbrev pub request_by : List ℕ → List ℕ → List Pair → List ℕ → Result Request WireFault
 request_by method target fields body =
-    after (framed fields (length body))
-    (λ length. after (or_fault NoRoute (place_of target))
-    (λ place. said_by place method fields body))
+    first_of (framing_faults fields body)
+    (after (or_fault NoRoute (place_of target))
+    (λ place. first_of ((not (bytes_eq (method_of place.endpoint) method), WrongMethod) ∷ [])
+    (after (caller_said place.endpoint place.item fields body)
+    (λ caller. Ok (record { book = place.book; caller = caller })))))
 
 -- what bytes say, by the head that they begin with
 abbrev pub Reads : List ℕ → Result Request WireFault → Type 0

@@ -10,8 +10,7 @@ use Rattle.matchit.specs.Params.{walk}
 use Rattle.matchit.specs.declared.error.InsertError.{InsertError}
 use Rattle.pawn_wire.specs.declared.route.Endpoint.{Endpoint}
 use Rattle.pawn_wire.specs.declared.route.Endpoint.TheVariants.{Create, PutTerms, TakePledge, Show, OnPledge, Held, OnReceipt}
-use Rattle.pawn_wire.specs.declared.route.PledgeAction.TheVariants as pledge
-use Rattle.pawn_wire.specs.declared.route.ReceiptAction.TheVariants as receipt
+use Rattle.pawn_wire.specs.declared.route.Action.TheVariants.{Draw, Repay, Hold, Release, Declare, Ask, Cancel, Decide, Redeem, Sell, Extend}
 
 -- the targets, each with its endpoint
 abbrev pub table : List (List ℕ × Endpoint)
@@ -20,19 +19,19 @@ table =
     ∷ (codes "/books/{b}/terms", PutTerms)
     ∷ (codes "/books/{b}/pledges", TakePledge)
     ∷ (codes "/books/{b}/pledges/{n}", Show)
-    ∷ (codes "/books/{b}/pledges/{n}/draw", OnPledge pledge.Draw)
-    ∷ (codes "/books/{b}/pledges/{n}/repay", OnPledge pledge.Repay)
-    ∷ (codes "/books/{b}/pledges/{n}/hold", OnPledge pledge.Hold)
-    ∷ (codes "/books/{b}/pledges/{n}/release", OnPledge pledge.Release)
-    ∷ (codes "/books/{b}/pledges/{n}/declare", OnPledge pledge.Declare)
-    ∷ (codes "/books/{b}/pledges/{n}/decide", OnPledge pledge.Decide)
-    ∷ (codes "/books/{b}/pledges/{n}/sell", OnPledge pledge.Sell)
-    ∷ (codes "/books/{b}/pledges/{n}/extend", OnPledge pledge.Extend)
+    ∷ (codes "/books/{b}/pledges/{n}/draw", OnPledge Draw)
+    ∷ (codes "/books/{b}/pledges/{n}/repay", OnPledge Repay)
+    ∷ (codes "/books/{b}/pledges/{n}/hold", OnPledge Hold)
+    ∷ (codes "/books/{b}/pledges/{n}/release", OnPledge Release)
+    ∷ (codes "/books/{b}/pledges/{n}/declare", OnPledge Declare)
+    ∷ (codes "/books/{b}/pledges/{n}/decide", OnPledge Decide)
+    ∷ (codes "/books/{b}/pledges/{n}/sell", OnPledge Sell)
+    ∷ (codes "/books/{b}/pledges/{n}/extend", OnPledge Extend)
     ∷ (codes "/books/{b}/held", Held)
-    ∷ (codes "/books/{b}/held/repay", OnReceipt receipt.Repay)
-    ∷ (codes "/books/{b}/held/ask", OnReceipt receipt.Ask)
-    ∷ (codes "/books/{b}/held/cancel", OnReceipt receipt.Cancel)
-    ∷ (codes "/books/{b}/held/redeem", OnReceipt receipt.Redeem)
+    ∷ (codes "/books/{b}/held/repay", OnReceipt Repay)
+    ∷ (codes "/books/{b}/held/ask", OnReceipt Ask)
+    ∷ (codes "/books/{b}/held/cancel", OnReceipt Cancel)
+    ∷ (codes "/books/{b}/held/redeem", OnReceipt Redeem)
     ∷ []
 
 -- the method that asks for an endpoint

@@ -1,6 +1,7 @@
 -- Requests, worked out.
 use Rattle.std.specs.Prelude.{◌≡◌, ℕ, List, [], ◌∷◌, codes, replicate, false, true, Option, Some, None, Ok, Err}
 use Rattle.pawn_debt.specs.declared.entry.Kind.TheVariants.{Fixed, Running}
+use Rattle.pawn_pledge.specs.declared.command.Command.{Command}
 use Rattle.pawn_pledge.specs.declared.command.Decision.TheVariants.{Confirm}
 use Rattle.pawn_pledge.specs.declared.command.Paper.TheVariants.{Sworn}
 use Rattle.pawn_pledge.specs.declared.receipt.Receipt.{Receipt}
@@ -10,7 +11,7 @@ use Rattle.pawn_book.specs.declared.request.BearerRequest.TheVariants as bearer
 use Rattle.pawn_book.specs.declared.request.BrokerCommand.TheVariants as command
 use Rattle.pawn_book.specs.declared.request.BearerCommand.TheVariants as asked
 use Rattle.pawn_wire.specs.Body.{new_book_of, new_terms_of, opening_of}
-use Rattle.pawn_wire.specs.Commands.{broker_said, bearer_said}
+use Rattle.pawn_wire.specs.Commands.{command_said}
 use Rattle.pawn_wire.specs.Fields.{Pair}
 use Rattle.pawn_wire.specs.Member.{body_said}
 use Rattle.pawn_wire.specs.Named.{number_said, day_said}
@@ -21,8 +22,7 @@ use Rattle.pawn_wire.specs.declared.fault.WireFault.TheVariants.{Transfer, BadLe
 use Rattle.pawn_wire.specs.declared.request.Place.{Place}
 use Rattle.pawn_wire.specs.declared.route.Endpoint.{Endpoint}
 use Rattle.pawn_wire.specs.declared.route.Endpoint.TheVariants.{Create, PutTerms, TakePledge, Show, OnPledge, Held, OnReceipt}
-use Rattle.pawn_wire.specs.declared.route.PledgeAction.TheVariants as pledge
-use Rattle.pawn_wire.specs.declared.route.ReceiptAction.TheVariants as receipt
+use Rattle.pawn_wire.specs.declared.route.Action.TheVariants.{Draw, Hold, Declare, Ask, Decide, Redeem, Extend}
 
 -- an endpoint of a book
 abbrev pub of_book : ℕ → Endpoint → Option Place
@@ -39,10 +39,10 @@ WorkedTargets =
     × (place_of (codes "/books/7/terms") ≡ of_book 7 PutTerms)
     × (place_of (codes "/books/12/pledges") ≡ of_book 12 TakePledge)
     × (place_of (codes "/books/12/pledges/3") ≡ of_pledge 12 3 Show)
-    × (place_of (codes "/books/7/pledges/12/draw") ≡ of_pledge 7 12 (OnPledge pledge.Draw))
-    × (place_of (codes "/books/7/pledges/12/extend") ≡ of_pledge 7 12 (OnPledge pledge.Extend))
+    × (place_of (codes "/books/7/pledges/12/draw") ≡ of_pledge 7 12 (OnPledge Draw))
+    × (place_of (codes "/books/7/pledges/12/extend") ≡ of_pledge 7 12 (OnPledge Extend))
     × (place_of (codes "/books/7/held") ≡ of_book 7 Held)
-    × (place_of (codes "/books/7/held/redeem") ≡ of_book 7 (OnReceipt receipt.Redeem))
+    × (place_of (codes "/books/7/held/redeem") ≡ of_book 7 (OnReceipt Redeem))
 
 -- what is no target: another number, one in another spelling, and anything more or less
 abbrev pub WorkedNoTargets : Type 0
@@ -52,6 +52,7 @@ WorkedNoTargets =
     × (place_of (codes "/books/7/pledges/x/draw") ≡ None)
     × (place_of (codes "/books/7/held/") ≡ None)
     × (place_of (codes "/books/7/held?x=1") ≡ None)
+    × (place_of (codes "/books/7/held/nope") ≡ None)
     × (place_of (codes "/Books/7") ≡ None)
     × (place_of (codes "/") ≡ None)
 
@@ -131,34 +132,34 @@ WorkedReceipts =
 abbrev pub WorkedBodies : Type 0
 WorkedBodies =
     (body_said new_book_of (codes "{\"capacity\":2,\"key\":\"11111111-1111-1111-1111-111111111111\",\"name\":\"High Street\"}")
-    ≡ Ok (record { key = 0x11111111_1111_1111_1111_111111111111; name = codes "High Street"; capacity = 2 }))
+    ≡ Some (record { key = 0x11111111_1111_1111_1111_111111111111; name = codes "High Street"; capacity = 2 }))
     × (body_said new_terms_of (codes "{\"keep_after\":4,\"keep_before\":3,\"rate\":9,\"rate\":2,\"version\":1}")
-    ≡ Ok (record { version = 1; rate = 2; keep_before = 3; keep_after = 4 }))
-    × (body_said new_terms_of (codes "{\"keep_after\":4,\"keep_before\":3,\"rate\":1.0,\"version\":1}") ≡ Err BadBody)
-    × (body_said new_terms_of (codes "{\"keep_after\":4,\"keep_before\":3,\"rate\":1000000000000,\"version\":1}") ≡ Err BadBody)
-    × (body_said new_terms_of (codes "{\"keep_after\":4,\"keep_before\":3,\"rate\":2}") ≡ Err BadBody)
-    × (body_said new_terms_of (codes "[]") ≡ Err BadBody)
+    ≡ Some (record { version = 1; rate = 2; keep_before = 3; keep_after = 4 }))
+    × (body_said new_terms_of (codes "{\"keep_after\":4,\"keep_before\":3,\"rate\":1.0,\"version\":1}") ≡ None)
+    × (body_said new_terms_of (codes "{\"keep_after\":4,\"keep_before\":3,\"rate\":1000000000000,\"version\":1}") ≡ None)
+    × (body_said new_terms_of (codes "{\"keep_after\":4,\"keep_before\":3,\"rate\":2}") ≡ None)
+    × (body_said new_terms_of (codes "[]") ≡ None)
     × (body_said opening_of (codes "{\"agreed\":null,\"article\":\"Gold ring\",\"five_days\":false,\"kind\":\"fixed\",\"pence\":10000,\"ref\":\"A1\"}")
-    ≡ Ok (record { reference = codes "A1"; article = codes "Gold ring"; kind = Fixed 10000; agreed = None; five_days = false }))
+    ≡ Some (record { reference = codes "A1"; article = codes "Gold ring"; kind = Fixed 10000; agreed = None; five_days = false }))
     × (body_said opening_of (codes "{\"agreed\":\"2001-02-28\",\"article\":\"Gold ring\",\"five_days\":true,\"kind\":\"running\",\"pence\":10000,\"ref\":\"A1\"}")
-    ≡ Ok (record { reference = codes "A1"; article = codes "Gold ring"; kind = Running 10000; agreed = Some 11381; five_days = true }))
+    ≡ Some (record { reference = codes "A1"; article = codes "Gold ring"; kind = Running 10000; agreed = Some 11381; five_days = true }))
     × (body_said opening_of (codes "{\"agreed\":\"2001-02-29\",\"article\":\"Gold ring\",\"five_days\":true,\"kind\":\"running\",\"pence\":10000,\"ref\":\"A1\"}")
-    ≡ Err BadBody)
+    ≡ None)
 
 -- bodies of commands
 abbrev pub WorkedCommands : Type 0
 WorkedCommands =
-    (broker_said pledge.Draw (codes "{\"pence\":500,\"seq\":1}") ≡ Ok (command.Draw 1 500))
-    × (broker_said pledge.Declare (codes "{\"paper\":\"sworn\"}") ≡ Ok (command.Declare Sworn))
-    × (broker_said pledge.Declare (codes "{\"paper\":\"torn\"}") ≡ Err BadBody)
-    × (broker_said pledge.Decide (codes "{\"yes\":true}") ≡ Ok (command.DecideBooking Confirm))
-    × (broker_said pledge.Hold (codes "not read") ≡ Ok command.Hold)
-    × (broker_said pledge.Extend (codes "{\"until\":\"2001-02-28\"}") ≡ Ok (command.Extend 11381))
-    × (broker_said pledge.Extend (codes "{\"until\":\"2001-02-29\"}") ≡ Err BadBody)
-    × (broker_said pledge.Extend (codes "{\"until\":null}") ≡ Err BadBody)
-    × (bearer_said receipt.Ask (codes "{\"day\":\"2001-02-28\",\"window\":3}") ≡ Ok (asked.AskBooking 11381 3))
-    × (bearer_said receipt.Redeem (codes "{\"paid\":10000}") ≡ Ok (asked.Redeem 10000))
-    × (bearer_said receipt.Redeem (codes "{\"paid\":\"10000\"}") ≡ Err BadBody)
+    (command_said Draw (codes "{\"pence\":500,\"seq\":1}") ≡ Some (Command.Draw 1 500))
+    × (command_said Declare (codes "{\"paper\":\"sworn\"}") ≡ Some (Command.Declare Sworn))
+    × (command_said Declare (codes "{\"paper\":\"torn\"}") ≡ None)
+    × (command_said Decide (codes "{\"yes\":true}") ≡ Some (Command.DecideBooking Confirm))
+    × (command_said Hold (codes "not read") ≡ Some Command.Hold)
+    × (command_said Extend (codes "{\"until\":\"2001-02-28\"}") ≡ Some (Command.Extend 11381))
+    × (command_said Extend (codes "{\"until\":\"2001-02-29\"}") ≡ None)
+    × (command_said Extend (codes "{\"until\":null}") ≡ None)
+    × (command_said Ask (codes "{\"day\":\"2001-02-28\",\"window\":3}") ≡ Some (Command.AskBooking 11381 3))
+    × (command_said Redeem (codes "{\"paid\":10000}") ≡ Some (Command.Redeem 10000))
+    × (command_said Redeem (codes "{\"paid\":\"10000\"}") ≡ None)
 
 -- each fault is told before those that come after it
 abbrev pub WorkedOrder : Type 0

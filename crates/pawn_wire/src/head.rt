@@ -1,19 +1,15 @@
 //! Heads of requests.
-ghost use Rattle.std.specs.Prelude.{◌≡◌, ◌+◌, ◌≤◌, length, map, All};
-ghost use Rattle.httparse.specs.Spans.{IsHeaderWithin, header_bytes};
-ghost use Rattle.pawn_wire.specs.Head.{IsHeadRead, IfWhole, body_length, closes_by, max_head, max_body};
+ghost use Rattle.std.specs.Prelude.{◌≡◌, ◌+◌, ◌≤◌};
+ghost use Rattle.pawn_wire.specs.Fields.{pairs_of};
+ghost use Rattle.pawn_wire.specs.Head.{IsHeadRead, IfWhole, body_length, closes_by};
+ghost use Rattle.pawn_wire.specs.Limits.{max_head, max_body};
 
 use crate::fault::HeadFault;
-use crate::fields::{self, Found};
+use crate::fields::{Fields, Found};
+use crate::limits::{MAX_BODY, MAX_FIELDS, MAX_HEAD};
+use crate::numeral::decimal;
 use httparse::Status;
-use httparse::spans::{EMPTY_HEADER_SPAN, HeaderSpan, RequestSpans, parse_request};
-
-/// The most bytes of a head, with the empty line at its end.
-pub const MAX_HEAD: usize = 8192;
-
-pub(crate) const MAX_FIELDS: usize = 64;
-
-const MAX_BODY: u64 = 1_048_576;
+use httparse::spans::{EMPTY_HEADER_SPAN, RequestSpans, parse_request};
 
 /// What a whole head says of itself and of its request.
 #[derive(Clone, Copy, Debug, PartialEq, Eq)]
@@ -46,30 +42,32 @@ pub fn read_head(bytes: &[u8]) -> HeadRead
     let front = &bytes[..bytes.len().min(MAX_HEAD)];
     let mut spans = [EMPTY_HEADER_SPAN; MAX_FIELDS];
     match parse_request(front, &mut spans) {
-        Ok(Status::Complete(head)) => match body_length(front, &spans[..head.headers]) {
-            Ok(body) => HeadRead::Whole(HeadFacts {
-                len: head.len,
-                body,
-                closes: closes(front, &head, &spans[..head.headers]),
-            }),
-            Err(fault) => HeadRead::Fault(fault),
-        },
+        Ok(Status::Complete(head)) => {
+            let fields = Fields::new(front, &spans[..head.headers]);
+            match body_length(&fields) {
+                Ok(body) => HeadRead::Whole(HeadFacts {
+                    len: head.len,
+                    body,
+                    closes: closes(&head, &fields),
+                }),
+                Err(fault) => HeadRead::Fault(fault),
+            }
+        }
         Ok(Status::Partial) if bytes.len() < MAX_HEAD => HeadRead::Partial,
         _ => HeadRead::Fault(HeadFault::BadHead),
     }
 }
 
 // The length of the body, by the fields.
-pub(crate) fn body_length(bytes: &[u8], fields: &[HeaderSpan]) -> Result<usize, HeadFault>
-    requires within { All (IsHeaderWithin (length bytes.now)) fields.now }
-    ensures value { result ≡ body_length (map (header_bytes bytes.now) fields.now) }
+pub(crate) fn body_length(fields: &Fields<'_>) -> Result<usize, HeadFault>
+    ensures value { result ≡ body_length (pairs_of fields.now) }
 {
-    let Found::Missing = fields::find(bytes, fields, b"transfer-encoding") else {
+    let Found::Missing = fields.find(b"transfer-encoding") else {
         return Err(HeadFault::Transfer);
     };
-    match fields::find(bytes, fields, b"content-length") {
+    match fields.find(b"content-length") {
         Found::Missing => Ok(0),
-        Found::One(value) => match fields::decimal(value.of(bytes)) {
+        Found::One(value) => match decimal(value) {
             Some(length) if length <= MAX_BODY => Ok(length as usize),
             Some(_) => Err(HeadFault::BodyTooLong),
             None => Err(HeadFault::BadLength),
@@ -79,9 +77,8 @@ pub(crate) fn body_length(bytes: &[u8], fields: &[HeaderSpan]) -> Result<usize, 
 }
 
 // Whether the connection closes after the reply.
-fn closes(bytes: &[u8], head: &RequestSpans, fields: &[HeaderSpan]) -> bool
-    requires within { All (IsHeaderWithin (length bytes.now)) fields.now }
-    ensures value { result ≡ closes_by head.now.version (map (header_bytes bytes.now) fields.now) }
+fn closes(head: &RequestSpans, fields: &Fields<'_>) -> bool
+    ensures value { result ≡ closes_by head.now.version (pairs_of fields.now) }
 {
-    head.version == 0 || fields::has_value(bytes, fields, b"connection", b"close")
+    head.version == 0 || fields.has_value(b"connection", b"close")
 }

@@ -9,18 +9,22 @@ mod fault;
 mod fields;
 mod head;
 mod laws;
+mod limits;
 mod member;
+mod numeral;
 mod receipts;
 mod reply;
 mod request;
 mod route;
 mod router;
+mod senders;
 mod status;
 mod worked;
 
 pub use fault::{HeadFault, WireFault};
-pub use head::{HeadFacts, HeadRead, MAX_HEAD, read_head};
+pub use head::{HeadFacts, HeadRead, read_head};
 pub use laws::{bodies_are_json, laws_of_readings, laws_of_targets};
+pub use limits::MAX_HEAD;
 pub use pawn_book::{
     Article, BearerCommand, BearerRequest, Booking, BookingState, BrokerCommand, BrokerRequest,
     Caller, Capacity, Day, Decision, Done, Entry, Kind, Name, NewBook, NewTerms, Number, Opening,

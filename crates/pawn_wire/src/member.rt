@@ -7,11 +7,10 @@ ghost use Rattle.pawn_wire.specs.declared.fault.WireFault.TheVariants.{BadBody};
 ghost use Rattle.pawn_wire.specs.Named.{day_said};
 
 use crate::fault::WireFault;
+use crate::limits::MAX_NUMBER;
 use pawn_book::{Day, RequestDay, Secret, Text};
 use serde_json::Value;
 use std::alloc::Global;
-
-const MAX_NUMBER: u64 = 999_999_999_999;
 
 // The JSON value of a body.
 pub(crate) fn json(alloc: Global, body: &[u8]) -> Result<Value, WireFault>

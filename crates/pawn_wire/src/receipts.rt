@@ -1,17 +1,16 @@
-//! Receipts that fields name.
-ghost use Rattle.std.specs.Prelude.{◌≡◌, ◌≤◌, ◌⊎◌, length, map, All, Some, None, MatchResult};
-ghost use Rattle.httparse.specs.Spans.{IsHeaderWithin, header_bytes};
+//! Receipts that fields present.
+ghost use Rattle.std.specs.Prelude.{◌≡◌, ◌⊎◌, Some, None, MatchResult};
 ghost use Rattle.pawn_wire.specs.Chain.{Says};
+ghost use Rattle.pawn_wire.specs.Fields.{pairs_of};
 ghost use Rattle.pawn_wire.specs.Receipts.{receipt_said, all_said, presented, receipts_said, one_said};
 ghost use Rattle.pawn_wire.specs.declared.fault.WireFault.TheVariants.{BadReceipt, Memory};
 
 use crate::fault::WireFault;
-use crate::fields::{self, Found};
-use httparse::spans::HeaderSpan;
-use pawn_book::{Receipt, Receipts};
+use crate::fields::{Fields, Found};
+use pawn_book::{MOST_RECEIPTS, Receipt, Receipts};
 use std::alloc::Global;
 
-const MOST_RECEIPTS: usize = 32;
+const FIELD: &[u8] = b"pledge-receipt";
 
 // The receipt of a text.
 fn receipt_of(text: &[u8]) -> Option<Receipt>
@@ -23,17 +22,16 @@ fn receipt_of(text: &[u8]) -> Option<Receipt>
     }
 }
 
-// The receipts that fields name, if each is one.
-fn collect(alloc: Global, bytes: &[u8], fields: &[HeaderSpan]) -> Result<Vec<Receipt>, WireFault>
-    requires within { All (IsHeaderWithin (length bytes.now)) fields.now }
+// The receipts that fields present, if each is one.
+fn collect(alloc: Global, fields: &Fields<'_>) -> Result<Vec<Receipt>, WireFault>
     ensures all { MatchResult result
-        (λ v. all_said (presented (map (header_bytes bytes.now) fields.now)) ≡ Some v.items)
-        (λ e. (e ≡ Memory) ⊎ ((e ≡ BadReceipt) × (all_said (presented (map (header_bytes bytes.now) fields.now)) ≡ None))) }
+        (λ v. all_said (presented (pairs_of fields.now)) ≡ Some v.items)
+        (λ e. (e ≡ Memory) ⊎ ((e ≡ BadReceipt) × (all_said (presented (pairs_of fields.now)) ≡ None))) }
 {
     let mut receipts = Vec::new(alloc);
-    for field in fields {
-        if fields::is_named(bytes, field, b"pledge-receipt") {
-            let Some(receipt) = receipt_of(field.value.of(bytes)) else {
+    for field in fields.spans {
+        if fields.is_named(field, FIELD) {
+            let Some(receipt) = receipt_of(field.value.of(fields.bytes)) else {
                 return Err(WireFault::BadReceipt);
             };
             receipts.push(receipt)?;
@@ -42,33 +40,27 @@ fn collect(alloc: Global, bytes: &[u8], fields: &[HeaderSpan]) -> Result<Vec<Rec
     Ok(receipts)
 }
 
-// The 1 to 32 receipts that fields name.
-pub(crate) fn receipts(
-    alloc: Global,
-    bytes: &[u8],
-    fields: &[HeaderSpan],
-) -> Result<Receipts, WireFault>
-    requires within { All (IsHeaderWithin (length bytes.now)) fields.now }
-    ensures value { Says result (receipts_said (presented (map (header_bytes bytes.now) fields.now))) }
+// The receipts that fields present, as many as there may be.
+pub(crate) fn receipts(alloc: Global, fields: &Fields<'_>) -> Result<Receipts, WireFault>
+    ensures value { Says result (receipts_said (presented (pairs_of fields.now))) }
 {
-    let count = fields::count(bytes, fields, b"pledge-receipt");
+    let count = fields.count(FIELD);
     if count == 0 {
         return Err(WireFault::NoReceipt);
     }
     if count > MOST_RECEIPTS {
         return Err(WireFault::TooManyReceipts);
     }
-    let receipts = collect(alloc, bytes, fields)?;
+    let receipts = collect(alloc, fields)?;
     Receipts::new(receipts).ok_or(WireFault::BadReceipt)
 }
 
-// The one receipt that fields name.
-pub(crate) fn one(bytes: &[u8], fields: &[HeaderSpan]) -> Result<Receipt, WireFault>
-    requires within { All (IsHeaderWithin (length bytes.now)) fields.now }
-    ensures value { result ≡ one_said (presented (map (header_bytes bytes.now) fields.now)) }
+// The one receipt that fields present.
+pub(crate) fn one(fields: &Fields<'_>) -> Result<Receipt, WireFault>
+    ensures value { result ≡ one_said (presented (pairs_of fields.now)) }
 {
-    match fields::find(bytes, fields, b"pledge-receipt") {
-        Found::One(value) => receipt_of(value.of(bytes)).ok_or(WireFault::BadReceipt),
+    match fields.find(FIELD) {
+        Found::One(value) => receipt_of(value).ok_or(WireFault::BadReceipt),
         Found::Missing => Err(WireFault::NoReceipt),
         Found::Several => Err(WireFault::TooManyReceipts),
     }

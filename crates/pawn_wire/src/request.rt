@@ -1,18 +1,21 @@
 //! Requests from bytes.
-ghost use Rattle.std.specs.Prelude.{◌≡◌, length, map, All, option_copied};
-ghost use Rattle.httparse.specs.Spans.{IsHeaderWithin, header_bytes};
+ghost use Rattle.std.specs.Prelude.{◌≡◌, None, option_copied};
 ghost use Rattle.pawn_wire.specs.Chain.{Says};
+ghost use Rattle.pawn_wire.specs.Fields.{pairs_of};
 ghost use Rattle.pawn_wire.specs.Named.{number_said};
-ghost use Rattle.pawn_wire.specs.Request.{is_ascii_text, item_said, place_of, keyed, create_said, put_terms_said, take_pledge_said, show_said, on_pledge_said, held_said, on_receipt_said, said_at, request_by, IsRead};
+ghost use Rattle.pawn_wire.specs.Request.{is_ascii_text, item_said, place_of, keyed, caller_said, request_by, IsRead};
+ghost use Rattle.pawn_wire.specs.declared.route.Endpoint.TheVariants.{Create, PutTerms, TakePledge, Show, OnPledge, Held, OnReceipt};
 
 use crate::fault::WireFault;
-use crate::fields::{self, Found};
-use crate::head::{MAX_FIELDS, MAX_HEAD, body_length};
-use crate::route::{Endpoint, PledgeAction, ReceiptAction};
+use crate::fields::{Fields, Found};
+use crate::head::body_length;
+use crate::limits::{MAX_FIELDS, MAX_HEAD};
+use crate::route::{Action, Endpoint};
 use crate::router::Router;
+use crate::senders::{of_bearer, of_broker};
 use crate::{body, commands, member, receipts};
 use httparse::Status;
-use httparse::spans::{EMPTY_HEADER_SPAN, HeaderSpan, parse_request};
+use httparse::spans::{EMPTY_HEADER_SPAN, parse_request};
 use pawn_book::{BearerRequest, BrokerRequest, Caller, Number, Request, Secret};
 use std::alloc::Global;
 use std::str::from_utf8;
@@ -24,6 +27,13 @@ pub(crate) struct Place {
     pub book: Number,
     /// The number of a pledge, where the target has a part for it.
     pub item: Option<Number>,
+}
+
+// What is sent beside a target.
+#[derive(Drop)]
+struct Sent<'a> {
+    fields: Fields<'a>,
+    body: &'a [u8],
 }
 
 fn is_ascii_text(text: &[u8]) -> bool
@@ -73,191 +83,113 @@ fn place_of(router: &Router, target: &[u8]) -> Option<Place>
 }
 
 // The key that fields give.
-fn key(bytes: &[u8], fields: &[HeaderSpan]) -> Result<Secret, WireFault>
-    requires within { All (IsHeaderWithin (length bytes.now)) fields.now }
-    ensures value { result ≡ keyed (map (header_bytes bytes.now) fields.now) }
+fn key(fields: &Fields<'_>) -> Result<Secret, WireFault>
+    ensures value { result ≡ keyed (pairs_of fields.now) }
 {
-    match fields::find(bytes, fields, b"pledge-key") {
-        Found::One(value) => Secret::of_text(value.of(bytes)).ok_or(WireFault::BadKey),
+    match fields.find(b"pledge-key") {
+        Found::One(value) => Secret::of_text(value).ok_or(WireFault::BadKey),
         Found::Missing => Err(WireFault::BadKey),
         Found::Several => Err(WireFault::BadKey),
     }
 }
 
-// The request to make a book.
-fn create(
-    alloc: Global,
-    book: Number,
-    bytes: &[u8],
-    fields: &[HeaderSpan],
-    body: &[u8],
-) -> Result<Request, WireFault>
-    requires within { All (IsHeaderWithin (length bytes.now)) fields.now }
-    ensures value { Says result (create_said book (map (header_bytes bytes.now) fields.now) body.now) }
+// Who makes a book.
+fn create(alloc: Global, sent: &Sent<'_>) -> Result<Caller, WireFault>
+    ensures value { Says result (caller_said Create None (pairs_of sent.now.fields) sent.now.body.now) }
 {
-    let key = key(bytes, fields)?;
-    let value = member::json(alloc, body)?;
+    let key = key(&sent.fields)?;
+    let value = member::json(alloc, sent.body)?;
     let new_book = body::new_book(alloc, &value)?;
-    Ok(Request {
-        book,
-        caller: Caller::Operator { key, new_book },
-    })
+    Ok(Caller::Operator { key, new_book })
 }
 
-// The request to put terms.
-fn put_terms(
-    alloc: Global,
-    book: Number,
-    bytes: &[u8],
-    fields: &[HeaderSpan],
-    body: &[u8],
-) -> Result<Request, WireFault>
-    requires within { All (IsHeaderWithin (length bytes.now)) fields.now }
-    ensures value { Says result (put_terms_said book (map (header_bytes bytes.now) fields.now) body.now) }
+// Who puts terms.
+fn put_terms(alloc: Global, sent: &Sent<'_>) -> Result<Caller, WireFault>
+    ensures value { Says result (caller_said PutTerms None (pairs_of sent.now.fields) sent.now.body.now) }
 {
-    let key = key(bytes, fields)?;
-    let value = member::json(alloc, body)?;
+    let key = key(&sent.fields)?;
+    let value = member::json(alloc, sent.body)?;
     let terms = body::new_terms(&value).ok_or(WireFault::BadBody)?;
-    Ok(Request {
-        book,
-        caller: Caller::Broker {
-            key,
-            asked: BrokerRequest::PutTerms(terms),
-        },
+    Ok(Caller::Broker {
+        key,
+        asked: BrokerRequest::PutTerms(terms),
     })
 }
 
-// The request to take a pledge.
-fn take_pledge(
-    alloc: Global,
-    book: Number,
-    bytes: &[u8],
-    fields: &[HeaderSpan],
-    body: &[u8],
-) -> Result<Request, WireFault>
-    requires within { All (IsHeaderWithin (length bytes.now)) fields.now }
-    ensures value { Says result (take_pledge_said book (map (header_bytes bytes.now) fields.now) body.now) }
+// Who takes a pledge.
+fn take_pledge(alloc: Global, sent: &Sent<'_>) -> Result<Caller, WireFault>
+    ensures value { Says result (caller_said TakePledge None (pairs_of sent.now.fields) sent.now.body.now) }
 {
-    let key = key(bytes, fields)?;
-    let value = member::json(alloc, body)?;
+    let key = key(&sent.fields)?;
+    let value = member::json(alloc, sent.body)?;
     let opening = body::opening(alloc, &value)?;
-    Ok(Request {
-        book,
-        caller: Caller::Broker {
-            key,
-            asked: BrokerRequest::TakePledge(opening),
-        },
+    Ok(Caller::Broker {
+        key,
+        asked: BrokerRequest::TakePledge(opening),
     })
 }
 
-// The request to show a pledge.
-fn show(
-    book: Number,
+// Who sees the pledge of a number.
+fn show(item: Option<Number>, sent: &Sent<'_>) -> Result<Caller, WireFault>
+    ensures value { Says result (caller_said Show item (pairs_of sent.now.fields) sent.now.body.now) }
+{
+    let key = key(&sent.fields)?;
+    let number = item.ok_or(WireFault::BadBody)?;
+    Ok(Caller::Broker {
+        key,
+        asked: BrokerRequest::Show(number),
+    })
+}
+
+// Who commands the pledge of a number.
+fn command_pledge(
+    alloc: Global,
     item: Option<Number>,
-    bytes: &[u8],
-    fields: &[HeaderSpan],
-) -> Result<Request, WireFault>
-    requires within { All (IsHeaderWithin (length bytes.now)) fields.now }
-    ensures value { Says result (show_said book item (map (header_bytes bytes.now) fields.now)) }
+    action: Action,
+    sent: &Sent<'_>,
+) -> Result<Caller, WireFault>
+    ensures value { Says result (caller_said (OnPledge action) item (pairs_of sent.now.fields) sent.now.body.now) }
 {
-    let number = item.ok_or(WireFault::NoRoute)?;
-    let key = key(bytes, fields)?;
-    Ok(Request {
-        book,
-        caller: Caller::Broker {
-            key,
-            asked: BrokerRequest::Show(number),
-        },
+    let key = key(&sent.fields)?;
+    let number = item.ok_or(WireFault::BadBody)?;
+    let command = commands::command(alloc, action, sent.body)?;
+    let command = of_broker(command).ok_or(WireFault::BadBody)?;
+    Ok(Caller::Broker {
+        key,
+        asked: BrokerRequest::OnPledge { number, command },
     })
 }
 
-// The request to command a pledge.
-fn on_pledge(
-    alloc: Global,
-    book: Number,
-    item: Option<Number>,
-    action: PledgeAction,
-    bytes: &[u8],
-    fields: &[HeaderSpan],
-    body: &[u8],
-) -> Result<Request, WireFault>
-    requires within { All (IsHeaderWithin (length bytes.now)) fields.now }
-    ensures value { Says result
-        (on_pledge_said book item action (map (header_bytes bytes.now) fields.now) body.now) }
+// Who sees what receipts stand for.
+fn present(alloc: Global, sent: &Sent<'_>) -> Result<Caller, WireFault>
+    ensures value { Says result (caller_said Held None (pairs_of sent.now.fields) sent.now.body.now) }
 {
-    let number = item.ok_or(WireFault::NoRoute)?;
-    let key = key(bytes, fields)?;
-    let command = commands::of_broker(alloc, action, body)?;
-    Ok(Request {
-        book,
-        caller: Caller::Broker {
-            key,
-            asked: BrokerRequest::OnPledge { number, command },
-        },
-    })
+    let receipts = receipts::receipts(alloc, &sent.fields)?;
+    Ok(Caller::Bearer(BearerRequest::Held(receipts)))
 }
 
-// The request to show what receipts stand for.
-fn held(
-    alloc: Global,
-    book: Number,
-    bytes: &[u8],
-    fields: &[HeaderSpan],
-) -> Result<Request, WireFault>
-    requires within { All (IsHeaderWithin (length bytes.now)) fields.now }
-    ensures value { Says result (held_said book (map (header_bytes bytes.now) fields.now)) }
+// Who commands the pledge of a receipt.
+fn command_receipt(alloc: Global, action: Action, sent: &Sent<'_>) -> Result<Caller, WireFault>
+    ensures value { Says result (caller_said (OnReceipt action) None (pairs_of sent.now.fields) sent.now.body.now) }
 {
-    let receipts = receipts::receipts(alloc, bytes, fields)?;
-    Ok(Request {
-        book,
-        caller: Caller::Bearer(BearerRequest::Held(receipts)),
-    })
+    let receipt = receipts::one(&sent.fields)?;
+    let command = commands::command(alloc, action, sent.body)?;
+    let command = of_bearer(command).ok_or(WireFault::BadBody)?;
+    Ok(Caller::Bearer(BearerRequest::OnPledge { receipt, command }))
 }
 
-// The request to command the pledge of a receipt.
-fn on_receipt(
-    alloc: Global,
-    book: Number,
-    action: ReceiptAction,
-    bytes: &[u8],
-    fields: &[HeaderSpan],
-    body: &[u8],
-) -> Result<Request, WireFault>
-    requires within { All (IsHeaderWithin (length bytes.now)) fields.now }
-    ensures value { Says result
-        (on_receipt_said book action (map (header_bytes bytes.now) fields.now) body.now) }
-{
-    let receipt = receipts::one(bytes, fields)?;
-    let command = commands::of_bearer(alloc, action, body)?;
-    Ok(Request {
-        book,
-        caller: Caller::Bearer(BearerRequest::OnPledge { receipt, command }),
-    })
-}
-
-// What is asked of a book, or of one of its pledges, at an endpoint.
-fn asked(
-    alloc: Global,
-    place: Place,
-    bytes: &[u8],
-    fields: &[HeaderSpan],
-    body: &[u8],
-) -> Result<Request, WireFault>
-    requires within { All (IsHeaderWithin (length bytes.now)) fields.now }
-    ensures value { Says result (said_at place.endpoint place.book place.item (map (header_bytes bytes.now) fields.now) body.now) }
+// Who asks at an endpoint, and what for.
+fn caller(alloc: Global, place: Place, sent: &Sent<'_>) -> Result<Caller, WireFault>
+    ensures value { Says result (caller_said place.endpoint place.item (pairs_of sent.now.fields) sent.now.body.now) }
 {
     match place.endpoint {
-        Endpoint::Create => create(alloc, place.book, bytes, fields, body),
-        Endpoint::PutTerms => put_terms(alloc, place.book, bytes, fields, body),
-        Endpoint::TakePledge => take_pledge(alloc, place.book, bytes, fields, body),
-        Endpoint::Show => show(place.book, place.item, bytes, fields),
-        Endpoint::OnPledge(action) => {
-            on_pledge(alloc, place.book, place.item, action, bytes, fields, body)
-        }
-        Endpoint::Held => held(alloc, place.book, bytes, fields),
-        Endpoint::OnReceipt(action) => {
-            on_receipt(alloc, place.book, action, bytes, fields, body)
-        }
+        Endpoint::Create => create(alloc, sent),
+        Endpoint::PutTerms => put_terms(alloc, sent),
+        Endpoint::TakePledge => take_pledge(alloc, sent),
+        Endpoint::Show => show(place.item, sent),
+        Endpoint::OnPledge(action) => command_pledge(alloc, place.item, action, sent),
+        Endpoint::Held => present(alloc, sent),
+        Endpoint::OnReceipt(action) => command_receipt(alloc, action, sent),
     }
 }
 
@@ -267,15 +199,12 @@ fn request_by(
     router: &Router,
     method: &[u8],
     target: &[u8],
-    bytes: &[u8],
-    fields: &[HeaderSpan],
-    body: &[u8],
+    sent: &Sent<'_>,
 ) -> Result<Request, WireFault>
-    requires within { All (IsHeaderWithin (length bytes.now)) fields.now }
-    ensures value { Says result (request_by method.now target.now (map (header_bytes bytes.now) fields.now) body.now) }
+    ensures value { Says result (request_by method.now target.now (pairs_of sent.now.fields) sent.now.body.now) }
 {
-    let length = body_length(bytes, fields)?;
-    if length != body.len() {
+    let length = body_length(&sent.fields)?;
+    if length != sent.body.len() {
         return Err(WireFault::BadLength);
     }
     let Some(place) = place_of(router, target) else {
@@ -284,7 +213,9 @@ fn request_by(
     if !place.endpoint.takes(method) {
         return Err(WireFault::WrongMethod);
     }
-    asked(alloc, place, bytes, fields, body)
+    let book = place.book;
+    let caller = caller(alloc, place, sent)?;
+    Ok(Request { book, caller })
 }
 
 /// The request that bytes are, one whole request and nothing after it, or the first fault that
@@ -295,15 +226,20 @@ pub fn read_request(alloc: Global, router: &Router, bytes: &[u8]) -> Result<Requ
     let front = &bytes[..bytes.len().min(MAX_HEAD)];
     let mut spans = [EMPTY_HEADER_SPAN; MAX_FIELDS];
     match parse_request(front, &mut spans) {
-        Ok(Status::Complete(head)) => request_by(
-            alloc,
-            router,
-            head.method.of(front),
-            head.path.of(front),
-            front,
-            &spans[..head.headers],
-            &bytes[head.len..],
-        ),
+        Ok(Status::Complete(head)) => {
+            let fields = Fields::new(front, &spans[..head.headers]);
+            let sent = Sent {
+                fields,
+                body: &bytes[head.len..],
+            };
+            request_by(
+                alloc,
+                router,
+                head.method.of(front),
+                head.path.of(front),
+                &sent,
+            )
+        }
         Ok(Status::Partial) => Err(WireFault::BadHead),
         Err(_) => Err(WireFault::BadHead),
     }

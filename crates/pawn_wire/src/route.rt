@@ -16,36 +16,31 @@ pub enum Endpoint {
     /// To show a pledge of a book.
     Show,
     /// To command a pledge of a book.
-    OnPledge(PledgeAction),
+    OnPledge(Action),
     /// To show what receipts stand for.
     Held,
     /// To command the pledge of a receipt.
-    OnReceipt(ReceiptAction),
+    OnReceipt(Action),
 }
 
-/// What a broker may command of a pledge.
+/// What is commanded of a pledge.
 #[derive(Clone, Copy, Debug, PartialEq, Eq)]
-pub enum PledgeAction {
+pub enum Action {
     Draw,
     Repay,
     Hold,
     Release,
     Declare,
+    Ask,
+    Cancel,
     Decide,
+    Redeem,
     Sell,
     Extend,
 }
 
-/// What a bearer may command of the pledge of a receipt.
-#[derive(Clone, Copy, Debug, PartialEq, Eq)]
-pub enum ReceiptAction {
-    Repay,
-    Ask,
-    Cancel,
-    Redeem,
-}
-
-/// The targets, each with its endpoint; a name in braces stands for a number.
+/// The targets, each with its endpoint; a name in braces stands for a number. An action stands here
+/// under those who may send its command, and under no other.
 pub(crate) const ROUTES: [(&str, Endpoint); 17] = [
     ("/books/{b}", Endpoint::Create),
     ("/books/{b}/terms", Endpoint::PutTerms),
@@ -53,52 +48,46 @@ pub(crate) const ROUTES: [(&str, Endpoint); 17] = [
     ("/books/{b}/pledges/{n}", Endpoint::Show),
     (
         "/books/{b}/pledges/{n}/draw",
-        Endpoint::OnPledge(PledgeAction::Draw),
+        Endpoint::OnPledge(Action::Draw),
     ),
     (
         "/books/{b}/pledges/{n}/repay",
-        Endpoint::OnPledge(PledgeAction::Repay),
+        Endpoint::OnPledge(Action::Repay),
     ),
     (
         "/books/{b}/pledges/{n}/hold",
-        Endpoint::OnPledge(PledgeAction::Hold),
+        Endpoint::OnPledge(Action::Hold),
     ),
     (
         "/books/{b}/pledges/{n}/release",
-        Endpoint::OnPledge(PledgeAction::Release),
+        Endpoint::OnPledge(Action::Release),
     ),
     (
         "/books/{b}/pledges/{n}/declare",
-        Endpoint::OnPledge(PledgeAction::Declare),
+        Endpoint::OnPledge(Action::Declare),
     ),
     (
         "/books/{b}/pledges/{n}/decide",
-        Endpoint::OnPledge(PledgeAction::Decide),
+        Endpoint::OnPledge(Action::Decide),
     ),
     (
         "/books/{b}/pledges/{n}/sell",
-        Endpoint::OnPledge(PledgeAction::Sell),
+        Endpoint::OnPledge(Action::Sell),
     ),
     (
         "/books/{b}/pledges/{n}/extend",
-        Endpoint::OnPledge(PledgeAction::Extend),
+        Endpoint::OnPledge(Action::Extend),
     ),
     ("/books/{b}/held", Endpoint::Held),
-    (
-        "/books/{b}/held/repay",
-        Endpoint::OnReceipt(ReceiptAction::Repay),
-    ),
-    (
-        "/books/{b}/held/ask",
-        Endpoint::OnReceipt(ReceiptAction::Ask),
-    ),
+    ("/books/{b}/held/repay", Endpoint::OnReceipt(Action::Repay)),
+    ("/books/{b}/held/ask", Endpoint::OnReceipt(Action::Ask)),
     (
         "/books/{b}/held/cancel",
-        Endpoint::OnReceipt(ReceiptAction::Cancel),
+        Endpoint::OnReceipt(Action::Cancel),
     ),
     (
         "/books/{b}/held/redeem",
-        Endpoint::OnReceipt(ReceiptAction::Redeem),
+        Endpoint::OnReceipt(Action::Redeem),
     ),
 ];
 

@@ -6,9 +6,11 @@ use Rattle.std.proofs.lemmas.List.Elements.{All-append, All-cons, All-nil, All-h
 use Rattle.pawn_pledge.specs.declared.command.Stamp.{Stamp}
 use Rattle.pawn_book.specs.HostStep.{Host}
 use Rattle.pawn_book.specs.Sound.{IsSound}
+use Rattle.pawn_host.specs.Keeps.{Start, host_by}
 use Rattle.pawn_host.specs.Run.{Item, IsMarked, host_after}
+use Rattle.pawn_host.specs.Split.{most_requests}
 use Rattle.pawn_host.specs.Session as session
-use Rattle.pawn_host.specs.Session.{stamps_of, IsLeftBy, acted_of}
+use Rattle.pawn_host.specs.Session.{Given, stamps_of, IsLeftBy, acted_of}
 use Rattle.pawn_host.specs.declared.session.How.{How}
 use Rattle.pawn_host.specs.declared.session.How.TheVariants.{End, Cut, Closed, Faulted, Limit, NoStamp, Memory}
 use Rattle.pawn_host.specs.declared.session.Ended.{Ended}
@@ -46,15 +48,15 @@ stamps_of-append [] two = refl
 stamps_of-append (i ∷ one) two = ap (λ (l : List Stamp). i.stamp ∷ l) (stamps_of-append one two)
 
 -- what a session did to the stamps and to the keeper
-record Sat {S : Type 0} (steps : S → Option Stamp → S → Type 0) (from to : S) (Steady : Type 0) (operator : ℕ) (h : Host) (acted : ℕ) (stands : Host → Type 0) : Type 0 where
+record Sat {S : Type 0} (steps : S → Option Stamp → S → Type 0) (from to : S) (start : Start) (acted : ℕ) (stands : Host → Type 0) : Type 0 where
   pub items : List Item
   pub count : length items ≡ acted
-  pub marked : All (IsMarked Steady) items
+  pub marked : All (IsMarked start.Steady) items
   pub given : List (Option Stamp)
   pub gives : Gives steps from given to
   pub taken : stamps_among given ≡ stamps_of items
-  pub stands_for : stands (host_after h operator items)
-  pub sound : IsSound (host_after h operator items)
+  pub stands_for : stands (host_by start items)
+  pub sound : IsSound (host_by start items)
 
 none_more : {S : Type 0} (steps : S → Option Stamp → S → Type 0) (from to last : S) (items : List Item) → Yields steps from (stamps_of items) to → to ≡ last
     → (given : List (Option Stamp)) × Gives steps from given last × (stamps_among given ≡ stamps_of items)
@@ -78,36 +80,37 @@ given_by steps from to last items Faulted taken left = none_more steps from to l
 given_by steps from to last items Memory taken left = none_more steps from to last items taken left
 given_by steps from to last items NoStamp taken left = dry steps from to last items taken left
 
-sat : {S : Type 0} (steps : S → Option Stamp → S → Type 0) (from last : S) (Steady : Type 0) (operator : ℕ) (h : Host) (left old new : Option (List ℕ)) (stands : Host → Type 0) (result : Result Ended IoFault)
-    → session.IsSession steps from last Steady operator h left stands old new result → Sat steps from last Steady operator h (acted_of result) stands
-sat steps from last Steady operator h left old new stands (Ok ended) s =
-    let given = given_by steps from s.to last s.items ended.how s.served.taken s.stamps in
-    record { items = s.items; count = s.count; marked = s.served.marked; given = given.0; gives = given.1; taken = given.2; stands_for = s.served.stands_for; sound = s.served.sound }
-sat steps from last Steady operator h left old new stands (Err fault) s =
-    let given = none_more steps from last last s.items s.served.taken refl in
-    record { items = s.items; count = s.count; marked = s.served.marked; given = given.0; gives = given.1; taken = given.2; stands_for = s.served.stands_for; sound = s.served.sound }
+sat : {S : Type 0} (steps : S → Option Stamp → S → Type 0) (given : Given S) (stamps : S) (stands : Host → Type 0) (written : Option (List ℕ)) (result : Result Ended IoFault)
+    → session.IsSession steps given stamps stands written result → Sat steps given.stamps stamps given.start (acted_of result) stands
+sat steps given stamps stands written (Ok ended) s =
+    let answers = given_by steps given.stamps s.to stamps s.items ended.how s.served.taken s.left in
+    record { items = s.items; count = s.count; marked = s.served.marked; given = answers.0; gives = answers.1; taken = answers.2; stands_for = s.served.stands_for; sound = s.served.sound }
+sat steps given stamps stands written (Err fault) s =
+    let answers = none_more steps given.stamps stamps stamps s.items s.served.taken refl in
+    record { items = s.items; count = s.count; marked = s.served.marked; given = answers.0; gives = answers.1; taken = answers.2; stands_for = s.served.stands_for; sound = s.served.sound }
 
 -- ---- connections in turn
 
-pub served_none : {S : Type 0} {steps : S → Option Stamp → S → Type 0} {from : S} {Steady : Type 0} {operator : ℕ} {h : Host} {stands : Host → Type 0} → stands h → IsSound h → AreServed steps from from Steady operator h 0 stands
+pub served_none : {S : Type 0} {steps : S → Option Stamp → S → Type 0} {from : S} {start : Start} {stands : Host → Type 0} → stands start.host → IsSound start.host → AreServed steps from from start 0 stands
 served_none at sound = record { sessions = []; count = refl; each = All-nil IsSession; marked = All-nil (IsMarked _); given = []; gives = refl; taken = refl; stands_for = at; sound = sound }
 
 -- one connection more, whose session began where the one before it left the service and the stamps
-pub served_more : {S : Type 0} (steps : S → Option Stamp → S → Type 0) (from mid to : S) (Now Before : Type 0) (op operator : ℕ) (h : Host) (answered : ℕ) (left old new : Option (List ℕ)) (at stands : Host → Type 0) (result : Result Ended IoFault)
-    → (so : AreServed steps from mid Before operator h answered at) → (Before → Now) → op ≡ operator → acted_of result ≤ 1000
-    → session.IsSession steps mid to Now op (host_after h operator (items_of so.sessions)) left stands old new result → AreServed steps from to Before operator h (answered + 1) stands
-served_more steps from mid to Now Before op operator h answered left old new at stands result so stays same most here =
-    let one = sat steps mid to Now operator (host_after h operator (items_of so.sessions)) left old new stands result (subst (λ (o : ℕ). session.IsSession steps mid to Now o (host_after h operator (items_of so.sessions)) left stands old new result) same here) in
+pub served_more : {S : Type 0} (steps : S → Option Stamp → S → Type 0) (from : S) (start : Start) (answered : ℕ) (given : Given S) (to : S) (at stands : Host → Type 0) (written : Option (List ℕ)) (result : Result Ended IoFault)
+    → (so : AreServed steps from given.stamps start answered at) → (start.Steady → given.start.Steady) → given.start.operator ≡ start.operator → given.start.host ≡ host_by start (items_of so.sessions)
+    → acted_of result ≤ most_requests → session.IsSession steps given to stands written result → AreServed steps from to start (answered + 1) stands
+served_more steps from start answered given to at stands written result so stays same there most here =
+    let one = sat steps given to stands written result here in
     let items : items_of (so.sessions ++ one.items ∷ []) ≡ items_of so.sessions ++ one.items = items_of-snoc so.sessions one.items in
-    let after : host_after h operator (items_of (so.sessions ++ one.items ∷ [])) ≡ host_after (host_after h operator (items_of so.sessions)) operator one.items =
-    ap (host_after h operator) items ∙ host_after-append h operator (items_of so.sessions) one.items in
+    let after : host_by start (items_of (so.sessions ++ one.items ∷ [])) ≡ host_by given.start one.items =
+    ap (host_by start) items ∙ host_after-append start.host start.operator (items_of so.sessions) one.items
+    ∙ (λ i. host_after (sym there i) (sym same i) one.items) in
     record {
       sessions = so.sessions ++ one.items ∷ [];
       count = length-append so.sessions (one.items ∷ []) ∙ ap (λ (n : ℕ). n + 1) so.count;
       each = All-append IsSession so.sessions (one.items ∷ []) so.each (All-cons IsSession one.items [] (omega (arith, one.count, most)) (All-nil IsSession));
-      marked = subst (All (IsMarked Before)) (sym items) (All-append (IsMarked Before) (items_of so.sessions) one.items so.marked (marked_all Now Before one.items stays one.marked));
+      marked = subst (All (IsMarked start.Steady)) (sym items) (All-append (IsMarked start.Steady) (items_of so.sessions) one.items so.marked (marked_all given.start.Steady start.Steady one.items stays one.marked));
       given = so.given ++ one.given;
-      gives = gives_then steps from mid to so.given one.given so.gives one.gives;
+      gives = gives_then steps from given.stamps to so.given one.given so.gives one.gives;
       taken = among_then so.given one.given ∙ ap (λ (l : List Stamp). l ++ stamps_among one.given) so.taken ∙ ap (λ (l : List Stamp). stamps_of (items_of so.sessions) ++ l) one.taken
           ∙ sym (ap stamps_of items ∙ stamps_of-append (items_of so.sessions) one.items);
       stands_for = subst stands (sym after) one.stands_for;

@@ -4,8 +4,10 @@ use Rattle.std.specs.List.{filter_map, flat_map}
 use Rattle.pawn_pledge.specs.declared.command.Stamp.{Stamp}
 use Rattle.pawn_book.specs.HostStep.{Host}
 use Rattle.pawn_book.specs.Sound.{IsSound}
-use Rattle.pawn_host.specs.Run.{Item, IsMarked, host_after}
+use Rattle.pawn_host.specs.Keeps.{Start, host_by}
+use Rattle.pawn_host.specs.Run.{Item, IsMarked}
 use Rattle.pawn_host.specs.Session.{stamps_of}
+use Rattle.pawn_host.specs.Split.{most_requests}
 
 -- calls of an iterator gave these answers, in order
 abbrev pub Gives : {S A : Type 0} → (S → Option A → S → Type 0) → S → List (Option A) → S → Type 0
@@ -22,17 +24,17 @@ items_of sessions = flat_map (λ items. items) sessions
 
 -- at most as many requests are answered on a connection
 abbrev pub IsSession : List Item → Type 0
-IsSession items = length items ≤ 1000
+IsSession items = length items ≤ most_requests
 
 -- So many connections were answered, each where the one before it left the service and the stamps. Their requests are one
 -- run: the stamps that it took are those of its items, and the keeper stands for the host after all of them, which is sound.
-pub record AreServed {S : Type 0} (steps : S → Option Stamp → S → Type 0) (from to : S) (Steady : Type 0) (operator : ℕ) (h : Host) (answered : ℕ) (stands : Host → Type 0) : Type 0 where
+pub record AreServed {S : Type 0} (steps : S → Option Stamp → S → Type 0) (from to : S) (start : Start) (answered : ℕ) (stands : Host → Type 0) : Type 0 where
   pub sessions : List (List Item)
   pub count : length sessions ≡ answered
   pub each : All IsSession sessions
-  pub marked : All (IsMarked Steady) (items_of sessions)
+  pub marked : All (IsMarked start.Steady) (items_of sessions)
   pub given : List (Option Stamp)
   pub gives : Gives steps from given to
   pub taken : stamps_among given ≡ stamps_of (items_of sessions)
-  pub stands_for : stands (host_after h operator (items_of sessions))
-  pub sound : IsSound (host_after h operator (items_of sessions))
+  pub stands_for : stands (host_by start (items_of sessions))
+  pub sound : IsSound (host_by start (items_of sessions))

@@ -13,7 +13,7 @@ const SECONDS_A_DAY: u64 = 86_400;
 /// the next word. None is given on a day that no request may have, and no word is lost by that.
 #[derive(Drop)]
 pub struct ClockStamps<'a, C> {
-    clock: &'a C,
+    pub(crate) clock: &'a C,
     words: Words,
 }
 

@@ -1,16 +1,17 @@
 //! Connections, answered one after the other.
-ghost use Rattle.std.specs.Prelude.{◌≡◌, ◌≤◌, ◌+◌, false};
-ghost use Rattle.pawn_book.specs.Keeping.{Of};
+ghost use Rattle.std.specs.Prelude.{◌≡◌, ◌+◌, false};
 ghost use Rattle.pawn_host.specs.Ends.{reads, left_of};
-ghost use Rattle.pawn_host.specs.Keeps.{service_keep, service_operator};
-ghost use Rattle.pawn_host.specs.Session.{IsSession, acted_of};
+ghost use Rattle.pawn_host.specs.Keeps.{StaysOpen, Serves};
+ghost use Rattle.pawn_host.specs.Session.{IsSession, IsWithinMost};
 ghost use Rattle.pawn_view.specs.Ends.{write_failed, written_of};
+ghost use Rattle.pawnd.specs.Clock.{GivesDated};
 ghost use Rattle.pawnd.specs.Serving.{AreServed};
 
+use crate::clock::ClockStamps;
 use pawn_host::{Ended, IoFault, Keep, Reading, Service, Stamp, Writing};
 use std::io::{Read, Write};
 use std::net::{TcpListener, TcpStream};
-use std::time::Duration;
+use std::time::{Clock, Duration};
 
 /// So many seconds a read or a write waits for its peer, at most.
 const PATIENCE_SECONDS: u64 = 5;
@@ -24,22 +25,17 @@ pub struct Served {
 
 /// Accepts so many connections, one after the other, and answers the requests of each as
 /// `Service::answer_all` does. A connection that can't be accepted counts as one. One that breaks
-/// off is closed, and the next is answered.
-///
-/// The caller's condition: a stamp may be asked for at any time.
-pub fn serve_on<K: Keep, I: Iterator<Item = Stamp>>(
+/// off is closed, and the next is answered. The stamps of each go on where those of the one before
+/// it ended.
+pub fn serve_on<K: Keep, C: Clock>(
     listener: &TcpListener,
     service: &mut Service<K>,
-    stamps: &mut I,
+    stamps: &mut ClockStamps<'_, C>,
     connections: u32,
 ) -> Served
-    requires can { (s : I) → I.can_next s }
     ensures counted { result.answered + result.failed ≡ connections }
-    ensures honest { K.honest (service_keep service.new) → K.honest (service_keep service.old) }
-    ensures served { Of K.stands K.honest (service_keep service.old) (service_keep service.new) (λ h.
-        AreServed I.next_gives stamps.old stamps.new (K.steady (service_keep service.old)) (service_operator service.old) h result.answered (K.stands (service_keep service.new))) }
-    ensures steady { K.steady (service_keep service.old) → K.steady (service_keep service.new) }
-    ensures operator { service_operator service.new ≡ service_operator service.old }
+    ensures stays { StaysOpen K.keeping service.old service.new }
+    ensures served { Serves K.keeping service.old service.new (λ start. AreServed GivesDated stamps.old stamps.new start result.answered) }
 {
     let mut served = Served {
         answered: 0,
@@ -79,12 +75,11 @@ fn converse<K: Keep, R: Read, W: Write, I: Iterator<Item = Stamp>>(
     requires fresh { reads reader.old ≡ 0 }
     requires fine { write_failed writer.old ≡ false }
     requires can { I.can_next stamps.old }
-    ensures honest { K.honest (service_keep service.new) → K.honest (service_keep service.old) }
-    ensures session { Of K.stands K.honest (service_keep service.old) (service_keep service.new) (λ h. IsSession I.next_gives stamps.old stamps.new (K.steady (service_keep service.old)) (service_operator service.old) h
-        (left_of R.remaining reader.old) (K.stands (service_keep service.new)) (written_of W.contents writer.old) (written_of W.contents writer.new) result) }
-    ensures steady { K.steady (service_keep service.old) → K.steady (service_keep service.new) }
-    ensures operator { service_operator service.new ≡ service_operator service.old }
-    ensures most { acted_of result ≤ 1000 }
+    ensures stays { StaysOpen K.keeping service.old service.new }
+    ensures session { Serves K.keeping service.old service.new (λ start stands. IsSession I.next_gives
+        (record { start = start; stamps = stamps.old; stream = left_of R.remaining reader.old; written = written_of W.contents writer.old })
+        stamps.new stands (written_of W.contents writer.new) result) }
+    ensures room { IsWithinMost result }
 {
     service.answer_all(reader, writer, stamps)
 }

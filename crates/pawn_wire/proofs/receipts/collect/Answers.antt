@@ -10,11 +10,11 @@ loop-field-preserved c =
     elim c.if-is_named.branch [
       | then-is_named+in-Some+in_ok-push w ↦
           let hit =
-          collect_hit c.args.bytes.now c.args.fields.now c.loop-field.field-index no_span c.loop-field-test.true c.loop-field.receipts.items w.in-Some.receipt (cc)
+          collect_hit c.args.fields.now.bytes.now c.args.fields.now.spans.now c.loop-field.field-index no_span c.loop-field-test.true c.loop-field.receipts.items w.in-Some.receipt (cc)
           c.loop-field.invariant (ap receipt_said (sym w.of.ensures) ∙ sym w.in-Some.ensures.value) in
           rw w.receipts-is (hit ∙ ap Some (sym w.in_ok-push.ensures.items))
       | else-is_named w ↦
-          rw w.receipts-is (collect_other c.args.bytes.now c.args.fields.now c.loop-field.field-index no_span c.loop-field-test.true c.loop-field.receipts.items (cc) c.loop-field.invariant)
+          rw w.receipts-is (collect_other c.args.fields.now.bytes.now c.args.fields.now.spans.now c.loop-field.field-index no_span c.loop-field-test.true c.loop-field.receipts.items (cc) c.loop-field.invariant)
     ]
 
 pub returns-in_default : goal.returns-in_default
@@ -23,7 +23,7 @@ returns-in_default c =
       all =
           inr (
             refl,
-            collect_bad c.args.bytes.now c.args.fields.now c.loop-field.field-index no_span c.loop-field-test.true (cc)
+            collect_bad c.args.fields.now.bytes.now c.args.fields.now.spans.now c.loop-field.field-index no_span c.loop-field-test.true (cc)
                 (ap receipt_said (sym c.of.ensures) ∙ sym c.receipt_of.ensures.value ∙ c.in_default.is),
           );
     }

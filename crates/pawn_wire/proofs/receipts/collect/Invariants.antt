@@ -5,4 +5,4 @@ use Rattle.pawn_wire.proofs.receipts.collect.Given as goal
 
 abbrev pub invariant-loop-field : goal.invariant-loop-field
 invariant-loop-field l =
-    all_said (presented (map (header_bytes l.bytes) (take l.field-index l.fields))) ≡ Some l.receipts.items
+    all_said (presented (map (header_bytes l.fields.bytes.now) (take l.field-index l.fields.spans.now))) ≡ Some l.receipts.items

@@ -1,5 +1,5 @@
-use Rattle.std.proofs.Common.{arith, ◌≤◌, refl, inr, length, ◌-◌, take, drop, map, subst}
-use Rattle.httparse.specs.Spans.{header_bytes}
+use Rattle.std.proofs.Common.{arith, ◌≤◌, refl, inr, length, ◌-◌, take, drop, subst}
+use Rattle.pawn_wire.specs.Fields.{pairs_of}
 use Rattle.pawn_wire.specs.Request.{request_by}
 use Rattle.pawn_wire.specs.Chain.{Says}
 use Rattle.pawn_wire.proofs.HeadLemmas.{whole_head}
@@ -12,14 +12,15 @@ returns-in-Ok-Complete c =
     let y = rw c.in-Ok-Complete.field-0-is at c.in-Ok-Complete.ensures.within in
     let small : c.min.result ≤ 8192 = omega (arith, c.min.ensures) in
     let few : c.in-Ok-Complete.head.headers ≤ 64 = let k = y.section.count_fits in let l = c.parse_request.auto in omega arith in
-    let says : Says c.request_by.result (request_by c.of.result.now c.of-in-Ok-Complete.result.now (map (header_bytes (take c.min.result c.args.bytes.now)) (take c.in-Ok-Complete.head.headers c.parse_request.new.headers)) (take (length c.args.bytes.now - c.in-Ok-Complete.head.len) (drop c.in-Ok-Complete.head.len c.args.bytes.now))) = c.request_by.ensures.value in
+    let says : Says c.request_by.result (request_by c.of.result.now c.of-in-Ok-Complete.result.now (pairs_of c.new-fields.result) (take (length c.args.bytes.now - c.in-Ok-Complete.head.len) (drop c.in-Ok-Complete.head.len c.args.bytes.now))) = c.request_by.ensures.value in
     let m = c.of.ensures in
     let p = c.of-in-Ok-Complete.ensures in
+    let pairs = c.new-fields.ensures.pairs in
     let same = said_by_spans c.args.bytes.now c.min.result c.parse_request.new.headers c.in-Ok-Complete.head x.0 x.1 y.section.len_fits in
     record {
       read = is_read c.args.bytes.now c.request_by.result x.0 _
           (whole_head c.args.bytes.now c.min.result c.parse_request.new.headers c.in-Ok-Complete.head x.0 x.1 small few)
-          (subst (λ t. Says c.request_by.result t) same (rw (m, p) at says));
+          (subst (λ t. Says c.request_by.result t) same (rw (m, p, pairs) at says));
     }
 
 pub returns-in-Ok-Partial : goal.returns-in-Ok-Partial

@@ -10,4 +10,4 @@ returns-clause-targets c = (refl, refl, refl, refl, refl, refl, refl, refl)
 
 pub returns-clause-none : goal.returns-clause-none
 unfolding table_rows matchit_on_literals number_said
-returns-clause-none c = (refl, refl, refl, refl, refl, refl, refl)
+returns-clause-none c = (refl, refl, refl, refl, refl, refl, refl, refl)

@@ -1,10 +1,9 @@
 use Rattle.std.proofs.Common.{arith, ℕ, [], refl, drop, ap, ◌∙◌, take, ◌+◌}
-use Rattle.pawn_host.proofs.SessionLemmas.{ended_at_end, ended_cut, ended_limit, ended_dry, broken_off, finished_faulty, finished_memory, broken_write, ended_closed, goes_on, acted_at, starts, taken_none, taken_more, are_taken}
+use Rattle.pawn_host.proofs.SessionLemmas.{ended_at_end, ended_cut, ended_limit, ended_dry, broken_off, finished_faulty, finished_memory, broken_write, ended_closed, goes_on, acted_at, starts, taken_none, taken_more, are_taken, open_then}
 use Rattle.pawn_host.proofs.ReadLemmas.{read_none, read_then, read_more}
 use Rattle.pawn_host.proofs.FindLemmas.{not_by_writer}
 use Rattle.pawn_host.specs.declared.session.Found.TheVariants.{Request, AtEnd, CutOff, Faulty, NoMemory, Stopped}
-use Rattle.pawn_host.specs.Keeps.{service_operator}
-use Rattle.pawn_host.specs.Run.{host_after}
+use Rattle.pawn_host.specs.Keeps.{start_of, host_by}
 use Rattle.pawn_host.proofs.service.Service.answer_all.Goals as goal
 
 pub loop-acted-init : goal.loop-acted-init
@@ -15,9 +14,7 @@ loop-acted-init g c = record {
   taken = taken_none _ _;
   fetched = read_none _ _ _ c.requires.fresh c.new-buffer.ensures.items;
   room = omega arith;
-  honest = λ honest. honest;
-  steady = λ steady. steady;
-  operator = refl;
+  stays = record { on = record { past = λ honest. honest; served = λ honest serves. serves; stays = λ steady. steady }; operator = refl };
   so_far = λ honest h sound at. starts _ at sound c.new-buffer.ensures.items;
 }
 
@@ -71,18 +68,18 @@ returns-in_default-clause-session g c = λ honest h sound at. ended_dry c.in-Req
 
 pub returns-then-count-text-clause-session : goal.returns-then-count-text-clause-session
 returns-then-count-text-clause-session g c = λ honest h sound at.
-    let so = c.loop-acted.invariant.so_far (c.answer_one-answer.ensures.honest honest) h sound at in
-    let operator = service_operator c.args.self.now in
-    let mid = host_after h operator so.items in
-    let acted = acted_at _ _ _ operator mid c.in-Some.stamp _ (take (c.in-Request.head.len + c.in-Request.head.body) c.next_request.new.buffer.items) _ c.answer_slice-text.result.now _ (c.answer_one-answer.ensures.acted honest mid so.sound so.stands_for) c.loop-acted.invariant.steady c.loop-acted.invariant.operator (ap (take c.request_len-needed.result) c.deref.ensures.value ∙ ap (λ (k : ℕ). take k c.next_request.new.buffer.items) c.request_len-needed.ensures.answer) c.answer_slice-text.ensures.bytes in
+    let so = c.loop-acted.invariant.so_far (c.answer_one-answer.ensures.stays.on.past honest) h sound at in
+    let start = start_of g.K.Keep.keeping c.args.self.now h in
+    let mid = host_by start so.items in
+    let acted = acted_at _ start c.in-Some.stamp _ (take (c.in-Request.head.len + c.in-Request.head.body) c.next_request.new.buffer.items) _ c.answer_slice-text.result.now _ (c.answer_one-answer.ensures.acted honest mid so.served.sound so.served.stands_for) c.loop-acted.invariant.stays.on.stays c.loop-acted.invariant.stays.operator (ap (take c.request_len-needed.result) c.deref.ensures.value ∙ ap (λ (k : ℕ). take k c.next_request.new.buffer.items) c.request_len-needed.ensures.answer) c.answer_slice-text.ensures.bytes in
     broken_write _ _ _ _ c.in-Some.stamp c.in-Request.head c.send-count.result c.answer_slice-text.result.now c.next_request.new.buffer.items so c.loop-acted-test.true c.in-Some.ensures.steps acted c.in-Request.ensures.found c.in-Request.ensures.kept (omega (arith, c.in-Request.ensures.buffered, c.next_request.new.buffer.ok.0)) c.if-count-text.true c.send-count.ensures.bytes
 
 pub returns-then-head-clause-session : goal.returns-then-head-clause-session
 returns-then-head-clause-session g c = λ honest h sound at.
-    let so = c.loop-acted.invariant.so_far (c.answer_one-answer.ensures.honest honest) h sound at in
-    let operator = service_operator c.args.self.now in
-    let mid = host_after h operator so.items in
-    let acted = acted_at _ _ _ operator mid c.in-Some.stamp _ (take (c.in-Request.head.len + c.in-Request.head.body) c.next_request.new.buffer.items) _ c.answer_slice-text.result.now _ (c.answer_one-answer.ensures.acted honest mid so.sound so.stands_for) c.loop-acted.invariant.steady c.loop-acted.invariant.operator (ap (take c.request_len-needed.result) c.deref.ensures.value ∙ ap (λ (k : ℕ). take k c.next_request.new.buffer.items) c.request_len-needed.ensures.answer) c.answer_slice-text.ensures.bytes in
+    let so = c.loop-acted.invariant.so_far (c.answer_one-answer.ensures.stays.on.past honest) h sound at in
+    let start = start_of g.K.Keep.keeping c.args.self.now h in
+    let mid = host_by start so.items in
+    let acted = acted_at _ start c.in-Some.stamp _ (take (c.in-Request.head.len + c.in-Request.head.body) c.next_request.new.buffer.items) _ c.answer_slice-text.result.now _ (c.answer_one-answer.ensures.acted honest mid so.served.sound so.served.stands_for) c.loop-acted.invariant.stays.on.stays c.loop-acted.invariant.stays.operator (ap (take c.request_len-needed.result) c.deref.ensures.value ∙ ap (λ (k : ℕ). take k c.next_request.new.buffer.items) c.request_len-needed.ensures.answer) c.answer_slice-text.ensures.bytes in
     ended_closed _ _ _ _ c.in-Some.stamp c.in-Request.head c.send-count.result c.answer_slice-text.result.now c.next_request.new.buffer.items so c.loop-acted-test.true c.in-Some.ensures.steps acted c.in-Request.ensures.found c.in-Request.ensures.kept (omega (arith, c.in-Request.ensures.buffered, c.next_request.new.buffer.ok.0)) (omega (arith, c.send-count.ensures.bound, c.if-count-text.false)) c.send-count.ensures.bytes c.if-head.true
 
 pub loop-acted-preserved : goal.loop-acted-preserved
@@ -94,14 +91,12 @@ loop-acted-preserved g c = record {
       (c.drop_front.ensures.rest ∙ ap (λ (k : ℕ). drop k c.next_request.new.buffer.items) c.request_len-needed.ensures.answer);
   can = c.in-Some.ensures.goes.keeps;
   room = omega (arith, c.loop-acted.invariant.room);
-  honest = λ honest. c.loop-acted.invariant.honest (c.answer_one-answer.ensures.honest honest);
-  steady = λ steady. c.answer_one-answer.ensures.steady (c.loop-acted.invariant.steady steady);
-  operator = c.answer_one-answer.ensures.operator ∙ c.loop-acted.invariant.operator;
+  stays = open_then c.loop-acted.invariant.stays c.answer_one-answer.ensures.stays;
   so_far = λ honest h sound at.
-      let so = c.loop-acted.invariant.so_far (c.answer_one-answer.ensures.honest honest) h sound at in
-      let operator = service_operator c.args.self.now in
-      let mid = host_after h operator so.items in
-      let acted = acted_at _ _ _ operator mid c.in-Some.stamp _ (take (c.in-Request.head.len + c.in-Request.head.body) c.next_request.new.buffer.items) _ c.answer_slice-text.result.now _ (c.answer_one-answer.ensures.acted honest mid so.sound so.stands_for) c.loop-acted.invariant.steady c.loop-acted.invariant.operator (ap (take c.request_len-needed.result) c.deref.ensures.value ∙ ap (λ (k : ℕ). take k c.next_request.new.buffer.items) c.request_len-needed.ensures.answer) c.answer_slice-text.ensures.bytes in
+      let so = c.loop-acted.invariant.so_far (c.answer_one-answer.ensures.stays.on.past honest) h sound at in
+      let start = start_of g.K.Keep.keeping c.args.self.now h in
+      let mid = host_by start so.items in
+      let acted = acted_at _ start c.in-Some.stamp _ (take (c.in-Request.head.len + c.in-Request.head.body) c.next_request.new.buffer.items) _ c.answer_slice-text.result.now _ (c.answer_one-answer.ensures.acted honest mid so.served.sound so.served.stands_for) c.loop-acted.invariant.stays.on.stays c.loop-acted.invariant.stays.operator (ap (take c.request_len-needed.result) c.deref.ensures.value ∙ ap (λ (k : ℕ). take k c.next_request.new.buffer.items) c.request_len-needed.ensures.answer) c.answer_slice-text.ensures.bytes in
       goes_on _ _ _ _ c.in-Some.stamp c.in-Request.head c.send-count.result c.answer_slice-text.result.now c.next_request.new.buffer.items _ so c.loop-acted-test.true c.in-Some.ensures.steps acted c.in-Request.ensures.found c.in-Request.ensures.kept (omega (arith, c.in-Request.ensures.buffered, c.next_request.new.buffer.ok.0)) (omega (arith, c.send-count.ensures.bound, c.if-count-text.false)) c.send-count.ensures.bytes c.if-head.false (c.drop_front.ensures.rest ∙ ap (λ (k : ℕ). drop k c.next_request.new.buffer.items) c.request_len-needed.ensures.answer);
 }
 

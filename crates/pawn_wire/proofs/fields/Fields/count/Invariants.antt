@@ -1,8 +1,8 @@
 use Rattle.std.proofs.Common.{◌≡◌, ◌≤◌, length, map, take}
 use Rattle.httparse.specs.Spans.{header_bytes}
 use Rattle.pawn_wire.specs.Fields.{values_of}
-use Rattle.pawn_wire.proofs.fields.count.Given as goal
+use Rattle.pawn_wire.proofs.fields.Fields.count.Given as goal
 
 abbrev pub invariant-loop-field : goal.invariant-loop-field
 invariant-loop-field l =
-    (l.count ≡ length (values_of l.name (map (header_bytes l.bytes) (take l.field-index l.fields)))) × (l.count ≤ l.field-index)
+    (l.count ≡ length (values_of l.name (map (header_bytes l.self.bytes.now) (take l.field-index l.self.spans.now)))) × (l.count ≤ l.field-index)

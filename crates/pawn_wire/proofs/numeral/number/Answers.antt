@@ -1,6 +1,6 @@
 use Rattle.std.proofs.Common.{arith}
 use Rattle.pawn_wire.proofs.DigitLemmas.{short_numeral, value_bound, value_more}
-use Rattle.pawn_wire.proofs.fields.number.Goals as goal
+use Rattle.pawn_wire.proofs.numeral.number.Goals as goal
 
 pub overflow_mul-number : goal.overflow_mul-number
 overflow_mul-number c =

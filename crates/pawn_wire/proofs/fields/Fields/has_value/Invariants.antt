@@ -3,8 +3,8 @@ use Rattle.std.specs.List.{list_any}
 use Rattle.std.specs.Str.{str_eq_ignore_ascii_case}
 use Rattle.httparse.specs.Spans.{header_bytes}
 use Rattle.pawn_wire.specs.Fields.{values_of}
-use Rattle.pawn_wire.proofs.fields.has_value.Given as goal
+use Rattle.pawn_wire.proofs.fields.Fields.has_value.Given as goal
 
 abbrev pub invariant-loop-field : goal.invariant-loop-field
 invariant-loop-field l =
-    l.found ≡ list_any (λ v. str_eq_ignore_ascii_case v l.value) (values_of l.name (map (header_bytes l.bytes) (take l.field-index l.fields)))
+    l.found ≡ list_any (λ v. str_eq_ignore_ascii_case v l.value) (values_of l.name (map (header_bytes l.self.bytes.now) (take l.field-index l.self.spans.now)))

@@ -1,0 +1,13 @@
+-- Numbers in fields.
+use Rattle.std.specs.Prelude.{ℕ, List, length, Bool, ◌&&◌, nat_lt, nat_le, Option, Some, None, if◌then◌else◌}
+use Rattle.std.specs.List.{list_all}
+use Rattle.std.specs.Char.{is_ascii_digit}
+use Rattle.std.specs.Str.Parse.{digits_value}
+
+-- 1 to 19 digits
+abbrev pub is_short_numeral : List ℕ → Bool
+is_short_numeral v = nat_lt 0 (length v) && nat_le (length v) 19 && list_all is_ascii_digit v
+
+-- the number that 1 to 19 digits write
+abbrev pub decimal_of : List ℕ → Option ℕ
+decimal_of v = if is_short_numeral v then Some (digits_value 10 v) else None

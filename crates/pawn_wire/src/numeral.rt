@@ -1,0 +1,42 @@
+//! Numbers in fields.
+ghost use Rattle.std.specs.Prelude.{◌≡◌, IsTrue};
+ghost use Rattle.std.specs.Str.Parse.{digits_value};
+ghost use Rattle.std.specs.Char.{is_ascii_digit};
+ghost use Rattle.std.specs.List.{list_all};
+ghost use Rattle.pawn_wire.specs.Numeral.{is_short_numeral, decimal_of};
+
+fn are_digits(text: &[u8]) -> bool
+    ensures value { result ≡ list_all is_ascii_digit text.now }
+{
+    text.iter().all(|b| b.is_ascii_digit())
+}
+
+// Whether the text is 1 to 19 digits.
+fn is_short_numeral(text: &[u8]) -> bool
+    ensures value { result ≡ is_short_numeral text.now }
+{
+    !text.is_empty() && text.len() <= 19 && are_digits(text)
+}
+
+// The number that these digits write.
+fn number(text: &[u8]) -> u64
+    requires short { IsTrue (is_short_numeral text.now) }
+    ensures value { result ≡ digits_value 10 text.now }
+{
+    let mut number: u64 = 0;
+    for digit in text {
+        number = number * 10 + u64::from(*digit - b'0');
+    }
+    number
+}
+
+// The number that 1 to 19 digits write.
+pub(crate) fn decimal(text: &[u8]) -> Option<u64>
+    ensures value { result ≡ decimal_of text.now }
+{
+    if is_short_numeral(text) {
+        Some(number(text))
+    } else {
+        None
+    }
+}
