@@ -86,12 +86,6 @@ IsKept-start p principal none first small low day =
       few = rw none (omega arith);
     }
 
--- the day taken is not after the last entry's
-pub taken-le : (p v : DebtValue) (t : Totals) → IsKept p t → p ≡ v → p.taken ≤ last_of p.taken v.entries
-taken-le p v t h is =
-    let P : DebtValue → Type 0 = λ q. p.taken ≤ last_of p.taken q.entries in
-    subst P is (last-le p.taken p.entries h.ordered)
-
 -- a longer period keeps what was kept, where the last entry was inside the old one
 pub IsKept-extended : (p v : DebtValue) (t : Totals) (ends : ℕ) → IsKept p t → p ≡ v → v.ends ≤ ends → last_of v.taken v.entries ≤ v.ends → IsKept (record p { ends = ends }) t
 IsKept-extended p v t ends h is later inside =

@@ -263,14 +263,6 @@ impl Debt {
         find_entry(self.entries.as_slice(), seq)
     }
 
-    /// The day taken.
-    pub fn taken(&self) -> Day
-        ensures value { result ≡ self.now.taken }
-        ensures before { result ≤ last_of result self.now.entries }
-    {
-        self.taken
-    }
-
     /// The end of the period.
     pub fn ends(&self) -> Day
         ensures value { result ≡ self.now.ends }

@@ -1,39 +1,55 @@
 -- The lists of a pledge grow at their ends.
-use Rattle.std.proofs.Common.{◌≡◌, ℕ, ◌+◌, ◌<◌, List, [], ◌∷◌, ◌++◌, length, refl, sym, ap, ◌∙◌, inl, inr, append_assoc}
+use Rattle.std.proofs.Common.{◌≡◌, ℕ, ◌+◌, ◌<◌, ◌==◌, false, List, [], ◌∷◌, ◌++◌, length, refl, sym, ap, ◌∙◌, inl, inr, append_assoc}
+use Rattle.std.specs.List.{list_any}
 use Rattle.std.proofs.lemmas.List.{append-nil}
 use Rattle.pawn_debt.specs.declared.entry.Entry.{Entry}
+use Rattle.pawn_pledge.specs.declared.record.Issued.{Issued}
 use Rattle.pawn_pledge.specs.declared.record.Extension.{Extension}
+use Rattle.pawn_pledge.specs.declared.record.Standing.{Standing}
 use Rattle.pawn_pledge.specs.declared.command.Stamp.{Stamp}
 use Rattle.pawn_pledge.specs.declared.command.Command.{Command}
 use Rattle.pawn_pledge.specs.Pledge.{PledgeValue, end_of}
-use Rattle.pawn_pledge.specs.Step.{Judged, Refused, Answered, Changed, new_entry, pledge_step, pledge_after}
+use Rattle.pawn_pledge.specs.Words.{with_standing, issue_of, new_entry}
+use Rattle.pawn_pledge.specs.Step.{Judged, Refused, Answered, Changed, pledge_step, pledge_after}
 use Rattle.pawn_pledge.specs.Growth.{Grows, StaysOrGrows}
 use Rattle.pawn_pledge.specs.Laws.{ListsGrow}
 use Rattle.pawn_pledge.proofs.Moves.{Move, pledge_moves, Entering, Holding, Declaring, Asking, Marking, Redeeming, Selling, Extending}
-use Rattle.pawn_pledge.proofs.Receipts.{secrets-moved}
 
-pub entries-moved : (p q : PledgeValue) (c : Command) (w x : ℕ) → Move p x w c q
-    → StaysOrGrows (λ (e : Entry). (e.seq ≡ length p.entries + 1) × (e.day ≡ x)) p.entries q.entries
-entries-moved p q c w x (Entering sort pence ok late few drawn is) = inr (new_entry p x sort pence, ap (λ (v : PledgeValue). v.entries) is, (refl, refl))
-entries-moved p q c w x (Holding flag new is) = inl (ap (λ (v : PledgeValue). v.entries) is)
-entries-moved p q c w x (Declaring paper ok is) = inl (ap (λ (v : PledgeValue). v.entries) is)
-entries-moved p q c w x (Asking b later live small state new named is) = inl (ap (λ (v : PledgeValue). v.entries) is)
-entries-moved p q c w x (Marking b state at new is) = inl (ap (λ (v : PledgeValue). v.entries) is)
-entries-moved p q c w x (Redeeming paid free total is) = inl (ap (λ (v : PledgeValue). v.entries) is)
-entries-moved p q c w x (Selling net status small is) = inl (ap (λ (v : PledgeValue). v.entries) is)
-entries-moved p q c w x (Extending until inside longer few named is) = inl (ap (λ (v : PledgeValue). v.entries) is)
+-- each list stays, or grows at its end by one
+pub record ListsMoved (p q : PledgeValue) (w x : ℕ) : Type 0 where
+  pub entries : StaysOrGrows (λ (e : Entry). (e.seq ≡ length p.entries + 1) × (e.day ≡ x)) p.entries q.entries
+  pub secrets : StaysOrGrows (λ (i : Issued). (i.secret ≡ w) × (list_any (λ (j : Issued). j.secret == w) p.secrets ≡ false)) p.secrets q.secrets
+  pub extensions : StaysOrGrows (λ (e : Extension). (e.day ≡ x) × (end_of p < e.until)) p.extensions q.extensions
 
-pub extensions-moved : (p q : PledgeValue) (c : Command) (w x : ℕ) → Move p x w c q
-    → StaysOrGrows (λ (e : Extension). (e.day ≡ x) × (end_of p < e.until)) p.extensions q.extensions
-extensions-moved p q c w x (Entering sort pence ok late few drawn is) = inl (ap (λ (v : PledgeValue). v.extensions) is)
-extensions-moved p q c w x (Holding flag new is) = inl (ap (λ (v : PledgeValue). v.extensions) is)
-extensions-moved p q c w x (Declaring paper ok is) = inl (ap (λ (v : PledgeValue). v.extensions) is)
-extensions-moved p q c w x (Asking b later live small state new named is) = inl (ap (λ (v : PledgeValue). v.extensions) is)
-extensions-moved p q c w x (Marking b state at new is) = inl (ap (λ (v : PledgeValue). v.extensions) is)
-extensions-moved p q c w x (Redeeming paid free total is) = inl (ap (λ (v : PledgeValue). v.extensions) is)
-extensions-moved p q c w x (Selling net status small is) = inl (ap (λ (v : PledgeValue). v.extensions) is)
-extensions-moved p q c w x (Extending until inside longer few named is) =
-    inr (record { day = x; until = until }, ap (λ (v : PledgeValue). v.extensions) is, (refl, longer))
+-- a change of how the pledge stands changes none
+stays-lists : (p q : PledgeValue) (w x : ℕ) (s : Standing) → q ≡ with_standing p s → ListsMoved p q w x
+stays-lists p q w x s is = record {
+  entries = inl (ap (λ (v : PledgeValue). v.entries) is);
+  secrets = inl (ap (λ (v : PledgeValue). v.secrets) is);
+  extensions = inl (ap (λ (v : PledgeValue). v.extensions) is);
+}
+
+pub lists-moved : (p q : PledgeValue) (c : Command) (w x : ℕ) → Move p x w c q → ListsMoved p q w x
+lists-moved p q c w x (Entering sort pence ok late few drawn is) = record {
+  entries = inr (new_entry p x sort pence, ap (λ (v : PledgeValue). v.entries) is, (refl, refl));
+  secrets = inl (ap (λ (v : PledgeValue). v.secrets) is);
+  extensions = inl (ap (λ (v : PledgeValue). v.extensions) is);
+}
+lists-moved p q c w x (Holding flag new is) = stays-lists p q w x _ is
+lists-moved p q c w x (Declaring paper ok is) = record {
+  entries = inl (ap (λ (v : PledgeValue). v.entries) is);
+  secrets = inr (record { day = x; sort = issue_of paper; secret = w }, ap (λ (v : PledgeValue). v.secrets) is, (refl, ok.1.1.0));
+  extensions = inl (ap (λ (v : PledgeValue). v.extensions) is);
+}
+lists-moved p q c w x (Asking b later live small state new named is) = stays-lists p q w x _ is
+lists-moved p q c w x (Marking b state at new is) = stays-lists p q w x _ is
+lists-moved p q c w x (Redeeming paid free total is) = stays-lists p q w x _ is
+lists-moved p q c w x (Selling net status small is) = stays-lists p q w x _ is
+lists-moved p q c w x (Extending until inside longer few named is) = record {
+  entries = inl (ap (λ (v : PledgeValue). v.entries) is);
+  secrets = inl (ap (λ (v : PledgeValue). v.secrets) is);
+  extensions = inr (record { day = x; until = until }, ap (λ (v : PledgeValue). v.extensions) is, (refl, longer));
+}
 
 -- a list that stays or grows by one has its old elements in front
 abbrev Front : {A : Type 0} → List A → List A → Type 0
@@ -63,17 +79,17 @@ grows-then p q r f g = record {
   extensions = front-then p.extensions q.extensions r.extensions f.extensions g.extensions;
 }
 
-pub grows-moved : (p q : PledgeValue) (c : Command) (w x : ℕ) → Move p x w c q → Grows p q
-grows-moved p q c w x m = record {
-  entries = front-of _ p.entries q.entries (entries-moved p q c w x m);
-  secrets = front-of _ p.secrets q.secrets (secrets-moved p q c w x m);
-  extensions = front-of _ p.extensions q.extensions (extensions-moved p q c w x m);
+pub grows-moved : (p q : PledgeValue) (w x : ℕ) → ListsMoved p q w x → Grows p q
+grows-moved p q w x m = record {
+  entries = front-of _ p.entries q.entries m.entries;
+  secrets = front-of _ p.secrets q.secrets m.secrets;
+  extensions = front-of _ p.extensions q.extensions m.extensions;
 }
 
 pub grows-step : (p : PledgeValue) (stamp : Stamp) (c : Command) (j : Judged) → pledge_step p stamp c ≡ j → Grows p (pledge_after p j)
 grows-step p stamp c (Refused why) is = grows-same p
 grows-step p stamp c (Answered done) is = grows-same p
-grows-step p stamp c (Changed q d) is = grows-moved p q c stamp.word stamp.day (pledge_moves p q stamp c d is).1
+grows-step p stamp c (Changed q d) is = grows-moved p q stamp.word stamp.day (lists-moved p q c stamp.word stamp.day (pledge_moves p q stamp c d is).1)
 
 pub lists_grow : ListsGrow
 lists_grow p [] = grows-same p

@@ -4,6 +4,7 @@ pub mod Replays
 pub mod Starts
 pub mod Receipts
 pub mod Growth
+pub mod Steps
 pub mod Repeats
 pub mod Briefs
 pub mod Keeping

@@ -25,8 +25,9 @@ use Rattle.pawn_pledge.specs.declared.command.Decision.TheVariants.{Confirm, Ref
 use Rattle.pawn_pledge.specs.declared.command.Command.{Command}
 use Rattle.pawn_pledge.specs.declared.command.Done.{Done}
 use Rattle.pawn_pledge.specs.declared.refusal.Refusal.{Refusal}
-use Rattle.pawn_pledge.specs.Pledge.{PledgeValue, changed_on, settled, end_of, debt_of, total_on, open_status, is_passed, is_realisable}
-use Rattle.pawn_pledge.specs.Step.{Judged, Answered, Changed, past, unless, bars, is_open, is_repeat, is_ahead, new_entry, entered, entry_step, numbered_step, same_flag, held_on, hold_step, declare_bars, with_secret, issue_of, declare_step, booked_on, books, in_state, is_standing, stands_for, asked, ask_step, cancelled, cancel_step, confirmed, declined, decide_step, closed, redeem_step, sell_step, with_extension, extend_step, pledge_step}
+use Rattle.pawn_pledge.specs.Words.{with_last, with_standing, is_open, is_repeat, is_ahead, new_entry, same_flag, with_hold, with_secret, issue_of, with_booking, in_state, is_standing, stands_for, close, with_extension}
+use Rattle.pawn_pledge.specs.Pledge.{PledgeValue, end_of, debt_of, total_on, open_status, is_passed, is_realisable}
+use Rattle.pawn_pledge.specs.Step.{Judged, Answered, Changed, past, unless, bars, under_debt, entry_step, numbered_step, hold_step, declare_bars, declare_step, books, ask_once, ask_step, cancel_in, cancel_step, confirm_in, decline_in, decide_step, redeem_step, sell_step, extend_step, pledge_step}
 use Rattle.pawn_pledge.specs.Replayable.{IsNotPassed, IsDrawnBy}
 use Rattle.pawn_pledge.specs.Commands.{IsCommand}
 use Rattle.pawn_pledge.specs.Limits.{last_window, most_extensions}
@@ -84,34 +85,34 @@ gate-is p x h = record { later = not_below x p.standing.last h.0; standing = ope
 pub data Move (p : PledgeValue) (x w : ℕ) (command : Command) (q : PledgeValue) : Type 0 where
   Entering : (sort : Sort) (pence : ℕ) → sort_answer sort (debt_of p) x pence ≡ Ok (with_entry (debt_of p) x sort pence)
       → last_of p.agreement.taken p.entries ≤ x → length p.entries < most_entries → IsDrawnBy (end_of p) sort x
-      → q ≡ record p { entries = p.entries ++ new_entry p x sort pence ∷ []; standing = changed_on p.standing x } → Move p x w command q
-  Holding : (flag : Bool) → same_flag p.standing.held flag ≡ false → q ≡ settled p (held_on p.standing flag x) → Move p x w command q
+      → q ≡ record p { entries = p.entries ++ new_entry p x sort pence ∷ []; standing = with_last p.standing x } → Move p x w command q
+  Holding : (flag : Bool) → same_flag p.standing.held flag ≡ false → q ≡ with_standing p (with_hold p.standing flag x) → Move p x w command q
   Declaring : (paper : Paper) → NoneApplies (declare_bars p paper w)
       → q ≡ with_secret p (record { day = x; sort = issue_of paper; secret = w }) → Move p x w command q
   Asking : (b : Booking) → x ≤ b.day → IsNotPassed p b.day → b.window ≤ last_window → b.state ≡ BookingState.Asked → (p.standing.booking ≡ Some b → ⊥)
-      → (IsCommand command → b.day ≤ last_stamp_day) → q ≡ settled p (booked_on p.standing b x) → Move p x w command q
+      → (IsCommand command → b.day ≤ last_stamp_day) → q ≡ with_standing p (with_booking p.standing b x) → Move p x w command q
   Marking : (b : Booking) (state : BookingState) → p.standing.booking ≡ Some b → (b.state ≡ state → ⊥)
-      → q ≡ settled p (booked_on p.standing (in_state b state) x) → Move p x w command q
-  Redeeming : (paid : ℕ) → p.standing.held ≡ false → paid ≡ total_on p x → q ≡ closed p x (Closing.Redeemed x paid) → Move p x w command q
-  Selling : (net : ℕ) → open_status p x ≡ Status.Realisable → net ≤ most_pence → q ≡ closed p x (Closing.Sold x net) → Move p x w command q
+      → q ≡ with_standing p (with_booking p.standing (in_state b state) x) → Move p x w command q
+  Redeeming : (paid : ℕ) → p.standing.held ≡ false → paid ≡ total_on p x → q ≡ close p x (Closing.Redeemed x paid) → Move p x w command q
+  Selling : (net : ℕ) → open_status p x ≡ Status.Realisable → net ≤ most_pence → q ≡ close p x (Closing.Sold x net) → Move p x w command q
   Extending : (until : ℕ) → x ≤ end_of p → end_of p < until → length p.extensions < most_extensions
       → (IsCommand command → until ≤ last_stamp_day) → q ≡ with_extension p (record { day = x; until = until }) → Move p x w command q
 
 -- drawings and repayments
-entered-moves : (p q : PledgeValue) (c : Command) (w x : ℕ) (sort : Sort) (pence : ℕ) (r : Result DebtValue DebtFault) (d : Done)
-    → sort_answer sort (debt_of p) x pence ≡ r → IsDrawnBy (end_of p) sort x → entered p x sort pence r ≡ Changed q d → Move p x w c q
-entered-moves p q c w x sort pence (Ok v) d is drawn h =
+under_debt-moves : (p q : PledgeValue) (c : Command) (w x : ℕ) (sort : Sort) (pence : ℕ) (r : Result DebtValue DebtFault) (d : Done)
+    → sort_answer sort (debt_of p) x pence ≡ r → IsDrawnBy (end_of p) sort x → under_debt p x sort pence r ≡ Changed q d → Move p x w c q
+under_debt-moves p q c w x sort pence (Ok v) d is drawn h =
     let a = sort_answer-ok sort (debt_of p) v x pence is in
-    let moved : q ≡ record p { entries = v.entries; standing = changed_on p.standing x } = changed-is (record p { entries = v.entries; standing = changed_on p.standing x }) q _ d h in
+    let moved : q ≡ record p { entries = v.entries; standing = with_last p.standing x } = changed-is (record p { entries = v.entries; standing = with_last p.standing x }) q _ d h in
     Entering sort pence (is ∙ ap (λ (w : DebtValue). Ok w) a.2) a.0 a.1 drawn
-    (moved ∙ ap (λ (w : DebtValue). record p { entries = w.entries; standing = changed_on p.standing x }) a.2)
-entered-moves p q c w x sort pence (Err fault) d is drawn h = cc
+    (moved ∙ ap (λ (w : DebtValue). record p { entries = w.entries; standing = with_last p.standing x }) a.2)
+under_debt-moves p q c w x sort pence (Err fault) d is drawn h = cc
 
 entry-moves : (p q : PledgeValue) (c : Command) (w x : ℕ) (sort : Sort) (pence : ℕ) (d : Done) → entry_step p x sort pence ≡ Changed q d → Move p x w c q
 entry-moves p q c w x Draw pence d h =
-    let a = unless-changed ((nat_lt (end_of p) x, Refusal.PeriodOver) ∷ []) (entered p x Draw pence (draw_answer (debt_of p) x pence)) q d h in
-    entered-moves p q c w x Draw pence (draw_answer (debt_of p) x pence) d refl (not_below (end_of p) x a.0.0) a.1
-entry-moves p q c w x Repay pence d h = entered-moves p q c w x Repay pence (repay_answer (debt_of p) x pence) d refl tt h
+    let a = unless-changed ((nat_lt (end_of p) x, Refusal.PeriodOver) ∷ []) (under_debt p x Draw pence (draw_answer (debt_of p) x pence)) q d h in
+    under_debt-moves p q c w x Draw pence (draw_answer (debt_of p) x pence) d refl (not_below (end_of p) x a.0.0) a.1
+entry-moves p q c w x Repay pence d h = under_debt-moves p q c w x Repay pence (repay_answer (debt_of p) x pence) d refl tt h
 
 -- past the bars, and then a move
 abbrev pub Goes : PledgeValue → ℕ → ℕ → Command → PledgeValue → Type 0
@@ -135,7 +136,7 @@ numbered-moves p q c w x seq sort pence None d h =
 hold-moves : (p q : PledgeValue) (c : Command) (w x : ℕ) (flag : Bool) (d : Done) → hold_step p x flag ≡ Changed q d → Move p x w c q
 hold-moves p q c w x flag d h =
     let a = if-unanswered (same_flag p.standing.held flag) _ _ q d h in
-    Holding flag a.0 (changed-is (settled p (held_on p.standing flag x)) q _ d a.1)
+    Holding flag a.0 (changed-is (with_standing p (with_hold p.standing flag x)) q _ d a.1)
 
 -- declarations
 declare-moves : (p q : PledgeValue) (c : Command) (stamp : Stamp) (paper : Paper) (d : Done) → declare_step p stamp paper ≡ Changed q d → Move p stamp.day stamp.word c q
@@ -148,12 +149,12 @@ declare-moves p q c stamp paper d h =
 stands-asked : (b : Booking) → b.state ≡ BookingState.Asked → stands_for b b.day b.window ≡ true
 stands-asked b e = let s : is_standing b.state ≡ true = rw e refl in grind (arith, nat_tests, s)
 
-asked-moves : (p q : PledgeValue) (c : Command) (w x day window : ℕ) (o : Option Booking) (d : Done) → p.standing.booking ≡ o → x ≤ day → IsNotPassed p day → window ≤ last_window
-    → (IsCommand c → day ≤ last_stamp_day) → asked p x day window o ≡ Changed q d → Move p x w c q
-asked-moves p q c w x day window None d is later live small named h =
+ask_once-moves : (p q : PledgeValue) (c : Command) (w x day window : ℕ) (o : Option Booking) (d : Done) → p.standing.booking ≡ o → x ≤ day → IsNotPassed p day → window ≤ last_window
+    → (IsCommand c → day ≤ last_stamp_day) → ask_once p x day window o ≡ Changed q d → Move p x w c q
+ask_once-moves p q c w x day window None d is later live small named h =
     let b : Booking = record { day = day; window = window; state = BookingState.Asked } in
-    Asking b later live small refl (λ e. let f : None ≡ Some b = sym is ∙ e in cc) named (changed-is (settled p (booked_on p.standing b x)) q _ d h)
-asked-moves p q c w x day window (Some o) d is later live small named h =
+    Asking b later live small refl (λ e. let f : None ≡ Some b = sym is ∙ e in cc) named (changed-is (with_standing p (with_booking p.standing b x)) q _ d h)
+ask_once-moves p q c w x day window (Some o) d is later live small named h =
     let b : Booking = record { day = day; window = window; state = BookingState.Asked } in
     let a = if-unanswered (stands_for o day window) _ _ q d h in
     Asking b later live small refl
@@ -161,56 +162,56 @@ asked-moves p q c w x day window (Some o) d is later live small named h =
     let g : o ≡ b = cc in
     let t : stands_for o day window ≡ true = ap (λ (k : Booking). stands_for k day window) g ∙ stands-asked b refl in
     true≢false (sym t ∙ a.0))
-    named (changed-is (settled p (booked_on p.standing b x)) q _ d a.1)
+    named (changed-is (with_standing p (with_booking p.standing b x)) q _ d a.1)
 
 ask-moves : (p q : PledgeValue) (c : Command) (w x day window : ℕ) (d : Done) → (IsCommand c → day ≤ last_stamp_day) → ask_step p x day window ≡ Changed q d → Move p x w c q
 ask-moves p q c w x day window d named h =
     let rows : List (Bool × Refusal) = (nat_lt last_window window, Refusal.BadWindow) ∷ (nat_lt day x, Refusal.BookingDay) ∷ (is_passed (open_status p day), Refusal.BookingDay) ∷ [] in
-    let a = unless-changed rows (asked p x day window p.standing.booking) q d h in
-    asked-moves p q c w x day window p.standing.booking d refl (not_below day x a.0.1.0) a.0.1.1.0 (not_below last_window window a.0.0) named a.1
+    let a = unless-changed rows (ask_once p x day window p.standing.booking) q d h in
+    ask_once-moves p q c w x day window p.standing.booking d refl (not_below day x a.0.1.0) a.0.1.1.0 (not_below last_window window a.0.0) named a.1
 
 marked : (p q : PledgeValue) (c : Command) (w x : ℕ) (b : Booking) (state : BookingState) (d : Done) → p.standing.booking ≡ Some b → (b.state ≡ state → ⊥) → books p x (in_state b state) ≡ Changed q d → Move p x w c q
-marked p q c w x b state d is other h = Marking b state is other (changed-is (settled p (booked_on p.standing (in_state b state) x)) q _ d h)
+marked p q c w x b state d is other h = Marking b state is other (changed-is (with_standing p (with_booking p.standing (in_state b state) x)) q _ d h)
 
 -- two states that differ
 other : (s t u : BookingState) → s ≡ t → (t ≡ u → ⊥) → s ≡ u → ⊥
 other s t u e n f = n (sym e ∙ f)
 
-cancelled-moves : (p q : PledgeValue) (c : Command) (w x : ℕ) (b : Booking) (s : BookingState) (d : Done) → p.standing.booking ≡ Some b → b.state ≡ s → cancelled p x b s ≡ Changed q d → Move p x w c q
-cancelled-moves p q c w x b BookingState.Asked d is at h = marked p q c w x b BookingState.Cancelled d is (other b.state BookingState.Asked BookingState.Cancelled at (λ e. cc)) h
-cancelled-moves p q c w x b BookingState.Confirmed d is at h = marked p q c w x b BookingState.Cancelled d is (other b.state BookingState.Confirmed BookingState.Cancelled at (λ e. cc)) h
-cancelled-moves p q c w x b BookingState.Refused d is at h = cc
-cancelled-moves p q c w x b BookingState.Cancelled d is at h = cc
+cancel_in-moves : (p q : PledgeValue) (c : Command) (w x : ℕ) (b : Booking) (s : BookingState) (d : Done) → p.standing.booking ≡ Some b → b.state ≡ s → cancel_in p x b s ≡ Changed q d → Move p x w c q
+cancel_in-moves p q c w x b BookingState.Asked d is at h = marked p q c w x b BookingState.Cancelled d is (other b.state BookingState.Asked BookingState.Cancelled at (λ e. cc)) h
+cancel_in-moves p q c w x b BookingState.Confirmed d is at h = marked p q c w x b BookingState.Cancelled d is (other b.state BookingState.Confirmed BookingState.Cancelled at (λ e. cc)) h
+cancel_in-moves p q c w x b BookingState.Refused d is at h = cc
+cancel_in-moves p q c w x b BookingState.Cancelled d is at h = cc
 
 cancel-moves : (p q : PledgeValue) (c : Command) (w x : ℕ) (o : Option Booking) (d : Done) → p.standing.booking ≡ o → cancel_step p x o ≡ Changed q d → Move p x w c q
 cancel-moves p q c w x None d is h = cc
-cancel-moves p q c w x (Some b) d is h = cancelled-moves p q c w x b b.state d is refl h
+cancel-moves p q c w x (Some b) d is h = cancel_in-moves p q c w x b b.state d is refl h
 
-confirmed-moves : (p q : PledgeValue) (c : Command) (w x : ℕ) (b : Booking) (s : BookingState) (d : Done) → p.standing.booking ≡ Some b → b.state ≡ s → confirmed p x b s ≡ Changed q d → Move p x w c q
-confirmed-moves p q c w x b BookingState.Asked d is at h =
+confirm_in-moves : (p q : PledgeValue) (c : Command) (w x : ℕ) (b : Booking) (s : BookingState) (d : Done) → p.standing.booking ≡ Some b → b.state ≡ s → confirm_in p x b s ≡ Changed q d → Move p x w c q
+confirm_in-moves p q c w x b BookingState.Asked d is at h =
     let a = unless-changed ((nat_lt b.day x, Refusal.BookingDay) ∷ []) (books p x (in_state b BookingState.Confirmed)) q d h in
     marked p q c w x b BookingState.Confirmed d is (other b.state BookingState.Asked BookingState.Confirmed at (λ e. cc)) a.1
-confirmed-moves p q c w x b BookingState.Confirmed d is at h = cc
-confirmed-moves p q c w x b BookingState.Refused d is at h = cc
-confirmed-moves p q c w x b BookingState.Cancelled d is at h = cc
+confirm_in-moves p q c w x b BookingState.Confirmed d is at h = cc
+confirm_in-moves p q c w x b BookingState.Refused d is at h = cc
+confirm_in-moves p q c w x b BookingState.Cancelled d is at h = cc
 
-declined-moves : (p q : PledgeValue) (c : Command) (w x : ℕ) (b : Booking) (s : BookingState) (d : Done) → p.standing.booking ≡ Some b → b.state ≡ s → declined p x b s ≡ Changed q d → Move p x w c q
-declined-moves p q c w x b BookingState.Asked d is at h = marked p q c w x b BookingState.Refused d is (other b.state BookingState.Asked BookingState.Refused at (λ e. cc)) h
-declined-moves p q c w x b BookingState.Confirmed d is at h = marked p q c w x b BookingState.Refused d is (other b.state BookingState.Confirmed BookingState.Refused at (λ e. cc)) h
-declined-moves p q c w x b BookingState.Refused d is at h = cc
-declined-moves p q c w x b BookingState.Cancelled d is at h = cc
+decline_in-moves : (p q : PledgeValue) (c : Command) (w x : ℕ) (b : Booking) (s : BookingState) (d : Done) → p.standing.booking ≡ Some b → b.state ≡ s → decline_in p x b s ≡ Changed q d → Move p x w c q
+decline_in-moves p q c w x b BookingState.Asked d is at h = marked p q c w x b BookingState.Refused d is (other b.state BookingState.Asked BookingState.Refused at (λ e. cc)) h
+decline_in-moves p q c w x b BookingState.Confirmed d is at h = marked p q c w x b BookingState.Refused d is (other b.state BookingState.Confirmed BookingState.Refused at (λ e. cc)) h
+decline_in-moves p q c w x b BookingState.Refused d is at h = cc
+decline_in-moves p q c w x b BookingState.Cancelled d is at h = cc
 
 decide-moves : (p q : PledgeValue) (c : Command) (w x : ℕ) (decision : Decision) (o : Option Booking) (d : Done) → p.standing.booking ≡ o → decide_step p x decision o ≡ Changed q d → Move p x w c q
 decide-moves p q c w x Confirm None d is h = cc
 decide-moves p q c w x Refuse None d is h = cc
-decide-moves p q c w x Confirm (Some b) d is h = confirmed-moves p q c w x b b.state d is refl h
-decide-moves p q c w x Refuse (Some b) d is h = declined-moves p q c w x b b.state d is refl h
+decide-moves p q c w x Confirm (Some b) d is h = confirm_in-moves p q c w x b b.state d is refl h
+decide-moves p q c w x Refuse (Some b) d is h = decline_in-moves p q c w x b b.state d is refl h
 
 -- closings
 redeem-moves : (p q : PledgeValue) (c : Command) (w x paid : ℕ) (d : Done) → redeem_step p x paid ≡ Changed q d → Move p x w c q
 redeem-moves p q c w x paid d h =
     let rows : List (Bool × Refusal) = (p.standing.held, Refusal.Held) ∷ (not (paid == total_on p x), Refusal.WrongAmount (total_on p x)) ∷ [] in
-    let next : PledgeValue = closed p x (Closing.Redeemed x paid) in
+    let next : PledgeValue = close p x (Closing.Redeemed x paid) in
     let a = unless-changed rows (Changed next (Done.Redeemed x paid)) q d h in
     Redeeming paid a.0.0 (not_other paid (total_on p x) a.0.1.0) (changed-is next q _ d a.1)
 
@@ -225,7 +226,7 @@ realisable-is Status.Sold h = absurd (true≢false h)
 sell-moves : (p q : PledgeValue) (c : Command) (w x net : ℕ) (d : Done) → sell_step p x net ≡ Changed q d → Move p x w c q
 sell-moves p q c w x net d h =
     let rows : List (Bool × Refusal) = (not (is_realisable (open_status p x)), Refusal.NotRealisable) ∷ (nat_lt most_pence net, Refusal.Debt DebtFault.BadAmount) ∷ [] in
-    let next : PledgeValue = closed p x (Closing.Sold x net) in
+    let next : PledgeValue = close p x (Closing.Sold x net) in
     let a = unless-changed rows (Changed next _) q d h in
     Selling net (realisable-is (open_status p x) a.0.0) (not_below most_pence net a.0.1.0) (changed-is next q _ d a.1)
 

@@ -1,49 +1,21 @@
 -- Which secret of a pledge is live.
-use Rattle.std.proofs.Common.{◌≡◌, ℕ, ◌-◌, ◌==◌, ◌||◌, Bool, true, false, List, [], ◌∷◌, ◌++◌, length, Some, None, refl, sym, ap, subst, ◌∙◌, arith, inl, inr, slice_get, length-append}
+use Rattle.std.proofs.Common.{◌≡◌, ℕ, ◌-◌, ◌==◌, ◌||◌, Bool, true, false, List, [], ◌∷◌, ◌++◌, length, Some, None, refl, sym, ap, subst, ◌∙◌, arith, slice_get, length-append}
 use Rattle.std.specs.List.{list_any}
 use Rattle.std.proofs.lemmas.Bool.{true≢false}
 use Rattle.std.proofs.lemmas.List.Folds.{list_any-append}
-use Rattle.pawn_terms.specs.Terms.{IsChecked}
 use Rattle.pawn_pledge.specs.declared.record.Issued.{Issued}
 use Rattle.pawn_pledge.specs.declared.record.Closing.{Closing}
 use Rattle.pawn_pledge.specs.declared.command.Stamp.{Stamp}
 use Rattle.pawn_pledge.specs.declared.command.Command.{Command}
 use Rattle.pawn_pledge.specs.Pledge.{PledgeValue, last_secret, live_under, live_of}
-use Rattle.pawn_pledge.specs.Step.{Judged, Refused, Answered, Changed, is_open, issue_of, pledge_step, pledge_after}
-use Rattle.pawn_pledge.specs.Growth.{StaysOrGrows}
+use Rattle.pawn_pledge.specs.Words.{is_open, issue_of}
+use Rattle.pawn_pledge.specs.Step.{Judged, Refused, Answered, Changed, pledge_step, pledge_after}
 use Rattle.pawn_pledge.specs.Laws.{NeverLiveAgain}
 use Rattle.pawn_pledge.proofs.Moves.{IsGated, Move, pledge_moves, Entering, Holding, Declaring, Asking, Marking, Redeeming, Selling, Extending}
 
 -- no command gets past a closing
 pub closed-moved : (c : Closing) → is_open c ≡ false → c ≡ Closing.Open → ⊥
 closed-moved c shut is = true≢false (sym (ap is_open is) ∙ shut)
-
--- no move changes the terms
-pub terms-moved : (p q : PledgeValue) (c : Command) (w x : ℕ) → IsChecked p.agreement.terms → Move p x w c q → IsChecked q.agreement.terms
-terms-moved p q c w x h m = subst IsChecked (sym (same m)) h
-  where
-    same : Move p x w c q → q.agreement.terms ≡ p.agreement.terms
-    same (Entering sort pence ok late few drawn is) = ap (λ (v : PledgeValue). v.agreement.terms) is
-    same (Holding flag new is) = ap (λ (v : PledgeValue). v.agreement.terms) is
-    same (Declaring paper ok is) = ap (λ (v : PledgeValue). v.agreement.terms) is
-    same (Asking b later live small state new named is) = ap (λ (v : PledgeValue). v.agreement.terms) is
-    same (Marking b state at new is) = ap (λ (v : PledgeValue). v.agreement.terms) is
-    same (Redeeming paid free total is) = ap (λ (v : PledgeValue). v.agreement.terms) is
-    same (Selling net status small is) = ap (λ (v : PledgeValue). v.agreement.terms) is
-    same (Extending until inside longer few named is) = ap (λ (v : PledgeValue). v.agreement.terms) is
-
--- the list of secrets stays, or grows by the word, which is not in it
-pub secrets-moved : (p q : PledgeValue) (c : Command) (w x : ℕ) → Move p x w c q
-    → StaysOrGrows (λ (issued : Issued). (issued.secret ≡ w) × (list_any (λ (i : Issued). i.secret == w) p.secrets ≡ false)) p.secrets q.secrets
-secrets-moved p q c w x (Entering sort pence ok late few drawn is) = inl (ap (λ (v : PledgeValue). v.secrets) is)
-secrets-moved p q c w x (Holding flag new is) = inl (ap (λ (v : PledgeValue). v.secrets) is)
-secrets-moved p q c w x (Declaring paper ok is) =
-    inr (record { day = x; sort = issue_of paper; secret = w }, ap (λ (v : PledgeValue). v.secrets) is, (refl, ok.1.1.0))
-secrets-moved p q c w x (Asking b later live small state new named is) = inl (ap (λ (v : PledgeValue). v.secrets) is)
-secrets-moved p q c w x (Marking b state at new is) = inl (ap (λ (v : PledgeValue). v.secrets) is)
-secrets-moved p q c w x (Redeeming paid free total is) = inl (ap (λ (v : PledgeValue). v.secrets) is)
-secrets-moved p q c w x (Selling net status small is) = inl (ap (λ (v : PledgeValue). v.secrets) is)
-secrets-moved p q c w x (Extending until inside longer few named is) = inl (ap (λ (v : PledgeValue). v.secrets) is)
 
 -- the last of a list that one was put on
 last_of-push : (xs : List Issued) (x : Issued) → slice_get (xs ++ x ∷ []) (length xs) ≡ Some x

@@ -16,9 +16,10 @@ use Rattle.pawn_pledge.specs.declared.command.Stamp.{Stamp}
 use Rattle.pawn_pledge.specs.declared.command.Command.{Command}
 use Rattle.pawn_pledge.specs.declared.command.Done.{Done}
 use Rattle.pawn_pledge.specs.declared.refusal.Refusal.{Refusal}
-use Rattle.pawn_pledge.specs.Pledge.{PledgeValue, changed_on, debt_of, end_of}
+use Rattle.pawn_pledge.specs.Words.{with_last, is_ahead, is_repeat, new_entry, same_sort, with_extension}
+use Rattle.pawn_pledge.specs.Pledge.{PledgeValue, debt_of, end_of}
 use Rattle.pawn_pledge.specs.Replayable.{AreNumbered}
-use Rattle.pawn_pledge.specs.Step.{Answered, Changed, Judged, past, bars, entered, entry_of, entry_step, is_ahead, is_repeat, new_entry, numbered_step, pledge_step, same_sort, unless, with_extension}
+use Rattle.pawn_pledge.specs.Step.{Answered, Changed, Judged, past, bars, under_debt, entry_of, entry_step, numbered_step, pledge_step, unless}
 use Rattle.pawn_pledge.specs.Growth.{Grows}
 use Rattle.pawn_pledge.specs.Laws.{entering, EntriesActOnce, StandingEndIsAnswered, ExtensionsActOnce, pledge_after_all}
 use Rattle.pawn_pledge.proofs.Moves.{unless-changed, if-unanswered}
@@ -36,19 +37,19 @@ IsMade p x sort pence q d = (q.entries ≡ p.entries ++ new_entry p x sort pence
 changed-both : (p q : PledgeValue) (d e : Done) → Changed p d ≡ Changed q e → (q ≡ p) × (e ≡ d)
 changed-both p q d e h = (cc, cc)
 
-entered-made : (p q : PledgeValue) (x : ℕ) (sort : Sort) (pence : ℕ) (r : Result DebtValue DebtFault) (d : Done) → sort_answer sort (debt_of p) x pence ≡ r → entered p x sort pence r ≡ Changed q d
+under_debt-made : (p q : PledgeValue) (x : ℕ) (sort : Sort) (pence : ℕ) (r : Result DebtValue DebtFault) (d : Done) → sort_answer sort (debt_of p) x pence ≡ r → under_debt p x sort pence r ≡ Changed q d
     → IsMade p x sort pence q d
-entered-made p q x sort pence (Ok v) d is h =
+under_debt-made p q x sort pence (Ok v) d is h =
     let a = sort_answer-ok sort (debt_of p) v x pence is in
-    let made = changed-both (record p { entries = v.entries; standing = changed_on p.standing x }) q (Done.Entered (new_entry p x sort pence)) d h in
+    let made = changed-both (record p { entries = v.entries; standing = with_last p.standing x }) q (Done.Entered (new_entry p x sort pence)) d h in
     (ap (λ (w : PledgeValue). w.entries) made.0 ∙ ap (λ (w : DebtValue). w.entries) a.2, made.1)
-entered-made p q x sort pence (Err fault) d is h = cc
+under_debt-made p q x sort pence (Err fault) d is h = cc
 
 entry-made : (p q : PledgeValue) (x : ℕ) (sort : Sort) (pence : ℕ) (d : Done) → entry_step p x sort pence ≡ Changed q d → IsMade p x sort pence q d
 entry-made p q x Draw pence d h =
-    let a = unless-changed ((nat_lt (end_of p) x, Refusal.PeriodOver) ∷ []) (entered p x Draw pence (draw_answer (debt_of p) x pence)) q d h in
-    entered-made p q x Draw pence (draw_answer (debt_of p) x pence) d refl a.1
-entry-made p q x Repay pence d h = entered-made p q x Repay pence (repay_answer (debt_of p) x pence) d refl h
+    let a = unless-changed ((nat_lt (end_of p) x, Refusal.PeriodOver) ∷ []) (under_debt p x Draw pence (draw_answer (debt_of p) x pence)) q d h in
+    under_debt-made p q x Draw pence (draw_answer (debt_of p) x pence) d refl a.1
+entry-made p q x Repay pence d h = under_debt-made p q x Repay pence (repay_answer (debt_of p) x pence) d refl h
 
 none-some : {A : Type 0} {C : Type 0} (x : A) → Some x ≡ None → C
 none-some x h = cc

@@ -22,8 +22,9 @@ use Rattle.pawn_pledge.specs.declared.record.Closing.{Closing}
 use Rattle.pawn_pledge.specs.declared.record.Status.TheVariants as Status
 use Rattle.pawn_pledge.specs.declared.command.Paper.{Paper}
 use Rattle.pawn_pledge.specs.declared.command.Command.{Command}
-use Rattle.pawn_pledge.specs.Pledge.{PledgeValue, changed_on, settled, first_end, end_of, is_small, debt_of, is_passed}
-use Rattle.pawn_pledge.specs.Step.{same_flag, held_on, booked_on, closed_on, closed, is_written, issue_of, new_entry, declare_bars, with_secret, in_state, state_after, booking_after, with_extension}
+use Rattle.pawn_pledge.specs.Words.{with_last, with_standing, same_flag, with_hold, with_booking, with_closing, close, is_written, issue_of, new_entry, with_secret, in_state, state_after, booking_after, with_extension}
+use Rattle.pawn_pledge.specs.Pledge.{PledgeValue, first_end, end_of, is_small, debt_of, is_passed}
+use Rattle.pawn_pledge.specs.Step.{declare_bars}
 use Rattle.pawn_pledge.specs.Replayable.{IsNotPassed, IsLaterIssue, IsDrawnBy, IsClosed, IsOver, IsOverUnder, IsBooked, IsReplayable, IsWithin}
 use Rattle.pawn_pledge.specs.Commands.{IsCommand}
 use Rattle.pawn_pledge.proofs.Moves.{not_most, IsGated, Move, Entering, Holding, Declaring, Asking, Marking, Redeeming, Selling, Extending}
@@ -52,9 +53,9 @@ open-booked (Closing.Redeemed day paid) s h = cc
 open-booked (Closing.Sold day net) s h = cc
 
 -- a change that no list depends on
-pub stays-settled : (p : PledgeValue) (s : Standing) → IsReplayable p → p.standing.last ≤ s.last → IsNotPassed p s.last
-    → IsClosed (settled p s) s.closing → IsBooked (settled p s) s.booking → IsReplayable (settled p s)
-stays-settled p s h later live closed booked =
+pub stays-with_standing : (p : PledgeValue) (s : Standing) → IsReplayable p → p.standing.last ≤ s.last → IsNotPassed p s.last
+    → IsClosed (with_standing p s) s.closing → IsBooked (with_standing p s) s.booking → IsReplayable (with_standing p s)
+stays-with_standing p s h later live closed booked =
     record {
       credit = h.credit;
       issued = record { sorts = h.issued.sorts; distinct = h.issued.distinct; ordered = h.issued.ordered; before = omega (arith, h.issued.before, later); not_passed = h.issued.not_passed };
@@ -68,10 +69,10 @@ stays-settled p s h later live closed booked =
 
 -- one more entry
 pub stays-entered : (p : PledgeValue) (x pence : ℕ) (sort : Sort) → IsReplayable p → IsGated p x → sort_answer sort (debt_of p) x pence ≡ Ok (with_entry (debt_of p) x sort pence) → last_of p.agreement.taken p.entries ≤ x → IsDrawnBy (end_of p) sort x
-    → IsReplayable (record p { entries = p.entries ++ record { seq = length p.entries + 1; day = x; sort = sort; pence = pence } ∷ []; standing = changed_on p.standing x })
+    → IsReplayable (record p { entries = p.entries ++ record { seq = length p.entries + 1; day = x; sort = sort; pence = pence } ∷ []; standing = with_last p.standing x })
 stays-entered p x pence sort h g ok late drawn =
     let e : Entry = record { seq = length p.entries + 1; day = x; sort = sort; pence = pence } in
-    let q : PledgeValue = record p { entries = p.entries ++ e ∷ []; standing = changed_on p.standing x } in
+    let q : PledgeValue = record p { entries = p.entries ++ e ∷ []; standing = with_last p.standing x } in
     let accepted : IsAccepted (debt_of p) e = (refl, rw ok refl) in
     record {
       credit = h.credit;
@@ -187,7 +188,7 @@ state_after-under Closing.Open s = tt
 state_after-under (Closing.Redeemed day paid) s = state_after-over s
 state_after-under (Closing.Sold day net) s = state_after-over s
 
-closed-booked : (p : PledgeValue) (c : Closing) (x : ℕ) (o : Option Booking) → IsBooked p o → IsBooked (closed p x c) (booking_after o)
+closed-booked : (p : PledgeValue) (c : Closing) (x : ℕ) (o : Option Booking) → IsBooked p o → IsBooked (close p x c) (booking_after o)
 closed-booked p c x None h = tt
 closed-booked p c x (Some b) h = (h.0, h.1, h.2, state_after-under c b.state)
 
@@ -195,29 +196,29 @@ closed-booked p c x (Some b) h = (h.0, h.1, h.2, state_after-under c b.state)
 pub stays-moved : (p q : PledgeValue) (c : Command) (w x : ℕ) → IsReplayable p → IsGated p x → Move p x w c q → IsReplayable q
 stays-moved p q c w x h g (Entering sort pence ok late few drawn is) = subst IsReplayable (sym is) (stays-entered p x pence sort h g ok late drawn)
 stays-moved p q c w x h g (Holding flag new is) =
-    let s : Standing = held_on p.standing flag x in
-    subst IsReplayable (sym is) (stays-settled p s h g.later g.not_passed (still-open (settled p s) p.standing.closing g.standing) h.booked)
+    let s : Standing = with_hold p.standing flag x in
+    subst IsReplayable (sym is) (stays-with_standing p s h g.later g.not_passed (still-open (with_standing p s) p.standing.closing g.standing) h.booked)
 stays-moved p q c w x h g (Declaring paper ok is) = subst IsReplayable (sym is) (stays-declared p x w paper h g ok)
 stays-moved p q c w x h g (Asking b later live small state new named is) =
-    let s : Standing = booked_on p.standing b x in
-    subst IsReplayable (sym is) (stays-settled p s h g.later g.not_passed (still-open (settled p s) p.standing.closing g.standing)
+    let s : Standing = with_booking p.standing b x in
+    subst IsReplayable (sym is) (stays-with_standing p s h g.later g.not_passed (still-open (with_standing p s) p.standing.closing g.standing)
     (omega (arith, h.last_in, g.later, later), live, small, open-booked p.standing.closing b.state g.standing))
 stays-moved p q c w x h g (Marking b state at new is) =
     let P : Option Booking → Type 0 = λ o. IsBooked p o in
     let old : IsBooked p (Some b) = subst P at h.booked in
-    let s : Standing = booked_on p.standing (in_state b state) x in
-    subst IsReplayable (sym is) (stays-settled p s h g.later g.not_passed (still-open (settled p s) p.standing.closing g.standing)
+    let s : Standing = with_booking p.standing (in_state b state) x in
+    subst IsReplayable (sym is) (stays-with_standing p s h g.later g.not_passed (still-open (with_standing p s) p.standing.closing g.standing)
     (old.0, old.1, old.2, open-booked p.standing.closing state g.standing))
 stays-moved p q c w x h g (Redeeming paid free total is) =
     let o = Closing.Redeemed x paid in
-    subst IsReplayable (sym is) (stays-settled p (closed_on p.standing o x) h g.later g.not_passed (refl, total, free) (closed-booked p o x p.standing.booking h.booked))
+    subst IsReplayable (sym is) (stays-with_standing p (with_closing p.standing o x) h g.later g.not_passed (refl, total, free) (closed-booked p o x p.standing.booking h.booked))
 stays-moved p q c w x h g (Selling net status small is) =
     let o = Closing.Sold x net in
-    subst IsReplayable (sym is) (stays-settled p (closed_on p.standing o x) h g.later g.not_passed (refl, status, small) (closed-booked p o x p.standing.booking h.booked))
+    subst IsReplayable (sym is) (stays-with_standing p (with_closing p.standing o x) h g.later g.not_passed (refl, status, small) (closed-booked p o x p.standing.booking h.booked))
 stays-moved p q c w x h g (Extending until inside longer few named is) = subst IsReplayable (sym is) (stays-extended p x until h g inside longer)
 
 -- and a move keeps the limits
-settled-within : (p : PledgeValue) (s : Standing) → s.last ≤ last_stamp_day → IfSome s.booking (λ b. b.day ≤ last_stamp_day) → IsWithin p → IsWithin (settled p s)
+settled-within : (p : PledgeValue) (s : Standing) → s.last ≤ last_stamp_day → IfSome s.booking (λ b. b.day ≤ last_stamp_day) → IsWithin p → IsWithin (with_standing p s)
 settled-within p s stamped named h =
     record { number = h.number; opening = h.opening; entries = h.entries; secrets = h.secrets; extensions = h.extensions; untils = h.untils; booking = named; last = stamped }
 
@@ -237,7 +238,7 @@ within-moved p q c w x stamped given h (Entering sort pence ok late few drawn is
       booking = h.booking;
       last = stamped;
     })
-within-moved p q c w x stamped given h (Holding flag new is) = subst IsWithin (sym is) (settled-within p (held_on p.standing flag x) stamped h.booking h)
+within-moved p q c w x stamped given h (Holding flag new is) = subst IsWithin (sym is) (settled-within p (with_hold p.standing flag x) stamped h.booking h)
 within-moved p q c w x stamped given h (Declaring paper ok is) =
     let i : Issued = record { day = x; sort = issue_of paper; secret = w } in
     subst IsWithin (sym is) (record {
@@ -251,15 +252,15 @@ within-moved p q c w x stamped given h (Declaring paper ok is) =
       last = stamped;
     })
 within-moved p q c w x stamped given h (Asking b later live small state new named is) =
-    subst IsWithin (sym is) (settled-within p (booked_on p.standing b x) stamped (named given) h)
+    subst IsWithin (sym is) (settled-within p (with_booking p.standing b x) stamped (named given) h)
 within-moved p q c w x stamped given h (Marking b state at new is) =
     let P : Option Booking → Type 0 = λ o. IfSome o (λ k. k.day ≤ last_stamp_day) in
     let old : P (Some b) = subst P at h.booking in
-    subst IsWithin (sym is) (settled-within p (booked_on p.standing (in_state b state) x) stamped old h)
+    subst IsWithin (sym is) (settled-within p (with_booking p.standing (in_state b state) x) stamped old h)
 within-moved p q c w x stamped given h (Redeeming paid free total is) =
-    subst IsWithin (sym is) (settled-within p (closed_on p.standing (Closing.Redeemed x paid) x) stamped (closing-within p.standing.booking h.booking) h)
+    subst IsWithin (sym is) (settled-within p (with_closing p.standing (Closing.Redeemed x paid) x) stamped (closing-within p.standing.booking h.booking) h)
 within-moved p q c w x stamped given h (Selling net status small is) =
-    subst IsWithin (sym is) (settled-within p (closed_on p.standing (Closing.Sold x net) x) stamped (closing-within p.standing.booking h.booking) h)
+    subst IsWithin (sym is) (settled-within p (with_closing p.standing (Closing.Sold x net) x) stamped (closing-within p.standing.booking h.booking) h)
 within-moved p q c w x stamped given h (Extending until inside longer few named is) =
     let e : Extension = record { day = x; until = until } in
     subst IsWithin (sym is) (record {

@@ -16,7 +16,8 @@ use Rattle.pawn_pledge.specs.declared.command.Done.{Done}
 use Rattle.pawn_pledge.specs.declared.receipt.Receipt.{Receipt}
 use Rattle.pawn_pledge.specs.Number.{IsNumber}
 use Rattle.pawn_pledge.specs.Pledge.{PledgeValue, end_of, debt_of, status_of, live_of}
-use Rattle.pawn_pledge.specs.Step.{Answered, Changed, is_open, bars, pledge_step, pledge_after, started}
+use Rattle.pawn_pledge.specs.Words.{is_open}
+use Rattle.pawn_pledge.specs.Step.{Answered, Changed, bars, pledge_step, pledge_after, started}
 use Rattle.pawn_pledge.specs.Replayable.{IsOpening, IsReplayable, IsWithin, IsStanding}
 use Rattle.pawn_pledge.specs.Commands.{IsCommand}
 use Rattle.pawn_pledge.specs.Growth.{Grows, StaysOrGrows}
@@ -48,6 +49,12 @@ abbrev pub StaysStanding : Type 0
 StaysStanding =
     (p next : PledgeValue) (stamp : Stamp) (command : Command) (done : Done)
     → IsStampDay stamp.day → IsCommand command → IsStanding p → pledge_step p stamp command ≡ Changed next done → IsStanding next
+
+-- a change leaves what was agreed when the pledge was taken
+abbrev pub AgreementStays : Type 0
+AgreementStays =
+    (p next : PledgeValue) (stamp : Stamp) (command : Command) (done : Done)
+    → pledge_step p stamp command ≡ Changed next done → next.agreement ≡ p.agreement
 
 -- a change changes something
 abbrev pub ChangesDiffer : Type 0

@@ -5,6 +5,7 @@ pub mod Secret
 pub mod Receipt
 pub mod Refusal
 pub mod Pledge
+pub mod Words
 pub mod Step
 pub mod Kept
 pub mod Growth

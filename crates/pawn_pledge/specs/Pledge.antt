@@ -33,14 +33,6 @@ end_of p = end_after (first_end p.agreement) p.extensions
 abbrev pub is_small : ℕ → Bool
 is_small pence = nat_le pence small_credit
 
--- the same as it stands, last changed on the day x
-abbrev pub changed_on : Standing → ℕ → Standing
-changed_on s x = record s { last = x }
-
--- the pledge that stands so, with its lists as they are
-abbrev pub settled : PledgeValue → Standing → PledgeValue
-settled p standing = record p { standing = standing }
-
 -- what is owed on the pledge
 abbrev pub debt_of : PledgeValue → DebtValue
 debt_of p =

@@ -2,7 +2,7 @@
 use Rattle.std.specs.Prelude.{◌≡◌, ℕ, ◌+◌, ◌-◌, nat_lt, nat_le, ◌==◌, ◌&&◌, ◌||◌, not, Bool, true, false, if◌then◌else◌, List, [], ◌∷◌, ◌++◌, length, find, Option, Some, None, Result, Ok, Err, IsOk, ◌⊎◌}
 use Rattle.std.specs.List.{list_any}
 use Rattle.pawn_terms.specs.declared.terms.Rates.{Rates}
-use Rattle.pawn_terms.specs.Refusals.{first_of}
+use Rattle.pawn_terms.specs.Refusals.{first_of, IsSaid, IsWant}
 use Rattle.pawn_debt.specs.declared.entry.Entry.{Entry}
 use Rattle.pawn_debt.specs.declared.entry.Sort.{Sort}
 use Rattle.pawn_debt.specs.declared.entry.Sort.TheVariants.{Draw, Repay}
@@ -29,7 +29,8 @@ use Rattle.pawn_pledge.specs.declared.command.Applied.{Applied}
 use Rattle.pawn_pledge.specs.declared.refusal.Refusal.{Refusal}
 use Rattle.pawn_pledge.specs.Limits.{most_secrets, most_extensions, last_window}
 use Rattle.pawn_pledge.specs.Refusal.{refusal_of}
-use Rattle.pawn_pledge.specs.Pledge.{PledgeValue, changed_on, settled, end_of, is_small, debt_of, total_on, open_status, is_passed, is_realisable}
+use Rattle.pawn_pledge.specs.Words.{with_last, with_hold, with_booking, with_standing, is_open, is_repeat, is_ahead, new_entry, same_flag, is_written, issue_of, with_secret, in_state, stands_for, close, with_extension}
+use Rattle.pawn_pledge.specs.Pledge.{PledgeValue, end_of, is_small, debt_of, total_on, open_status, is_passed, is_realisable}
 
 -- a pledge as it is taken: its one secret is the stamp's word
 abbrev pub started : ℕ → Opening → ℕ → Rates → Stamp → Result PledgeValue Refusal
@@ -61,11 +62,6 @@ past (Err why) judged = Refused why
 abbrev pub unless : List (Bool × Refusal) → Judged → Judged
 unless rows judged = past (first_of rows (Ok tt)) judged
 
-abbrev pub is_open : Closing → Bool
-is_open Closing.Open = true
-is_open (Closing.Redeemed day paid) = false
-is_open (Closing.Sold day net) = false
-
 -- what bars every command on the day x
 abbrev pub bars : PledgeValue → ℕ → List (Bool × Refusal)
 bars p x =
@@ -76,35 +72,17 @@ bars p x =
 
 -- drawings and repayments
 
-abbrev pub same_sort : Sort → Sort → Bool
-same_sort Draw Draw = true
-same_sort Draw Repay = false
-same_sort Repay Draw = false
-same_sort Repay Repay = true
-
--- an entry is asked for again
-abbrev pub is_repeat : Entry → Sort → ℕ → Bool
-is_repeat e sort pence = same_sort e.sort sort && (e.pence == pence)
-
--- an entry's number is 0, or past the next
-abbrev pub is_ahead : PledgeValue → ℕ → Bool
-is_ahead p seq = (seq == 0) || nat_lt (length p.entries + 1) seq
-
--- the next entry
-abbrev pub new_entry : PledgeValue → ℕ → Sort → ℕ → Entry
-new_entry p x sort pence = record { seq = length p.entries + 1; day = x; sort = sort; pence = pence }
-
 -- what the debt answers
-abbrev pub entered : PledgeValue → ℕ → Sort → ℕ → Result DebtValue DebtFault → Judged
-entered p x sort pence (Ok debt) =
-    Changed (record p { entries = debt.entries; standing = changed_on p.standing x }) (Done.Entered (new_entry p x sort pence))
-entered p x sort pence (Err fault) = Refused (refusal_of fault)
+abbrev pub under_debt : PledgeValue → ℕ → Sort → ℕ → Result DebtValue DebtFault → Judged
+under_debt p x sort pence (Ok debt) =
+    Changed (record p { entries = debt.entries; standing = with_last p.standing x }) (Done.Entered (new_entry p x sort pence))
+under_debt p x sort pence (Err fault) = Refused (refusal_of fault)
 
 -- a drawing is made in the period; the other refusals are the debt's
 abbrev pub entry_step : PledgeValue → ℕ → Sort → ℕ → Judged
 entry_step p x Draw pence =
-    unless ((nat_lt (end_of p) x, Refusal.PeriodOver) ∷ []) (entered p x Draw pence (draw_answer (debt_of p) x pence))
-entry_step p x Repay pence = entered p x Repay pence (repay_answer (debt_of p) x pence)
+    unless ((nat_lt (end_of p) x, Refusal.PeriodOver) ∷ []) (under_debt p x Draw pence (draw_answer (debt_of p) x pence))
+entry_step p x Repay pence = under_debt p x Repay pence (repay_answer (debt_of p) x pence)
 
 -- an entry whose number stands is answered as the first time, whatever the day and the pledge's state
 abbrev pub numbered_step : PledgeValue → ℕ → ℕ → Sort → ℕ → Option Entry → Judged
@@ -118,29 +96,12 @@ abbrev pub entry_of : PledgeValue → ℕ → Option Entry
 entry_of p seq = find (λ e. e.seq == seq) p.entries
 
 -- the flag that bars redemption
-
-abbrev pub same_flag : Bool → Bool → Bool
-same_flag true flag = flag
-same_flag false flag = not flag
-
--- barred or not from the day x on
-abbrev pub held_on : Standing → Bool → ℕ → Standing
-held_on s flag x = record s { held = flag; last = x }
-
 abbrev pub hold_step : PledgeValue → ℕ → Bool → Judged
 hold_step p x flag =
     if same_flag p.standing.held flag then Answered (Done.Held flag)
-    else Changed (settled p (held_on p.standing flag x)) (Done.Held flag)
+    else Changed (with_standing p (with_hold p.standing flag x)) (Done.Held flag)
 
 -- declarations
-
-abbrev pub is_written : Paper → Bool
-is_written Paper.Sworn = false
-is_written Paper.Written = true
-
-abbrev pub issue_of : Paper → Issue
-issue_of Paper.Sworn = Issue.Sworn
-issue_of Paper.Written = Issue.Written
 
 abbrev pub declare_bars : PledgeValue → Paper → ℕ → List (Bool × Refusal)
 declare_bars p paper word =
@@ -148,10 +109,6 @@ declare_bars p paper word =
     ∷ (nat_le most_secrets (length p.secrets), Refusal.DeclarationsFull)
     ∷ (list_any (λ issued. issued.secret == word) p.secrets, Refusal.SecretUsed)
     ∷ []
-
--- the pledge with one more secret
-abbrev pub with_secret : PledgeValue → Issued → PledgeValue
-with_secret p issued = record p { secrets = p.secrets ++ issued ∷ []; standing = changed_on p.standing issued.day }
 
 -- the stamp's word is the new and only live secret
 abbrev pub declare_step : PledgeValue → Stamp → Paper → Judged
@@ -161,30 +118,14 @@ declare_step p stamp paper =
 
 -- bookings
 
--- with that booking from the day x on
-abbrev pub booked_on : Standing → Booking → ℕ → Standing
-booked_on s booking x = record s { booking = Some booking; last = x }
-
+-- the pledge with that booking
 abbrev pub books : PledgeValue → ℕ → Booking → Judged
-books p x booking = Changed (settled p (booked_on p.standing booking x)) (Done.Booked booking)
-
-abbrev pub in_state : Booking → BookingState → Booking
-in_state booking state = record { day = booking.day; window = booking.window; state = state }
-
--- asked for or confirmed
-abbrev pub is_standing : BookingState → Bool
-is_standing BookingState.Asked = true
-is_standing BookingState.Confirmed = true
-is_standing BookingState.Refused = false
-is_standing BookingState.Cancelled = false
-
-abbrev pub stands_for : Booking → ℕ → ℕ → Bool
-stands_for booking day window = (booking.day == day) && (booking.window == window) && is_standing booking.state
+books p x booking = Changed (with_standing p (with_booking p.standing booking x)) (Done.Booked booking)
 
 -- a booking takes the place of any other; one that stands is answered again
-abbrev pub asked : PledgeValue → ℕ → ℕ → ℕ → Option Booking → Judged
-asked p x day window None = books p x (record { day = day; window = window; state = BookingState.Asked })
-asked p x day window (Some booking) =
+abbrev pub ask_once : PledgeValue → ℕ → ℕ → ℕ → Option Booking → Judged
+ask_once p x day window None = books p x (record { day = day; window = window; state = BookingState.Asked })
+ask_once p x day window (Some booking) =
     if stands_for booking day window then Answered (Done.Booked booking)
     else books p x (record { day = day; window = window; state = BookingState.Asked })
 
@@ -195,58 +136,40 @@ ask_step p x day window =
     ∷ (nat_lt day x, Refusal.BookingDay)
     ∷ (is_passed (open_status p day), Refusal.BookingDay)
     ∷ [])
-    (asked p x day window p.standing.booking)
+    (ask_once p x day window p.standing.booking)
 
 -- cancelling by the booking's state
-abbrev pub cancelled : PledgeValue → ℕ → Booking → BookingState → Judged
-cancelled p x booking BookingState.Asked = books p x (in_state booking BookingState.Cancelled)
-cancelled p x booking BookingState.Confirmed = books p x (in_state booking BookingState.Cancelled)
-cancelled p x booking BookingState.Refused = Refused Refusal.NoBooking
-cancelled p x booking BookingState.Cancelled = Answered (Done.Booked booking)
+abbrev pub cancel_in : PledgeValue → ℕ → Booking → BookingState → Judged
+cancel_in p x booking BookingState.Asked = books p x (in_state booking BookingState.Cancelled)
+cancel_in p x booking BookingState.Confirmed = books p x (in_state booking BookingState.Cancelled)
+cancel_in p x booking BookingState.Refused = Refused Refusal.NoBooking
+cancel_in p x booking BookingState.Cancelled = Answered (Done.Booked booking)
 
 abbrev pub cancel_step : PledgeValue → ℕ → Option Booking → Judged
 cancel_step p x None = Refused Refusal.NoBooking
-cancel_step p x (Some booking) = cancelled p x booking booking.state
+cancel_step p x (Some booking) = cancel_in p x booking booking.state
 
 -- confirming by the booking's state; one that is asked for is not to be over
-abbrev pub confirmed : PledgeValue → ℕ → Booking → BookingState → Judged
-confirmed p x booking BookingState.Asked =
+abbrev pub confirm_in : PledgeValue → ℕ → Booking → BookingState → Judged
+confirm_in p x booking BookingState.Asked =
     unless ((nat_lt booking.day x, Refusal.BookingDay) ∷ []) (books p x (in_state booking BookingState.Confirmed))
-confirmed p x booking BookingState.Confirmed = Answered (Done.Booked booking)
-confirmed p x booking BookingState.Refused = Refused Refusal.NoBooking
-confirmed p x booking BookingState.Cancelled = Refused Refusal.NoBooking
+confirm_in p x booking BookingState.Confirmed = Answered (Done.Booked booking)
+confirm_in p x booking BookingState.Refused = Refused Refusal.NoBooking
+confirm_in p x booking BookingState.Cancelled = Refused Refusal.NoBooking
 
 -- refusing by the booking's state
-abbrev pub declined : PledgeValue → ℕ → Booking → BookingState → Judged
-declined p x booking BookingState.Asked = books p x (in_state booking BookingState.Refused)
-declined p x booking BookingState.Confirmed = books p x (in_state booking BookingState.Refused)
-declined p x booking BookingState.Refused = Answered (Done.Booked booking)
-declined p x booking BookingState.Cancelled = Refused Refusal.NoBooking
+abbrev pub decline_in : PledgeValue → ℕ → Booking → BookingState → Judged
+decline_in p x booking BookingState.Asked = books p x (in_state booking BookingState.Refused)
+decline_in p x booking BookingState.Confirmed = books p x (in_state booking BookingState.Refused)
+decline_in p x booking BookingState.Refused = Answered (Done.Booked booking)
+decline_in p x booking BookingState.Cancelled = Refused Refusal.NoBooking
 
 abbrev pub decide_step : PledgeValue → ℕ → Decision → Option Booking → Judged
 decide_step p x decision None = Refused Refusal.NoBooking
-decide_step p x Confirm (Some booking) = confirmed p x booking booking.state
-decide_step p x Refuse (Some booking) = declined p x booking booking.state
+decide_step p x Confirm (Some booking) = confirm_in p x booking booking.state
+decide_step p x Refuse (Some booking) = decline_in p x booking booking.state
 
 -- closing a pledge
-
--- a closing cancels a booking that stands
-abbrev pub state_after : BookingState → BookingState
-state_after BookingState.Asked = BookingState.Cancelled
-state_after BookingState.Confirmed = BookingState.Cancelled
-state_after BookingState.Refused = BookingState.Refused
-state_after BookingState.Cancelled = BookingState.Cancelled
-
-abbrev pub booking_after : Option Booking → Option Booking
-booking_after None = None
-booking_after (Some booking) = Some (in_state booking (state_after booking.state))
-
--- closed on the day x
-abbrev pub closed_on : Standing → Closing → ℕ → Standing
-closed_on s closing x = record s { booking = booking_after s.booking; last = x; closing = closing }
-
-abbrev pub closed : PledgeValue → ℕ → Closing → PledgeValue
-closed p x closing = settled p (closed_on p.standing closing x)
 
 abbrev pub redeem_step : PledgeValue → ℕ → ℕ → Judged
 redeem_step p x paid =
@@ -254,7 +177,7 @@ redeem_step p x paid =
     ((p.standing.held, Refusal.Held)
     ∷ (not (paid == total_on p x), Refusal.WrongAmount (total_on p x))
     ∷ [])
-    (Changed (closed p x (Closing.Redeemed x paid)) (Done.Redeemed x paid))
+    (Changed (close p x (Closing.Redeemed x paid)) (Done.Redeemed x paid))
 
 -- with what the sale brought above what is owing, and below it
 abbrev pub sell_step : PledgeValue → ℕ → ℕ → Judged
@@ -263,28 +186,18 @@ sell_step p x net =
     ((not (is_realisable (open_status p x)), Refusal.NotRealisable)
     ∷ (nat_lt most_pence net, Refusal.Debt BadAmount)
     ∷ [])
-    (Changed (closed p x (Closing.Sold x net)) (Done.Sold net (net - total_on p x) (total_on p x - net)))
+    (Changed (close p x (Closing.Sold x net)) (Done.Sold net (net - total_on p x) (total_on p x - net)))
 
--- longer periods
-
--- the pledge with one more extension
-abbrev pub with_extension : PledgeValue → Extension → PledgeValue
-with_extension p e = record p { extensions = p.extensions ++ e ∷ []; standing = changed_on p.standing e.day }
-
--- an extension to another end than the one that stands
-abbrev pub new_end_step : PledgeValue → ℕ → ℕ → Judged
-new_end_step p x until =
-    unless
-    ((nat_lt until (end_of p), Refusal.NotLater)
-    ∷ (nat_le most_extensions (length p.extensions), Refusal.ExtensionsFull)
-    ∷ [])
-    (Changed (with_extension p (record { day = x; until = until })) (Done.Extended until))
-
--- an extension to the end that stands is answered again
+-- a longer period; an extension to the end that stands is answered again
 abbrev pub extend_step : PledgeValue → ℕ → ℕ → Judged
 extend_step p x until =
     unless ((nat_lt (end_of p) x, Refusal.PeriodOver) ∷ [])
-    (if until == end_of p then Answered (Done.Extended until) else new_end_step p x until)
+    (if until == end_of p then Answered (Done.Extended until)
+    else unless
+    ((nat_lt until (end_of p), Refusal.NotLater)
+    ∷ (nat_le most_extensions (length p.extensions), Refusal.ExtensionsFull)
+    ∷ [])
+    (Changed (with_extension p (record { day = x; until = until })) (Done.Extended until)))
 
 -- what a command comes to
 abbrev pub pledge_step : PledgeValue → Stamp → Command → Judged
@@ -345,5 +258,4 @@ IsApplied judged old (Err fault) new = (new ≡ old) × ((judged ≡ Refused fau
 
 -- a new pledge is what the rules say, or memory was wanted
 abbrev pub IsStarted : Result PledgeValue Refusal → Result PledgeValue Refusal → Type 0
-IsStarted answer (Ok new) = answer ≡ Ok new
-IsStarted answer (Err fault) = (answer ≡ Err fault) ⊎ ((fault ≡ Refusal.Memory) × IsOk answer)
+IsStarted answer result = IsSaid (IsWant Refusal.Memory answer) answer result

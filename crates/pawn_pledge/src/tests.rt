@@ -8,7 +8,6 @@ use std::test::Fail;
 
 mod briefs;
 mod histories;
-mod limits;
 
 // A command on a day, with a word, and what it is to answer.
 #[derive(Clone, Copy)]
@@ -111,7 +110,7 @@ fn repaid(text: &[u8], seq: u64, pence: u64) -> Result<Result<Done, Refusal>, Fa
 }
 
 #[test]
-fn a_repayment_that_is_sent_twice(rt: HostRuntime) -> Result<(), Fail> {
+fn a_repayment_that_is_sent_twice_is_entered_once(rt: HostRuntime) -> Result<(), Fail> {
     let first = Command::Repay {
         seq: 1,
         pence: 1000,
@@ -135,7 +134,7 @@ fn a_repayment_that_is_sent_twice(rt: HostRuntime) -> Result<(), Fail> {
 }
 
 #[test]
-fn drawings(rt: HostRuntime) -> Result<(), Fail> {
+fn a_drawing_is_made_in_the_period_up_to_the_limit(rt: HostRuntime) -> Result<(), Fail> {
     let day = day(b"2024-01-31")?;
     let sort = Sort::Draw;
     let drawn = |seq: u64, pence: u64| Ok(Done::Entered(Entry {
@@ -161,7 +160,7 @@ fn drawings(rt: HostRuntime) -> Result<(), Fail> {
 }
 
 #[test]
-fn keeping_before_and_after_the_end(rt: HostRuntime) -> Result<(), Fail> {
+fn safe_keeping_is_charged_at_one_rate_up_to_the_end_and_another_after_it(rt: HostRuntime) -> Result<(), Fail> {
     let over = Err(Refusal::Debt(DebtFault::OverOwing { total: 10_187 }));
     let repay = Command::Repay {
         seq: 1,
@@ -228,7 +227,7 @@ fn a_declaration_replaces_the_receipt(rt: HostRuntime) -> Result<(), Fail> {
 }
 
 #[test]
-fn a_held_pledge(rt: HostRuntime) -> Result<(), Fail> {
+fn a_hold_bars_redemption_until_it_is_released(rt: HostRuntime) -> Result<(), Fail> {
     let redemption = Command::Redeem { paid: 7500 };
     let short = Err(Refusal::WrongAmount { total: 7500 });
     let declared = Ok(Done::Declared(Secret::of_word(9)));
@@ -246,7 +245,7 @@ fn a_held_pledge(rt: HostRuntime) -> Result<(), Fail> {
 }
 
 #[test]
-fn a_sale(rt: HostRuntime) -> Result<(), Fail> {
+fn a_sale_is_made_once_the_pledge_is_realisable(rt: HostRuntime) -> Result<(), Fail> {
     let sell = Command::Sell { net: 9000 };
     let sold = Done::Sold {
         net: 9000,
@@ -266,7 +265,7 @@ fn a_sale(rt: HostRuntime) -> Result<(), Fail> {
 }
 
 #[test]
-fn a_booking(rt: HostRuntime) -> Result<(), Fail> {
+fn a_booking_is_asked_for_confirmed_and_given_up(rt: HostRuntime) -> Result<(), Fail> {
     let (past, wanted) = (
         RequestDay::of_text(b"2024-01-30")?,
         RequestDay::of_text(b"2024-03-04")?,
@@ -298,7 +297,7 @@ fn a_booking(rt: HostRuntime) -> Result<(), Fail> {
 }
 
 #[test]
-fn a_longer_period(rt: HostRuntime) -> Result<(), Fail> {
+fn an_extension_puts_the_end_of_the_period_off(rt: HostRuntime) -> Result<(), Fail> {
     let extend = |until: RequestDay| Command::Extend { until };
     let last = RequestDay::of_text(b"2024-07-31")?;
     let earlier = RequestDay::of_text(b"2024-07-30")?;
@@ -326,7 +325,7 @@ fn a_longer_period(rt: HostRuntime) -> Result<(), Fail> {
 }
 
 #[test]
-fn a_pledge_as_it_is_taken(rt: HostRuntime) -> Result<(), Fail> {
+fn a_pledge_is_taken_inside_its_period_with_its_first_secret_live(rt: HostRuntime) -> Result<(), Fail> {
     let (last, after) = (day(b"2024-07-31")?, day(b"2024-08-01")?);
     let pledge = plain(rt.alloc(), 7500)?;
     assert_eq!(rt; pledge.ends(), last);
@@ -360,7 +359,7 @@ fn has_same_lists(one: &Pledge, other: &Pledge) -> bool {
 }
 
 #[test]
-fn a_pledge_again(rt: HostRuntime) -> Result<(), Fail> {
+fn copies_briefs_and_parts_of_a_pledge_are_the_pledge_again(rt: HostRuntime) -> Result<(), Fail> {
     let day = day(b"2024-08-01")?;
     assert!(rt; is_same_again(&plain(rt.alloc(), 7500)?, day)?);
     assert!(rt; is_same_again(&plain(rt.alloc(), 7501)?, day)?);
@@ -464,7 +463,7 @@ fn owing_of(alloc: Global, bend: &Bend) -> Result<Option<u64>, Fail> {
 }
 
 #[test]
-fn parts_of_no_pledge(rt: HostRuntime) -> Result<(), Fail> {
+fn parts_are_handed_back_where_no_pledge_can_have_them(rt: HostRuntime) -> Result<(), Fail> {
     for (bend, owing) in [
         (
             make_bend(1000, 2, b"2024-09-30", b"2024-04-02")?,
@@ -487,7 +486,7 @@ fn parts_of_no_pledge(rt: HostRuntime) -> Result<(), Fail> {
 }
 
 #[test]
-fn texts_of_receipts(rt: HostRuntime) -> Result<(), Fail> {
+fn a_receipt_is_read_back_from_its_text(rt: HostRuntime) -> Result<(), Fail> {
     let text = "1-da41597c-5157-488d-7724-e03fb8d84a37";
     let receipt = Receipt::of_text(text.as_bytes())?;
     assert_eq!(rt; receipt.number.get(), 1);

@@ -2,7 +2,8 @@ ghost use Rattle.std.specs.Prelude.{◌≡◌, ◌≤◌, ◌<◌, length, Ok, O
 ghost use Rattle.pawn_terms.specs.Refusals.{first_of};
 ghost use Rattle.pawn_debt.specs.declared.entry.Entry.{Entry};
 ghost use Rattle.pawn_pledge.specs.Pledge.{end_of};
-ghost use Rattle.pawn_pledge.specs.Step.{Changed, unless, bars, declare_bars, pledge_step, numbered_step, entry_of, entry_step, hold_step, declare_step, ask_step, asked, cancel_step, decide_step, confirmed, declined, redeem_step, sell_step, extend_step, books, in_state, is_standing, state_after, booking_after, with_secret, with_extension, issue_of, is_ahead, is_repeat, IsStep, IsApplied};
+ghost use Rattle.pawn_pledge.specs.Words.{in_state, is_standing, state_after, booking_after, with_secret, with_extension, issue_of, new_entry, is_ahead, is_repeat};
+ghost use Rattle.pawn_pledge.specs.Step.{Changed, unless, bars, declare_bars, pledge_step, numbered_step, entry_of, entry_step, hold_step, declare_step, ask_step, ask_once, cancel_step, decide_step, confirm_in, decline_in, redeem_step, sell_step, extend_step, books, IsStep, IsApplied};
 ghost use Rattle.pawn_pledge.specs.Limits.{most_secrets};
 
 use super::Pledge;
@@ -109,6 +110,18 @@ impl Pledge {
         seq == 0 || seq > self.debt.count() as u64 + 1
     }
 
+    // The entry that would be entered next.
+    fn next_entry(&self, day: Day, sort: Sort, pence: u64) -> Entry
+        ensures value { result ≡ new_entry self.now day sort pence }
+    {
+        Entry {
+            seq: self.debt.count() as u64 + 1,
+            day,
+            sort,
+            pence,
+        }
+    }
+
     fn draw(&mut self, day: Day, pence: u64) -> Result<Applied, Refusal>
         requires later { self.old.standing.last ≤ day }
         ensures step { IsApplied (entry_step self.old day Sort.Draw pence) self.old result self.new }
@@ -116,12 +129,7 @@ impl Pledge {
         if day > self.debt.ends() {
             return Err(Refusal::PeriodOver);
         }
-        let entry = Entry {
-            seq: self.debt.count() as u64 + 1,
-            day,
-            sort: Sort::Draw,
-            pence,
-        };
+        let entry = self.next_entry(day, Sort::Draw, pence);
         self.debt.draw(day, pence)?;
         self.standing.last = day;
         Ok(Applied::changed(Done::Entered(entry)))
@@ -131,12 +139,7 @@ impl Pledge {
         requires later { self.old.standing.last ≤ day }
         ensures step { IsApplied (entry_step self.old day Sort.Repay pence) self.old result self.new }
     {
-        let entry = Entry {
-            seq: self.debt.count() as u64 + 1,
-            day,
-            sort: Sort::Repay,
-            pence,
-        };
+        let entry = self.next_entry(day, Sort::Repay, pence);
         self.debt.repay(day, pence)?;
         self.standing.last = day;
         Ok(Applied::changed(Done::Entered(entry)))
@@ -175,7 +178,7 @@ impl Pledge {
         ensures answer { result ≡ first_of (declare_bars self.now paper issued.now.secret) (Ok tt) }
         ensures few { OnOk result (length self.now.secrets < most_secrets) }
     {
-        if paper == Paper::Written && !is_small(self.debt.kind().credit()) {
+        if paper == Paper::Written && !is_small(self.agreement.opening.kind.credit()) {
             return Err(Refusal::NotSmall);
         }
         if self.secrets.len() >= MOST_SECRETS {
@@ -234,7 +237,7 @@ impl Pledge {
     // The same, where nothing is to be refused any more.
     fn ask_once(&mut self, day: Day, wanted: Day, window: u64) -> Result<Applied, Refusal>
         requires later { self.old.standing.last ≤ day }
-        ensures step { IsApplied (asked self.old day wanted window self.old.standing.booking) self.old result self.new }
+        ensures step { IsApplied (ask_once self.old day wanted window self.old.standing.booking) self.old result self.new }
     {
         let asked = Booking {
             day: wanted,
@@ -282,7 +285,7 @@ impl Pledge {
 
     fn confirm(&mut self, day: Day, booking: &Booking) -> Result<Applied, Refusal>
         requires later { self.old.standing.last ≤ day }
-        ensures step { IsApplied (confirmed self.old day booking.now booking.now.state) self.old result self.new }
+        ensures step { IsApplied (confirm_in self.old day booking.now booking.now.state) self.old result self.new }
     {
         match booking.state {
             BookingState::Asked => {
@@ -298,7 +301,7 @@ impl Pledge {
 
     fn decline(&mut self, day: Day, booking: &Booking) -> Result<Applied, Refusal>
         requires later { self.old.standing.last ≤ day }
-        ensures step { IsApplied (declined self.old day booking.now booking.now.state) self.old result self.new }
+        ensures step { IsApplied (decline_in self.old day booking.now booking.now.state) self.old result self.new }
     {
         match booking.state {
             BookingState::Asked | BookingState::Confirmed => {

@@ -85,7 +85,7 @@ fn total_of(brief: &Brief, day: Day) -> u64 {
 }
 
 #[test]
-fn a_brief_of_its_fields(rt: HostRuntime) -> Result<(), Fail> {
+fn a_brief_is_made_of_its_fields(rt: HostRuntime) -> Result<(), Fail> {
     let grace = day(b"2024-08-05")?;
     let Ok(brief) = Brief::of_fields(fields(rt.alloc())?) else {
         return Err("the fields are handed back".into());
@@ -100,7 +100,7 @@ fn a_brief_of_its_fields(rt: HostRuntime) -> Result<(), Fail> {
 }
 
 #[test]
-fn a_brief_at_its_limits(rt: HostRuntime) -> Result<(), Fail> {
+fn a_brief_is_made_at_its_limits(rt: HostRuntime) -> Result<(), Fail> {
     let mut most = fields(rt.alloc())?;
     let last = last_day()?;
     most.agreement.opening.kind = Kind::Running(100_000_000);
@@ -129,7 +129,7 @@ fn a_brief_at_its_limits(rt: HostRuntime) -> Result<(), Fail> {
 }
 
 #[test]
-fn fields_with_another_sum_or_terms(rt: HostRuntime) -> Result<(), Fail> {
+fn fields_past_the_limits_of_sums_and_terms_are_handed_back(rt: HostRuntime) -> Result<(), Fail> {
     for kind in [
         Kind::Fixed(0),
         Kind::Running(0),
@@ -149,7 +149,7 @@ fn fields_with_another_sum_or_terms(rt: HostRuntime) -> Result<(), Fail> {
 }
 
 #[test]
-fn fields_with_too_many(rt: HostRuntime) -> Result<(), Fail> {
+fn fields_with_too_many_rows_are_handed_back(rt: HostRuntime) -> Result<(), Fail> {
     for [entries, secrets, extensions] in [[10_000, 1, 0], [0, 102, 0], [0, 1, 100]] {
         let mut fields = fields(rt.alloc())?;
         fields.counts = counts(entries, secrets, extensions);
@@ -159,7 +159,7 @@ fn fields_with_too_many(rt: HostRuntime) -> Result<(), Fail> {
 }
 
 #[test]
-fn fields_with_another_booking(rt: HostRuntime) -> Result<(), Fail> {
+fn fields_with_a_booking_past_its_limits_are_handed_back(rt: HostRuntime) -> Result<(), Fail> {
     for (day, window) in [(last_day()?, 16), (past_day()?, 15)] {
         let mut fields = fields(rt.alloc())?;
         fields.standing.booking = Some(Booking {
@@ -173,7 +173,7 @@ fn fields_with_another_booking(rt: HostRuntime) -> Result<(), Fail> {
 }
 
 #[test]
-fn fields_past_the_last_day(rt: HostRuntime) -> Result<(), Fail> {
+fn fields_past_the_last_day_are_handed_back(rt: HostRuntime) -> Result<(), Fail> {
     let past = past_day()?;
     let mut taken = fields(rt.alloc())?;
     taken.agreement.taken = past;
@@ -198,7 +198,7 @@ fn fields_past_the_last_day(rt: HostRuntime) -> Result<(), Fail> {
 }
 
 #[test]
-fn fields_with_other_totals(rt: HostRuntime) -> Result<(), Fail> {
+fn fields_with_totals_past_their_limits_are_handed_back(rt: HostRuntime) -> Result<(), Fail> {
     for (day, principal, millionths) in [
         (past_day()?, 1, 0),
         (last_day()?, 100_000_001, 0),
@@ -216,7 +216,7 @@ fn fields_with_other_totals(rt: HostRuntime) -> Result<(), Fail> {
 }
 
 #[test]
-fn totals_of_a_pledge(rt: HostRuntime) -> Result<(), Fail> {
+fn totals_are_those_of_the_last_entry(rt: HostRuntime) -> Result<(), Fail> {
     let pledge = used(rt.alloc())?;
     let totals = pledge.totals();
     assert_eq!(rt; totals.day, day(b"2024-04-02")?);

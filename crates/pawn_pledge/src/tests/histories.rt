@@ -73,7 +73,7 @@ fn is_kept(alloc: Global, pence: u64, chosen: u32) -> Result<bool, Fail> {
 }
 
 #[test]
-fn parts_of_many_histories(rt: HostRuntime) -> Result<(), Fail> {
+fn parts_of_many_histories_make_their_pledges_again(rt: HostRuntime) -> Result<(), Fail> {
     for chosen in 0..256u32 {
         assert!(rt;
             is_kept(rt.alloc(), 7_500, chosen)?,

@@ -1,10 +1,9 @@
-use Rattle.pawn_pledge.proofs.Moves.{pledge_moves}
-use Rattle.pawn_pledge.proofs.Receipts.{secrets-moved, never_live_again}
+use Rattle.pawn_pledge.proofs.Steps.{lists_of_step}
+use Rattle.pawn_pledge.proofs.Receipts.{never_live_again}
 use Rattle.pawn_pledge.proofs.laws.laws_of_receipts.Goals as goal
 
 pub returns-clause-grow : goal.returns-clause-grow
-returns-clause-grow c p next stamp command done step =
-    secrets-moved p next command stamp.word stamp.day (pledge_moves p next stamp command done step).1
+returns-clause-grow c p next stamp command done step = (lists_of_step p next stamp command done step).secrets
 
 pub returns-clause-never_again : goal.returns-clause-never_again
 returns-clause-never_again c = never_live_again

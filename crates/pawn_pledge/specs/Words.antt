@@ -1,0 +1,105 @@
+-- The words of the rules for commands: what is told of a pledge, and what a command makes of it.
+use Rattle.std.specs.Prelude.{ℕ, ◌+◌, nat_lt, ◌==◌, ◌&&◌, ◌||◌, not, Bool, true, false, [], ◌∷◌, ◌++◌, length, Option, Some, None}
+use Rattle.pawn_debt.specs.declared.entry.Entry.{Entry}
+use Rattle.pawn_debt.specs.declared.entry.Sort.{Sort}
+use Rattle.pawn_debt.specs.declared.entry.Sort.TheVariants.{Draw, Repay}
+use Rattle.pawn_pledge.specs.declared.record.Issued.{Issued}
+use Rattle.pawn_pledge.specs.declared.record.Issue.{Issue}
+use Rattle.pawn_pledge.specs.declared.record.Extension.{Extension}
+use Rattle.pawn_pledge.specs.declared.record.Booking.{Booking}
+use Rattle.pawn_pledge.specs.declared.record.BookingState.{BookingState}
+use Rattle.pawn_pledge.specs.declared.record.Closing.{Closing}
+use Rattle.pawn_pledge.specs.declared.record.Standing.{Standing}
+use Rattle.pawn_pledge.specs.declared.command.Paper.{Paper}
+use Rattle.pawn_pledge.specs.Pledge.{PledgeValue}
+
+-- how a pledge stands after a change on the day x: as it stood
+abbrev pub with_last : Standing → ℕ → Standing
+with_last s x = record s { last = x }
+
+-- with redemption barred or not
+abbrev pub with_hold : Standing → Bool → ℕ → Standing
+with_hold s flag x = record s { held = flag; last = x }
+
+-- with that booking
+abbrev pub with_booking : Standing → Booking → ℕ → Standing
+with_booking s booking x = record s { booking = Some booking; last = x }
+
+-- the pledge that stands so, with its lists as they are
+abbrev pub with_standing : PledgeValue → Standing → PledgeValue
+with_standing p standing = record p { standing = standing }
+
+abbrev pub is_open : Closing → Bool
+is_open Closing.Open = true
+is_open (Closing.Redeemed day paid) = false
+is_open (Closing.Sold day net) = false
+
+abbrev pub same_sort : Sort → Sort → Bool
+same_sort Draw Draw = true
+same_sort Draw Repay = false
+same_sort Repay Draw = false
+same_sort Repay Repay = true
+
+-- an entry is asked for again
+abbrev pub is_repeat : Entry → Sort → ℕ → Bool
+is_repeat e sort pence = same_sort e.sort sort && (e.pence == pence)
+
+-- an entry's number is 0, or past the next
+abbrev pub is_ahead : PledgeValue → ℕ → Bool
+is_ahead p seq = (seq == 0) || nat_lt (length p.entries + 1) seq
+
+-- the next entry
+abbrev pub new_entry : PledgeValue → ℕ → Sort → ℕ → Entry
+new_entry p x sort pence = record { seq = length p.entries + 1; day = x; sort = sort; pence = pence }
+
+abbrev pub same_flag : Bool → Bool → Bool
+same_flag true flag = flag
+same_flag false flag = not flag
+
+abbrev pub is_written : Paper → Bool
+is_written Paper.Sworn = false
+is_written Paper.Written = true
+
+abbrev pub issue_of : Paper → Issue
+issue_of Paper.Sworn = Issue.Sworn
+issue_of Paper.Written = Issue.Written
+
+-- the pledge with one more secret
+abbrev pub with_secret : PledgeValue → Issued → PledgeValue
+with_secret p issued = record p { secrets = p.secrets ++ issued ∷ []; standing = with_last p.standing issued.day }
+
+abbrev pub in_state : Booking → BookingState → Booking
+in_state booking state = record { day = booking.day; window = booking.window; state = state }
+
+-- asked for or confirmed
+abbrev pub is_standing : BookingState → Bool
+is_standing BookingState.Asked = true
+is_standing BookingState.Confirmed = true
+is_standing BookingState.Refused = false
+is_standing BookingState.Cancelled = false
+
+abbrev pub stands_for : Booking → ℕ → ℕ → Bool
+stands_for booking day window = (booking.day == day) && (booking.window == window) && is_standing booking.state
+
+-- a closing cancels a booking that stands
+abbrev pub state_after : BookingState → BookingState
+state_after BookingState.Asked = BookingState.Cancelled
+state_after BookingState.Confirmed = BookingState.Cancelled
+state_after BookingState.Refused = BookingState.Refused
+state_after BookingState.Cancelled = BookingState.Cancelled
+
+abbrev pub booking_after : Option Booking → Option Booking
+booking_after None = None
+booking_after (Some booking) = Some (in_state booking (state_after booking.state))
+
+-- with that closing
+abbrev pub with_closing : Standing → Closing → ℕ → Standing
+with_closing s closing x = record s { booking = booking_after s.booking; last = x; closing = closing }
+
+-- the pledge closed on the day x
+abbrev pub close : PledgeValue → ℕ → Closing → PledgeValue
+close p x closing = with_standing p (with_closing p.standing closing x)
+
+-- the pledge with one more extension
+abbrev pub with_extension : PledgeValue → Extension → PledgeValue
+with_extension p e = record p { extensions = p.extensions ++ e ∷ []; standing = with_last p.standing e.day }
