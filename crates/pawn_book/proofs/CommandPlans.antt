@@ -13,6 +13,7 @@ use Rattle.pawn_pledge.specs.Pledge.{PledgeValue}
 use Rattle.pawn_pledge.specs.Commands.{IsCommand}
 use Rattle.pawn_pledge.specs.Replayable.{IsStanding}
 use Rattle.pawn_pledge.specs.Step.{Answered, Changed, Judged, Refused, pledge_step}
+use Rattle.pawn_pledge.proofs.Steps.{stays_standing}
 use Rattle.pawn_book.specs.declared.change.Change.{Change}
 use Rattle.pawn_book.specs.declared.change.Change.TheVariants.{PutPledge}
 use Rattle.pawn_book.specs.declared.change.Planned.{Planned}
@@ -23,7 +24,7 @@ use Rattle.pawn_book.specs.HostStep.{Host, with_book}
 use Rattle.pawn_book.specs.Sound.{AreDistinct, AreSound, AreWords, DoNotFall, HasTextsAndWords, IsSound, IsSoundBook, IsUnder, IsWord}
 use Rattle.pawn_book.specs.Changes.{CanSave, Continues, book_of, changed}
 use Rattle.pawn_book.specs.Plans.{IsOutcome, Plans, outcome_of}
-use Rattle.pawn_book.proofs.KeptLemmas.{kept_moved, stands_moved}
+use Rattle.pawn_book.proofs.KeptLemmas.{kept_moved}
 use Rattle.pawn_book.proofs.Places.{pledge_within}
 use Rattle.pawn_book.proofs.Words.{words_moved}
 use Rattle.pawn_book.proofs.SoundLists.{map-put}
@@ -65,7 +66,7 @@ put_saves : (h : Host) (b n : ℕ) (at : BookValue) (p q : PledgeValue) (stamp :
 put_saves h b n at p q stamp command done sound is stands day word given step =
     let one = (sound.books b at is).1 in
     let kept = kept_moved p q stamp command done step in
-    let standing = stands_moved p q stamp command done day given (each_at IsStanding 1 at.pledges n p one.standing stands) step in
+    let standing = stays_standing p q stamp command done day given (each_at IsStanding 1 at.pledges n p one.standing stands) step in
     let words = words_moved p q stamp command done word (each_at HasTextsAndWords 1 at.pledges n p one.written stands).secrets step in
     let book : BookValue = record at { pledges = put_from 1 at.pledges n q } in
     let same : changed h (PutPledge b n q) ≡ with_book h b (Some book) =

@@ -1,19 +1,14 @@
 -- What every change keeps of the pledges that stand.
 use Rattle.std.proofs.Common.{◌≡◌, ℕ, ◌+◌, List, [], ◌∷◌, ◌++◌, Some, refl, ◌∙◌, ap, sym, subst}
 use Rattle.std.specs.Prelude.{if◌then◌else◌, true, false, ◌==◌}
-use Rattle.pawn_terms.specs.Calendar.{IsStampDay}
 use Rattle.pawn_pledge.specs.declared.command.Command.{Command}
 use Rattle.pawn_pledge.specs.declared.command.Done.{Done}
 use Rattle.pawn_pledge.specs.declared.command.Stamp.{Stamp}
 use Rattle.pawn_pledge.specs.declared.record.Agreement.{Agreement}
 use Rattle.pawn_pledge.specs.Pledge.{PledgeValue}
-use Rattle.pawn_pledge.specs.Commands.{IsCommand}
-use Rattle.pawn_pledge.specs.Replayable.{IsStanding}
 use Rattle.pawn_pledge.specs.Step.{Changed, pledge_step}
 use Rattle.pawn_pledge.proofs.Growth.{grows-moved, grows-same, grows-then}
-use Rattle.pawn_pledge.proofs.Moves.{Asking, Declaring, Entering, Extending, Holding, Marking, Move, Redeeming, Selling, pledge_moves}
-use Rattle.pawn_pledge.proofs.Receipts.{terms-moved}
-use Rattle.pawn_pledge.proofs.Replays.{differs-moved, stays-moved, within-moved}
+use Rattle.pawn_pledge.proofs.Steps.{agreement_stays, lists_of_step}
 use Rattle.pawn_book.specs.BookStep.{is_text, pledge_from, put_from, with_reference}
 use Rattle.pawn_book.specs.Changes.{Continues}
 use Rattle.pawn_book.proofs.Sounds.{absurd_none, some_is}
@@ -26,30 +21,10 @@ kept_on p q r f s = record { agreement = s.agreement ∙ f.agreement; lists = gr
 
 -- no command takes any of it away
 pub kept_moved : (p q : PledgeValue) (stamp : Stamp) (c : Command) (d : Done) → pledge_step p stamp c ≡ Changed q d → Continues p q
-kept_moved p q stamp c d h = let m = (pledge_moves p q stamp c d h).1 in record { agreement = agreed m; lists = grows-moved p q c stamp.word stamp.day m }
-  where
-    agreed : Move p stamp.day stamp.word c q → q.agreement ≡ p.agreement
-    agreed (Entering sort pence ok late few drawn is) = ap (λ (r : PledgeValue). r.agreement) is
-    agreed (Holding flag new is) = ap (λ (r : PledgeValue). r.agreement) is
-    agreed (Declaring paper ok is) = ap (λ (r : PledgeValue). r.agreement) is
-    agreed (Asking b later live small state new named is) = ap (λ (r : PledgeValue). r.agreement) is
-    agreed (Marking b state at new is) = ap (λ (r : PledgeValue). r.agreement) is
-    agreed (Redeeming paid free total is) = ap (λ (r : PledgeValue). r.agreement) is
-    agreed (Selling net status small is) = ap (λ (r : PledgeValue). r.agreement) is
-    agreed (Extending until inside longer few named is) = ap (λ (r : PledgeValue). r.agreement) is
-
--- a pledge stays one that can stand
-pub stands_moved : (p q : PledgeValue) (stamp : Stamp) (c : Command) (d : Done) → IsStampDay stamp.day → IsCommand c → IsStanding p → pledge_step p stamp c ≡ Changed q d → IsStanding q
-stands_moved p q stamp c d day given h step =
-    let g = pledge_moves p q stamp c d step in
-    record {
-      terms = terms-moved p q c stamp.word stamp.day h.terms g.1;
-      replayable = stays-moved p q c stamp.word stamp.day h.replayable g.0 g.1;
-      within = within-moved p q c stamp.word stamp.day day.1 given h.within g.1;
-    }
-
-pub differs_moved : (p q : PledgeValue) (stamp : Stamp) (c : Command) (d : Done) → pledge_step p stamp c ≡ Changed q d → q ≡ p → ⊥
-differs_moved p q stamp c d step = let g = pledge_moves p q stamp c d step in differs-moved p q c stamp.word stamp.day g.0 g.1
+kept_moved p q stamp c d h = record {
+  agreement = agreement_stays p q stamp c d h;
+  lists = grows-moved p q stamp.word stamp.day (lists_of_step p q stamp c d h);
+}
 
 -- each pledge of a list is kept in another, at its place
 abbrev pub AreKept : List PledgeValue → List PledgeValue → Type 0

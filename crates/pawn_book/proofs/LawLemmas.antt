@@ -26,6 +26,7 @@ use Rattle.pawn_pledge.specs.declared.receipt.Receipt.{Receipt}
 use Rattle.pawn_pledge.specs.declared.record.Issued.{Issued}
 use Rattle.pawn_debt.specs.declared.entry.Sort.TheVariants.{Draw, Repay}
 use Rattle.pawn_book.specs.Sound.{IsSoundBook}
+use Rattle.pawn_pledge.proofs.Steps.{changes_differ}
 use Rattle.pawn_book.specs.declared.request.Caller.{Caller}
 use Rattle.pawn_book.specs.declared.request.Caller.TheVariants.{Operator, Broker, Bearer}
 use Rattle.pawn_book.specs.declared.request.BrokerRequest.TheVariants.{PutTerms, TakePledge, OnPledge, Show}
@@ -42,7 +43,7 @@ use Rattle.pawn_book.specs.BookStep.{BookValue, Told, Refuses, Says, are_rates, 
 use Rattle.pawn_book.specs.Laws.{ChangesDiffer, RepeatsActOnce, book_run}
 use Rattle.pawn_book.proofs.Sounds.{absurd_none, each_at, some_is}
 use Rattle.pawn_book.specs.Changes.{Continues}
-use Rattle.pawn_book.proofs.KeptLemmas.{differs_moved, number_kept, put_there, reference_kept}
+use Rattle.pawn_book.proofs.KeptLemmas.{number_kept, put_there, reference_kept}
 use Rattle.pawn_book.proofs.Plans.{next_is, not_standing, past_row, taken_is}
 use Rattle.pawn_book.proofs.GrowLemmas.{Grown, grown_same, next_pledges, run_grows}
 use Rattle.pawn_book.proofs.MadeLemmas.{BookIs, CommandIs, DidOn, MadeBy, PledgeIs, TermsAre, if_makes, made_by, number_made, receipt_made}
@@ -82,7 +83,7 @@ change_differs before operator b stamp caller change reply is same = from (made_
         let list : put_from 1 book.pledges n did.next ≡ book.pledges = ap (λ (o : Option BookValue). (unwrap_or o book).pledges) after in
         let there : Some did.next ≡ Some did.old =
         sym (put_there 1 book.pledges n did.old did.next did.stands) ∙ ap (λ ps. pledge_from 1 ps n) list ∙ did.stands in
-        differs_moved did.old did.next stamp command did.done did.step (some_is did.next did.old there)
+        changes_differ did.old did.next stamp command did.done did.step (some_is did.next did.old there)
 
 -- the terms that were added stand under their version
 added_at : (ts : List Rates) (n : ℕ) (t : Rates) (more : List Rates) → n ≡ length ts → slice_get ((ts ++ t ∷ []) ++ more) n ≡ Some t

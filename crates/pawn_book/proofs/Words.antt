@@ -8,8 +8,7 @@ use Rattle.pawn_pledge.specs.declared.record.Issued.{Issued}
 use Rattle.pawn_pledge.specs.Growth.{StaysOrGrows}
 use Rattle.pawn_pledge.specs.Pledge.{PledgeValue}
 use Rattle.pawn_pledge.specs.Step.{Changed, pledge_step}
-use Rattle.pawn_pledge.proofs.Moves.{pledge_moves}
-use Rattle.pawn_pledge.proofs.Receipts.{secrets-moved}
+use Rattle.pawn_pledge.proofs.Steps.{lists_of_step}
 use Rattle.pawn_book.specs.Sound.{AreWords, IsWord}
 use Rattle.pawn_book.proofs.Sounds.{each_push}
 
@@ -20,4 +19,4 @@ grown_words old new word is words (inl same) = subst AreWords (sym same) words
 grown_words old new word is words (inr more) = subst AreWords (sym more.1) (each_push (λ (i : Issued). IsWord i.secret) old more.0 words (subst IsWord (sym more.2.0) is))
 
 pub words_moved : (p q : PledgeValue) (stamp : Stamp) (c : Command) (d : Done) → IsWord stamp.word → AreWords p.secrets → pledge_step p stamp c ≡ Changed q d → AreWords q.secrets
-words_moved p q stamp c d word words step = grown_words p.secrets q.secrets stamp.word word words (secrets-moved p q c stamp.word stamp.day (pledge_moves p q stamp c d step).1)
+words_moved p q stamp c d word words step = grown_words p.secrets q.secrets stamp.word word words (lists_of_step p q stamp c d step).secrets

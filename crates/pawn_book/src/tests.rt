@@ -9,7 +9,6 @@ use std::alloc::Global;
 use std::test::Fail;
 
 mod commands;
-mod limits;
 
 const OPERATOR: u128 = 11;
 

@@ -150,79 +150,6 @@ fn asks(pledge: Number, word: u128, wanted: RequestDay, window: u64) -> Order {
 
 const CONFIRM: Command = Command::DecideBooking(Decision::Confirm);
 
-fn windows_fill(alloc: Global, mut keep: ListKeep) -> Result<bool, Fail> {
-    let (one, two) = (number(1)?, number(2)?);
-    let full = Err(Refusal::WindowFull);
-    let (wanted, other) = (day("2024-03-04")?, day("2024-03-05")?);
-    let confirmed = booked(wanted.day(), 3, BookingState::Confirmed);
-    let elsewhere = booked(other.day(), 3, BookingState::Confirmed);
-    let redeem = Command::Redeem { paid: 10_000 };
-    let redeemed = Ok(Done::Redeemed {
-        day: day("2024-02-03")?.day(),
-        paid: 10_000,
-    });
-    let orders = [
-        asks(one, 33, wanted, 3),
-        asks(two, 44, wanted, 3),
-        broker("2024-02-02", one, CONFIRM, confirmed),
-        broker("2024-02-02", two, CONFIRM, full),
-        broker("2024-02-02", one, CONFIRM, confirmed),
-        bearer("2024-02-03", one, 33, redeem, redeemed),
-        broker("2024-02-03", two, CONFIRM, confirmed),
-    ];
-    let moved = [
-        asks(one, 33, other, 3),
-        asks(two, 44, wanted, 3),
-        broker("2024-02-02", one, CONFIRM, elsewhere),
-        broker("2024-02-02", two, CONFIRM, confirmed),
-    ];
-    let mut again = ample(alloc);
-    if !opens_two(alloc, &mut again)? || !obeys_all(alloc, &mut again, &moved)? {
-        return Ok(false);
-    }
-    Ok(opens_two(alloc, &mut keep)? && obeys_all(alloc, &mut keep, &orders)?)
-}
-
-#[test]
-fn a_window_confirms_as_many_as_the_book(rt: HostRuntime) -> Result<(), Fail> {
-    assert!(rt; windows_fill(rt.alloc(), ample(rt.alloc()))?);
-    Ok(())
-}
-
-fn receipts_pass_on(alloc: Global, mut keep: ListKeep) -> Result<bool, Fail> {
-    let (one, two) = (number(1)?, number(2)?);
-    let unknown = Err(Refusal::NoSuchReceipt);
-    let late = Err(Refusal::Pledge(PledgeRefusal::Debt(DebtFault::EarlierDay)));
-    let declare = Command::Declare(Paper::Sworn);
-    let declared = Ok(Done::Declared(Secret::of_word(900)));
-    let repay = Command::Repay {
-        seq: 1,
-        pence: 1000,
-    };
-    let orders = [
-        broker(
-            "2024-02-01",
-            number(3)?,
-            Command::Hold,
-            Err(Refusal::NoSuchPledge),
-        ),
-        broker("2024-02-02", one, declare, declared),
-        bearer("2024-01-31", one, 33, repay, unknown),
-        bearer("2024-02-02", two, 33, repay, unknown),
-        bearer("2024-01-31", one, 900, repay, late),
-        broker("2024-02-02", one, Command::Hold, Ok(Done::Held(true))),
-        broker("2024-02-03", one, Command::Hold, Ok(Done::Held(true))),
-        broker("2024-02-02", one, Command::Release, Ok(Done::Held(false))),
-    ];
-    Ok(opens_two(alloc, &mut keep)? && obeys_all(alloc, &mut keep, &orders)?)
-}
-
-#[test]
-fn a_replaced_receipt_is_known_no_more(rt: HostRuntime) -> Result<(), Fail> {
-    assert!(rt; receipts_pass_on(rt.alloc(), ample(rt.alloc()))?);
-    Ok(())
-}
-
 // What was repaid by an entry of pledge 1.
 fn repaid(seq: u64, pence: u64, on: &str) -> Result<Result<Done, Refusal>, Fail> {
     Ok(Ok(Done::Entered(Entry {
@@ -265,48 +192,6 @@ fn a_repeat_is_told_to_whoever_passes(rt: HostRuntime) -> Result<(), Fail> {
     Ok(())
 }
 
-fn ends_stand(alloc: Global, mut keep: ListKeep) -> Result<bool, Fail> {
-    let one = number(1)?;
-    let until = day("2024-08-31")?;
-    let extend = Command::Extend { until };
-    let extended = Ok(Done::Extended { until: until.day() });
-    let late = Err(Refusal::Pledge(PledgeRefusal::Debt(DebtFault::EarlierDay)));
-    let orders = [
-        broker("2024-02-01", one, extend, extended),
-        broker("2024-03-01", one, extend, extended),
-        broker("2024-02-01", one, extend, extended),
-        broker("2024-01-31", one, extend, late),
-    ];
-    Ok(
-        opens_two(alloc, &mut keep)?
-            && obeys_all(alloc, &mut keep, &orders)?
-            && rows_of_first(&mut keep)? == 1,
-    )
-}
-
-#[test]
-fn an_extension_is_made_once(rt: HostRuntime) -> Result<(), Fail> {
-    assert!(rt; ends_stand(rt.alloc(), ample(rt.alloc()))?);
-    Ok(())
-}
-
-fn numbers_reach_far(alloc: Global, mut keep: ListKeep) -> Result<bool, Fail> {
-    let greatest = number(999_999_999)?;
-    let unknown = Err(Refusal::NoSuchReceipt);
-    let none = Err(Refusal::NoSuchPledge);
-    let orders = [
-        broker("2024-02-01", greatest, Command::Hold, none),
-        bearer("2024-02-01", greatest, 33, Command::CancelBooking, unknown),
-    ];
-    Ok(opens_two(alloc, &mut keep)? && obeys_all(alloc, &mut keep, &orders)?)
-}
-
-#[test]
-fn the_greatest_number_is_no_pledges(rt: HostRuntime) -> Result<(), Fail> {
-    assert!(rt; numbers_reach_far(rt.alloc(), ample(rt.alloc()))?);
-    Ok(())
-}
-
 // Holds pledge 1.
 fn hold(one: Number) -> Order {
     broker("2024-02-01", one, Command::Hold, Ok(Done::Held(true)))
@@ -323,42 +208,6 @@ fn changes(alloc: Global, keep: &mut ListKeep, order: &Order) -> Result<bool, Fa
         Ok(planned) => Ok(planned.change.is_some()),
         Err(_) => Ok(false),
     }
-}
-
-fn rows_run_out(alloc: Global, mut keep: ListKeep) -> Result<bool, Fail> {
-    let (one, two) = (number(1)?, number(2)?);
-    let full = Err(Refusal::Full);
-    let repay = Command::Repay {
-        seq: 1,
-        pence: 1000,
-    };
-    let ask = Command::AskBooking {
-        day: day("2024-03-04")?,
-        window: 3,
-    };
-    let declare = Command::Declare(Paper::Sworn);
-    let redeem = Command::Redeem { paid: 10_000 };
-    let redeemed = Ok(Done::Redeemed {
-        day: day("2024-02-01")?.day(),
-        paid: 10_000,
-    });
-    let orders = [
-        bearer("2024-02-01", one, 33, repay, full),
-        bearer("2024-02-01", one, 33, ask, full),
-        broker("2024-02-01", one, declare, full),
-        hold(one),
-        bearer("2024-02-01", two, 44, redeem, redeemed),
-    ];
-    if !opens_two(alloc, &mut keep)? || !changes(alloc, &mut keep, &hold(one))? {
-        return Ok(false);
-    }
-    Ok(obeys_all(alloc, &mut keep, &orders)? && !changes(alloc, &mut keep, &hold(one))?)
-}
-
-#[test]
-fn commands_that_add_a_row_want_room(rt: HostRuntime) -> Result<(), Fail> {
-    assert!(rt; rows_run_out(rt.alloc(), ListKeep::new(rt.alloc(), 6))?);
-    Ok(())
 }
 
 // Whether the plan of an order is committed so.
