@@ -8,8 +8,10 @@ use Rattle.pawn_pledge.specs.declared.command.Command.{Command}
 use Rattle.pawn_pledge.specs.declared.command.Done.{Done}
 use Rattle.pawn_pledge.specs.declared.command.Stamp.{Stamp}
 use Rattle.pawn_pledge.specs.declared.receipt.Receipt.{Receipt}
+use Rattle.pawn_pledge.specs.declared.record.Agreement.{Agreement}
 use Rattle.pawn_pledge.specs.Pledge.{PledgeValue}
-use Rattle.pawn_pledge.specs.Replayable.{IsCommand, IsStanding}
+use Rattle.pawn_pledge.specs.Commands.{IsCommand}
+use Rattle.pawn_pledge.specs.Replayable.{IsStanding}
 use Rattle.pawn_pledge.specs.Step.{Answered, Changed, Judged, Refused, pledge_step}
 use Rattle.pawn_book.specs.declared.change.Change.{Change}
 use Rattle.pawn_book.specs.declared.change.Change.TheVariants.{PutPledge}
@@ -35,7 +37,7 @@ sound_put book n p q sound is kept standing words =
     let within = pledge_within 1 book.pledges n p is in
     let low = within.0 in
     let high = within.1 in
-    let number : q.number ≡ n = kept.number ∙ numbered_at 1 book.pledges n p sound.numbered is in
+    let number : q.agreement.number ≡ n = ap (λ (a : Agreement). a.number) kept.agreement ∙ numbered_at 1 book.pledges n p sound.numbered is in
     let long = length-put 1 book.pledges n q low high in
     let few = sound.pledges in
     let before = each_at HasTextsAndWords 1 book.pledges n p sound.written is in
@@ -47,11 +49,11 @@ sound_put book n p q sound is kept standing words =
       capacity = sound.capacity;
       numbered = numbered_put 1 book.pledges n q sound.numbered number low (omega (arith, high));
       standing = each_put IsStanding 1 book.pledges n q sound.standing standing;
-      written = each_put HasTextsAndWords 1 book.pledges n q sound.written (record { reference = subst IsUtf8 (sym kept.reference) before.reference; article = subst IsUtf8 (sym kept.article) before.article; secrets = words });
-      references = subst AreDistinct (sym (map-put (λ p. p.reference) 1 book.pledges n p q is kept.reference)) sound.references;
+      written = each_put HasTextsAndWords 1 book.pledges n q sound.written (record { reference = subst (λ (a : Agreement). IsUtf8 a.opening.reference) (sym kept.agreement) before.reference; article = subst (λ (a : Agreement). IsUtf8 a.opening.article) (sym kept.agreement) before.article; secrets = words });
+      references = subst AreDistinct (sym (map-put (λ p. p.agreement.opening.reference) 1 book.pledges n p q is (ap (λ (a : Agreement). a.opening.reference) kept.agreement))) sound.references;
       under = each_put (IsUnder book.terms) 1 book.pledges n q sound.under
-          (ap (terms_at book.terms) kept.version ∙ each_at (IsUnder book.terms) 1 book.pledges n p sound.under is ∙ ap Some (sym kept.terms));
-      versions = subst (DoNotFall 0) (sym (map-put (λ p. p.version) 1 book.pledges n p q is kept.version)) sound.versions;
+          (subst (λ (a : Agreement). terms_at book.terms a.version ≡ Some a.terms) (sym kept.agreement) (each_at (IsUnder book.terms) 1 book.pledges n p sound.under is));
+      versions = subst (DoNotFall 0) (sym (map-put (λ p. p.agreement.version) 1 book.pledges n p q is (ap (λ (a : Agreement). a.version) kept.agreement))) sound.versions;
       checked = sound.checked;
       terms = sound.terms;
       pledges = omega (arith, long, few);

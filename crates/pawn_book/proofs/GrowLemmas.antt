@@ -2,7 +2,7 @@
 use Rattle.std.proofs.Common.{◌≡◌, ℕ, List, [], ◌∷◌, ◌++◌, length, Some, None, Ok, Err, refl, ◌∙◌, ap, sym, subst, arith, append_assoc}
 use Rattle.std.specs.Prelude.{if◌then◌else◌, Option, Result, ◌==◌, Bool, true, false, map}
 use Rattle.std.proofs.lemmas.List.{append-nil}
-use Rattle.pawn_terms.specs.Terms.{TermsValue}
+use Rattle.pawn_terms.specs.declared.terms.Rates.{Rates}
 use Rattle.pawn_pledge.specs.declared.command.Stamp.{Stamp}
 use Rattle.pawn_pledge.specs.declared.record.Opening.{Opening}
 use Rattle.pawn_pledge.specs.Pledge.{PledgeValue}
@@ -10,7 +10,6 @@ use Rattle.pawn_pledge.specs.Step.{Answered, Changed, Judged, Refused, pledge_st
 use Rattle.pawn_pledge.specs.declared.command.Command.{Command}
 use Rattle.pawn_pledge.specs.declared.command.Done.{Done}
 use Rattle.pawn_pledge.specs.declared.receipt.Receipt.{Receipt}
-use Rattle.pawn_book.specs.Commands.{bearer_command, broker_command}
 use Rattle.pawn_book.specs.declared.request.Caller.{Caller}
 use Rattle.pawn_book.specs.declared.request.Caller.TheVariants.{Operator, Broker, Bearer}
 use Rattle.pawn_book.specs.declared.request.BrokerRequest.TheVariants.{PutTerms, TakePledge, OnPledge, Show}
@@ -20,7 +19,7 @@ use Rattle.pawn_book.specs.declared.refusal.Refusal.{Refusal}
 use Rattle.pawn_book.specs.declared.refusal.Refusal.TheVariants.{NoSuchReceipt, WindowFull}
 use Rattle.pawn_book.specs.declared.reply.Reply.TheVariants.{TermsPut, Opened}
 use Rattle.pawn_book.specs.declared.change.Change.TheVariants.{AddTerms, PutPledge}
-use Rattle.pawn_book.specs.BookStep.{BookValue, Shown, Outcome, Refuses, Says, Makes, are_terms, are_unknown, bearer_commands, book_after, broker_commands, confirmed_booking, is_window_full, judged_outcome, shown, windowed, book_step, first_receipt, head_of, held_out, is_book, is_opening, made, newest, next_terms, pledge_from, put_from, put_terms, take_pledge, taken_under, terms_at, with_reference, live_at, pledge_in}
+use Rattle.pawn_book.specs.BookStep.{BookValue, Shown, Outcome, Refuses, Says, Makes, are_rates, are_unknown, bearer_commands, book_after, broker_commands, confirmed_booking, is_window_full, judged_outcome, shown, windowed, book_step, first_receipt, head_of, held_out, is_book, is_opening, made, newest, next_terms, pledge_from, put_from, put_terms, take_pledge, taken_under, terms_at, with_reference, live_at, pledge_in}
 use Rattle.pawn_book.specs.Laws.{book_run}
 use Rattle.pawn_book.proofs.Sounds.{put_next}
 use Rattle.pawn_book.proofs.KeptLemmas.{AreKept, are_kept_on, are_kept_push, are_kept_put, are_kept_same, kept_moved}
@@ -32,7 +31,7 @@ pub record Grown (old new : BookValue) : Type 0 where
   pub key : new.key ≡ old.key
   pub name : new.name ≡ old.name
   pub capacity : new.capacity ≡ old.capacity
-  pub terms : (more : List TermsValue) × (new.terms ≡ old.terms ++ more)
+  pub terms : (more : List Rates) × (new.terms ≡ old.terms ++ more)
   pub pledges : AreKept old.pledges new.pledges
 
 pub grown_same : (book : BookValue) → Grown book book
@@ -57,11 +56,11 @@ grows_by : (book : BookValue) (test : Bool) (x y : Outcome) → GrowsTo book (bo
 grows_by book true x y f s = f
 grows_by book false x y f s = s
 
-put_terms_grows : (book : BookValue) (b : ℕ) (new : NewTerms) (o : Option TermsValue) → GrowsTo book (book_after (Some book) (put_terms book b new o))
-put_terms_grows book b new (Some terms) = grows_by book (are_terms terms new) _ _ (stays book) (stays book)
+put_terms_grows : (book : BookValue) (b : ℕ) (new : NewTerms) (o : Option Rates) → GrowsTo book (book_after (Some book) (put_terms book b new o))
+put_terms_grows book b new (Some terms) = grows_by book (are_rates terms new.rates) _ _ (stays book) (stays book)
 put_terms_grows book b new None = from (next_terms (length book.terms) new)
   where
-    from : (r : Result TermsValue Refusal) → GrowsTo book (book_after (Some book) (made r (λ terms. Makes (AddTerms b new.version terms) (TermsPut new.version))))
+    from : (r : Result Rates Refusal) → GrowsTo book (book_after (Some book) (made r (λ terms. Makes (AddTerms b new.version terms) (TermsPut new.version))))
     from (Err why) = stays book
     from (Ok terms) = (
       record book { terms = book.terms ++ terms ∷ [] },
@@ -71,20 +70,20 @@ put_terms_grows book b new None = from (next_terms (length book.terms) new)
 
 -- the list after the next pledge
 pub next_pledges : (book : BookValue) (opening : Opening) (stamp : Stamp) (p : PledgeValue) → taken_under (head_of book) opening stamp (newest book.terms) ≡ Ok p
-    → put_from 1 book.pledges p.number p ≡ book.pledges ++ p ∷ []
+    → put_from 1 book.pledges p.agreement.number p ≡ book.pledges ++ p ∷ []
 next_pledges book opening stamp p is =
-    let number = (taken_is (head_of book) opening stamp (newest book.terms) p is).0 in
-    put_next 1 book.pledges p.number p (omega (arith, number))
+    let number = (taken_is (head_of book) opening stamp (newest book.terms) p is).number in
+    put_next 1 book.pledges p.agreement.number p (omega (arith, number))
 
 take_pledge_grows : (book : BookValue) (b : ℕ) (opening : Opening) (stamp : Stamp) (o : Option PledgeValue) → GrowsTo book (book_after (Some book) (take_pledge book b opening stamp o))
-take_pledge_grows book b opening stamp (Some p) = grows_by book (is_opening p opening) _ _ (stays book) (stays book)
+take_pledge_grows book b opening stamp (Some p) = grows_by book (is_opening p.agreement.opening opening) _ _ (stays book) (stays book)
 take_pledge_grows book b opening stamp None = from (taken_under (head_of book) opening stamp (newest book.terms)) refl
   where
     from : (r : Result PledgeValue Refusal) → taken_under (head_of book) opening stamp (newest book.terms) ≡ r
-        → GrowsTo book (book_after (Some book) (made r (λ p. Makes (PutPledge b p.number p) (Opened (first_receipt p)))))
+        → GrowsTo book (book_after (Some book) (made r (λ p. Makes (PutPledge b p.agreement.number p) (Opened (first_receipt p)))))
     from (Err why) is = stays book
     from (Ok p) is = (
-      record book { pledges = put_from 1 book.pledges p.number p },
+      record book { pledges = put_from 1 book.pledges p.agreement.number p },
       refl,
       record { key = refl; name = refl; capacity = refl; terms = ([], sym (append-nil book.terms)); pledges = subst (AreKept book.pledges) (sym (next_pledges book opening stamp p is)) (are_kept_push book.pledges (p ∷ [])) },
     )
@@ -141,10 +140,10 @@ step_grows book operator b stamp (Broker key (PutTerms new)) =
 step_grows book operator b stamp (Broker key (TakePledge opening)) =
     grows_by book (book.key == key) _ _ (take_pledge_grows book b opening stamp (with_reference book.pledges opening.reference)) (stays book)
 step_grows book operator b stamp (Broker key (OnPledge n command)) =
-    grows_by book (book.key == key) _ _ (number_grows book b n stamp (broker_command command) (pledge_from 1 book.pledges n) refl) (stays book)
+    grows_by book (book.key == key) _ _ (number_grows book b n stamp command (pledge_from 1 book.pledges n) refl) (stays book)
 step_grows book operator b stamp (Broker key (Show n)) = grows_by book (book.key == key) _ _ (shown_stays book stamp (pledge_from 1 book.pledges n)) (stays book)
 step_grows book operator b stamp (Bearer (Held receipts)) = held_stays book stamp (map (live_at (pledge_in (Some book))) receipts)
-step_grows book operator b stamp (Bearer (OnReceipt r command)) = receipt_grows book b r stamp (bearer_command command) (live_at (pledge_in (Some book)) r) refl
+step_grows book operator b stamp (Bearer (OnReceipt r command)) = receipt_grows book b r stamp command (live_at (pledge_in (Some book)) r) refl
 
 pub run_grows : (base book : BookValue) (operator b : ℕ) (later : List (Stamp × Caller)) → Grown base book → GrowsTo base (book_run (Some book) operator b later)
 run_grows base book operator b [] grown = (book, refl, grown)

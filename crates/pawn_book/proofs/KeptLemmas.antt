@@ -5,10 +5,11 @@ use Rattle.pawn_terms.specs.Calendar.{IsStampDay}
 use Rattle.pawn_pledge.specs.declared.command.Command.{Command}
 use Rattle.pawn_pledge.specs.declared.command.Done.{Done}
 use Rattle.pawn_pledge.specs.declared.command.Stamp.{Stamp}
+use Rattle.pawn_pledge.specs.declared.record.Agreement.{Agreement}
 use Rattle.pawn_pledge.specs.Pledge.{PledgeValue}
-use Rattle.pawn_pledge.specs.Replayable.{IsCommand, IsStanding}
+use Rattle.pawn_pledge.specs.Commands.{IsCommand}
+use Rattle.pawn_pledge.specs.Replayable.{IsStanding}
 use Rattle.pawn_pledge.specs.Step.{Changed, pledge_step}
-use Rattle.pawn_pledge.specs.Growth.{Grows}
 use Rattle.pawn_pledge.proofs.Growth.{grows-moved, grows-same, grows-then}
 use Rattle.pawn_pledge.proofs.Moves.{Asking, Declaring, Entering, Extending, Holding, Marking, Move, Redeeming, Selling, pledge_moves}
 use Rattle.pawn_pledge.proofs.Receipts.{terms-moved}
@@ -17,71 +18,38 @@ use Rattle.pawn_book.specs.BookStep.{is_text, pledge_from, put_from, with_refere
 use Rattle.pawn_book.specs.Changes.{Continues}
 use Rattle.pawn_book.proofs.Sounds.{absurd_none, some_is}
 
-kept_by : (p q : PledgeValue) → q.number ≡ p.number → q.reference ≡ p.reference → q.article ≡ p.article → q.kind ≡ p.kind → q.taken ≡ p.taken → q.agreed ≡ p.agreed → q.five_days ≡ p.five_days → q.version ≡ p.version → q.terms ≡ p.terms
-    → Grows p q → Continues p q
-kept_by p q number reference article kind taken agreed five_days version terms lists = record {
-  number = number;
-  reference = reference;
-  article = article;
-  kind = kind;
-  taken = taken;
-  agreed = agreed;
-  five_days = five_days;
-  version = version;
-  terms = terms;
-  lists = lists;
-}
-
 pub kept_same : (p : PledgeValue) → Continues p p
-kept_same p = kept_by p p refl refl refl refl refl refl refl refl refl (grows-same p)
+kept_same p = record { agreement = refl; lists = grows-same p }
 
 pub kept_on : (p q r : PledgeValue) → Continues p q → Continues q r → Continues p r
-kept_on p q r f s = record {
-  number = s.number ∙ f.number;
-  reference = s.reference ∙ f.reference;
-  article = s.article ∙ f.article;
-  kind = s.kind ∙ f.kind;
-  taken = s.taken ∙ f.taken;
-  agreed = s.agreed ∙ f.agreed;
-  five_days = s.five_days ∙ f.five_days;
-  version = s.version ∙ f.version;
-  terms = s.terms ∙ f.terms;
-  lists = grows-then p q r f.lists s.lists;
-}
+kept_on p q r f s = record { agreement = s.agreement ∙ f.agreement; lists = grows-then p q r f.lists s.lists }
 
 -- no command takes any of it away
 pub kept_moved : (p q : PledgeValue) (stamp : Stamp) (c : Command) (d : Done) → pledge_step p stamp c ≡ Changed q d → Continues p q
-kept_moved p q stamp c d h = from (pledge_moves p q stamp c d h).1
+kept_moved p q stamp c d h = let m = (pledge_moves p q stamp c d h).1 in record { agreement = agreed m; lists = grows-moved p q c stamp.word stamp.day m }
   where
-    -- what a move sets is not what was agreed
-    set_on : (r : PledgeValue) → q ≡ r → (Grows p r → Continues p r) → Grows p q → Continues p q
-    set_on r is kept lists = subst (Continues p) (sym is) (kept (subst (Grows p) is lists))
-
-    from : Move p stamp.day c q → Continues p q
-    from m = by m (grows-moved p q c stamp.day m)
-      where
-        by : Move p stamp.day c q → Grows p q → Continues p q
-        by (Entering sort pence ok late few drawn is) lists = set_on _ is (kept_by p _ refl refl refl refl refl refl refl refl refl) lists
-        by (Holding flag new is) lists = set_on _ is (kept_by p _ refl refl refl refl refl refl refl refl refl) lists
-        by (Declaring paper word ok is) lists = set_on _ is (kept_by p _ refl refl refl refl refl refl refl refl refl) lists
-        by (Asking b later live small state new named is) lists = set_on _ is (kept_by p _ refl refl refl refl refl refl refl refl refl) lists
-        by (Marking b state at new is) lists = set_on _ is (kept_by p _ refl refl refl refl refl refl refl refl refl) lists
-        by (Redeeming paid free total is) lists = set_on _ is (kept_by p _ refl refl refl refl refl refl refl refl refl) lists
-        by (Selling net status small is) lists = set_on _ is (kept_by p _ refl refl refl refl refl refl refl refl refl) lists
-        by (Extending until inside longer few named is) lists = set_on _ is (kept_by p _ refl refl refl refl refl refl refl refl refl) lists
+    agreed : Move p stamp.day stamp.word c q → q.agreement ≡ p.agreement
+    agreed (Entering sort pence ok late few drawn is) = ap (λ (r : PledgeValue). r.agreement) is
+    agreed (Holding flag new is) = ap (λ (r : PledgeValue). r.agreement) is
+    agreed (Declaring paper ok is) = ap (λ (r : PledgeValue). r.agreement) is
+    agreed (Asking b later live small state new named is) = ap (λ (r : PledgeValue). r.agreement) is
+    agreed (Marking b state at new is) = ap (λ (r : PledgeValue). r.agreement) is
+    agreed (Redeeming paid free total is) = ap (λ (r : PledgeValue). r.agreement) is
+    agreed (Selling net status small is) = ap (λ (r : PledgeValue). r.agreement) is
+    agreed (Extending until inside longer few named is) = ap (λ (r : PledgeValue). r.agreement) is
 
 -- a pledge stays one that can stand
 pub stands_moved : (p q : PledgeValue) (stamp : Stamp) (c : Command) (d : Done) → IsStampDay stamp.day → IsCommand c → IsStanding p → pledge_step p stamp c ≡ Changed q d → IsStanding q
 stands_moved p q stamp c d day given h step =
     let g = pledge_moves p q stamp c d step in
     record {
-      terms = terms-moved p q c stamp.day h.terms g.1;
-      replayable = stays-moved p q c stamp.day h.replayable g.0 g.1;
-      within = within-moved p q c stamp.day day.1 given h.within g.1;
+      terms = terms-moved p q c stamp.word stamp.day h.terms g.1;
+      replayable = stays-moved p q c stamp.word stamp.day h.replayable g.0 g.1;
+      within = within-moved p q c stamp.word stamp.day day.1 given h.within g.1;
     }
 
 pub differs_moved : (p q : PledgeValue) (stamp : Stamp) (c : Command) (d : Done) → pledge_step p stamp c ≡ Changed q d → q ≡ p → ⊥
-differs_moved p q stamp c d step = let g = pledge_moves p q stamp c d step in differs-moved p q c stamp.day g.0 g.1
+differs_moved p q stamp c d step = let g = pledge_moves p q stamp c d step in differs-moved p q c stamp.word stamp.day g.0 g.1
 
 -- each pledge of a list is kept in another, at its place
 abbrev pub AreKept : List PledgeValue → List PledgeValue → Type 0
@@ -128,8 +96,8 @@ pub reference_kept : (ps qs : List PledgeValue) (reference : List ℕ) (p : Pled
 reference_kept [] qs reference p all is = absurd_none is
 reference_kept (r ∷ ps) [] reference p all is = absurd all
 reference_kept (r ∷ ps) (s ∷ qs) reference p all is =
-    let same : is_text s.reference reference ≡ is_text r.reference reference = ap (λ t. is_text t reference) all.0.reference in
-    elim (is_text r.reference reference) as (λ v. is_text s.reference reference ≡ v → (if v then Some r else with_reference ps reference) ≡ Some p
+    let same : is_text s.agreement.opening.reference reference ≡ is_text r.agreement.opening.reference reference = ap (λ (a : Agreement). is_text a.opening.reference reference) all.0.agreement in
+    elim (is_text r.agreement.opening.reference reference) as (λ v. is_text s.agreement.opening.reference reference ≡ v → (if v then Some r else with_reference ps reference) ≡ Some p
     → (q : PledgeValue) × (with_reference (s ∷ qs) reference ≡ Some q) × Continues p q) [
       | true ↦ λ as_there here. (s, ap (λ v. if v then Some s else with_reference qs reference) as_there, subst (λ (x : PledgeValue). Continues x s) (some_is r p here) all.0)
       | false ↦ λ as_there there.

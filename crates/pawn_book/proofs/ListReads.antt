@@ -10,7 +10,7 @@ use Rattle.pawn_pledge.specs.Pledge.{PledgeValue}
 use Rattle.pawn_book.specs.BookStep.{BookValue, made_book, pledge_from}
 use Rattle.std.proofs.lemmas.List.{get_or-map, length-map}
 use Rattle.std.proofs.Math.Seq.{map-set_same}
-use Rattle.pawn_terms.specs.Terms.{TermsValue}
+use Rattle.pawn_terms.specs.declared.terms.Rates.{Rates}
 use Rattle.pawn_book.specs.declared.request.NewBook.{NewBook}
 use Rattle.pawn_book.specs.declared.change.Imported.{Imported}
 use Rattle.pawn_book.specs.declared.list.Kept.{Kept}
@@ -149,19 +149,19 @@ pub kept_same : (ks : List Kept) (i : ℕ) (k next : Kept) → k ≡ get_or ks i
 kept_same ks i k next is same = map-set_same entry_of ks i next k (same ∙ ap entry_of is)
 
 -- a book as it is made
-pub entry_made : (b : ℕ) (new made : NewBook) (terms : List TermsValue) (pledges : List PledgeValue) → made ≡ new → terms ≡ [] → pledges ≡ []
+pub entry_made : (b : ℕ) (new made : NewBook) (terms : List Rates) (pledges : List PledgeValue) → made ≡ new → terms ≡ [] → pledges ≡ []
     → ◌≡◌ {A = ℕ × BookValue} (b, record { key = made.key; name = made.name; capacity = made.capacity; terms = terms; pledges = pledges; imported = None }) (b, made_book new)
 entry_made b new made terms pledges same no_terms no_pledges =
-    let f : NewBook → List TermsValue → List PledgeValue → ℕ × BookValue =
+    let f : NewBook → List Rates → List PledgeValue → ℕ × BookValue =
     λ m t p. (b, record { key = m.key; name = m.name; capacity = m.capacity; terms = t; pledges = p; imported = None }) in
     ap (λ m. f m terms pledges) same ∙ ap (λ t. f new t pledges) no_terms ∙ ap (λ p. f new [] p) no_pledges
 
 -- a book of the list, by its parts
-pub entry_is : (k : Kept) (n : ℕ) (m : NewBook) (ts : List TermsValue) (ps : List PledgeValue) (i : Option Imported)
+pub entry_is : (k : Kept) (n : ℕ) (m : NewBook) (ts : List Rates) (ps : List PledgeValue) (i : Option Imported)
     → k.number ≡ n → k.made ≡ m → k.terms.items ≡ ts → k.pledges.items ≡ ps → k.imported ≡ i
     → entry_of k ≡ (n, record { key = m.key; name = m.name; capacity = m.capacity; terms = ts; pledges = ps; imported = i })
 entry_is k n m ts ps i number made terms pledges imported =
-    let f : ℕ → NewBook → List TermsValue → List PledgeValue → Option Imported → ℕ × BookValue =
+    let f : ℕ → NewBook → List Rates → List PledgeValue → Option Imported → ℕ × BookValue =
     λ n m ts ps i. (n, record { key = m.key; name = m.name; capacity = m.capacity; terms = ts; pledges = ps; imported = i }) in
     ap (λ x. f x k.made k.terms.items k.pledges.items k.imported) number ∙ ap (λ x. f n x k.terms.items k.pledges.items k.imported) made
     ∙ ap (λ x. f n m x k.pledges.items k.imported) terms ∙ ap (λ x. f n m ts x k.imported) pledges ∙ ap (λ x. f n m ts ps x) imported

@@ -5,7 +5,7 @@ use Rattle.std.specs.Ordering.{nat_cmp}
 use Rattle.std.specs.FinMap.{get, empty, entries, from_entries, get-empty, len-empty, len-entries}
 use Rattle.std.proofs.lemmas.Bool.Decides.{nat_tests}
 use Rattle.std.proofs.lemmas.List.Sums.{sum_by-cons}
-use Rattle.pawn_terms.specs.Terms.{TermsValue}
+use Rattle.pawn_terms.specs.declared.terms.Rates.{Rates}
 use Rattle.pawn_pledge.specs.Pledge.{PledgeValue}
 use Rattle.pawn_book.specs.declared.request.NewBook.{NewBook}
 use Rattle.pawn_book.specs.declared.change.Change.{Change}
@@ -67,7 +67,7 @@ set_is : (h : Host) (b : ℕ) (at book : BookValue) (change : Option BookValue �
 set_is h b at book change is made = ap (with_book h b) (ap change is ∙ made)
 
 -- one row more for a version of terms
-pub terms_rows : (h : Host) (b : ℕ) (at : BookValue) (version : ℕ) (terms : TermsValue) → get h.books b ≡ Some at → rows (changed h (AddTerms b version terms)) ≡ rows h + 1
+pub terms_rows : (h : Host) (b : ℕ) (at : BookValue) (version : ℕ) (terms : Rates) → get h.books b ≡ Some at → rows (changed h (AddTerms b version terms)) ≡ rows h + 1
 terms_rows h b at version terms is =
     let book : BookValue = record at { terms = at.terms ++ terms ∷ [] } in
     let same : changed h (AddTerms b version terms) ≡ with_book h b (Some book) = set_is h b at book (λ o. changed_book o (AddTerms b version terms)) is refl in
@@ -154,7 +154,7 @@ make_full k old count b new kept is can over =
     (refl, omega (arith, more, counted, over))) can
 
 -- the next terms, put at the book's place
-pub terms_saved : (k old next : Books) (count b version : ℕ) (terms : TermsValue) (i : ℕ) (at : BookValue) → IsKept k count → k ≡ old → CanSave (host_of old) (AddTerms b version terms)
+pub terms_saved : (k old next : Books) (count b version : ℕ) (terms : Rates) (i : ℕ) (at : BookValue) → IsKept k count → k ≡ old → CanSave (host_of old) (AddTerms b version terms)
     → IsPlace k.books b i → book_at k.books b ≡ Some at → next.books ≡ set k.books i (b, record at { terms = at.terms ++ terms ∷ [] }) → next.limit ≡ k.limit → count + 1 ≤ k.limit
     → IsKept next (count + 1) × Saves old (AddTerms b version terms) (Ok tt) next
 terms_saved k old next count b version terms i at kept is can place stands list limit room =
@@ -171,7 +171,7 @@ terms_saved k old next count b version terms i at kept is can place stands list 
     let count_is : count + 1 ≡ rows (changed (host_of k) (AddTerms b version terms)) = omega (arith, more, counted) in
     (kept_changed k next (count + 1) (AddTerms b version terms) kept.limit limit same can.sound count_is room, (same, omega (arith, count_is, room)))) can
 
-pub terms_full : (k old : Books) (count b version : ℕ) (terms : TermsValue) → IsKept k count → k ≡ old → CanSave (host_of old) (AddTerms b version terms) → k.limit < count + 1
+pub terms_full : (k old : Books) (count b version : ℕ) (terms : Rates) → IsKept k count → k ≡ old → CanSave (host_of old) (AddTerms b version terms) → k.limit < count + 1
     → Saves old (AddTerms b version terms) (Err Full) old
 terms_full k old count b version terms kept is can over =
     let P : Books → Type 0 = λ old. CanSave (host_of old) (AddTerms b version terms) → Saves old (AddTerms b version terms) (Err Full) old in

@@ -1,7 +1,7 @@
 -- How a change came about.
 use Rattle.std.proofs.Common.{◌≡◌, ℕ, List, length, Some, None, Ok, Err, refl, ap, sym}
 use Rattle.std.specs.Prelude.{if◌then◌else◌, Option, Result, ◌==◌, Bool, true, false, map}
-use Rattle.pawn_terms.specs.Terms.{TermsValue}
+use Rattle.pawn_terms.specs.declared.terms.Rates.{Rates}
 use Rattle.pawn_pledge.specs.declared.command.Stamp.{Stamp}
 use Rattle.pawn_pledge.specs.declared.record.Opening.{Opening}
 use Rattle.pawn_pledge.specs.Pledge.{PledgeValue}
@@ -9,7 +9,6 @@ use Rattle.pawn_pledge.specs.Step.{Answered, Changed, Judged, Refused, pledge_st
 use Rattle.pawn_pledge.specs.declared.command.Command.{Command}
 use Rattle.pawn_pledge.specs.declared.command.Done.{Done}
 use Rattle.pawn_pledge.specs.declared.receipt.Receipt.{Receipt}
-use Rattle.pawn_book.specs.Commands.{bearer_command, broker_command}
 use Rattle.pawn_book.specs.declared.request.Caller.{Caller}
 use Rattle.pawn_book.specs.declared.request.Caller.TheVariants.{Operator, Broker, Bearer}
 use Rattle.pawn_book.specs.declared.request.BrokerRequest.TheVariants.{PutTerms, TakePledge, OnPledge, Show}
@@ -22,7 +21,7 @@ use Rattle.pawn_book.specs.declared.reply.Reply.{Reply}
 use Rattle.pawn_book.specs.declared.reply.Reply.TheVariants.{BookMade, TermsPut, Opened, Commanded}
 use Rattle.pawn_book.specs.declared.change.Change.{Change}
 use Rattle.pawn_book.specs.declared.change.Change.TheVariants.{MakeBook, AddTerms, PutPledge}
-use Rattle.pawn_book.specs.BookStep.{BookValue, Out, Shown, Outcome, Refuses, Says, Makes, are_terms, are_unknown, bearer_commands, broker_commands, confirmed_booking, is_window_full, judged_outcome, shown, windowed, book_step, first_receipt, head_of, held_out, is_book, is_opening, made, newest, next_terms, pledge_from, put_terms, take_pledge, taken_under, terms_at, with_reference, live_at, pledge_in}
+use Rattle.pawn_book.specs.BookStep.{BookValue, Out, Shown, Outcome, Refuses, Says, Makes, are_rates, are_unknown, bearer_commands, broker_commands, confirmed_booking, is_window_full, judged_outcome, shown, windowed, book_step, first_receipt, head_of, held_out, is_book, is_opening, made, newest, next_terms, pledge_from, put_terms, take_pledge, taken_under, terms_at, with_reference, live_at, pledge_in}
 use Rattle.pawn_book.specs.Laws.{IsMaking}
 use Rattle.pawn_book.proofs.CommandPlans.{live_is}
 
@@ -51,12 +50,12 @@ pub record DidOn (book : BookValue) (b n : ℕ) (stamp : Stamp) (command : Comma
 pub data MadeBy (before : Option BookValue) (operator b : ℕ) (stamp : Stamp) (caller : Caller) (change : Change) (reply : Reply) : Type 0 where
   BookIs : (key : ℕ) (new : NewBook) → caller ≡ Operator key new → (key == operator) ≡ true → before ≡ None
       → change ≡ MakeBook b new → reply ≡ BookMade b → MadeBy before operator b stamp caller change reply
-  TermsAre : (key : ℕ) (new : NewTerms) (book : BookValue) (terms : TermsValue) → caller ≡ Broker key (PutTerms new) → before ≡ Some book → (book.key == key) ≡ true
+  TermsAre : (key : ℕ) (new : NewTerms) (book : BookValue) (terms : Rates) → caller ≡ Broker key (PutTerms new) → before ≡ Some book → (book.key == key) ≡ true
       → terms_at book.terms new.version ≡ None → next_terms (length book.terms) new ≡ Ok terms
       → change ≡ AddTerms b new.version terms → reply ≡ TermsPut new.version → MadeBy before operator b stamp caller change reply
   PledgeIs : (key : ℕ) (opening : Opening) (book : BookValue) (p : PledgeValue) → caller ≡ Broker key (TakePledge opening) → before ≡ Some book → (book.key == key) ≡ true
       → with_reference book.pledges opening.reference ≡ None → taken_under (head_of book) opening stamp (newest book.terms) ≡ Ok p
-      → change ≡ PutPledge b p.number p → reply ≡ Opened (first_receipt p) → MadeBy before operator b stamp caller change reply
+      → change ≡ PutPledge b p.agreement.number p → reply ≡ Opened (first_receipt p) → MadeBy before operator b stamp caller change reply
   CommandIs : (book : BookValue) (n : ℕ) (command : Command) → before ≡ Some book → (IsMaking caller → ⊥) → DidOn book b n stamp command change reply
       → MadeBy before operator b stamp caller change reply
 
@@ -131,8 +130,8 @@ made_by None operator b stamp (Broker key asked) change reply is = cc is
 made_by (Some book) operator b stamp (Broker key (PutTerms new)) change reply is =
     let passed = if_makes (book.key == key) _ _ change reply is in from (terms_at book.terms new.version) refl passed.1
   where
-    from : (o : Option TermsValue) → terms_at book.terms new.version ≡ o → put_terms book b new o ≡ Makes change reply → MadeBy (Some book) operator b stamp (Broker key (PutTerms new)) change reply
-    from (Some terms) at is = told_again (are_terms terms new) _ _ change reply is
+    from : (o : Option Rates) → terms_at book.terms new.version ≡ o → put_terms book b new o ≡ Makes change reply → MadeBy (Some book) operator b stamp (Broker key (PutTerms new)) change reply
+    from (Some terms) at is = told_again (are_rates terms new.rates) _ _ change reply is
     from None at made_is =
         let ok = made_ok (next_terms (length book.terms) new) _ change reply made_is in
         TermsAre key new book ok.0 refl refl (if_makes (book.key == key) _ _ change reply is).0 at ok.1 (same_change _ change _ reply ok.2) (same_reply _ change _ reply ok.2)
@@ -141,20 +140,20 @@ made_by (Some book) operator b stamp (Broker key (TakePledge opening)) change re
   where
     from : (o : Option PledgeValue) → with_reference book.pledges opening.reference ≡ o → take_pledge book b opening stamp o ≡ Makes change reply
         → MadeBy (Some book) operator b stamp (Broker key (TakePledge opening)) change reply
-    from (Some p) at is = told_again (is_opening p opening) _ _ change reply is
+    from (Some p) at is = told_again (is_opening p.agreement.opening opening) _ _ change reply is
     from None at made_is =
         let ok = made_ok (taken_under (head_of book) opening stamp (newest book.terms)) _ change reply made_is in
         PledgeIs key opening book ok.0 refl refl (if_makes (book.key == key) _ _ change reply is).0 at ok.1 (same_change _ change _ reply ok.2) (same_reply _ change _ reply ok.2)
 made_by (Some book) operator b stamp (Broker key (OnPledge n command)) change reply is =
     let passed = if_makes (book.key == key) _ _ change reply is in
-    CommandIs book n (broker_command command) refl (λ making. making)
-    (number_made book b n stamp (broker_command command) (pledge_from 1 book.pledges n) change reply refl passed.1)
+    CommandIs book n command refl (λ making. making)
+    (number_made book b n stamp command (pledge_from 1 book.pledges n) change reply refl passed.1)
 made_by (Some book) operator b stamp (Broker key (Show n)) change reply is =
     let passed = if_makes (book.key == key) _ _ change reply is in shown_makes stamp (pledge_from 1 book.pledges n) change reply passed.1
 made_by None operator b stamp (Bearer (OnReceipt r command)) change reply is = cc is
 made_by (Some book) operator b stamp (Bearer (OnReceipt r command)) change reply is =
-    CommandIs book r.number (bearer_command command) refl (λ making. making)
-    (receipt_made book b r stamp (bearer_command command) (live_at (pledge_in (Some book)) r) change reply refl is)
+    CommandIs book r.number command refl (λ making. making)
+    (receipt_made book b r stamp command (live_at (pledge_in (Some book)) r) change reply refl is)
 made_by before operator b stamp (Bearer (Held receipts)) change reply is = held_makes (map (live_at (pledge_in before)) receipts) is
   where
     held_makes : (shown : List (Option PledgeValue)) → held_out stamp shown ≡ Makes change reply → MadeBy before operator b stamp (Bearer (Held receipts)) change reply

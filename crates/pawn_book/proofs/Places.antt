@@ -42,13 +42,13 @@ put_from_place k (r ∷ ps) (suc i) n p less is =
 
 -- the pledge of a reference, searched for from the front
 pub reference_here : (ps : List PledgeValue) (reference : List ℕ) (i : ℕ) (p : PledgeValue) → i < length ps → p ≡ get_or ps i p
-    → is_text p.reference reference ≡ true → with_reference (drop i ps) reference ≡ Some p
+    → is_text p.agreement.opening.reference reference ≡ true → with_reference (drop i ps) reference ≡ Some p
 reference_here ps reference i p less is hit =
     ap (λ qs. with_reference qs reference) (drop_more ps i p less ∙ ap (λ q. q ∷ drop (i + 1) ps) (sym is))
     ∙ ap (λ v. if v then Some p else with_reference (drop (i + 1) ps) reference) hit
 
 pub reference_next : (ps : List PledgeValue) (reference : List ℕ) (i : ℕ) (p : PledgeValue) → i < length ps → p ≡ get_or ps i p
-    → is_text p.reference reference ≡ false → with_reference (drop i ps) reference ≡ with_reference (drop (i + 1) ps) reference
+    → is_text p.agreement.opening.reference reference ≡ false → with_reference (drop i ps) reference ≡ with_reference (drop (i + 1) ps) reference
 reference_next ps reference i p less is miss =
     ap (λ qs. with_reference qs reference) (drop_more ps i p less ∙ ap (λ q. q ∷ drop (i + 1) ps) (sym is))
     ∙ ap (λ v. if v then Some p else with_reference (drop (i + 1) ps) reference) miss

@@ -4,7 +4,8 @@ use Rattle.std.specs.Prelude.{if◌then◌else◌, Option, Result, ◌==◌, Boo
 use Rattle.std.specs.FinMap.{get}
 use Rattle.std.specs.Str.{IsUtf8}
 use Rattle.std.proofs.lemmas.Bool.Decides.{nat_tests}
-use Rattle.pawn_terms.specs.Terms.{TermsValue, IsChecked}
+use Rattle.pawn_terms.specs.declared.terms.Rates.{Rates}
+use Rattle.pawn_terms.specs.Terms.{IsChecked}
 use Rattle.pawn_pledge.specs.Number.{IsNumber}
 use Rattle.pawn_pledge.specs.declared.record.Issued.{Issued}
 use Rattle.pawn_pledge.specs.Pledge.{PledgeValue}
@@ -50,7 +51,7 @@ book_plans h b new number key utf8 name capacity sound none =
     (ap (λ o. created o b new) none, (refl, record { follows = none; sound = sound_with h b (made_book new) sound.books (number, sound_made new key utf8 name capacity) }))
 
 -- the next version of terms is added
-pub terms_plans : (h : Host) (b : ℕ) (at : BookValue) (new : NewTerms) (terms : TermsValue) → IsSound h → get h.books b ≡ Some at
+pub terms_plans : (h : Host) (b : ℕ) (at : BookValue) (new : NewTerms) (terms : Rates) → IsSound h → get h.books b ≡ Some at
     → terms_at at.terms new.version ≡ None → next_terms (length at.terms) new ≡ Ok terms → new.version ≡ length at.terms + 1 → length at.terms < most_terms → IsChecked terms
     → Plans h b (put_terms at b new (terms_at at.terms new.version)) (Ok (record { change = Some (AddTerms b new.version terms); reply = TermsPut new.version }))
 terms_plans h b at new terms sound is none answer version few checked =
@@ -71,12 +72,12 @@ terms_plans h b at new terms sound is none answer version few checked =
 pub pledge_plans : (h : Host) (b : ℕ) (at : BookValue) (opening : Opening) (stamp : Stamp) (p : PledgeValue) → IsSound h → get h.books b ≡ Some at
     → with_reference at.pledges opening.reference ≡ None → taken_under (head_of at) opening stamp (newest at.terms) ≡ Ok p
     → IsNext at p → IsStanding p → HasTextsAndWords p
-    → Plans h b (take_pledge at b opening stamp (with_reference at.pledges opening.reference)) (Ok (record { change = Some (PutPledge b p.number p); reply = Opened (first_receipt p) }))
+    → Plans h b (take_pledge at b opening stamp (with_reference at.pledges opening.reference)) (Ok (record { change = Some (PutPledge b p.agreement.number p); reply = Opened (first_receipt p) }))
 pledge_plans h b at opening stamp p sound is none answer next standing written =
-    let book : BookValue = record at { pledges = put_from 1 at.pledges p.number p } in
-    let same : changed h (PutPledge b p.number p) ≡ with_book h b (Some book) =
-    changed_is h b (PutPledge b p.number p) book refl (ap (λ o. changed_book o (PutPledge b p.number p)) is) in (
-      ap (take_pledge at b opening stamp) none ∙ ap (λ r. made r (λ p. Makes (PutPledge b p.number p) (Opened (first_receipt p)))) answer,
+    let book : BookValue = record at { pledges = put_from 1 at.pledges p.agreement.number p } in
+    let same : changed h (PutPledge b p.agreement.number p) ≡ with_book h b (Some book) =
+    changed_is h b (PutPledge b p.agreement.number p) book refl (ap (λ o. changed_book o (PutPledge b p.agreement.number p)) is) in (
+      ap (take_pledge at b opening stamp) none ∙ ap (λ r. made r (λ p. Makes (PutPledge b p.agreement.number p) (Opened (first_receipt p)))) answer,
       (
         refl,
         record {
@@ -88,21 +89,21 @@ pledge_plans h b at opening stamp p sound is none answer next standing written =
 
 -- a pledge that is found by its reference stands under its number
 reference_from : (k : ℕ) (ps : List PledgeValue) (reference : List ℕ) (p : PledgeValue) → AreNumberedFrom k ps → with_reference ps reference ≡ Some p
-    → (k ≤ p.number) × (pledge_from k ps p.number ≡ Some p)
+    → (k ≤ p.agreement.number) × (pledge_from k ps p.agreement.number ≡ Some p)
 reference_from k [] reference p numbered is = absurd_none is
 reference_from k (r ∷ ps) reference p numbered is =
-    elim (is_text r.reference reference) as (λ v. (if v then Some r else with_reference ps reference) ≡ Some p → (k ≤ p.number) × (pledge_from k (r ∷ ps) p.number ≡ Some p)) [
+    elim (is_text r.agreement.opening.reference reference) as (λ v. (if v then Some r else with_reference ps reference) ≡ Some p → (k ≤ p.agreement.number) × (pledge_from k (r ∷ ps) p.agreement.number ≡ Some p)) [
       | true ↦ λ here.
           let same = some_is r p here in
-          let at_k : p.number ≡ k = ap (λ (q : PledgeValue). q.number) (sym same) ∙ numbered.0 in
-          let yes : (p.number == k) ≡ true = grind (arith, nat_tests, at_k) in
-          (omega (arith, at_k), ap (λ v. if v then Some r else pledge_from (k + 1) ps p.number) yes ∙ here)
+          let at_k : p.agreement.number ≡ k = ap (λ (q : PledgeValue). q.agreement.number) (sym same) ∙ numbered.0 in
+          let yes : (p.agreement.number == k) ≡ true = grind (arith, nat_tests, at_k) in
+          (omega (arith, at_k), ap (λ v. if v then Some r else pledge_from (k + 1) ps p.agreement.number) yes ∙ here)
       | false ↦ λ there.
           let rest = reference_from (k + 1) ps reference p numbered.1 there in
-          let past : k + 1 ≤ p.number = rest.0 in
-          let apart : p.number ≢ k = λ same. absurd (omega (arith, same, past)) in
-          let no : (p.number == k) ≡ false = grind (arith, nat_tests, apart) in
-          (omega (arith, past), ap (λ v. if v then Some r else pledge_from (k + 1) ps p.number) no ∙ rest.1)
+          let past : k + 1 ≤ p.agreement.number = rest.0 in
+          let apart : p.agreement.number ≢ k = λ same. absurd (omega (arith, same, past)) in
+          let no : (p.agreement.number == k) ≡ false = grind (arith, nat_tests, apart) in
+          (omega (arith, past), ap (λ v. if v then Some r else pledge_from (k + 1) ps p.agreement.number) no ∙ rest.1)
     ] is
 
 -- the number of a reference leads to its pledge
@@ -110,11 +111,11 @@ pub found_by_number : (h : Host) (b n : ℕ) (reference : List ℕ) → IsSound 
     → pledge_in (get h.books b) n ≡ with_reference (pledges_of (get h.books b)) reference
 found_by_number h b n reference sound is = from (get h.books b) refl is
   where
-    at : (book : BookValue) → AreNumberedFrom 1 book.pledges → (o : Option PledgeValue) → with_reference book.pledges reference ≡ o → Some n ≡ option_map (λ p. p.number) o
+    at : (book : BookValue) → AreNumberedFrom 1 book.pledges → (o : Option PledgeValue) → with_reference book.pledges reference ≡ o → Some n ≡ option_map (λ p. p.agreement.number) o
         → pledge_from 1 book.pledges n ≡ o
     at book numbered None e is = absurd_none (sym is)
     at book numbered (Some p) e is =
-        let same : n ≡ p.number = some_is n p.number is in
+        let same : n ≡ p.agreement.number = some_is n p.agreement.number is in
         ap (pledge_from 1 book.pledges) same ∙ (reference_from 1 book.pledges reference p numbered e).1
 
     from : (o : Option BookValue) → get h.books b ≡ o → Some n ≡ number_of o reference → pledge_in o n ≡ with_reference (pledges_of o) reference
@@ -125,12 +126,12 @@ found_by_number h b n reference sound is = from (get h.books b) refl is
 pub no_number : (h : Host) (b : ℕ) (reference : List ℕ) → None ≡ number_of (get h.books b) reference → with_reference (pledges_of (get h.books b)) reference ≡ None
 no_number h b reference is = from (with_reference (pledges_of (get h.books b)) reference) is
   where
-    from : (o : Option PledgeValue) → None ≡ option_map (λ p. p.number) o → o ≡ None
+    from : (o : Option PledgeValue) → None ≡ option_map (λ p. p.agreement.number) o → o ≡ None
     from None is = refl
     from (Some p) is = absurd_none is
 
 -- terms that are not refused have the next version, and there is room for them
-pub next_is : (standing : ℕ) (new : NewTerms) (terms : TermsValue) → next_terms standing new ≡ Ok terms
+pub next_is : (standing : ℕ) (new : NewTerms) (terms : Rates) → next_terms standing new ≡ Ok terms
     → (1 ≤ new.version) × (new.version ≤ standing + 1) × (standing < most_terms)
 next_is standing new terms is =
     let zero_free = past_row (new.version == 0) TermsSeq _ terms is in
@@ -139,14 +140,14 @@ next_is standing new terms is =
     (grind (arith, nat_tests, zero_free.0), grind (arith, nat_tests, not_ahead.0), grind (arith, nat_tests, not_full.0))
 
 -- a version that doesn't stand is past those that do
-pub not_standing : (terms : List TermsValue) (version : ℕ) → terms_at terms version ≡ None → 1 ≤ version → length terms < version
+pub not_standing : (terms : List Rates) (version : ℕ) → terms_at terms version ≡ None → 1 ≤ version → length terms < version
 not_standing terms zero none low = absurd (omega (arith, low))
 not_standing [] (suc n) none low = omega arith
 not_standing (t ∷ ts) (suc zero) none low = absurd_none (sym none)
 not_standing (t ∷ ts) (suc (suc n)) none low = let rest = not_standing ts (suc n) none (omega arith) in omega (arith, rest)
 
 -- the next version of terms, as a keeper tells of them
-pub next_plans : (h : Host) (b : ℕ) (at : BookValue) (head : Head) (new : NewTerms) (terms : TermsValue) → IsSound h → get h.books b ≡ Some at → head ≡ head_of at
+pub next_plans : (h : Host) (b : ℕ) (at : BookValue) (head : Head) (new : NewTerms) (terms : Rates) → IsSound h → get h.books b ≡ Some at → head ≡ head_of at
     → None ≡ terms_at (terms_of (get h.books b)) new.version → next_terms head.terms new ≡ Ok terms → IsChecked terms
     → Plans h b (put_terms at b new (terms_at at.terms new.version)) (Ok (record { change = Some (AddTerms b new.version terms); reply = TermsPut new.version }))
 next_plans h b at head new terms sound is heads none answer checked =
@@ -162,68 +163,49 @@ pub no_head : (book : Option BookValue) → None ≡ option_map head_of book →
 no_head None is = refl
 no_head (Some book) is = absurd_none is
 
--- a pledge that is taken is one past the book's last, and there is room for it
-pub taken_is : (head : Head) (opening : Opening) (stamp : Stamp) (terms : Option TermsValue) (p : PledgeValue) → taken_under head opening stamp terms ≡ Ok p
-    → (p.number ≡ head.pledges + 1) × (head.pledges < most_pledges)
+-- a pledge as it is taken: the next of its book, for what was asked, under the newest terms, with the stamp's word
+pub record IsTakenAs (head : Head) (opening : Opening) (stamp : Stamp) (newest : Option Rates) (p : PledgeValue) : Type 0 where
+  pub number : p.agreement.number ≡ head.pledges + 1
+  pub asked : p.agreement.opening ≡ opening
+  pub version : p.agreement.version ≡ head.terms
+  pub under : newest ≡ Some p.agreement.terms
+  pub first : (issued : Issued) × (p.secrets ≡ issued ∷ []) × (issued.secret ≡ stamp.word)
+  pub few : head.pledges < most_pledges
+
+pub taken_is : (head : Head) (opening : Opening) (stamp : Stamp) (newest : Option Rates) (p : PledgeValue) → taken_under head opening stamp newest ≡ Ok p → IsTakenAs head opening stamp newest p
 taken_is head opening stamp None p is = cc is
-taken_is head opening stamp (Some terms) p is = from (started (head.pledges + 1) opening head.terms terms stamp) (λ q same. named q same) is
+taken_is head opening stamp (Some terms) p is = from (started (head.pledges + 1) opening head.terms terms stamp) refl is
   where
-    named : (q : PledgeValue) → started (head.pledges + 1) opening head.terms terms stamp ≡ Ok q → q.number ≡ head.pledges + 1
-    named q same = let row = past_row (is_bad_amount (credit_of opening.kind)) _ _ q same in
-        sym (ap (λ (r : Result PledgeValue PledgeRefusal). (result_unwrap_or r q).number) row.1)
-
-    from : (r : Result PledgeValue PledgeRefusal) → ((q : PledgeValue) → r ≡ Ok q → q.number ≡ head.pledges + 1)
-        → with_room head.pledges (under_pledge r) ≡ Ok p → (p.number ≡ head.pledges + 1) × (head.pledges < most_pledges)
-    from (Err why) named is = cc is
-    from (Ok q) named is =
-        let row = past_row (nat_le most_pledges head.pledges) PledgesFull _ p is in
-        let same : q ≡ p = ap (λ (r : Result PledgeValue Refusal). result_unwrap_or r q) row.1 in
-        (ap (λ (x : PledgeValue). x.number) (sym same) ∙ named q refl, grind (arith, nat_tests, row.0))
-
--- .. for what was asked, under the newest terms, with the stamp's word
-abbrev IsFirst : Stamp → List Issued → Type 0
-IsFirst stamp secrets = (issued : Issued) × (secrets ≡ issued ∷ []) × (issued.secret ≡ stamp.word)
-
-taken_as : (head : Head) (opening : Opening) (stamp : Stamp) (newest : Option TermsValue) (p : PledgeValue) → taken_under head opening stamp newest ≡ Ok p
-    → (p.reference ≡ opening.reference) × (p.version ≡ head.terms) × (newest ≡ Some p.terms) × (p.article ≡ opening.article) × IsFirst stamp p.secrets
-taken_as head opening stamp None p is = cc is
-taken_as head opening stamp (Some terms) p is = from (started (head.pledges + 1) opening head.terms terms stamp) refl is
-  where
-    Asked : PledgeValue → Type 0
-    Asked q = (q.reference ≡ opening.reference) × (q.version ≡ head.terms) × (Some terms ≡ Some q.terms) × (q.article ≡ opening.article) × IsFirst stamp q.secrets
-
-    asked : (q : PledgeValue) → started (head.pledges + 1) opening head.terms terms stamp ≡ Ok q → Asked q
-    asked q same =
-        let row = past_row (is_bad_amount (credit_of opening.kind)) _ _ q same in
-        subst Asked (ap (λ (r : Result PledgeValue PledgeRefusal). result_unwrap_or r q) row.1) (refl, refl, refl, refl, (_, refl, refl))
-
-    from : (r : Result PledgeValue PledgeRefusal) → started (head.pledges + 1) opening head.terms terms stamp ≡ r → with_room head.pledges (under_pledge r) ≡ Ok p → Asked p
+    from : (r : Result PledgeValue PledgeRefusal) → started (head.pledges + 1) opening head.terms terms stamp ≡ r → with_room head.pledges (under_pledge r) ≡ Ok p
+        → IsTakenAs head opening stamp (Some terms) p
     from (Err why) at is = cc is
     from (Ok q) at is =
         let row = past_row (nat_le most_pledges head.pledges) PledgesFull _ p is in
+        let few : head.pledges < most_pledges = grind (arith, nat_tests, row.0) in
         let same : q ≡ p = ap (λ (r : Result PledgeValue Refusal). result_unwrap_or r q) row.1 in
-        subst Asked same (asked q at)
+        let start = past_row (is_bad_amount (credit_of opening.kind)) _ _ q at in
+        subst (IsTakenAs head opening stamp (Some terms)) (ap (λ (r : Result PledgeValue PledgeRefusal). result_unwrap_or r q) start.1 ∙ same)
+        (record { number = refl; asked = refl; version = refl; under = refl; first = (_, refl, refl); few = few })
 
 -- the next pledge, as a keeper tells of the book
 pub taken_plans : (h : Host) (b : ℕ) (at : BookValue) (head : Head) (opening : Opening) (stamp : Stamp) (p : PledgeValue) → IsSound h → get h.books b ≡ Some at → head ≡ head_of at
     → None ≡ with_reference (pledges_of (get h.books b)) opening.reference → taken_under head opening stamp (newest at.terms) ≡ Ok p → IsStanding p
     → IsUtf8 opening.reference → IsUtf8 opening.article → IsWord stamp.word
-    → Plans h b (take_pledge at b opening stamp (with_reference at.pledges opening.reference)) (Ok (record { change = Some (PutPledge b p.number p); reply = Opened (first_receipt p) }))
+    → Plans h b (take_pledge at b opening stamp (with_reference at.pledges opening.reference)) (Ok (record { change = Some (PutPledge b p.agreement.number p); reply = Opened (first_receipt p) }))
 taken_plans h b at head opening stamp p sound is heads none answer standing reference article word =
     let absent : with_reference at.pledges opening.reference ≡ None = sym (none ∙ ap (λ o. with_reference (pledges_of o) opening.reference) is) in
     let next : taken_under (head_of at) opening stamp (newest at.terms) ≡ Ok p = ap (λ (q : Head). taken_under q opening stamp (newest at.terms)) (sym heads) ∙ answer in
-    let bounds = taken_is (head_of at) opening stamp (newest at.terms) p next in
-    let asked = taken_as (head_of at) opening stamp (newest at.terms) p next in
+    let taken = taken_is (head_of at) opening stamp (newest at.terms) p next in
     let is_next : IsNext at p = record {
-      number = bounds.0;
-      reference = ap (with_reference at.pledges) asked.0 ∙ absent;
-      version = asked.1;
-      under = ap (terms_at at.terms) asked.1 ∙ asked.2;
-      few = bounds.1;
+      number = taken.number;
+      reference = ap (λ (o : Opening). with_reference at.pledges o.reference) taken.asked ∙ absent;
+      version = taken.version;
+      under = ap (terms_at at.terms) taken.version ∙ taken.under;
+      few = taken.few;
     } in
     let written : HasTextsAndWords p = record {
-      reference = subst IsUtf8 (sym asked.0) reference;
-      article = subst IsUtf8 (sym asked.3) article;
-      secrets = subst AreWords (sym asked.4.1) (subst IsWord (sym asked.4.2) word, tt);
+      reference = subst (λ (o : Opening). IsUtf8 o.reference) (sym taken.asked) reference;
+      article = subst (λ (o : Opening). IsUtf8 o.article) (sym taken.asked) article;
+      secrets = subst AreWords (sym taken.first.1) (subst IsWord (sym taken.first.2) word, tt);
     } in
     pledge_plans h b at opening stamp p sound is absent next is_next standing written

@@ -3,7 +3,7 @@ use Rattle.std.proofs.Common.{◌≡◌, ℕ, ◌+◌, ◌≤◌, zero, suc, Lis
 use Rattle.std.specs.Prelude.{if◌then◌else◌, Option, Bool, true, false, ◌==◌, ◌||◌, unwrap_or}
 use Rattle.std.specs.List.{list_any}
 use Rattle.std.proofs.lemmas.List.Folds.{list_any-append}
-use Rattle.pawn_terms.specs.Terms.{TermsValue}
+use Rattle.pawn_terms.specs.declared.terms.Rates.{Rates}
 use Rattle.pawn_pledge.specs.Pledge.{PledgeValue}
 use Rattle.pawn_book.specs.BookStep.{is_text, pledge_from, put_from, terms_at, with_reference}
 use Rattle.pawn_book.specs.Sound.{AreDistinct, DoNotFall, IsUnder}
@@ -25,10 +25,10 @@ map-put f k (r ∷ ps) n p q is same =
     ] is
 
 -- a reference that no pledge has
-pub new_reference : (ps : List PledgeValue) (reference : List ℕ) → with_reference ps reference ≡ None → list_any (λ t. is_text t reference) (map (λ p. p.reference) ps) ≡ false
+pub new_reference : (ps : List PledgeValue) (reference : List ℕ) → with_reference ps reference ≡ None → list_any (λ t. is_text t reference) (map (λ p. p.agreement.opening.reference) ps) ≡ false
 new_reference [] reference none = refl
 new_reference (p ∷ ps) reference none =
-    elim (is_text p.reference reference) as (λ v. (if v then Some p else with_reference ps reference) ≡ None → (v || list_any (λ t. is_text t reference) (map (λ p. p.reference) ps)) ≡ false) [
+    elim (is_text p.agreement.opening.reference reference) as (λ v. (if v then Some p else with_reference ps reference) ≡ None → (v || list_any (λ t. is_text t reference) (map (λ p. p.agreement.opening.reference) ps)) ≡ false) [
       | true ↦ λ some. absurd_none (sym some)
       | false ↦ λ rest. new_reference ps reference rest
     ] none
@@ -51,29 +51,29 @@ map_push : {A : Type 0} (f : PledgeValue → A) (ps : List PledgeValue) (p : Ple
 map_push f [] p = refl
 map_push f (q ∷ ps) p = ap (λ xs. f q ∷ xs) (map_push f ps p)
 
-pub references_push : (ps : List PledgeValue) (p : PledgeValue) → AreDistinct (map (λ p. p.reference) ps) → with_reference ps p.reference ≡ None → AreDistinct (map (λ p. p.reference) (ps ++ p ∷ []))
-references_push ps p all none = subst AreDistinct (sym (map_push (λ p. p.reference) ps p)) (distinct_push (map (λ p. p.reference) ps) p.reference all (new_reference ps p.reference none))
+pub references_push : (ps : List PledgeValue) (p : PledgeValue) → AreDistinct (map (λ p. p.agreement.opening.reference) ps) → with_reference ps p.agreement.opening.reference ≡ None → AreDistinct (map (λ p. p.agreement.opening.reference) (ps ++ p ∷ []))
+references_push ps p all none = subst AreDistinct (sym (map_push (λ p. p.agreement.opening.reference) ps p)) (distinct_push (map (λ p. p.agreement.opening.reference) ps) p.agreement.opening.reference all (new_reference ps p.agreement.opening.reference none))
 
 -- terms that stand are among the first
-pub under_length : (terms : List TermsValue) (version : ℕ) (t : TermsValue) → terms_at terms version ≡ Some t → version ≤ length terms
+pub under_length : (terms : List Rates) (version : ℕ) (t : Rates) → terms_at terms version ≡ Some t → version ≤ length terms
 under_length terms zero t is = omega arith
 under_length [] (suc n) t is = absurd_none is
 under_length (u ∷ terms) (suc zero) t is = omega arith
 under_length (u ∷ terms) (suc (suc n)) t is = let rest = under_length terms (suc n) t is in omega (arith, rest)
 
 -- .. and stand with one more behind them
-under_more : (terms : List TermsValue) (u : TermsValue) (version : ℕ) (t : TermsValue) → terms_at terms version ≡ Some t → terms_at (terms ++ u ∷ []) version ≡ Some t
+under_more : (terms : List Rates) (u : Rates) (version : ℕ) (t : Rates) → terms_at terms version ≡ Some t → terms_at (terms ++ u ∷ []) version ≡ Some t
 under_more terms u zero t is = is
 under_more [] u (suc n) t is = absurd_none is
 under_more (s ∷ terms) u (suc zero) t is = is
 under_more (s ∷ terms) u (suc (suc n)) t is = under_more terms u (suc n) t is
 
-pub each_under_more : (terms : List TermsValue) (u : TermsValue) (ps : List PledgeValue) → Each (IsUnder terms) ps → Each (IsUnder (terms ++ u ∷ [])) ps
+pub each_under_more : (terms : List Rates) (u : Rates) (ps : List PledgeValue) → Each (IsUnder terms) ps → Each (IsUnder (terms ++ u ∷ [])) ps
 each_under_more terms u [] all = tt
-each_under_more terms u (p ∷ ps) all = (under_more terms u p.version p.terms all.0, each_under_more terms u ps all.1)
+each_under_more terms u (p ∷ ps) all = (under_more terms u p.agreement.version p.agreement.terms all.0, each_under_more terms u ps all.1)
 
 -- versions don't fall with a pledge under the newest terms
-pub versions_push : (n : ℕ) (terms : List TermsValue) (ps : List PledgeValue) (p : PledgeValue) → Each (IsUnder terms) ps → DoNotFall n (map (λ p. p.version) ps) → n ≤ length terms → p.version ≡ length terms
-    → DoNotFall n (map (λ p. p.version) (ps ++ p ∷ []))
+pub versions_push : (n : ℕ) (terms : List Rates) (ps : List PledgeValue) (p : PledgeValue) → Each (IsUnder terms) ps → DoNotFall n (map (λ p. p.agreement.version) ps) → n ≤ length terms → p.agreement.version ≡ length terms
+    → DoNotFall n (map (λ p. p.agreement.version) (ps ++ p ∷ []))
 versions_push n terms [] p under rise low newest = (omega (arith, low, newest), tt)
-versions_push n terms (q ∷ ps) p under rise low newest = (rise.0, versions_push q.version terms ps p under.1 rise.1 (under_length terms q.version q.terms under.0) newest)
+versions_push n terms (q ∷ ps) p under rise low newest = (rise.0, versions_push q.agreement.version terms ps p under.1 rise.1 (under_length terms q.agreement.version q.agreement.terms under.0) newest)

@@ -6,7 +6,8 @@ use Rattle.std.specs.FinMap.{get, get-insert}
 use Rattle.std.specs.Str.{IsUtf8}
 use Rattle.std.proofs.lemmas.Cmp.{nat_cmp_total}
 use Rattle.std.proofs.lemmas.Bool.Decides.{nat_tests}
-use Rattle.pawn_terms.specs.Terms.{TermsValue, IsChecked}
+use Rattle.pawn_terms.specs.declared.terms.Rates.{Rates}
+use Rattle.pawn_terms.specs.Terms.{IsChecked}
 use Rattle.pawn_pledge.specs.Number.{IsNumber}
 use Rattle.pawn_pledge.specs.Pledge.{PledgeValue}
 use Rattle.pawn_pledge.specs.Replayable.{Each, IsStanding}
@@ -54,7 +55,7 @@ pub each_push : {A : Type 0} (P : A → Type 0) (xs : List A) (x : A) → Each P
 each_push P [] x all one = (one, tt)
 each_push P (y ∷ ys) x all one = (all.0, each_push P ys x all.1 one)
 
-pub sound_terms : (book : BookValue) (terms : TermsValue) → IsSoundBook book → IsChecked terms → length book.terms < most_terms
+pub sound_terms : (book : BookValue) (terms : Rates) → IsSoundBook book → IsChecked terms → length book.terms < most_terms
     → IsSoundBook (record book { terms = book.terms ++ terms ∷ [] })
 sound_terms book terms sound checked few = record {
   key = sound.key;
@@ -73,7 +74,7 @@ sound_terms book terms sound checked few = record {
   pledges = sound.pledges;
 }
 
-pub numbered_put : (k : ℕ) (ps : List PledgeValue) (n : ℕ) (p : PledgeValue) → AreNumberedFrom k ps → p.number ≡ n → k ≤ n → n ≤ k + length ps → AreNumberedFrom k (put_from k ps n p)
+pub numbered_put : (k : ℕ) (ps : List PledgeValue) (n : ℕ) (p : PledgeValue) → AreNumberedFrom k ps → p.agreement.number ≡ n → k ≤ n → n ≤ k + length ps → AreNumberedFrom k (put_from k ps n p)
 numbered_put k [] n p all named low high = let is : n ≡ k = omega arith in (named ∙ is, tt)
 numbered_put k (r ∷ ps) n p all named low high =
     elim (n == k) as (λ v. n == k ≡ v → AreNumberedFrom k (if v then p ∷ ps else r ∷ put_from (k + 1) ps n p)) [
@@ -106,34 +107,34 @@ length-put k (r ∷ ps) n p low high =
 
 -- a pledge that may be taken next: under a new reference and the newest terms
 pub record IsNext (book : BookValue) (p : PledgeValue) : Type 0 where
-  pub number : p.number ≡ length book.pledges + 1
-  pub reference : with_reference book.pledges p.reference ≡ None
-  pub version : p.version ≡ length book.terms
+  pub number : p.agreement.number ≡ length book.pledges + 1
+  pub reference : with_reference book.pledges p.agreement.opening.reference ≡ None
+  pub version : p.agreement.version ≡ length book.terms
   pub under : IsUnder book.terms p
   pub few : length book.pledges < most_pledges
 
 -- a book with one pledge more
 pub sound_next : (book : BookValue) (p : PledgeValue) → IsSoundBook book → IsNext book p → IsStanding p → HasTextsAndWords p
-    → IsSoundBook (record book { pledges = put_from 1 book.pledges p.number p })
+    → IsSoundBook (record book { pledges = put_from 1 book.pledges p.agreement.number p })
 sound_next book p sound is_next standing written =
     let named = is_next.number in
     let few = is_next.few in
-    let low : 1 ≤ p.number = omega (arith, named) in
-    let high : p.number ≤ 1 + length book.pledges = omega (arith, named) in
-    let next : p.number ≡ 1 + length book.pledges = omega (arith, named) in
-    let pushed = put_next 1 book.pledges p.number p next in
+    let low : 1 ≤ p.agreement.number = omega (arith, named) in
+    let high : p.agreement.number ≤ 1 + length book.pledges = omega (arith, named) in
+    let next : p.agreement.number ≡ 1 + length book.pledges = omega (arith, named) in
+    let pushed = put_next 1 book.pledges p.agreement.number p next in
     record {
       key = sound.key;
       imported = sound.imported;
       utf8 = sound.utf8;
       name = sound.name;
       capacity = sound.capacity;
-      numbered = numbered_put 1 book.pledges p.number p sound.numbered refl low high;
-      standing = each_put IsStanding 1 book.pledges p.number p sound.standing standing;
-      written = each_put HasTextsAndWords 1 book.pledges p.number p sound.written written;
-      references = subst (λ ps. AreDistinct (map (λ p. p.reference) ps)) (sym pushed) (references_push book.pledges p sound.references is_next.reference);
-      under = each_put (IsUnder book.terms) 1 book.pledges p.number p sound.under is_next.under;
-      versions = subst (λ ps. DoNotFall 0 (map (λ p. p.version) ps)) (sym pushed)
+      numbered = numbered_put 1 book.pledges p.agreement.number p sound.numbered refl low high;
+      standing = each_put IsStanding 1 book.pledges p.agreement.number p sound.standing standing;
+      written = each_put HasTextsAndWords 1 book.pledges p.agreement.number p sound.written written;
+      references = subst (λ ps. AreDistinct (map (λ p. p.agreement.opening.reference) ps)) (sym pushed) (references_push book.pledges p sound.references is_next.reference);
+      under = each_put (IsUnder book.terms) 1 book.pledges p.agreement.number p sound.under is_next.under;
+      versions = subst (λ ps. DoNotFall 0 (map (λ p. p.agreement.version) ps)) (sym pushed)
           (versions_push 0 book.terms book.pledges p sound.under sound.versions (omega arith) is_next.version);
       checked = sound.checked;
       terms = sound.terms;
@@ -148,19 +149,19 @@ each_at P k (r ∷ ps) n p all is =
       | false ↦ λ there. each_at P (k + 1) ps n p all.1 there
     ] is
 
-pub numbered_at : (k : ℕ) (ps : List PledgeValue) (n : ℕ) (p : PledgeValue) → AreNumberedFrom k ps → pledge_from k ps n ≡ Some p → p.number ≡ n
+pub numbered_at : (k : ℕ) (ps : List PledgeValue) (n : ℕ) (p : PledgeValue) → AreNumberedFrom k ps → pledge_from k ps n ≡ Some p → p.agreement.number ≡ n
 numbered_at k [] n p all is = absurd_none is
 numbered_at k (r ∷ ps) n p all is =
-    elim (n == k) as (λ v. n == k ≡ v → (if v then Some r else pledge_from (k + 1) ps n) ≡ Some p → p.number ≡ n) [
-      | true ↦ λ same here. ap (λ (q : PledgeValue). q.number) (sym (some_is r p here)) ∙ all.0 ∙ sym (grind (arith, nat_tests, same))
+    elim (n == k) as (λ v. n == k ≡ v → (if v then Some r else pledge_from (k + 1) ps n) ≡ Some p → p.agreement.number ≡ n) [
+      | true ↦ λ same here. ap (λ (q : PledgeValue). q.agreement.number) (sym (some_is r p here)) ∙ all.0 ∙ sym (grind (arith, nat_tests, same))
       | false ↦ λ other there. numbered_at (k + 1) ps n p all.1 there
     ] refl is
 
 -- a pledge of a sound host stands, under its number
-pub standing_at : (h : Host) (b n : ℕ) (p : PledgeValue) → IsSound h → pledge_in (get h.books b) n ≡ Some p → IsStanding p × (p.number ≡ n)
+pub standing_at : (h : Host) (b n : ℕ) (p : PledgeValue) → IsSound h → pledge_in (get h.books b) n ≡ Some p → IsStanding p × (p.agreement.number ≡ n)
 standing_at h b n p sound is = from (get h.books b) refl is
   where
-    from : (o : Option BookValue) → get h.books b ≡ o → pledge_in o n ≡ Some p → IsStanding p × (p.number ≡ n)
+    from : (o : Option BookValue) → get h.books b ≡ o → pledge_in o n ≡ Some p → IsStanding p × (p.agreement.number ≡ n)
     from None e is = absurd_none is
     from (Some book) e is =
         let one = (sound.books b book e).1 in

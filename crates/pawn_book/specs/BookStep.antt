@@ -2,7 +2,7 @@
 use Rattle.std.specs.Prelude.{ℕ, zero, suc, ◌+◌, List, [], ◌∷◌, ◌++◌, Bool, true, false, ◌&&◌, Option, Some, None, Result, Ok, Err, if◌then◌else◌, ◌==◌, nat_eq, nat_le, nat_lt, length, map, find, count_by, slice_get}
 use Rattle.std.specs.Cmp.Lexicographic.{pointwise}
 use Rattle.pawn_terms.specs.Refusals.{first_of}
-use Rattle.pawn_terms.specs.Terms.{TermsValue}
+use Rattle.pawn_terms.specs.declared.terms.Rates.{Rates}
 use Rattle.pawn_terms.specs.TermsFault.{terms_answer}
 use Rattle.pawn_terms.specs.declared.terms.TermsFault.{TermsFault}
 use Rattle.pawn_debt.specs.declared.entry.Kind.{Kind}
@@ -35,7 +35,6 @@ use Rattle.pawn_book.specs.declared.change.Head.{Head}
 use Rattle.pawn_book.specs.declared.change.Change.{Change}
 use Rattle.pawn_book.specs.declared.change.Change.TheVariants.{MakeBook, AddTerms, PutPledge}
 use Rattle.pawn_book.specs.Limits.{most_terms, most_pledges}
-use Rattle.pawn_book.specs.Commands.{broker_command, bearer_command}
 
 -- a book
 pub record BookValue : Type 0 where
@@ -43,7 +42,7 @@ pub record BookValue : Type 0 where
   pub name : List ℕ
   pub capacity : ℕ
   -- versions 1, 2, .. in order
-  pub terms : List TermsValue
+  pub terms : List Rates
   -- pledges 1, 2, .. in order
   pub pledges : List PledgeValue
   -- the import key, with the number of pledges that came with it
@@ -73,12 +72,12 @@ abbrev pub is_text : List ℕ → List ℕ → Bool
 is_text a b = pointwise nat_eq a b
 
 -- the terms that stand under a version; none under 0
-abbrev pub terms_at : List TermsValue → ℕ → Option TermsValue
+abbrev pub terms_at : List Rates → ℕ → Option Rates
 terms_at terms zero = None
 terms_at terms (suc n) = slice_get terms n
 
 -- the newest terms
-abbrev pub newest : List TermsValue → Option TermsValue
+abbrev pub newest : List Rates → Option Rates
 newest terms = terms_at terms (length terms)
 
 -- the pledge that stands at a number, where the list's first has the number k
@@ -97,7 +96,7 @@ put_from k (q ∷ ps) n p = if n == k then p ∷ ps else q ∷ put_from (k + 1) 
 
 -- the pledge with this reference
 abbrev pub with_reference : List PledgeValue → List ℕ → Option PledgeValue
-with_reference pledges reference = find (λ p. is_text p.reference reference) pledges
+with_reference pledges reference = find (λ p. is_text p.agreement.opening.reference reference) pledges
 
 -- the book that a change makes
 abbrev pub made_book : NewBook → BookValue
@@ -146,26 +145,26 @@ abbrev pub operated : ℕ → ℕ → Outcome → Outcome
 operated operator key step = if key == operator then step else Refuses NotOperator
 
 -- the same three numbers
-abbrev pub are_terms : TermsValue → NewTerms → Bool
-are_terms terms new = (terms.rate == new.rate) && (terms.keep_before == new.keep_before) && (terms.keep_after == new.keep_after)
+abbrev pub are_rates : Rates → Rates → Bool
+are_rates a b = (a.rate == b.rate) && (a.keep_before == b.keep_before) && (a.keep_after == b.keep_after)
 
-abbrev pub under_terms : Result TermsValue TermsFault → Result TermsValue Refusal
+abbrev pub under_terms : Result Rates TermsFault → Result Rates Refusal
 under_terms (Ok terms) = Ok terms
 under_terms (Err fault) = Err (Terms fault)
 
 -- the terms of a version that doesn't stand, where so many do
-abbrev pub next_terms : ℕ → NewTerms → Result TermsValue Refusal
+abbrev pub next_terms : ℕ → NewTerms → Result Rates Refusal
 next_terms standing new =
     first_of
     ((new.version == 0, TermsSeq)
     ∷ (nat_lt (standing + 1) new.version, TermsSeq)
     ∷ (nat_le most_terms standing, TermsFull)
     ∷ [])
-    (under_terms (terms_answer new.rate new.keep_before new.keep_after))
+    (under_terms (terms_answer new.rates))
 
 -- PutTerms: equal terms that stand are told again
-abbrev pub put_terms : BookValue → ℕ → NewTerms → Option TermsValue → Outcome
-put_terms book b new (Some terms) = if are_terms terms new then Says (Told (TermsPut new.version)) else Refuses TermsSeq
+abbrev pub put_terms : BookValue → ℕ → NewTerms → Option Rates → Outcome
+put_terms book b new (Some terms) = if are_rates terms new.rates then Says (Told (TermsPut new.version)) else Refuses TermsSeq
 put_terms book b new None = made (next_terms (length book.terms) new) (λ terms. Makes (AddTerms b new.version terms) (TermsPut new.version))
 
 -- the secret that came with the opening
@@ -174,7 +173,7 @@ first_secret [] = 0
 first_secret (i ∷ is) = i.secret
 
 abbrev pub first_receipt : PledgeValue → Receipt
-first_receipt p = record { number = p.number; secret = first_secret p.secrets }
+first_receipt p = record { number = p.agreement.number; secret = first_secret p.secrets }
 
 abbrev pub is_kind : Kind → Kind → Bool
 is_kind (Fixed a) (Fixed b) = a == b
@@ -193,10 +192,9 @@ is_flag true b = b
 is_flag false true = false
 is_flag false false = true
 
--- what was asked for at the opening, its reference aside
-abbrev pub is_opening : PledgeValue → Opening → Bool
-is_opening p opening =
-    is_text p.article opening.article && is_kind p.kind opening.kind && is_agreed p.agreed opening.agreed && is_flag p.five_days opening.five_days
+-- the same opening, its reference aside
+abbrev pub is_opening : Opening → Opening → Bool
+is_opening a b = is_text a.article b.article && is_kind a.kind b.kind && is_agreed a.agreed b.agreed && is_flag a.five_days b.five_days
 
 abbrev pub under_pledge : Result PledgeValue PledgeRefusal → Result PledgeValue Refusal
 under_pledge (Ok p) = Ok p
@@ -208,16 +206,16 @@ with_room standing (Ok p) = first_of ((nat_le most_pledges standing, PledgesFull
 with_room standing (Err why) = Err why
 
 -- a pledge under the newest terms, one past the book's last
-abbrev pub taken_under : Head → Opening → Stamp → Option TermsValue → Result PledgeValue Refusal
+abbrev pub taken_under : Head → Opening → Stamp → Option Rates → Result PledgeValue Refusal
 taken_under head opening stamp None = Err NoTerms
 taken_under head opening stamp (Some terms) =
     with_room head.pledges (under_pledge (started (head.pledges + 1) opening head.terms terms stamp))
 
 -- TakePledge: an equal opening is answered as the first time
 abbrev pub take_pledge : BookValue → ℕ → Opening → Stamp → Option PledgeValue → Outcome
-take_pledge book b opening stamp (Some p) = if is_opening p opening then Says (Told (Opened (first_receipt p))) else Refuses RefTaken
+take_pledge book b opening stamp (Some p) = if is_opening p.agreement.opening opening then Says (Told (Opened (first_receipt p))) else Refuses RefTaken
 take_pledge book b opening stamp None =
-    made (taken_under (head_of book) opening stamp (newest book.terms)) (λ p. Makes (PutPledge b p.number p) (Opened (first_receipt p)))
+    made (taken_under (head_of book) opening stamp (newest book.terms)) (λ p. Makes (PutPledge b p.agreement.number p) (Opened (first_receipt p)))
 
 -- bookings
 
@@ -234,7 +232,7 @@ is_confirmed_for day window (Some booking) = (booking.day == day) && (booking.wi
 
 -- how many pledges have one
 abbrev pub confirmed_for : List PledgeValue → ℕ → ℕ → ℕ
-confirmed_for pledges day window = count_by (λ p. is_confirmed_for day window p.booking) pledges
+confirmed_for pledges day window = count_by (λ p. is_confirmed_for day window p.standing.booking) pledges
 
 -- the booking that a command confirmed
 abbrev pub confirmed_by : Done → Option Booking
@@ -291,7 +289,7 @@ shown stamp (Some p) = Says (Shown stamp.day (Some p ∷ []))
 abbrev pub broker_step : BookValue → ℕ → Stamp → BrokerRequest → Outcome
 broker_step book b stamp (PutTerms new) = put_terms book b new (terms_at book.terms new.version)
 broker_step book b stamp (TakePledge opening) = take_pledge book b opening stamp (with_reference book.pledges opening.reference)
-broker_step book b stamp (OnPledge n command) = broker_commands book b n stamp (broker_command command) (pledge_from 1 book.pledges n)
+broker_step book b stamp (OnPledge n command) = broker_commands book b n stamp command (pledge_from 1 book.pledges n)
 broker_step book b stamp (Show n) = shown stamp (pledge_from 1 book.pledges n)
 
 -- for a caller with the book's key
@@ -327,7 +325,7 @@ held_out stamp pledges = if are_unknown pledges then Refuses NoSuchReceipt else 
 -- what a bearer asks, where pledges are looked up so
 abbrev pub bearer_step : (ℕ → Option PledgeValue) → ℕ → Stamp → BearerRequest → Outcome
 bearer_step pledges b stamp (Held receipts) = held_out stamp (map (live_at pledges) receipts)
-bearer_step pledges b stamp (OnReceipt r command) = bearer_commands b r.number stamp (bearer_command command) (live_at pledges r)
+bearer_step pledges b stamp (OnReceipt r command) = bearer_commands b r.number stamp command (live_at pledges r)
 
 abbrev pub book_step : Option BookValue → ℕ → ℕ → Stamp → Caller → Outcome
 book_step before operator b stamp (Operator key new) = operated operator key (created before b new)

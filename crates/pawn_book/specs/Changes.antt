@@ -21,15 +21,7 @@ changed h change = with_book h (book_of change) (changed_book (get h.books (book
 
 -- what was agreed on a pledge that stands stays, and its lists grow at their ends alone
 pub record Continues (old new : PledgeValue) : Type 0 where
-  pub number : new.number ≡ old.number
-  pub reference : new.reference ≡ old.reference
-  pub article : new.article ≡ old.article
-  pub kind : new.kind ≡ old.kind
-  pub taken : new.taken ≡ old.taken
-  pub agreed : new.agreed ≡ old.agreed
-  pub five_days : new.five_days ≡ old.five_days
-  pub version : new.version ≡ old.version
-  pub terms : new.terms ≡ old.terms
+  pub agreement : new.agreement ≡ old.agreement
   pub lists : Grows old new
 
 -- a new book; the next version of terms; the next pledge, or one that stands and continues

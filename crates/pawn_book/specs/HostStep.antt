@@ -20,7 +20,7 @@ booking_rows (Some booking) = 1
 
 -- one for the pledge, and one for each entry and secret
 abbrev pub pledge_rows : PledgeValue → ℕ
-pledge_rows p = 1 + length p.entries + length p.secrets + booking_rows p.booking
+pledge_rows p = 1 + length p.entries + length p.secrets + booking_rows p.standing.booking
 
 -- one for the book, and one for each version of its terms
 abbrev pub book_rows : BookValue → ℕ

@@ -1,7 +1,7 @@
 -- What a keeper's calls say of the host that it stands for.
 use Rattle.std.specs.Prelude.{◌≡◌, ℕ, ◌≤◌, ◌<◌, List, [], Option, Some, None, Result, Err, option_map, IfErr, OnErr, OnOk}
 use Rattle.std.specs.FinMap.{get}
-use Rattle.pawn_terms.specs.Terms.{TermsValue}
+use Rattle.pawn_terms.specs.declared.terms.Rates.{Rates}
 use Rattle.pawn_debt.specs.declared.entry.Entry.{Entry}
 use Rattle.pawn_pledge.specs.declared.record.Extension.{Extension}
 use Rattle.pawn_pledge.specs.Pledge.{PledgeValue}
@@ -75,7 +75,7 @@ pub record Saves {K T : Type 0} (k : Keeping K) (old new : K) (change : Change) 
   pub err : OnErr result (Of k old new (λ h. k.stands new h))
   pub never : k.steady old → IfErr result (λ e. IsWant e)
 
-abbrev pub terms_of : Option BookValue → List TermsValue
+abbrev pub terms_of : Option BookValue → List Rates
 terms_of None = []
 terms_of (Some book) = book.terms
 
@@ -85,7 +85,7 @@ pledges_of (Some book) = book.pledges
 
 -- the number of the pledge with a reference
 abbrev pub number_of : Option BookValue → List ℕ → Option ℕ
-number_of book reference = option_map (λ p. p.number) (with_reference (pledges_of book) reference)
+number_of book reference = option_map (λ p. p.agreement.number) (with_reference (pledges_of book) reference)
 
 abbrev pub entries_of : Option PledgeValue → List Entry
 entries_of None = []

@@ -6,17 +6,12 @@ use Rattle.pawn_pledge.specs.declared.command.Done.{Done}
 use Rattle.pawn_pledge.specs.declared.command.Stamp.{Stamp}
 use Rattle.pawn_pledge.specs.Laws.{MayExtend, entering}
 use Rattle.pawn_pledge.specs.Pledge.{PledgeValue, end_of}
-use Rattle.pawn_book.specs.Commands.{bearer_command, broker_command}
 use Rattle.pawn_book.specs.declared.request.Caller.{Caller}
 use Rattle.pawn_book.specs.declared.request.Caller.TheVariants.{Operator, Broker, Bearer}
 use Rattle.pawn_book.specs.declared.request.BrokerRequest.{BrokerRequest}
 use Rattle.pawn_book.specs.declared.request.BrokerRequest.TheVariants as asked
 use Rattle.pawn_book.specs.declared.request.BearerRequest.{BearerRequest}
 use Rattle.pawn_book.specs.declared.request.BearerRequest.TheVariants as presented
-use Rattle.pawn_book.specs.declared.request.BrokerCommand.{BrokerCommand}
-use Rattle.pawn_book.specs.declared.request.BrokerCommand.TheVariants as broker
-use Rattle.pawn_book.specs.declared.request.BearerCommand.{BearerCommand}
-use Rattle.pawn_book.specs.declared.request.BearerCommand.TheVariants as bearer
 use Rattle.pawn_book.specs.declared.reply.Reply.{Reply}
 use Rattle.pawn_book.specs.declared.reply.Reply.TheVariants.{Commanded}
 use Rattle.pawn_book.specs.declared.change.Change.{Change}
@@ -54,37 +49,21 @@ RepeatsActOnce =
     → IsMaking caller → book_step before operator b stamp caller ≡ Makes change reply
     → book_step (book_run (changed_book before change) operator b later) operator b again caller ≡ Says (Told reply)
 
--- a drawing or a repayment
-abbrev pub IsEntry : BrokerCommand → Type 0
-IsEntry (broker.Draw seq pence) = Unit {0}
-IsEntry (broker.Repay seq pence) = Unit {0}
-IsEntry broker.Hold = ⊥
-IsEntry broker.Release = ⊥
-IsEntry (broker.Declare paper) = ⊥
-IsEntry (broker.DecideBooking decision) = ⊥
-IsEntry (broker.Sell net) = ⊥
-IsEntry (broker.Extend until) = ⊥
+-- a caller commands pledge n
+abbrev pub BrokerAsks : BrokerRequest → ℕ → Command → Type 0
+BrokerAsks (asked.PutTerms new) n command = ⊥
+BrokerAsks (asked.TakePledge opening) n command = ⊥
+BrokerAsks (asked.OnPledge m own) n command = (m ≡ n) × (own ≡ command)
+BrokerAsks (asked.Show m) n command = ⊥
 
-abbrev pub IsRepayment : BearerCommand → Type 0
-IsRepayment (bearer.Repay seq pence) = Unit {0}
-IsRepayment (bearer.AskBooking day window) = ⊥
-IsRepayment bearer.CancelBooking = ⊥
-IsRepayment (bearer.Redeem paid) = ⊥
+abbrev pub BearerAsks : BearerRequest → ℕ → Command → Type 0
+BearerAsks (presented.Held receipts) n command = ⊥
+BearerAsks (presented.OnPledge receipt own) n command = (receipt.number ≡ n) × (own ≡ command)
 
-abbrev pub IsBrokerEntry : BrokerRequest → Type 0
-IsBrokerEntry (asked.PutTerms new) = ⊥
-IsBrokerEntry (asked.TakePledge opening) = ⊥
-IsBrokerEntry (asked.OnPledge n command) = IsEntry command
-IsBrokerEntry (asked.Show n) = ⊥
-
-abbrev pub IsBearerEntry : BearerRequest → Type 0
-IsBearerEntry (presented.Held receipts) = ⊥
-IsBearerEntry (presented.OnPledge receipt command) = IsRepayment command
-
-abbrev pub IsEntering : Caller → Type 0
-IsEntering (Operator key new) = ⊥
-IsEntering (Broker key request) = IsBrokerEntry request
-IsEntering (Bearer request) = IsBearerEntry request
+abbrev pub Asks : Caller → ℕ → Command → Type 0
+Asks (Operator key new) n command = ⊥
+Asks (Broker key request) n command = BrokerAsks request n command
+Asks (Bearer request) n command = BearerAsks request n command
 
 -- a bearer's receipt is live
 abbrev pub IsStillLive : Option BookValue → BearerRequest → Type 0
@@ -101,26 +80,11 @@ StillPasses book (Bearer request) = IsStillLive book request
 -- on any day: to the broker, and to a bearer whose receipt is still live
 abbrev pub EntriesActOnce : Type 0
 EntriesActOnce =
-    (before : BookValue) (operator b : ℕ) (stamp again : Stamp) (caller : Caller) (change : Change) (reply : Reply) (later : List (Stamp × Caller))
-    → IsSoundBook before → IsEntering caller → book_step (Some before) operator b stamp caller ≡ Makes change reply
+    (before : BookValue) (operator b : ℕ) (stamp again : Stamp) (caller : Caller) (n : ℕ) (sort : Sort) (seq pence : ℕ)
+    (change : Change) (reply : Reply) (later : List (Stamp × Caller))
+    → IsSoundBook before → Asks caller n (entering sort seq pence) → book_step (Some before) operator b stamp caller ≡ Makes change reply
     → StillPasses (book_run (changed_book (Some before) change) operator b later) caller
     → book_step (book_run (changed_book (Some before) change) operator b later) operator b again caller ≡ Says (Told reply)
-
--- a caller commands pledge n
-abbrev pub BrokerAsks : BrokerRequest → ℕ → Command → Type 0
-BrokerAsks (asked.PutTerms new) n command = ⊥
-BrokerAsks (asked.TakePledge opening) n command = ⊥
-BrokerAsks (asked.OnPledge m own) n command = (m ≡ n) × (broker_command own ≡ command)
-BrokerAsks (asked.Show m) n command = ⊥
-
-abbrev pub BearerAsks : BearerRequest → ℕ → Command → Type 0
-BearerAsks (presented.Held receipts) n command = ⊥
-BearerAsks (presented.OnPledge receipt own) n command = (receipt.number ≡ n) × (bearer_command own ≡ command)
-
-abbrev pub Asks : Caller → ℕ → Command → Type 0
-Asks (Operator key new) n command = ⊥
-Asks (Broker key request) n command = BrokerAsks request n command
-Asks (Bearer request) n command = BearerAsks request n command
 
 -- a broker passes by the book's key, and a bearer by a live receipt
 abbrev pub Passes : Option BookValue → Caller → Type 0
@@ -144,13 +108,13 @@ abbrev pub StandingEndIsTold : Type 0
 StandingEndIsTold =
     (book : BookValue) (operator b n : ℕ) (stamp : Stamp) (p : PledgeValue)
     → pledge_from 1 book.pledges n ≡ Some p → MayExtend p stamp.day
-    → book_step (Some book) operator b stamp (Broker book.key (asked.OnPledge n (broker.Extend (end_of p)))) ≡ Says (Told (Commanded n (Done.Extended (end_of p))))
+    → book_step (Some book) operator b stamp (Broker book.key (asked.OnPledge n (Command.Extend (end_of p)))) ≡ Says (Told (Commanded n (Done.Extended (end_of p))))
 
 -- so an extension that was made is told the same again and makes none, whatever was asked in between, as long as its end stands
 abbrev pub ExtensionsActOnce : Type 0
 ExtensionsActOnce =
     (before : BookValue) (operator b key n until : ℕ) (stamp again : Stamp) (change : Change) (reply : Reply) (later : List (Stamp × Caller)) (p : PledgeValue)
-    → book_step (Some before) operator b stamp (Broker key (asked.OnPledge n (broker.Extend until))) ≡ Makes change reply
+    → book_step (Some before) operator b stamp (Broker key (asked.OnPledge n (Command.Extend until))) ≡ Makes change reply
     → pledge_in (book_run (changed_book (Some before) change) operator b later) n ≡ Some p → end_of p ≡ until → MayExtend p again.day
-    → book_step (book_run (changed_book (Some before) change) operator b later) operator b again (Broker key (asked.OnPledge n (broker.Extend until)))
+    → book_step (book_run (changed_book (Some before) change) operator b later) operator b again (Broker key (asked.OnPledge n (Command.Extend until)))
     ≡ Says (Told reply)

@@ -1,6 +1,5 @@
 pub mod Limits
 pub mod Refusals
-pub mod Commands
 pub mod BookStep
 pub mod HostStep
 pub mod Runs

@@ -3,7 +3,8 @@ use Rattle.std.specs.Prelude.{◌≡◌, ℕ, ◌+◌, ◌^◌, ◌≤◌, ◌<�
 use Rattle.std.specs.List.{list_any}
 use Rattle.std.specs.Str.{IsUtf8}
 use Rattle.std.specs.FinMap.{get}
-use Rattle.pawn_terms.specs.Terms.{TermsValue, IsChecked}
+use Rattle.pawn_terms.specs.declared.terms.Rates.{Rates}
+use Rattle.pawn_terms.specs.Terms.{IsChecked}
 use Rattle.pawn_pledge.specs.declared.record.Issued.{Issued}
 use Rattle.pawn_pledge.specs.Number.{IsNumber}
 use Rattle.pawn_pledge.specs.Pledge.{PledgeValue}
@@ -16,7 +17,7 @@ use Rattle.pawn_book.specs.Limits.{IsCapacity, most_terms, most_pledges}
 -- pledges are numbered k, k + 1, ..
 abbrev pub AreNumberedFrom : ℕ → List PledgeValue → Type 0
 AreNumberedFrom k [] = Unit {0}
-AreNumberedFrom k (p ∷ ps) = (p.number ≡ k) × AreNumberedFrom (k + 1) ps
+AreNumberedFrom k (p ∷ ps) = (p.agreement.number ≡ k) × AreNumberedFrom (k + 1) ps
 
 -- no text stands twice
 abbrev pub AreDistinct : List (List ℕ) → Type 0
@@ -29,8 +30,8 @@ DoNotFall n [] = Unit {0}
 DoNotFall n (m ∷ ms) = (n ≤ m) × DoNotFall m ms
 
 -- the terms of a pledge stand under its version
-abbrev pub IsUnder : List TermsValue → PledgeValue → Type 0
-IsUnder terms p = terms_at terms p.version ≡ Some p.terms
+abbrev pub IsUnder : List Rates → PledgeValue → Type 0
+IsUnder terms p = terms_at terms p.agreement.version ≡ Some p.agreement.terms
 
 -- a key or a secret: a word of 128 bits
 abbrev pub IsWord : ℕ → Type 0
@@ -41,8 +42,8 @@ AreWords issued = Each (λ i. IsWord i.secret) issued
 
 -- the texts of a pledge are UTF-8, and its secrets are words
 pub record HasTextsAndWords (p : PledgeValue) : Type 0 where
-  pub reference : IsUtf8 p.reference
-  pub article : IsUtf8 p.article
+  pub reference : IsUtf8 p.agreement.opening.reference
+  pub article : IsUtf8 p.agreement.opening.article
   pub secrets : AreWords p.secrets
 
 -- a book within the limits: its pledges numbered from 1, each of which can have come about, with references that differ,
@@ -56,9 +57,9 @@ pub record IsSoundBook (book : BookValue) : Type 0 where
   pub numbered : AreNumberedFrom 1 book.pledges
   pub standing : Each IsStanding book.pledges
   pub written : Each HasTextsAndWords book.pledges
-  pub references : AreDistinct (map (λ p. p.reference) book.pledges)
+  pub references : AreDistinct (map (λ p. p.agreement.opening.reference) book.pledges)
   pub under : Each (IsUnder book.terms) book.pledges
-  pub versions : DoNotFall 0 (map (λ p. p.version) book.pledges)
+  pub versions : DoNotFall 0 (map (λ p. p.agreement.version) book.pledges)
   pub checked : Each IsChecked book.terms
   pub terms : length book.terms ≤ most_terms
   pub pledges : length book.pledges ≤ most_pledges

@@ -2,7 +2,7 @@
 ghost use Rattle.std.specs.Prelude.{◌≡◌, Err, IfOk};
 ghost use Rattle.std.specs.FinMap.{get};
 ghost use Rattle.pawn_terms.specs.Calendar.{IsStampDay};
-ghost use Rattle.pawn_pledge.specs.Replayable.{IsCommand};
+ghost use Rattle.pawn_pledge.specs.Commands.{IsCommand};
 ghost use Rattle.pawn_pledge.specs.Step.{pledge_step};
 ghost use Rattle.pawn_book.specs.BookStep.{BookValue, bearer_commands, broker_commands, confirmed_booking, head_of, judged_outcome, live_at, pledge_from, pledge_in, windowed};
 ghost use Rattle.pawn_book.specs.Sound.{IsSound, IsWord};

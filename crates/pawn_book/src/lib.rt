@@ -30,20 +30,17 @@ pub use laws::{changes_differ, entries_act_once, extensions_act_once, repeats_ac
 pub use limits::{MOST_BOOKINGS, MOST_RECEIPTS, MOST_ROWS};
 pub use list::ListKeep;
 pub use pawn_pledge::{
-    Applied, Article, BadDay, BadReceipt, Booking, BookingState, Brief, Closing, Command, Day,
-    Decision, Done, Entry, Extension, Issue, Issued, Kind, Number, Opening, Owing, Paper, Pledge,
-    Receipt, Reference, Refusal as PledgeRefusal, RequestDay, Secret, Sort, Stamp, Status, Terms,
-    Text,
+    Agreement, Applied, Article, BadDay, BadReceipt, BearerCommand, Booking, BookingState, Brief,
+    BriefFields, BrokerCommand, Closing, Command, Day, Decision, Done, Entry, Extension, Issue,
+    Issued, Kind, Number, Opening, Owing, Paper, Pledge, Rates, Receipt, Reference,
+    Refusal as PledgeRefusal, RequestDay, Secret, Sort, Stamp, Standing, Status, Terms, Text,
 };
 pub use pawn_terms::TermsFault;
 pub use planning::plan;
 pub use receipts::Receipts;
 pub use refusal::Refusal;
 pub use reply::Reply;
-pub use request::{
-    BearerCommand, BearerRequest, BrokerCommand, BrokerRequest, Caller, Name, NewBook, NewTerms,
-    Request,
-};
+pub use request::{BearerRequest, BrokerRequest, Caller, Name, NewBook, NewTerms, Request};
 pub use visit::{Flow, Visitor};
 
 #[cfg(test)]

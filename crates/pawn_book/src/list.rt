@@ -292,11 +292,11 @@ fn standing_pledge(books: &[Kept], book: Number, number: Number) -> Option<&Pled
 
 // The number of the pledge with a reference.
 fn number_with(pledges: &[Pledge], reference: &Reference) -> Option<Number>
-    ensures value { result ≡ option_map (λ p. p.number) (with_reference pledges.now reference.now) }
+    ensures value { result ≡ option_map (λ p. p.agreement.number) (with_reference pledges.now reference.now) }
 {
     for pledge in pledges {
-        if pledge.reference().as_str() == reference.as_str() {
-            return Some(pledge.number());
+        if pledge.agreement().opening.reference.as_str() == reference.as_str() {
+            return Some(pledge.agreement().number);
         }
     }
     None
@@ -392,7 +392,7 @@ fn confirmed_in(pledges: &[Pledge], day: Day, window: u64) -> usize
 {
     pledges
         .iter()
-        .filter(|pledge| is_confirmed_for(pledge.booking(), day, window))
+        .filter(|pledge| is_confirmed_for(pledge.standing().booking, day, window))
         .count()
 }
 
@@ -467,7 +467,7 @@ fn hand<T, V: Visitor<T>>(items: &[T], visitor: &mut V)
 fn rows_of(pledge: &Pledge) -> u64
     ensures value { result ≡ pledge_rows pledge.now }
 {
-    let booking = match pledge.booking() {
+    let booking = match pledge.standing().booking {
         None => 0,
         Some(_) => 1,
     };

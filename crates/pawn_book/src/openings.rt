@@ -37,7 +37,7 @@ pub(crate) fn plan_pledge<K: Keep>(
     match find_reference(keep, book, &opening.reference) {
         Err(error) => Err(unwell(error)),
         Ok(Some(pledge)) => {
-            if !is_opening(&pledge, opening) {
+            if !is_opening(&pledge.agreement().opening, opening) {
                 return Err(Refusal::RefTaken);
             }
             Ok(Planned {
@@ -49,7 +49,7 @@ pub(crate) fn plan_pledge<K: Keep>(
             Err(refusal) => Err(refusal),
             Ok(pledge) => {
                 let reply = Reply::Opened(first_receipt(&pledge));
-                let number = pledge.number();
+                let number = pledge.agreement().number;
                 Ok(Planned {
                     change: Some(Change::PutPledge {
                         book,
@@ -143,14 +143,14 @@ fn start(
     }
 }
 
-// Whether a pledge was opened so, its reference aside.
-fn is_opening(pledge: &Pledge, opening: &Opening) -> bool
-    ensures value { result ≡ is_opening pledge.now opening.now }
+// Whether two openings are the same, their references aside.
+fn is_opening(a: &Opening, b: &Opening) -> bool
+    ensures value { result ≡ is_opening a.now b.now }
 {
-    pledge.article().as_str() == opening.article.as_str()
-        && pledge.kind() == opening.kind
-        && pledge.agreed() == opening.agreed
-        && pledge.five_days() == opening.five_days
+    a.article.as_str() == b.article.as_str()
+        && a.kind == b.kind
+        && a.agreed == b.agreed
+        && a.five_days == b.five_days
 }
 
 // The receipt that came with the opening.
@@ -162,7 +162,7 @@ fn first_receipt(pledge: &Pledge) -> Receipt
         [] => Secret::of_word(0),
     };
     Receipt {
-        number: pledge.number(),
+        number: pledge.agreement().number,
         secret,
     }
 }

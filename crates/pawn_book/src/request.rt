@@ -1,15 +1,13 @@
 ghost use Rattle.std.specs.Prelude.{◌≡◌, ◌↔◌, IfOk, IsTrue};
-ghost use Rattle.pawn_pledge.specs.Replayable.{IsCommand};
 ghost use Rattle.pawn_pledge.specs.Text.{IsText};
 ghost use Rattle.std.specs.Str.{IsUtf8};
 ghost use Rattle.pawn_book.specs.Limits.{IsCapacity};
 ghost use Rattle.pawn_book.specs.Sound.{IsWord};
-ghost use Rattle.pawn_book.specs.Commands.{broker_command, bearer_command};
 ghost use Rattle.pawn_book.specs.Plans.{IsBearerWrite, IsBrokerWrite, IsWritten};
 
 use crate::capacity::Capacity;
 use crate::receipts::Receipts;
-use pawn_pledge::{Command, Decision, Number, Opening, Paper, Receipt, RequestDay, Secret, Text};
+use pawn_pledge::{BearerCommand, BrokerCommand, Number, Opening, Rates, Receipt, Secret, Text};
 use std::alloc::AllocError;
 
 /// A book's name: 1 to 60 bytes of text without control characters.
@@ -105,14 +103,11 @@ impl BrokerRequest {
     }
 }
 
-/// Terms to be put under a version: interest in millionths per day, and safe keeping in millionths
-/// of a penny per day, up to the end of a period and after it. They are checked by the book.
+/// Terms to be put under a version. They are checked by the book.
 #[derive(Clone, Copy, Debug, PartialEq, Eq)]
 pub struct NewTerms {
     pub version: u64,
-    pub rate: u64,
-    pub keep_before: u64,
-    pub keep_after: u64,
+    pub rates: Rates,
 }
 
 /// What a bearer asks.
@@ -135,76 +130,6 @@ impl BearerRequest {
         match self {
             BearerRequest::Held(_) => false,
             BearerRequest::OnPledge { .. } => true,
-        }
-    }
-}
-
-/// What a broker may command. Sums are in pence; `seq` is the number of the entry, from 1.
-#[derive(Clone, Copy, Debug, PartialEq, Eq)]
-pub enum BrokerCommand {
-    Draw { seq: u64, pence: u64 },
-    Repay { seq: u64, pence: u64 },
-    /// Bars redemption.
-    Hold,
-    /// Bars it no longer.
-    Release,
-    /// Issues a new receipt in place of the live one.
-    Declare(Paper),
-    /// Confirms or refuses a booking.
-    DecideBooking(Decision),
-    Sell { net: u64 },
-    /// Agrees on a later end of the period.
-    Extend { until: RequestDay },
-}
-
-impl BrokerCommand {
-    /// The command on the pledge.
-    pub fn command(self) -> Command
-        ensures same { result ≡ broker_command self }
-        ensures within { IsCommand result }
-    {
-        match self {
-            BrokerCommand::Draw { seq, pence } => Command::Draw { seq, pence },
-            BrokerCommand::Repay { seq, pence } => Command::Repay { seq, pence },
-            BrokerCommand::Hold => Command::Hold,
-            BrokerCommand::Release => Command::Release,
-            BrokerCommand::Declare(paper) => Command::Declare(paper),
-            BrokerCommand::DecideBooking(decision) => Command::DecideBooking(decision),
-            BrokerCommand::Sell { net } => Command::Sell { net },
-            BrokerCommand::Extend { until } => {
-                // Whoever reads the day knows that it is one that a request may name.
-                let _ = until.day();
-                Command::Extend { until }
-            }
-        }
-    }
-}
-
-/// What a bearer may command. Sums are in pence; `seq` is the number of the entry, from 1.
-#[derive(Clone, Copy, Debug, PartialEq, Eq)]
-pub enum BearerCommand {
-    Repay { seq: u64, pence: u64 },
-    /// Asks for a day and a window of that day, 0 to 15.
-    AskBooking { day: RequestDay, window: u64 },
-    CancelBooking,
-    Redeem { paid: u64 },
-}
-
-impl BearerCommand {
-    /// The command on the pledge.
-    pub fn command(self) -> Command
-        ensures same { result ≡ bearer_command self }
-        ensures within { IsCommand result }
-    {
-        match self {
-            BearerCommand::Repay { seq, pence } => Command::Repay { seq, pence },
-            BearerCommand::AskBooking { day, window } => {
-                // Whoever reads the day knows that it is one that a request may name.
-                let _ = day.day();
-                Command::AskBooking { day, window }
-            }
-            BearerCommand::CancelBooking => Command::CancelBooking,
-            BearerCommand::Redeem { paid } => Command::Redeem { paid },
         }
     }
 }

@@ -2,7 +2,7 @@
 ghost use Rattle.std.specs.Prelude.{◌≡◌, IfOk};
 ghost use Rattle.std.specs.FinMap.{get};
 ghost use Rattle.pawn_terms.specs.Terms.{IsChecked};
-ghost use Rattle.pawn_book.specs.BookStep.{BookValue, are_terms, created, head_of, is_book, next_terms, put_terms, terms_at};
+ghost use Rattle.pawn_book.specs.BookStep.{BookValue, are_rates, created, head_of, is_book, next_terms, put_terms, terms_at};
 ghost use Rattle.pawn_book.specs.Sound.{IsSound};
 ghost use Rattle.pawn_book.specs.Keeping.{IsQuiet, Reads};
 ghost use Rattle.pawn_book.specs.Plans.{Plans};
@@ -14,7 +14,7 @@ use crate::limits::MOST_TERMS;
 use crate::refusal::Refusal;
 use crate::reply::Reply;
 use crate::request::{NewBook, NewTerms};
-use pawn_pledge::{Number, Terms};
+use pawn_pledge::{Number, Rates, Terms};
 
 // A book that is to be made, or stands with the same key, name and capacity.
 pub(crate) fn plan_book<K: Keep>(keep: &mut K, book: Number, new_book: &NewBook) -> Result<Planned, Refusal>
@@ -72,7 +72,7 @@ pub(crate) fn plan_terms<K: Keep>(
     match keep.terms(book, version) {
         Err(error) => Err(unwell(error)),
         Ok(Some(terms)) => {
-            if !are_terms(&terms, new_terms) {
+            if !are_rates(terms.rates(), new_terms.rates) {
                 return Err(Refusal::TermsSeq);
             }
             Ok(Planned {
@@ -94,13 +94,11 @@ pub(crate) fn plan_terms<K: Keep>(
     }
 }
 
-// Whether terms are these three numbers.
-fn are_terms(terms: &Terms, new_terms: &NewTerms) -> bool
-    ensures value { result ≡ are_terms terms.now new_terms.now }
+// Whether these are the same three numbers.
+fn are_rates(a: Rates, b: Rates) -> bool
+    ensures value { result ≡ are_rates a b }
 {
-    terms.rate() == new_terms.rate
-        && terms.keep_before() == new_terms.keep_before
-        && terms.keep_after() == new_terms.keep_after
+    a.rate == b.rate && a.keep_before == b.keep_before && a.keep_after == b.keep_after
 }
 
 // The terms of the next version, where so many stand.
@@ -114,7 +112,7 @@ fn next_terms(standing: u64, new_terms: &NewTerms) -> Result<Terms, Refusal>
     if standing >= MOST_TERMS {
         return Err(Refusal::TermsFull);
     }
-    match Terms::check(new_terms.rate, new_terms.keep_before, new_terms.keep_after) {
+    match new_terms.rates.check() {
         Ok(terms) => Ok(terms),
         Err(fault) => Err(Refusal::Terms(fault)),
     }

@@ -3,7 +3,8 @@ use Rattle.std.proofs.Common.{◌≡◌, ℕ, zero, suc, ◌+◌, ◌-◌, ◌*�
 use Rattle.std.proofs.lemmas.Nat.{mul-le}
 use Rattle.std.proofs.lemmas.List.{append-nil}
 use Rattle.std.proofs.lemmas.Bool.Decides.{nat_tests}
-use Rattle.pawn_terms.specs.Terms.{TermsValue, IsChecked}
+use Rattle.pawn_terms.specs.declared.terms.Rates.{Rates}
+use Rattle.pawn_terms.specs.Terms.{IsChecked}
 use Rattle.pawn_terms.proofs.RefusalLemmas.{first_of-is_ok}
 use Rattle.pawn_debt.specs.declared.entry.Entry.{Entry}
 use Rattle.pawn_debt.specs.declared.entry.Kind.{Kind}
@@ -11,13 +12,13 @@ use Rattle.pawn_debt.specs.declared.entry.Kind.TheVariants.{Fixed, Running}
 use Rattle.pawn_debt.specs.declared.entry.Sort.{Sort}
 use Rattle.pawn_debt.specs.declared.entry.Sort.TheVariants.{Draw, Repay}
 use Rattle.pawn_debt.specs.Due.{Due, DebtValue, due, due_after, carried, keep_on, last_of, AreOrdered, after_sort, first_principal, credit_of}
-use Rattle.pawn_debt.specs.Answers.{draw_rows, repay_rows, with_entry, most_pence}
+use Rattle.pawn_debt.specs.Answers.{draw_rows, repay_rows, with_entry}
 use Rattle.pawn_debt.specs.Replay.{IsAccepted, AreAccepted, sort_answer}
-use Rattle.pawn_debt.specs.Kept.{most_a_day}
 use Rattle.pawn_debt.proofs.DueLemmas.{carried-principal}
 use Rattle.pawn_debt.proofs.EntryLemmas.{due-from-last, due-pushed, due-start, pushed, last-le, AreOrdered-push, last_of-push}
+use Rattle.pawn_debt.specs.Limits.{most_pence, most_a_day}
 
-keep-small : (t : TermsValue) (ends x : ℕ) → IsChecked t → keep_on t ends x ≤ 10000000
+keep-small : (t : Rates) (ends x : ℕ) → IsChecked t → keep_on t ends x ≤ 10000000
 keep-small t ends x h = from (nat_le x ends)
   where
     from : (b : Bool) → (if b then t.keep_before else t.keep_after) ≤ 10000000
@@ -25,7 +26,7 @@ keep-small t ends x h = from (nat_le x ends)
     from false = omega (arith, h.1, h.2)
 
 -- no day adds more than the most
-carried-small : (t : TermsValue) (ends x n : ℕ) (o : Due) → IsChecked t → o.principal ≤ most_pence → (carried t ends x n o).charges ≤ o.charges + n * most_a_day
+carried-small : (t : Rates) (ends x n : ℕ) (o : Due) → IsChecked t → o.principal ≤ most_pence → (carried t ends x n o).millionths ≤ o.millionths + n * most_a_day
 unfolding carried
 carried-small t ends x zero o h small = omega arith
 carried-small t ends x (suc n) o h small =
@@ -38,7 +39,7 @@ carried-small t ends x (suc n) o h small =
 -- what is owed on the day x is within its bounds
 pub record IsBounded (p : DebtValue) (x : ℕ) : Type 0 where
   pub principal : (due p x).principal ≤ most_pence
-  pub charges : (due p x).charges ≤ (x - p.taken) * most_a_day
+  pub millionths : (due p x).millionths ≤ (x - p.taken) * most_a_day
 
 -- what entries in order keep
 record IsRunning (p : DebtValue) : Type 0 where
@@ -54,22 +55,22 @@ later-bounded p x h r late =
     let small = carried-small p.terms p.ends last (x - last) (due p last) h r.bounded.principal in
     record {
       principal = omega (arith, ap (λ (o : Due). o.principal) e, same, r.bounded.principal);
-      charges = omega (arith, ap (λ (o : Due). o.charges) e, small, r.bounded.charges, low, late);
+      millionths = omega (arith, ap (λ (o : Due). o.millionths) e, small, r.bounded.millionths, low, late);
     }
 
 -- an accepted entry keeps the bounds of what was owed before it
 entered-bounded : (p : DebtValue) (s : Sort) (x pence : ℕ) → credit_of p.kind ≤ most_pence → IsBounded p x → IsOk (sort_answer s p x pence)
-    → ((after_sort s pence (due p x)).principal ≤ most_pence) × ((after_sort s pence (due p x)).charges ≤ (x - p.taken) * most_a_day) × (last_of p.taken p.entries ≤ x)
+    → ((after_sort s pence (due p x)).principal ≤ most_pence) × ((after_sort s pence (due p x)).millionths ≤ (x - p.taken) * most_a_day) × (last_of p.taken p.entries ≤ x)
 entered-bounded p Draw x pence credit b h =
     let a = first_of-is_ok (draw_rows p x pence) (Ok (with_entry p x Draw pence)) h in
     let over : nat_lt (credit_of p.kind) ((due p x).principal + pence) ≡ false = a.0.1.1.1.1.0 in
     let under : (due p x).principal + pence ≤ credit_of p.kind = grind (arith, nat_tests, over) in
     let early : nat_lt x (last_of p.taken p.entries) ≡ false = a.0.0 in
-    (omega (arith, under, credit), b.charges, grind (arith, nat_tests, early))
+    (omega (arith, under, credit), b.millionths, grind (arith, nat_tests, early))
 entered-bounded p Repay x pence credit b h =
     let a = first_of-is_ok (repay_rows p x pence) (Ok (with_entry p x Repay pence)) h in
     let early : nat_lt x (last_of p.taken p.entries) ≡ false = a.0.0 in
-    (omega (arith, b.principal), omega (arith, b.charges), grind (arith, nat_tests, early))
+    (omega (arith, b.principal), omega (arith, b.millionths), grind (arith, nat_tests, early))
 
 next-running : (p : DebtValue) (e : Entry) → IsChecked p.terms → credit_of p.kind ≤ most_pence → IsRunning p → IsAccepted p e → IsRunning (pushed p e)
 next-running p e h credit r ok =
@@ -82,7 +83,7 @@ next-running p e h credit r ok =
       ordered = AreOrdered-push p.taken p.entries e r.ordered late;
       bounded = subst B (sym (last_of-push p.taken p.entries e)) (record {
         principal = omega (arith, ap (λ (o : Due). o.principal) after, a.0);
-        charges = omega (arith, ap (λ (o : Due). o.charges) after, a.1);
+        millionths = omega (arith, ap (λ (o : Due). o.millionths) after, a.1);
       });
     }
   where
@@ -111,13 +112,13 @@ first-low (Running limit) = omega arith
 
 none-running : (d : DebtValue) → credit_of d.kind ≤ most_pence → first_principal d.kind ≤ credit_of d.kind → IsRunning (record d { entries = [] })
 none-running d credit low =
-    let start : due (record d { entries = [] }) d.taken ≡ record { principal = first_principal d.kind; charges = 0 } =
+    let start : due (record d { entries = [] }) d.taken ≡ record { principal = first_principal d.kind; millionths = 0 } =
     ap (λ (m : ℕ). due_after (record d { entries = [] }) m) (omega arith) ∙ due-start (record d { entries = [] }) refl in
     record {
       ordered = tt;
       bounded = record {
         principal = omega (arith, ap (λ (o : Due). o.principal) start, credit, low);
-        charges = omega (arith, ap (λ (o : Due). o.charges) start);
+        millionths = omega (arith, ap (λ (o : Due). o.millionths) start);
       };
     }
 

@@ -2,7 +2,7 @@
 use Rattle.std.proofs.Common.{◌≡◌, ℕ, zero, suc, ◌+◌, ◌-◌, ◌*◌, ◌<◌, ◌≤◌, inl, inr, nat_le, true, false, min, refl, sym, ◌∙◌, arith}
 use Rattle.std.proofs.lemmas.Bool.{cases_lt}
 use Rattle.std.proofs.lemmas.Bool.Decides.{nat_tests}
-use Rattle.pawn_terms.specs.Terms.{TermsValue}
+use Rattle.pawn_terms.specs.declared.terms.Rates.{Rates}
 use Rattle.pawn_debt.specs.Due.{Due, carried, keep_on}
 
 -- the days of the n after x that are not past the end
@@ -10,24 +10,24 @@ abbrev pub days_inside : ℕ → ℕ → ℕ → ℕ
 days_inside ends x n = min (x + n) ends - x
 
 -- what is owed is its two numbers
-pub due_eq : (a b : Due) → a.principal ≡ b.principal → a.charges ≡ b.charges → a ≡ b
+pub due_eq : (a b : Due) → a.principal ≡ b.principal → a.millionths ≡ b.millionths → a ≡ b
 due_eq a b e f = rw (e, f) refl
 
 -- the keep of a day in the period, and of one past it
-pub keep_on-inside : (t : TermsValue) (ends x : ℕ) → x ≤ ends → keep_on t ends x ≡ t.keep_before
+pub keep_on-inside : (t : Rates) (ends x : ℕ) → x ≤ ends → keep_on t ends x ≡ t.keep_before
 keep_on-inside t ends x h = let e : nat_le x ends ≡ true = grind (arith, nat_tests) in rw e refl
 
-pub keep_on-past : (t : TermsValue) (ends x : ℕ) → ends < x → keep_on t ends x ≡ t.keep_after
+pub keep_on-past : (t : Rates) (ends x : ℕ) → ends < x → keep_on t ends x ≡ t.keep_after
 keep_on-past t ends x h = let e : nat_le x ends ≡ false = grind (arith, nat_tests) in rw e refl
 
 -- the principal stays
-pub carried-principal : (t : TermsValue) (ends x n : ℕ) (o : Due) → (carried t ends x n o).principal ≡ o.principal
+pub carried-principal : (t : Rates) (ends x n : ℕ) (o : Due) → (carried t ends x n o).principal ≡ o.principal
 unfolding carried
 carried-principal t ends x zero o = refl
 carried-principal t ends x (suc n) o = carried-principal t ends x n o
 
 -- charges up to the end of the period
-carried-inside : (t : TermsValue) (ends x n : ℕ) (o : Due) → x + n ≤ ends → (carried t ends x n o).charges ≡ o.charges + n * (o.principal * t.rate) + n * t.keep_before
+carried-inside : (t : Rates) (ends x n : ℕ) (o : Due) → x + n ≤ ends → (carried t ends x n o).millionths ≡ o.millionths + n * (o.principal * t.rate) + n * t.keep_before
 unfolding carried
 carried-inside t ends x zero o h = omega arith
 carried-inside t ends x (suc n) o h =
@@ -37,7 +37,7 @@ carried-inside t ends x (suc n) o h =
     rw (ih, k, p) (omega arith)
 
 -- charges over days that go past it
-carried-past : (t : TermsValue) (ends x n : ℕ) (o : Due) → ends ≤ x + n → (carried t ends x n o).charges ≡ o.charges + n * (o.principal * t.rate) + (ends - x) * t.keep_before + (n - (ends - x)) * t.keep_after
+carried-past : (t : Rates) (ends x n : ℕ) (o : Due) → ends ≤ x + n → (carried t ends x n o).millionths ≡ o.millionths + n * (o.principal * t.rate) + (ends - x) * t.keep_before + (n - (ends - x)) * t.keep_after
 unfolding carried
 carried-past t ends x zero o h = let z : ends - x ≡ 0 = omega arith in rw z (omega arith)
 carried-past t ends x (suc n) o h =
@@ -57,8 +57,8 @@ carried-past t ends x (suc n) o h =
     ]
 
 -- what n days without entries add, in one multiplication
-pub carried-charges : (t : TermsValue) (ends x n : ℕ) (o : Due) → (carried t ends x n o).charges ≡ o.charges + n * (o.principal * t.rate) + days_inside ends x n * t.keep_before + (n - days_inside ends x n) * t.keep_after
-carried-charges t ends x n o =
+pub carried-millionths : (t : Rates) (ends x n : ℕ) (o : Due) → (carried t ends x n o).millionths ≡ o.millionths + n * (o.principal * t.rate) + days_inside ends x n * t.keep_before + (n - days_inside ends x n) * t.keep_after
+carried-millionths t ends x n o =
     elim (cases_lt ends (x + n)) [
       | inl past ↦ let e : days_inside ends x n ≡ ends - x = omega arith in rw e (carried-past t ends x n o (omega arith))
       | inr inside ↦
@@ -68,5 +68,5 @@ carried-charges t ends x n o =
     ]
 
 -- the same, of the two numbers that are kept
-pub carried-is : (t : TermsValue) (ends x n : ℕ) (o : Due) (charges : ℕ) → charges ≡ o.charges + n * (o.principal * t.rate) + days_inside ends x n * t.keep_before + (n - days_inside ends x n) * t.keep_after → record { principal = o.principal; charges = charges } ≡ carried t ends x n o
-carried-is t ends x n o charges e = due_eq _ _ (sym (carried-principal t ends x n o)) (e ∙ sym (carried-charges t ends x n o))
+pub carried-is : (t : Rates) (ends x n : ℕ) (o : Due) (charges : ℕ) → charges ≡ o.millionths + n * (o.principal * t.rate) + days_inside ends x n * t.keep_before + (n - days_inside ends x n) * t.keep_after → record { principal = o.principal; millionths = charges } ≡ carried t ends x n o
+carried-is t ends x n o charges e = due_eq _ _ (sym (carried-principal t ends x n o)) (e ∙ sym (carried-millionths t ends x n o))

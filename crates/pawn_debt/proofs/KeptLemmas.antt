@@ -5,9 +5,10 @@ use Rattle.pawn_debt.specs.declared.entry.Entry.{Entry}
 use Rattle.pawn_debt.specs.declared.owing.Totals.{Totals}
 use Rattle.pawn_debt.specs.declared.entry.Sort.{Sort}
 use Rattle.pawn_debt.specs.Due.{Due, DebtValue, due, carried, last_of, after_sort, due_after, first_principal, credit_of}
-use Rattle.pawn_debt.specs.Kept.{IsKept, owed_of, most_a_day}
-use Rattle.pawn_debt.specs.Answers.{with_entry, most_pence, most_entries}
+use Rattle.pawn_debt.specs.Kept.{IsKept, owed_of}
+use Rattle.pawn_debt.specs.Answers.{with_entry}
 use Rattle.pawn_debt.proofs.EntryLemmas.{due-from-last, due-pushed, last-le, AreOrdered-push, last_of-push, due-start, due-extended}
+use Rattle.pawn_debt.specs.Limits.{most_pence, most_entries, most_a_day}
 
 -- what is owed on a later day; v is the value that a contract sees, and p what the fields hold
 pub owed-later : (p v : DebtValue) (t : Totals) (x : ℕ) → IsKept p t → p ≡ v → last_of v.taken v.entries ≤ x → carried p.terms p.ends t.day (x - t.day) (owed_of t) ≡ due v x
@@ -19,18 +20,18 @@ owed-later p v t x h is late =
     ∙ due-from-last p x h.ordered held ∙ ap (λ (q : DebtValue). due q x) is
 
 -- and a bound on its charges
-pub charges-later : (p v : DebtValue) (t : Totals) (x charges : ℕ) → IsKept p t → p ≡ v → last_of v.taken v.entries ≤ x → charges ≤ t.charges + (x - t.day) * most_a_day → charges ≤ (x - v.taken) * most_a_day
-charges-later p v t x charges h is late small =
+pub millionths-later : (p v : DebtValue) (t : Totals) (x charges : ℕ) → IsKept p t → p ≡ v → last_of v.taken v.entries ≤ x → charges ≤ t.millionths + (x - t.day) * most_a_day → charges ≤ (x - v.taken) * most_a_day
+millionths-later p v t x charges h is late small =
     let P : DebtValue → Type 0 = λ q. last_of q.taken q.entries ≤ x in
     let Q : DebtValue → Type 0 = λ q. charges ≤ (x - q.taken) * most_a_day in
     let held : last_of p.taken p.entries ≤ x = subst P (sym is) late in
     let low = last-le p.taken p.entries h.ordered in
-    let bound : Q p = omega (arith, small, h.charges_in, h.day) in
+    let bound : Q p = omega (arith, small, h.millionths_in, h.day) in
     subst Q is bound
 
 -- one more entry keeps all of it
 pub IsKept-entry : (p : DebtValue) (t after : Totals) (sort : Sort) (pence : ℕ) → IsKept p t → last_of p.taken p.entries ≤ after.day → length p.entries < most_entries
-    → owed_of after ≡ after_sort sort pence (due p after.day) → after.principal ≤ most_pence → after.charges ≤ (after.day - p.taken) * most_a_day → IsDayNumber after.day
+    → owed_of after ≡ after_sort sort pence (due p after.day) → after.principal ≤ most_pence → after.millionths ≤ (after.day - p.taken) * most_a_day → IsDayNumber after.day
     → IsKept (with_entry p after.day sort pence) after
 IsKept-entry p t after sort pence h late few owed principal charges day =
     let e : Entry = record { seq = length p.entries + 1; day = after.day; sort = sort; pence = pence } in
@@ -41,7 +42,7 @@ IsKept-entry p t after sort pence h late few owed principal charges day =
       owed = owed ∙ sym (due-pushed p e (omega arith));
       credit = h.credit;
       principal_in = principal;
-      charges_in = charges;
+      millionths_in = charges;
       taken_in = h.taken_in;
       day_in = day;
       few = omega (arith, length-append p.entries (e ∷ []));
@@ -53,7 +54,7 @@ pub record CanEnter (v : DebtValue) (after : Totals) (sort : Sort) (pence : ℕ)
   pub few : length v.entries < most_entries
   pub owed : owed_of after ≡ after_sort sort pence (due v after.day)
   pub principal_in : after.principal ≤ 100000000
-  pub charges_in : after.charges ≤ (after.day - v.taken) * most_a_day
+  pub millionths_in : after.millionths ≤ (after.day - v.taken) * most_a_day
   pub in_range : IsDayNumber after.day
 
 pub IsKept-enter : (p v : DebtValue) (t after : Totals) (sort : Sort) (pence n : ℕ) (es : List Entry) → IsKept p t → p ≡ v → CanEnter v after sort pence
@@ -62,7 +63,7 @@ pub IsKept-enter : (p v : DebtValue) (t after : Totals) (sort : Sort) (pence n :
 IsKept-enter p v t after sort pence n es h is can len entries =
     let P : DebtValue → Type 0 = λ q. CanEnter q after sort pence in
     let a = subst P (sym is) can in
-    let kept = IsKept-entry p t after sort pence h a.later a.few a.owed a.principal_in a.charges_in a.in_range in
+    let kept = IsKept-entry p t after sort pence h a.later a.few a.owed a.principal_in a.millionths_in a.in_range in
     let K : List Entry → Type 0 = λ l. IsKept (record p { entries = l }) after in
     let e : es ≡ p.entries ++ record { seq = length p.entries + 1; day = after.day; sort = sort; pence = pence } ∷ [] =
     entries ∙ ap (λ (k : ℕ). p.entries ++ record { seq = k + 1; day = after.day; sort = sort; pence = pence } ∷ []) len in
@@ -70,16 +71,16 @@ IsKept-enter p v t after sort pence n es h is can len entries =
 
 -- a debt with no entries
 pub IsKept-start : (p : DebtValue) (principal : ℕ) → p.entries ≡ [] → principal ≡ first_principal p.kind → credit_of p.kind ≤ most_pence → first_principal p.kind ≤ credit_of p.kind → IsDayNumber p.taken
-    → IsKept p (record { day = p.taken; principal = principal; charges = 0 })
+    → IsKept p (record { day = p.taken; principal = principal; millionths = 0 })
 IsKept-start p principal none first small low day =
-    let start : due_after p 0 ≡ record { principal = first_principal p.kind; charges = 0 } = due-start p none in
+    let start : due_after p 0 ≡ record { principal = first_principal p.kind; millionths = 0 } = due-start p none in
     record {
       ordered = rw none tt;
       day = rw none refl;
       owed = rw first (sym start ∙ ap (λ (m : ℕ). due_after p m) (omega arith));
       credit = small;
       principal_in = omega arith;
-      charges_in = omega arith;
+      millionths_in = omega arith;
       taken_in = day;
       day_in = day;
       few = rw none (omega arith);
@@ -103,7 +104,7 @@ IsKept-extended p v t ends h is later inside =
       owed = h.owed ∙ sym (due-extended p ends t.day a.0 (omega (arith, h.day, a.1)) (omega (arith, h.day, low)));
       credit = h.credit;
       principal_in = h.principal_in;
-      charges_in = h.charges_in;
+      millionths_in = h.millionths_in;
       taken_in = h.taken_in;
       day_in = h.day_in;
       few = h.few;
@@ -111,7 +112,7 @@ IsKept-extended p v t ends h is later inside =
 
 -- one more entry, as it stands
 pub IsKept-next : (p : DebtValue) (t after : Totals) (e : Entry) (s : Sort) → IsKept p t → t.day ≤ e.day → length p.entries < most_entries → e.sort ≡ s → after.day ≡ e.day
-    → owed_of after ≡ after_sort s e.pence (due p e.day) → after.principal ≤ most_pence → after.charges ≤ (e.day - p.taken) * most_a_day → IsDayNumber e.day
+    → owed_of after ≡ after_sort s e.pence (due p e.day) → after.principal ≤ most_pence → after.millionths ≤ (e.day - p.taken) * most_a_day → IsDayNumber e.day
     → IsKept (record p { entries = p.entries ++ e ∷ [] }) after
 IsKept-next p t after e s h late few sort same owed principal charges day =
     let low = last-le p.taken p.entries h.ordered in
@@ -122,7 +123,7 @@ IsKept-next p t after e s h late few sort same owed principal charges day =
       owed = owed ∙ ap (λ (k : Sort). after_sort k e.pence (due p e.day)) (sym sort) ∙ sym (due-pushed p e (omega (arith, h.day))) ∙ ap (λ (x : ℕ). due (record p { entries = p.entries ++ e ∷ [] }) x) (sym same);
       credit = h.credit;
       principal_in = principal;
-      charges_in = rw same charges;
+      millionths_in = rw same charges;
       taken_in = h.taken_in;
       day_in = subst D (sym same) day;
       few = omega (arith, length-append p.entries (e ∷ []));

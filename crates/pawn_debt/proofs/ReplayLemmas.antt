@@ -9,8 +9,9 @@ use Rattle.pawn_terms.proofs.RefusalLemmas.{first_of-ok, first_of-is_ok, first_o
 use Rattle.pawn_debt.specs.Due.{Due, DebtValue, due, credit_of, last_of, AreOrdered}
 use Rattle.pawn_debt.specs.Owing.{total_of}
 use Rattle.pawn_debt.proofs.EntryLemmas.{last-le, due-extended}
-use Rattle.pawn_debt.specs.Answers.{draw_rows, repay_rows, with_entry, most_entries}
+use Rattle.pawn_debt.specs.Answers.{draw_rows, repay_rows, with_entry}
 use Rattle.pawn_debt.specs.Replay.{sort_answer, IsAccepted, AreAccepted}
+use Rattle.pawn_debt.specs.Limits.{most_entries}
 
 -- tests on numbers
 not_below : (a b : ℕ) → nat_lt a b ≡ false → b ≤ a

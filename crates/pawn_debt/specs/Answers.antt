@@ -1,7 +1,7 @@
 -- What the calls on a debt answer: the first refusal that applies, or the new debt.
-use Rattle.std.specs.Prelude.{◌≡◌, ℕ, ◌+◌, nat_lt, nat_le, Bool, true, false, ◌||◌, ◌==◌, List, [], ◌∷◌, ◌++◌, length, Result, Ok, Err, IsOk, ◌⊎◌}
-use Rattle.pawn_terms.specs.Refusals.{first_of}
-use Rattle.pawn_terms.specs.Terms.{TermsValue}
+use Rattle.std.specs.Prelude.{◌≡◌, ℕ, ◌+◌, nat_lt, nat_le, Bool, true, false, ◌||◌, ◌==◌, List, [], ◌∷◌, ◌++◌, length, Result, Ok, Err}
+use Rattle.pawn_terms.specs.Refusals.{first_of, IsSaid, IsWant}
+use Rattle.pawn_terms.specs.declared.terms.Rates.{Rates}
 use Rattle.pawn_debt.specs.declared.entry.Sort.{Sort}
 use Rattle.pawn_debt.specs.declared.entry.Sort.TheVariants.{Draw, Repay}
 use Rattle.pawn_debt.specs.declared.entry.Kind.{Kind}
@@ -10,13 +10,7 @@ use Rattle.pawn_debt.specs.declared.fault.DebtFault.{DebtFault}
 use Rattle.pawn_debt.specs.declared.fault.DebtFault.TheVariants.{BadAmount, FixedSum, OverLimit, OverOwing, EarlierDay, EntriesFull}
 use Rattle.pawn_debt.specs.Due.{DebtValue, due, last_of, credit_of}
 use Rattle.pawn_debt.specs.Owing.{total_of}
-
--- no sum is above a million pounds
-abbrev pub most_pence : ℕ
-most_pence = 100000000
-
-abbrev pub most_entries : ℕ
-most_entries = 9999
+use Rattle.pawn_debt.specs.Limits.{most_pence, most_entries}
 
 -- a sum is at least a penny
 abbrev pub is_bad_amount : ℕ → Bool
@@ -32,7 +26,7 @@ with_entry p day sort pence =
     record p { entries = p.entries ++ record { seq = length p.entries + 1; day = day; sort = sort; pence = pence } ∷ [] }
 
 -- a debt begins with no entries
-abbrev pub start_answer : Kind → TermsValue → ℕ → ℕ → Result DebtValue DebtFault
+abbrev pub start_answer : Kind → Rates → ℕ → ℕ → Result DebtValue DebtFault
 start_answer kind terms taken ends =
     first_of
     ((is_bad_amount (credit_of kind), BadAmount) ∷ [])
@@ -63,7 +57,7 @@ repay_rows p day pence =
 abbrev pub repay_answer : DebtValue → ℕ → ℕ → Result DebtValue DebtFault
 repay_answer p day pence = first_of (repay_rows p day pence) (Ok (with_entry p day Repay pence))
 
--- a call that may want memory answers as the rules say, or wants memory and changes nothing
+-- a call answers as the rules say, or memory was wanting; what refuses changes nothing
 abbrev pub IsAnswer : {V U E : Type 0} → E → Result V E → V → Result U E → V → Type 0
 IsAnswer memory answer old (Ok done) new = answer ≡ Ok new
-IsAnswer memory answer old (Err fault) new = (new ≡ old) × ((answer ≡ Err fault) ⊎ ((fault ≡ memory) × IsOk answer))
+IsAnswer memory answer old (Err fault) new = (new ≡ old) × IsSaid (IsWant memory answer) answer (Err fault)

@@ -1,6 +1,7 @@
 -- What is owed on a day, told day by day.
 use Rattle.std.specs.Prelude.{ℕ, zero, suc, ◌+◌, ◌-◌, ◌*◌, ◌/◌, ◌≤◌, ◌==◌, nat_le, min, if◌then◌else◌, List, [], ◌∷◌, filter}
-use Rattle.pawn_terms.specs.Terms.{TermsValue}
+use Rattle.pawn_terms.specs.declared.terms.Rates.{Rates}
+use Rattle.pawn_debt.specs.Limits.{penny}
 use Rattle.pawn_debt.specs.declared.entry.Entry.{Entry}
 use Rattle.pawn_debt.specs.declared.entry.Sort.{Sort}
 use Rattle.pawn_debt.specs.declared.entry.Sort.TheVariants.{Draw, Repay}
@@ -10,12 +11,12 @@ use Rattle.pawn_debt.specs.declared.entry.Kind.TheVariants.{Fixed, Running}
 -- principal in pence, charges in millionths of a penny
 pub record Due : Type 0 where
   pub principal : ℕ
-  pub charges : ℕ
+  pub millionths : ℕ
 
 -- a debt: its kind and terms, the day on which it was taken, the end of its period, and its entries in order
 pub record DebtValue : Type 0 where
   pub kind : Kind
-  pub terms : TermsValue
+  pub terms : Rates
   pub taken : ℕ
   pub ends : ℕ
   pub entries : List Entry
@@ -30,17 +31,13 @@ abbrev pub credit_of : Kind → ℕ
 credit_of (Fixed sum) = sum
 credit_of (Running limit) = limit
 
--- a penny, in millionths of it
-abbrev pub penny : ℕ
-penny = 1000000
-
 -- what an entry does to what is owed: a drawing adds to the principal, and a repayment pays whole
 -- pence of charges first and then principal
 abbrev pub after_sort : Sort → ℕ → Due → Due
-after_sort Draw pence due = record { principal = due.principal + pence; charges = due.charges }
+after_sort Draw pence due = record { principal = due.principal + pence; millionths = due.millionths }
 after_sort Repay pence due =
-    let paid = min pence (due.charges / penny) in
-    record { principal = due.principal - (pence - paid); charges = due.charges - paid * penny }
+    let paid = min pence (due.millionths / penny) in
+    record { principal = due.principal - (pence - paid); millionths = due.millionths - paid * penny }
 
 -- what an entry leaves owing
 abbrev pub after_entry : Due → Entry → Due
@@ -52,14 +49,14 @@ after_entries due [] = due
 after_entries due (e ∷ es) = after_entries (after_entry due e) es
 
 -- a day's charge for safe keeping
-abbrev pub keep_on : TermsValue → ℕ → ℕ → ℕ
+abbrev pub keep_on : Rates → ℕ → ℕ → ℕ
 keep_on terms ends x = if nat_le x ends then terms.keep_before else terms.keep_after
 
 -- what is owed on the day x before its entries, from what was owed on the day before: the charges grow
 -- by interest on the principal and by safe keeping
-abbrev pub accrued : TermsValue → ℕ → ℕ → Due → Due
+abbrev pub accrued : Rates → ℕ → ℕ → Due → Due
 accrued terms ends x due =
-    record { principal = due.principal; charges = due.charges + due.principal * terms.rate + keep_on terms ends x }
+    record { principal = due.principal; millionths = due.millionths + due.principal * terms.rate + keep_on terms ends x }
 
 -- the entries of a day, in order
 abbrev pub entries_on : List Entry → ℕ → List Entry
@@ -68,7 +65,7 @@ entries_on entries x = filter (λ e. e.day == x) entries
 -- what is owed so many days after the day taken, when that day's entries are in
 unfoldable pub due_after : DebtValue → ℕ → Due
 due_after p zero =
-    after_entries (record { principal = first_principal p.kind; charges = 0 }) (entries_on p.entries p.taken)
+    after_entries (record { principal = first_principal p.kind; millionths = 0 }) (entries_on p.entries p.taken)
 due_after p (suc n) =
     after_entries (accrued p.terms p.ends (p.taken + suc n) (due_after p n)) (entries_on p.entries (p.taken + suc n))
 
@@ -77,7 +74,7 @@ abbrev pub due : DebtValue → ℕ → Due
 due p x = due_after p (x - p.taken)
 
 -- what is owed n days after the day x, where no entries come in between
-unfoldable pub carried : TermsValue → ℕ → ℕ → ℕ → Due → Due
+unfoldable pub carried : Rates → ℕ → ℕ → ℕ → Due → Due
 carried terms ends x zero owed = owed
 carried terms ends x (suc n) owed = accrued terms ends (x + suc n) (carried terms ends x n owed)
 

@@ -3,26 +3,18 @@ use Rattle.std.specs.Prelude.{◌≡◌, ℕ, ◌-◌, ◌*◌, ◌≤◌, lengt
 use Rattle.pawn_terms.specs.Calendar.{IsDayNumber}
 use Rattle.pawn_debt.specs.declared.owing.Totals.{Totals}
 use Rattle.pawn_debt.specs.Due.{Due, DebtValue, due, last_of, AreOrdered, credit_of}
-use Rattle.pawn_debt.specs.Answers.{most_pence, most_entries}
-
--- no day adds more charges than this: interest of 20,000 millionths on the largest principal, and ten pence
-abbrev pub most_a_day : ℕ
-most_a_day = 2000010000000
-
--- charges never come to more than this, in millionths of a penny
-abbrev pub most_charges : ℕ
-most_charges = 1000000000000000000
+use Rattle.pawn_debt.specs.Limits.{most_pence, most_entries, most_a_day}
 
 -- the two numbers of totals
 abbrev pub owed_of : Totals → Due
-owed_of t = record { principal = t.principal; charges = t.charges }
+owed_of t = record { principal = t.principal; millionths = t.millionths }
 
 -- what is owed on the day of the last entry
 abbrev pub totals_of : DebtValue → Totals
 totals_of p = record {
   day = last_of p.taken p.entries;
   principal = (due p (last_of p.taken p.entries)).principal;
-  charges = (due p (last_of p.taken p.entries)).charges;
+  millionths = (due p (last_of p.taken p.entries)).millionths;
 }
 
 -- the totals are what is owed on the day of the last entry, and all numbers keep their limits
@@ -32,7 +24,7 @@ pub record IsKept (p : DebtValue) (t : Totals) : Type 0 where
   pub owed : owed_of t ≡ due p t.day
   pub credit : credit_of p.kind ≤ most_pence
   pub principal_in : t.principal ≤ most_pence
-  pub charges_in : t.charges ≤ (t.day - p.taken) * most_a_day
+  pub millionths_in : t.millionths ≤ (t.day - p.taken) * most_a_day
   pub taken_in : IsDayNumber p.taken
   pub day_in : IsDayNumber t.day
   pub few : length p.entries ≤ most_entries

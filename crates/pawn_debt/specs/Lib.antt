@@ -1,3 +1,4 @@
+pub mod Limits
 pub mod Due
 pub mod Owing
 pub mod DebtFault

@@ -1,16 +1,17 @@
 -- What is owed, in whole pence.
 use Rattle.std.specs.Prelude.{ℕ, ◌+◌, ◌/◌}
 use Rattle.pawn_debt.specs.declared.owing.Owing.{Owing}
-use Rattle.pawn_debt.specs.Due.{Due, penny}
+use Rattle.pawn_debt.specs.Due.{Due}
+use Rattle.pawn_debt.specs.Limits.{penny}
 
 -- charges are rounded down to whole pence
 abbrev pub whole_pence : ℕ → ℕ
-whole_pence charges = charges / penny
+whole_pence millionths = millionths / penny
 
 -- principal and charges together
 abbrev pub total_of : Due → ℕ
-total_of owed = owed.principal + whole_pence owed.charges
+total_of owed = owed.principal + whole_pence owed.millionths
 
 -- what is owed, as a caller is told
 abbrev pub owing_of : Due → Owing
-owing_of owed = record { principal = owed.principal; charges = whole_pence owed.charges; total = total_of owed }
+owing_of owed = record { principal = owed.principal; charges = whole_pence owed.millionths; total = total_of owed }

@@ -5,7 +5,8 @@ use Rattle.pawn_debt.specs.declared.entry.Sort.{Sort}
 use Rattle.pawn_debt.specs.declared.entry.Sort.TheVariants.{Draw, Repay}
 use Rattle.pawn_debt.specs.declared.fault.DebtFault.{DebtFault}
 use Rattle.pawn_debt.specs.Due.{DebtValue, credit_of}
-use Rattle.pawn_debt.specs.Answers.{draw_answer, repay_answer, most_pence}
+use Rattle.pawn_debt.specs.Answers.{draw_answer, repay_answer}
+use Rattle.pawn_debt.specs.Limits.{most_pence}
 
 -- what the rules answer to a drawing or a repayment
 abbrev pub sort_answer : Sort → DebtValue → ℕ → ℕ → Result DebtValue DebtFault

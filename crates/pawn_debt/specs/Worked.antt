@@ -2,7 +2,8 @@
 use Rattle.std.specs.Prelude.{◌≡◌, ℕ, ◌-◌, [], ◌∷◌, Ok, Err}
 use Rattle.std.specs.List.{repeat}
 use Rattle.pawn_terms.specs.Calendar.{six_months}
-use Rattle.pawn_terms.specs.Terms.{TermsValue}
+use Rattle.pawn_terms.specs.declared.terms.Rates.{Rates}
+use Rattle.pawn_terms.specs.Terms.{rates_of}
 use Rattle.pawn_terms.specs.Worked.{date}
 use Rattle.pawn_debt.specs.declared.entry.Kind.{Kind}
 use Rattle.pawn_debt.specs.declared.entry.Kind.TheVariants.{Fixed, Running}
@@ -14,21 +15,17 @@ use Rattle.pawn_debt.specs.Owing.{owing_of}
 use Rattle.pawn_debt.specs.Answers.{draw_answer, repay_answer, start_answer, with_entry}
 use Rattle.pawn_debt.specs.Kept.{totals_of}
 
--- terms by their rate of interest and their charges for safe keeping before and after the end
-abbrev pub terms_of : ℕ → ℕ → ℕ → TermsValue
-terms_of rate before after = record { rate = rate; keep_before = before; keep_after = after }
-
 -- terms without any charge
-abbrev pub free : TermsValue
-free = terms_of 0 0 0
+abbrev pub free : Rates
+free = rates_of 0 0 0
 
 -- a debt as it is taken, for six months
-abbrev pub taken_for_six : Kind → TermsValue → ℕ → DebtValue
+abbrev pub taken_for_six : Kind → Rates → ℕ → DebtValue
 taken_for_six kind terms taken = record { kind = kind; terms = terms; taken = taken; ends = six_months taken; entries = [] }
 
 -- pence and millionths of a penny
-abbrev pub pence_and_charges : ℕ → ℕ → Due
-pence_and_charges principal charges = record { principal = principal; charges = charges }
+abbrev pub pence_and_millionths : ℕ → ℕ → Due
+pence_and_millionths principal charges = record { principal = principal; millionths = charges }
 
 -- what is owed as a caller is told it
 abbrev pub owed : ℕ → ℕ → ℕ → Owing
@@ -36,14 +33,14 @@ owed principal charges total = record { principal = principal; charges = charges
 
 -- 100 pounds at 2,667 millionths a day
 abbrev pub at_interest : DebtValue
-at_interest = taken_for_six (Fixed 10000) (terms_of 2667 0 0) (date 2024 1 1)
+at_interest = taken_for_six (Fixed 10000) (rates_of 2667 0 0) (date 2024 1 1)
 
 -- interest from the day after the day taken on, rounded down to whole pence once, where it is told
 abbrev pub WorkedInterest : Type 0
 WorkedInterest =
-    (due at_interest (date 2024 1 1) ≡ pence_and_charges 10000 0)
-    × (due at_interest (date 2024 1 2) ≡ pence_and_charges 10000 26670000)
-    × (due at_interest (date 2024 1 31) ≡ pence_and_charges 10000 800100000)
+    (due at_interest (date 2024 1 1) ≡ pence_and_millionths 10000 0)
+    × (due at_interest (date 2024 1 2) ≡ pence_and_millionths 10000 26670000)
+    × (due at_interest (date 2024 1 31) ≡ pence_and_millionths 10000 800100000)
     × (owing_of (due at_interest (date 2024 1 2)) ≡ owed 10000 26 10026)
     × (owing_of (due at_interest (date 2024 1 31)) ≡ owed 10000 800 10800)
 
@@ -55,9 +52,9 @@ repaid_in_part = with_entry at_interest (date 2024 1 31) Repay 1000
 abbrev pub WorkedRepayments : Type 0
 WorkedRepayments =
     (repay_answer at_interest (date 2024 1 31) 1000 ≡ Ok repaid_in_part)
-    × (due repaid_in_part (date 2024 1 31) ≡ pence_and_charges 9800 100000)
+    × (due repaid_in_part (date 2024 1 31) ≡ pence_and_millionths 9800 100000)
     × (owing_of (due repaid_in_part (date 2024 3 1)) ≡ owed 9800 784 10584)
-    × (due (with_entry at_interest (date 2024 1 31) Repay 10800) (date 2024 2 29) ≡ pence_and_charges 0 100000)
+    × (due (with_entry at_interest (date 2024 1 31) Repay 10800) (date 2024 2 29) ≡ pence_and_millionths 0 100000)
     × (repay_answer at_interest (date 2024 1 31) 10801 ≡ Err (OverOwing 10800))
     × (repay_answer at_interest (date 2024 1 31) 0 ≡ Err BadAmount)
     × (repay_answer at_interest (date 2024 1 31) 100000001 ≡ Err BadAmount)
@@ -66,13 +63,13 @@ WorkedRepayments =
 -- what is kept on the day of the last entry, and carried on from there
 abbrev pub WorkedTotals : Type 0
 WorkedTotals =
-    (totals_of at_interest ≡ record { day = date 2024 1 1; principal = 10000; charges = 0 })
-    × (totals_of repaid_in_part ≡ record { day = date 2024 1 31; principal = 9800; charges = 100000 })
-    × (owing_of (carried (terms_of 2667 0 0) (date 2024 7 1) (date 2024 1 31) (date 2024 3 1 - date 2024 1 31) (pence_and_charges 9800 100000)) ≡ owed 9800 784 10584)
+    (totals_of at_interest ≡ record { day = date 2024 1 1; principal = 10000; millionths = 0 })
+    × (totals_of repaid_in_part ≡ record { day = date 2024 1 31; principal = 9800; millionths = 100000 })
+    × (owing_of (carried (rates_of 2667 0 0) (date 2024 7 1) (date 2024 1 31) (date 2024 3 1 - date 2024 1 31) (pence_and_millionths 9800 100000)) ≡ owed 9800 784 10584)
 
 -- a penny a day for safe keeping up to the end, and half a penny after it
 abbrev pub in_safe_keeping : DebtValue
-in_safe_keeping = taken_for_six (Fixed 10000) (terms_of 0 1000000 500000) (date 2024 1 31)
+in_safe_keeping = taken_for_six (Fixed 10000) (rates_of 0 1000000 500000) (date 2024 1 31)
 
 -- the same, where the period was extended by two months
 abbrev pub kept_for_longer : DebtValue
@@ -108,7 +105,7 @@ WorkedDrawings =
     (draw_answer account (date 2024 1 31) 3000 ≡ Ok drawn_in_part)
     × (draw_answer drawn_in_part (date 2024 1 31) 2001 ≡ Err OverLimit)
     × (draw_answer drawn_in_part (date 2024 1 31) 2000 ≡ Ok (with_entry drawn_in_part (date 2024 1 31) Draw 2000))
-    × (due (with_entry drawn_in_part (date 2024 1 31) Draw 2000) (date 2024 1 31) ≡ pence_and_charges 5000 0)
+    × (due (with_entry drawn_in_part (date 2024 1 31) Draw 2000) (date 2024 1 31) ≡ pence_and_millionths 5000 0)
     × (draw_answer account (date 2024 1 31) 0 ≡ Err BadAmount)
     × (draw_answer in_safe_keeping (date 2024 1 31) 0 ≡ Err FixedSum)
     × (draw_answer in_safe_keeping (date 2024 1 30) 0 ≡ Err EarlierDay)

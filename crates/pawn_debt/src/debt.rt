@@ -2,21 +2,19 @@ ghost use Rattle.std.specs.Prelude.{find, ◌==◌, ◌≡◌, ◌-◌, ◌*◌,
 ghost use Rattle.pawn_terms.specs.Calendar.{IsDayNumber};
 ghost use Rattle.pawn_debt.specs.Due.{due, last_of, credit_of, after_sort};
 ghost use Rattle.pawn_debt.specs.Owing.{owing_of};
-ghost use Rattle.pawn_debt.specs.Answers.{most_pence, most_entries, start_answer, draw_answer, repay_answer, with_entry, IsAnswer};
-ghost use Rattle.pawn_debt.specs.Kept.{IsKept, owed_of, totals_of, most_a_day, most_charges};
+ghost use Rattle.pawn_debt.specs.Answers.{start_answer, draw_answer, repay_answer, with_entry, IsAnswer};
+ghost use Rattle.pawn_debt.specs.Kept.{IsKept, owed_of, totals_of};
 ghost use Rattle.pawn_debt.specs.Replay.{CanStand};
+ghost use Rattle.pawn_debt.specs.Limits.{most_pence, most_entries, most_a_day, most_millionths};
 
-use crate::entry::{Entries, Entry, Kind, Sort};
+use crate::entry::{Entries, Entry, Kind, Sort, find_entry};
 use crate::fault::DebtFault;
+use crate::limits::{MOST_ENTRIES, MOST_PENCE};
 use crate::owing::{Owing, Totals, after_draw, after_repay, carry, owing_after};
 use crate::replay::replay_entries;
 use pawn_terms::{Day, Terms};
 use std::alloc::{AllocError, Global};
 use std::marker::Model;
-
-pub(crate) const MOST_PENCE: u64 = 100_000_000;
-
-pub(crate) const MOST_ENTRIES: usize = 9_999;
 
 /// What is owed on a pledge, by its entries.
 #[derive(Drop)]
@@ -64,7 +62,7 @@ impl Debt {
             totals: Totals {
                 day: taken,
                 principal: kind.first_principal(),
-                charges: 0,
+                millionths: 0,
             },
         })
     }
@@ -125,7 +123,7 @@ impl Debt {
         ensures day { result.day ≡ day }
         ensures owed { owed_of result ≡ due self.now day }
         ensures principal_in { result.principal ≤ most_pence }
-        ensures charges_in { result.charges ≤ (day - self.now.taken) * most_a_day }
+        ensures millionths_in { result.millionths ≤ (day - self.now.taken) * most_a_day }
         ensures in_range { IsDayNumber day }
     {
         carry(&self.totals, self.terms, self.ends, day)
@@ -143,7 +141,7 @@ impl Debt {
     pub fn totals(&self) -> Totals
         ensures value { result ≡ totals_of self.now }
         ensures principal_in { result.principal ≤ most_pence }
-        ensures charges_in { result.charges ≤ most_charges }
+        ensures millionths_in { result.millionths ≤ most_millionths }
     {
         self.totals
     }
@@ -262,7 +260,7 @@ impl Debt {
     pub fn entry(&self, seq: u64) -> Option<Entry>
         ensures value { result ≡ find (λ e. e.seq == seq) self.now.entries }
     {
-        self.entries.find(seq)
+        find_entry(self.entries.as_slice(), seq)
     }
 
     /// The day taken.
@@ -294,7 +292,7 @@ impl Debt {
         requires few { length self.old.entries < most_entries }
         requires owed { owed_of after ≡ after_sort sort pence (due self.old after.day) }
         requires principal_in { after.principal ≤ most_pence }
-        requires charges_in { after.charges ≤ (after.day - self.old.taken) * most_a_day }
+        requires millionths_in { after.millionths ≤ (after.day - self.old.taken) * most_a_day }
         requires in_range { IsDayNumber after.day }
         ensures ok { OnOk result (self.new ≡ with_entry self.old after.day sort pence) }
         ensures last { OnOk result (last_of self.new.taken self.new.entries ≡ after.day) }

@@ -3,13 +3,11 @@ ghost use Rattle.pawn_terms.specs.Calendar.{IsDayNumber};
 ghost use Rattle.pawn_debt.specs.declared.entry.Sort.TheVariants.{Draw, Repay};
 ghost use Rattle.pawn_debt.specs.Due.{carried, after_sort};
 ghost use Rattle.pawn_debt.specs.Owing.{total_of, owing_of};
-ghost use Rattle.pawn_debt.specs.Answers.{most_pence};
-ghost use Rattle.pawn_debt.specs.Kept.{owed_of, most_a_day, most_charges};
+ghost use Rattle.pawn_debt.specs.Kept.{owed_of};
+ghost use Rattle.pawn_debt.specs.Limits.{most_pence, most_a_day, most_millionths};
 
+use crate::limits::PENNY;
 use pawn_terms::{Day, Terms};
-
-// A penny, in millionths of it.
-const PENNY: u64 = 1_000_000;
 
 /// What is owed, in whole pence.
 #[derive(Clone, Copy, Debug, PartialEq, Eq, Hash)]
@@ -19,34 +17,37 @@ pub struct Owing {
     pub total: u64,
 }
 
-/// What is owed on a day: the principal in pence, and the charges in millionths of a penny.
+/// What is owed on a day.
 #[derive(Clone, Copy, Debug, PartialEq, Eq, Hash)]
 pub struct Totals {
     pub day: Day,
+    /// The principal, in pence.
     pub principal: u64,
-    pub charges: u64,
+    /// The charges, in millionths of a penny.
+    pub millionths: u64,
 }
 
 // What is owed on a later day, from what was owed on an earlier one, where no entries come in between.
 pub(crate) fn carry(totals: &Totals, terms: Terms, ends: Day, day: Day) -> Totals
     requires later { totals.now.day ≤ day }
     requires principal_in { totals.now.principal ≤ most_pence }
-    requires charges_in { totals.now.charges ≤ most_charges }
+    requires millionths_in { totals.now.millionths ≤ most_millionths }
     ensures day { result.day ≡ day }
     ensures owed { owed_of result ≡ carried terms ends totals.now.day (day - totals.now.day) (owed_of totals.now) }
     ensures principal { result.principal ≡ totals.now.principal }
-    ensures small { result.charges ≤ totals.now.charges + (day - totals.now.day) * most_a_day }
+    ensures small { result.millionths ≤ totals.now.millionths + (day - totals.now.day) * most_a_day }
     ensures in_range { IsDayNumber result.day }
 {
     let start = totals.day.count();
     let days = (day.count() - start) as u64;
     let inside = (day.count().min(ends.count()).saturating_sub(start)) as u64;
-    let interest = days * (totals.principal * terms.rate());
-    let keep = inside * terms.keep_before() + (days - inside) * terms.keep_after();
+    let rates = terms.rates();
+    let interest = days * (totals.principal * rates.rate);
+    let keep = inside * rates.keep_before + (days - inside) * rates.keep_after;
     Totals {
         day,
         principal: totals.principal,
-        charges: totals.charges + interest + keep,
+        millionths: totals.millionths + interest + keep,
     }
 }
 
@@ -54,7 +55,7 @@ pub(crate) fn carry(totals: &Totals, terms: Terms, ends: Day, day: Day) -> Total
 pub fn owing_from(totals: &Totals, terms: &Terms, ends: Day, day: Day) -> Owing
     requires later { totals.now.day ≤ day }
     requires principal_in { totals.now.principal ≤ most_pence }
-    requires charges_in { totals.now.charges ≤ most_charges }
+    requires millionths_in { totals.now.millionths ≤ most_millionths }
     ensures value { result ≡ owing_of (carried terms.now ends totals.now.day (day - totals.now.day) (owed_of totals.now)) }
 {
     owing_after(&carry(totals, *terms, ends, day))
@@ -65,7 +66,7 @@ pub(crate) fn owing_after(totals: &Totals) -> Owing
     requires within { totals.now.principal ≤ most_pence }
     ensures value { result ≡ owing_of (owed_of totals.now) }
 {
-    let charges = totals.charges / PENNY;
+    let charges = totals.millionths / PENNY;
     Owing {
         principal: totals.principal,
         charges,
@@ -79,12 +80,12 @@ pub(crate) fn after_draw(owed: Totals, pence: u64) -> Totals
     ensures day { result.day ≡ owed.day }
     ensures owed { owed_of result ≡ after_sort Draw pence (owed_of owed) }
     ensures principal_in { result.principal ≤ most_pence }
-    ensures charges_in { result.charges ≤ owed.charges }
+    ensures millionths_in { result.millionths ≤ owed.millionths }
 {
     Totals {
         day: owed.day,
         principal: owed.principal + pence,
-        charges: owed.charges,
+        millionths: owed.millionths,
     }
 }
 
@@ -95,12 +96,12 @@ pub(crate) fn after_repay(owed: Totals, pence: u64) -> Totals
     ensures day { result.day ≡ owed.day }
     ensures owed { owed_of result ≡ after_sort Repay pence (owed_of owed) }
     ensures principal_in { result.principal ≤ most_pence }
-    ensures charges_in { result.charges ≤ owed.charges }
+    ensures millionths_in { result.millionths ≤ owed.millionths }
 {
-    let paid = pence.min(owed.charges / PENNY);
+    let paid = pence.min(owed.millionths / PENNY);
     Totals {
         day: owed.day,
         principal: owed.principal - (pence - paid),
-        charges: owed.charges - paid * PENNY,
+        millionths: owed.millionths - paid * PENNY,
     }
 }

@@ -2,12 +2,12 @@ ghost use Rattle.std.specs.Prelude.{◌≡◌, ◌-◌, ◌*◌, ◌≤◌, [], 
 ghost use Rattle.pawn_terms.specs.Calendar.{IsDayNumber};
 ghost use Rattle.pawn_debt.specs.Due.{credit_of, due};
 ghost use Rattle.pawn_debt.specs.Owing.{owing_of};
-ghost use Rattle.pawn_debt.specs.Answers.{most_pence};
-ghost use Rattle.pawn_debt.specs.Kept.{IsKept, owed_of, most_a_day};
+ghost use Rattle.pawn_debt.specs.Kept.{IsKept, owed_of};
 ghost use Rattle.pawn_debt.specs.Replay.{IsAccepted, AreAccepted};
+ghost use Rattle.pawn_debt.specs.Limits.{most_pence, most_a_day};
 
-use crate::debt::{MOST_ENTRIES, MOST_PENCE};
 use crate::entry::{Entry, Kind, Sort};
+use crate::limits::{MOST_ENTRIES, MOST_PENCE};
 use crate::owing::{Owing, Totals, after_draw, after_repay, carry, owing_after};
 use pawn_terms::{Day, Terms};
 
@@ -26,7 +26,7 @@ fn owed_at(
     ensures day { result.day ≡ day }
     ensures owed { owed_of result ≡ due (record { kind = kind; terms = terms; taken = taken; ends = ends; entries = prior.now }) day }
     ensures principal_in { result.principal ≤ most_pence }
-    ensures charges_in { result.charges ≤ (day - taken) * most_a_day }
+    ensures millionths_in { result.millionths ≤ (day - taken) * most_a_day }
     ensures in_range { IsDayNumber day }
     ensures later { totals.now.day ≤ day }
 {
@@ -89,7 +89,7 @@ fn first_totals(kind: Kind, terms: Terms, taken: Day, ends: Day) -> Totals
     Totals {
         day: taken,
         principal: kind.first_principal(),
-        charges: 0,
+        millionths: 0,
     }
 }
 

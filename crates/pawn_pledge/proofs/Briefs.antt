@@ -1,20 +1,20 @@
 -- A brief of a pledge that can stand is within its limits.
 use Rattle.std.proofs.Common.{◌≤◌, Option, Some, None, arith}
 use Rattle.std.specs.Prelude.{IfSome}
-use Rattle.pawn_terms.specs.Calendar.{last_stamp_day}
+use Rattle.pawn_terms.specs.Limits.{last_stamp_day}
 use Rattle.pawn_debt.proofs.Bounds.{accepted-bounded}
 use Rattle.pawn_pledge.specs.declared.record.Booking.{Booking}
 use Rattle.pawn_pledge.specs.declared.record.Closing.{Closing}
 use Rattle.pawn_pledge.specs.Pledge.{PledgeValue, debt_of}
 use Rattle.pawn_pledge.specs.Replayable.{IsBooked, IsClosed}
-use Rattle.pawn_pledge.specs.BriefFields.{IsBookingWithin, IsClosingWithin}
+use Rattle.pawn_pledge.specs.Brief.{IsBookingWithin, IsClosingWithin}
 use Rattle.pawn_pledge.specs.Laws.{BriefIsWithin}
 
 booked-within : (p : PledgeValue) (o : Option Booking) → IsBooked p o → IfSome o (λ (b : Booking). b.day ≤ last_stamp_day) → IfSome o IsBookingWithin
 booked-within p None booked named = tt
 booked-within p (Some b) booked named = (named, booked.2)
 
-closed-within : (p : PledgeValue) (c : Closing) → IsClosed p c → p.last ≤ last_stamp_day → IsClosingWithin c
+closed-within : (p : PledgeValue) (c : Closing) → IsClosed p c → p.standing.last ≤ last_stamp_day → IsClosingWithin c
 closed-within p Closing.Open closed last = tt
 closed-within p (Closing.Redeemed day paid) closed last = omega (arith, closed.0, last)
 closed-within p (Closing.Sold day net) closed last = (omega (arith, closed.0, last), closed.2)
@@ -33,11 +33,11 @@ brief_is_within p h =
       entries = h.within.entries;
       secrets = h.within.secrets;
       extensions = h.within.extensions;
-      booking = booked-within p p.booking r.booked h.within.booking;
-      closing = closed-within p p.closing r.closed last;
+      booking = booked-within p p.standing.booking r.booked h.within.booking;
+      closing = closed-within p p.standing.closing r.closed last;
       totals = (
         omega (arith, r.entered.before, last),
         bounded.principal,
-        omega (arith, bounded.charges, r.entered.before, last),
+        omega (arith, bounded.millionths, r.entered.before, last),
       );
     }

@@ -12,27 +12,27 @@ use Rattle.pawn_pledge.specs.Laws.{ListsGrow}
 use Rattle.pawn_pledge.proofs.Moves.{Move, pledge_moves, Entering, Holding, Declaring, Asking, Marking, Redeeming, Selling, Extending}
 use Rattle.pawn_pledge.proofs.Receipts.{secrets-moved}
 
-pub entries-moved : (p q : PledgeValue) (c : Command) (x : ℕ) → Move p x c q
+pub entries-moved : (p q : PledgeValue) (c : Command) (w x : ℕ) → Move p x w c q
     → StaysOrGrows (λ (e : Entry). (e.seq ≡ length p.entries + 1) × (e.day ≡ x)) p.entries q.entries
-entries-moved p q c x (Entering sort pence ok late few drawn is) = inr (new_entry p x sort pence, ap (λ (v : PledgeValue). v.entries) is, (refl, refl))
-entries-moved p q c x (Holding flag new is) = inl (ap (λ (v : PledgeValue). v.entries) is)
-entries-moved p q c x (Declaring paper word ok is) = inl (ap (λ (v : PledgeValue). v.entries) is)
-entries-moved p q c x (Asking b later live small state new named is) = inl (ap (λ (v : PledgeValue). v.entries) is)
-entries-moved p q c x (Marking b state at new is) = inl (ap (λ (v : PledgeValue). v.entries) is)
-entries-moved p q c x (Redeeming paid free total is) = inl (ap (λ (v : PledgeValue). v.entries) is)
-entries-moved p q c x (Selling net status small is) = inl (ap (λ (v : PledgeValue). v.entries) is)
-entries-moved p q c x (Extending until inside longer few named is) = inl (ap (λ (v : PledgeValue). v.entries) is)
+entries-moved p q c w x (Entering sort pence ok late few drawn is) = inr (new_entry p x sort pence, ap (λ (v : PledgeValue). v.entries) is, (refl, refl))
+entries-moved p q c w x (Holding flag new is) = inl (ap (λ (v : PledgeValue). v.entries) is)
+entries-moved p q c w x (Declaring paper ok is) = inl (ap (λ (v : PledgeValue). v.entries) is)
+entries-moved p q c w x (Asking b later live small state new named is) = inl (ap (λ (v : PledgeValue). v.entries) is)
+entries-moved p q c w x (Marking b state at new is) = inl (ap (λ (v : PledgeValue). v.entries) is)
+entries-moved p q c w x (Redeeming paid free total is) = inl (ap (λ (v : PledgeValue). v.entries) is)
+entries-moved p q c w x (Selling net status small is) = inl (ap (λ (v : PledgeValue). v.entries) is)
+entries-moved p q c w x (Extending until inside longer few named is) = inl (ap (λ (v : PledgeValue). v.entries) is)
 
-pub extensions-moved : (p q : PledgeValue) (c : Command) (x : ℕ) → Move p x c q
+pub extensions-moved : (p q : PledgeValue) (c : Command) (w x : ℕ) → Move p x w c q
     → StaysOrGrows (λ (e : Extension). (e.day ≡ x) × (end_of p < e.until)) p.extensions q.extensions
-extensions-moved p q c x (Entering sort pence ok late few drawn is) = inl (ap (λ (v : PledgeValue). v.extensions) is)
-extensions-moved p q c x (Holding flag new is) = inl (ap (λ (v : PledgeValue). v.extensions) is)
-extensions-moved p q c x (Declaring paper word ok is) = inl (ap (λ (v : PledgeValue). v.extensions) is)
-extensions-moved p q c x (Asking b later live small state new named is) = inl (ap (λ (v : PledgeValue). v.extensions) is)
-extensions-moved p q c x (Marking b state at new is) = inl (ap (λ (v : PledgeValue). v.extensions) is)
-extensions-moved p q c x (Redeeming paid free total is) = inl (ap (λ (v : PledgeValue). v.extensions) is)
-extensions-moved p q c x (Selling net status small is) = inl (ap (λ (v : PledgeValue). v.extensions) is)
-extensions-moved p q c x (Extending until inside longer few named is) =
+extensions-moved p q c w x (Entering sort pence ok late few drawn is) = inl (ap (λ (v : PledgeValue). v.extensions) is)
+extensions-moved p q c w x (Holding flag new is) = inl (ap (λ (v : PledgeValue). v.extensions) is)
+extensions-moved p q c w x (Declaring paper ok is) = inl (ap (λ (v : PledgeValue). v.extensions) is)
+extensions-moved p q c w x (Asking b later live small state new named is) = inl (ap (λ (v : PledgeValue). v.extensions) is)
+extensions-moved p q c w x (Marking b state at new is) = inl (ap (λ (v : PledgeValue). v.extensions) is)
+extensions-moved p q c w x (Redeeming paid free total is) = inl (ap (λ (v : PledgeValue). v.extensions) is)
+extensions-moved p q c w x (Selling net status small is) = inl (ap (λ (v : PledgeValue). v.extensions) is)
+extensions-moved p q c w x (Extending until inside longer few named is) =
     inr (record { day = x; until = until }, ap (λ (v : PledgeValue). v.extensions) is, (refl, longer))
 
 -- a list that stays or grows by one has its old elements in front
@@ -63,17 +63,17 @@ grows-then p q r f g = record {
   extensions = front-then p.extensions q.extensions r.extensions f.extensions g.extensions;
 }
 
-pub grows-moved : (p q : PledgeValue) (c : Command) (x : ℕ) → Move p x c q → Grows p q
-grows-moved p q c x m = record {
-  entries = front-of _ p.entries q.entries (entries-moved p q c x m);
-  secrets = front-of _ p.secrets q.secrets (secrets-moved p q c x m);
-  extensions = front-of _ p.extensions q.extensions (extensions-moved p q c x m);
+pub grows-moved : (p q : PledgeValue) (c : Command) (w x : ℕ) → Move p x w c q → Grows p q
+grows-moved p q c w x m = record {
+  entries = front-of _ p.entries q.entries (entries-moved p q c w x m);
+  secrets = front-of _ p.secrets q.secrets (secrets-moved p q c w x m);
+  extensions = front-of _ p.extensions q.extensions (extensions-moved p q c w x m);
 }
 
 pub grows-step : (p : PledgeValue) (stamp : Stamp) (c : Command) (j : Judged) → pledge_step p stamp c ≡ j → Grows p (pledge_after p j)
 grows-step p stamp c (Refused why) is = grows-same p
 grows-step p stamp c (Answered done) is = grows-same p
-grows-step p stamp c (Changed q d) is = grows-moved p q c stamp.day (pledge_moves p q stamp c d is).1
+grows-step p stamp c (Changed q d) is = grows-moved p q c stamp.word stamp.day (pledge_moves p q stamp c d is).1
 
 pub lists_grow : ListsGrow
 lists_grow p [] = grows-same p

@@ -2,17 +2,18 @@
 use Rattle.std.proofs.Common.{◌≡◌, ℕ, ◌<◌, ◌≤◌, ◌==◌, nat_lt, nat_le, Bool, true, false, not, if◌then◌else◌, List, [], ◌∷◌, ◌++◌, length, Option, Some, None, Result, Ok, Err, refl, sym, ap, ◌∙◌, arith}
 use Rattle.std.proofs.lemmas.Bool.{true≢false}
 use Rattle.std.proofs.lemmas.Bool.Decides.{nat_tests}
-use Rattle.pawn_terms.specs.Calendar.{last_stamp_day}
 use Rattle.pawn_terms.specs.Refusals.{first_of, NoneApplies}
 use Rattle.pawn_terms.proofs.RefusalLemmas.{first_of-ok}
+use Rattle.pawn_terms.specs.Limits.{last_stamp_day}
 use Rattle.pawn_debt.specs.declared.entry.Entry.{Entry}
 use Rattle.pawn_debt.specs.declared.entry.Sort.{Sort}
 use Rattle.pawn_debt.specs.declared.entry.Sort.TheVariants.{Draw, Repay}
 use Rattle.pawn_debt.specs.declared.fault.DebtFault.{DebtFault}
 use Rattle.pawn_debt.specs.Due.{DebtValue, last_of}
-use Rattle.pawn_debt.specs.Answers.{draw_answer, repay_answer, with_entry, most_pence, most_entries}
+use Rattle.pawn_debt.specs.Answers.{draw_answer, repay_answer, with_entry}
 use Rattle.pawn_debt.specs.Replay.{sort_answer}
 use Rattle.pawn_debt.proofs.ReplayLemmas.{sort_answer-ok}
+use Rattle.pawn_debt.specs.Limits.{most_pence, most_entries}
 use Rattle.pawn_pledge.specs.declared.record.Booking.{Booking}
 use Rattle.pawn_pledge.specs.declared.record.BookingState.{BookingState}
 use Rattle.pawn_pledge.specs.declared.record.Closing.{Closing}
@@ -24,9 +25,11 @@ use Rattle.pawn_pledge.specs.declared.command.Decision.TheVariants.{Confirm, Ref
 use Rattle.pawn_pledge.specs.declared.command.Command.{Command}
 use Rattle.pawn_pledge.specs.declared.command.Done.{Done}
 use Rattle.pawn_pledge.specs.declared.refusal.Refusal.{Refusal}
-use Rattle.pawn_pledge.specs.Pledge.{PledgeValue, end_of, debt_of, total_on, open_status, is_passed, is_realisable}
-use Rattle.pawn_pledge.specs.Step.{Judged, Answered, Changed, past, unless, bars, is_open, is_repeat, is_ahead, new_entry, entered, entry_step, numbered_step, same_flag, hold_step, declare_bars, with_secret, issue_of, declare_step, books, in_state, is_standing, stands_for, asked, ask_step, cancelled, cancel_step, confirmed, declined, decide_step, closed, redeem_step, sell_step, with_extension, extend_step, pledge_step, last_window, most_extensions}
-use Rattle.pawn_pledge.specs.Replayable.{IsNotPassed, IsDrawnBy, IsCommand}
+use Rattle.pawn_pledge.specs.Pledge.{PledgeValue, changed_on, settled, end_of, debt_of, total_on, open_status, is_passed, is_realisable}
+use Rattle.pawn_pledge.specs.Step.{Judged, Answered, Changed, past, unless, bars, is_open, is_repeat, is_ahead, new_entry, entered, entry_step, numbered_step, same_flag, held_on, hold_step, declare_bars, with_secret, issue_of, declare_step, booked_on, books, in_state, is_standing, stands_for, asked, ask_step, cancelled, cancel_step, confirmed, declined, decide_step, closed, redeem_step, sell_step, with_extension, extend_step, pledge_step}
+use Rattle.pawn_pledge.specs.Replayable.{IsNotPassed, IsDrawnBy}
+use Rattle.pawn_pledge.specs.Commands.{IsCommand}
+use Rattle.pawn_pledge.specs.Limits.{last_window, most_extensions}
 
 -- a step that changes was not refused on the way
 past-changed : (g : Result (Unit {0}) Refusal) (own : Judged) (q : PledgeValue) (d : Done) → past g own ≡ Changed q d → (g ≡ Ok tt) × (own ≡ Changed q d)
@@ -65,8 +68,8 @@ not_same a b h e = grind (arith, nat_tests, h, e)
 
 -- nothing bars a command
 pub record IsGated (p : PledgeValue) (x : ℕ) : Type 0 where
-  pub later : p.last ≤ x
-  pub standing : p.closing ≡ Closing.Open
+  pub later : p.standing.last ≤ x
+  pub standing : p.standing.closing ≡ Closing.Open
   pub not_passed : IsNotPassed p x
 
 open-is : (c : Closing) → not (is_open c) ≡ false → c ≡ Closing.Open
@@ -75,82 +78,82 @@ open-is (Closing.Redeemed day paid) h = absurd (true≢false h)
 open-is (Closing.Sold day net) h = absurd (true≢false h)
 
 gate-is : (p : PledgeValue) (x : ℕ) → NoneApplies (bars p x) → IsGated p x
-gate-is p x h = record { later = not_below x p.last h.0; standing = open-is p.closing h.1.0; not_passed = h.1.1.0 }
+gate-is p x h = record { later = not_below x p.standing.last h.0; standing = open-is p.standing.closing h.1.0; not_passed = h.1.1.0 }
 
--- what a step that changes does; a day that the command names is one that a request can give
-pub data Move (p : PledgeValue) (x : ℕ) (command : Command) (q : PledgeValue) : Type 0 where
+-- what a step that changes does, on the day x with the word w; a day that the command names is one that a request can give
+pub data Move (p : PledgeValue) (x w : ℕ) (command : Command) (q : PledgeValue) : Type 0 where
   Entering : (sort : Sort) (pence : ℕ) → sort_answer sort (debt_of p) x pence ≡ Ok (with_entry (debt_of p) x sort pence)
-      → last_of p.taken p.entries ≤ x → length p.entries < most_entries → IsDrawnBy (end_of p) sort x
-      → q ≡ record p { entries = p.entries ++ new_entry p x sort pence ∷ []; last = x } → Move p x command q
-  Holding : (flag : Bool) → same_flag p.held flag ≡ false → q ≡ record p { held = flag; last = x } → Move p x command q
-  Declaring : (paper : Paper) (word : ℕ) → NoneApplies (declare_bars p (record { day = x; word = word }) paper)
-      → q ≡ with_secret p (record { day = x; sort = issue_of paper; secret = word }) → Move p x command q
-  Asking : (b : Booking) → x ≤ b.day → IsNotPassed p b.day → b.window ≤ last_window → b.state ≡ BookingState.Asked → (p.booking ≡ Some b → ⊥)
-      → (IsCommand command → b.day ≤ last_stamp_day) → q ≡ record p { booking = Some b; last = x } → Move p x command q
-  Marking : (b : Booking) (state : BookingState) → p.booking ≡ Some b → (b.state ≡ state → ⊥)
-      → q ≡ record p { booking = Some (in_state b state); last = x } → Move p x command q
-  Redeeming : (paid : ℕ) → p.held ≡ false → paid ≡ total_on p x → q ≡ closed p x (Closing.Redeemed x paid) → Move p x command q
-  Selling : (net : ℕ) → open_status p x ≡ Status.Realisable → net ≤ most_pence → q ≡ closed p x (Closing.Sold x net) → Move p x command q
+      → last_of p.agreement.taken p.entries ≤ x → length p.entries < most_entries → IsDrawnBy (end_of p) sort x
+      → q ≡ record p { entries = p.entries ++ new_entry p x sort pence ∷ []; standing = changed_on p.standing x } → Move p x w command q
+  Holding : (flag : Bool) → same_flag p.standing.held flag ≡ false → q ≡ settled p (held_on p.standing flag x) → Move p x w command q
+  Declaring : (paper : Paper) → NoneApplies (declare_bars p paper w)
+      → q ≡ with_secret p (record { day = x; sort = issue_of paper; secret = w }) → Move p x w command q
+  Asking : (b : Booking) → x ≤ b.day → IsNotPassed p b.day → b.window ≤ last_window → b.state ≡ BookingState.Asked → (p.standing.booking ≡ Some b → ⊥)
+      → (IsCommand command → b.day ≤ last_stamp_day) → q ≡ settled p (booked_on p.standing b x) → Move p x w command q
+  Marking : (b : Booking) (state : BookingState) → p.standing.booking ≡ Some b → (b.state ≡ state → ⊥)
+      → q ≡ settled p (booked_on p.standing (in_state b state) x) → Move p x w command q
+  Redeeming : (paid : ℕ) → p.standing.held ≡ false → paid ≡ total_on p x → q ≡ closed p x (Closing.Redeemed x paid) → Move p x w command q
+  Selling : (net : ℕ) → open_status p x ≡ Status.Realisable → net ≤ most_pence → q ≡ closed p x (Closing.Sold x net) → Move p x w command q
   Extending : (until : ℕ) → x ≤ end_of p → end_of p < until → length p.extensions < most_extensions
-      → (IsCommand command → until ≤ last_stamp_day) → q ≡ with_extension p (record { day = x; until = until }) → Move p x command q
+      → (IsCommand command → until ≤ last_stamp_day) → q ≡ with_extension p (record { day = x; until = until }) → Move p x w command q
 
 -- drawings and repayments
-entered-moves : (p q : PledgeValue) (c : Command) (x : ℕ) (sort : Sort) (pence : ℕ) (r : Result DebtValue DebtFault) (d : Done)
-    → sort_answer sort (debt_of p) x pence ≡ r → IsDrawnBy (end_of p) sort x → entered p x sort pence r ≡ Changed q d → Move p x c q
-entered-moves p q c x sort pence (Ok v) d is drawn h =
+entered-moves : (p q : PledgeValue) (c : Command) (w x : ℕ) (sort : Sort) (pence : ℕ) (r : Result DebtValue DebtFault) (d : Done)
+    → sort_answer sort (debt_of p) x pence ≡ r → IsDrawnBy (end_of p) sort x → entered p x sort pence r ≡ Changed q d → Move p x w c q
+entered-moves p q c w x sort pence (Ok v) d is drawn h =
     let a = sort_answer-ok sort (debt_of p) v x pence is in
-    let moved : q ≡ record p { entries = v.entries; last = x } = changed-is (record p { entries = v.entries; last = x }) q _ d h in
+    let moved : q ≡ record p { entries = v.entries; standing = changed_on p.standing x } = changed-is (record p { entries = v.entries; standing = changed_on p.standing x }) q _ d h in
     Entering sort pence (is ∙ ap (λ (w : DebtValue). Ok w) a.2) a.0 a.1 drawn
-    (moved ∙ ap (λ (w : DebtValue). record p { entries = w.entries; last = x }) a.2)
-entered-moves p q c x sort pence (Err fault) d is drawn h = cc
+    (moved ∙ ap (λ (w : DebtValue). record p { entries = w.entries; standing = changed_on p.standing x }) a.2)
+entered-moves p q c w x sort pence (Err fault) d is drawn h = cc
 
-entry-moves : (p q : PledgeValue) (c : Command) (x : ℕ) (sort : Sort) (pence : ℕ) (d : Done) → entry_step p x sort pence ≡ Changed q d → Move p x c q
-entry-moves p q c x Draw pence d h =
+entry-moves : (p q : PledgeValue) (c : Command) (w x : ℕ) (sort : Sort) (pence : ℕ) (d : Done) → entry_step p x sort pence ≡ Changed q d → Move p x w c q
+entry-moves p q c w x Draw pence d h =
     let a = unless-changed ((nat_lt (end_of p) x, Refusal.PeriodOver) ∷ []) (entered p x Draw pence (draw_answer (debt_of p) x pence)) q d h in
-    entered-moves p q c x Draw pence (draw_answer (debt_of p) x pence) d refl (not_below (end_of p) x a.0.0) a.1
-entry-moves p q c x Repay pence d h = entered-moves p q c x Repay pence (repay_answer (debt_of p) x pence) d refl tt h
+    entered-moves p q c w x Draw pence (draw_answer (debt_of p) x pence) d refl (not_below (end_of p) x a.0.0) a.1
+entry-moves p q c w x Repay pence d h = entered-moves p q c w x Repay pence (repay_answer (debt_of p) x pence) d refl tt h
 
 -- past the bars, and then a move
-abbrev pub Goes : PledgeValue → ℕ → Command → PledgeValue → Type 0
-Goes p x c q = IsGated p x × Move p x c q
+abbrev pub Goes : PledgeValue → ℕ → ℕ → Command → PledgeValue → Type 0
+Goes p x w c q = IsGated p x × Move p x w c q
 
-gated : (p q : PledgeValue) (c : Command) (x : ℕ) (own : Judged) (d : Done) → (own ≡ Changed q d → Move p x c q) → unless (bars p x) own ≡ Changed q d → Goes p x c q
-gated p q c x own d moves h =
+gated : (p q : PledgeValue) (c : Command) (w x : ℕ) (own : Judged) (d : Done) → (own ≡ Changed q d → Move p x w c q) → unless (bars p x) own ≡ Changed q d → Goes p x w c q
+gated p q c w x own d moves h =
     let a = unless-changed (bars p x) own q d h in
     (gate-is p x a.0, moves a.1)
 
-numbered-moves : (p q : PledgeValue) (c : Command) (x seq : ℕ) (sort : Sort) (pence : ℕ) (o : Option Entry) (d : Done) → numbered_step p x seq sort pence o ≡ Changed q d → Goes p x c q
-numbered-moves p q c x seq sort pence (Some e) d h =
+numbered-moves : (p q : PledgeValue) (c : Command) (w x seq : ℕ) (sort : Sort) (pence : ℕ) (o : Option Entry) (d : Done) → numbered_step p x seq sort pence o ≡ Changed q d → Goes p x w c q
+numbered-moves p q c w x seq sort pence (Some e) d h =
     let a = unless-changed ((not (is_repeat e sort pence), Refusal.SeqTaken) ∷ []) (Answered (Done.Entered e)) q d h in
     let never : Answered (Done.Entered e) ≡ Changed q d = a.1 in
     cc
-numbered-moves p q c x seq sort pence None d h =
+numbered-moves p q c w x seq sort pence None d h =
     let a = unless-changed ((is_ahead p seq, Refusal.SeqAhead) ∷ []) (unless (bars p x) (entry_step p x sort pence)) q d h in
-    gated p q c x (entry_step p x sort pence) d (λ k. entry-moves p q c x sort pence d k) a.1
+    gated p q c w x (entry_step p x sort pence) d (λ k. entry-moves p q c w x sort pence d k) a.1
 
 -- the flag
-hold-moves : (p q : PledgeValue) (c : Command) (x : ℕ) (flag : Bool) (d : Done) → hold_step p x flag ≡ Changed q d → Move p x c q
-hold-moves p q c x flag d h =
-    let a = if-unanswered (same_flag p.held flag) _ _ q d h in
-    Holding flag a.0 (changed-is (record p { held = flag; last = x }) q _ d a.1)
+hold-moves : (p q : PledgeValue) (c : Command) (w x : ℕ) (flag : Bool) (d : Done) → hold_step p x flag ≡ Changed q d → Move p x w c q
+hold-moves p q c w x flag d h =
+    let a = if-unanswered (same_flag p.standing.held flag) _ _ q d h in
+    Holding flag a.0 (changed-is (settled p (held_on p.standing flag x)) q _ d a.1)
 
 -- declarations
-declare-moves : (p q : PledgeValue) (c : Command) (stamp : Stamp) (paper : Paper) (d : Done) → declare_step p stamp paper ≡ Changed q d → Move p stamp.day c q
+declare-moves : (p q : PledgeValue) (c : Command) (stamp : Stamp) (paper : Paper) (d : Done) → declare_step p stamp paper ≡ Changed q d → Move p stamp.day stamp.word c q
 declare-moves p q c stamp paper d h =
     let next : PledgeValue = with_secret p (record { day = stamp.day; sort = issue_of paper; secret = stamp.word }) in
-    let a = unless-changed (declare_bars p stamp paper) (Changed next (Done.Declared stamp.word)) q d h in
-    Declaring paper stamp.word a.0 (changed-is next q _ d a.1)
+    let a = unless-changed (declare_bars p paper stamp.word) (Changed next (Done.Declared stamp.word)) q d h in
+    Declaring paper a.0 (changed-is next q _ d a.1)
 
 -- bookings; one for that day and window that doesn't stand is another than the one asked for
 stands-asked : (b : Booking) → b.state ≡ BookingState.Asked → stands_for b b.day b.window ≡ true
 stands-asked b e = let s : is_standing b.state ≡ true = rw e refl in grind (arith, nat_tests, s)
 
-asked-moves : (p q : PledgeValue) (c : Command) (x day window : ℕ) (o : Option Booking) (d : Done) → p.booking ≡ o → x ≤ day → IsNotPassed p day → window ≤ last_window
-    → (IsCommand c → day ≤ last_stamp_day) → asked p x day window o ≡ Changed q d → Move p x c q
-asked-moves p q c x day window None d is later live small named h =
+asked-moves : (p q : PledgeValue) (c : Command) (w x day window : ℕ) (o : Option Booking) (d : Done) → p.standing.booking ≡ o → x ≤ day → IsNotPassed p day → window ≤ last_window
+    → (IsCommand c → day ≤ last_stamp_day) → asked p x day window o ≡ Changed q d → Move p x w c q
+asked-moves p q c w x day window None d is later live small named h =
     let b : Booking = record { day = day; window = window; state = BookingState.Asked } in
-    Asking b later live small refl (λ e. let f : None ≡ Some b = sym is ∙ e in cc) named (changed-is (record p { booking = Some b; last = x }) q _ d h)
-asked-moves p q c x day window (Some o) d is later live small named h =
+    Asking b later live small refl (λ e. let f : None ≡ Some b = sym is ∙ e in cc) named (changed-is (settled p (booked_on p.standing b x)) q _ d h)
+asked-moves p q c w x day window (Some o) d is later live small named h =
     let b : Booking = record { day = day; window = window; state = BookingState.Asked } in
     let a = if-unanswered (stands_for o day window) _ _ q d h in
     Asking b later live small refl
@@ -158,55 +161,55 @@ asked-moves p q c x day window (Some o) d is later live small named h =
     let g : o ≡ b = cc in
     let t : stands_for o day window ≡ true = ap (λ (k : Booking). stands_for k day window) g ∙ stands-asked b refl in
     true≢false (sym t ∙ a.0))
-    named (changed-is (record p { booking = Some b; last = x }) q _ d a.1)
+    named (changed-is (settled p (booked_on p.standing b x)) q _ d a.1)
 
-ask-moves : (p q : PledgeValue) (c : Command) (x day window : ℕ) (d : Done) → (IsCommand c → day ≤ last_stamp_day) → ask_step p x day window ≡ Changed q d → Move p x c q
-ask-moves p q c x day window d named h =
+ask-moves : (p q : PledgeValue) (c : Command) (w x day window : ℕ) (d : Done) → (IsCommand c → day ≤ last_stamp_day) → ask_step p x day window ≡ Changed q d → Move p x w c q
+ask-moves p q c w x day window d named h =
     let rows : List (Bool × Refusal) = (nat_lt last_window window, Refusal.BadWindow) ∷ (nat_lt day x, Refusal.BookingDay) ∷ (is_passed (open_status p day), Refusal.BookingDay) ∷ [] in
-    let a = unless-changed rows (asked p x day window p.booking) q d h in
-    asked-moves p q c x day window p.booking d refl (not_below day x a.0.1.0) a.0.1.1.0 (not_below last_window window a.0.0) named a.1
+    let a = unless-changed rows (asked p x day window p.standing.booking) q d h in
+    asked-moves p q c w x day window p.standing.booking d refl (not_below day x a.0.1.0) a.0.1.1.0 (not_below last_window window a.0.0) named a.1
 
-marked : (p q : PledgeValue) (c : Command) (x : ℕ) (b : Booking) (state : BookingState) (d : Done) → p.booking ≡ Some b → (b.state ≡ state → ⊥) → books p x (in_state b state) ≡ Changed q d → Move p x c q
-marked p q c x b state d is other h = Marking b state is other (changed-is (record p { booking = Some (in_state b state); last = x }) q _ d h)
+marked : (p q : PledgeValue) (c : Command) (w x : ℕ) (b : Booking) (state : BookingState) (d : Done) → p.standing.booking ≡ Some b → (b.state ≡ state → ⊥) → books p x (in_state b state) ≡ Changed q d → Move p x w c q
+marked p q c w x b state d is other h = Marking b state is other (changed-is (settled p (booked_on p.standing (in_state b state) x)) q _ d h)
 
 -- two states that differ
 other : (s t u : BookingState) → s ≡ t → (t ≡ u → ⊥) → s ≡ u → ⊥
 other s t u e n f = n (sym e ∙ f)
 
-cancelled-moves : (p q : PledgeValue) (c : Command) (x : ℕ) (b : Booking) (s : BookingState) (d : Done) → p.booking ≡ Some b → b.state ≡ s → cancelled p x b s ≡ Changed q d → Move p x c q
-cancelled-moves p q c x b BookingState.Asked d is at h = marked p q c x b BookingState.Cancelled d is (other b.state BookingState.Asked BookingState.Cancelled at (λ e. cc)) h
-cancelled-moves p q c x b BookingState.Confirmed d is at h = marked p q c x b BookingState.Cancelled d is (other b.state BookingState.Confirmed BookingState.Cancelled at (λ e. cc)) h
-cancelled-moves p q c x b BookingState.Refused d is at h = cc
-cancelled-moves p q c x b BookingState.Cancelled d is at h = cc
+cancelled-moves : (p q : PledgeValue) (c : Command) (w x : ℕ) (b : Booking) (s : BookingState) (d : Done) → p.standing.booking ≡ Some b → b.state ≡ s → cancelled p x b s ≡ Changed q d → Move p x w c q
+cancelled-moves p q c w x b BookingState.Asked d is at h = marked p q c w x b BookingState.Cancelled d is (other b.state BookingState.Asked BookingState.Cancelled at (λ e. cc)) h
+cancelled-moves p q c w x b BookingState.Confirmed d is at h = marked p q c w x b BookingState.Cancelled d is (other b.state BookingState.Confirmed BookingState.Cancelled at (λ e. cc)) h
+cancelled-moves p q c w x b BookingState.Refused d is at h = cc
+cancelled-moves p q c w x b BookingState.Cancelled d is at h = cc
 
-cancel-moves : (p q : PledgeValue) (c : Command) (x : ℕ) (o : Option Booking) (d : Done) → p.booking ≡ o → cancel_step p x o ≡ Changed q d → Move p x c q
-cancel-moves p q c x None d is h = cc
-cancel-moves p q c x (Some b) d is h = cancelled-moves p q c x b b.state d is refl h
+cancel-moves : (p q : PledgeValue) (c : Command) (w x : ℕ) (o : Option Booking) (d : Done) → p.standing.booking ≡ o → cancel_step p x o ≡ Changed q d → Move p x w c q
+cancel-moves p q c w x None d is h = cc
+cancel-moves p q c w x (Some b) d is h = cancelled-moves p q c w x b b.state d is refl h
 
-confirmed-moves : (p q : PledgeValue) (c : Command) (x : ℕ) (b : Booking) (s : BookingState) (d : Done) → p.booking ≡ Some b → b.state ≡ s → confirmed p x b s ≡ Changed q d → Move p x c q
-confirmed-moves p q c x b BookingState.Asked d is at h =
+confirmed-moves : (p q : PledgeValue) (c : Command) (w x : ℕ) (b : Booking) (s : BookingState) (d : Done) → p.standing.booking ≡ Some b → b.state ≡ s → confirmed p x b s ≡ Changed q d → Move p x w c q
+confirmed-moves p q c w x b BookingState.Asked d is at h =
     let a = unless-changed ((nat_lt b.day x, Refusal.BookingDay) ∷ []) (books p x (in_state b BookingState.Confirmed)) q d h in
-    marked p q c x b BookingState.Confirmed d is (other b.state BookingState.Asked BookingState.Confirmed at (λ e. cc)) a.1
-confirmed-moves p q c x b BookingState.Confirmed d is at h = cc
-confirmed-moves p q c x b BookingState.Refused d is at h = cc
-confirmed-moves p q c x b BookingState.Cancelled d is at h = cc
+    marked p q c w x b BookingState.Confirmed d is (other b.state BookingState.Asked BookingState.Confirmed at (λ e. cc)) a.1
+confirmed-moves p q c w x b BookingState.Confirmed d is at h = cc
+confirmed-moves p q c w x b BookingState.Refused d is at h = cc
+confirmed-moves p q c w x b BookingState.Cancelled d is at h = cc
 
-declined-moves : (p q : PledgeValue) (c : Command) (x : ℕ) (b : Booking) (s : BookingState) (d : Done) → p.booking ≡ Some b → b.state ≡ s → declined p x b s ≡ Changed q d → Move p x c q
-declined-moves p q c x b BookingState.Asked d is at h = marked p q c x b BookingState.Refused d is (other b.state BookingState.Asked BookingState.Refused at (λ e. cc)) h
-declined-moves p q c x b BookingState.Confirmed d is at h = marked p q c x b BookingState.Refused d is (other b.state BookingState.Confirmed BookingState.Refused at (λ e. cc)) h
-declined-moves p q c x b BookingState.Refused d is at h = cc
-declined-moves p q c x b BookingState.Cancelled d is at h = cc
+declined-moves : (p q : PledgeValue) (c : Command) (w x : ℕ) (b : Booking) (s : BookingState) (d : Done) → p.standing.booking ≡ Some b → b.state ≡ s → declined p x b s ≡ Changed q d → Move p x w c q
+declined-moves p q c w x b BookingState.Asked d is at h = marked p q c w x b BookingState.Refused d is (other b.state BookingState.Asked BookingState.Refused at (λ e. cc)) h
+declined-moves p q c w x b BookingState.Confirmed d is at h = marked p q c w x b BookingState.Refused d is (other b.state BookingState.Confirmed BookingState.Refused at (λ e. cc)) h
+declined-moves p q c w x b BookingState.Refused d is at h = cc
+declined-moves p q c w x b BookingState.Cancelled d is at h = cc
 
-decide-moves : (p q : PledgeValue) (c : Command) (x : ℕ) (decision : Decision) (o : Option Booking) (d : Done) → p.booking ≡ o → decide_step p x decision o ≡ Changed q d → Move p x c q
-decide-moves p q c x Confirm None d is h = cc
-decide-moves p q c x Refuse None d is h = cc
-decide-moves p q c x Confirm (Some b) d is h = confirmed-moves p q c x b b.state d is refl h
-decide-moves p q c x Refuse (Some b) d is h = declined-moves p q c x b b.state d is refl h
+decide-moves : (p q : PledgeValue) (c : Command) (w x : ℕ) (decision : Decision) (o : Option Booking) (d : Done) → p.standing.booking ≡ o → decide_step p x decision o ≡ Changed q d → Move p x w c q
+decide-moves p q c w x Confirm None d is h = cc
+decide-moves p q c w x Refuse None d is h = cc
+decide-moves p q c w x Confirm (Some b) d is h = confirmed-moves p q c w x b b.state d is refl h
+decide-moves p q c w x Refuse (Some b) d is h = declined-moves p q c w x b b.state d is refl h
 
 -- closings
-redeem-moves : (p q : PledgeValue) (c : Command) (x paid : ℕ) (d : Done) → redeem_step p x paid ≡ Changed q d → Move p x c q
-redeem-moves p q c x paid d h =
-    let rows : List (Bool × Refusal) = (p.held, Refusal.Held) ∷ (not (paid == total_on p x), Refusal.WrongAmount (total_on p x)) ∷ [] in
+redeem-moves : (p q : PledgeValue) (c : Command) (w x paid : ℕ) (d : Done) → redeem_step p x paid ≡ Changed q d → Move p x w c q
+redeem-moves p q c w x paid d h =
+    let rows : List (Bool × Refusal) = (p.standing.held, Refusal.Held) ∷ (not (paid == total_on p x), Refusal.WrongAmount (total_on p x)) ∷ [] in
     let next : PledgeValue = closed p x (Closing.Redeemed x paid) in
     let a = unless-changed rows (Changed next (Done.Redeemed x paid)) q d h in
     Redeeming paid a.0.0 (not_other paid (total_on p x) a.0.1.0) (changed-is next q _ d a.1)
@@ -219,8 +222,8 @@ realisable-is Status.Passed h = absurd (true≢false h)
 realisable-is Status.Redeemed h = absurd (true≢false h)
 realisable-is Status.Sold h = absurd (true≢false h)
 
-sell-moves : (p q : PledgeValue) (c : Command) (x net : ℕ) (d : Done) → sell_step p x net ≡ Changed q d → Move p x c q
-sell-moves p q c x net d h =
+sell-moves : (p q : PledgeValue) (c : Command) (w x net : ℕ) (d : Done) → sell_step p x net ≡ Changed q d → Move p x w c q
+sell-moves p q c w x net d h =
     let rows : List (Bool × Refusal) = (not (is_realisable (open_status p x)), Refusal.NotRealisable) ∷ (nat_lt most_pence net, Refusal.Debt DebtFault.BadAmount) ∷ [] in
     let next : PledgeValue = closed p x (Closing.Sold x net) in
     let a = unless-changed rows (Changed next _) q d h in
@@ -230,8 +233,8 @@ sell-moves p q c x net d h =
 above : (m n : ℕ) → n ≤ m → (m ≡ n → ⊥) → n < m
 above m n low apart = grind (arith, low, apart)
 
-extend-moves : (p q : PledgeValue) (c : Command) (x until : ℕ) (d : Done) → (IsCommand c → until ≤ last_stamp_day) → extend_step p x until ≡ Changed q d → Move p x c q
-extend-moves p q c x until d named h =
+extend-moves : (p q : PledgeValue) (c : Command) (w x until : ℕ) (d : Done) → (IsCommand c → until ≤ last_stamp_day) → extend_step p x until ≡ Changed q d → Move p x w c q
+extend-moves p q c w x until d named h =
     let next : PledgeValue = with_extension p (record { day = x; until = until }) in
     let rows : List (Bool × Refusal) = (nat_lt until (end_of p), Refusal.NotLater) ∷ (nat_le most_extensions (length p.extensions), Refusal.ExtensionsFull) ∷ [] in
     let own : Judged = unless rows (Changed next (Done.Extended until)) in
@@ -241,15 +244,15 @@ extend-moves p q c x until d named h =
     Extending until (not_below (end_of p) x a.0.0) (above until (end_of p) (not_below until (end_of p) e.0.0) (not_same until (end_of p) b.0))
     (not_most most_extensions (length p.extensions) e.0.1.0) named (changed-is next q _ d e.1)
 
-pub pledge_moves : (p q : PledgeValue) (stamp : Stamp) (c : Command) (d : Done) → pledge_step p stamp c ≡ Changed q d → Goes p stamp.day c q
-pledge_moves p q stamp (Command.Draw seq pence) d h = numbered-moves p q _ stamp.day seq Draw pence _ d h
-pledge_moves p q stamp (Command.Repay seq pence) d h = numbered-moves p q _ stamp.day seq Repay pence _ d h
-pledge_moves p q stamp Command.Hold d h = gated p q _ stamp.day _ d (λ k. hold-moves p q _ stamp.day true d k) h
-pledge_moves p q stamp Command.Release d h = gated p q _ stamp.day _ d (λ k. hold-moves p q _ stamp.day false d k) h
-pledge_moves p q stamp (Command.Declare paper) d h = gated p q _ stamp.day _ d (λ k. declare-moves p q _ stamp paper d k) h
-pledge_moves p q stamp (Command.AskBooking day window) d h = gated p q _ stamp.day _ d (λ k. ask-moves p q _ stamp.day day window d (λ n. n.1) k) h
-pledge_moves p q stamp Command.CancelBooking d h = gated p q _ stamp.day _ d (λ k. cancel-moves p q _ stamp.day p.booking d refl k) h
-pledge_moves p q stamp (Command.DecideBooking decision) d h = gated p q _ stamp.day _ d (λ k. decide-moves p q _ stamp.day decision p.booking d refl k) h
-pledge_moves p q stamp (Command.Redeem paid) d h = gated p q _ stamp.day _ d (λ k. redeem-moves p q _ stamp.day paid d k) h
-pledge_moves p q stamp (Command.Sell net) d h = gated p q _ stamp.day _ d (λ k. sell-moves p q _ stamp.day net d k) h
-pledge_moves p q stamp (Command.Extend until) d h = gated p q _ stamp.day _ d (λ k. extend-moves p q _ stamp.day until d (λ n. n.1) k) h
+pub pledge_moves : (p q : PledgeValue) (stamp : Stamp) (c : Command) (d : Done) → pledge_step p stamp c ≡ Changed q d → Goes p stamp.day stamp.word c q
+pledge_moves p q stamp (Command.Draw seq pence) d h = numbered-moves p q _ stamp.word stamp.day seq Draw pence _ d h
+pledge_moves p q stamp (Command.Repay seq pence) d h = numbered-moves p q _ stamp.word stamp.day seq Repay pence _ d h
+pledge_moves p q stamp Command.Hold d h = gated p q _ stamp.word stamp.day _ d (λ k. hold-moves p q _ stamp.word stamp.day true d k) h
+pledge_moves p q stamp Command.Release d h = gated p q _ stamp.word stamp.day _ d (λ k. hold-moves p q _ stamp.word stamp.day false d k) h
+pledge_moves p q stamp (Command.Declare paper) d h = gated p q _ stamp.word stamp.day _ d (λ k. declare-moves p q _ stamp paper d k) h
+pledge_moves p q stamp (Command.AskBooking day window) d h = gated p q _ stamp.word stamp.day _ d (λ k. ask-moves p q _ stamp.word stamp.day day window d (λ n. n.1) k) h
+pledge_moves p q stamp Command.CancelBooking d h = gated p q _ stamp.word stamp.day _ d (λ k. cancel-moves p q _ stamp.word stamp.day p.standing.booking d refl k) h
+pledge_moves p q stamp (Command.DecideBooking decision) d h = gated p q _ stamp.word stamp.day _ d (λ k. decide-moves p q _ stamp.word stamp.day decision p.standing.booking d refl k) h
+pledge_moves p q stamp (Command.Redeem paid) d h = gated p q _ stamp.word stamp.day _ d (λ k. redeem-moves p q _ stamp.word stamp.day paid d k) h
+pledge_moves p q stamp (Command.Sell net) d h = gated p q _ stamp.word stamp.day _ d (λ k. sell-moves p q _ stamp.word stamp.day net d k) h
+pledge_moves p q stamp (Command.Extend until) d h = gated p q _ stamp.word stamp.day _ d (λ k. extend-moves p q _ stamp.word stamp.day until d (λ n. n.1) k) h

@@ -1,5 +1,5 @@
 -- Which secret of a pledge is live.
-use Rattle.std.proofs.Common.{◌≡◌, ℕ, ◌-◌, ◌==◌, ◌||◌, Bool, true, false, List, [], ◌∷◌, ◌++◌, length, Some, None, refl, sym, ap, subst, ◌∙◌, arith, inl, inr, ◌⊎◌, slice_get, length-append}
+use Rattle.std.proofs.Common.{◌≡◌, ℕ, ◌-◌, ◌==◌, ◌||◌, Bool, true, false, List, [], ◌∷◌, ◌++◌, length, Some, None, refl, sym, ap, subst, ◌∙◌, arith, inl, inr, slice_get, length-append}
 use Rattle.std.specs.List.{list_any}
 use Rattle.std.proofs.lemmas.Bool.{true≢false}
 use Rattle.std.proofs.lemmas.List.Folds.{list_any-append}
@@ -10,6 +10,7 @@ use Rattle.pawn_pledge.specs.declared.command.Stamp.{Stamp}
 use Rattle.pawn_pledge.specs.declared.command.Command.{Command}
 use Rattle.pawn_pledge.specs.Pledge.{PledgeValue, last_secret, live_under, live_of}
 use Rattle.pawn_pledge.specs.Step.{Judged, Refused, Answered, Changed, is_open, issue_of, pledge_step, pledge_after}
+use Rattle.pawn_pledge.specs.Growth.{StaysOrGrows}
 use Rattle.pawn_pledge.specs.Laws.{NeverLiveAgain}
 use Rattle.pawn_pledge.proofs.Moves.{IsGated, Move, pledge_moves, Entering, Holding, Declaring, Asking, Marking, Redeeming, Selling, Extending}
 
@@ -18,31 +19,31 @@ pub closed-moved : (c : Closing) → is_open c ≡ false → c ≡ Closing.Open 
 closed-moved c shut is = true≢false (sym (ap is_open is) ∙ shut)
 
 -- no move changes the terms
-pub terms-moved : (p q : PledgeValue) (c : Command) (x : ℕ) → IsChecked p.terms → Move p x c q → IsChecked q.terms
-terms-moved p q c x h m = subst IsChecked (sym (same m)) h
+pub terms-moved : (p q : PledgeValue) (c : Command) (w x : ℕ) → IsChecked p.agreement.terms → Move p x w c q → IsChecked q.agreement.terms
+terms-moved p q c w x h m = subst IsChecked (sym (same m)) h
   where
-    same : Move p x c q → q.terms ≡ p.terms
-    same (Entering sort pence ok late few drawn is) = ap (λ (v : PledgeValue). v.terms) is
-    same (Holding flag new is) = ap (λ (v : PledgeValue). v.terms) is
-    same (Declaring paper word ok is) = ap (λ (v : PledgeValue). v.terms) is
-    same (Asking b later live small state new named is) = ap (λ (v : PledgeValue). v.terms) is
-    same (Marking b state at new is) = ap (λ (v : PledgeValue). v.terms) is
-    same (Redeeming paid free total is) = ap (λ (v : PledgeValue). v.terms) is
-    same (Selling net status small is) = ap (λ (v : PledgeValue). v.terms) is
-    same (Extending until inside longer few named is) = ap (λ (v : PledgeValue). v.terms) is
+    same : Move p x w c q → q.agreement.terms ≡ p.agreement.terms
+    same (Entering sort pence ok late few drawn is) = ap (λ (v : PledgeValue). v.agreement.terms) is
+    same (Holding flag new is) = ap (λ (v : PledgeValue). v.agreement.terms) is
+    same (Declaring paper ok is) = ap (λ (v : PledgeValue). v.agreement.terms) is
+    same (Asking b later live small state new named is) = ap (λ (v : PledgeValue). v.agreement.terms) is
+    same (Marking b state at new is) = ap (λ (v : PledgeValue). v.agreement.terms) is
+    same (Redeeming paid free total is) = ap (λ (v : PledgeValue). v.agreement.terms) is
+    same (Selling net status small is) = ap (λ (v : PledgeValue). v.agreement.terms) is
+    same (Extending until inside longer few named is) = ap (λ (v : PledgeValue). v.agreement.terms) is
 
--- the list of secrets stays, or grows by one that is not in it
-pub secrets-moved : (p q : PledgeValue) (c : Command) (x : ℕ) → Move p x c q
-    → (q.secrets ≡ p.secrets) ⊎ ((issued : Issued) × (q.secrets ≡ p.secrets ++ issued ∷ []) × (list_any (λ (i : Issued). i.secret == issued.secret) p.secrets ≡ false))
-secrets-moved p q c x (Entering sort pence ok late few drawn is) = inl (ap (λ (v : PledgeValue). v.secrets) is)
-secrets-moved p q c x (Holding flag new is) = inl (ap (λ (v : PledgeValue). v.secrets) is)
-secrets-moved p q c x (Declaring paper word ok is) =
-    inr (record { day = x; sort = issue_of paper; secret = word }, ap (λ (v : PledgeValue). v.secrets) is, ok.1.1.0)
-secrets-moved p q c x (Asking b later live small state new named is) = inl (ap (λ (v : PledgeValue). v.secrets) is)
-secrets-moved p q c x (Marking b state at new is) = inl (ap (λ (v : PledgeValue). v.secrets) is)
-secrets-moved p q c x (Redeeming paid free total is) = inl (ap (λ (v : PledgeValue). v.secrets) is)
-secrets-moved p q c x (Selling net status small is) = inl (ap (λ (v : PledgeValue). v.secrets) is)
-secrets-moved p q c x (Extending until inside longer few named is) = inl (ap (λ (v : PledgeValue). v.secrets) is)
+-- the list of secrets stays, or grows by the word, which is not in it
+pub secrets-moved : (p q : PledgeValue) (c : Command) (w x : ℕ) → Move p x w c q
+    → StaysOrGrows (λ (issued : Issued). (issued.secret ≡ w) × (list_any (λ (i : Issued). i.secret == w) p.secrets ≡ false)) p.secrets q.secrets
+secrets-moved p q c w x (Entering sort pence ok late few drawn is) = inl (ap (λ (v : PledgeValue). v.secrets) is)
+secrets-moved p q c w x (Holding flag new is) = inl (ap (λ (v : PledgeValue). v.secrets) is)
+secrets-moved p q c w x (Declaring paper ok is) =
+    inr (record { day = x; sort = issue_of paper; secret = w }, ap (λ (v : PledgeValue). v.secrets) is, (refl, ok.1.1.0))
+secrets-moved p q c w x (Asking b later live small state new named is) = inl (ap (λ (v : PledgeValue). v.secrets) is)
+secrets-moved p q c w x (Marking b state at new is) = inl (ap (λ (v : PledgeValue). v.secrets) is)
+secrets-moved p q c w x (Redeeming paid free total is) = inl (ap (λ (v : PledgeValue). v.secrets) is)
+secrets-moved p q c w x (Selling net status small is) = inl (ap (λ (v : PledgeValue). v.secrets) is)
+secrets-moved p q c w x (Extending until inside longer few named is) = inl (ap (λ (v : PledgeValue). v.secrets) is)
 
 -- the last of a list that one was put on
 last_of-push : (xs : List Issued) (x : Issued) → slice_get (xs ++ x ∷ []) (length xs) ≡ Some x
@@ -60,23 +61,23 @@ pub record IsDead (p : PledgeValue) (secret : ℕ) : Type 0 where
   pub dead : live_of p ≡ Some secret → ⊥
 
 -- where secrets and closing stay, it stays so
-dead-same : (p q : PledgeValue) (secret : ℕ) → IsDead p secret → q.secrets ≡ p.secrets → q.closing ≡ p.closing → IsDead q secret
+dead-same : (p q : PledgeValue) (secret : ℕ) → IsDead p secret → q.secrets ≡ p.secrets → q.standing.closing ≡ p.standing.closing → IsDead q secret
 dead-same p q secret h secrets closing =
     record {
       issued = ap (λ (l : List Issued). list_any (λ (i : Issued). i.secret == secret) l) secrets ∙ h.issued;
-      dead = λ k. h.dead (sym (ap (λ (c : Closing). live_under c (last_secret p.secrets)) closing) ∙ sym (ap (λ (l : List Issued). live_under q.closing (last_secret l)) secrets) ∙ k);
+      dead = λ k. h.dead (sym (ap (λ (c : Closing). live_under c (last_secret p.secrets)) closing) ∙ sym (ap (λ (l : List Issued). live_under q.standing.closing (last_secret l)) secrets) ∙ k);
     }
 
 -- the same, of a move that changes neither
-dead-kept : (p q r : PledgeValue) (secret : ℕ) → IsDead p secret → q ≡ r → r.secrets ≡ p.secrets → r.closing ≡ p.closing → IsDead q secret
+dead-kept : (p q r : PledgeValue) (secret : ℕ) → IsDead p secret → q ≡ r → r.secrets ≡ p.secrets → r.standing.closing ≡ p.standing.closing → IsDead q secret
 dead-kept p q r secret h is secrets closing =
-    dead-same p q secret h (ap (λ (v : PledgeValue). v.secrets) is ∙ secrets) (ap (λ (v : PledgeValue). v.closing) is ∙ closing)
+    dead-same p q secret h (ap (λ (v : PledgeValue). v.secrets) is ∙ secrets) (ap (λ (v : PledgeValue). v.standing.closing) is ∙ closing)
 
 list_any-first : (secret : ℕ) (xs ys : List Issued) → list_any (λ (i : Issued). i.secret == secret) xs ≡ true → list_any (λ (i : Issued). i.secret == secret) (xs ++ ys) ≡ true
 list_any-first secret xs ys h =
     list_any-append (λ (i : Issued). i.secret == secret) xs ys ∙ ap (λ (b : Bool). b || list_any (λ (i : Issued). i.secret == secret) ys) h
 
-dead-declared : (p q : PledgeValue) (x : ℕ) (new : Issued) (secret : ℕ) → IsDead p secret → IsGated p x → q.secrets ≡ p.secrets ++ new ∷ [] → q.closing ≡ p.closing
+dead-declared : (p q : PledgeValue) (x : ℕ) (new : Issued) (secret : ℕ) → IsDead p secret → IsGated p x → q.secrets ≡ p.secrets ++ new ∷ [] → q.standing.closing ≡ p.standing.closing
     → list_any (λ (i : Issued). i.secret == new.secret) p.secrets ≡ false → IsDead q secret
 dead-declared p q x new secret h g secrets closing fresh =
     record {
@@ -91,31 +92,31 @@ dead-declared p q x new secret h g secrets closing fresh =
           true≢false (sym h.issued ∙ subst F same fresh);
     }
 
-dead-moved : (p q : PledgeValue) (c : Command) (x secret : ℕ) → IsDead p secret → IsGated p x → Move p x c q → IsDead q secret
-dead-moved p q c x secret h g (Entering sort pence ok late few drawn is) = dead-kept p q _ secret h is refl refl
-dead-moved p q c x secret h g (Holding flag new is) = dead-kept p q _ secret h is refl refl
-dead-moved p q c x secret h g (Declaring paper word ok is) =
-    dead-declared p q x (record { day = x; sort = issue_of paper; secret = word }) secret h g (ap (λ (v : PledgeValue). v.secrets) is) (ap (λ (v : PledgeValue). v.closing) is) ok.1.1.0
-dead-moved p q c x secret h g (Asking b later live small state new named is) = dead-kept p q _ secret h is refl refl
-dead-moved p q c x secret h g (Marking b state at new is) = dead-kept p q _ secret h is refl refl
-dead-moved p q c x secret h g (Redeeming paid free total is) =
+dead-moved : (p q : PledgeValue) (c : Command) (w x secret : ℕ) → IsDead p secret → IsGated p x → Move p x w c q → IsDead q secret
+dead-moved p q c w x secret h g (Entering sort pence ok late few drawn is) = dead-kept p q _ secret h is refl refl
+dead-moved p q c w x secret h g (Holding flag new is) = dead-kept p q _ secret h is refl refl
+dead-moved p q c w x secret h g (Declaring paper ok is) =
+    dead-declared p q x (record { day = x; sort = issue_of paper; secret = w }) secret h g (ap (λ (v : PledgeValue). v.secrets) is) (ap (λ (v : PledgeValue). v.standing.closing) is) ok.1.1.0
+dead-moved p q c w x secret h g (Asking b later live small state new named is) = dead-kept p q _ secret h is refl refl
+dead-moved p q c w x secret h g (Marking b state at new is) = dead-kept p q _ secret h is refl refl
+dead-moved p q c w x secret h g (Redeeming paid free total is) =
     record {
       issued = ap (λ (v : PledgeValue). list_any (λ (i : Issued). i.secret == secret) v.secrets) is ∙ h.issued;
       dead = λ k. let none : None ≡ Some secret = sym (ap live_of is) ∙ k in cc;
     }
-dead-moved p q c x secret h g (Selling net status small is) =
+dead-moved p q c w x secret h g (Selling net status small is) =
     record {
       issued = ap (λ (v : PledgeValue). list_any (λ (i : Issued). i.secret == secret) v.secrets) is ∙ h.issued;
       dead = λ k. h.dead (ap (λ (o : Closing). live_under o (last_secret p.secrets)) g.standing ∙ sym (ap live_of is) ∙ k);
     }
-dead-moved p q c x secret h g (Extending until inside longer few named is) = dead-kept p q _ secret h is refl refl
+dead-moved p q c w x secret h g (Extending until inside longer few named is) = dead-kept p q _ secret h is refl refl
 
 dead-step : (p : PledgeValue) (stamp : Stamp) (c : Command) (secret : ℕ) → IsDead p secret → (j : Judged) → pledge_step p stamp c ≡ j → IsDead (pledge_after p j) secret
 dead-step p stamp c secret h (Refused why) is = h
 dead-step p stamp c secret h (Answered done) is = h
 dead-step p stamp c secret h (Changed q d) is =
     let g = pledge_moves p q stamp c d is in
-    dead-moved p q c stamp.day secret h g.0 g.1
+    dead-moved p q c stamp.word stamp.day secret h g.0 g.1
 
 pub never_live_again : NeverLiveAgain
 never_live_again p [] secret issued dead live = dead live

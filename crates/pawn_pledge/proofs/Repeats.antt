@@ -16,13 +16,14 @@ use Rattle.pawn_pledge.specs.declared.command.Stamp.{Stamp}
 use Rattle.pawn_pledge.specs.declared.command.Command.{Command}
 use Rattle.pawn_pledge.specs.declared.command.Done.{Done}
 use Rattle.pawn_pledge.specs.declared.refusal.Refusal.{Refusal}
-use Rattle.pawn_pledge.specs.Pledge.{PledgeValue, debt_of, end_of}
+use Rattle.pawn_pledge.specs.Pledge.{PledgeValue, changed_on, debt_of, end_of}
 use Rattle.pawn_pledge.specs.Replayable.{AreNumbered}
-use Rattle.pawn_pledge.specs.Step.{Answered, Changed, Judged, past, bars, entered, entry_of, entry_step, is_ahead, is_repeat, most_extensions, new_entry, numbered_step, pledge_step, same_sort, unless, with_extension}
+use Rattle.pawn_pledge.specs.Step.{Answered, Changed, Judged, past, bars, entered, entry_of, entry_step, is_ahead, is_repeat, new_entry, numbered_step, pledge_step, same_sort, unless, with_extension}
 use Rattle.pawn_pledge.specs.Growth.{Grows}
 use Rattle.pawn_pledge.specs.Laws.{entering, EntriesActOnce, StandingEndIsAnswered, ExtensionsActOnce, pledge_after_all}
 use Rattle.pawn_pledge.proofs.Moves.{unless-changed, if-unanswered}
 use Rattle.pawn_pledge.proofs.Growth.{lists_grow}
+use Rattle.pawn_pledge.specs.Limits.{most_extensions}
 
 -- what is not refused comes to what follows
 pub unless-past : (rows : List (Bool × Refusal)) (own : Judged) → NoneApplies rows → unless rows own ≡ own
@@ -39,7 +40,7 @@ entered-made : (p q : PledgeValue) (x : ℕ) (sort : Sort) (pence : ℕ) (r : Re
     → IsMade p x sort pence q d
 entered-made p q x sort pence (Ok v) d is h =
     let a = sort_answer-ok sort (debt_of p) v x pence is in
-    let made = changed-both (record p { entries = v.entries; last = x }) q (Done.Entered (new_entry p x sort pence)) d h in
+    let made = changed-both (record p { entries = v.entries; standing = changed_on p.standing x }) q (Done.Entered (new_entry p x sort pence)) d h in
     (ap (λ (w : PledgeValue). w.entries) made.0 ∙ ap (λ (w : DebtValue). w.entries) a.2, made.1)
 entered-made p q x sort pence (Err fault) d is h = cc
 

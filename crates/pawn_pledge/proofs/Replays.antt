@@ -2,8 +2,9 @@
 use Rattle.std.proofs.Common.{◌≡◌, ℕ, ◌+◌, ◌<◌, ◌≤◌, ◌==◌, max, nat_le, Bool, true, false, not, ◌&&◌, if◌then◌else◌, List, [], ◌∷◌, ◌++◌, length, Option, Some, None, Ok, refl, sym, ap, subst, ◌∙◌, arith, length-append, IfSome}
 use Rattle.std.proofs.lemmas.Bool.{true≢false, false≢true}
 use Rattle.std.proofs.lemmas.Bool.Decides.{nat_tests}
-use Rattle.pawn_terms.specs.Calendar.{period_end, six_months, last_stamp_day}
+use Rattle.pawn_terms.specs.Calendar.{period_end, six_months}
 use Rattle.pawn_terms.specs.Refusals.{NoneApplies}
+use Rattle.pawn_terms.specs.Limits.{last_stamp_day}
 use Rattle.pawn_debt.specs.declared.entry.Entry.{Entry}
 use Rattle.pawn_debt.specs.declared.entry.Sort.{Sort}
 use Rattle.pawn_debt.specs.declared.entry.Sort.TheVariants.{Draw, Repay}
@@ -14,17 +15,20 @@ use Rattle.pawn_debt.proofs.EntryLemmas.{last_of-push, AreOrdered-push}
 use Rattle.pawn_debt.proofs.ReplayLemmas.{AreAccepted-push, AreAccepted-ended, AreInside-ordered}
 use Rattle.pawn_pledge.specs.declared.record.Issued.{Issued}
 use Rattle.pawn_pledge.specs.declared.record.Extension.{Extension}
+use Rattle.pawn_pledge.specs.declared.record.Standing.{Standing}
 use Rattle.pawn_pledge.specs.declared.record.Booking.{Booking}
 use Rattle.pawn_pledge.specs.declared.record.BookingState.{BookingState}
 use Rattle.pawn_pledge.specs.declared.record.Closing.{Closing}
 use Rattle.pawn_pledge.specs.declared.record.Status.TheVariants as Status
 use Rattle.pawn_pledge.specs.declared.command.Paper.{Paper}
 use Rattle.pawn_pledge.specs.declared.command.Command.{Command}
-use Rattle.pawn_pledge.specs.Pledge.{PledgeValue, first_end, end_of, is_small, small_credit, debt_of, is_passed}
-use Rattle.pawn_pledge.specs.Step.{same_flag, is_written, issue_of, new_entry, declare_bars, with_secret, in_state, state_after, booking_after, with_extension, most_secrets}
-use Rattle.pawn_pledge.specs.Replayable.{IsNotPassed, IsLaterIssue, IsDrawnBy, IsClosed, IsOver, IsOverUnder, IsBooked, IsReplayable, IsWithin, IsCommand}
+use Rattle.pawn_pledge.specs.Pledge.{PledgeValue, changed_on, settled, first_end, end_of, is_small, debt_of, is_passed}
+use Rattle.pawn_pledge.specs.Step.{same_flag, held_on, booked_on, closed_on, closed, is_written, issue_of, new_entry, declare_bars, with_secret, in_state, state_after, booking_after, with_extension}
+use Rattle.pawn_pledge.specs.Replayable.{IsNotPassed, IsLaterIssue, IsDrawnBy, IsClosed, IsOver, IsOverUnder, IsBooked, IsReplayable, IsWithin}
+use Rattle.pawn_pledge.specs.Commands.{IsCommand}
 use Rattle.pawn_pledge.proofs.Moves.{not_most, IsGated, Move, Entering, Holding, Declaring, Asking, Marking, Redeeming, Selling, Extending}
 use Rattle.pawn_pledge.proofs.Pushes.{Each-push, Each-map, Each-all, AreIssued-push, AreDistinct-push, DoNotFall-push, last_issue-push, AreNumbered-push, AreOrdered-each, end_after-push, end_after-le, AreExtended-push, last_extension-push}
+use Rattle.pawn_pledge.specs.Limits.{small_credit, most_secrets}
 
 -- not passed, where the last case is not
 unpassed : (a b : Bool) → is_passed (if a then Status.Inside else if b then Status.Grace else Status.Realisable) ≡ false
@@ -33,8 +37,8 @@ unpassed false true = refl
 unpassed false false = refl
 
 -- a period that was made longer is never passed
-pub longer-not_passed : (p : PledgeValue) (x : ℕ) → (end_of p == six_months p.taken) ≡ false → IsNotPassed p x
-longer-not_passed p x h = rw h (unpassed (nat_le x (end_of p)) (p.five_days && nat_le x (end_of p + 5)))
+pub longer-not_passed : (p : PledgeValue) (x : ℕ) → (end_of p == six_months p.agreement.taken) ≡ false → IsNotPassed p x
+longer-not_passed p x h = rw h (unpassed (nat_le x (end_of p)) (p.agreement.opening.five_days && nat_le x (end_of p + 5)))
 
 -- what a move leaves open
 still-open : (p : PledgeValue) (c : Closing) → c ≡ Closing.Open → IsClosed p c
@@ -47,13 +51,10 @@ open-booked Closing.Open s h = tt
 open-booked (Closing.Redeemed day paid) s h = cc
 open-booked (Closing.Sold day net) s h = cc
 
--- fields that no list depends on
-abbrev pub settles : PledgeValue → ℕ → Bool → Option Booking → Closing → PledgeValue
-settles p x held booking closing = record p { held = held; booking = booking; last = x; closing = closing }
-
-pub stays-settled : (p : PledgeValue) (x : ℕ) (held : Bool) (booking : Option Booking) (closing : Closing) → IsReplayable p → p.last ≤ x → IsNotPassed p x
-    → IsClosed (settles p x held booking closing) closing → IsBooked (settles p x held booking closing) booking → IsReplayable (settles p x held booking closing)
-stays-settled p x held booking closing h later live closed booked =
+-- a change that no list depends on
+pub stays-settled : (p : PledgeValue) (s : Standing) → IsReplayable p → p.standing.last ≤ s.last → IsNotPassed p s.last
+    → IsClosed (settled p s) s.closing → IsBooked (settled p s) s.booking → IsReplayable (settled p s)
+stays-settled p s h later live closed booked =
     record {
       credit = h.credit;
       issued = record { sorts = h.issued.sorts; distinct = h.issued.distinct; ordered = h.issued.ordered; before = omega (arith, h.issued.before, later); not_passed = h.issued.not_passed };
@@ -66,26 +67,26 @@ stays-settled p x held booking closing h later live closed booked =
     }
 
 -- one more entry
-pub stays-entered : (p : PledgeValue) (x pence : ℕ) (sort : Sort) → IsReplayable p → IsGated p x → sort_answer sort (debt_of p) x pence ≡ Ok (with_entry (debt_of p) x sort pence) → last_of p.taken p.entries ≤ x → IsDrawnBy (end_of p) sort x
-    → IsReplayable (record p { entries = p.entries ++ record { seq = length p.entries + 1; day = x; sort = sort; pence = pence } ∷ []; last = x })
+pub stays-entered : (p : PledgeValue) (x pence : ℕ) (sort : Sort) → IsReplayable p → IsGated p x → sort_answer sort (debt_of p) x pence ≡ Ok (with_entry (debt_of p) x sort pence) → last_of p.agreement.taken p.entries ≤ x → IsDrawnBy (end_of p) sort x
+    → IsReplayable (record p { entries = p.entries ++ record { seq = length p.entries + 1; day = x; sort = sort; pence = pence } ∷ []; standing = changed_on p.standing x })
 stays-entered p x pence sort h g ok late drawn =
     let e : Entry = record { seq = length p.entries + 1; day = x; sort = sort; pence = pence } in
-    let q : PledgeValue = record p { entries = p.entries ++ e ∷ []; last = x } in
+    let q : PledgeValue = record p { entries = p.entries ++ e ∷ []; standing = changed_on p.standing x } in
     let accepted : IsAccepted (debt_of p) e = (refl, rw ok refl) in
     record {
       credit = h.credit;
       issued = record { sorts = h.issued.sorts; distinct = h.issued.distinct; ordered = h.issued.ordered; before = omega (arith, h.issued.before, g.later); not_passed = h.issued.not_passed };
       entered = record {
         numbered = AreNumbered-push 1 p.entries e h.entered.numbered (omega arith);
-        ordered = AreOrdered-push p.taken p.entries e h.entered.ordered late;
-        before = omega (arith, last_of-push p.taken p.entries e);
+        ordered = AreOrdered-push p.agreement.taken p.entries e h.entered.ordered late;
+        before = omega (arith, last_of-push p.agreement.taken p.entries e);
         accepted = AreAccepted-push (debt_of p) [] p.entries e h.entered.accepted accepted;
         not_passed = Each-push (λ (f : Entry). IsNotPassed p f.day) p.entries e h.entered.not_passed g.not_passed;
         drawn = Each-push (λ (f : Entry). IsDrawnBy (end_of p) f.sort f.day) p.entries e h.entered.drawn drawn;
       };
       last_in = omega (arith, h.last_in, g.later);
       last_open = g.not_passed;
-      closed = still-open q p.closing g.standing;
+      closed = still-open q p.standing.closing g.standing;
       booked = h.booked;
       extended = record { each = h.extended.each; before = omega (arith, h.extended.before, g.later) };
     }
@@ -98,11 +99,11 @@ small_enough n k = by (nat_le n small_credit) refl k
     by true e k = grind (arith, nat_tests, e)
     by false e k = absurd (true≢false k)
 
-later-issue : (p : PledgeValue) (paper : Paper) → (is_written paper && not (is_small p)) ≡ false → IsLaterIssue (credit_of p.kind) (issue_of paper)
-later-issue p Paper.Written h = small_enough (credit_of p.kind) h
+later-issue : (p : PledgeValue) (paper : Paper) → (is_written paper && not (is_small (credit_of p.agreement.opening.kind))) ≡ false → IsLaterIssue (credit_of p.agreement.opening.kind) (issue_of paper)
+later-issue p Paper.Written h = small_enough (credit_of p.agreement.opening.kind) h
 later-issue p Paper.Sworn h = tt
 
-pub stays-declared : (p : PledgeValue) (x word : ℕ) (paper : Paper) → IsReplayable p → IsGated p x → NoneApplies (declare_bars p (record { day = x; word = word }) paper)
+pub stays-declared : (p : PledgeValue) (x word : ℕ) (paper : Paper) → IsReplayable p → IsGated p x → NoneApplies (declare_bars p paper word)
     → IsReplayable (with_secret p (record { day = x; sort = issue_of paper; secret = word }))
 stays-declared p x word paper h g ok =
     let i : Issued = record { day = x; sort = issue_of paper; secret = word } in
@@ -110,16 +111,16 @@ stays-declared p x word paper h g ok =
     record {
       credit = h.credit;
       issued = record {
-        sorts = AreIssued-push p.taken (credit_of p.kind) p.secrets i h.issued.sorts (later-issue p paper ok.0);
+        sorts = AreIssued-push p.agreement.taken (credit_of p.agreement.opening.kind) p.secrets i h.issued.sorts (later-issue p paper ok.0);
         distinct = AreDistinct-push p.secrets i h.issued.distinct ok.1.1.0;
-        ordered = DoNotFall-push p.taken p.secrets i h.issued.ordered (omega (arith, h.issued.before, g.later));
-        before = omega (arith, last_issue-push p.taken p.secrets i);
+        ordered = DoNotFall-push p.agreement.taken p.secrets i h.issued.ordered (omega (arith, h.issued.before, g.later));
+        before = omega (arith, last_issue-push p.agreement.taken p.secrets i);
         not_passed = Each-push (λ (j : Issued). IsNotPassed p j.day) p.secrets i h.issued.not_passed g.not_passed;
       };
       entered = record { numbered = h.entered.numbered; ordered = h.entered.ordered; before = omega (arith, h.entered.before, g.later); accepted = h.entered.accepted; not_passed = h.entered.not_passed; drawn = h.entered.drawn };
       last_in = omega (arith, h.last_in, g.later);
       last_open = g.not_passed;
-      closed = still-open q p.closing g.standing;
+      closed = still-open q p.standing.closing g.standing;
       booked = h.booked;
       extended = record { each = h.extended.each; before = omega (arith, h.extended.before, g.later) };
     }
@@ -132,7 +133,7 @@ period_end-late taken (Some day) = omega arith
 unequal : (a b : ℕ) → b < a → (a == b) ≡ false
 unequal a b h = grind (arith, nat_tests)
 
-booked-longer : (p q : PledgeValue) (o : Option Booking) → q.taken ≡ p.taken → q.closing ≡ p.closing → ((x : ℕ) → IsNotPassed q x) → IsBooked p o → IsBooked q o
+booked-longer : (p q : PledgeValue) (o : Option Booking) → q.agreement.taken ≡ p.agreement.taken → q.standing.closing ≡ p.standing.closing → ((x : ℕ) → IsNotPassed q x) → IsBooked p o → IsBooked q o
 booked-longer p q None taken closing any h = tt
 booked-longer p q (Some b) taken closing any h =
     let C : Closing → Type 0 = λ c. IsOverUnder c b.state in
@@ -146,13 +147,13 @@ pub stays-extended : (p : PledgeValue) (x until : ℕ) → IsReplayable p → Is
 stays-extended p x until h g inside longer =
     let e : Extension = record { day = x; until = until } in
     let q : PledgeValue = with_extension p e in
-    let ends : end_of q ≡ max (end_of p) until = end_after-push (first_end p) p.extensions e in
+    let ends : end_of q ≡ max (end_of p) until = end_after-push (first_end p.agreement) p.extensions e in
     let later : end_of p ≤ end_of q = omega (arith, ends) in
-    let first : first_end p ≤ end_of p = end_after-le (first_end p) p.extensions in
-    let six : six_months p.taken ≤ first_end p = period_end-late p.taken p.agreed in
-    let past : six_months p.taken < end_of q = omega (arith, ends, longer, first, six) in
-    let any : (y : ℕ) → IsNotPassed q y = λ y. longer-not_passed q y (unequal (end_of q) (six_months p.taken) past) in
-    let days = AreOrdered-each p.taken p.taken (end_of p) p.entries (omega arith) h.entered.ordered (omega (arith, h.entered.before, g.later, inside)) in
+    let first : first_end p.agreement ≤ end_of p = end_after-le (first_end p.agreement) p.extensions in
+    let six : six_months p.agreement.taken ≤ first_end p.agreement = period_end-late p.agreement.taken p.agreement.opening.agreed in
+    let past : six_months p.agreement.taken < end_of q = omega (arith, ends, longer, first, six) in
+    let any : (y : ℕ) → IsNotPassed q y = λ y. longer-not_passed q y (unequal (end_of q) (six_months p.agreement.taken) past) in
+    let days = AreOrdered-each p.agreement.taken p.agreement.taken (end_of p) p.entries (omega arith) h.entered.ordered (omega (arith, h.entered.before, g.later, inside)) in
     record {
       credit = h.credit;
       issued = record { sorts = h.issued.sorts; distinct = h.issued.distinct; ordered = h.issued.ordered; before = omega (arith, h.issued.before, g.later); not_passed = Each-all (λ (j : Issued). IsNotPassed q j.day) p.secrets (λ j. any j.day) };
@@ -160,17 +161,17 @@ stays-extended p x until h g inside longer =
         numbered = h.entered.numbered;
         ordered = h.entered.ordered;
         before = omega (arith, h.entered.before, g.later);
-        accepted = AreAccepted-ended (debt_of p) (end_of q) [] p.entries later (AreInside-ordered (debt_of p) p.taken p.entries (omega arith) h.entered.ordered (omega (arith, h.entered.before, g.later, inside))) h.entered.accepted;
+        accepted = AreAccepted-ended (debt_of p) (end_of q) [] p.entries later (AreInside-ordered (debt_of p) p.agreement.taken p.entries (omega arith) h.entered.ordered (omega (arith, h.entered.before, g.later, inside))) h.entered.accepted;
         not_passed = Each-all (λ (f : Entry). IsNotPassed q f.day) p.entries (λ f. any f.day);
         drawn = Each-map _ (λ (f : Entry). IsDrawnBy (end_of q) f.sort f.day) p.entries (λ f k. drawn-inside p (end_of q) f.sort f.day (omega (arith, k.1, later))) days;
       };
       last_in = omega (arith, h.last_in, g.later);
       last_open = any x;
-      closed = still-open q p.closing g.standing;
-      booked = booked-longer p q p.booking refl refl any h.booked;
+      closed = still-open q p.standing.closing g.standing;
+      booked = booked-longer p q p.standing.booking refl refl any h.booked;
       extended = record {
-        each = AreExtended-push p.taken (first_end p) p.extensions e h.extended.each (omega (arith, h.extended.before, g.later)) inside longer;
-        before = omega (arith, last_extension-push p.taken p.extensions e);
+        each = AreExtended-push p.agreement.taken (first_end p.agreement) p.extensions e h.extended.each (omega (arith, h.extended.before, g.later)) inside longer;
+        before = omega (arith, last_extension-push p.agreement.taken p.extensions e);
       };
     }
 
@@ -186,52 +187,49 @@ state_after-under Closing.Open s = tt
 state_after-under (Closing.Redeemed day paid) s = state_after-over s
 state_after-under (Closing.Sold day net) s = state_after-over s
 
-closed-booked : (p q : PledgeValue) (c : Closing) (o : Option Booking) → IsBooked p o → IsBooked (record p { last = q.last; booking = q.booking; closing = c }) (booking_after o)
-closed-booked p q c None h = tt
-closed-booked p q c (Some b) h = (h.0, h.1, h.2, state_after-under c b.state)
+closed-booked : (p : PledgeValue) (c : Closing) (x : ℕ) (o : Option Booking) → IsBooked p o → IsBooked (closed p x c) (booking_after o)
+closed-booked p c x None h = tt
+closed-booked p c x (Some b) h = (h.0, h.1, h.2, state_after-under c b.state)
 
 -- whatever the move
-pub stays-moved : (p q : PledgeValue) (c : Command) (x : ℕ) → IsReplayable p → IsGated p x → Move p x c q → IsReplayable q
-stays-moved p q c x h g (Entering sort pence ok late few drawn is) = subst IsReplayable (sym is) (stays-entered p x pence sort h g ok late drawn)
-stays-moved p q c x h g (Holding flag new is) =
-    subst IsReplayable (sym is) (stays-settled p x flag p.booking p.closing h g.later g.not_passed (still-open (settles p x flag p.booking p.closing) p.closing g.standing) h.booked)
-stays-moved p q c x h g (Declaring paper word ok is) = subst IsReplayable (sym is) (stays-declared p x word paper h g ok)
-stays-moved p q c x h g (Asking b later live small state new named is) =
-    subst IsReplayable (sym is) (stays-settled p x p.held (Some b) p.closing h g.later g.not_passed (still-open (settles p x p.held (Some b) p.closing) p.closing g.standing)
-    (omega (arith, h.last_in, g.later, later), live, small, open-booked p.closing b.state g.standing))
-stays-moved p q c x h g (Marking b state at new is) =
+pub stays-moved : (p q : PledgeValue) (c : Command) (w x : ℕ) → IsReplayable p → IsGated p x → Move p x w c q → IsReplayable q
+stays-moved p q c w x h g (Entering sort pence ok late few drawn is) = subst IsReplayable (sym is) (stays-entered p x pence sort h g ok late drawn)
+stays-moved p q c w x h g (Holding flag new is) =
+    let s : Standing = held_on p.standing flag x in
+    subst IsReplayable (sym is) (stays-settled p s h g.later g.not_passed (still-open (settled p s) p.standing.closing g.standing) h.booked)
+stays-moved p q c w x h g (Declaring paper ok is) = subst IsReplayable (sym is) (stays-declared p x w paper h g ok)
+stays-moved p q c w x h g (Asking b later live small state new named is) =
+    let s : Standing = booked_on p.standing b x in
+    subst IsReplayable (sym is) (stays-settled p s h g.later g.not_passed (still-open (settled p s) p.standing.closing g.standing)
+    (omega (arith, h.last_in, g.later, later), live, small, open-booked p.standing.closing b.state g.standing))
+stays-moved p q c w x h g (Marking b state at new is) =
     let P : Option Booking → Type 0 = λ o. IsBooked p o in
     let old : IsBooked p (Some b) = subst P at h.booked in
-    let o : Option Booking = Some (in_state b state) in
-    subst IsReplayable (sym is) (stays-settled p x p.held o p.closing h g.later g.not_passed (still-open (settles p x p.held o p.closing) p.closing g.standing)
-    (old.0, old.1, old.2, open-booked p.closing state g.standing))
-stays-moved p q c x h g (Redeeming paid free total is) =
-    let b = booking_after p.booking in
-    let r = settles p x p.held b (Closing.Redeemed x paid) in
-    subst IsReplayable (sym is) (stays-settled p x p.held b (Closing.Redeemed x paid) h g.later g.not_passed (refl, total, free) (closed-booked p r (Closing.Redeemed x paid) p.booking h.booked))
-stays-moved p q c x h g (Selling net status small is) =
-    let b = booking_after p.booking in
-    let r = settles p x p.held b (Closing.Sold x net) in
-    subst IsReplayable (sym is) (stays-settled p x p.held b (Closing.Sold x net) h g.later g.not_passed (refl, status, small) (closed-booked p r (Closing.Sold x net) p.booking h.booked))
-stays-moved p q c x h g (Extending until inside longer few named is) = subst IsReplayable (sym is) (stays-extended p x until h g inside longer)
+    let s : Standing = booked_on p.standing (in_state b state) x in
+    subst IsReplayable (sym is) (stays-settled p s h g.later g.not_passed (still-open (settled p s) p.standing.closing g.standing)
+    (old.0, old.1, old.2, open-booked p.standing.closing state g.standing))
+stays-moved p q c w x h g (Redeeming paid free total is) =
+    let o = Closing.Redeemed x paid in
+    subst IsReplayable (sym is) (stays-settled p (closed_on p.standing o x) h g.later g.not_passed (refl, total, free) (closed-booked p o x p.standing.booking h.booked))
+stays-moved p q c w x h g (Selling net status small is) =
+    let o = Closing.Sold x net in
+    subst IsReplayable (sym is) (stays-settled p (closed_on p.standing o x) h g.later g.not_passed (refl, status, small) (closed-booked p o x p.standing.booking h.booked))
+stays-moved p q c w x h g (Extending until inside longer few named is) = subst IsReplayable (sym is) (stays-extended p x until h g inside longer)
 
 -- and a move keeps the limits
-settled-within : (p : PledgeValue) (x : ℕ) (held : Bool) (booking : Option Booking) (closing : Closing) → x ≤ last_stamp_day → IfSome booking (λ b. b.day ≤ last_stamp_day) → IsWithin p
-    → IsWithin (settles p x held booking closing)
-settled-within p x held booking closing stamped named h =
-    record { number = h.number; reference = h.reference; article = h.article; agreed = h.agreed; entries = h.entries; secrets = h.secrets; extensions = h.extensions; untils = h.untils; booking = named; last = stamped }
+settled-within : (p : PledgeValue) (s : Standing) → s.last ≤ last_stamp_day → IfSome s.booking (λ b. b.day ≤ last_stamp_day) → IsWithin p → IsWithin (settled p s)
+settled-within p s stamped named h =
+    record { number = h.number; opening = h.opening; entries = h.entries; secrets = h.secrets; extensions = h.extensions; untils = h.untils; booking = named; last = stamped }
 
 closing-within : (o : Option Booking) → IfSome o (λ b. b.day ≤ last_stamp_day) → IfSome (booking_after o) (λ b. b.day ≤ last_stamp_day)
 closing-within None h = h
 closing-within (Some b) h = h
 
-pub within-moved : (p q : PledgeValue) (c : Command) (x : ℕ) → x ≤ last_stamp_day → IsCommand c → IsWithin p → Move p x c q → IsWithin q
-within-moved p q c x stamped given h (Entering sort pence ok late few drawn is) =
+pub within-moved : (p q : PledgeValue) (c : Command) (w x : ℕ) → x ≤ last_stamp_day → IsCommand c → IsWithin p → Move p x w c q → IsWithin q
+within-moved p q c w x stamped given h (Entering sort pence ok late few drawn is) =
     subst IsWithin (sym is) (record {
       number = h.number;
-      reference = h.reference;
-      article = h.article;
-      agreed = h.agreed;
+      opening = h.opening;
       entries = omega (arith, few, length-append p.entries (new_entry p x sort pence ∷ []));
       secrets = h.secrets;
       extensions = h.extensions;
@@ -239,14 +237,12 @@ within-moved p q c x stamped given h (Entering sort pence ok late few drawn is) 
       booking = h.booking;
       last = stamped;
     })
-within-moved p q c x stamped given h (Holding flag new is) = subst IsWithin (sym is) (settled-within p x flag p.booking p.closing stamped h.booking h)
-within-moved p q c x stamped given h (Declaring paper word ok is) =
-    let i : Issued = record { day = x; sort = issue_of paper; secret = word } in
+within-moved p q c w x stamped given h (Holding flag new is) = subst IsWithin (sym is) (settled-within p (held_on p.standing flag x) stamped h.booking h)
+within-moved p q c w x stamped given h (Declaring paper ok is) =
+    let i : Issued = record { day = x; sort = issue_of paper; secret = w } in
     subst IsWithin (sym is) (record {
       number = h.number;
-      reference = h.reference;
-      article = h.article;
-      agreed = h.agreed;
+      opening = h.opening;
       entries = h.entries;
       secrets = omega (arith, not_most most_secrets (length p.secrets) ok.1.0, length-append p.secrets (i ∷ []));
       extensions = h.extensions;
@@ -254,23 +250,21 @@ within-moved p q c x stamped given h (Declaring paper word ok is) =
       booking = h.booking;
       last = stamped;
     })
-within-moved p q c x stamped given h (Asking b later live small state new named is) =
-    subst IsWithin (sym is) (settled-within p x p.held (Some b) p.closing stamped (named given) h)
-within-moved p q c x stamped given h (Marking b state at new is) =
+within-moved p q c w x stamped given h (Asking b later live small state new named is) =
+    subst IsWithin (sym is) (settled-within p (booked_on p.standing b x) stamped (named given) h)
+within-moved p q c w x stamped given h (Marking b state at new is) =
     let P : Option Booking → Type 0 = λ o. IfSome o (λ k. k.day ≤ last_stamp_day) in
     let old : P (Some b) = subst P at h.booking in
-    subst IsWithin (sym is) (settled-within p x p.held (Some (in_state b state)) p.closing stamped old h)
-within-moved p q c x stamped given h (Redeeming paid free total is) =
-    subst IsWithin (sym is) (settled-within p x p.held (booking_after p.booking) (Closing.Redeemed x paid) stamped (closing-within p.booking h.booking) h)
-within-moved p q c x stamped given h (Selling net status small is) =
-    subst IsWithin (sym is) (settled-within p x p.held (booking_after p.booking) (Closing.Sold x net) stamped (closing-within p.booking h.booking) h)
-within-moved p q c x stamped given h (Extending until inside longer few named is) =
+    subst IsWithin (sym is) (settled-within p (booked_on p.standing (in_state b state) x) stamped old h)
+within-moved p q c w x stamped given h (Redeeming paid free total is) =
+    subst IsWithin (sym is) (settled-within p (closed_on p.standing (Closing.Redeemed x paid) x) stamped (closing-within p.standing.booking h.booking) h)
+within-moved p q c w x stamped given h (Selling net status small is) =
+    subst IsWithin (sym is) (settled-within p (closed_on p.standing (Closing.Sold x net) x) stamped (closing-within p.standing.booking h.booking) h)
+within-moved p q c w x stamped given h (Extending until inside longer few named is) =
     let e : Extension = record { day = x; until = until } in
     subst IsWithin (sym is) (record {
       number = h.number;
-      reference = h.reference;
-      article = h.article;
-      agreed = h.agreed;
+      opening = h.opening;
       entries = h.entries;
       secrets = h.secrets;
       extensions = omega (arith, few, length-append p.extensions (e ∷ []));
@@ -289,21 +283,21 @@ another_flag true false h e = false≢true e
 another_flag false true h e = true≢false e
 another_flag false false h e = true≢false h
 
-closes : (p : PledgeValue) (c : Closing) → p.closing ≡ Closing.Open → c ≡ p.closing → (c ≡ Closing.Open → ⊥) → ⊥
+closes : (p : PledgeValue) (c : Closing) → p.standing.closing ≡ Closing.Open → c ≡ p.standing.closing → (c ≡ Closing.Open → ⊥) → ⊥
 closes p c standing e n = n (e ∙ standing)
 
 -- and something is another
-pub differs-moved : (p q : PledgeValue) (c : Command) (x : ℕ) → IsGated p x → Move p x c q → q ≡ p → ⊥
-differs-moved p q c x g (Entering sort pence ok late few drawn is) same =
+pub differs-moved : (p q : PledgeValue) (c : Command) (w x : ℕ) → IsGated p x → Move p x w c q → q ≡ p → ⊥
+differs-moved p q c w x g (Entering sort pence ok late few drawn is) same =
     grown p.entries (record { seq = length p.entries + 1; day = x; sort = sort; pence = pence }) (ap (λ (v : PledgeValue). v.entries) (sym is ∙ same))
-differs-moved p q c x g (Holding flag new is) same = another_flag p.held flag new (ap (λ (v : PledgeValue). v.held) (sym is ∙ same))
-differs-moved p q c x g (Declaring paper word ok is) same =
-    grown p.secrets (record { day = x; sort = issue_of paper; secret = word }) (ap (λ (v : PledgeValue). v.secrets) (sym is ∙ same))
-differs-moved p q c x g (Asking b later live small state new named is) same = new (sym (ap (λ (v : PledgeValue). v.booking) (sym is ∙ same)))
-differs-moved p q c x g (Marking b state at new is) same =
-    let e : Some (in_state b state) ≡ Some b = ap (λ (v : PledgeValue). v.booking) (sym is ∙ same) ∙ at in
+differs-moved p q c w x g (Holding flag new is) same = another_flag p.standing.held flag new (ap (λ (v : PledgeValue). v.standing.held) (sym is ∙ same))
+differs-moved p q c w x g (Declaring paper ok is) same =
+    grown p.secrets (record { day = x; sort = issue_of paper; secret = w }) (ap (λ (v : PledgeValue). v.secrets) (sym is ∙ same))
+differs-moved p q c w x g (Asking b later live small state new named is) same = new (sym (ap (λ (v : PledgeValue). v.standing.booking) (sym is ∙ same)))
+differs-moved p q c w x g (Marking b state at new is) same =
+    let e : Some (in_state b state) ≡ Some b = ap (λ (v : PledgeValue). v.standing.booking) (sym is ∙ same) ∙ at in
     let f : in_state b state ≡ b = cc in
     new (sym (ap (λ (k : Booking). k.state) f))
-differs-moved p q c x g (Redeeming paid free total is) same = closes p (Closing.Redeemed x paid) g.standing (ap (λ (v : PledgeValue). v.closing) (sym is ∙ same)) (λ e. cc)
-differs-moved p q c x g (Selling net status small is) same = closes p (Closing.Sold x net) g.standing (ap (λ (v : PledgeValue). v.closing) (sym is ∙ same)) (λ e. cc)
-differs-moved p q c x g (Extending until inside longer few named is) same = grown p.extensions (record { day = x; until = until }) (ap (λ (v : PledgeValue). v.extensions) (sym is ∙ same))
+differs-moved p q c w x g (Redeeming paid free total is) same = closes p (Closing.Redeemed x paid) g.standing (ap (λ (v : PledgeValue). v.standing.closing) (sym is ∙ same)) (λ e. cc)
+differs-moved p q c w x g (Selling net status small is) same = closes p (Closing.Sold x net) g.standing (ap (λ (v : PledgeValue). v.standing.closing) (sym is ∙ same)) (λ e. cc)
+differs-moved p q c w x g (Extending until inside longer few named is) same = grown p.extensions (record { day = x; until = until }) (ap (λ (v : PledgeValue). v.extensions) (sym is ∙ same))

@@ -1,17 +1,18 @@
 -- What the tests on parts find makes a record that can stand.
-use Rattle.std.proofs.Common.{◌≡◌, ℕ, ◌+◌, ◌≤◌, nat_le, Bool, true, false, ◌&&◌, if◌then◌else◌, List, [], ◌∷◌, ◌++◌, length, refl, sym, ◌∙◌, arith, length-append}
+use Rattle.std.proofs.Common.{◌≡◌, ℕ, ◌+◌, ◌≤◌, ◌==◌, nat_le, Bool, true, false, ◌&&◌, if◌then◌else◌, List, [], ◌∷◌, ◌++◌, length, refl, sym, ◌∙◌, arith, length-append}
 use Rattle.std.proofs.lemmas.Bool.{false≢true}
 use Rattle.std.proofs.lemmas.Bool.Decides.{nat_tests}
 use Rattle.pawn_pledge.specs.Parts.{IsTyped, IsLimited, AreIssuedIn}
+use Rattle.pawn_terms.specs.Calendar.{six_months}
 use Rattle.pawn_terms.specs.Terms.{IsChecked}
 use Rattle.pawn_debt.specs.declared.entry.Entry.{Entry}
 use Rattle.pawn_debt.specs.declared.owing.Totals.{Totals}
-use Rattle.pawn_debt.specs.Due.{DebtValue, last_of}
+use Rattle.pawn_debt.specs.Due.{DebtValue, credit_of, last_of}
 use Rattle.pawn_debt.specs.Kept.{IsKept}
 use Rattle.pawn_debt.specs.Replay.{AreAccepted}
 use Rattle.pawn_pledge.specs.declared.record.Issued.{Issued}
 use Rattle.pawn_pledge.specs.declared.record.Status.TheVariants as Status
-use Rattle.pawn_pledge.specs.Pledge.{PledgeValue, end_of, is_six, is_small, debt_of, first_end, is_passed}
+use Rattle.pawn_pledge.specs.Pledge.{PledgeValue, end_of, is_small, debt_of, first_end, is_passed}
 use Rattle.pawn_pledge.specs.Replayable.{Each, IsNotPassed, DoNotFall, last_issue, AreNumbered, IsDrawnBy, AreExtended, last_extension, IsClosed, IsBooked, IsStanding}
 use Rattle.pawn_pledge.proofs.Pushes.{Each-map, AreOrdered-each}
 
@@ -35,17 +36,17 @@ grace_earlier false d x e before h = h
 
 pub not_passed-earlier : (p : PledgeValue) (d x : ℕ) → d ≤ x → IsNotPassed p x → IsNotPassed p d
 not_passed-earlier p d x before h =
-    early (nat_le x (end_of p)) (p.five_days && nat_le x (end_of p + 5)) (nat_le d (end_of p)) (p.five_days && nat_le d (end_of p + 5)) (is_six p && is_small p)
-    (le_earlier d x (end_of p) before) (grace_earlier p.five_days d x (end_of p + 5) before) h
+    early (nat_le x (end_of p)) (p.agreement.opening.five_days && nat_le x (end_of p + 5)) (nat_le d (end_of p)) (p.agreement.opening.five_days && nat_le d (end_of p + 5)) ((end_of p == six_months p.agreement.taken) && is_small (credit_of p.agreement.opening.kind))
+    (le_earlier d x (end_of p) before) (grace_earlier p.agreement.opening.five_days d x (end_of p + 5) before) h
 
 last_issue-le : (day : ℕ) (is : List Issued) → DoNotFall day is → day ≤ last_issue day is
 last_issue-le day [] h = omega arith
 last_issue-le day (i ∷ is) h = omega (arith, h.0, last_issue-le i.day is h.1)
 
-issued-before : (p : PledgeValue) (day : ℕ) (is : List Issued) → DoNotFall day is → last_issue day is ≤ p.last → IsNotPassed p p.last → Each (λ i. IsNotPassed p i.day) is
+issued-before : (p : PledgeValue) (day : ℕ) (is : List Issued) → DoNotFall day is → last_issue day is ≤ p.standing.last → IsNotPassed p p.standing.last → Each (λ i. IsNotPassed p i.day) is
 issued-before p day [] h before live = tt
 issued-before p day (i ∷ is) h before live =
-    (not_passed-earlier p i.day p.last (omega (arith, before, last_issue-le i.day is h.1)) live, issued-before p i.day is h.1 before live)
+    (not_passed-earlier p i.day p.standing.last (omega (arith, before, last_issue-le i.day is h.1)) live, issued-before p i.day is h.1 before live)
 
 -- accepted entries are numbered
 pub accepted-numbered : (d : DebtValue) (prior es : List Entry) (n : ℕ) → n ≡ length prior + 1 → AreAccepted d prior es → AreNumbered n es
@@ -57,35 +58,35 @@ accepted-numbered d prior (e ∷ es) n is h = (
 
 -- what the tests find
 pub record IsFound (v : PledgeValue) (t : Totals) : Type 0 where
-  pub terms : IsChecked v.terms
+  pub terms : IsChecked v.agreement.terms
   pub typed : IsTyped v
   pub limited : IsLimited v
-  pub taken : v.taken ≤ v.last
-  pub extended : AreExtended v.taken (first_end v) v.extensions × (last_extension v.taken v.extensions ≤ v.last)
+  pub taken : v.agreement.taken ≤ v.standing.last
+  pub extended : AreExtended v.agreement.taken (first_end v.agreement) v.extensions × (last_extension v.agreement.taken v.extensions ≤ v.standing.last)
   pub kept : IsKept (debt_of v) t
   pub accepted : AreAccepted (debt_of v) [] v.entries
-  pub entered : t.day ≤ v.last
+  pub entered : t.day ≤ v.standing.last
   pub drawn : Each (λ e. IsDrawnBy (end_of v) e.sort e.day) v.entries
-  pub live : IsNotPassed v v.last
+  pub live : IsNotPassed v v.standing.last
   pub issued : AreIssuedIn v
-  pub booked : IsBooked v v.booking
-  pub closed : IsClosed v v.closing
+  pub booked : IsBooked v v.standing.booking
+  pub closed : IsClosed v v.standing.closing
 
 pub stands : (v : PledgeValue) (t : Totals) → IsFound v t → IsStanding v
 stands v t f =
-    let before : last_of v.taken v.entries ≤ v.last = omega (arith, f.kept.day, f.entered) in
-    let days = AreOrdered-each v.taken v.taken v.last v.entries (omega arith) f.kept.ordered before in
+    let before : last_of v.agreement.taken v.entries ≤ v.standing.last = omega (arith, f.kept.day, f.entered) in
+    let days = AreOrdered-each v.agreement.taken v.agreement.taken v.standing.last v.entries (omega arith) f.kept.ordered before in
     record {
       terms = f.terms;
       replayable = record {
         credit = (f.limited.some, f.limited.credit);
-        issued = record { sorts = f.issued.sorts; distinct = f.issued.distinct; ordered = f.issued.ordered; before = f.issued.before; not_passed = issued-before v v.taken v.secrets f.issued.ordered f.issued.before f.live };
+        issued = record { sorts = f.issued.sorts; distinct = f.issued.distinct; ordered = f.issued.ordered; before = f.issued.before; not_passed = issued-before v v.agreement.taken v.secrets f.issued.ordered f.issued.before f.live };
         entered = record {
           numbered = accepted-numbered (debt_of v) [] v.entries 1 (omega arith) f.accepted;
           ordered = f.kept.ordered;
           before = before;
           accepted = f.accepted;
-          not_passed = Each-map _ (λ (e : Entry). IsNotPassed v e.day) v.entries (λ e k. not_passed-earlier v e.day v.last k.1 f.live) days;
+          not_passed = Each-map _ (λ (e : Entry). IsNotPassed v e.day) v.entries (λ e k. not_passed-earlier v e.day v.standing.last k.1 f.live) days;
           drawn = f.drawn;
         };
         last_in = f.taken;
@@ -96,9 +97,7 @@ stands v t f =
       };
       within = record {
         number = f.typed.number;
-        reference = f.typed.reference;
-        article = f.typed.article;
-        agreed = f.typed.agreed;
+        opening = f.typed.opening;
         entries = f.kept.few;
         secrets = f.limited.secrets;
         extensions = f.limited.extensions;

@@ -7,7 +7,8 @@ use Rattle.pawn_terms.proofs.SixMonths.{six_months-later}
 use Rattle.pawn_terms.proofs.RefusalLemmas.{first_of-ok}
 use Rattle.pawn_debt.specs.declared.fault.DebtFault.TheVariants.{BadAmount}
 use Rattle.pawn_debt.specs.Due.{credit_of}
-use Rattle.pawn_debt.specs.Answers.{is_bad_amount, most_pence}
+use Rattle.pawn_debt.specs.Answers.{is_bad_amount}
+use Rattle.pawn_debt.specs.Limits.{most_pence}
 use Rattle.pawn_pledge.specs.declared.record.Issue.TheVariants as Issue
 use Rattle.pawn_pledge.specs.declared.record.Closing.TheVariants as Closing
 use Rattle.pawn_pledge.specs.Pledge.{PledgeValue, end_of}
@@ -29,22 +30,11 @@ good_amount n h =
 pub starts_standing : StartsStanding
 starts_standing number opening version terms stamp p known within checked day h =
     let first : PledgeValue = record {
-      number = number;
-      reference = opening.reference;
-      article = opening.article;
-      kind = opening.kind;
-      taken = stamp.day;
-      agreed = opening.agreed;
-      five_days = opening.five_days;
-      version = version;
-      terms = terms;
+      agreement = record { number = number; opening = opening; taken = stamp.day; version = version; terms = terms };
       entries = [];
       secrets = record { day = stamp.day; sort = Issue.Opening; secret = stamp.word } ∷ [];
       extensions = [];
-      held = false;
-      booking = None;
-      last = stamp.day;
-      closing = Closing.Open;
+      standing = record { held = false; booking = None; last = stamp.day; closing = Closing.Open };
     } in
     let a = first_of-ok ((is_bad_amount (credit_of opening.kind), Refusal.Debt BadAmount) ∷ []) (Ok first) p h in
     let is : first ≡ p = cc in
@@ -63,9 +53,7 @@ starts_standing number opening version terms stamp p known within checked day h 
       };
       within = record {
         number = known;
-        reference = within.reference;
-        article = within.article;
-        agreed = within.agreed;
+        opening = within;
         entries = omega arith;
         secrets = omega arith;
         extensions = omega arith;

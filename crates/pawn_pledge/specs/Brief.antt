@@ -1,72 +1,62 @@
--- A pledge without its lists.
-use Rattle.std.specs.Prelude.{ℕ, ◌-◌, ◌==◌, ◌&&◌, nat_le, Bool, List, length, Option}
-use Rattle.pawn_terms.specs.Terms.{TermsValue}
-use Rattle.pawn_terms.specs.Calendar.{six_months}
-use Rattle.pawn_debt.specs.declared.entry.Kind.{Kind}
+-- A pledge without its lists, and the limits of its fields.
+use Rattle.std.specs.Prelude.{ℕ, ◌-◌, ◌≤◌, length, IfSome}
+use Rattle.pawn_terms.specs.Terms.{IsChecked}
+use Rattle.pawn_terms.specs.Limits.{last_stamp_day}
 use Rattle.pawn_debt.specs.declared.owing.Totals.{Totals}
 use Rattle.pawn_debt.specs.declared.owing.Owing.{Owing}
 use Rattle.pawn_debt.specs.Due.{credit_of, carried}
 use Rattle.pawn_debt.specs.Owing.{owing_of}
 use Rattle.pawn_debt.specs.Kept.{owed_of, totals_of}
+use Rattle.pawn_debt.specs.Limits.{most_pence, most_entries, most_millionths}
 use Rattle.pawn_pledge.specs.declared.record.Booking.{Booking}
 use Rattle.pawn_pledge.specs.declared.record.Closing.{Closing}
 use Rattle.pawn_pledge.specs.declared.record.Status.{Status}
-use Rattle.pawn_pledge.specs.Pledge.{PledgeValue, end_of, debt_of, live_of, small_credit, status_in, status_under}
+use Rattle.pawn_pledge.specs.declared.brief.BriefFields.{BriefFields}
+use Rattle.pawn_pledge.specs.Pledge.{PledgeValue, end_of, debt_of, live_of, status_by, status_under}
+use Rattle.pawn_pledge.specs.Limits.{most_secrets, most_extensions, last_window}
 
-pub record BriefValue : Type 0 where
-  pub number : ℕ
-  pub reference : List ℕ
-  pub article : List ℕ
-  pub kind : Kind
-  pub taken : ℕ
-  pub agreed : Option ℕ
-  pub five_days : Bool
-  pub version : ℕ
-  pub terms : TermsValue
-  -- how many there are
-  pub entries : ℕ
-  pub secrets : ℕ
-  pub extensions : ℕ
-  pub held : Bool
-  pub booking : Option Booking
-  pub last : ℕ
-  pub closing : Closing
-  -- the live secret
-  pub live : Option ℕ
-  -- the end of the period
-  pub ends : ℕ
-  -- what is owed on the day of the last entry
-  pub totals : Totals
-
-abbrev pub brief_of : PledgeValue → BriefValue
+abbrev pub brief_of : PledgeValue → BriefFields
 brief_of p = record {
-  number = p.number;
-  reference = p.reference;
-  article = p.article;
-  kind = p.kind;
-  taken = p.taken;
-  agreed = p.agreed;
-  five_days = p.five_days;
-  version = p.version;
-  terms = p.terms;
-  entries = length p.entries;
-  secrets = length p.secrets;
-  extensions = length p.extensions;
-  held = p.held;
-  booking = p.booking;
-  last = p.last;
-  closing = p.closing;
+  agreement = p.agreement;
+  counts = record { entries = length p.entries; secrets = length p.secrets; extensions = length p.extensions };
+  standing = p.standing;
   live = live_of p;
   ends = end_of p;
   totals = totals_of (debt_of p);
 }
 
 -- what the pledge is on a day
-abbrev pub brief_status : BriefValue → ℕ → Status
-brief_status b x =
-    status_under b.closing
-    (status_in b.ends b.five_days ((b.ends == six_months b.taken) && nat_le (credit_of b.kind) small_credit) x)
+abbrev pub brief_status : BriefFields → ℕ → Status
+brief_status b x = status_under b.standing.closing (status_by b.agreement b.ends x)
 
 -- what is owed on a day that is not before the last entry's
-abbrev pub brief_owing : BriefValue → ℕ → Owing
-brief_owing b x = owing_of (carried b.terms b.ends b.totals.day (x - b.totals.day) (owed_of b.totals))
+abbrev pub brief_owing : BriefFields → ℕ → Owing
+brief_owing b x = owing_of (carried b.agreement.terms b.ends b.totals.day (x - b.totals.day) (owed_of b.totals))
+
+-- a booking for one of a day's windows, on a day that a request may name
+abbrev pub IsBookingWithin : Booking → Type 0
+IsBookingWithin b = (b.day ≤ last_stamp_day) × (b.window ≤ last_window)
+
+-- a closing on a day that a request may name; a sale brings no more than the largest sum
+abbrev pub IsClosingWithin : Closing → Type 0
+IsClosingWithin Closing.Open = Unit {0}
+IsClosingWithin (Closing.Redeemed day paid) = day ≤ last_stamp_day
+IsClosingWithin (Closing.Sold day net) = (day ≤ last_stamp_day) × (net ≤ most_pence)
+
+-- what was owed on a day that a request may name, in numbers that charges can be carried on from
+abbrev pub AreTotalsWithin : Totals → Type 0
+AreTotalsWithin t = (t.day ≤ last_stamp_day) × (t.principal ≤ most_pence) × (t.millionths ≤ most_millionths)
+
+-- the limits of a brief, but for those that the types of its fields keep
+pub record IsBriefWithin (b : BriefFields) : Type 0 where
+  pub some : 1 ≤ credit_of b.agreement.opening.kind
+  pub credit : credit_of b.agreement.opening.kind ≤ most_pence
+  pub terms : IsChecked b.agreement.terms
+  pub taken : b.agreement.taken ≤ last_stamp_day
+  pub last : b.standing.last ≤ last_stamp_day
+  pub entries : b.counts.entries ≤ most_entries
+  pub secrets : b.counts.secrets ≤ most_secrets
+  pub extensions : b.counts.extensions ≤ most_extensions
+  pub booking : IfSome b.standing.booking IsBookingWithin
+  pub closing : IsClosingWithin b.standing.closing
+  pub totals : AreTotalsWithin b.totals

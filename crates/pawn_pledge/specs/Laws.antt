@@ -2,7 +2,8 @@
 use Rattle.std.specs.Prelude.{◌≡◌, ◌≤◌, ◌<◌, ◌+◌, ◌^◌, ◌==◌, ℕ, length, true, false, List, [], ◌∷◌, Some, Ok}
 use Rattle.std.specs.List.{list_any}
 use Rattle.pawn_terms.specs.Calendar.{IsStampDay}
-use Rattle.pawn_terms.specs.Terms.{TermsValue, IsChecked}
+use Rattle.pawn_terms.specs.declared.terms.Rates.{Rates}
+use Rattle.pawn_terms.specs.Terms.{IsChecked}
 use Rattle.pawn_terms.specs.Refusals.{NoneApplies}
 use Rattle.pawn_debt.specs.declared.entry.Sort.{Sort}
 use Rattle.pawn_debt.specs.declared.entry.Sort.TheVariants.{Draw, Repay}
@@ -16,17 +17,17 @@ use Rattle.pawn_pledge.specs.declared.receipt.Receipt.{Receipt}
 use Rattle.pawn_pledge.specs.Number.{IsNumber}
 use Rattle.pawn_pledge.specs.Pledge.{PledgeValue, end_of, debt_of, status_of, live_of}
 use Rattle.pawn_pledge.specs.Step.{Answered, Changed, is_open, bars, pledge_step, pledge_after, started}
-use Rattle.pawn_pledge.specs.Replayable.{IsOpening, IsCommand, IsReplayable, IsWithin, IsStanding}
+use Rattle.pawn_pledge.specs.Replayable.{IsOpening, IsReplayable, IsWithin, IsStanding}
+use Rattle.pawn_pledge.specs.Commands.{IsCommand}
 use Rattle.pawn_pledge.specs.Growth.{Grows, StaysOrGrows}
-use Rattle.pawn_pledge.specs.Brief.{brief_of, brief_status, brief_owing}
-use Rattle.pawn_pledge.specs.BriefFields.{IsBriefWithin}
+use Rattle.pawn_pledge.specs.Brief.{brief_of, brief_status, brief_owing, IsBriefWithin}
 use Rattle.pawn_pledge.specs.Secret.{secret_text, secret_of_text}
 use Rattle.pawn_pledge.specs.Receipt.{receipt_text, IsReceiptText}
 
 -- a pledge begins as one that can have come about, within the limits
 abbrev pub StartsStanding : Type 0
 StartsStanding =
-    (number : ℕ) (opening : Opening) (version : ℕ) (terms : TermsValue) (stamp : Stamp) (p : PledgeValue)
+    (number : ℕ) (opening : Opening) (version : ℕ) (terms : Rates) (stamp : Stamp) (p : PledgeValue)
     → IsNumber number → IsOpening opening → IsChecked terms → IsStampDay stamp.day
     → started number opening version terms stamp ≡ Ok p → IsStanding p
 
@@ -58,14 +59,14 @@ ChangesDiffer =
 abbrev pub ClosedStays : Type 0
 ClosedStays =
     (p next : PledgeValue) (stamp : Stamp) (command : Command) (done : Done)
-    → is_open p.closing ≡ false → pledge_step p stamp command ≡ Changed next done → ⊥
+    → is_open p.standing.closing ≡ false → pledge_step p stamp command ≡ Changed next done → ⊥
 
--- the list of secrets stays, or grows at its end by one that is not in it
+-- the list of secrets stays, or grows at its end by the stamp's word, which is not in it
 abbrev pub SecretsGrow : Type 0
 SecretsGrow =
     (p next : PledgeValue) (stamp : Stamp) (command : Command) (done : Done)
     → pledge_step p stamp command ≡ Changed next done
-    → StaysOrGrows (λ issued. list_any (λ i. i.secret == issued.secret) p.secrets ≡ false) p.secrets next.secrets
+    → StaysOrGrows (λ issued. (issued.secret ≡ stamp.word) × (list_any (λ i. i.secret == stamp.word) p.secrets ≡ false)) p.secrets next.secrets
 
 -- the entries stay, or grow at their end by the next, on the stamp's day
 abbrev pub EntriesGrow : Type 0
@@ -139,7 +140,7 @@ NeverLiveAgain =
 abbrev pub BriefOwes : Type 0
 BriefOwes =
     (p : PledgeValue) (x : ℕ)
-    → IsReplayable p → last_of p.taken p.entries ≤ x → brief_owing (brief_of p) x ≡ owing_of (due (debt_of p) x)
+    → IsReplayable p → last_of p.agreement.taken p.entries ≤ x → brief_owing (brief_of p) x ≡ owing_of (due (debt_of p) x)
 
 -- and what it is on a day
 abbrev pub BriefHasStatus : Type 0

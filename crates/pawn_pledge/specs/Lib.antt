@@ -1,3 +1,4 @@
+pub mod Limits
 pub mod Number
 pub mod Text
 pub mod Secret
@@ -10,7 +11,7 @@ pub mod Growth
 pub mod Replayable
 pub mod Parts
 pub mod Brief
-pub mod BriefFields
+pub mod Commands
 pub mod Laws
 pub mod Worked
 pub mod WorkedTexts

@@ -1,42 +1,24 @@
 -- A pledge is a record, and what follows from it.
 use Rattle.std.specs.Prelude.{ℕ, ◌+◌, ◌-◌, max, [], ◌∷◌, nat_le, ◌&&◌, ◌==◌, Bool, true, false, if◌then◌else◌, List, length, slice_get, Option, None, option_map}
-use Rattle.pawn_terms.specs.Terms.{TermsValue}
 use Rattle.pawn_terms.specs.Calendar.{period_end, six_months}
-use Rattle.pawn_debt.specs.declared.entry.Kind.{Kind}
-use Rattle.pawn_debt.specs.declared.entry.Entry.{Entry}
 use Rattle.pawn_debt.specs.Due.{DebtValue, due, credit_of}
 use Rattle.pawn_debt.specs.Owing.{total_of}
+use Rattle.pawn_pledge.specs.Limits.{small_credit}
 use Rattle.pawn_pledge.specs.declared.record.Issued.{Issued}
 use Rattle.pawn_pledge.specs.declared.record.Extension.{Extension}
-use Rattle.pawn_pledge.specs.declared.record.Booking.{Booking}
+use Rattle.pawn_pledge.specs.declared.record.Agreement.{Agreement}
+use Rattle.pawn_pledge.specs.declared.record.Standing.{Standing}
 use Rattle.pawn_pledge.specs.declared.record.Closing.{Closing}
 use Rattle.pawn_pledge.specs.declared.record.Status.{Status}
+use Rattle.pawn_pledge.specs.declared.parts.Parts.{Parts}
 
--- all that is written down of a pledge
-pub record PledgeValue : Type 0 where
-  pub number : ℕ
-  pub reference : List ℕ
-  pub article : List ℕ
-  pub kind : Kind
-  pub taken : ℕ
-  pub agreed : Option ℕ
-  pub five_days : Bool
-  -- the version of the book's terms, and its three numbers
-  pub version : ℕ
-  pub terms : TermsValue
-  pub entries : List Entry
-  pub secrets : List Issued
-  pub extensions : List Extension
-  -- redemption is barred
-  pub held : Bool
-  pub booking : Option Booking
-  -- the day of the last change
-  pub last : ℕ
-  pub closing : Closing
+-- a pledge is seen as its record: what was agreed when it was taken, its lists, and how it stands
+abbrev pub PledgeValue : Type 0
+PledgeValue = Parts
 
 -- the end of the period as it was first agreed
-abbrev pub first_end : PledgeValue → ℕ
-first_end p = period_end p.taken p.agreed
+abbrev pub first_end : Agreement → ℕ
+first_end a = period_end a.taken a.opening.agreed
 
 -- an end that extensions have put off
 abbrev pub end_after : ℕ → List Extension → ℕ
@@ -45,40 +27,41 @@ end_after ends (e ∷ es) = end_after (max ends e.until) es
 
 -- the end of the period
 abbrev pub end_of : PledgeValue → ℕ
-end_of p = end_after (first_end p) p.extensions
+end_of p = end_after (first_end p.agreement) p.extensions
 
--- the period is six months
-abbrev pub is_six : PledgeValue → Bool
-is_six p = end_of p == six_months p.taken
+-- a credit is small
+abbrev pub is_small : ℕ → Bool
+is_small pence = nat_le pence small_credit
 
--- up to 75 pounds
-abbrev pub small_credit : ℕ
-small_credit = 7500
+-- the same as it stands, last changed on the day x
+abbrev pub changed_on : Standing → ℕ → Standing
+changed_on s x = record s { last = x }
 
--- the fixed sum, or the limit, is small
-abbrev pub is_small : PledgeValue → Bool
-is_small p = nat_le (credit_of p.kind) small_credit
+-- the pledge that stands so, with its lists as they are
+abbrev pub settled : PledgeValue → Standing → PledgeValue
+settled p standing = record p { standing = standing }
 
 -- what is owed on the pledge
 abbrev pub debt_of : PledgeValue → DebtValue
-debt_of p = record { kind = p.kind; terms = p.terms; taken = p.taken; ends = end_of p; entries = p.entries }
+debt_of p =
+    let a = p.agreement in
+    record { kind = a.opening.kind; terms = a.terms; taken = a.taken; ends = end_of p; entries = p.entries }
 
 -- the pence that are owing on a day
 abbrev pub total_on : PledgeValue → ℕ → ℕ
 total_on p x = total_of (due (debt_of p) x)
 
--- what a pledge is on a day, its closing aside: by the end of its period, whether the five days apply, and
--- whether the property passes
-abbrev pub status_in : ℕ → Bool → Bool → ℕ → Status
-status_in ends five_days passes x =
+-- what a pledge is on a day, its closing aside, by the end of its period; the property passes where the period is six
+-- months and the credit small
+abbrev pub status_by : Agreement → ℕ → ℕ → Status
+status_by a ends x =
     if nat_le x ends then Status.Inside
-    else if five_days && nat_le x (ends + 5) then Status.Grace
-    else if passes then Status.Passed
+    else if a.opening.five_days && nat_le x (ends + 5) then Status.Grace
+    else if (ends == six_months a.taken) && is_small (credit_of a.opening.kind) then Status.Passed
     else Status.Realisable
 
--- the same of a pledge; the property passes where the period is six months and the credit small
 abbrev pub open_status : PledgeValue → ℕ → Status
-open_status p x = status_in (end_of p) p.five_days (is_six p && is_small p) x
+open_status p x = status_by p.agreement (end_of p) x
 
 abbrev pub is_passed : Status → Bool
 is_passed Status.Inside = false
@@ -104,7 +87,7 @@ status_under (Closing.Sold day net) status = Status.Sold
 
 -- what a pledge is on a day
 abbrev pub status_of : PledgeValue → ℕ → Status
-status_of p x = status_under p.closing (open_status p x)
+status_of p x = status_under p.standing.closing (open_status p x)
 
 -- the last secret issued
 abbrev pub last_secret : List Issued → Option ℕ
@@ -118,4 +101,4 @@ live_under (Closing.Sold day net) secret = secret
 
 -- the live secret: the last one issued, until the pledge is redeemed
 abbrev pub live_of : PledgeValue → Option ℕ
-live_of p = live_under p.closing (last_secret p.secrets)
+live_of p = live_under p.standing.closing (last_secret p.secrets)

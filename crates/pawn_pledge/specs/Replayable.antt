@@ -1,14 +1,15 @@
 -- Which records can have come about by commands.
 use Rattle.std.specs.Prelude.{◌≡◌, ℕ, ◌+◌, ◌≤◌, ◌<◌, ◌==◌, max, false, List, [], ◌∷◌, length, Option, Some, None, IfSome}
 use Rattle.std.specs.List.{list_any}
-use Rattle.pawn_terms.specs.Calendar.{last_stamp_day, IsStampDay}
+use Rattle.pawn_terms.specs.Calendar.{IsStampDay}
 use Rattle.pawn_terms.specs.Terms.{IsChecked}
+use Rattle.pawn_terms.specs.Limits.{last_stamp_day}
 use Rattle.pawn_debt.specs.declared.entry.Entry.{Entry}
 use Rattle.pawn_debt.specs.declared.entry.Sort.{Sort}
 use Rattle.pawn_debt.specs.declared.entry.Sort.TheVariants.{Draw, Repay}
 use Rattle.pawn_debt.specs.Due.{credit_of, last_of, AreOrdered}
-use Rattle.pawn_debt.specs.Answers.{most_pence, most_entries}
 use Rattle.pawn_debt.specs.Replay.{AreAccepted}
+use Rattle.pawn_debt.specs.Limits.{most_pence, most_entries}
 use Rattle.pawn_pledge.specs.declared.record.Issued.{Issued}
 use Rattle.pawn_pledge.specs.declared.record.Issue.{Issue}
 use Rattle.pawn_pledge.specs.declared.record.Extension.{Extension}
@@ -17,11 +18,10 @@ use Rattle.pawn_pledge.specs.declared.record.BookingState.{BookingState}
 use Rattle.pawn_pledge.specs.declared.record.Closing.{Closing}
 use Rattle.pawn_pledge.specs.declared.record.Status.TheVariants as Status
 use Rattle.pawn_pledge.specs.declared.record.Opening.{Opening}
-use Rattle.pawn_pledge.specs.declared.command.Command.{Command}
 use Rattle.pawn_pledge.specs.Number.{IsNumber}
 use Rattle.pawn_pledge.specs.Text.{IsText}
-use Rattle.pawn_pledge.specs.Pledge.{PledgeValue, first_end, end_of, total_on, debt_of, open_status, is_passed, small_credit}
-use Rattle.pawn_pledge.specs.Step.{most_secrets, most_extensions, last_window}
+use Rattle.pawn_pledge.specs.Pledge.{PledgeValue, first_end, end_of, total_on, debt_of, open_status, is_passed}
+use Rattle.pawn_pledge.specs.Limits.{small_credit, most_secrets, most_extensions, last_window}
 
 -- each element of a list
 abbrev pub Each : {A : Type 0} → (A → Type 0) → List A → Type 0
@@ -83,8 +83,8 @@ last_extension day (e ∷ es) = last_extension e.day es
 -- a pledge is closed on the day of its last change, on payment of all that is owing then or by a sale
 abbrev pub IsClosed : PledgeValue → Closing → Type 0
 IsClosed p Closing.Open = Unit {0}
-IsClosed p (Closing.Redeemed day paid) = (day ≡ p.last) × (paid ≡ total_on p day) × (p.held ≡ false)
-IsClosed p (Closing.Sold day net) = (day ≡ p.last) × (open_status p day ≡ Status.Realisable) × (net ≤ most_pence)
+IsClosed p (Closing.Redeemed day paid) = (day ≡ p.standing.last) × (paid ≡ total_on p day) × (p.standing.held ≡ false)
+IsClosed p (Closing.Sold day net) = (day ≡ p.standing.last) × (open_status p day ≡ Status.Realisable) × (net ≤ most_pence)
 
 -- neither asked for nor confirmed
 abbrev pub IsOver : BookingState → Type 0
@@ -102,39 +102,39 @@ IsOverUnder (Closing.Sold day net) state = IsOver state
 -- a booking for a day in the pledge's time
 abbrev pub IsBooked : PledgeValue → Option Booking → Type 0
 IsBooked p None = Unit {0}
-IsBooked p (Some b) = (p.taken ≤ b.day) × IsNotPassed p b.day × (b.window ≤ last_window) × IsOverUnder p.closing b.state
+IsBooked p (Some b) = (p.agreement.taken ≤ b.day) × IsNotPassed p b.day × (b.window ≤ last_window) × IsOverUnder p.standing.closing b.state
 
 -- the secrets: they differ, in order of their days
 pub record IsIssued (p : PledgeValue) : Type 0 where
-  pub sorts : AreIssued p.taken (credit_of p.kind) p.secrets
+  pub sorts : AreIssued p.agreement.taken (credit_of p.agreement.opening.kind) p.secrets
   pub distinct : AreDistinct p.secrets
-  pub ordered : DoNotFall p.taken p.secrets
-  pub before : last_issue p.taken p.secrets ≤ p.last
+  pub ordered : DoNotFall p.agreement.taken p.secrets
+  pub before : last_issue p.agreement.taken p.secrets ≤ p.standing.last
   pub not_passed : Each (λ i. IsNotPassed p i.day) p.secrets
 
 -- the entries: the rules accept each after those before it
 pub record IsEntered (p : PledgeValue) : Type 0 where
   pub numbered : AreNumbered 1 p.entries
-  pub ordered : AreOrdered p.taken p.entries
-  pub before : last_of p.taken p.entries ≤ p.last
+  pub ordered : AreOrdered p.agreement.taken p.entries
+  pub before : last_of p.agreement.taken p.entries ≤ p.standing.last
   pub accepted : AreAccepted (debt_of p) [] p.entries
   pub not_passed : Each (λ e. IsNotPassed p e.day) p.entries
   pub drawn : Each (λ e. IsDrawnBy (end_of p) e.sort e.day) p.entries
 
 -- the extensions
 pub record IsExtended (p : PledgeValue) : Type 0 where
-  pub each : AreExtended p.taken (first_end p) p.extensions
-  pub before : last_extension p.taken p.extensions ≤ p.last
+  pub each : AreExtended p.agreement.taken (first_end p.agreement) p.extensions
+  pub before : last_extension p.agreement.taken p.extensions ≤ p.standing.last
 
 -- a record that can have come about by commands
 pub record IsReplayable (p : PledgeValue) : Type 0 where
-  pub credit : (1 ≤ credit_of p.kind) × (credit_of p.kind ≤ most_pence)
+  pub credit : (1 ≤ credit_of p.agreement.opening.kind) × (credit_of p.agreement.opening.kind ≤ most_pence)
   pub issued : IsIssued p
   pub entered : IsEntered p
-  pub last_in : p.taken ≤ p.last
-  pub last_open : IsNotPassed p p.last
-  pub closed : IsClosed p p.closing
-  pub booked : IsBooked p p.booking
+  pub last_in : p.agreement.taken ≤ p.standing.last
+  pub last_open : IsNotPassed p p.standing.last
+  pub closed : IsClosed p p.standing.closing
+  pub booked : IsBooked p p.standing.booking
   pub extended : IsExtended p
 
 -- an opening that a request can give
@@ -143,35 +143,19 @@ pub record IsOpening (o : Opening) : Type 0 where
   pub article : IsText 80 o.article
   pub agreed : IfSome o.agreed IsStampDay
 
--- a command that a request can give
-abbrev pub IsCommand : Command → Type 0
-IsCommand (Command.Draw seq pence) = Unit {0}
-IsCommand (Command.Repay seq pence) = Unit {0}
-IsCommand Command.Hold = Unit {0}
-IsCommand Command.Release = Unit {0}
-IsCommand (Command.Declare paper) = Unit {0}
-IsCommand (Command.AskBooking day window) = IsStampDay day
-IsCommand Command.CancelBooking = Unit {0}
-IsCommand (Command.DecideBooking decision) = Unit {0}
-IsCommand (Command.Redeem paid) = Unit {0}
-IsCommand (Command.Sell net) = Unit {0}
-IsCommand (Command.Extend until) = IsStampDay until
-
 -- the limits of a record: of its number, texts and days, and as many of each list as it may have
 pub record IsWithin (p : PledgeValue) : Type 0 where
-  pub number : IsNumber p.number
-  pub reference : IsText 40 p.reference
-  pub article : IsText 80 p.article
-  pub agreed : IfSome p.agreed IsStampDay
+  pub number : IsNumber p.agreement.number
+  pub opening : IsOpening p.agreement.opening
   pub entries : length p.entries ≤ most_entries
   pub secrets : length p.secrets ≤ most_secrets
   pub extensions : length p.extensions ≤ most_extensions
   pub untils : Each (λ e. e.until ≤ last_stamp_day) p.extensions
-  pub booking : IfSome p.booking (λ b. b.day ≤ last_stamp_day)
-  pub last : p.last ≤ last_stamp_day
+  pub booking : IfSome p.standing.booking (λ b. b.day ≤ last_stamp_day)
+  pub last : p.standing.last ≤ last_stamp_day
 
 -- a record that a pledge can have
 pub record IsStanding (p : PledgeValue) : Type 0 where
-  pub terms : IsChecked p.terms
+  pub terms : IsChecked p.agreement.terms
   pub replayable : IsReplayable p
   pub within : IsWithin p

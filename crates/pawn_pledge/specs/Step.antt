@@ -1,7 +1,7 @@
 -- What a command comes to: the first refusal that applies, or an answer and the pledge after it.
 use Rattle.std.specs.Prelude.{◌≡◌, ℕ, ◌+◌, ◌-◌, nat_lt, nat_le, ◌==◌, ◌&&◌, ◌||◌, not, Bool, true, false, if◌then◌else◌, List, [], ◌∷◌, ◌++◌, length, find, Option, Some, None, Result, Ok, Err, IsOk, ◌⊎◌}
 use Rattle.std.specs.List.{list_any}
-use Rattle.pawn_terms.specs.Terms.{TermsValue}
+use Rattle.pawn_terms.specs.declared.terms.Rates.{Rates}
 use Rattle.pawn_terms.specs.Refusals.{first_of}
 use Rattle.pawn_debt.specs.declared.entry.Entry.{Entry}
 use Rattle.pawn_debt.specs.declared.entry.Sort.{Sort}
@@ -9,7 +9,8 @@ use Rattle.pawn_debt.specs.declared.entry.Sort.TheVariants.{Draw, Repay}
 use Rattle.pawn_debt.specs.declared.fault.DebtFault.{DebtFault}
 use Rattle.pawn_debt.specs.declared.fault.DebtFault.TheVariants.{EarlierDay, BadAmount}
 use Rattle.pawn_debt.specs.Due.{DebtValue, credit_of}
-use Rattle.pawn_debt.specs.Answers.{draw_answer, repay_answer, is_bad_amount, most_pence}
+use Rattle.pawn_debt.specs.Answers.{draw_answer, repay_answer, is_bad_amount}
+use Rattle.pawn_debt.specs.Limits.{most_pence}
 use Rattle.pawn_pledge.specs.declared.record.Opening.{Opening}
 use Rattle.pawn_pledge.specs.declared.record.Issued.{Issued}
 use Rattle.pawn_pledge.specs.declared.record.Issue.{Issue}
@@ -17,6 +18,7 @@ use Rattle.pawn_pledge.specs.declared.record.Extension.{Extension}
 use Rattle.pawn_pledge.specs.declared.record.Booking.{Booking}
 use Rattle.pawn_pledge.specs.declared.record.BookingState.{BookingState}
 use Rattle.pawn_pledge.specs.declared.record.Closing.{Closing}
+use Rattle.pawn_pledge.specs.declared.record.Standing.{Standing}
 use Rattle.pawn_pledge.specs.declared.command.Stamp.{Stamp}
 use Rattle.pawn_pledge.specs.declared.command.Paper.{Paper}
 use Rattle.pawn_pledge.specs.declared.command.Decision.{Decision}
@@ -25,40 +27,21 @@ use Rattle.pawn_pledge.specs.declared.command.Command.{Command}
 use Rattle.pawn_pledge.specs.declared.command.Done.{Done}
 use Rattle.pawn_pledge.specs.declared.command.Applied.{Applied}
 use Rattle.pawn_pledge.specs.declared.refusal.Refusal.{Refusal}
+use Rattle.pawn_pledge.specs.Limits.{most_secrets, most_extensions, last_window}
 use Rattle.pawn_pledge.specs.Refusal.{refusal_of}
-use Rattle.pawn_pledge.specs.Pledge.{PledgeValue, end_of, is_small, debt_of, total_on, open_status, is_passed, is_realisable}
-
-abbrev pub most_secrets : ℕ
-most_secrets = 101
-
-abbrev pub most_extensions : ℕ
-most_extensions = 99
-
-abbrev pub last_window : ℕ
-last_window = 15
+use Rattle.pawn_pledge.specs.Pledge.{PledgeValue, changed_on, settled, end_of, is_small, debt_of, total_on, open_status, is_passed, is_realisable}
 
 -- a pledge as it is taken: its one secret is the stamp's word
-abbrev pub started : ℕ → Opening → ℕ → TermsValue → Stamp → Result PledgeValue Refusal
+abbrev pub started : ℕ → Opening → ℕ → Rates → Stamp → Result PledgeValue Refusal
 started number opening version terms stamp =
     first_of
     ((is_bad_amount (credit_of opening.kind), Refusal.Debt BadAmount) ∷ [])
     (Ok (record {
-      number = number;
-      reference = opening.reference;
-      article = opening.article;
-      kind = opening.kind;
-      taken = stamp.day;
-      agreed = opening.agreed;
-      five_days = opening.five_days;
-      version = version;
-      terms = terms;
+      agreement = record { number = number; opening = opening; taken = stamp.day; version = version; terms = terms };
       entries = [];
       secrets = record { day = stamp.day; sort = Issue.Opening; secret = stamp.word } ∷ [];
       extensions = [];
-      held = false;
-      booking = None;
-      last = stamp.day;
-      closing = Closing.Open;
+      standing = record { held = false; booking = None; last = stamp.day; closing = Closing.Open };
     }))
 
 -- what a command comes to
@@ -86,8 +69,8 @@ is_open (Closing.Sold day net) = false
 -- what bars every command on the day x
 abbrev pub bars : PledgeValue → ℕ → List (Bool × Refusal)
 bars p x =
-    (nat_lt x p.last, Refusal.Debt EarlierDay)
-    ∷ (not (is_open p.closing), Refusal.Closed)
+    (nat_lt x p.standing.last, Refusal.Debt EarlierDay)
+    ∷ (not (is_open p.standing.closing), Refusal.Closed)
     ∷ (is_passed (open_status p x), Refusal.Passed)
     ∷ []
 
@@ -114,7 +97,7 @@ new_entry p x sort pence = record { seq = length p.entries + 1; day = x; sort = 
 -- what the debt answers
 abbrev pub entered : PledgeValue → ℕ → Sort → ℕ → Result DebtValue DebtFault → Judged
 entered p x sort pence (Ok debt) =
-    Changed (record p { entries = debt.entries; last = x }) (Done.Entered (new_entry p x sort pence))
+    Changed (record p { entries = debt.entries; standing = changed_on p.standing x }) (Done.Entered (new_entry p x sort pence))
 entered p x sort pence (Err fault) = Refused (refusal_of fault)
 
 -- a drawing is made in the period; the other refusals are the debt's
@@ -140,10 +123,14 @@ abbrev pub same_flag : Bool → Bool → Bool
 same_flag true flag = flag
 same_flag false flag = not flag
 
+-- barred or not from the day x on
+abbrev pub held_on : Standing → Bool → ℕ → Standing
+held_on s flag x = record s { held = flag; last = x }
+
 abbrev pub hold_step : PledgeValue → ℕ → Bool → Judged
 hold_step p x flag =
-    if same_flag p.held flag then Answered (Done.Held flag)
-    else Changed (record p { held = flag; last = x }) (Done.Held flag)
+    if same_flag p.standing.held flag then Answered (Done.Held flag)
+    else Changed (settled p (held_on p.standing flag x)) (Done.Held flag)
 
 -- declarations
 
@@ -155,28 +142,31 @@ abbrev pub issue_of : Paper → Issue
 issue_of Paper.Sworn = Issue.Sworn
 issue_of Paper.Written = Issue.Written
 
-abbrev pub declare_bars : PledgeValue → Stamp → Paper → List (Bool × Refusal)
-declare_bars p stamp paper =
-    (is_written paper && not (is_small p), Refusal.NotSmall)
+abbrev pub declare_bars : PledgeValue → Paper → ℕ → List (Bool × Refusal)
+declare_bars p paper word =
+    (is_written paper && not (is_small (credit_of p.agreement.opening.kind)), Refusal.NotSmall)
     ∷ (nat_le most_secrets (length p.secrets), Refusal.DeclarationsFull)
-    ∷ (list_any (λ issued. issued.secret == stamp.word) p.secrets, Refusal.SecretUsed)
+    ∷ (list_any (λ issued. issued.secret == word) p.secrets, Refusal.SecretUsed)
     ∷ []
 
 -- the pledge with one more secret
 abbrev pub with_secret : PledgeValue → Issued → PledgeValue
-with_secret p issued = record p { secrets = p.secrets ++ issued ∷ []; last = issued.day }
+with_secret p issued = record p { secrets = p.secrets ++ issued ∷ []; standing = changed_on p.standing issued.day }
 
 -- the stamp's word is the new and only live secret
 abbrev pub declare_step : PledgeValue → Stamp → Paper → Judged
 declare_step p stamp paper =
-    unless (declare_bars p stamp paper)
+    unless (declare_bars p paper stamp.word)
     (Changed (with_secret p (record { day = stamp.day; sort = issue_of paper; secret = stamp.word })) (Done.Declared stamp.word))
 
 -- bookings
 
--- the pledge with that booking
+-- with that booking from the day x on
+abbrev pub booked_on : Standing → Booking → ℕ → Standing
+booked_on s booking x = record s { booking = Some booking; last = x }
+
 abbrev pub books : PledgeValue → ℕ → Booking → Judged
-books p x booking = Changed (record p { booking = Some booking; last = x }) (Done.Booked booking)
+books p x booking = Changed (settled p (booked_on p.standing booking x)) (Done.Booked booking)
 
 abbrev pub in_state : Booking → BookingState → Booking
 in_state booking state = record { day = booking.day; window = booking.window; state = state }
@@ -205,7 +195,7 @@ ask_step p x day window =
     ∷ (nat_lt day x, Refusal.BookingDay)
     ∷ (is_passed (open_status p day), Refusal.BookingDay)
     ∷ [])
-    (asked p x day window p.booking)
+    (asked p x day window p.standing.booking)
 
 -- cancelling by the booking's state
 abbrev pub cancelled : PledgeValue → ℕ → Booking → BookingState → Judged
@@ -251,14 +241,17 @@ abbrev pub booking_after : Option Booking → Option Booking
 booking_after None = None
 booking_after (Some booking) = Some (in_state booking (state_after booking.state))
 
--- the pledge closed on the day x
+-- closed on the day x
+abbrev pub closed_on : Standing → Closing → ℕ → Standing
+closed_on s closing x = record s { booking = booking_after s.booking; last = x; closing = closing }
+
 abbrev pub closed : PledgeValue → ℕ → Closing → PledgeValue
-closed p x closing = record p { booking = booking_after p.booking; last = x; closing = closing }
+closed p x closing = settled p (closed_on p.standing closing x)
 
 abbrev pub redeem_step : PledgeValue → ℕ → ℕ → Judged
 redeem_step p x paid =
     unless
-    ((p.held, Refusal.Held)
+    ((p.standing.held, Refusal.Held)
     ∷ (not (paid == total_on p x), Refusal.WrongAmount (total_on p x))
     ∷ [])
     (Changed (closed p x (Closing.Redeemed x paid)) (Done.Redeemed x paid))
@@ -276,7 +269,7 @@ sell_step p x net =
 
 -- the pledge with one more extension
 abbrev pub with_extension : PledgeValue → Extension → PledgeValue
-with_extension p e = record p { extensions = p.extensions ++ e ∷ []; last = e.day }
+with_extension p e = record p { extensions = p.extensions ++ e ∷ []; standing = changed_on p.standing e.day }
 
 -- an extension to another end than the one that stands
 abbrev pub new_end_step : PledgeValue → ℕ → ℕ → Judged
@@ -301,9 +294,9 @@ pledge_step p stamp Command.Hold = unless (bars p stamp.day) (hold_step p stamp.
 pledge_step p stamp Command.Release = unless (bars p stamp.day) (hold_step p stamp.day false)
 pledge_step p stamp (Command.Declare paper) = unless (bars p stamp.day) (declare_step p stamp paper)
 pledge_step p stamp (Command.AskBooking day window) = unless (bars p stamp.day) (ask_step p stamp.day day window)
-pledge_step p stamp Command.CancelBooking = unless (bars p stamp.day) (cancel_step p stamp.day p.booking)
+pledge_step p stamp Command.CancelBooking = unless (bars p stamp.day) (cancel_step p stamp.day p.standing.booking)
 pledge_step p stamp (Command.DecideBooking decision) =
-    unless (bars p stamp.day) (decide_step p stamp.day decision p.booking)
+    unless (bars p stamp.day) (decide_step p stamp.day decision p.standing.booking)
 pledge_step p stamp (Command.Redeem paid) = unless (bars p stamp.day) (redeem_step p stamp.day paid)
 pledge_step p stamp (Command.Sell net) = unless (bars p stamp.day) (sell_step p stamp.day net)
 pledge_step p stamp (Command.Extend until) = unless (bars p stamp.day) (extend_step p stamp.day until)

@@ -1,14 +1,15 @@
 -- Pledges, worked out.
 use Rattle.std.specs.Prelude.{◌≡◌, ℕ, true, false, Bool, [], ◌∷◌, Option, Some, None, Result, Ok, Err, codes}
 use Rattle.std.specs.List.{repeat}
-use Rattle.pawn_terms.specs.Terms.{TermsValue}
+use Rattle.pawn_terms.specs.declared.terms.Rates.{Rates}
+use Rattle.pawn_terms.specs.Terms.{rates_of}
 use Rattle.pawn_terms.specs.Worked.{date}
 use Rattle.pawn_debt.specs.declared.entry.Kind.{Kind}
 use Rattle.pawn_debt.specs.declared.entry.Kind.TheVariants.{Fixed, Running}
 use Rattle.pawn_debt.specs.declared.entry.Sort.{Sort}
 use Rattle.pawn_debt.specs.declared.entry.Sort.TheVariants.{Draw, Repay}
 use Rattle.pawn_debt.specs.declared.fault.DebtFault.TheVariants.{BadAmount, FixedSum, OverLimit, OverOwing, EarlierDay}
-use Rattle.pawn_debt.specs.Worked.{free, terms_of}
+use Rattle.pawn_debt.specs.Worked.{free}
 use Rattle.pawn_pledge.specs.declared.record.Opening.{Opening}
 use Rattle.pawn_pledge.specs.declared.record.Issue.{Issue}
 use Rattle.pawn_pledge.specs.declared.record.BookingState.TheVariants.{Asked, Confirmed, Refused, Cancelled}
@@ -25,29 +26,24 @@ use Rattle.pawn_pledge.specs.Pledge.{PledgeValue, end_of, status_of, live_of}
 use Rattle.pawn_pledge.specs.Step.{Answered, started, pledge_step, pledge_after, reply_of}
 
 -- what is agreed on a ring
-abbrev pub agreement : Kind → Bool → Option ℕ → Opening
-agreement kind five_days agreed =
+abbrev pub agreed_on : Kind → Bool → Option ℕ → Opening
+agreed_on kind five_days agreed =
     record { reference = codes "A1"; article = codes "Gold ring"; kind = kind; agreed = agreed; five_days = five_days }
 
 -- the ring as it was pawned on 2024-01-31, with the secret 1
-abbrev pub pawned : Kind → Bool → Option ℕ → TermsValue → PledgeValue
+abbrev pub pawned : Kind → Bool → Option ℕ → Rates → PledgeValue
 pawned kind five_days agreed terms = record {
-  number = 1;
-  reference = codes "A1";
-  article = codes "Gold ring";
-  kind = kind;
-  taken = date 2024 1 31;
-  agreed = agreed;
-  five_days = five_days;
-  version = 1;
-  terms = terms;
+  agreement = record {
+    number = 1;
+    opening = agreed_on kind five_days agreed;
+    taken = date 2024 1 31;
+    version = 1;
+    terms = terms;
+  };
   entries = [];
   secrets = record { day = date 2024 1 31; sort = Issue.Opening; secret = 1 } ∷ [];
   extensions = [];
-  held = false;
-  booking = None;
-  last = date 2024 1 31;
-  closing = Closing.Open;
+  standing = record { held = false; booking = None; last = date 2024 1 31; closing = Closing.Open };
 }
 
 -- for a sum without charges, an agreed end or the five days
@@ -80,10 +76,10 @@ entry_told seq day sort pence = Done.Entered (record { seq = seq; day = day; sor
 -- a pledge begins with a sum or a limit within the limits, and with its first secret live
 abbrev pub WorkedStarts : Type 0
 WorkedStarts =
-    (started 1 (agreement (Fixed 10000) false None) 1 free (record { day = date 2024 1 31; word = 1 }) ≡ Ok (ring 10000))
+    (started 1 (agreed_on (Fixed 10000) false None) 1 free (record { day = date 2024 1 31; word = 1 }) ≡ Ok (ring 10000))
     × (live_of (ring 10000) ≡ Some 1)
-    × (started 1 (agreement (Fixed 0) false None) 1 free (on (date 2024 1 31)) ≡ Err (Refusal.Debt BadAmount))
-    × (started 1 (agreement (Running 100000001) false None) 1 free (on (date 2024 1 31)) ≡ Err (Refusal.Debt BadAmount))
+    × (started 1 (agreed_on (Fixed 0) false None) 1 free (on (date 2024 1 31)) ≡ Err (Refusal.Debt BadAmount))
+    × (started 1 (agreed_on (Running 100000001) false None) 1 free (on (date 2024 1 31)) ≡ Err (Refusal.Debt BadAmount))
 
 -- a small credit for six months passes after the end, or after the five days where these apply
 abbrev pub WorkedStatuses : Type 0
@@ -217,7 +213,7 @@ WorkedRedemptions =
     × (told (pawned (Fixed 7500) false (Some (date 2024 8 1)) free) (date 2024 8 2) (Command.Redeem 7500) ≡ Ok (Done.Redeemed (date 2024 8 2) 7500))
     × (live_of redeemed ≡ None)
     × (status_of redeemed (date 2024 8 1) ≡ Status.Redeemed)
-    × (redeemed.booking ≡ Some (record { day = date 2024 3 4; window = 3; state = Cancelled }))
+    × (redeemed.standing.booking ≡ Some (record { day = date 2024 3 4; window = 3; state = Cancelled }))
     × (told redeemed (date 2024 3 4) (Command.Redeem 10000) ≡ Err Refusal.Closed)
     × (told redeemed (date 2024 3 3) (Command.Redeem 10000) ≡ Err (Refusal.Debt EarlierDay))
 
@@ -239,7 +235,7 @@ WorkedSales =
 
 -- the ring at a penny a day for safe keeping in the period, and once that was extended
 abbrev pub ring_in_safe_keeping : PledgeValue
-ring_in_safe_keeping = pawned (Fixed 7500) false None (terms_of 0 1000000 0)
+ring_in_safe_keeping = pawned (Fixed 7500) false None (rates_of 0 1000000 0)
 
 abbrev pub ring_extended : PledgeValue
 ring_extended = after ring_in_safe_keeping (date 2024 7 31) (Command.Extend (date 2024 9 30))

@@ -1,88 +1,100 @@
-ghost use Rattle.std.specs.Prelude.{◌≡◌, ◌≤◌};
-ghost use Rattle.pawn_pledge.specs.Brief.{brief_status, brief_owing};
+ghost use Rattle.std.specs.Prelude.{◌≡◌, ◌≤◌, ◌↔◌, IsTrue, OnErr, IfOk, IfErr, IfSome, IfNone};
+ghost use Rattle.pawn_terms.specs.Limits.{last_stamp_day};
+ghost use Rattle.pawn_debt.specs.Due.{credit_of};
+ghost use Rattle.pawn_debt.specs.Limits.{most_pence, most_entries, most_millionths};
+ghost use Rattle.pawn_pledge.specs.Brief.{brief_status, brief_owing, IsBookingWithin, IsClosingWithin, AreTotalsWithin, IsBriefWithin};
+ghost use Rattle.pawn_pledge.specs.Limits.{most_secrets, most_extensions};
 
-use crate::limits::SMALL_CREDIT;
-use crate::number::Number;
-use crate::pledge::status_in;
-use crate::record::{Article, Booking, Closing, Reference, Status};
+use crate::limits::{LAST_WINDOW, MOST_EXTENSIONS, MOST_SECRETS};
+use crate::record::{Agreement, Booking, Closing, Standing, Status};
 use crate::secret::Secret;
-use pawn_debt::{Day, Kind, Owing, Terms, Totals, owing_from};
-use pawn_terms::RequestDay;
+use crate::status::status_under;
+use pawn_debt::{
+    Day, Kind, MOST_ENTRIES, MOST_MILLIONTHS, MOST_PENCE, Owing, Terms, Totals, owing_from,
+};
+use pawn_terms::LAST_STAMP_DAY;
 use std::marker::Model;
 
-/// A pledge without its lists of entries, secrets and extensions: in their place stand their
-/// numbers, the live secret, the end of the period, and what is owed on the day of the last entry.
+/// How many entries, secrets and extensions a pledge has.
+#[derive(Clone, Copy, Debug, PartialEq, Eq, Hash)]
+pub struct Counts {
+    pub entries: usize,
+    pub secrets: usize,
+    pub extensions: usize,
+}
+
+/// The fields of a brief, be they within the limits or not: a pledge's record with the numbers of
+/// its entries, secrets and extensions in the place of these lists.
+#[derive(Debug, Drop)]
+pub struct BriefFields {
+    pub agreement: Agreement,
+    pub counts: Counts,
+    pub standing: Standing,
+    /// The live secret, unless the pledge is redeemed.
+    pub live: Option<Secret>,
+    /// The end of the period.
+    pub ends: Day,
+    /// What is owed on the day of the last entry, or else on the day taken.
+    pub totals: Totals,
+}
+
+/// A pledge without its lists of entries, secrets and extensions. A clause sees its fields.
 #[derive(Drop)]
 pub struct Brief {
-    pub(crate) number: Number,
-    pub(crate) reference: Reference,
-    pub(crate) article: Article,
-    pub(crate) kind: Kind,
-    pub(crate) taken: Day,
-    pub(crate) agreed: Option<RequestDay>,
-    pub(crate) five_days: bool,
-    pub(crate) version: u64,
-    pub(crate) terms: Terms,
-    pub(crate) entries: usize,
-    pub(crate) secrets: usize,
-    pub(crate) extensions: usize,
-    pub(crate) held: bool,
-    pub(crate) booking: Option<Booking>,
-    pub(crate) last: Day,
-    pub(crate) closing: Closing,
-    pub(crate) live: Option<Secret>,
-    pub(crate) ends: Day,
-    pub(crate) totals: Totals,
+    fields: BriefFields,
+    terms: Terms,
 }
 
 impl Model for Brief {
-    ghost use Rattle.std.specs.Prelude.{◌≤◌};
-    ghost use Rattle.pawn_terms.specs.Calendar.{last_stamp_day};
-    ghost use Rattle.pawn_debt.specs.Answers.{most_pence};
-    ghost use Rattle.pawn_debt.specs.Kept.{most_charges};
-    ghost use Rattle.pawn_pledge.specs.Brief.{BriefValue};
+    ghost use Rattle.std.specs.Prelude.{◌≡◌, ◌≤◌};
+    ghost use Rattle.pawn_terms.specs.Limits.{last_stamp_day};
+    ghost use Rattle.pawn_debt.specs.Limits.{most_pence, most_millionths};
+    ghost use Rattle.pawn_pledge.specs.declared.brief.BriefFields.{BriefFields};
 
-    ghost Value = { BriefValue };
+    ghost Value = { BriefFields };
 
-    ghost view = { λ a. record {
-      number = a.number;
-      reference = a.reference;
-      article = a.article;
-      kind = a.kind;
-      taken = a.taken;
-      agreed = a.agreed;
-      five_days = a.five_days;
-      version = a.version;
-      terms = a.terms;
-      entries = a.entries;
-      secrets = a.secrets;
-      extensions = a.extensions;
-      held = a.held;
-      booking = a.booking;
-      last = a.last;
-      closing = a.closing;
-      live = a.live;
-      ends = a.ends;
-      totals = a.totals;
-    } };
+    ghost view = { λ b. b.fields };
 
-    ghost invariant = { λ a. (a.taken ≤ last_stamp_day) × (a.totals.principal ≤ most_pence) × (a.totals.charges ≤ most_charges) };
+    ghost invariant = { λ b. (b.terms ≡ b.fields.agreement.terms) × (b.fields.agreement.taken ≤ last_stamp_day) × (b.fields.totals.principal ≤ most_pence) × (b.fields.totals.millionths ≤ most_millionths) };
 }
 
 impl Brief {
+    /// The brief of its fields. They are handed back exactly where one of them breaks a limit.
+    pub fn of_fields(fields: BriefFields) -> Result<Brief, BriefFields>
+        ensures ok { IfOk result (λ b. (b ≡ fields) × IsBriefWithin fields) }
+        ensures err { IfErr result (λ back. back ≡ fields) }
+        ensures refused { OnErr result (IsBriefWithin fields → ⊥) }
+    {
+        match terms_within(&fields) {
+            Some(terms) => Ok(Brief { fields, terms }),
+            None => Err(fields),
+        }
+    }
+
+    // A brief of fields whose terms and days are a pledge's.
+    pub(crate) fn of_pledge(fields: BriefFields, terms: Terms) -> Brief
+        requires terms { terms ≡ fields.agreement.terms }
+        requires taken { fields.agreement.taken ≤ last_stamp_day }
+        requires principal_in { fields.totals.principal ≤ most_pence }
+        requires millionths_in { fields.totals.millionths ≤ most_millionths }
+        ensures value { result ≡ fields }
+    {
+        Brief { fields, terms }
+    }
+
+    /// The fields.
+    pub fn fields(&self) -> &BriefFields
+        ensures value { result.now ≡ self.now }
+    {
+        &self.fields
+    }
+
     /// The status on a day.
     pub fn status(&self, day: Day) -> Status
         ensures value { result ≡ brief_status self.now day }
     {
-        match self.closing {
-            Closing::Redeemed { .. } => Status::Redeemed,
-            Closing::Sold { .. } => Status::Sold,
-            Closing::Open => {
-                let six = self.ends == self.taken.six_months_after();
-                let passes = six && self.kind.credit() <= SMALL_CREDIT;
-                status_in(self.ends, self.five_days, passes, day)
-            }
-        }
+        let fields = &self.fields;
+        status_under(&fields.agreement, fields.standing.closing, fields.ends, day)
     }
 
     /// What is owed on a day that is not before the last entry's, nor before the day taken.
@@ -90,139 +102,88 @@ impl Brief {
         requires later { self.now.totals.day ≤ day }
         ensures value { result ≡ brief_owing self.now day }
     {
-        owing_from(&self.totals, &self.terms, self.ends, day)
+        owing_from(&self.fields.totals, &self.terms, self.fields.ends, day)
     }
+}
 
-    /// The pledge's number in its book.
-    pub fn number(&self) -> Number
-        ensures value { result ≡ self.now.number }
-    {
-        self.number
+// The terms of fields, where these are within the limits.
+fn terms_within(fields: &BriefFields) -> Option<Terms>
+    ensures terms { IfSome result (λ terms. terms ≡ fields.now.agreement.terms) }
+    ensures within { IfSome result (λ terms. IsBriefWithin fields.now) }
+    ensures none { IfNone result (IsBriefWithin fields.now → ⊥) }
+{
+    let Ok(terms) = fields.agreement.terms.check() else {
+        return None;
+    };
+    let _ = terms.rates();
+    if !is_credit_within(fields.agreement.opening.kind) {
+        return None;
     }
+    if !are_days_within(fields.agreement.taken, fields.standing.last) {
+        return None;
+    }
+    if !are_counts_within(fields.counts) {
+        return None;
+    }
+    if !is_booking_within(fields.standing.booking) {
+        return None;
+    }
+    if !is_closing_within(fields.standing.closing) {
+        return None;
+    }
+    if !are_totals_within(&fields.totals) {
+        return None;
+    }
+    Some(terms)
+}
 
-    /// The broker's reference.
-    pub fn reference(&self) -> &Reference
-        ensures value { result.now ≡ self.now.reference }
-    {
-        &self.reference
-    }
+// Whether a sum or a limit is at least a penny and no larger than the largest.
+fn is_credit_within(kind: Kind) -> bool
+    ensures answer { IsTrue result ↔ ((1 ≤ credit_of kind) × (credit_of kind ≤ most_pence)) }
+{
+    let credit = kind.credit();
+    1 <= credit && credit <= MOST_PENCE
+}
 
-    /// What was pawned.
-    pub fn article(&self) -> &Article
-        ensures value { result.now ≡ self.now.article }
-    {
-        &self.article
-    }
+// Whether a request may name both days.
+fn are_days_within(taken: Day, last: Day) -> bool
+    ensures answer { IsTrue result ↔ ((taken ≤ last_stamp_day) × (last ≤ last_stamp_day)) }
+{
+    taken.count() <= LAST_STAMP_DAY && last.count() <= LAST_STAMP_DAY
+}
 
-    /// The fixed sum, or the limit of a running account, in pence.
-    pub fn kind(&self) -> Kind
-        ensures value { result ≡ self.now.kind }
-    {
-        self.kind
-    }
+// Whether there are no more entries, secrets and extensions than a pledge may have.
+fn are_counts_within(counts: Counts) -> bool
+    ensures answer { IsTrue result ↔ ((counts.entries ≤ most_entries) × (counts.secrets ≤ most_secrets) × (counts.extensions ≤ most_extensions)) }
+{
+    counts.entries <= MOST_ENTRIES
+        && counts.secrets <= MOST_SECRETS
+        && counts.extensions <= MOST_EXTENSIONS
+}
 
-    /// The day on which the pledge was taken.
-    pub fn taken(&self) -> Day
-        ensures value { result ≡ self.now.taken }
-    {
-        self.taken
+fn is_booking_within(booking: Option<Booking>) -> bool
+    ensures answer { IsTrue result ↔ IfSome booking IsBookingWithin }
+{
+    match booking {
+        Some(booking) => booking.day.count() <= LAST_STAMP_DAY && booking.window <= LAST_WINDOW,
+        None => true,
     }
+}
 
-    /// The agreed end of the period, if there is one.
-    pub fn agreed(&self) -> Option<RequestDay>
-        ensures value { result ≡ self.now.agreed }
-    {
-        self.agreed
+fn is_closing_within(closing: Closing) -> bool
+    ensures answer { IsTrue result ↔ IsClosingWithin closing }
+{
+    match closing {
+        Closing::Open => true,
+        Closing::Redeemed { day, .. } => day.count() <= LAST_STAMP_DAY,
+        Closing::Sold { day, net } => day.count() <= LAST_STAMP_DAY && net <= MOST_PENCE,
     }
+}
 
-    /// Whether five days of grace follow the end of the period.
-    pub fn five_days(&self) -> bool
-        ensures value { result ≡ self.now.five_days }
-    {
-        self.five_days
-    }
-
-    /// The version of the terms in the book.
-    pub fn version(&self) -> u64
-        ensures value { result ≡ self.now.version }
-    {
-        self.version
-    }
-
-    /// The terms of the agreement.
-    pub fn terms(&self) -> Terms
-        ensures value { result ≡ self.now.terms }
-    {
-        self.terms
-    }
-
-    /// How many drawings and repayments there are.
-    pub fn entries(&self) -> usize
-        ensures value { result ≡ self.now.entries }
-    {
-        self.entries
-    }
-
-    /// How many secrets were issued.
-    pub fn secrets(&self) -> usize
-        ensures value { result ≡ self.now.secrets }
-    {
-        self.secrets
-    }
-
-    /// How many extensions of the period there are.
-    pub fn extensions(&self) -> usize
-        ensures value { result ≡ self.now.extensions }
-    {
-        self.extensions
-    }
-
-    /// Whether redemption is barred.
-    pub fn is_held(&self) -> bool
-        ensures value { result ≡ self.now.held }
-    {
-        self.held
-    }
-
-    /// The booking, if there is one.
-    pub fn booking(&self) -> Option<Booking>
-        ensures value { result ≡ self.now.booking }
-    {
-        self.booking
-    }
-
-    /// The day of the last change.
-    pub fn last(&self) -> Day
-        ensures value { result ≡ self.now.last }
-    {
-        self.last
-    }
-
-    /// Whether the pledge is closed, and how.
-    pub fn closing(&self) -> Closing
-        ensures value { result ≡ self.now.closing }
-    {
-        self.closing
-    }
-
-    /// The live secret, unless the pledge is redeemed.
-    pub fn live(&self) -> Option<Secret>
-        ensures value { result ≡ self.now.live }
-    {
-        self.live
-    }
-
-    /// The end of the period.
-    pub fn ends(&self) -> Day
-        ensures value { result ≡ self.now.ends }
-    {
-        self.ends
-    }
-
-    /// What is owed on the day of the last entry, or else on the day taken.
-    pub fn totals(&self) -> Totals
-        ensures value { result ≡ self.now.totals }
-    {
-        self.totals
-    }
+fn are_totals_within(totals: &Totals) -> bool
+    ensures answer { IsTrue result ↔ AreTotalsWithin totals.now }
+{
+    totals.day.count() <= LAST_STAMP_DAY
+        && totals.principal <= MOST_PENCE
+        && totals.millionths <= MOST_MILLIONTHS
 }

@@ -1,9 +1,11 @@
-ghost use Rattle.std.specs.Prelude.{◌≡◌, true, false};
+ghost use Rattle.std.specs.Prelude.{◌≡◌, true, false, Some, None, if◌then◌else◌};
+ghost use Rattle.pawn_pledge.specs.Commands.{IsCommand, is_brokers, is_bearers};
 
 use crate::record::Booking;
 use crate::secret::Secret;
 use pawn_debt::{Day, Entry};
 use pawn_terms::RequestDay;
+use std::marker::Model;
 
 /// The day and the 128-bit word that come with a request.
 #[derive(Clone, Copy, Debug, PartialEq, Eq, Hash)]
@@ -44,6 +46,153 @@ pub enum Command {
     Redeem { paid: u64 },
     Sell { net: u64 },
     Extend { until: RequestDay },
+}
+
+impl Command {
+    // Whether a broker may send it.
+    fn is_brokers(&self) -> bool
+        ensures value { result ≡ is_brokers self.now }
+    {
+        match self {
+            Command::Draw { .. }
+            | Command::Repay { .. }
+            | Command::Hold
+            | Command::Release
+            | Command::Declare(_)
+            | Command::DecideBooking(_)
+            | Command::Sell { .. }
+            | Command::Extend { .. } => true,
+            Command::AskBooking { .. } | Command::CancelBooking | Command::Redeem { .. } => false,
+        }
+    }
+
+    // Whether the bearer of a live receipt may send it.
+    fn is_bearers(&self) -> bool
+        ensures value { result ≡ is_bearers self.now }
+    {
+        match self {
+            Command::Repay { .. }
+            | Command::AskBooking { .. }
+            | Command::CancelBooking
+            | Command::Redeem { .. } => true,
+            Command::Draw { .. }
+            | Command::Hold
+            | Command::Release
+            | Command::Declare(_)
+            | Command::DecideBooking(_)
+            | Command::Sell { .. }
+            | Command::Extend { .. } => false,
+        }
+    }
+
+    // Whoever reads its days knows that a request can give them.
+    fn know_days(&self)
+        ensures within { IsCommand self.now }
+    {
+        match self {
+            Command::AskBooking { day, .. } => {
+                let _ = day.day();
+            }
+            Command::Extend { until } => {
+                let _ = until.day();
+            }
+            Command::Draw { .. }
+            | Command::Repay { .. }
+            | Command::Hold
+            | Command::Release
+            | Command::Declare(_)
+            | Command::CancelBooking
+            | Command::DecideBooking(_)
+            | Command::Redeem { .. }
+            | Command::Sell { .. } => {}
+        }
+    }
+}
+
+/// A command that a broker may send. A clause sees the command.
+#[derive(Clone, Copy, Debug, PartialEq, Eq, Hash)]
+pub struct BrokerCommand {
+    command: Command,
+}
+
+impl Model for BrokerCommand {
+    ghost use Rattle.std.specs.Prelude.{◌≡◌, true};
+    ghost use Rattle.pawn_pledge.specs.declared.command.Command.{Command};
+    ghost use Rattle.pawn_pledge.specs.Commands.{IsCommand, is_brokers};
+
+    ghost Value = { Command };
+
+    ghost view = { λ c. c.command };
+
+    ghost invariant = { λ c. (is_brokers c.command ≡ true) × IsCommand c.command };
+
+    ghost inverse = { λ command. record { command = command } };
+}
+
+impl BrokerCommand {
+    /// The command, where a broker may send it.
+    pub fn new(command: Command) -> Option<BrokerCommand>
+        ensures value { result ≡ (if is_brokers command then Some command else None) }
+    {
+        command.know_days();
+        if command.is_brokers() {
+            Some(BrokerCommand { command })
+        } else {
+            None
+        }
+    }
+
+    /// The command.
+    pub fn command(self) -> Command
+        ensures same { result ≡ self }
+        ensures within { IsCommand result }
+        ensures allowed { is_brokers result ≡ true }
+    {
+        self.command
+    }
+}
+
+/// A command that the bearer of a live receipt may send. A clause sees the command.
+#[derive(Clone, Copy, Debug, PartialEq, Eq, Hash)]
+pub struct BearerCommand {
+    command: Command,
+}
+
+impl Model for BearerCommand {
+    ghost use Rattle.std.specs.Prelude.{◌≡◌, true};
+    ghost use Rattle.pawn_pledge.specs.declared.command.Command.{Command};
+    ghost use Rattle.pawn_pledge.specs.Commands.{IsCommand, is_bearers};
+
+    ghost Value = { Command };
+
+    ghost view = { λ c. c.command };
+
+    ghost invariant = { λ c. (is_bearers c.command ≡ true) × IsCommand c.command };
+
+    ghost inverse = { λ command. record { command = command } };
+}
+
+impl BearerCommand {
+    /// The command, where a bearer may send it.
+    pub fn new(command: Command) -> Option<BearerCommand>
+        ensures value { result ≡ (if is_bearers command then Some command else None) }
+    {
+        command.know_days();
+        if command.is_bearers() {
+            Some(BearerCommand { command })
+        } else {
+            None
+        }
+    }
+
+    /// The command.
+    pub fn command(self) -> Command
+        ensures same { result ≡ self }
+        ensures within { IsCommand result }
+        ensures allowed { is_bearers result ≡ true }
+    {
+        self.command
+    }
 }
 
 /// What an accepted command answers. Sums are in pence.

@@ -2,11 +2,9 @@
 #![tactic(auto)]
 
 mod brief;
-mod brief_fields;
 mod command;
 mod laws;
 mod limits;
-mod lists;
 mod number;
 mod parts;
 mod pledge;
@@ -14,24 +12,26 @@ mod receipt;
 mod record;
 mod refusal;
 mod secret;
+mod status;
 mod text;
 mod worked;
 
-pub use brief::Brief;
-pub use brief_fields::BriefFields;
-pub use command::{Applied, Command, Decision, Done, Paper, Stamp};
+pub use brief::{Brief, BriefFields, Counts};
+pub use command::{Applied, BearerCommand, BrokerCommand, Command, Decision, Done, Paper, Stamp};
 pub use laws::{
     laws_of_briefs, laws_of_lists, laws_of_receipts, laws_of_repeats, laws_of_steps, laws_of_texts,
 };
-pub use lists::{Extensions, Secrets};
 pub use number::Number;
 pub use parts::Parts;
-pub use pawn_debt::{Day, DebtFault, Entries, Entry, Kind, Owing, Sort, Terms, Totals};
+pub use pawn_debt::{
+    Day, DebtFault, Entries, Entry, Kind, Owing, Rates, Rows, Sort, Terms, Totals,
+};
 pub use pawn_terms::{BadDay, RequestDay};
 pub use pledge::Pledge;
 pub use receipt::{BadReceipt, Receipt};
 pub use record::{
-    Article, Booking, BookingState, Closing, Extension, Issue, Issued, Opening, Reference, Status,
+    Agreement, Article, Booking, BookingState, Closing, Extension, Extensions, Issue, Issued,
+    Opening, Reference, Secrets, Standing, Status,
 };
 pub use refusal::Refusal;
 pub use secret::Secret;

@@ -1,44 +1,27 @@
-ghost use Rattle.std.specs.Prelude.{◌≡◌, ◌≤◌, ◌==◌, ◌↔◌, IsTrue, IfSome, IfNone};
-ghost use Rattle.std.specs.List.{list_any};
-ghost use Rattle.pawn_terms.specs.Calendar.{last_stamp_day};
+ghost use Rattle.std.specs.Prelude.{◌≡◌, ◌≤◌, ◌↔◌, IsTrue, IfSome, IfNone};
+ghost use Rattle.pawn_terms.specs.Limits.{last_stamp_day};
 ghost use Rattle.pawn_debt.specs.Kept.{IsKept as IsOwed};
 ghost use Rattle.pawn_pledge.specs.Pledge.{debt_of, end_of, end_after, open_status, is_passed};
-ghost use Rattle.pawn_pledge.specs.Parts.{value_of, IsTyped, IsLimited, AreIssuedIn};
+ghost use Rattle.pawn_pledge.specs.Parts.{IsTyped, IsLimited, AreIssuedIn};
 ghost use Rattle.pawn_pledge.specs.Replayable.{Each, IsLaterIssue, AreIssued, AreDistinct, DoNotFall, last_issue, IsDrawnBy, AreExtended, last_extension, IsOverUnder, IsBooked, IsClosed, IsStanding};
 
-use crate::limits::{
-    LAST_DAY, LAST_WINDOW, MOST_EXTENSIONS, MOST_PENCE, MOST_SECRETS, SMALL_CREDIT,
-};
-use crate::lists::{Extensions, Secrets};
-use crate::number::Number;
-use crate::pledge::{agreed_end, status_in};
+use crate::limits::{LAST_WINDOW, MOST_EXTENSIONS, MOST_SECRETS};
 use crate::record::{
-    Article, Booking, BookingState, Closing, Extension, Issue, Issued, Reference, Status,
+    Agreement, Booking, BookingState, Closing, Extension, Extensions, Issue, Issued, Secrets,
+    Standing, Status,
 };
-use pawn_debt::{Day, Entries, Entry, Kind, Sort, Terms, Totals, owing_at, replay_entries};
-use pawn_terms::{RequestDay, last_day};
+use crate::status::{is_small, status_by};
+use pawn_debt::{Day, Entries, Entry, MOST_PENCE, Sort, Terms, Totals, owing_at, replay_entries};
+use pawn_terms::LAST_STAMP_DAY;
 
 /// The record of a pledge as plain fields, be it one that a pledge can have or not.
 #[derive(Drop)]
 pub struct Parts {
-    pub number: Number,
-    pub reference: Reference,
-    pub article: Article,
-    pub kind: Kind,
-    pub taken: Day,
-    pub agreed: Option<RequestDay>,
-    pub five_days: bool,
-    pub version: u64,
-    pub rate: u64,
-    pub keep_before: u64,
-    pub keep_after: u64,
+    pub agreement: Agreement,
     pub entries: Entries,
     pub secrets: Secrets,
     pub extensions: Extensions,
-    pub held: bool,
-    pub booking: Option<Booking>,
-    pub last: Day,
-    pub closing: Closing,
+    pub standing: Standing,
 }
 
 /// The end of the period after extensions, if each was agreed in the period as it then was, for a later end.
@@ -88,7 +71,7 @@ fn is_later_issue(credit: u64, sort: Issue) -> bool
     match sort {
         Issue::Opening => false,
         Issue::Sworn => true,
-        Issue::Written => credit <= SMALL_CREDIT,
+        Issue::Written => is_small(credit),
     }
 }
 
@@ -103,20 +86,12 @@ fn are_later_issues(credit: u64, issued: &[Issued]) -> bool
     true
 }
 
-// Whether a secret is among others.
-fn is_among(issued: &Issued, others: &[Issued]) -> bool
-    ensures value { result ≡ list_any (λ i. i.secret == issued.now.secret) others.now }
-{
-    let word = issued.secret.word();
-    others.iter().any(|other| other.secret.word() == word)
-}
-
 // Whether no secret stands twice.
 fn are_distinct(issued: &[Issued]) -> bool
     ensures answer { IsTrue result ↔ AreDistinct issued.now }
 {
     for i in 0..issued.len() {
-        if is_among(&issued[i], &issued[i + 1..]) {
+        if issued[i].is_among(&issued[i + 1..]) {
             return false;
         }
     }
@@ -137,24 +112,13 @@ fn do_not_fall(taken: Day, last: Day, issued: &[Issued]) -> bool
     day <= last
 }
 
-// The status on a day, the closing aside.
-fn open_status_on(parts: &Parts, ends: Day, day: Day) -> Status
-    requires ends { ends ≡ end_of (value_of parts.now) }
-    requires taken { parts.now.taken ≤ last_stamp_day }
-    ensures value { result ≡ open_status (value_of parts.now) day }
-{
-    let six = ends == parts.taken.six_months_after();
-    let passes = six && parts.kind.credit() <= SMALL_CREDIT;
-    status_in(ends, parts.five_days, passes, day)
-}
-
 // Whether the property had passed on a day.
 fn is_passed_on(parts: &Parts, ends: Day, day: Day) -> bool
-    requires ends { ends ≡ end_of (value_of parts.now) }
-    requires taken { parts.now.taken ≤ last_stamp_day }
-    ensures value { result ≡ is_passed (open_status (value_of parts.now) day) }
+    requires ends { ends ≡ end_of parts.now }
+    requires taken { parts.now.agreement.taken ≤ last_stamp_day }
+    ensures value { result ≡ is_passed (open_status parts.now day) }
 {
-    match open_status_on(parts, ends, day) {
+    match status_by(&parts.agreement, ends, day) {
         Status::Passed => true,
         Status::Inside | Status::Grace | Status::Realisable | Status::Redeemed | Status::Sold =>
             false,
@@ -176,14 +140,14 @@ fn is_over_under(closing: Closing, state: BookingState) -> bool
 
 // Whether the booking is one that can have come about.
 fn is_booked(parts: &Parts, ends: Day) -> bool
-    requires ends { ends ≡ end_of (value_of parts.now) }
-    requires taken { parts.now.taken ≤ last_stamp_day }
-    ensures answer { IsTrue result ↔ IsBooked (value_of parts.now) parts.now.booking }
+    requires ends { ends ≡ end_of parts.now }
+    requires taken { parts.now.agreement.taken ≤ last_stamp_day }
+    ensures answer { IsTrue result ↔ IsBooked parts.now parts.now.standing.booking }
 {
-    let Some(b) = parts.booking else {
+    let Some(b) = parts.standing.booking else {
         return true;
     };
-    if b.day < parts.taken {
+    if b.day < parts.agreement.taken {
         return false;
     }
     if is_passed_on(parts, ends, b.day) {
@@ -192,44 +156,44 @@ fn is_booked(parts: &Parts, ends: Day) -> bool
     if b.window > LAST_WINDOW {
         return false;
     }
-    is_over_under(parts.closing, b.state)
+    is_over_under(parts.standing.closing, b.state)
 }
 
 // Whether the pledge was closed as it can be.
 fn is_closed(parts: &Parts, terms: Terms, ends: Day, totals: &Totals) -> bool
-    requires terms { terms ≡ (value_of parts.now).terms }
-    requires ends { ends ≡ end_of (value_of parts.now) }
-    requires taken { parts.now.taken ≤ last_stamp_day }
-    requires kept { IsOwed (debt_of (value_of parts.now)) totals.now }
-    requires later { totals.now.day ≤ parts.now.last }
-    ensures answer { IsTrue result ↔ IsClosed (value_of parts.now) parts.now.closing }
+    requires terms { terms ≡ parts.now.agreement.terms }
+    requires ends { ends ≡ end_of parts.now }
+    requires taken { parts.now.agreement.taken ≤ last_stamp_day }
+    requires kept { IsOwed (debt_of parts.now) totals.now }
+    requires later { totals.now.day ≤ parts.now.standing.last }
+    ensures answer { IsTrue result ↔ IsClosed parts.now parts.now.standing.closing }
 {
-    match parts.closing {
+    match parts.standing.closing {
         Closing::Open => true,
         Closing::Redeemed { day, paid } => {
             let entries = parts.entries.as_slice();
             let owing = owing_at(
-                parts.kind,
+                parts.agreement.opening.kind,
                 terms,
-                parts.taken,
+                parts.agreement.taken,
                 ends,
                 entries,
                 totals,
-                parts.last,
+                parts.standing.last,
             );
-            if day != parts.last {
+            if day != parts.standing.last {
                 return false;
             }
-            if parts.held {
+            if parts.standing.held {
                 return false;
             }
             paid == owing.total
         }
         Closing::Sold { day, net } => {
-            if day != parts.last {
+            if day != parts.standing.last {
                 return false;
             }
-            let Status::Realisable = open_status_on(parts, ends, day) else {
+            let Status::Realisable = status_by(&parts.agreement, ends, day) else {
                 return false;
             };
             net <= MOST_PENCE
@@ -255,8 +219,8 @@ fn are_issued(taken: Day, credit: u64, issued: &[Issued]) -> bool
 
 // The same of parts.
 fn are_drawn_in(parts: &Parts, ends: Day) -> bool
-    requires ends { ends ≡ end_of (value_of parts.now) }
-    ensures answer { IsTrue result ↔ Each (λ e. IsDrawnBy (end_of (value_of parts.now)) e.sort e.day) parts.now.entries }
+    requires ends { ends ≡ end_of parts.now }
+    ensures answer { IsTrue result ↔ Each (λ e. IsDrawnBy (end_of parts.now) e.sort e.day) parts.now.entries }
 {
     are_drawn(ends, parts.entries.as_slice())
 }
@@ -266,7 +230,7 @@ fn are_named(extensions: &[Extension]) -> bool
     ensures answer { IsTrue result ↔ Each (λ e. e.until ≤ last_stamp_day) extensions.now }
 {
     for extension in extensions {
-        if extension.until.count() > LAST_DAY {
+        if extension.until.count() > LAST_STAMP_DAY {
             return false;
         }
     }
@@ -278,7 +242,7 @@ fn is_named(booking: Option<Booking>) -> bool
     ensures answer { IsTrue result ↔ IfSome booking (λ b. b.day ≤ last_stamp_day) }
 {
     match booking {
-        Some(booking) => booking.day.count() <= LAST_DAY,
+        Some(booking) => booking.day.count() <= LAST_STAMP_DAY,
         None => true,
     }
 }
@@ -293,33 +257,39 @@ pub(crate) struct Found {
 
 // What a pledge of the parts holds besides them, if there can be one.
 pub(crate) fn judge(parts: &Parts) -> Option<Found>
-    ensures standing { IfSome result (λ f. IsStanding (value_of parts.now)) }
-    ensures terms { IfSome result (λ f. f.terms ≡ (value_of parts.now).terms) }
-    ensures ends { IfSome result (λ f. f.ends ≡ end_of (value_of parts.now)) }
-    ensures kept { IfSome result (λ f. IsOwed (debt_of (value_of parts.now)) f.totals) }
-    ensures none { IfNone result (IsStanding (value_of parts.now) → ⊥) }
+    ensures standing { IfSome result (λ f. IsStanding parts.now) }
+    ensures terms { IfSome result (λ f. f.terms ≡ parts.now.agreement.terms) }
+    ensures ends { IfSome result (λ f. f.ends ≡ end_of parts.now) }
+    ensures kept { IfSome result (λ f. IsOwed (debt_of parts.now) f.totals) }
+    ensures none { IfNone result (IsStanding parts.now → ⊥) }
 {
-    let Ok(terms) = Terms::check(parts.rate, parts.keep_before, parts.keep_after) else {
+    let Ok(terms) = parts.agreement.terms.check() else {
         return None;
     };
-    let _ = terms.rate();
+    let _ = terms.rates();
     if !is_limited(parts) {
         return None;
     }
-    if parts.last < parts.taken {
+    if parts.standing.last < parts.agreement.taken {
         return None;
     }
-    let first = last_day(parts.taken, agreed_end(parts.agreed));
-    let ends = extended_to(parts.taken, first, parts.last, parts.extensions.as_slice())?;
+    let taken = parts.agreement.taken;
+    let first = parts.agreement.first_end();
+    let ends = extended_to(
+        taken,
+        first,
+        parts.standing.last,
+        parts.extensions.as_slice(),
+    )?;
     let entries = parts.entries.as_slice();
-    let totals = replay_entries(parts.kind, terms, parts.taken, ends, entries)?;
-    if totals.day > parts.last {
+    let totals = replay_entries(parts.agreement.opening.kind, terms, taken, ends, entries)?;
+    if totals.day > parts.standing.last {
         return None;
     }
     if !are_drawn_in(parts, ends) {
         return None;
     }
-    if is_passed_on(parts, ends, parts.last) {
+    if is_passed_on(parts, ends, parts.standing.last) {
         return None;
     }
     if !are_issued_in(parts) {
@@ -340,18 +310,16 @@ pub(crate) fn judge(parts: &Parts) -> Option<Found>
 
 // Whether the parts keep the limits, the number of entries aside.
 fn is_limited(parts: &Parts) -> bool
-    ensures limits { IsTrue result ↔ IsLimited (value_of parts.now) }
-    ensures types { IsTyped (value_of parts.now) }
+    ensures limits { IsTrue result ↔ IsLimited parts.now }
+    ensures types { IsTyped parts.now }
 {
-    let _ = parts.number.get();
-    let _ = parts.reference.as_str();
-    let _ = parts.article.as_str();
-    let _ = agreed_end(parts.agreed);
-    let credit = parts.kind.credit();
+    let _ = parts.agreement.number.get();
+    parts.agreement.opening.know_limits();
+    let credit = parts.agreement.opening.kind.credit();
     if credit == 0 || credit > MOST_PENCE {
         return false;
     }
-    if parts.last.count() > LAST_DAY {
+    if parts.standing.last.count() > LAST_STAMP_DAY {
         return false;
     }
     if parts.secrets.len() > MOST_SECRETS {
@@ -360,16 +328,20 @@ fn is_limited(parts: &Parts) -> bool
     if parts.extensions.len() > MOST_EXTENSIONS {
         return false;
     }
-    are_named(parts.extensions.as_slice()) && is_named(parts.booking)
+    are_named(parts.extensions.as_slice()) && is_named(parts.standing.booking)
 }
 
 // Whether the secrets are ones that can have been issued.
 fn are_issued_in(parts: &Parts) -> bool
-    ensures answer { IsTrue result ↔ AreIssuedIn (value_of parts.now) }
+    ensures answer { IsTrue result ↔ AreIssuedIn parts.now }
 {
     let issued = parts.secrets.as_slice();
-    if !are_issued(parts.taken, parts.kind.credit(), issued) {
+    if !are_issued(
+        parts.agreement.taken,
+        parts.agreement.opening.kind.credit(),
+        issued,
+    ) {
         return false;
     }
-    are_distinct(issued) && do_not_fall(parts.taken, parts.last, issued)
+    are_distinct(issued) && do_not_fall(parts.agreement.taken, parts.standing.last, issued)
 }

@@ -1,7 +1,8 @@
+use crate::number::Number;
 use crate::secret::Secret;
 use crate::text::Text;
-use pawn_debt::{Day, Kind};
-use pawn_terms::RequestDay;
+use pawn_debt::{Day, Kind, Rates, Rows};
+use pawn_terms::{RequestDay, last_day};
 use std::alloc::AllocError;
 
 /// The broker's reference of a pledge, of 1 to 40 bytes.
@@ -23,7 +24,9 @@ pub struct Opening {
 }
 
 impl Opening {
-    ghost use Rattle.std.specs.Prelude.{◌≡◌, IfOk};
+    ghost use Rattle.std.specs.Prelude.{◌≡◌, IfOk, IfSome};
+    ghost use Rattle.pawn_terms.specs.Calendar.{IsStampDay};
+    ghost use Rattle.pawn_pledge.specs.Replayable.{IsOpening};
 
     /// The same again.
     pub fn copy(&self) -> Result<Opening, AllocError>
@@ -38,6 +41,67 @@ impl Opening {
             agreed: self.agreed,
             five_days: self.five_days,
         })
+    }
+
+    // The agreed end among all days.
+    fn agreed_end(&self) -> Option<Day>
+        ensures value { result ≡ self.now.agreed }
+        ensures in_range { IfSome self.now.agreed IsStampDay }
+    {
+        match self.agreed {
+            Some(day) => Some(day.day()),
+            None => None,
+        }
+    }
+
+    // Whoever reads its fields knows that they are within their limits.
+    pub(crate) fn know_limits(&self)
+        ensures within { IsOpening self.now }
+    {
+        let _ = self.reference.as_str();
+        let _ = self.article.as_str();
+        let _ = self.agreed_end();
+    }
+}
+
+/// What was agreed when a pledge was taken.
+#[derive(Debug, Drop)]
+pub struct Agreement {
+    /// The pledge's number in its book.
+    pub number: Number,
+    pub opening: Opening,
+    /// The day on which the pledge was taken.
+    pub taken: Day,
+    /// The version of the terms in the book.
+    pub version: u64,
+    pub terms: Rates,
+}
+
+impl Agreement {
+    ghost use Rattle.std.specs.Prelude.{◌≡◌, ◌≤◌, IfOk};
+    ghost use Rattle.pawn_terms.specs.Limits.{last_stamp_day};
+    ghost use Rattle.pawn_pledge.specs.Pledge.{first_end};
+
+    /// The same again.
+    pub fn copy(&self) -> Result<Agreement, AllocError>
+        ensures same { IfOk result (λ agreement. agreement ≡ self.now) }
+    {
+        let opening = self.opening.copy()?;
+        Ok(Agreement {
+            number: self.number,
+            opening,
+            taken: self.taken,
+            version: self.version,
+            terms: self.terms,
+        })
+    }
+
+    // The end of the period before any extension.
+    pub(crate) fn first_end(&self) -> Day
+        requires taken { self.now.taken ≤ last_stamp_day }
+        ensures value { result ≡ first_end self.now }
+    {
+        last_day(self.taken, self.opening.agreed_end())
     }
 }
 
@@ -59,6 +123,22 @@ pub struct Issued {
     pub sort: Issue,
     pub secret: Secret,
 }
+
+impl Issued {
+    ghost use Rattle.std.specs.Prelude.{◌≡◌, ◌==◌};
+    ghost use Rattle.std.specs.List.{list_any};
+
+    // Whether its secret is among others.
+    pub(crate) fn is_among(&self, others: &[Issued]) -> bool
+        ensures value { result ≡ list_any (λ i. i.secret == self.now.secret) others.now }
+    {
+        let word = self.secret.word();
+        others.iter().any(|other| other.secret.word() == word)
+    }
+}
+
+/// The issued secrets, in order.
+pub type Secrets = Rows<Issued>;
 
 /// Where a booking stands.
 #[derive(Clone, Copy, Debug, PartialEq, Eq, Hash)]
@@ -84,12 +164,26 @@ pub struct Extension {
     pub until: Day,
 }
 
+/// The extensions of a period, in order.
+pub type Extensions = Rows<Extension>;
+
 /// Whether a pledge was closed, and how. Sums are in pence.
 #[derive(Clone, Copy, Debug, PartialEq, Eq, Hash)]
 pub enum Closing {
     Open,
     Redeemed { day: Day, paid: u64 },
     Sold { day: Day, net: u64 },
+}
+
+/// How a pledge stands.
+#[derive(Clone, Copy, Debug, PartialEq, Eq, Hash)]
+pub struct Standing {
+    /// Whether redemption is barred.
+    pub held: bool,
+    pub booking: Option<Booking>,
+    /// The day of the last change.
+    pub last: Day,
+    pub closing: Closing,
 }
 
 /// What a pledge is on a day.

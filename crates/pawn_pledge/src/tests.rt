@@ -334,7 +334,7 @@ fn a_pledge_as_it_is_taken(rt: HostRuntime) -> Result<(), Fail> {
     assert_eq!(rt; pledge.status(after), Status::Passed);
     assert!(rt; pledge.is_live(&Secret::of_word(1)));
     assert!(rt; !pledge.is_live(&Secret::of_word(2)));
-    assert_eq!(rt; pledge.article().as_str(), "Gold ring");
+    assert_eq!(rt; pledge.agreement().opening.article.as_str(), "Gold ring");
     Ok(())
 }
 
@@ -449,7 +449,7 @@ fn bent(alloc: Global, bend: &Bend) -> Result<Parts, Fail> {
     parts.entries = entries;
     parts.secrets = secrets;
     parts.extensions = extensions;
-    parts.last = bend.last;
+    parts.standing.last = bend.last;
     Ok(parts)
 }
 
@@ -457,8 +457,8 @@ fn bent(alloc: Global, bend: &Bend) -> Result<Parts, Fail> {
 fn owing_of(alloc: Global, bend: &Bend) -> Result<Option<u64>, Fail> {
     let parts = bent(alloc, bend)?;
     match Pledge::of_parts(parts) {
-        Ok(pledge) => Ok(Some(pledge.owing(pledge.last()).total)),
-        Err(back) if back.last == bend.last && back.entries.len() == 1 => Ok(None),
+        Ok(pledge) => Ok(Some(pledge.owing(pledge.standing().last).total)),
+        Err(back) if back.standing.last == bend.last && back.entries.len() == 1 => Ok(None),
         Err(_) => Err("other parts are handed back".into()),
     }
 }

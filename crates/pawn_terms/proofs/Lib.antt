@@ -2,4 +2,4 @@ pub mod CalendarLemmas
 pub mod SixMonths
 pub mod TextLemmas
 pub mod RefusalLemmas
-pub mod Reckoning
+pub mod AgreementLemmas

@@ -1,7 +1,8 @@
 -- The calendar: a day is a number, and its year, month and day are found by turning pages from 2000-01-01.
-use Rattle.std.specs.Prelude.{ℕ, zero, suc, ◌+◌, ◌-◌, ◌≤◌, ◌<◌, ◌/◌, ◌%◌, nat_lt, nat_le, min, max, pos, if◌then◌else◌, List, [], ◌∷◌, Option, Some, None, unsigned_abs}
+use Rattle.std.specs.Prelude.{◌≡◌, ℕ, zero, suc, ◌+◌, ◌-◌, ◌≤◌, ◌<◌, ◌/◌, ◌%◌, ◌==◌, nat_lt, nat_le, min, max, Bool, not, ◌&&◌, ◌||◌, if◌then◌else◌, List, [], ◌∷◌, Option, Some, None, pos}
 use Rattle.std.specs.Int.{IsInRange}
 use Rattle.jiff_core.specs.Calendar.{days_in_month, days_from_civil}
+pub use Rattle.pawn_terms.specs.Limits.{first_day, last_stamp_day, final_day}
 
 -- a day as a calendar names it
 pub record Civil : Type 0 where
@@ -9,9 +10,19 @@ pub record Civil : Type 0 where
   pub month : ℕ
   pub day : ℕ
 
--- the days of a month, by the Gregorian rule
+-- every fourth year is a leap year, but of the centuries only every fourth
+abbrev pub is_leap : ℕ → Bool
+is_leap y = (y % 4 == 0) && (not (y % 100 == 0) || (y % 400 == 0))
+
+abbrev pub year_length : ℕ → ℕ
+year_length y = if is_leap y then 366 else 365
+
+-- thirty days have April, June, September and November
 abbrev pub month_length : ℕ → ℕ → ℕ
-month_length y m = days_in_month (pos y) m
+month_length y m =
+    if m == 2 then (if is_leap y then 29 else 28)
+    else if (m == 4) || (m == 6) || (m == 9) || (m == 11) then 30
+    else 31
 
 -- the next page
 abbrev pub next_day : Civil → Civil
@@ -24,16 +35,6 @@ next_day c =
 unfoldable pub civil_after : ℕ → Civil
 civil_after zero = record { year = 2000; month = 1; day = 1 }
 civil_after (suc n) = next_day (civil_after n)
-
--- the number of 2000-01-01, of 2199-12-31 and of 2299-12-31, counted from 1970-01-01
-abbrev pub first_day : ℕ
-first_day = 10957
-
-abbrev pub last_stamp_day : ℕ
-last_stamp_day = 84005
-
-abbrev pub final_day : ℕ
-final_day = 120529
 
 -- a number that is a day's
 abbrev pub IsDayNumber : ℕ → Type 0
@@ -50,9 +51,19 @@ six_months_later c =
     then record { year = c.year; month = c.month + 6; day = min c.day (month_length c.year (c.month + 6)) }
     else record { year = c.year + 1; month = c.month - 6; day = min c.day (month_length (c.year + 1) (c.month - 6)) }
 
--- the number of a day, counted from 1970-01-01 by the library's calendar
+-- the days of the first n years from 2000 on
+unfoldable pub days_of_years : ℕ → ℕ
+days_of_years zero = 0
+days_of_years (suc n) = days_of_years n + year_length (2000 + n)
+
+-- the days of the first n months of a year
+unfoldable pub days_of_months : ℕ → ℕ → ℕ
+days_of_months y zero = 0
+days_of_months y (suc n) = days_of_months y n + month_length y (suc n)
+
+-- the number of a day from 2000 on, counted from 1970-01-01
 abbrev pub day_number : Civil → ℕ
-day_number c = unsigned_abs (days_from_civil (pos c.year) c.month c.day)
+day_number c = first_day + days_of_years (c.year - 2000) + days_of_months c.year (c.month - 1) + (c.day - 1)
 
 -- the day number six calendar months later
 abbrev pub six_months : ℕ → ℕ
@@ -89,3 +100,9 @@ civil_text c =
 -- the text of a day number
 abbrev pub day_text : ℕ → List ℕ
 day_text n = civil_text (civil_of n)
+
+-- the library's calendar is this one: its months are as long, and it counts the same days
+abbrev pub AgreesWithLibrary : Type 0
+AgreesWithLibrary =
+    ((y m : ℕ) → days_in_month (pos y) m ≡ month_length y m)
+    × ((c : Civil) → 2000 ≤ c.year → 1 ≤ c.month → 1 ≤ c.day → days_from_civil (pos c.year) c.month c.day ≡ pos (day_number c))

@@ -1,5 +1,5 @@
 -- Refusals in order.
-use Rattle.std.specs.Prelude.{◌≡◌, Bool, false, if◌then◌else◌, List, [], ◌∷◌, Result, Err}
+use Rattle.std.specs.Prelude.{◌≡◌, ◌⊎◌, Bool, false, if◌then◌else◌, List, [], ◌∷◌, Result, Ok, Err, IsOk}
 
 -- the first refusal whose condition holds, or else the answer
 abbrev pub first_of : {V E : Type 0} → List (Bool × E) → Result V E → Result V E
@@ -10,3 +10,12 @@ first_of (row ∷ rows) answer = if row.0 then Err row.1 else first_of rows answ
 abbrev pub NoneApplies : {E : Type 0} → List (Bool × E) → Type 0
 NoneApplies [] = Unit {0}
 NoneApplies (row ∷ rows) = (row.0 ≡ false) × NoneApplies rows
+
+-- the answer is what the rules say, or it has an excuse: memory was wanting, or what was asked did not answer
+abbrev pub IsSaid : {V E : Type 0} → (E → Type 0) → Result V E → Result V E → Type 0
+IsSaid excuse said (Ok value) = said ≡ Ok value
+IsSaid excuse said (Err why) = excuse why ⊎ (said ≡ Err why)
+
+-- memory was wanting in place of an acceptance
+abbrev pub IsWant : {V E : Type 0} → E → Result V E → E → Type 0
+IsWant memory said why = (why ≡ memory) × IsOk said

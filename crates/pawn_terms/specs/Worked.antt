@@ -1,6 +1,7 @@
 -- Days, ends of periods and terms, worked out.
 use Rattle.std.specs.Prelude.{◌≡◌, ℕ, ◌+◌, Some, None, Ok, Err, codes}
 use Rattle.pawn_terms.specs.Calendar.{day_number, day_text, six_months, period_end, first_day, last_stamp_day, final_day}
+use Rattle.pawn_terms.specs.Terms.{rates_of}
 use Rattle.pawn_terms.specs.TermsFault.{terms_answer}
 use Rattle.pawn_terms.specs.declared.terms.TermsFault.TheVariants.{RateTooHigh, KeepTooHigh, KeepingRate}
 
@@ -45,10 +46,10 @@ WorkedEnds =
 -- each number at its limit and past it, and the first fault where there are several
 abbrev pub WorkedTerms : Type 0
 WorkedTerms =
-    (terms_answer 20000 10000000 10000000 ≡ Ok (record { rate = 20000; keep_before = 10000000; keep_after = 10000000 }))
-    × (terms_answer 20001 0 0 ≡ Err RateTooHigh)
-    × (terms_answer 0 10000001 0 ≡ Err KeepTooHigh)
-    × (terms_answer 0 5 5 ≡ Ok (record { rate = 0; keep_before = 5; keep_after = 5 }))
-    × (terms_answer 0 5 6 ≡ Err KeepingRate)
-    × (terms_answer 20001 10000001 10000002 ≡ Err RateTooHigh)
-    × (terms_answer 20000 10000001 10000002 ≡ Err KeepTooHigh)
+    (terms_answer (rates_of 20000 10000000 10000000) ≡ Ok (rates_of 20000 10000000 10000000))
+    × (terms_answer (rates_of 20001 0 0) ≡ Err RateTooHigh)
+    × (terms_answer (rates_of 0 10000001 0) ≡ Err KeepTooHigh)
+    × (terms_answer (rates_of 0 5 5) ≡ Ok (rates_of 0 5 5))
+    × (terms_answer (rates_of 0 5 6) ≡ Err KeepingRate)
+    × (terms_answer (rates_of 20001 10000001 10000002) ≡ Err RateTooHigh)
+    × (terms_answer (rates_of 20000 10000001 10000002) ≡ Err KeepTooHigh)

@@ -5,17 +5,13 @@ ghost use Rattle.jiff_core.specs.Date.{epoch_day};
 ghost use Rattle.jiff_span.specs.Months.{add_months, IsShiftable};
 ghost use Rattle.pawn_terms.specs.Calendar.{Civil, last_stamp_day, final_day, IsDayNumber, IsStampDay, IsStampCivil, civil_of, day_number, six_months, period_end, day_text, civil_text, IsWritable, digit};
 
+use crate::limits::{FINAL_DAY, FIRST_DAY};
 use jiff::ToSpan;
 use jiff::civil::Date;
 use jiff_core::civil;
 use std::error::Error;
 use std::fmt;
 use std::marker::Model;
-
-// The numbers of 2000-01-01 and of 2299-12-31.
-const FIRST: i32 = 10_957;
-
-const FINAL: i32 = 120_529;
 
 /// No day, or a day out of range.
 #[derive(Clone, Copy, Debug, PartialEq, Eq, Hash)]
@@ -87,7 +83,7 @@ impl Day {
         ensures ok { IfOk result (λ d. pos d ≡ number) }
         ensures succeeds { IsOk result ↔ ((n : ℕ) × (number ≡ pos n) × IsDayNumber n) }
     {
-        if number < FIRST || number > FINAL {
+        if number < FIRST_DAY as i32 || number > FINAL_DAY as i32 {
             return Err(BadDay);
         }
         Ok(Day {

@@ -2,10 +2,8 @@ ghost use Rattle.std.specs.Prelude.{◌≡◌, ◌↔◌, ℕ, IsOk, IfOk};
 ghost use Rattle.pawn_terms.specs.Calendar.{IsStampDay, day_text};
 
 use crate::day::{BadDay, Day};
+use crate::limits::LAST_STAMP_DAY;
 use std::marker::Model;
-
-// The number of 2199-12-31.
-const LAST: u32 = 84_005;
 
 /// A day that a request, a stamp or a record may name, from 2000-01-01 to 2199-12-31. A clause sees
 /// its number, counted from 1970-01-01.
@@ -30,7 +28,7 @@ impl RequestDay {
         ensures ok { IfOk result (λ d. d ≡ day) }
         ensures succeeds { IsOk result ↔ IsStampDay day }
     {
-        if day.count() > LAST {
+        if day.count() > LAST_STAMP_DAY {
             return Err(BadDay);
         }
         Ok(RequestDay { day })

@@ -1,13 +1,10 @@
 ghost use Rattle.std.specs.Prelude.{◌≡◌};
 ghost use Rattle.pawn_terms.specs.Terms.{IsChecked};
 
+use crate::limits::{MOST_KEEP, MOST_RATE};
 use std::error::Error;
 use std::fmt;
 use std::marker::Model;
-
-const MOST_RATE: u64 = 20_000;
-
-const MOST_KEEP: u64 = 10_000_000;
 
 /// Why three numbers are no terms.
 #[derive(Clone, Copy, Debug, PartialEq, Eq, Hash)]
@@ -59,74 +56,81 @@ impl fmt::Display for TermsFault {
 
 impl Error for TermsFault {}
 
+/// The three numbers of terms, checked or not.
+#[derive(Clone, Copy, Debug, PartialEq, Eq, Hash)]
+pub struct Rates {
+    /// The rate of interest, in millionths per day.
+    pub rate: u64,
+    /// The charge for safe keeping up to the end of the period, in millionths of a penny per day.
+    pub keep_before: u64,
+    /// The charge for safe keeping after the end of the period, in millionths of a penny per day.
+    pub keep_after: u64,
+}
+
+impl Rates {
+    ghost use Rattle.pawn_terms.specs.TermsFault.{terms_answer};
+
+    /// The terms of these numbers, or the first fault, in the order of `TermsFault`.
+    pub fn check(self) -> Result<Terms, TermsFault>
+        ensures value { result ≡ terms_answer self }
+    {
+        if self.rate > MOST_RATE {
+            return Err(TermsFault::RateTooHigh);
+        }
+        if self.keep_before > MOST_KEEP || self.keep_after > MOST_KEEP {
+            return Err(TermsFault::KeepTooHigh);
+        }
+        if self.keep_after > self.keep_before {
+            return Err(TermsFault::KeepingRate);
+        }
+        Ok(Terms { rates: self })
+    }
+}
+
 /// Checked terms of an agreement: a rate of at most 20,000 millionths per day, and charges for safe
 /// keeping of at most 10,000,000 millionths of a penny per day, not higher after the end of the
-/// period than before it.
+/// period than before it. A clause sees their three numbers.
 #[derive(Clone, Copy, Debug, PartialEq, Eq, Hash)]
 pub struct Terms {
-    rate: u64,
-    keep_before: u64,
-    keep_after: u64,
+    rates: Rates,
 }
 
 impl Model for Terms {
-    ghost use Rattle.pawn_terms.specs.Terms.{TermsValue, IsChecked};
+    ghost use Rattle.pawn_terms.specs.declared.terms.Rates.{Rates};
+    ghost use Rattle.pawn_terms.specs.Terms.{IsChecked};
 
-    ghost Value = { TermsValue };
+    ghost Value = { Rates };
 
-    ghost view = { λ t. record { rate = t.rate; keep_before = t.keep_before; keep_after = t.keep_after } };
+    ghost view = { λ t. t.rates };
 
-    ghost invariant = { λ t. IsChecked (record { rate = t.rate; keep_before = t.keep_before; keep_after = t.keep_after }) };
+    ghost invariant = { λ t. IsChecked t.rates };
 
-    ghost inverse = { λ t. record { rate = t.rate; keep_before = t.keep_before; keep_after = t.keep_after } };
+    ghost inverse = { λ rates. record { rates = rates } };
 }
 
 impl Terms {
+    ghost use Rattle.pawn_terms.specs.Terms.{IsChecked, rates_of};
     ghost use Rattle.pawn_terms.specs.TermsFault.{terms_answer};
 
     /// The terms of three numbers: the rate in millionths per day, and the charges for safe keeping
     /// up to the end and after it in millionths of a penny per day. Otherwise the first fault, in
     /// the order of `TermsFault`.
     pub fn check(rate: u64, keep_before: u64, keep_after: u64) -> Result<Terms, TermsFault>
-        ensures value { result ≡ terms_answer rate keep_before keep_after }
+        ensures value { result ≡ terms_answer (rates_of rate keep_before keep_after) }
     {
-        if rate > MOST_RATE {
-            return Err(TermsFault::RateTooHigh);
-        }
-        if keep_before > MOST_KEEP || keep_after > MOST_KEEP {
-            return Err(TermsFault::KeepTooHigh);
-        }
-        if keep_after > keep_before {
-            return Err(TermsFault::KeepingRate);
-        }
-        Ok(Terms {
+        let rates = Rates {
             rate,
             keep_before,
             keep_after,
-        })
+        };
+        rates.check()
     }
 
-    /// The rate of interest, in millionths per day.
-    pub fn rate(self) -> u64
-        ensures value { result ≡ self.rate }
+    /// The three numbers.
+    pub fn rates(self) -> Rates
+        ensures value { result ≡ self }
         ensures checked { IsChecked self }
     {
-        self.rate
-    }
-
-    /// The charge for safe keeping up to the end of the period, in millionths of a penny per day.
-    pub fn keep_before(self) -> u64
-        ensures value { result ≡ self.keep_before }
-        ensures checked { IsChecked self }
-    {
-        self.keep_before
-    }
-
-    /// The charge for safe keeping after the end of the period, in millionths of a penny per day.
-    pub fn keep_after(self) -> u64
-        ensures value { result ≡ self.keep_after }
-        ensures checked { IsChecked self }
-    {
-        self.keep_after
+        self.rates
     }
 }

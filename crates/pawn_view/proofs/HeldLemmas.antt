@@ -4,7 +4,8 @@ use Rattle.std.specs.Prelude.{option_map, not}
 use Rattle.std.proofs.lemmas.List.{take_more, take_rest, append-nil, map-append}
 use Rattle.pawn_pledge.specs.declared.receipt.Receipt.{Receipt}
 use Rattle.pawn_pledge.specs.Pledge.{PledgeValue}
-use Rattle.pawn_pledge.specs.Brief.{BriefValue, brief_of}
+use Rattle.pawn_pledge.specs.declared.brief.BriefFields.{BriefFields}
+use Rattle.pawn_pledge.specs.Brief.{brief_of}
 use Rattle.pawn_book.specs.BookStep.{is_live, only_live, live_at, are_unknown}
 use Rattle.pawn_book.specs.Visits.{End, Front, Whole, call_end}
 use Rattle.pawn_book.proofs.VisitLemmas.{cut_at}
@@ -22,7 +23,7 @@ use Rattle.pawn_view.proofs.StatementLemmas.{some_same, shows_ended}
 -- ---- whether one of them is live
 
 -- one is live
-any_known_in : (f : Receipt → Option PledgeValue) (receipts : List Receipt) (i : ℕ) (d : Receipt) (brief : BriefValue) → i < length receipts
+any_known_in : (f : Receipt → Option PledgeValue) (receipts : List Receipt) (i : ℕ) (d : Receipt) (brief : BriefFields) → i < length receipts
     → Some brief ≡ option_map brief_of (f (get_or receipts i d)) → are_unknown (map f receipts) ≡ false
 any_known_in f [] i d brief lt is = absurd (omega (arith, lt))
 any_known_in f (r ∷ rs) zero d brief lt is =
@@ -36,7 +37,7 @@ any_known_in f (r ∷ rs) (suc i) d brief lt is =
       | Some p ↦ refl
     ]
 
-pub any_known : (f : Receipt → Option PledgeValue) (receipts : List Receipt) (i : ℕ) (x : Receipt) (brief : BriefValue) → i < length receipts → x ≡ get_or receipts i x
+pub any_known : (f : Receipt → Option PledgeValue) (receipts : List Receipt) (i : ℕ) (x : Receipt) (brief : BriefFields) → i < length receipts → x ≡ get_or receipts i x
     → Some brief ≡ option_map brief_of (f x) → are_unknown (map f receipts) ≡ false
 any_known f receipts i x brief lt at is = any_known_in f receipts i x brief lt (subst (λ (y : Receipt). Some brief ≡ option_map brief_of (f y)) at is)
 
@@ -62,7 +63,7 @@ unknown_more f receipts i x lt at before is =
 -- ---- one receipt
 
 -- the statement of the pledge that a live receipt is of
-pub shown_statement : {W : Type 0} (contents : W → Option (List ℕ)) (a w : Writing W) (day : ℕ) (pledges : ℕ → Option PledgeValue) (r : Receipt) (brief : BriefValue) (end : End)
+pub shown_statement : {W : Type 0} (contents : W → Option (List ℕ)) (a w : Writing W) (day : ℕ) (pledges : ℕ → Option PledgeValue) (r : Receipt) (brief : BriefFields) (end : End)
     → Some brief ≡ option_map brief_of (live_at pledges r)
     → ((p : PledgeValue) → pledges r.number ≡ Some p → brief ≡ brief_of p → PutsShare contents a (statement_text day p) end w)
     → PutsShare contents a (shown_text day (live_at pledges r)) end w

@@ -9,7 +9,8 @@ use Rattle.pawn_debt.specs.Due.{due}
 use Rattle.pawn_debt.specs.Owing.{owing_of}
 use Rattle.pawn_pledge.specs.declared.record.Extension.{Extension}
 use Rattle.pawn_pledge.specs.Pledge.{PledgeValue, end_of, debt_of, status_of}
-use Rattle.pawn_pledge.specs.Brief.{BriefValue, brief_of, brief_status, brief_owing}
+use Rattle.pawn_pledge.specs.declared.brief.BriefFields.{BriefFields}
+use Rattle.pawn_pledge.specs.Brief.{brief_of, brief_status, brief_owing}
 use Rattle.pawn_book.specs.declared.visit.Flow.{Flow}
 use Rattle.pawn_book.specs.declared.fault.KeepError.{KeepError}
 use Rattle.pawn_book.specs.declared.fault.KeepError.TheVariants as error
@@ -26,26 +27,26 @@ use Rattle.pawn_view.proofs.ShareLemmas.{lines_share, share_puts, share_more, sh
 use Rattle.pawn_view.proofs.SoundLemmas.{IsTold}
 
 -- the lines of a brief above the extensions, and below them
-abbrev pub brief_first : BriefValue → List ℕ
-brief_first b = first_lines b.number b.article b.kind b.taken b.ends
+abbrev pub brief_first : BriefFields → List ℕ
+brief_first b = first_lines b.agreement b.ends
 
-abbrev pub brief_state : BriefValue → ℕ → List ℕ
-brief_state b day = state_lines (brief_status b day) (brief_owing b day) b.held b.booking b.closing
+abbrev pub brief_state : BriefFields → ℕ → List ℕ
+brief_state b day = state_lines (brief_status b day) (brief_owing b day) b.standing
 
-first_of_brief : (p : PledgeValue) (b : BriefValue) → b ≡ brief_of p → brief_first b ≡ first_lines p.number p.article p.kind p.taken (end_of p)
+first_of_brief : (p : PledgeValue) (b : BriefFields) → b ≡ brief_of p → brief_first b ≡ first_lines p.agreement (end_of p)
 first_of_brief p b is = ap brief_first is
 
 -- the day on which a brief is shown
-abbrev pub brief_day : BriefValue → ℕ → ℕ
-brief_day b day = max (open_or_last b.closing b.last day) b.totals.day
+abbrev pub brief_day : BriefFields → ℕ → ℕ
+brief_day b day = max (open_or_last b.standing.closing b.standing.last day) b.totals.day
 
-state_of_brief : (p : PledgeValue) (b : BriefValue) (v day : ℕ) → b ≡ brief_of p → IsTold p → v ≡ brief_day b day
-    → brief_state b v ≡ state_on (shown_day p.closing p.last day) p
+state_of_brief : (p : PledgeValue) (b : BriefFields) (v day : ℕ) → b ≡ brief_of p → IsTold p → v ≡ brief_day b day
+    → brief_state b v ≡ state_on (shown_day p.standing.closing p.standing.last day) p
 state_of_brief p b v day is told v_is =
-    let day_is : v ≡ shown_day p.closing p.last day = v_is ∙ ap (λ (x : BriefValue). brief_day x day) is ∙ told.day day in
+    let day_is : v ≡ shown_day p.standing.closing p.standing.last day = v_is ∙ ap (λ (x : BriefFields). brief_day x day) is ∙ told.day day in
     let owed : brief_owing (brief_of p) v ≡ owing_of (due (debt_of p) v) = subst (λ (x : ℕ). brief_owing (brief_of p) x ≡ owing_of (due (debt_of p) x)) (sym day_is) (told.owing day) in
-    ap (λ (x : BriefValue). brief_state x v) is
-    ∙ ap (λ (o : Owing). state_lines (status_of p v) o p.held p.booking p.closing) owed
+    ap (λ (x : BriefFields). brief_state x v) is
+    ∙ ap (λ (o : Owing). state_lines (status_of p v) o p.standing) owed
     ∙ ap (λ (x : ℕ). state_on x p) day_is
 
 -- what was handed of a list of the pledge
@@ -54,20 +55,20 @@ share_at : {T : Type 0} (items : Option PledgeValue → List T) (o : Option Pled
 share_at items o p given flow end is share = subst (λ (x : Option PledgeValue). IsShare given flow end (items x)) is share
 
 -- a statement whose extensions were not all handed out
-pub statement_cut : {W : Type 0} (contents : W → Option (List ℕ)) (a b c : Writing W) (day : ℕ) (o : Option PledgeValue) (p : PledgeValue) (brief : BriefValue) (given : List Extension) (flow : Flow)
+pub statement_cut : {W : Type 0} (contents : W → Option (List ℕ)) (a b c : Writing W) (day : ℕ) (o : Option PledgeValue) (p : PledgeValue) (brief : BriefFields) (given : List Extension) (flow : Flow)
     → o ≡ Some p → brief ≡ brief_of p → Puts contents a (brief_first brief) b
     → Handed (PutsLine contents extended_line) b given flow c → IsShare given flow Front (extensions_of o)
     → PutsShare contents a (statement_text day p) Front c
 statement_cut contents a b c day o p brief given flow at is first handed share =
-    let head = first_lines p.number p.article p.kind p.taken (end_of p) in
-    let rest = state_on (shown_day p.closing p.last day) p ++ flat_map entry_line p.entries in
+    let head = first_lines p.agreement (end_of p) in
+    let rest = state_on (shown_day p.standing.closing p.standing.last day) p ++ flat_map entry_line p.entries in
     share_then contents a b c head (flat_map extended_line p.extensions ++ rest) Front
     (share_puts contents a b head (subst (λ (t : List ℕ). Puts contents a t b) (first_of_brief p brief is) first))
     (share_more contents b c (flat_map extended_line p.extensions) rest
     (lines_share contents extended_line b c given p.extensions flow Front handed (share_at extensions_of o p given flow Front at share)))
 
 -- a statement whose parts were all put
-pub statement_whole : {W : Type 0} (contents : W → Option (List ℕ)) (a b c d e : Writing W) (day v : ℕ) (o : Option PledgeValue) (p : PledgeValue) (brief : BriefValue) (end : End)
+pub statement_whole : {W : Type 0} (contents : W → Option (List ℕ)) (a b c d e : Writing W) (day v : ℕ) (o : Option PledgeValue) (p : PledgeValue) (brief : BriefFields) (end : End)
     (given : List Extension) (flow : Flow) (given' : List Entry) (flow' : Flow)
     → o ≡ Some p → brief ≡ brief_of p → IsTold p → v ≡ brief_day brief day → Puts contents a (brief_first brief) b
     → Handed (PutsLine contents extended_line) b given flow c → IsShare given flow Whole (extensions_of o)
@@ -75,9 +76,9 @@ pub statement_whole : {W : Type 0} (contents : W → Option (List ℕ)) (a b c d
     → Handed (PutsLine contents entry_line) d given' flow' e → IsShare given' flow' end (entries_of o)
     → PutsShare contents a (statement_text day p) end e
 statement_whole contents a b c d e day v o p brief end given flow given' flow' at is told v_is first handed share state handed' share' =
-    let head = first_lines p.number p.article p.kind p.taken (end_of p) in
+    let head = first_lines p.agreement (end_of p) in
     let extended = flat_map extended_line p.extensions in
-    let on = state_on (shown_day p.closing p.last day) p in
+    let on = state_on (shown_day p.standing.closing p.standing.last day) p in
     let entries = flat_map entry_line p.entries in
     share_then contents a b e head (extended ++ (on ++ entries)) end
     (share_puts contents a b head (subst (λ (t : List ℕ). Puts contents a t b) (first_of_brief p brief is) first))
@@ -122,7 +123,7 @@ pub some_same : {A : Type 0} {a b : A} → Some a ≡ Some b → a ≡ b
 some_same {a = a} e = ap (λ (o : Option _). unwrap_or o a) e
 
 -- the same of the pledge that the brief is of
-pub statement_shows : {W : Type 0} (contents : W → Option (List ℕ)) (missing : ViewFault) (a w : Writing W) (day : ℕ) (o : Option PledgeValue) (brief : BriefValue) (done : Result (Unit {0}) KeepError) (answer : Result (Unit {0}) ViewFault)
+pub statement_shows : {W : Type 0} (contents : W → Option (List ℕ)) (missing : ViewFault) (a w : Writing W) (day : ℕ) (o : Option PledgeValue) (brief : BriefFields) (done : Result (Unit {0}) KeepError) (answer : Result (Unit {0}) ViewFault)
     → write_failed a ≡ false → answer ≡ ending_of done (write_failed w) → Some brief ≡ option_map brief_of o
     → ((p : PledgeValue) → o ≡ Some p → brief ≡ brief_of p → PutsShare contents a (statement_text day p) (call_end done) w)
     → Shows contents missing a (option_map (statement_text day) o) answer w

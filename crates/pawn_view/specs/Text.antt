@@ -10,6 +10,8 @@ use Rattle.pawn_debt.specs.declared.entry.Sort.TheVariants.{Draw, Repay}
 use Rattle.pawn_debt.specs.declared.owing.Owing.{Owing}
 use Rattle.pawn_debt.specs.Due.{due}
 use Rattle.pawn_debt.specs.Owing.{owing_of}
+use Rattle.pawn_pledge.specs.declared.record.Agreement.{Agreement}
+use Rattle.pawn_pledge.specs.declared.record.Standing.{Standing}
 use Rattle.pawn_pledge.specs.declared.record.Extension.{Extension}
 use Rattle.pawn_pledge.specs.declared.record.Booking.{Booking}
 use Rattle.pawn_pledge.specs.declared.record.BookingState.{BookingState}
@@ -106,29 +108,29 @@ shown_day (Redeemed closed paid) last day = closed
 shown_day (Sold closed net) last day = closed
 
 -- the lines above the extensions: number, article, kind, day taken, end of the period
-abbrev pub first_lines : ℕ → List ℕ → Kind → ℕ → ℕ → List ℕ
-first_lines number article kind taken ends =
-    number_line (codes "Pledge ") number
-    ++ (text_line (codes "Article ") article
-    ++ (kind_line kind
-    ++ (day_line (codes "Taken ") taken
+abbrev pub first_lines : Agreement → ℕ → List ℕ
+first_lines agreement ends =
+    number_line (codes "Pledge ") agreement.number
+    ++ (text_line (codes "Article ") agreement.opening.article
+    ++ (kind_line agreement.opening.kind
+    ++ (day_line (codes "Taken ") agreement.taken
     ++ day_line (codes "Ends ") ends)))
 
 -- the lines between the extensions and the entries
-abbrev pub state_lines : Status → Owing → Bool → Option Booking → Closing → List ℕ
-state_lines status owing held booking closing =
-    status_line status ++ (owed_lines status owing ++ (held_line held ++ (booking_line booking ++ closing_line closing owing.total)))
+abbrev pub state_lines : Status → Owing → Standing → List ℕ
+state_lines status owing s =
+    status_line status ++ (owed_lines status owing ++ (held_line s.held ++ (booking_line s.booking ++ closing_line s.closing owing.total)))
 
 -- how a pledge stands on a day
 abbrev pub state_on : ℕ → PledgeValue → List ℕ
-state_on day p = state_lines (status_of p day) (owing_of (due (debt_of p) day)) p.held p.booking p.closing
+state_on day p = state_lines (status_of p day) (owing_of (due (debt_of p) day)) p.standing
 
 -- a pledge's statement, asked for on a day
 abbrev pub statement_text : ℕ → PledgeValue → List ℕ
 statement_text day p =
-    first_lines p.number p.article p.kind p.taken (end_of p)
+    first_lines p.agreement (end_of p)
     ++ (flat_map extended_line p.extensions
-    ++ (state_on (shown_day p.closing p.last day) p
+    ++ (state_on (shown_day p.standing.closing p.standing.last day) p
     ++ flat_map entry_line p.entries))
 
 -- a pledge's statement, or the line of an unknown receipt

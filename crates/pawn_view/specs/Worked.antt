@@ -3,7 +3,7 @@ use Rattle.std.specs.Prelude.{◌≡◌, false, true, [], ◌∷◌, Some, None,
 use Rattle.pawn_terms.specs.Worked.{date}
 use Rattle.pawn_debt.specs.declared.entry.Kind.TheVariants.{Fixed, Running}
 use Rattle.pawn_debt.specs.declared.entry.Sort.TheVariants.{Draw, Repay}
-use Rattle.pawn_debt.specs.Worked.{terms_of}
+use Rattle.pawn_terms.specs.Terms.{rates_of}
 use Rattle.pawn_pledge.specs.declared.command.Command.{Command}
 use Rattle.pawn_pledge.specs.declared.record.BookingState.TheVariants as state
 use Rattle.pawn_pledge.specs.declared.record.Closing.TheVariants.{Open, Redeemed, Sold}
@@ -57,7 +57,7 @@ WorkedClosings =
 
 -- the ring for 100 pounds, at 2,667 millionths a day
 abbrev pub ring_at_interest : PledgeValue
-ring_at_interest = pawned (Fixed 10000) false None (terms_of 2667 0 0)
+ring_at_interest = pawned (Fixed 10000) false None (rates_of 2667 0 0)
 
 -- a statement, from the day taken on; without amounts once the ring passed
 abbrev pub WorkedStatements : Type 0

@@ -26,7 +26,7 @@ fn live_brief<K: Keep>(
     ensures steady { IsSteady K.keeping keep.old result }
 {
     match keep.brief(book, receipt.number) {
-        Ok(Some(brief)) if brief.live() == Some(receipt.secret) => Ok(Some(brief)),
+        Ok(Some(brief)) if brief.fields().live == Some(receipt.secret) => Ok(Some(brief)),
         Ok(_) => Ok(None),
         Err(error) => Err(error),
     }

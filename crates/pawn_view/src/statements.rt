@@ -41,39 +41,43 @@ impl<W: Write> Visitor<Extension> for Writing<W> {
 
 // The lines above the extensions.
 fn put_first<W: Write>(writer: &mut Writing<W>, brief: &Brief)
-    ensures puts { Puts W.contents writer.old (first_lines brief.now.number brief.now.article brief.now.kind brief.now.taken brief.now.ends) writer.new }
+    ensures puts { Puts W.contents writer.old (first_lines brief.now.agreement brief.now.ends) writer.new }
 {
-    put_number(writer, b"Pledge ", brief.number().get());
-    put_text(writer, b"Article ", brief.article().as_str());
-    put_kind(writer, brief.kind());
-    put_day(writer, b"Taken ", brief.taken());
-    put_day(writer, b"Ends ", brief.ends());
+    let fields = brief.fields();
+    let agreement = &fields.agreement;
+    put_number(writer, b"Pledge ", agreement.number.get());
+    put_text(writer, b"Article ", agreement.opening.article.as_str());
+    put_kind(writer, agreement.opening.kind);
+    put_day(writer, b"Taken ", agreement.taken);
+    put_day(writer, b"Ends ", fields.ends);
 }
 
 // The lines between the extensions and the entries.
 fn put_state<W: Write>(writer: &mut Writing<W>, brief: &Brief, day: Day)
     requires later { brief.now.totals.day ≤ day }
-    ensures puts { Puts W.contents writer.old (state_lines (brief_status brief.now day) (brief_owing brief.now day) brief.now.held brief.now.booking brief.now.closing) writer.new }
+    ensures puts { Puts W.contents writer.old (state_lines (brief_status brief.now day) (brief_owing brief.now day) brief.now.standing) writer.new }
 {
     let status = brief.status(day);
     let owing = brief.owing(day);
     put_status(writer, status);
     put_owed(writer, status, &owing);
-    put_held(writer, brief.is_held());
-    put_booking(writer, brief.booking());
-    put_closing(writer, brief.closing(), owing.total);
+    let standing = &brief.fields().standing;
+    put_held(writer, standing.held);
+    put_booking(writer, standing.booking);
+    put_closing(writer, standing.closing, owing.total);
 }
 
 // The day of which the statement speaks. What is owed is known from the day of the last entry on, which is never past
 // the day of the last change.
 fn shown_day(brief: &Brief, day: Day) -> Day
-    ensures answer { result ≡ max (open_or_last brief.now.closing brief.now.last day) brief.now.totals.day }
+    ensures answer { result ≡ max (open_or_last brief.now.standing.closing brief.now.standing.last day) brief.now.totals.day }
 {
-    let shown = match brief.closing() {
-        Closing::Open => day.max(brief.last()),
-        _ => brief.last(),
+    let fields = brief.fields();
+    let shown = match fields.standing.closing {
+        Closing::Open => day.max(fields.standing.last),
+        _ => fields.standing.last,
     };
-    shown.max(brief.totals().day)
+    shown.max(fields.totals.day)
 }
 
 // Puts the statement of the pledge that this brief is of.

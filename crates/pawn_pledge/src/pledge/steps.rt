@@ -2,15 +2,17 @@ ghost use Rattle.std.specs.Prelude.{◌≡◌, ◌≤◌, ◌<◌, length, Ok, O
 ghost use Rattle.pawn_terms.specs.Refusals.{first_of};
 ghost use Rattle.pawn_debt.specs.declared.entry.Entry.{Entry};
 ghost use Rattle.pawn_pledge.specs.Pledge.{end_of};
-ghost use Rattle.pawn_pledge.specs.Step.{Changed, unless, bars, declare_bars, most_secrets, pledge_step, numbered_step, entry_of, entry_step, hold_step, declare_step, ask_step, asked, cancel_step, decide_step, confirmed, declined, redeem_step, sell_step, extend_step, books, in_state, is_standing, state_after, booking_after, with_secret, with_extension, issue_of, is_ahead, is_repeat, IsStep, IsApplied};
+ghost use Rattle.pawn_pledge.specs.Step.{Changed, unless, bars, declare_bars, pledge_step, numbered_step, entry_of, entry_step, hold_step, declare_step, ask_step, asked, cancel_step, decide_step, confirmed, declined, redeem_step, sell_step, extend_step, books, in_state, is_standing, state_after, booking_after, with_secret, with_extension, issue_of, is_ahead, is_repeat, IsStep, IsApplied};
+ghost use Rattle.pawn_pledge.specs.Limits.{most_secrets};
 
 use super::Pledge;
 use crate::command::{Applied, Command, Decision, Done, Paper, Stamp};
-use crate::limits::{LAST_WINDOW, MOST_EXTENSIONS, MOST_PENCE, MOST_SECRETS, SMALL_CREDIT};
+use crate::limits::{LAST_WINDOW, MOST_EXTENSIONS, MOST_SECRETS};
 use crate::record::{Booking, BookingState, Closing, Extension, Issue, Issued, Status};
 use crate::refusal::Refusal;
 use crate::secret::Secret;
-use pawn_debt::{Day, DebtFault, Entry, Sort};
+use crate::status::is_small;
+use pawn_debt::{Day, DebtFault, Entry, MOST_PENCE, Sort};
 
 impl Pledge {
     /// One command: what it answers, or the first refusal that applies. Where it is refused, the
@@ -51,12 +53,12 @@ impl Pledge {
     // What bars every command.
     fn gate(&self, day: Day) -> Result<(), Refusal>
         ensures answer { result ≡ first_of (bars self.now day) (Ok tt) }
-        ensures later { OnOk result (self.now.last ≤ day) }
+        ensures later { OnOk result (self.now.standing.last ≤ day) }
     {
-        if day < self.last {
+        if day < self.standing.last {
             return Err(Refusal::Debt(DebtFault::EarlierDay));
         }
-        let Closing::Open = self.closing else {
+        let Closing::Open = self.standing.closing else {
             return Err(Refusal::Closed);
         };
         if let Status::Passed = self.open_status(day) {
@@ -108,7 +110,7 @@ impl Pledge {
     }
 
     fn draw(&mut self, day: Day, pence: u64) -> Result<Applied, Refusal>
-        requires later { self.old.last ≤ day }
+        requires later { self.old.standing.last ≤ day }
         ensures step { IsApplied (entry_step self.old day Sort.Draw pence) self.old result self.new }
     {
         if day > self.debt.ends() {
@@ -121,12 +123,12 @@ impl Pledge {
             pence,
         };
         self.debt.draw(day, pence)?;
-        self.last = day;
+        self.standing.last = day;
         Ok(Applied::changed(Done::Entered(entry)))
     }
 
     fn repay(&mut self, day: Day, pence: u64) -> Result<Applied, Refusal>
-        requires later { self.old.last ≤ day }
+        requires later { self.old.standing.last ≤ day }
         ensures step { IsApplied (entry_step self.old day Sort.Repay pence) self.old result self.new }
     {
         let entry = Entry {
@@ -136,7 +138,7 @@ impl Pledge {
             pence,
         };
         self.debt.repay(day, pence)?;
-        self.last = day;
+        self.standing.last = day;
         Ok(Applied::changed(Done::Entered(entry)))
     }
 
@@ -145,11 +147,11 @@ impl Pledge {
         ensures step { IsApplied (unless (bars self.old day) (hold_step self.old day flag)) self.old result self.new }
     {
         self.gate(day)?;
-        if self.held == flag {
+        if self.standing.held == flag {
             return Ok(Applied::answered(Done::Held(flag)));
         }
-        self.held = flag;
-        self.last = day;
+        self.standing.held = flag;
+        self.standing.last = day;
         Ok(Applied::changed(Done::Held(flag)))
     }
 
@@ -159,27 +161,27 @@ impl Pledge {
     {
         let day = stamp.day.day();
         self.gate(day)?;
-        self.may_declare(stamp, paper)?;
         let issued = Issued {
             day,
             sort: paper.issue(),
             secret: Secret::of_word(stamp.word),
         };
+        self.may_declare(paper, &issued)?;
         self.issue(issued)
     }
 
     // What is refused for a declaration alone.
-    fn may_declare(&self, stamp: &Stamp, paper: Paper) -> Result<(), Refusal>
-        ensures answer { result ≡ first_of (declare_bars self.now stamp.now paper) (Ok tt) }
+    fn may_declare(&self, paper: Paper, issued: &Issued) -> Result<(), Refusal>
+        ensures answer { result ≡ first_of (declare_bars self.now paper issued.now.secret) (Ok tt) }
         ensures few { OnOk result (length self.now.secrets < most_secrets) }
     {
-        if paper == Paper::Written && self.debt.kind().credit() > SMALL_CREDIT {
+        if paper == Paper::Written && !is_small(self.debt.kind().credit()) {
             return Err(Refusal::NotSmall);
         }
         if self.secrets.len() >= MOST_SECRETS {
             return Err(Refusal::DeclarationsFull);
         }
-        if self.secrets.holds(Secret::of_word(stamp.word)) {
+        if issued.is_among(self.secrets.as_slice()) {
             return Err(Refusal::SecretUsed);
         }
         Ok(())
@@ -188,14 +190,14 @@ impl Pledge {
     // Issues a secret.
     fn issue(&mut self, issued: Issued) -> Result<Applied, Refusal>
         requires few { length self.old.secrets < most_secrets }
-        requires later { self.old.last ≤ issued.day }
+        requires later { self.old.standing.last ≤ issued.day }
         ensures step { IsApplied (Changed (with_secret self.old issued) (Done.Declared issued.secret)) self.old result self.new }
     {
         let day = issued.day;
         let secret = issued.secret;
         match self.secrets.push(issued) {
             Ok(()) => {
-                self.last = day;
+                self.standing.last = day;
                 Ok(Applied::changed(Done::Declared(secret)))
             }
             Err(_) => Err(Refusal::Memory),
@@ -204,11 +206,11 @@ impl Pledge {
 
     // Keeps a booking.
     fn book(&mut self, day: Day, booking: &Booking) -> Result<Applied, Refusal>
-        requires later { self.old.last ≤ day }
+        requires later { self.old.standing.last ≤ day }
         ensures step { IsApplied (books self.old day booking.now) self.old result self.new }
     {
-        self.booking = Some(*booking);
-        self.last = day;
+        self.standing.booking = Some(*booking);
+        self.standing.last = day;
         Ok(Applied::changed(Done::Booked(*booking)))
     }
 
@@ -231,15 +233,15 @@ impl Pledge {
 
     // The same, where nothing is to be refused any more.
     fn ask_once(&mut self, day: Day, wanted: Day, window: u64) -> Result<Applied, Refusal>
-        requires later { self.old.last ≤ day }
-        ensures step { IsApplied (asked self.old day wanted window self.old.booking) self.old result self.new }
+        requires later { self.old.standing.last ≤ day }
+        ensures step { IsApplied (asked self.old day wanted window self.old.standing.booking) self.old result self.new }
     {
         let asked = Booking {
             day: wanted,
             window,
             state: BookingState::Asked,
         };
-        if let Some(booking) = self.booking {
+        if let Some(booking) = self.standing.booking {
             if booking.day == wanted && booking.window == window && booking.state.is_standing() {
                 return Ok(Applied::answered(Done::Booked(booking)));
             }
@@ -249,10 +251,10 @@ impl Pledge {
 
     // Gives a booking up.
     fn cancel(&mut self, day: Day) -> Result<Applied, Refusal>
-        ensures step { IsApplied (unless (bars self.old day) (cancel_step self.old day self.old.booking)) self.old result self.new }
+        ensures step { IsApplied (unless (bars self.old day) (cancel_step self.old day self.old.standing.booking)) self.old result self.new }
     {
         self.gate(day)?;
-        let Some(booking) = self.booking else {
+        let Some(booking) = self.standing.booking else {
             return Err(Refusal::NoBooking);
         };
         match booking.state {
@@ -266,10 +268,10 @@ impl Pledge {
 
     // Confirms or refuses a booking.
     fn decide(&mut self, day: Day, decision: Decision) -> Result<Applied, Refusal>
-        ensures step { IsApplied (unless (bars self.old day) (decide_step self.old day decision self.old.booking)) self.old result self.new }
+        ensures step { IsApplied (unless (bars self.old day) (decide_step self.old day decision self.old.standing.booking)) self.old result self.new }
     {
         self.gate(day)?;
-        let Some(booking) = self.booking else {
+        let Some(booking) = self.standing.booking else {
             return Err(Refusal::NoBooking);
         };
         match decision {
@@ -279,7 +281,7 @@ impl Pledge {
     }
 
     fn confirm(&mut self, day: Day, booking: &Booking) -> Result<Applied, Refusal>
-        requires later { self.old.last ≤ day }
+        requires later { self.old.standing.last ≤ day }
         ensures step { IsApplied (confirmed self.old day booking.now booking.now.state) self.old result self.new }
     {
         match booking.state {
@@ -295,7 +297,7 @@ impl Pledge {
     }
 
     fn decline(&mut self, day: Day, booking: &Booking) -> Result<Applied, Refusal>
-        requires later { self.old.last ≤ day }
+        requires later { self.old.standing.last ≤ day }
         ensures step { IsApplied (declined self.old day booking.now booking.now.state) self.old result self.new }
     {
         match booking.state {
@@ -312,16 +314,16 @@ impl Pledge {
         ensures step { IsApplied (unless (bars self.old day) (redeem_step self.old day paid)) self.old result self.new }
     {
         self.gate(day)?;
-        if self.held {
+        if self.standing.held {
             return Err(Refusal::Held);
         }
         let total = self.debt.owing(day).total;
         if paid != total {
             return Err(Refusal::WrongAmount { total });
         }
-        self.booking = booking_after(self.booking);
-        self.closing = Closing::Redeemed { day, paid };
-        self.last = day;
+        self.standing.booking = booking_after(self.standing.booking);
+        self.standing.closing = Closing::Redeemed { day, paid };
+        self.standing.last = day;
         Ok(Applied::changed(Done::Redeemed { day, paid }))
     }
 
@@ -337,9 +339,9 @@ impl Pledge {
             return Err(Refusal::Debt(DebtFault::BadAmount));
         }
         let total = self.debt.owing(day).total;
-        self.booking = booking_after(self.booking);
-        self.closing = Closing::Sold { day, net };
-        self.last = day;
+        self.standing.booking = booking_after(self.standing.booking);
+        self.standing.closing = Closing::Sold { day, net };
+        self.standing.last = day;
         Ok(Applied::changed(Done::Sold {
             net,
             surplus: net.saturating_sub(total),
@@ -370,7 +372,7 @@ impl Pledge {
 
     // The same, where nothing is to be refused any more.
     fn extend_once(&mut self, extension: Extension) -> Result<Applied, Refusal>
-        requires later { self.old.last ≤ extension.day }
+        requires later { self.old.standing.last ≤ extension.day }
         requires inside { extension.day ≤ end_of self.old }
         requires longer { end_of self.old < extension.until }
         ensures step { IsApplied (Changed (with_extension self.old extension) (Done.Extended extension.until)) self.old result self.new }
@@ -380,7 +382,7 @@ impl Pledge {
         match self.extensions.push(extension) {
             Ok(()) => {
                 self.debt.extend(until);
-                self.last = day;
+                self.standing.last = day;
                 Ok(Applied::changed(Done::Extended { until }))
             }
             Err(_) => Err(Refusal::Memory),

@@ -56,10 +56,10 @@ fn pledge_of(alloc: Global, pence: u64, chosen: u32) -> Result<Pledge, Fail> {
 fn is_handed_back(pledge: &Pledge) -> Result<bool, Fail> {
     let before = day(b"2024-01-30")?;
     let mut parts = pledge.parts()?;
-    parts.last = before;
+    parts.standing.last = before;
     match Pledge::of_parts(parts) {
         Ok(_) => Ok(false),
-        Err(back) => Ok(back.last == before),
+        Err(back) => Ok(back.standing.last == before),
     }
 }
 

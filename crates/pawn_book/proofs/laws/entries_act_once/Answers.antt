@@ -1,5 +1,4 @@
-use Rattle.pawn_book.proofs.LawLemmas.{entry_told}
-use Rattle.pawn_book.proofs.RepeatLemmas.{entry_told_to_all}
+use Rattle.pawn_book.proofs.RepeatLemmas.{entry_told, entry_told_to_all}
 use Rattle.pawn_book.proofs.laws.entries_act_once.Goals as goal
 
 pub returns : goal.returns

@@ -1,4 +1,5 @@
 use Rattle.std.proofs.Common.{◌∙◌, ap, Ok, Some, subst, sym}
+use Rattle.pawn_pledge.specs.declared.record.Agreement.{Agreement}
 use Rattle.pawn_book.specs.declared.change.Change.TheVariants.{PutPledge}
 use Rattle.pawn_book.specs.declared.reply.Reply.TheVariants.{Opened}
 use Rattle.pawn_book.specs.BookStep.{newest, take_pledge, taken_under, with_reference}
@@ -12,9 +13,9 @@ returns-in-Ok-clause-reads g c = reads_then c.find_reference.ensures.reads c.tak
     let answer = subst (IsTaken (taken_under c.args.head.now c.args.opening.now c.args.stamp.now (newest at.terms))) c.in-Ok.is (taken at is heads) in
     subst (λ n. Plans h c.args.book (take_pledge at c.args.book c.args.opening.now c.args.stamp.now (with_reference at.pledges c.args.opening.now.reference))
     (Ok (record { change = Some (PutPledge c.args.book n c.in-Ok.pledge); reply = Opened c.first_receipt-in-Ok.result })))
-    (sym c.number-number.ensures.value)
+    (sym (ap (λ (a : Agreement). a.number) c.agreement-in-Ok.ensures.value))
     (subst (λ r. Plans h c.args.book (take_pledge at c.args.book c.args.opening.now c.args.stamp.now (with_reference at.pledges c.args.opening.now.reference))
-    (Ok (record { change = Some (PutPledge c.args.book c.in-Ok.pledge.number c.in-Ok.pledge); reply = Opened r })))
+    (Ok (record { change = Some (PutPledge c.args.book c.in-Ok.pledge.agreement.number c.in-Ok.pledge); reply = Opened r })))
     (sym c.first_receipt-in-Ok.ensures.value)
     (taken_plans h c.args.book at c.args.head.now c.args.opening.now c.args.stamp.now c.in-Ok.pledge sound is heads
     (ok_is (c.in-Ok-None.is ∙ ap Ok c.in-Ok-None.field-0-is) (found sound)) answer c.in-Ok.ensures.standing c.know_given.ensures.reference c.know_given.ensures.article c.know_given.ensures.word)))

@@ -6,4 +6,4 @@ pub returns-clause-owed : goal.returns-clause-owed
 returns-clause-owed c =
     let days : c.count.result - c.count-start.result ≡ c.args.day - c.args.totals.now.day = omega arith in
     let inside : c.saturating_sub-inside.result ≡ days_inside c.args.ends c.args.totals.now.day (c.args.day - c.args.totals.now.day) = omega arith in
-    carried-is _ _ _ _ _ _ (rw (days, inside, c.rate.ensures.value, c.keep_before.ensures.value, c.keep_after.ensures.value) (omega arith))
+    carried-is _ _ _ _ _ _ (rw (days, inside, c.rates-rates.ensures.value) (omega arith))

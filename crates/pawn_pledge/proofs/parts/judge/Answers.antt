@@ -1,11 +1,10 @@
 use Rattle.std.proofs.Common.{rules}
-use Rattle.pawn_pledge.specs.Parts.{value_of}
 use Rattle.pawn_pledge.proofs.Stands.{stands}
 use Rattle.pawn_pledge.proofs.parts.judge.Goals as goal
 
 pub returns-clause-standing : goal.returns-clause-standing
 returns-clause-standing c =
-    stands (value_of c.args.parts.now) c.in_ok-totals.totals (record {
+    stands c.args.parts.now c.in_ok-totals.totals (record {
       terms = search rules;
       typed = search rules;
       limited = search rules;

@@ -1,13 +1,12 @@
 use Rattle.std.proofs.Common.{refl}
-use Rattle.pawn_terms.proofs.Reckoning.{days_from_civil, day_count, days_of_years, days_of_months}
-use Rattle.pawn_terms.specs.Calendar.{civil_after}
+use Rattle.pawn_terms.specs.Calendar.{civil_after, days_of_years, days_of_months}
 use Rattle.pawn_debt.specs.Due.{due_after}
 use Rattle.pawn_pledge.proofs.worked.worked_closings.Goals as goal
 
 pub returns-clause-redemptions : goal.returns-clause-redemptions
-unfolding civil_after days_from_civil day_count days_of_years days_of_months due_after
+unfolding civil_after days_of_years days_of_months due_after
 returns-clause-redemptions c = (refl, refl, refl, refl, refl, refl, refl, refl, refl, refl, refl, refl)
 
 pub returns-clause-sales : goal.returns-clause-sales
-unfolding civil_after days_from_civil day_count days_of_years days_of_months due_after
+unfolding civil_after days_of_years days_of_months due_after
 returns-clause-sales c = (refl, refl, refl, refl, refl, refl, refl, refl, refl, refl, refl)

@@ -1,9 +1,8 @@
 use Rattle.std.proofs.Common.{refl}
-use Rattle.pawn_terms.proofs.Reckoning.{days_from_civil, day_count, days_of_years, days_of_months}
-use Rattle.pawn_terms.specs.Calendar.{civil_after}
+use Rattle.pawn_terms.specs.Calendar.{civil_after, days_of_years, days_of_months}
 use Rattle.pawn_debt.specs.Due.{due_after}
 use Rattle.pawn_pledge.proofs.worked.worked_extensions.Goals as goal
 
 pub returns : goal.returns
-unfolding civil_after days_from_civil day_count days_of_years days_of_months due_after
+unfolding civil_after days_of_years days_of_months due_after
 returns c = record { extensions = (refl, refl, refl, refl, refl, refl, refl, refl, refl, refl, refl) }

@@ -1,13 +1,12 @@
 use Rattle.std.proofs.Common.{refl}
-use Rattle.pawn_terms.proofs.Reckoning.{days_from_civil, day_count, days_of_years, days_of_months}
-use Rattle.pawn_terms.specs.Calendar.{civil_after}
+use Rattle.pawn_terms.specs.Calendar.{civil_after, days_of_years, days_of_months}
 use Rattle.pawn_debt.specs.Due.{due_after}
 use Rattle.pawn_pledge.proofs.worked.worked_pledges.Goals as goal
 
 pub returns-clause-starts : goal.returns-clause-starts
-unfolding civil_after days_from_civil day_count days_of_years days_of_months due_after
+unfolding civil_after days_of_years days_of_months due_after
 returns-clause-starts c = (refl, refl, refl, refl)
 
 pub returns-clause-statuses : goal.returns-clause-statuses
-unfolding civil_after days_from_civil day_count days_of_years days_of_months due_after
+unfolding civil_after days_of_years days_of_months due_after
 returns-clause-statuses c = (refl, refl, refl, refl, refl, refl, refl, refl)

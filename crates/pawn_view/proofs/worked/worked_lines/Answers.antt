@@ -1,19 +1,18 @@
 use Rattle.std.proofs.Common.{refl}
 use Rattle.std.specs.Fmt.{digits}
-use Rattle.pawn_terms.proofs.Reckoning.{days_from_civil, day_count, days_of_years, days_of_months}
-use Rattle.pawn_terms.specs.Calendar.{civil_after}
+use Rattle.pawn_terms.specs.Calendar.{civil_after, days_of_years, days_of_months}
 use Rattle.pawn_debt.specs.Due.{due_after}
 use Rattle.pawn_view.specs.Text.{date_text}
 use Rattle.pawn_view.proofs.worked.worked_lines.Goals as goal
 
 pub returns-clause-lines : goal.returns-clause-lines
-unfolding civil_after days_from_civil day_count days_of_years days_of_months due_after date_text digits
+unfolding civil_after days_of_years days_of_months due_after date_text digits
 returns-clause-lines c = (refl, refl, refl, refl, refl)
 
 pub returns-clause-bookings : goal.returns-clause-bookings
-unfolding civil_after days_from_civil day_count days_of_years days_of_months due_after date_text digits
+unfolding civil_after days_of_years days_of_months due_after date_text digits
 returns-clause-bookings c = (refl, refl, refl, refl, refl)
 
 pub returns-clause-closings : goal.returns-clause-closings
-unfolding civil_after days_from_civil day_count days_of_years days_of_months due_after date_text digits
+unfolding civil_after days_of_years days_of_months due_after date_text digits
 returns-clause-closings c = (refl, refl, refl, refl)

@@ -1,0 +1,13 @@
+//! The limits of debts.
+
+/// The largest sum, in pence.
+pub const MOST_PENCE: u64 = 100_000_000;
+
+/// As many entries a debt has at most.
+pub const MOST_ENTRIES: usize = 9_999;
+
+// A penny, in millionths of it.
+pub(crate) const PENNY: u64 = 1_000_000;
+
+/// Charges never come to more than this, in millionths of a penny.
+pub const MOST_MILLIONTHS: u64 = 1_000_000_000_000_000_000;

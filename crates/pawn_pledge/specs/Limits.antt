@@ -1,0 +1,17 @@
+-- The limits of a pledge's record.
+use Rattle.std.specs.Prelude.{ℕ}
+
+-- up to 75 pounds
+abbrev pub small_credit : ℕ
+small_credit = 7500
+
+-- the opening's secret, and as many as may be declared
+abbrev pub most_secrets : ℕ
+most_secrets = 101
+
+abbrev pub most_extensions : ℕ
+most_extensions = 99
+
+-- the last of a day's windows, from 0
+abbrev pub last_window : ℕ
+last_window = 15
