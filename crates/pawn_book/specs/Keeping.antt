@@ -61,10 +61,10 @@ abbrev pub Of : {K : Type 0} → Keeping K → K → K → (Host → Type 0) →
 Of k old new P = k.honest new → (h : Host) → IsSound h → k.stands old h → P h
 
 -- want of rows or of memory
-abbrev pub IsWant : SaveError → Type 0
-IsWant Save.Full = Unit {0}
-IsWant Save.Memory = Unit {0}
-IsWant (Save.Store fault) = ⊥
+abbrev pub IsSteadyError : SaveError → Type 0
+IsSteadyError Save.Full = Unit {0}
+IsSteadyError Save.Memory = Unit {0}
+IsSteadyError (Save.Store fault) = ⊥
 
 -- a change is saved where the rows stay within the limit, and nothing is where it is not; a steady keeper does not save one
 -- for want of rows or of memory alone
@@ -73,7 +73,7 @@ pub record Saves {K T : Type 0} (k : Keeping K) (old new : K) (change : Change) 
   pub ok : OnOk result (Of k old new (λ h. k.stands new (changed h change) × (rows (changed h change) ≤ h.limit)))
   pub full : result ≡ Err Save.Full → Of k old new (λ h. h.limit < rows (changed h change))
   pub err : OnErr result (Of k old new (λ h. k.stands new h))
-  pub never : k.steady old → IfErr result (λ e. IsWant e)
+  pub never : k.steady old → IfErr result (λ e. IsSteadyError e)
 
 abbrev pub terms_of : Option BookValue → List Rates
 terms_of None = []

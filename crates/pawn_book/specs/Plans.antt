@@ -2,7 +2,6 @@
 use Rattle.std.specs.Prelude.{◌≡◌, ◌⊎◌, ℕ, ◌≤◌, ◌<◌, Option, Some, None, Result, Ok, Err, IfSome}
 use Rattle.pawn_pledge.specs.declared.command.Stamp.{Stamp}
 use Rattle.pawn_pledge.specs.declared.record.Booking.{Booking}
-use Rattle.pawn_pledge.specs.Pledge.{PledgeValue}
 use Rattle.pawn_book.specs.declared.request.Caller.{Caller}
 use Rattle.pawn_book.specs.declared.request.Caller.TheVariants.{Operator, Broker, Bearer}
 use Rattle.pawn_book.specs.declared.request.BrokerRequest.{BrokerRequest}
@@ -25,6 +24,10 @@ use Rattle.pawn_book.specs.Changes.{CanSave, book_of, changed}
 abbrev pub IsUnwell : Refusal → Type 0
 IsUnwell why = (why ≡ No.Memory) ⊎ (why ≡ No.Store)
 
+-- the outcome is a refusal, or a keeper did not answer
+abbrev pub IsRefused : Outcome → Refusal → Type 0
+IsRefused outcome why = IsUnwell why ⊎ (outcome ≡ Refuses why)
+
 -- what a plan says of a request's step
 abbrev pub outcome_of : Option Change → Reply → Outcome
 outcome_of None reply = Says (Told reply)
@@ -34,22 +37,17 @@ outcome_of (Some change) reply = Makes change reply
 abbrev pub Plans : Host → ℕ → Outcome → Result Planned Refusal → Type 0
 Plans h b outcome (Ok planned) =
     (outcome ≡ outcome_of planned.change planned.reply) × IfSome planned.change (λ change. (book_of change ≡ b) × CanSave h change)
-Plans h b outcome (Err why) = IsUnwell why ⊎ (outcome ≡ Refuses why)
+Plans h b outcome (Err why) = IsRefused outcome why
 
 -- the answer is the outcome, or a keeper did not answer
 abbrev pub IsOutcome : Outcome → Result Planned Refusal → Type 0
 IsOutcome outcome (Ok planned) = outcome ≡ outcome_of planned.change planned.reply
-IsOutcome outcome (Err why) = IsUnwell why ⊎ (outcome ≡ Refuses why)
+IsOutcome outcome (Err why) = IsRefused outcome why
 
 -- the booking that a plan's change confirms
 abbrev pub newly_confirmed : Option Change → Reply → Option Booking
 newly_confirmed None reply = None
 newly_confirmed (Some change) reply = confirmed_booking reply
-
--- a pledge is taken by the rules, or refused by them, or a keeper did not answer
-abbrev pub IsTaken : Result PledgeValue Refusal → Result PledgeValue Refusal → Type 0
-IsTaken answer (Ok p) = answer ≡ Ok p
-IsTaken answer (Err why) = IsUnwell why ⊎ (answer ≡ Err why)
 
 -- the gate lets the holder of the book's key in, and no one else
 abbrev pub Gates : Option BookValue → ℕ → Result Head Refusal → Type 0
@@ -72,7 +70,7 @@ stepped h operator stamp request = host_after h request.book (host_step h operat
 abbrev pub Acts : Host → ℕ → Stamp → Request → Result Reply Refusal → (Host → Type 0) → Type 0
 Acts h operator stamp request (Ok reply) stands =
     (out_of (host_step h operator stamp request) ≡ Told reply) × stands (stepped h operator stamp request) × IsSound (stepped h operator stamp request)
-Acts h operator stamp request (Err why) stands = stands h × (IsUnwell why ⊎ (host_step h operator stamp request ≡ Refuses why))
+Acts h operator stamp request (Err why) stands = stands h × IsRefused (host_step h operator stamp request) why
 
 -- a request that may change its book
 abbrev pub IsBrokerWrite : BrokerRequest → Type 0

@@ -37,11 +37,11 @@ pub(crate) fn plan_number<K: Keep>(
         Ok(None) => return Err(Refusal::NoSuchPledge),
         Ok(Some(pledge)) => pledge,
     };
-    let planned = match commanded(book, number, pledge, stamp, command) {
+    let planned = match plan_command(book, number, pledge, stamp, command) {
         Err(refusal) => return Err(refusal),
         Ok(planned) => planned,
     };
-    roomed(keep, book, head, planned)
+    find_room(keep, book, head, planned)
 }
 
 // A bearer's command on the pledge of a receipt, if the receipt is live.
@@ -60,12 +60,12 @@ pub(crate) fn plan_receipt<K: Keep>(
     match find_live(keep, book, receipt) {
         Err(error) => Err(unwell(error)),
         Ok(None) => Err(Refusal::NoSuchReceipt),
-        Ok(Some(pledge)) => commanded(book, receipt.number, pledge, stamp, command),
+        Ok(Some(pledge)) => plan_command(book, receipt.number, pledge, stamp, command),
     }
 }
 
 // What comes of a command on a pledge.
-fn commanded(
+fn plan_command(
     book: Number,
     number: Number,
     mut pledge: Pledge,
@@ -107,7 +107,7 @@ fn commanded(
 }
 
 // What was planned, unless it confirms a booking whose window is full.
-fn roomed<K: Keep>(
+fn find_room<K: Keep>(
     keep: &mut K,
     book: Number,
     head: &Head,

@@ -40,15 +40,10 @@ pub fn find_live<K: Keep>(
     ensures reads { Reads K.keeping keep.old keep.new (λ h. IfOk result (λ pledge. pledge ≡ live_at (pledge_in (get h.books book)) receipt.now)) }
     ensures steady { IsSteady K.keeping keep.old result }
 {
-    match keep.pledge(book, receipt.number)? {
-        None => Ok(None),
-        Some(pledge) => {
-            if pledge.is_live(&receipt.secret) {
-                Ok(Some(pledge))
-            } else {
-                Ok(None)
-            }
-        }
+    match keep.pledge(book, receipt.number) {
+        Ok(Some(pledge)) if pledge.is_live(&receipt.secret) => Ok(Some(pledge)),
+        Ok(_) => Ok(None),
+        Err(error) => Err(error),
     }
 }
 

@@ -2,11 +2,12 @@
 ghost use Rattle.std.specs.Prelude.{◌≡◌, Err, IfOk, Some};
 ghost use Rattle.std.specs.FinMap.{get};
 ghost use Rattle.std.specs.Str.{IsUtf8};
+ghost use Rattle.pawn_terms.specs.Refusals.{IsSaid};
 ghost use Rattle.pawn_pledge.specs.Replayable.{IsStanding};
 ghost use Rattle.pawn_book.specs.BookStep.{BookValue, first_receipt, head_of, is_opening, newest, take_pledge, taken_under, with_reference};
 ghost use Rattle.pawn_book.specs.Sound.{IsSound, IsWord};
 ghost use Rattle.pawn_book.specs.Keeping.{IsQuiet, IsSteady, Reads, pledges_of};
-ghost use Rattle.pawn_book.specs.Plans.{IsTaken, Plans};
+ghost use Rattle.pawn_book.specs.Plans.{IsUnwell, Plans};
 
 use crate::change::{Change, Head, Planned};
 use crate::fault::KeepError;
@@ -101,7 +102,7 @@ fn take<K: Keep>(
     stamp: &Stamp,
 ) -> Result<Pledge, Refusal>
     ensures reads { Reads K.keeping keep.old keep.new (λ h. (at : BookValue) → get h.books book ≡ Some at → head.now ≡ head_of at →
-        IsTaken (taken_under head.now opening.now stamp.now (newest at.terms)) result) }
+        IsSaid IsUnwell (taken_under head.now opening.now stamp.now (newest at.terms)) result) }
     ensures standing { IfOk result IsStanding }
     ensures steady { IsQuiet K.keeping keep.old result }
 {
@@ -120,7 +121,7 @@ fn start(
     terms: Terms,
     stamp: &Stamp,
 ) -> Result<Pledge, Refusal>
-    ensures taken { IsTaken (taken_under head.now opening.now stamp.now (Some terms)) result }
+    ensures taken { IsSaid IsUnwell (taken_under head.now opening.now stamp.now (Some terms)) result }
     ensures standing { IfOk result IsStanding }
     ensures store { result ≡ Err Refusal.Store → ⊥ }
 {

@@ -17,7 +17,11 @@ use crate::request::{NewBook, NewTerms};
 use pawn_pledge::{Number, Rates, Terms};
 
 // A book that is to be made, or stands with the same key, name and capacity.
-pub(crate) fn plan_book<K: Keep>(keep: &mut K, book: Number, new_book: &NewBook) -> Result<Planned, Refusal>
+pub(crate) fn plan_book<K: Keep>(
+    keep: &mut K,
+    book: Number,
+    new_book: &NewBook,
+) -> Result<Planned, Refusal>
     ensures reads { Reads K.keeping keep.old keep.new (λ h. IsSound h → Plans h book (created (get h.books book) book new_book.now) result) }
     ensures steady { IsQuiet K.keeping keep.old result }
 {

@@ -142,9 +142,11 @@ fn asked_by(alloc: Global, ask: Ask) -> Result<Caller, Fail> {
             keep_after,
         } => BrokerRequest::PutTerms(NewTerms {
             version,
-            rate,
-            keep_before,
-            keep_after,
+            rates: Rates {
+                rate,
+                keep_before,
+                keep_after,
+            },
         }),
         Ask::Take { reference, pence } => {
             BrokerRequest::TakePledge(opening(alloc, reference, pence)?)
@@ -329,7 +331,7 @@ fn the_row_limit_comes_last(rt: HostRuntime) -> Result<(), Fail> {
 fn is_live(keep: &mut ListKeep, book: u64, receipt: Receipt) -> Result<bool, Fail> {
     let book = number(book)?;
     match find_live(keep, book, &receipt) {
-        Ok(Some(live)) => Ok(live.reference().as_str() == "A1"),
+        Ok(Some(live)) => Ok(live.agreement().opening.reference.as_str() == "A1"),
         _ => Ok(false),
     }
 }

@@ -2,9 +2,10 @@
 use super::{KEY, OPERATOR, Step, ample, number, plays, receipt, rows_of_first, take};
 use crate::tests::{make, put};
 use crate::{
-    BearerCommand, BearerRequest, Booking, BookingState, BrokerCommand, BrokerRequest, Caller, Day,
-    Decision, Done, Entry, Flow, Keep, ListKeep, Number, Paper, Pledge, PledgeRefusal, Receipt,
-    Refusal, Reply, Request, RequestDay, Secret, Sort, Stamp, Visitor, act, commit, plan,
+    BearerCommand, BearerRequest, Booking, BookingState, BrokerCommand, BrokerRequest, Caller,
+    Command, Day, Decision, Done, Entry, Flow, Keep, ListKeep, Number, Paper, Pledge,
+    PledgeRefusal, Receipt, Refusal, Reply, Request, RequestDay, Secret, Sort, Stamp, Visitor, act,
+    commit, plan,
 };
 use pawn_debt::DebtFault;
 use std::alloc::Global;
@@ -13,9 +14,9 @@ use std::test::Fail;
 // Who commands a pledge.
 #[derive(Clone, Copy)]
 enum Who {
-    Broker(BrokerCommand),
+    Broker(Command),
     // By a receipt of this word.
-    Bearer(u128, BearerCommand),
+    Bearer(u128, Command),
 }
 
 // A command on a pledge of book 7, on a day and with a word, and what it is to answer.
@@ -38,7 +39,7 @@ fn told(number: Number, answer: Result<Done, Refusal>) -> Result<Reply, Refusal>
 fn broker(
     day: &'static str,
     pledge: Number,
-    command: BrokerCommand,
+    command: Command,
     answer: Result<Done, Refusal>,
 ) -> Order {
     Order {
@@ -54,7 +55,7 @@ fn bearer(
     day: &'static str,
     pledge: Number,
     word: u128,
-    command: BearerCommand,
+    command: Command,
     answer: Result<Done, Refusal>,
 ) -> Order {
     Order {
@@ -75,14 +76,17 @@ fn request_of(order: &Order) -> Result<Request, Fail> {
     let caller = match order.who {
         Who::Broker(command) => Caller::Broker {
             key: Secret::of_word(KEY),
-            asked: BrokerRequest::OnPledge { number, command },
+            asked: BrokerRequest::OnPledge {
+                number,
+                command: BrokerCommand::new(command).ok_or("no broker's command")?,
+            },
         },
         Who::Bearer(word, command) => Caller::Bearer(BearerRequest::OnPledge {
             receipt: Receipt {
                 number,
                 secret: Secret::of_word(word),
             },
-            command,
+            command: BearerCommand::new(command).ok_or("no bearer's command")?,
         }),
     };
     Ok(Request {
@@ -136,7 +140,7 @@ fn booked(day: Day, window: u64, state: BookingState) -> Result<Done, Refusal> {
 }
 
 fn asks(pledge: Number, word: u128, wanted: RequestDay, window: u64) -> Order {
-    let command = BearerCommand::AskBooking {
+    let command = Command::AskBooking {
         day: wanted,
         window,
     };
@@ -144,7 +148,7 @@ fn asks(pledge: Number, word: u128, wanted: RequestDay, window: u64) -> Order {
     bearer("2024-02-01", pledge, word, command, answer)
 }
 
-const CONFIRM: BrokerCommand = BrokerCommand::DecideBooking(Decision::Confirm);
+const CONFIRM: Command = Command::DecideBooking(Decision::Confirm);
 
 fn windows_fill(alloc: Global, mut keep: ListKeep) -> Result<bool, Fail> {
     let (one, two) = (number(1)?, number(2)?);
@@ -152,7 +156,7 @@ fn windows_fill(alloc: Global, mut keep: ListKeep) -> Result<bool, Fail> {
     let (wanted, other) = (day("2024-03-04")?, day("2024-03-05")?);
     let confirmed = booked(wanted.day(), 3, BookingState::Confirmed);
     let elsewhere = booked(other.day(), 3, BookingState::Confirmed);
-    let redeem = BearerCommand::Redeem { paid: 10_000 };
+    let redeem = Command::Redeem { paid: 10_000 };
     let redeemed = Ok(Done::Redeemed {
         day: day("2024-02-03")?.day(),
         paid: 10_000,
@@ -189,9 +193,9 @@ fn receipts_pass_on(alloc: Global, mut keep: ListKeep) -> Result<bool, Fail> {
     let (one, two) = (number(1)?, number(2)?);
     let unknown = Err(Refusal::NoSuchReceipt);
     let late = Err(Refusal::Pledge(PledgeRefusal::Debt(DebtFault::EarlierDay)));
-    let declare = BrokerCommand::Declare(Paper::Sworn);
+    let declare = Command::Declare(Paper::Sworn);
     let declared = Ok(Done::Declared(Secret::of_word(900)));
-    let repay = BearerCommand::Repay {
+    let repay = Command::Repay {
         seq: 1,
         pence: 1000,
     };
@@ -199,21 +203,16 @@ fn receipts_pass_on(alloc: Global, mut keep: ListKeep) -> Result<bool, Fail> {
         broker(
             "2024-02-01",
             number(3)?,
-            BrokerCommand::Hold,
+            Command::Hold,
             Err(Refusal::NoSuchPledge),
         ),
         broker("2024-02-02", one, declare, declared),
         bearer("2024-01-31", one, 33, repay, unknown),
         bearer("2024-02-02", two, 33, repay, unknown),
         bearer("2024-01-31", one, 900, repay, late),
-        broker("2024-02-02", one, BrokerCommand::Hold, Ok(Done::Held(true))),
-        broker("2024-02-03", one, BrokerCommand::Hold, Ok(Done::Held(true))),
-        broker(
-            "2024-02-02",
-            one,
-            BrokerCommand::Release,
-            Ok(Done::Held(false)),
-        ),
+        broker("2024-02-02", one, Command::Hold, Ok(Done::Held(true))),
+        broker("2024-02-03", one, Command::Hold, Ok(Done::Held(true))),
+        broker("2024-02-02", one, Command::Release, Ok(Done::Held(false))),
     ];
     Ok(opens_two(alloc, &mut keep)? && obeys_all(alloc, &mut keep, &orders)?)
 }
@@ -240,19 +239,18 @@ fn repeats_pass_on(alloc: Global, mut keep: ListKeep) -> Result<bool, Fail> {
     let taken = Err(Refusal::Pledge(PledgeRefusal::SeqTaken));
     let first = repaid(1, 1000, "2024-02-01")?;
     let second = repaid(2, 500, "2024-02-03")?;
-    let declare = BrokerCommand::Declare(Paper::Sworn);
+    let declare = Command::Declare(Paper::Sworn);
     let declared = Ok(Done::Declared(Secret::of_word(900)));
-    let by_bearer = |seq: u64, pence: u64| BearerCommand::Repay { seq, pence };
-    let by_broker = |seq: u64, pence: u64| BrokerCommand::Repay { seq, pence };
+    let repay = |seq: u64, pence: u64| Command::Repay { seq, pence };
     let orders = [
-        bearer("2024-02-01", one, 33, by_bearer(1, 1000), first),
-        broker("2024-01-31", one, by_broker(1, 1000), first),
-        broker("2024-02-01", one, by_broker(1, 1001), taken),
+        bearer("2024-02-01", one, 33, repay(1, 1000), first),
+        broker("2024-01-31", one, repay(1, 1000), first),
+        broker("2024-02-01", one, repay(1, 1001), taken),
         broker("2024-02-02", one, declare, declared),
-        bearer("2024-02-03", one, 33, by_bearer(1, 1000), unknown),
-        bearer("2024-02-03", one, 900, by_bearer(1, 1000), first),
-        broker("2024-02-03", one, by_broker(2, 500), second),
-        bearer("2024-02-04", one, 900, by_bearer(2, 500), second),
+        bearer("2024-02-03", one, 33, repay(1, 1000), unknown),
+        bearer("2024-02-03", one, 900, repay(1, 1000), first),
+        broker("2024-02-03", one, repay(2, 500), second),
+        bearer("2024-02-04", one, 900, repay(2, 500), second),
     ];
     Ok(
         opens_two(alloc, &mut keep)?
@@ -270,7 +268,7 @@ fn a_repeat_is_told_to_whoever_passes(rt: HostRuntime) -> Result<(), Fail> {
 fn ends_stand(alloc: Global, mut keep: ListKeep) -> Result<bool, Fail> {
     let one = number(1)?;
     let until = day("2024-08-31")?;
-    let extend = BrokerCommand::Extend { until };
+    let extend = Command::Extend { until };
     let extended = Ok(Done::Extended { until: until.day() });
     let late = Err(Refusal::Pledge(PledgeRefusal::Debt(DebtFault::EarlierDay)));
     let orders = [
@@ -297,14 +295,8 @@ fn numbers_reach_far(alloc: Global, mut keep: ListKeep) -> Result<bool, Fail> {
     let unknown = Err(Refusal::NoSuchReceipt);
     let none = Err(Refusal::NoSuchPledge);
     let orders = [
-        broker("2024-02-01", greatest, BrokerCommand::Hold, none),
-        bearer(
-            "2024-02-01",
-            greatest,
-            33,
-            BearerCommand::CancelBooking,
-            unknown,
-        ),
+        broker("2024-02-01", greatest, Command::Hold, none),
+        bearer("2024-02-01", greatest, 33, Command::CancelBooking, unknown),
     ];
     Ok(opens_two(alloc, &mut keep)? && obeys_all(alloc, &mut keep, &orders)?)
 }
@@ -317,7 +309,7 @@ fn the_greatest_number_is_no_pledges(rt: HostRuntime) -> Result<(), Fail> {
 
 // Holds pledge 1.
 fn hold(one: Number) -> Order {
-    broker("2024-02-01", one, BrokerCommand::Hold, Ok(Done::Held(true)))
+    broker("2024-02-01", one, Command::Hold, Ok(Done::Held(true)))
 }
 
 // Whether the plan of an order changes something.
@@ -336,16 +328,16 @@ fn changes(alloc: Global, keep: &mut ListKeep, order: &Order) -> Result<bool, Fa
 fn rows_run_out(alloc: Global, mut keep: ListKeep) -> Result<bool, Fail> {
     let (one, two) = (number(1)?, number(2)?);
     let full = Err(Refusal::Full);
-    let repay = BearerCommand::Repay {
+    let repay = Command::Repay {
         seq: 1,
         pence: 1000,
     };
-    let ask = BearerCommand::AskBooking {
+    let ask = Command::AskBooking {
         day: day("2024-03-04")?,
         window: 3,
     };
-    let declare = BrokerCommand::Declare(Paper::Sworn);
-    let redeem = BearerCommand::Redeem { paid: 10_000 };
+    let declare = Command::Declare(Paper::Sworn);
+    let redeem = Command::Redeem { paid: 10_000 };
     let redeemed = Ok(Done::Redeemed {
         day: day("2024-02-01")?.day(),
         paid: 10_000,
@@ -391,7 +383,7 @@ fn commits<K: Keep>(
 
 fn plans_are_made(alloc: Global, mut keep: ListKeep) -> Result<bool, Fail> {
     let (one, two) = (number(1)?, number(2)?);
-    let repay = BearerCommand::Repay {
+    let repay = Command::Repay {
         seq: 1,
         pence: 1000,
     };
@@ -430,7 +422,7 @@ impl Visitor<Pledge> for Sum {
     ghost step = { λ v p flow w. ⊤ };
 
     fn visit(&mut self, pledge: &Pledge) -> Flow {
-        self.total = self.total.saturating_add(pledge.number().get());
+        self.total = self.total.saturating_add(pledge.agreement().number.get());
         self.left = self.left.saturating_sub(1);
         if self.left == 0 {
             return Flow::Stop;
