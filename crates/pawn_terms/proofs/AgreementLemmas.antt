@@ -5,8 +5,8 @@ use Rattle.jiff_core.specs.declared.civil.date.Date.{Date}
 use Rattle.jiff_core.specs.Date.{epoch_day}
 use Rattle.jiff_core.proofs.SignedLemmas.{signed_arith}
 use Rattle.jiff_core.proofs.CalendarLemmas.{days_from_civil-day_count, day_count-day, day_count-next_month, day_count-next_year}
-use Rattle.pawn_terms.specs.Calendar.{Civil, day_number, days_of_years, days_of_months, month_length, AgreesWithLibrary}
-use Rattle.pawn_terms.proofs.CalendarLemmas.{count_of-first}
+use Rattle.pawn_terms.specs.Calendar.{Civil, IsDayNumber, civil_of, day_number, days_of_years, days_of_months, month_length, AgreesWithLibrary}
+use Rattle.pawn_terms.proofs.CalendarLemmas.{count_of-first, civil_of-year, page_date}
 
 -- the first day of a year
 year_begins : (n : ℕ) → day_count (pos (2000 + n)) 1 1 ≡ 4_382_910 + days_of_years n
@@ -39,6 +39,13 @@ number_of-date d y m n e f g low =
     ∙ ap (λ (k : ℕ). days_from_civil (pos y) k d.day) f
     ∙ ap (λ (k : ℕ). days_from_civil (pos y) m k) g
     ∙ counts_alike (record { year = y; month = m; day = n }) low (omega (arith, f, d.month_in)) (omega (arith, g, d.day_in))
+
+-- a day is numbered by its page
+pub day_number-of : (n : ℕ) → IsDayNumber n → day_number (civil_of n) ≡ n
+day_number-of n h =
+    let p = page_date n h in
+    let c = civil_of n in
+    omega (arith, signed_arith, p.4, number_of-date p.0 c.year c.month c.day p.1 p.2 p.3 (civil_of-year n h).0)
 
 pub agrees : AgreesWithLibrary
 agrees = ((λ y m. refl), counts_alike)

@@ -10,11 +10,10 @@ use Rattle.std.proofs.lemmas.Grind.{common_steps}
 use Rattle.std.proofs.lemmas.Int.Digits.{digits_value-lt}
 use Rattle.std.proofs.lemmas.Str.{digit_value_digit}
 use Rattle.std.proofs.lemmas.Str.Parse.{IsNumeralModel, digit_from_value}
-use Rattle.jiff_core.specs.Calendar.{days_from_civil}
 use Rattle.std.proofs.lemmas.Slice.Eq.{bytes_eq-Decides}
 use Rattle.std.proofs.lemmas.Fmt.{decimal_digit, decimal_is_IsNumeral, decimal-digits_value, length-decimal-le, first_decimal}
 use Rattle.pawn_terms.specs.Calendar.{Civil, first_day, last_stamp_day, IsStampDay, IsWritable, digit, civil_of, civil_text, day_number, day_text}
-use Rattle.pawn_terms.proofs.CalendarLemmas.{page_date}
+use Rattle.pawn_terms.proofs.AgreementLemmas.{day_number-of}
 use Rattle.pawn_terms.proofs.TextLemmas.{civil_of-stamp}
 use Rattle.pawn_pledge.specs.Number.{IsNumber}
 use Rattle.pawn_wire.specs.Named.{is_numeral, number_said, civil_said, is_text_of_day, day_said}
@@ -159,12 +158,6 @@ civil_said-of c w =
     two_said c.day _ _ w.2 (digit_said (c.day / 10)) (digit_said c.day) in
     λ i. record { year = year i; month = month i; day = day i }
 
--- a day is numbered by its page
-day_number-of : (day : ℕ) → IsStampDay day → day_number (civil_of day) ≡ day
-day_number-of day stamp =
-    let page = page_date day (stamp.0, omega (arith, stamp.1)) in
-    (λ i. unsigned_abs (days_from_civil (sym page.1 i) (sym page.2 i) (sym page.3 i))) ∙ ap unsigned_abs page.4
-
 pub day_said-some : (day : ℕ) (text : List ℕ) → IsStampDay day → text ≡ day_text day → day_said text ≡ Some day
 unfolding day_said
 day_said-some day text stamp e = rw number (rw (is_text_of_day-of text day stamp e) refl)
@@ -173,7 +166,7 @@ day_said-some day text stamp e = rw number (rw (is_text_of_day-of text day stamp
     number =
         ap (λ (t : List ℕ). day_number (civil_said t)) e
         ∙ ap day_number (civil_said-of (civil_of day) (civil_of-stamp day stamp).1)
-        ∙ day_number-of day stamp
+        ∙ day_number-of day (stamp.0, omega (arith, stamp.1))
 
 pub day_said-is : (day : ℕ) (text : List ℕ) → day_said text ≡ Some day → IsStampDay day × (text ≡ day_text day)
 unfolding day_said

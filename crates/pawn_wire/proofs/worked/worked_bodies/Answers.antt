@@ -2,15 +2,14 @@ use Rattle.std.proofs.Common.{refl}
 use Rattle.std.specs.Str.{is_utf8, chars}
 use Rattle.serde_json.proofs.OnLiterals.{serde_json_on_literals}
 use Rattle.uuid.proofs.OnLiterals.{uuid_on_literals}
-use Rattle.jiff_core.specs.Calendar.{days_from_civil, day_count, days_of_years, days_of_months}
-use Rattle.pawn_terms.specs.Calendar.{civil_after}
+use Rattle.pawn_terms.specs.Calendar.{civil_after, days_of_years, days_of_months}
 use Rattle.pawn_wire.specs.Named.{day_said}
 use Rattle.pawn_wire.proofs.worked.worked_bodies.Goals as goal
 
 pub returns-clause-bodies : goal.returns-clause-bodies
-unfolding uuid_on_literals is_utf8 chars serde_json_on_literals day_said civil_after days_from_civil day_count days_of_years days_of_months
+unfolding uuid_on_literals is_utf8 chars serde_json_on_literals day_said civil_after days_of_years days_of_months
 returns-clause-bodies c = (refl, refl, refl, refl, refl, refl, refl, refl, refl)
 
 pub returns-clause-commands : goal.returns-clause-commands
-unfolding is_utf8 chars serde_json_on_literals day_said civil_after days_from_civil day_count days_of_years days_of_months
+unfolding is_utf8 chars serde_json_on_literals day_said civil_after days_of_years days_of_months
 returns-clause-commands c = (refl, refl, refl, refl, refl, refl, refl, refl, refl, refl, refl)

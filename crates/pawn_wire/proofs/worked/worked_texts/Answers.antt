@@ -1,6 +1,5 @@
 use Rattle.std.proofs.Common.{refl}
-use Rattle.jiff_core.specs.Calendar.{days_from_civil, day_count, days_of_years, days_of_months}
-use Rattle.pawn_terms.specs.Calendar.{civil_after}
+use Rattle.pawn_terms.specs.Calendar.{civil_after, days_of_years, days_of_months}
 use Rattle.pawn_wire.specs.Named.{number_said, day_said}
 use Rattle.pawn_wire.proofs.worked.worked_texts.Goals as goal
 
@@ -9,5 +8,5 @@ unfolding number_said
 returns-clause-numbers c = (refl, refl, refl, refl, refl, refl, refl, refl, refl)
 
 pub returns-clause-days : goal.returns-clause-days
-unfolding day_said civil_after days_from_civil day_count days_of_years days_of_months
+unfolding day_said civil_after days_of_years days_of_months
 returns-clause-days c = (refl, refl, refl, refl, refl, refl, refl, refl, refl, refl, refl)
