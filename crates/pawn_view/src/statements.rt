@@ -16,9 +16,7 @@ use crate::lines::{
     put_owed, put_status, put_text,
 };
 use crate::writing::Writing;
-use pawn_book::{
-    Brief, Closing, Day, Entry, Extension, Flow, Keep, KeepError, Number, Visitor,
-};
+use pawn_book::{Brief, Closing, Day, Entry, Extension, Flow, Keep, KeepError, Number, Visitor};
 use std::io::Write;
 
 impl<W: Write> Visitor<Entry> for Writing<W> {
