@@ -1,4 +1,14 @@
 //! The service: requests as bytes to replies as bytes, one by one, as a list or from a stream.
+//!
+//! ```
+//! let keep = ListKeep::new(rt.alloc(), 5_000_000);
+//! let mut service = Service::new(rt.alloc(), keep, operator)?;
+//! let asked = b"GET /books/7/held HTTP/1.1\r\n\r\n";
+//! match service.answer_one(&Stamp { day, word }, asked) {
+//!     Answer::Bytes(reply) => stdout.write_all(reply.as_slice())?, // 712 NoReceipt
+//!     Answer::Memory => stdout.write_all(MEMORY_REPLY)?,
+//! }
+//! ```
 #![tactic(auto)]
 
 mod laws;

@@ -14,7 +14,7 @@ use Rattle.pawn_pledge.specs.declared.record.Opening.{Opening}
 use Rattle.pawn_pledge.specs.declared.receipt.Receipt.{Receipt}
 use Rattle.pawn_terms.specs.Refusals.{first_of}
 use Rattle.pawn_pledge.specs.declared.command.Command.{Command}
-use Rattle.pawn_book.specs.Commands.{broker_command, bearer_command}
+use Rattle.pawn_pledge.specs.Commands.{is_brokers, is_bearers}
 use Rattle.pawn_book.specs.Limits.{IsCapacity, AreFew}
 use Rattle.pawn_book.specs.declared.request.NewBook.{NewBook}
 use Rattle.pawn_book.specs.declared.request.Request.{Request}
@@ -22,10 +22,6 @@ use Rattle.pawn_book.specs.declared.request.Caller.{Caller}
 use Rattle.pawn_book.specs.declared.request.Caller.TheVariants.{Operator, Broker, Bearer}
 use Rattle.pawn_book.specs.declared.request.BrokerRequest.TheVariants as broker
 use Rattle.pawn_book.specs.declared.request.BearerRequest.TheVariants as bearer
-use Rattle.pawn_book.specs.declared.request.BrokerCommand.{BrokerCommand}
-use Rattle.pawn_book.specs.declared.request.BrokerCommand.TheVariants as b
-use Rattle.pawn_book.specs.declared.request.BearerCommand.{BearerCommand}
-use Rattle.pawn_book.specs.declared.request.BearerCommand.TheVariants as r
 use Rattle.pawn_wire.specs.Body.{new_book_of, new_terms_of, opening_of, kind_of, day_or_null, day_if_any, optional_day_at}
 use Rattle.pawn_wire.specs.Chain.{after, given, or_fault}
 use Rattle.pawn_wire.specs.Commands.{entry_of, paper_of, decision_of, booking_of, command_said}
@@ -36,9 +32,8 @@ use Rattle.pawn_wire.specs.Limits.{max_number, most_receipts}
 use Rattle.pawn_wire.specs.Member.{json_of, in_range, number_at, string_at, flag_at, if_text, text_at, key_at, day_at, body_said}
 use Rattle.pawn_wire.specs.Named.{number_said, day_said}
 use Rattle.pawn_wire.specs.Receipts.{is_hyphen, receipt_said, all_said, presented, receipt_faults, receipts_said, one_said}
-use Rattle.pawn_wire.specs.Request.{framing_faults, place_of, place_asked, item_said, is_ascii_text, keyed, caller_said, request_by, Reads}
+use Rattle.pawn_wire.specs.Request.{framing_faults, place_of, place_asked, item_said, is_ascii_text, keyed, if_sent_by, caller_said, request_by, Reads}
 use Rattle.pawn_wire.specs.Route.{AskedFor, asked_of, method_of}
-use Rattle.pawn_wire.specs.Senders.{of_broker, of_bearer}
 use Rattle.pawn_wire.specs.declared.commands.NewEntry.{NewEntry}
 use Rattle.pawn_wire.specs.declared.fault.WireFault.{WireFault}
 use Rattle.pawn_wire.specs.declared.fault.WireFault.TheVariants.{NoRoute, WrongMethod, BadBody, BadReceipt, TooManyReceipts, NoReceipt}
@@ -221,31 +216,12 @@ one_within values receipt e =
 
 -- ---- requests
 
-of_broker_is : (command : Command) (sent : BrokerCommand) → of_broker command ≡ Some sent → command ≡ broker_command sent
-of_broker_is (Command.Draw seq pence) sent e = (let same : ◌≡◌ {A = BrokerCommand} (b.Draw seq pence) sent = cc in ap broker_command same)
-of_broker_is (Command.Repay seq pence) sent e = (let same : ◌≡◌ {A = BrokerCommand} (b.Repay seq pence) sent = cc in ap broker_command same)
-of_broker_is Command.Hold sent e = (let same : ◌≡◌ {A = BrokerCommand} b.Hold sent = cc in ap broker_command same)
-of_broker_is Command.Release sent e = (let same : ◌≡◌ {A = BrokerCommand} b.Release sent = cc in ap broker_command same)
-of_broker_is (Command.Declare paper) sent e = (let same : ◌≡◌ {A = BrokerCommand} (b.Declare paper) sent = cc in ap broker_command same)
-of_broker_is (Command.AskBooking day window) sent e = absurd cc
-of_broker_is Command.CancelBooking sent e = absurd cc
-of_broker_is (Command.DecideBooking decision) sent e = (let same : ◌≡◌ {A = BrokerCommand} (b.DecideBooking decision) sent = cc in ap broker_command same)
-of_broker_is (Command.Redeem paid) sent e = absurd cc
-of_broker_is (Command.Sell net) sent e = (let same : ◌≡◌ {A = BrokerCommand} (b.Sell net) sent = cc in ap broker_command same)
-of_broker_is (Command.Extend until) sent e = (let same : ◌≡◌ {A = BrokerCommand} (b.Extend until) sent = cc in ap broker_command same)
-
-of_bearer_is : (command : Command) (sent : BearerCommand) → of_bearer command ≡ Some sent → command ≡ bearer_command sent
-of_bearer_is (Command.Draw seq pence) sent e = absurd cc
-of_bearer_is (Command.Repay seq pence) sent e = (let same : ◌≡◌ {A = BearerCommand} (r.Repay seq pence) sent = cc in ap bearer_command same)
-of_bearer_is Command.Hold sent e = absurd cc
-of_bearer_is Command.Release sent e = absurd cc
-of_bearer_is (Command.Declare paper) sent e = absurd cc
-of_bearer_is (Command.AskBooking day window) sent e = (let same : ◌≡◌ {A = BearerCommand} (r.AskBooking day window) sent = cc in ap bearer_command same)
-of_bearer_is Command.CancelBooking sent e = (let same : ◌≡◌ {A = BearerCommand} r.CancelBooking sent = cc in ap bearer_command same)
-of_bearer_is (Command.DecideBooking decision) sent e = absurd cc
-of_bearer_is (Command.Redeem paid) sent e = (let same : ◌≡◌ {A = BearerCommand} (r.Redeem paid) sent = cc in ap bearer_command same)
-of_bearer_is (Command.Sell net) sent e = absurd cc
-of_bearer_is (Command.Extend until) sent e = absurd cc
+sent_is : (may : Command → Bool) (command sent : Command) → if_sent_by may command ≡ Some sent → command ≡ sent
+sent_is may command sent e = by_test (may command) e
+  where
+    by_test : (b : Bool) → (if b then Some command else None) ≡ Some sent → command ≡ sent
+    by_test true same = cc
+    by_test false same = absurd cc
 
 caller_within : (endpoint : Endpoint) (item : Option ℕ) (fields : List Pair) (body : List ℕ) (caller : Caller) → IfSome item IsNumber
     → caller_said endpoint item fields body ≡ Ok caller → IsCallerWithin caller
@@ -267,20 +243,20 @@ caller_within Show item fields body caller numbered e =
 caller_within (OnPledge action) item fields body caller numbered e =
     let key = after_ok (keyed fields) _ caller e in
     let number = given_some item _ caller (or_fault_ok BadBody _ caller key.2) in
-    mapped IsCallerWithin (λ command. Broker key.0 (broker.OnPledge number.0 command)) (given (command_said action body) of_broker) caller number.2
+    mapped IsCallerWithin (λ command. Broker key.0 (broker.OnPledge number.0 command)) (given (command_said action body) (if_sent_by is_brokers)) caller number.2
     (λ command is.
-    let said = given_some (command_said action body) of_broker command is in
-    (subst (λ (o : Option ℕ). IfSome o IsNumber) number.1 numbered, subst IsCommandWithin (of_broker_is said.0 command said.2) (command_within action body said.0 said.1)))
+    let said = given_some (command_said action body) (if_sent_by is_brokers) command is in
+    (subst (λ (o : Option ℕ). IfSome o IsNumber) number.1 numbered, subst IsCommandWithin (sent_is is_brokers said.0 command said.2) (command_within action body said.0 said.1)))
 caller_within Held item fields body caller numbered e =
     let receipts = after_ok (receipts_said (presented fields)) _ caller e in
     let same : Bearer (bearer.Held receipts.0) ≡ caller = cc (receipts.2) in
     subst IsCallerWithin same (few_within (presented fields) receipts.0 receipts.1)
 caller_within (OnReceipt action) item fields body caller numbered e =
     let receipt = after_ok (one_said (presented fields)) _ caller e in
-    mapped IsCallerWithin (λ command. Bearer (bearer.OnPledge receipt.0 command)) (given (command_said action body) of_bearer) caller (or_fault_ok BadBody _ caller receipt.2)
+    mapped IsCallerWithin (λ command. Bearer (bearer.OnPledge receipt.0 command)) (given (command_said action body) (if_sent_by is_bearers)) caller (or_fault_ok BadBody _ caller receipt.2)
     (λ command is.
-    let said = given_some (command_said action body) of_bearer command is in
-    (one_within (presented fields) receipt.0 receipt.1, subst IsCommandWithin (of_bearer_is said.0 command said.2) (command_within action body said.0 said.1)))
+    let said = given_some (command_said action body) (if_sent_by is_bearers) command is in
+    (one_within (presented fields) receipt.0 receipt.1, subst IsCommandWithin (sent_is is_bearers said.0 command said.2) (command_within action body said.0 said.1)))
 
 -- a place names numbers
 abbrev IsPlaceWithin : Place → Type 0

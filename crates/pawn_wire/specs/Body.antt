@@ -26,7 +26,7 @@ new_terms_of d =
     (λ keep_after. given (number_at (codes "keep_before") d)
     (λ keep_before. given (number_at (codes "rate") d)
     (λ rate. given (number_at (codes "version") d)
-    (λ version. Some (record { version = version; rate = rate; keep_before = keep_before; keep_after = keep_after })))))
+    (λ version. Some (record { version = version; rates = record { rate = rate; keep_before = keep_before; keep_after = keep_after } })))))
 
 -- a fixed sum or a running account, with its sum or its limit
 abbrev pub kind_named : List ℕ → ℕ → Option Kind

@@ -1,5 +1,6 @@
 -- Steps one after the other, each of which may end in a fault.
 use Rattle.std.specs.Prelude.{◌≡◌, ◌⊎◌, Option, Some, None, Result, Ok, Err, MatchResult}
+use Rattle.pawn_terms.specs.Refusals.{IsSaid}
 use Rattle.pawn_wire.specs.declared.fault.WireFault.{WireFault}
 use Rattle.pawn_wire.specs.declared.fault.WireFault.TheVariants.{Memory}
 
@@ -20,7 +21,7 @@ or_fault fault (Some a) = Ok a
 
 -- the answer is what is said, or memory was wanting
 abbrev pub Says : {A : Type 0} → Result A WireFault → Result A WireFault → Type 0
-Says answer said = MatchResult answer (λ a. said ≡ Ok a) (λ fault. (fault ≡ Memory) ⊎ (said ≡ Err fault))
+Says answer said = IsSaid (λ fault. fault ≡ Memory) said answer
 
 -- the answer is the part, or this fault where it is missing, or memory was wanting
 abbrev pub Gives : {A : Type 0} → WireFault → Result A WireFault → Option A → Type 0

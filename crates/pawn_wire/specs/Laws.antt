@@ -10,7 +10,6 @@ use Rattle.pawn_pledge.specs.declared.command.Command.{Command}
 use Rattle.pawn_pledge.specs.declared.record.Booking.{Booking}
 use Rattle.pawn_pledge.specs.Text.{IsText}
 use Rattle.pawn_pledge.specs.Replayable.{IsOpening, Each}
-use Rattle.pawn_book.specs.Commands.{broker_command, bearer_command}
 use Rattle.pawn_book.specs.Limits.{IsCapacity, AreFew}
 use Rattle.pawn_book.specs.declared.request.Request.{Request}
 use Rattle.pawn_book.specs.declared.request.Caller.{Caller}
@@ -105,10 +104,10 @@ abbrev pub IsCallerWithin : Caller → Type 0
 IsCallerWithin (Operator key new_book) = IsText 60 new_book.name × IsCapacity new_book.capacity
 IsCallerWithin (Broker key (PutTerms terms)) = Unit {0}
 IsCallerWithin (Broker key (TakePledge opening)) = IsOpening opening
-IsCallerWithin (Broker key (broker.OnPledge n command)) = IsNumber n × IsCommandWithin (broker_command command)
+IsCallerWithin (Broker key (broker.OnPledge n command)) = IsNumber n × IsCommandWithin command
 IsCallerWithin (Broker key (Show n)) = IsNumber n
 IsCallerWithin (Bearer (Held receipts)) = AreFew receipts
-IsCallerWithin (Bearer (bearer.OnPledge receipt command)) = IsNumber receipt.number × IsCommandWithin (bearer_command command)
+IsCallerWithin (Bearer (bearer.OnPledge receipt command)) = IsNumber receipt.number × IsCommandWithin command
 
 -- a request that bytes say is of a book's number, and within the limits of its parts
 abbrev pub RequestsAreWithin : Type 0

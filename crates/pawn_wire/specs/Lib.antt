@@ -16,7 +16,6 @@ pub mod Receipts
 pub mod Reply
 pub mod Request
 pub mod Route
-pub mod Senders
 pub mod Status
 pub mod WorkedHeads
 pub mod WorkedReplies

@@ -3,7 +3,9 @@ use Rattle.std.specs.Prelude.{◌≡◌, ℕ, ◌⊎◌, ◌==◌, nat_lt, Bool,
 use Rattle.std.specs.List.{list_all}
 use Rattle.httparse.specs.Grammar.{RequestHead}
 use Rattle.pawn_terms.specs.Refusals.{first_of}
+use Rattle.pawn_pledge.specs.Commands.{is_brokers, is_bearers}
 use Rattle.pawn_pledge.specs.Secret.{secret_of_text}
+use Rattle.pawn_pledge.specs.declared.command.Command.{Command}
 use Rattle.pawn_book.specs.declared.request.Request.{Request}
 use Rattle.pawn_book.specs.declared.request.Caller.{Caller}
 use Rattle.pawn_book.specs.declared.request.Caller.TheVariants.{Operator, Broker, Bearer}
@@ -19,7 +21,6 @@ use Rattle.pawn_wire.specs.Member.{body_said}
 use Rattle.pawn_wire.specs.Named.{number_said}
 use Rattle.pawn_wire.specs.Receipts.{presented, receipts_said, one_said}
 use Rattle.pawn_wire.specs.Route.{AskedFor, asked_of, method_of}
-use Rattle.pawn_wire.specs.Senders.{of_broker, of_bearer}
 use Rattle.pawn_wire.specs.declared.fault.HeadFault.{HeadFault}
 use Rattle.pawn_wire.specs.declared.fault.WireFault.{WireFault}
 use Rattle.pawn_wire.specs.declared.fault.WireFault.TheVariants.{BadHead, BadLength, NoRoute, WrongMethod, BadBody, BadKey, Memory}
@@ -62,6 +63,10 @@ key_said (value ∷ other ∷ values) = None
 abbrev pub keyed : List Pair → Result ℕ WireFault
 keyed fields = or_fault BadKey (key_said (values_of (codes "pledge-key") fields))
 
+-- a command, if those who ask may send it
+abbrev pub if_sent_by : (Command → Bool) → Command → Option Command
+if_sent_by may command = if may command then Some command else None
+
 -- Who asks at an endpoint, and what for: by its key or its receipts, and then by what its body says.
 abbrev pub caller_said : Endpoint → Option ℕ → List Pair → List ℕ → Result Caller WireFault
 caller_said Create item fields body =
@@ -74,12 +79,12 @@ caller_said Show item fields body =
     after (keyed fields) (λ key. or_fault BadBody (option_map (λ number. Broker key (broker.Show number)) item))
 caller_said (OnPledge action) item fields body =
     after (keyed fields) (λ key. or_fault BadBody (given item
-    (λ number. option_map (λ command. Broker key (broker.OnPledge number command)) (given (command_said action body) of_broker))))
+    (λ number. option_map (λ command. Broker key (broker.OnPledge number command)) (given (command_said action body) (if_sent_by is_brokers)))))
 caller_said Held item fields body =
     after (receipts_said (presented fields)) (λ receipts. Ok (Bearer (bearer.Held receipts)))
 caller_said (OnReceipt action) item fields body =
     after (one_said (presented fields)) (λ receipt. or_fault BadBody
-    (option_map (λ command. Bearer (bearer.OnPledge receipt command)) (given (command_said action body) of_bearer)))
+    (option_map (λ command. Bearer (bearer.OnPledge receipt command)) (given (command_said action body) (if_sent_by is_bearers))))
 
 -- What the parts of a head and a body say, or the first fault that applies: of the framing, of the target, of the method,
 -- and then of who asks and what for.

@@ -8,8 +8,6 @@ use Rattle.pawn_pledge.specs.declared.receipt.Receipt.{Receipt}
 use Rattle.pawn_book.specs.declared.request.Caller.TheVariants.{Broker, Bearer}
 use Rattle.pawn_book.specs.declared.request.BrokerRequest.TheVariants as broker
 use Rattle.pawn_book.specs.declared.request.BearerRequest.TheVariants as bearer
-use Rattle.pawn_book.specs.declared.request.BrokerCommand.TheVariants as command
-use Rattle.pawn_book.specs.declared.request.BearerCommand.TheVariants as asked
 use Rattle.pawn_wire.specs.Body.{new_book_of, new_terms_of, opening_of}
 use Rattle.pawn_wire.specs.Commands.{command_said}
 use Rattle.pawn_wire.specs.Fields.{Pair}
@@ -134,7 +132,7 @@ WorkedBodies =
     (body_said new_book_of (codes "{\"capacity\":2,\"key\":\"11111111-1111-1111-1111-111111111111\",\"name\":\"High Street\"}")
     ≡ Some (record { key = 0x11111111_1111_1111_1111_111111111111; name = codes "High Street"; capacity = 2 }))
     × (body_said new_terms_of (codes "{\"keep_after\":4,\"keep_before\":3,\"rate\":9,\"rate\":2,\"version\":1}")
-    ≡ Some (record { version = 1; rate = 2; keep_before = 3; keep_after = 4 }))
+    ≡ Some (record { version = 1; rates = record { rate = 2; keep_before = 3; keep_after = 4 } }))
     × (body_said new_terms_of (codes "{\"keep_after\":4,\"keep_before\":3,\"rate\":1.0,\"version\":1}") ≡ None)
     × (body_said new_terms_of (codes "{\"keep_after\":4,\"keep_before\":3,\"rate\":1000000000000,\"version\":1}") ≡ None)
     × (body_said new_terms_of (codes "{\"keep_after\":4,\"keep_before\":3,\"rate\":2}") ≡ None)
@@ -182,8 +180,8 @@ WorkedRequests =
     (request_by (codes "GET") (codes "/books/7/pledges/3") (gives_key operator_key ∷ []) []
     ≡ Ok (record { book = 7; caller = Broker 0x11111111_1111_1111_1111_111111111111 (broker.Show 3) }))
     × (request_by (codes "POST") (codes "/books/7/pledges/3/hold") (gives_key operator_key ∷ []) []
-    ≡ Ok (record { book = 7; caller = Broker 0x11111111_1111_1111_1111_111111111111 (broker.OnPledge 3 command.Hold) }))
+    ≡ Ok (record { book = 7; caller = Broker 0x11111111_1111_1111_1111_111111111111 (broker.OnPledge 3 Command.Hold) }))
     × (request_by (codes "GET") (codes "/books/7/held") (presents some_receipt_text ∷ []) []
     ≡ Ok (record { book = 7; caller = Bearer (bearer.Held (some_receipt ∷ [])) }))
     × (request_by (codes "POST") (codes "/books/7/held/cancel") (presents some_receipt_text ∷ []) []
-    ≡ Ok (record { book = 7; caller = Bearer (bearer.OnPledge some_receipt asked.CancelBooking) }))
+    ≡ Ok (record { book = 7; caller = Bearer (bearer.OnPledge some_receipt Command.CancelBooking) }))

@@ -19,14 +19,14 @@ pub(crate) fn version(alloc: Global, version: u64) -> Result<String, AllocError>
 }
 
 // A pledge stands, with its first receipt.
-pub(crate) fn opened(alloc: Global, number: u32, receipt: &str) -> Result<String, AllocError>
+pub(crate) fn opening(alloc: Global, number: u32, receipt: &str) -> Result<String, AllocError>
     ensures text { IfOk result (λ s. string_bytes s ≡ opened_text number receipt.now) }
 {
     format!(in alloc; "{{\"number\":{number},\"receipt\":\"{receipt}\"}}")
 }
 
 // A refusal or a fault, with the total owing where it tells one.
-pub(crate) fn refused(
+pub(crate) fn refusal(
     alloc: Global,
     code: u16,
     name: &str,
@@ -35,12 +35,12 @@ pub(crate) fn refused(
     ensures text { IfOk result (λ s. string_bytes s ≡ refusal_text code name.now total) }
 {
     match total {
-        Some(total) => refused_with_total(alloc, code, name, total),
+        Some(total) => refusal_with_total(alloc, code, name, total),
         None => format!(in alloc; "{{\"code\":{code},\"name\":\"{name}\"}}"),
     }
 }
 
-fn refused_with_total(
+fn refusal_with_total(
     alloc: Global,
     code: u16,
     name: &str,

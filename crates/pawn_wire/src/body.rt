@@ -8,7 +8,7 @@ ghost use Rattle.pawn_wire.specs.declared.fault.WireFault.TheVariants.{BadBody};
 
 use crate::fault::WireFault;
 use crate::member;
-use pawn_book::{Capacity, Kind, NewBook, NewTerms, Opening, RequestDay};
+use pawn_book::{Capacity, Kind, NewBook, NewTerms, Opening, Rates, RequestDay};
 use serde_json::Value;
 use std::alloc::Global;
 
@@ -42,12 +42,12 @@ pub(crate) fn new_terms(body: &Value) -> Option<NewTerms>
     let keep_before = member::number(body, "keep_before")?;
     let rate = member::number(body, "rate")?;
     let version = member::number(body, "version")?;
-    Some(NewTerms {
-        version,
+    let rates = Rates {
         rate,
         keep_before,
         keep_after,
-    })
+    };
+    Some(NewTerms { version, rates })
 }
 
 fn kind_named(word: &str, pence: u64) -> Option<Kind>

@@ -49,7 +49,7 @@ fn entered_text(
 }
 
 // An entry was made.
-fn entered(alloc: Global, entry: Entry) -> Result<String, AllocError>
+fn tell_entry(alloc: Global, entry: Entry) -> Result<String, AllocError>
     ensures text { IfOk result (λ s. string_bytes s
         ≡ entered_text (day_text entry.day) entry.pence entry.seq (sort_text entry.sort)) }
 {
@@ -64,10 +64,10 @@ fn entered(alloc: Global, entry: Entry) -> Result<String, AllocError>
 }
 
 // Redemption is barred, or is not.
-fn held(alloc: Global, held: bool) -> Result<String, AllocError>
-    ensures text { IfOk result (λ s. string_bytes s ≡ held_text held) }
+fn tell_bar(alloc: Global, barred: bool) -> Result<String, AllocError>
+    ensures text { IfOk result (λ s. string_bytes s ≡ held_text barred) }
 {
-    let text = if held {
+    let text = if barred {
         "{\"held\":true}"
     } else {
         "{\"held\":false}"
@@ -82,7 +82,7 @@ fn declared_text(alloc: Global, receipt: &str) -> Result<String, AllocError>
 }
 
 // A new receipt.
-fn declared(alloc: Global, receipt: Receipt) -> Result<String, AllocError>
+fn tell_receipt(alloc: Global, receipt: Receipt) -> Result<String, AllocError>
     ensures text { IfOk result (λ s. string_bytes s ≡ declared_text (receipt_text receipt)) }
 {
     let text = receipt.text(alloc)?;
@@ -96,7 +96,7 @@ fn booked_text(alloc: Global, state: &str, day: &str, window: u64) -> Result<Str
 }
 
 // Where a booking stands.
-fn booked(alloc: Global, booking: Booking) -> Result<String, AllocError>
+fn tell_booking(alloc: Global, booking: Booking) -> Result<String, AllocError>
     ensures text { IfOk result (λ s. string_bytes s
         ≡ booked_text (state_text booking.state) (day_text booking.day) booking.window) }
 {
@@ -116,7 +116,7 @@ fn redeemed_text(alloc: Global, paid: u64, day: &str) -> Result<String, AllocErr
 }
 
 // The pledge is redeemed.
-fn redeemed(alloc: Global, day: Day, paid: u64) -> Result<String, AllocError>
+fn tell_redemption(alloc: Global, day: Day, paid: u64) -> Result<String, AllocError>
     ensures text { IfOk result (λ s. string_bytes s ≡ redeemed_text paid (day_text day)) }
 {
     let day = day_text(alloc, day)?;
@@ -124,7 +124,7 @@ fn redeemed(alloc: Global, day: Day, paid: u64) -> Result<String, AllocError>
 }
 
 // The article is sold.
-fn sold(alloc: Global, net: u64, shortfall: u64, surplus: u64) -> Result<String, AllocError>
+fn tell_sale(alloc: Global, net: u64, shortfall: u64, surplus: u64) -> Result<String, AllocError>
     ensures text { IfOk result (λ s. string_bytes s ≡ sold_text net shortfall surplus) }
 {
     format!(in alloc; "{{\"net\":{net},\"shortfall\":{shortfall},\"surplus\":{surplus}}}")
@@ -137,7 +137,7 @@ fn extended_text(alloc: Global, until: &str) -> Result<String, AllocError>
 }
 
 // The period ends on this day.
-fn extended(alloc: Global, until: Day) -> Result<String, AllocError>
+fn tell_extension(alloc: Global, until: Day) -> Result<String, AllocError>
     ensures text { IfOk result (λ s. string_bytes s ≡ extended_text (day_text until)) }
 {
     let day = day_text(alloc, until)?;
@@ -145,20 +145,20 @@ fn extended(alloc: Global, until: Day) -> Result<String, AllocError>
 }
 
 // What a command did to the pledge of this number.
-pub(crate) fn commanded(alloc: Global, number: Number, done: Done) -> Result<String, AllocError>
+pub(crate) fn tell_done(alloc: Global, number: Number, done: Done) -> Result<String, AllocError>
     ensures text { IfOk result (λ s. string_bytes s ≡ commanded_text number done) }
 {
     match done {
-        Done::Entered(entry) => entered(alloc, entry),
-        Done::Held(barred) => held(alloc, barred),
-        Done::Declared(secret) => declared(alloc, Receipt { number, secret }),
-        Done::Booked(booking) => booked(alloc, booking),
-        Done::Redeemed { day, paid } => redeemed(alloc, day, paid),
+        Done::Entered(entry) => tell_entry(alloc, entry),
+        Done::Held(barred) => tell_bar(alloc, barred),
+        Done::Declared(secret) => tell_receipt(alloc, Receipt { number, secret }),
+        Done::Booked(booking) => tell_booking(alloc, booking),
+        Done::Redeemed { day, paid } => tell_redemption(alloc, day, paid),
         Done::Sold {
             net,
             surplus,
             shortfall,
-        } => sold(alloc, net, shortfall, surplus),
-        Done::Extended { until } => extended(alloc, until),
+        } => tell_sale(alloc, net, shortfall, surplus),
+        Done::Extended { until } => tell_extension(alloc, until),
     }
 }

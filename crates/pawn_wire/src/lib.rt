@@ -17,7 +17,6 @@ mod reply;
 mod request;
 mod route;
 mod router;
-mod senders;
 mod status;
 mod worked;
 

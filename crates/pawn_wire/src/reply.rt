@@ -84,7 +84,7 @@ fn json_reply(alloc: Global, status: StatusCode, body: &str) -> Result<Vec<u8>, 
     reply(alloc, status, "application/json", body.as_bytes())
 }
 
-fn refused_reply(
+fn refusal_reply(
     alloc: Global,
     code: u16,
     name: &str,
@@ -92,7 +92,7 @@ fn refused_reply(
 ) -> Result<Vec<u8>, AllocError>
     ensures text { IfOk result (λ v. v.items ≡ refused_text code name.now total) }
 {
-    let body = bodies::refused(alloc, code, name, total)?;
+    let body = bodies::refusal(alloc, code, name, total)?;
     json_reply(alloc, status_of(code), body.as_str())
 }
 
@@ -110,19 +110,19 @@ fn version_reply(alloc: Global, version: u64) -> Result<Vec<u8>, AllocError>
     json_reply(alloc, StatusCode::OK, body.as_str())
 }
 
-fn opened_reply(alloc: Global, receipt: Receipt) -> Result<Vec<u8>, AllocError>
+fn opening_reply(alloc: Global, receipt: Receipt) -> Result<Vec<u8>, AllocError>
     ensures text { IfOk result (λ v. v.items ≡ json_text 200 (opened_text receipt.number (receipt_text receipt))) }
 {
     let number = receipt.number.get();
     let text = receipt.text(alloc)?;
-    let body = bodies::opened(alloc, number, text.as_str())?;
+    let body = bodies::opening(alloc, number, text.as_str())?;
     json_reply(alloc, StatusCode::OK, body.as_str())
 }
 
-fn commanded_reply(alloc: Global, number: Number, done: Done) -> Result<Vec<u8>, AllocError>
+fn command_reply(alloc: Global, number: Number, done: Done) -> Result<Vec<u8>, AllocError>
     ensures text { IfOk result (λ v. v.items ≡ json_text 200 (commanded_text number done)) }
 {
-    let body = done::commanded(alloc, number, done)?;
+    let body = done::tell_done(alloc, number, done)?;
     json_reply(alloc, StatusCode::OK, body.as_str())
 }
 
@@ -132,8 +132,8 @@ fn done_reply(alloc: Global, reply: Reply) -> Result<Vec<u8>, AllocError>
     match reply {
         Reply::BookMade(book) => book_reply(alloc, book),
         Reply::TermsPut(version) => version_reply(alloc, version),
-        Reply::Opened(receipt) => opened_reply(alloc, receipt),
-        Reply::Commanded { number, done } => commanded_reply(alloc, number, done),
+        Reply::Opened(receipt) => opening_reply(alloc, receipt),
+        Reply::Commanded { number, done } => command_reply(alloc, number, done),
     }
 }
 
@@ -144,9 +144,9 @@ pub fn write_reply(alloc: Global, out: &Out) -> Result<Vec<u8>, AllocError>
     match out {
         Out::Done(reply) => done_reply(alloc, *reply),
         Out::Refused(refusal) => {
-            refused_reply(alloc, refusal.code(), refusal.name(), refusal.total())
+            refusal_reply(alloc, refusal.code(), refusal.name(), refusal.total())
         }
-        Out::Fault(fault) => refused_reply(alloc, fault.code(), fault.name(), None),
+        Out::Fault(fault) => refusal_reply(alloc, fault.code(), fault.name(), None),
         Out::Plain(text) => reply(alloc, StatusCode::OK, "text/plain; charset=utf-8", text),
     }
 }

@@ -12,11 +12,12 @@ use crate::head::body_length;
 use crate::limits::{MAX_FIELDS, MAX_HEAD};
 use crate::route::{Action, Endpoint};
 use crate::router::Router;
-use crate::senders::{of_bearer, of_broker};
 use crate::{body, commands, member, receipts};
 use httparse::Status;
 use httparse::spans::{EMPTY_HEADER_SPAN, parse_request};
-use pawn_book::{BearerRequest, BrokerRequest, Caller, Number, Request, Secret};
+use pawn_book::{
+    BearerCommand, BearerRequest, BrokerCommand, BrokerRequest, Caller, Number, Request, Secret,
+};
 use std::alloc::Global;
 use std::str::from_utf8;
 
@@ -153,7 +154,7 @@ fn command_pledge(
     let key = key(&sent.fields)?;
     let number = item.ok_or(WireFault::BadBody)?;
     let command = commands::command(alloc, action, sent.body)?;
-    let command = of_broker(command).ok_or(WireFault::BadBody)?;
+    let command = BrokerCommand::new(command).ok_or(WireFault::BadBody)?;
     Ok(Caller::Broker {
         key,
         asked: BrokerRequest::OnPledge { number, command },
@@ -174,7 +175,7 @@ fn command_receipt(alloc: Global, action: Action, sent: &Sent<'_>) -> Result<Cal
 {
     let receipt = receipts::one(&sent.fields)?;
     let command = commands::command(alloc, action, sent.body)?;
-    let command = of_bearer(command).ok_or(WireFault::BadBody)?;
+    let command = BearerCommand::new(command).ok_or(WireFault::BadBody)?;
     Ok(Caller::Bearer(BearerRequest::OnPledge { receipt, command }))
 }
 

@@ -92,9 +92,9 @@ fn puts_terms(rt: HostRuntime) {
             assert_eq!(rt;
                 (
                     terms.version,
-                    terms.rate,
-                    terms.keep_before,
-                    terms.keep_after
+                    terms.rates.rate,
+                    terms.rates.keep_before,
+                    terms.rates.keep_after
                 ),
                 (1, 0, 0, 0)
             );
@@ -363,9 +363,9 @@ fn judges_bodies(rt: HostRuntime) {
             assert_eq!(rt;
                 (
                     terms.version,
-                    terms.rate,
-                    terms.keep_before,
-                    terms.keep_after
+                    terms.rates.rate,
+                    terms.rates.keep_before,
+                    terms.rates.keep_after
                 ),
                 (7, 1, 2, 3)
             );

@@ -1,8 +1,6 @@
 use super::{BOOK_KEY, SECRET, fails, reads};
 use crate::fault::WireFault;
-use pawn_book::{
-    BearerCommand, BearerRequest, BrokerCommand, BrokerRequest, Caller, Decision, Paper, RequestDay,
-};
+use pawn_book::{BearerRequest, BrokerRequest, Caller, Command, Decision, Paper, RequestDay};
 use std::alloc::{AllocError, Global};
 use std::process::Abort;
 
@@ -29,13 +27,7 @@ fn on_receipt(alloc: Global, action: &str, body: &str) -> Result<String, AllocEr
     )
 }
 
-fn broker_commands(
-    rt: &impl Abort,
-    alloc: Global,
-    action: &str,
-    body: &str,
-    wanted: BrokerCommand,
-) {
+fn broker_commands(rt: &impl Abort, alloc: Global, action: &str, body: &str, wanted: Command) {
     let Ok(text) = on_pledge(alloc, action, body) else {
         panic!(rt; "no memory");
     };
@@ -48,19 +40,13 @@ fn broker_commands(
         } => {
             assert_eq!(rt; key.word(), BOOK_KEY);
             assert_eq!(rt; number.get(), 3);
-            assert_eq!(rt; *command, wanted);
+            assert_eq!(rt; command.command(), wanted);
         }
         _ => panic!(rt; "no command"),
     }
 }
 
-fn bearer_commands(
-    rt: &impl Abort,
-    alloc: Global,
-    action: &str,
-    body: &str,
-    wanted: BearerCommand,
-) {
+fn bearer_commands(rt: &impl Abort, alloc: Global, action: &str, body: &str, wanted: Command) {
     let Ok(text) = on_receipt(alloc, action, body) else {
         panic!(rt; "no memory");
     };
@@ -70,7 +56,7 @@ fn bearer_commands(
         Caller::Bearer(BearerRequest::OnPledge { receipt, command }) => {
             assert_eq!(rt; receipt.number.get(), 3);
             assert_eq!(rt; receipt.secret.word(), SECRET);
-            assert_eq!(rt; *command, wanted);
+            assert_eq!(rt; command.command(), wanted);
         }
         _ => panic!(rt; "no command"),
     }
@@ -83,7 +69,7 @@ fn reads_what_a_broker_commands(rt: HostRuntime) {
         (
             "draw",
             "{\"pence\":1000,\"seq\":1}",
-            BrokerCommand::Draw {
+            Command::Draw {
                 seq: 1,
                 pence: 1000,
             },
@@ -91,41 +77,41 @@ fn reads_what_a_broker_commands(rt: HostRuntime) {
         (
             "repay",
             "{\"seq\":2,\"pence\":0}",
-            BrokerCommand::Repay { seq: 2, pence: 0 },
+            Command::Repay { seq: 2, pence: 0 },
         ),
-        ("hold", "no JSON", BrokerCommand::Hold),
-        ("release", "", BrokerCommand::Release),
+        ("hold", "no JSON", Command::Hold),
+        ("release", "", Command::Release),
         (
             "declare",
             "{\"paper\":\"sworn\"}",
-            BrokerCommand::Declare(Paper::Sworn),
+            Command::Declare(Paper::Sworn),
         ),
         (
             "declare",
             "{\"paper\":\"written\"}",
-            BrokerCommand::Declare(Paper::Written),
+            Command::Declare(Paper::Written),
         ),
         (
             "decide",
             "{\"yes\":true}",
-            BrokerCommand::DecideBooking(Decision::Confirm),
+            Command::DecideBooking(Decision::Confirm),
         ),
         (
             "decide",
             "{\"yes\":false}",
-            BrokerCommand::DecideBooking(Decision::Refuse),
+            Command::DecideBooking(Decision::Refuse),
         ),
         (
             "sell",
             "{\"net\":999999999999}",
-            BrokerCommand::Sell {
+            Command::Sell {
                 net: 999_999_999_999,
             },
         ),
         (
             "extend",
             "{\"until\":\"2024-09-30\"}",
-            BrokerCommand::Extend { until },
+            Command::Extend { until },
         ),
     ];
     for (action, body, command) in wanted {
@@ -140,7 +126,7 @@ fn reads_what_a_bearer_commands(rt: HostRuntime) {
         (
             "repay",
             "{\"pence\":1000,\"seq\":1}",
-            BearerCommand::Repay {
+            Command::Repay {
                 seq: 1,
                 pence: 1000,
             },
@@ -148,17 +134,13 @@ fn reads_what_a_bearer_commands(rt: HostRuntime) {
         (
             "ask",
             "{\"day\":\"2024-03-04\",\"window\":16}",
-            BearerCommand::AskBooking {
+            Command::AskBooking {
                 day: visit,
                 window: 16,
             },
         ),
-        ("cancel", "no JSON", BearerCommand::CancelBooking),
-        (
-            "redeem",
-            "{\"paid\":7501}",
-            BearerCommand::Redeem { paid: 7501 },
-        ),
+        ("cancel", "no JSON", Command::CancelBooking),
+        ("redeem", "{\"paid\":7501}", Command::Redeem { paid: 7501 }),
     ];
     for (action, body, command) in wanted {
         bearer_commands(&rt, rt.alloc(), action, body, command);
