@@ -160,7 +160,9 @@ fn a_drawing_is_made_in_the_period_up_to_the_limit(rt: HostRuntime) -> Result<()
 }
 
 #[test]
-fn safe_keeping_is_charged_at_one_rate_up_to_the_end_and_another_after_it(rt: HostRuntime) -> Result<(), Fail> {
+fn safe_keeping_is_charged_at_one_rate_up_to_the_end_and_another_after_it(
+    rt: HostRuntime,
+) -> Result<(), Fail> {
     let over = Err(Refusal::Debt(DebtFault::OverOwing { total: 10_187 }));
     let repay = Command::Repay {
         seq: 1,
@@ -325,7 +327,9 @@ fn an_extension_puts_the_end_of_the_period_off(rt: HostRuntime) -> Result<(), Fa
 }
 
 #[test]
-fn a_pledge_is_taken_inside_its_period_with_its_first_secret_live(rt: HostRuntime) -> Result<(), Fail> {
+fn a_pledge_is_taken_inside_its_period_with_its_first_secret_live(
+    rt: HostRuntime,
+) -> Result<(), Fail> {
     let (last, after) = (day(b"2024-07-31")?, day(b"2024-08-01")?);
     let pledge = plain(rt.alloc(), 7500)?;
     assert_eq!(rt; pledge.ends(), last);
