@@ -1,5 +1,5 @@
 -- What a debt keeps beside its entries: what is owed on the day of the last one.
-use Rattle.std.specs.Prelude.{◌≡◌, ℕ, ◌-◌, ◌*◌, ◌≤◌, length}
+use Rattle.std.specs.Prelude.{◌≡◌, ◌-◌, ◌*◌, ◌≤◌, length}
 use Rattle.pawn_terms.specs.Calendar.{IsDayNumber}
 use Rattle.pawn_debt.specs.declared.owing.Totals.{Totals}
 use Rattle.pawn_debt.specs.Due.{Due, DebtValue, due, last_of, AreOrdered, credit_of}
