@@ -8,45 +8,35 @@ use Rattle.pawn_terms.specs.Terms.{most_keep, most_rate}
 use Rattle.pawn_terms.specs.TermsFault.{terms_answer}
 use Rattle.pawn_terms.specs.declared.terms.TermsFault.{TermsFault}
 use Rattle.pawn_terms.specs.declared.terms.TermsFault.TheVariants.{KeepTooHigh, KeepingRate, RateTooHigh}
-use Rattle.pawn_book.specs.Limits.{most_pledges, most_terms}
+use Rattle.pawn_book.specs.Limits.{most_terms}
 use Rattle.pawn_debt.specs.declared.entry.Kind.{Kind}
 use Rattle.pawn_debt.specs.declared.entry.Kind.TheVariants.{Fixed, Running}
-use Rattle.pawn_debt.specs.Answers.{is_bad_amount}
-use Rattle.pawn_debt.specs.Due.{credit_of}
 use Rattle.pawn_pledge.specs.declared.command.Stamp.{Stamp}
 use Rattle.pawn_pledge.specs.declared.record.Agreement.{Agreement}
 use Rattle.pawn_pledge.specs.declared.record.Opening.{Opening}
-use Rattle.pawn_pledge.specs.declared.refusal.Refusal.{Refusal as PledgeRefusal}
 use Rattle.pawn_pledge.specs.Pledge.{PledgeValue}
-use Rattle.pawn_pledge.specs.Step.{Answered, Changed, pledge_step, started}
 use Rattle.pawn_pledge.specs.Replayable.{AreNumbered, IsStanding}
 use Rattle.pawn_pledge.specs.declared.command.Command.{Command}
-use Rattle.pawn_pledge.specs.declared.command.Done.{Done}
 use Rattle.pawn_pledge.specs.declared.receipt.Receipt.{Receipt}
 use Rattle.pawn_pledge.specs.declared.record.Issued.{Issued}
-use Rattle.pawn_debt.specs.declared.entry.Sort.TheVariants.{Draw, Repay}
 use Rattle.pawn_book.specs.Sound.{IsSoundBook}
 use Rattle.pawn_pledge.proofs.Steps.{changes_differ}
 use Rattle.pawn_book.specs.declared.request.Caller.{Caller}
-use Rattle.pawn_book.specs.declared.request.Caller.TheVariants.{Operator, Broker, Bearer}
-use Rattle.pawn_book.specs.declared.request.BrokerRequest.TheVariants.{PutTerms, TakePledge, OnPledge, Show}
-use Rattle.pawn_book.specs.declared.request.BearerRequest.TheVariants.{Held, OnPledge as OnReceipt}
 use Rattle.pawn_book.specs.declared.request.NewTerms.{NewTerms}
 use Rattle.pawn_book.specs.declared.refusal.Refusal.{Refusal}
-use Rattle.pawn_book.specs.declared.refusal.Refusal.TheVariants.{BookTaken, NoSuchBook, NotOperator, PledgesFull, RefTaken, TermsFull, TermsSeq}
+use Rattle.pawn_book.specs.declared.refusal.Refusal.TheVariants.{BookTaken, NoSuchBook, NotOperator, RefTaken, TermsFull, TermsSeq}
 use Rattle.pawn_book.specs.declared.reply.Reply.{Reply}
 use Rattle.pawn_book.specs.declared.reply.Reply.TheVariants.{BookMade, TermsPut, Opened}
 use Rattle.pawn_book.specs.declared.change.Change.{Change}
-use Rattle.pawn_book.specs.declared.change.Head.{Head}
 use Rattle.pawn_book.specs.declared.change.Change.TheVariants.{AddTerms, PutPledge}
-use Rattle.pawn_book.specs.BookStep.{BookValue, Told, Refuses, Says, are_rates, bearer_commands, broker_commands, first_secret, is_live, judged_outcome, only_live, windowed, book_step, changed_book, created, first_receipt, head_of, is_agreed, is_book, is_flag, is_kind, is_opening, is_text, made_book, newest, next_terms, pledge_from, put_from, put_terms, take_pledge, taken_under, terms_at, with_reference, with_room, under_pledge, under_terms, live_at, pledge_in}
+use Rattle.pawn_book.specs.BookStep.{BookValue, Told, Refuses, Says, are_rates, first_secret, is_live, only_live, book_step, changed_book, created, first_receipt, head_of, is_agreed, is_book, is_flag, is_kind, is_opening, is_text, made_book, newest, next_terms, pledge_from, put_from, put_terms, take_pledge, terms_at, with_reference, under_terms}
 use Rattle.pawn_book.specs.Laws.{ChangesDiffer, RepeatsActOnce, book_run}
 use Rattle.pawn_book.proofs.Sounds.{absurd_none, each_at, some_is}
 use Rattle.pawn_book.specs.Changes.{Continues}
 use Rattle.pawn_book.proofs.KeptLemmas.{number_kept, put_there, reference_kept}
 use Rattle.pawn_book.proofs.Plans.{next_is, not_standing, past_row, taken_is}
 use Rattle.pawn_book.proofs.GrowLemmas.{Grown, grown_same, next_pledges, run_grows}
-use Rattle.pawn_book.proofs.MadeLemmas.{BookIs, CommandIs, DidOn, MadeBy, PledgeIs, TermsAre, if_makes, made_by, number_made, receipt_made}
+use Rattle.pawn_book.proofs.MadeLemmas.{BookIs, CommandIs, DidOn, MadeBy, PledgeIs, TermsAre, made_by}
 
 -- a text is itself
 text_same : (xs : List ℕ) → is_text xs xs ≡ true

@@ -16,7 +16,7 @@ use Rattle.pawn_book.specs.declared.fault.SaveError.TheVariants as Save
 use Rattle.pawn_book.specs.BookStep.{BookValue, with_reference}
 use Rattle.pawn_book.specs.HostStep.{Host, rows}
 use Rattle.pawn_book.specs.Sound.{HasUnsoundBook, IsSound}
-use Rattle.pawn_book.specs.Changes.{CanSave, changed}
+use Rattle.pawn_book.specs.Changes.{changed}
 
 -- what is known of keepers of a kind, however they keep
 pub record Keeping (K : Type 0) : Type 1 where
