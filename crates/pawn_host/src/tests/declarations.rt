@@ -1,8 +1,6 @@
 //! Declarations and written statements, and the receipts that they replace.
 
 use super::turns::*;
-use std::alloc::{AllocError, Global};
-use std::process::Abort;
 use std::test::Fail;
 
 const REPLACED: &str = r#"
