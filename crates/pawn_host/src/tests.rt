@@ -92,7 +92,7 @@ fn a_pledge_from_book_to_statement(rt: HostRuntime) -> Result<(), Fail> {
 }
 
 #[test]
-fn receipts_of_no_use(rt: HostRuntime) -> Result<(), Fail> {
+fn a_receipt_of_no_use_shows_nothing(rt: HostRuntime) -> Result<(), Fail> {
     let day = "2024-01-31";
     replies_to(
         &rt,
@@ -111,7 +111,7 @@ fn receipts_of_no_use(rt: HostRuntime) -> Result<(), Fail> {
 }
 
 #[test]
-fn ends_of_periods(rt: HostRuntime) -> Result<(), Fail> {
+fn a_period_ends_after_six_months_or_as_agreed(rt: HostRuntime) -> Result<(), Fail> {
     for (day, shown) in [
         ("2024-08-31", AUGUST),
         ("2023-08-30", LEAP),
@@ -149,7 +149,7 @@ fn passed_property_owes_nothing(rt: HostRuntime) -> Result<(), Fail> {
 }
 
 #[test]
-fn no_row_is_left(rt: HostRuntime) -> Result<(), Fail> {
+fn no_row_is_left_for_an_opening(rt: HostRuntime) -> Result<(), Fail> {
     let day = "2024-01-31";
     replies_to(
         &rt,
@@ -172,45 +172,6 @@ fn no_row_is_left(rt: HostRuntime) -> Result<(), Fail> {
             (day, OPENING, OPENED),
             (day, CREATE_8, FULL),
             (day, VIEW, STATEMENT),
-        ],
-    )
-}
-
-// The request to show this many receipts, all the same.
-fn view_of(alloc: Global, count: u32) -> Result<Vec<u8>, Fail> {
-    let mut bytes = Vec::from_slice(alloc, b"GET /books/7/held HTTP/1.1\r\n")?;
-    for _ in 0..count {
-        bytes.extend_from_slice(b"Pledge-Receipt: 1-da41597c-5157-488d-7724-e03fb8d84a37\r\n")?;
-    }
-    bytes.extend_from_slice(b"\r\n")?;
-    Ok(bytes)
-}
-
-#[test]
-fn thirty_two_receipts(rt: HostRuntime) -> Result<(), Fail> {
-    let alloc = rt.alloc();
-    let day = "2024-01-31";
-    let mut shown = Vec::from_slice(
-        alloc,
-        b"HTTP/1.1 200 OK\r\nContent-Length: 5023\r\nContent-Type: text/plain; charset=utf-8\r\n\r\n",
-    )?;
-    let at = STATEMENT.len() - 156;
-    for place in 0..32 {
-        if place > 0 {
-            shown.push(b'\n')?;
-        }
-        shown.extend_from_slice(&STATEMENT[at..])?;
-    }
-    replies_to(
-        &rt,
-        alloc,
-        100,
-        &[
-            (day, CREATE, CREATED),
-            (day, TERMS, TERMS_PUT),
-            (day, OPENING, OPENED),
-            (day, view_of(alloc, 32)?.as_slice(), shown.as_slice()),
-            (day, view_of(alloc, 33)?.as_slice(), TOO_MANY),
         ],
     )
 }
@@ -301,7 +262,7 @@ fn joined(alloc: Global, parts: &[&[u8]]) -> Result<Vec<u8>, Fail> {
 }
 
 #[test]
-fn streams(rt: HostRuntime) -> Result<(), Fail> {
+fn a_session_tells_how_its_stream_ended(rt: HostRuntime) -> Result<(), Fail> {
     let alloc = rt.alloc();
     ends_as(&rt, alloc, b"", How::End, 0, b"");
     let all = joined(alloc, &[CREATE, TERMS, OPENING, VIEW])?;
@@ -332,7 +293,7 @@ fn streams(rt: HostRuntime) -> Result<(), Fail> {
 }
 
 #[test]
-fn streams_that_close(rt: HostRuntime) -> Result<(), Fail> {
+fn a_request_may_close_its_stream(rt: HostRuntime) -> Result<(), Fail> {
     let alloc = rt.alloc();
     let asked = b"GET /books/7/held HTTP/1.1\r\nConnection: CLOSE\r\n\r\n";
     let closed = joined(alloc, &[asked, CREATE])?;
@@ -403,7 +364,7 @@ fn breaks_off(rt: &impl Abort, came: &Came, fault: IoFault, replies: &[u8]) {
 }
 
 #[test]
-fn each_read_fails(rt: HostRuntime) -> Result<(), Fail> {
+fn a_session_breaks_off_at_the_read_that_fails(rt: HostRuntime) -> Result<(), Fail> {
     let alloc = rt.alloc();
     let stream = joined(alloc, &[CREATE, VIEW])?;
     let replies = joined(alloc, &[CREATED, UNKNOWN])?;
@@ -433,7 +394,7 @@ fn each_read_fails(rt: HostRuntime) -> Result<(), Fail> {
 }
 
 #[test]
-fn each_write_fails(rt: HostRuntime) -> Result<(), Fail> {
+fn a_session_breaks_off_at_the_write_that_fails(rt: HostRuntime) -> Result<(), Fail> {
     let alloc = rt.alloc();
     let stream = joined(alloc, &[CREATE, VIEW])?;
     let replies = joined(alloc, &[CREATED, UNKNOWN])?;
@@ -457,7 +418,7 @@ fn each_write_fails(rt: HostRuntime) -> Result<(), Fail> {
 }
 
 #[test]
-fn too_many_reads(rt: HostRuntime) -> Result<(), Fail> {
+fn a_session_breaks_off_after_a_hundred_thousand_reads(rt: HostRuntime) -> Result<(), Fail> {
     let alloc = rt.alloc();
     let mut stream = Vec::from_slice(
         alloc,

@@ -1,10 +1,10 @@
 //! Requests as they come over the wire, and the replies to them.
-use crate::fault::{HeadFault, WireFault};
-use crate::reply::{MEMORY_REPLY, Out, fault_reply, memory_reply, write_reply};
+use crate::fault::WireFault;
+use crate::reply::{Out, write_reply};
 use crate::request::read_request;
 use crate::router::Router;
 use pawn_book::{
-    BearerRequest, BrokerRequest, Caller, Kind, Number, Receipt, Refusal, Reply, Request, Secret,
+    BearerRequest, BrokerRequest, Caller, Kind, Number, Receipt, Reply, Request, Secret,
 };
 use std::alloc::{AllocError, Global};
 use std::process::Abort;
@@ -54,7 +54,7 @@ fn number(rt: &impl Abort, number: u64) -> Number {
 }
 
 #[test]
-fn makes_a_book(rt: HostRuntime) {
+fn a_request_makes_a_book(rt: HostRuntime) {
     let bytes =
         b"POST /books/7 HTTP/1.1\r\nHost: x\r\nPledge-Key: 11111111-1111-1111-1111-111111111111\r\nContent-Length: 80\r\n\r\n{\"capacity\":2,\"key\":\"22222222-2222-2222-2222-222222222222\",\"name\":\"High Street\"}";
     let request = reads(&rt, rt.alloc(), bytes);
@@ -78,7 +78,7 @@ fn makes_a_book(rt: HostRuntime) {
 }
 
 #[test]
-fn puts_terms(rt: HostRuntime) {
+fn a_request_puts_terms(rt: HostRuntime) {
     let bytes =
         b"POST /books/7/terms HTTP/1.1\r\nHost: x\r\nPledge-Key: 22222222-2222-2222-2222-222222222222\r\nContent-Length: 53\r\n\r\n{\"keep_after\":0,\"keep_before\":0,\"rate\":0,\"version\":1}";
     let request = reads(&rt, rt.alloc(), bytes);
@@ -111,7 +111,7 @@ fn puts_terms(rt: HostRuntime) {
 }
 
 #[test]
-fn takes_a_pledge(rt: HostRuntime) {
+fn a_request_takes_a_pledge(rt: HostRuntime) {
     let bytes =
         b"POST /books/7/pledges HTTP/1.1\r\nHost: x\r\nPledge-Key: 22222222-2222-2222-2222-222222222222\r\nContent-Length: 81\r\n\r\n{\"article\":\"Gold ring\",\"five_days\":false,\"kind\":\"fixed\",\"pence\":10000,\"ref\":\"A1\"}";
     let request = reads(&rt, rt.alloc(), bytes);
@@ -143,7 +143,7 @@ fn takes_a_pledge(rt: HostRuntime) {
 }
 
 #[test]
-fn shows_receipts(rt: HostRuntime) {
+fn a_request_presents_receipts(rt: HostRuntime) {
     let bytes =
         b"GET /books/7/held HTTP/1.1\r\nHost: x\r\npledge-receipt: \t1-da41597c-5157-488d-7724-e03fb8d84a37 \r\n\r\n";
     let request = reads(&rt, rt.alloc(), bytes);
@@ -170,51 +170,7 @@ fn shows_receipts(rt: HostRuntime) {
 }
 
 #[test]
-fn refuses(rt: HostRuntime) {
-    answers(
-        &rt,
-        rt.alloc(),
-        &Out::Refused(Refusal::NoSuchReceipt),
-        "HTTP/1.1 404 Not Found\r\nContent-Length: 35\r\nContent-Type: application/json\r\n\r\n{\"code\":402,\"name\":\"NoSuchReceipt\"}",
-    );
-    answers(
-        &rt,
-        rt.alloc(),
-        &Out::Refused(Refusal::NotOperator),
-        "HTTP/1.1 403 Forbidden\r\nContent-Length: 33\r\nContent-Type: application/json\r\n\r\n{\"code\":410,\"name\":\"NotOperator\"}",
-    );
-    answers(
-        &rt,
-        rt.alloc(),
-        &Out::Refused(Refusal::BookTaken),
-        "HTTP/1.1 409 Conflict\r\nContent-Length: 31\r\nContent-Type: application/json\r\n\r\n{\"code\":404,\"name\":\"BookTaken\"}",
-    );
-    answers(
-        &rt,
-        rt.alloc(),
-        &Out::Fault(WireFault::Transfer),
-        "HTTP/1.1 400 Bad Request\r\nContent-Length: 30\r\nContent-Type: application/json\r\n\r\n{\"code\":703,\"name\":\"Transfer\"}",
-    );
-    assert!(rt;
-        memory_reply()
-            == b"HTTP/1.1 503 Service Unavailable\r\nContent-Length: 28\r\nContent-Type: application/json\r\n\r\n{\"code\":491,\"name\":\"Memory\"}".as_slice()
-    );
-    assert!(rt; memory_reply() == MEMORY_REPLY);
-    for (head, fault) in [
-        (HeadFault::BadHead, WireFault::BadHead),
-        (HeadFault::Transfer, WireFault::Transfer),
-        (HeadFault::BadLength, WireFault::BadLength),
-        (HeadFault::BodyTooLong, WireFault::BodyTooLong),
-    ] {
-        match write_reply(rt.alloc(), &Out::Fault(fault)) {
-            Ok(bytes) => assert!(rt; bytes.as_slice() == fault_reply(head)),
-            Err(_) => panic!(rt; "no memory"),
-        }
-    }
-}
-
-#[test]
-fn names_the_first_fault(rt: HostRuntime) {
+fn the_first_fault_is_told(rt: HostRuntime) {
     let wanted: [(&[u8], WireFault); 19] = [
         (b"GET /books/7/he", WireFault::BadHead),
         (b"GET /books/7/held HTTP/2.0\r\n\r\n", WireFault::BadHead),
@@ -282,7 +238,7 @@ fn presenting(alloc: Global, good: usize) -> Result<Vec<u8>, AllocError> {
 }
 
 #[test]
-fn counts_receipts(rt: HostRuntime) {
+fn too_many_receipts_are_told_before_a_bad_one(rt: HostRuntime) {
     for (good, wanted) in [
         (8, WireFault::BadReceipt),
         (31, WireFault::BadReceipt),
@@ -324,7 +280,7 @@ fn nested(alloc: Global, depth: usize) -> Result<Vec<u8>, AllocError> {
 }
 
 #[test]
-fn judges_bodies(rt: HostRuntime) {
+fn a_body_is_judged_by_its_members(rt: HostRuntime) {
     let alloc = rt.alloc();
     let bad: [&[u8]; 8] = [
         b"",

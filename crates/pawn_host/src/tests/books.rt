@@ -3,50 +3,6 @@
 use super::turns::*;
 use std::test::Fail;
 
-const NO_ROW: &str = r#"
-2024-01-31 2 broker POST /books/7/pledges {"article":"Gold ring","five_days":false,"kind":"fixed","pence":10000,"ref":"A2"}
-200 {"number":2,"receipt":"2-00000000-0000-0000-0000-000000000002"}
-2024-01-31 3 broker POST /books/7/pledges {"article":"Gold ring","five_days":false,"kind":"fixed","pence":10000,"ref":"A3"}
-200 {"number":3,"receipt":"3-00000000-0000-0000-0000-000000000003"}
-2024-01-31 4 broker POST /books/7/pledges {"article":"Gold ring","five_days":false,"kind":"fixed","pence":10000,"ref":"A4"}
-200 {"number":4,"receipt":"4-00000000-0000-0000-0000-000000000004"}
-2024-01-31 5 broker POST /books/7/pledges {"article":"Gold ring","five_days":false,"kind":"fixed","pence":10000,"ref":"A5"}
-200 {"number":5,"receipt":"5-00000000-0000-0000-0000-000000000005"}
-2024-01-31 6 broker POST /books/7/pledges {"article":"Gold ring","five_days":false,"kind":"fixed","pence":10000,"ref":"A6"}
-503 {"code":490,"name":"Full"}
-2024-01-31 0 broker POST /books/7/pledges/1/repay {"pence":1000,"seq":1}
-503 {"code":490,"name":"Full"}
-2024-01-31 0 1-1 POST /books/7/held/repay {"pence":1000,"seq":1}
-503 {"code":490,"name":"Full"}
-2024-01-31 6 broker POST /books/7/pledges/1/declare {"paper":"sworn"}
-503 {"code":490,"name":"Full"}
-2024-01-31 0 1-1 POST /books/7/held/ask {"day":"2024-02-01","window":0}
-503 {"code":490,"name":"Full"}
-2024-01-31 0 broker POST /books/7/terms {"keep_after":0,"keep_before":0,"rate":1,"version":2}
-503 {"code":490,"name":"Full"}
-2024-01-31 0 1-1 GET /books/7/held
-200 Pledge 1|Article Gold ring|Kind fixed 100.00|Taken 2024-01-31|Ends 2024-07-31|Status inside|Principal 100.00|Charges 0.00|Owing 100.00|Held no|Booking none|
-2024-01-31 0 broker GET /books/7/pledges/1
-200 Pledge 1|Article Gold ring|Kind fixed 100.00|Taken 2024-01-31|Ends 2024-07-31|Status inside|Principal 100.00|Charges 0.00|Owing 100.00|Held no|Booking none|
-2024-01-31 0 broker POST /books/7/pledges/1/hold
-200 {"held":true}
-2024-01-31 0 broker POST /books/7/pledges/1/release
-200 {"held":false}
-2024-01-31 0 broker POST /books/7/pledges/1/extend {"until":"2024-12-31"}
-200 {"ends":"2024-12-31"}
-2024-01-31 0 1-1 POST /books/7/held/redeem {"paid":10000}
-200 {"paid":10000,"redeemed":"2024-01-31"}
-2024-08-01 0 broker POST /books/7/pledges/2/sell {"net":10000}
-200 {"net":10000,"shortfall":0,"surplus":0}
-2024-01-31 0 3-3 POST /books/7/held/repay {"pence":10001,"seq":1}
-409 {"code":204,"name":"OverOwing","total":10000}
-"#;
-
-#[test]
-fn no_row_is_left_for_a_command(rt: HostRuntime) -> Result<(), Fail> {
-    plays(&rt, rt.alloc(), 12, &[BOOK, FREE, OPENED, NO_ROW])
-}
-
 const REBOOKED: &str = r#"
 2024-01-31 0 1-1 POST /books/7/held/ask {"day":"2024-02-01","window":0}
 200 {"booking":"asked","day":"2024-02-01","window":0}

@@ -145,25 +145,6 @@ fn what_comes_behind_the_last_request_stays_with_the_reader(rt: HostRuntime) -> 
     Ok(())
 }
 
-#[test]
-fn a_body_of_the_largest_length(rt: HostRuntime) -> Result<(), Fail> {
-    let alloc = rt.alloc();
-    let head =
-        b"POST /books/7 HTTP/1.1\r\nPledge-Key: 11111111-1111-1111-1111-111111111111\r\nContent-Length: 1048576\r\n\r\n";
-    let json =
-        br#"{"capacity":2,"key":"22222222-2222-2222-2222-222222222222","name":"High Street"}"#;
-    let mut stream = joined(alloc, &[head, json])?;
-    for _ in json.len()..1_048_576 {
-        stream.push(b' ')?;
-    }
-    let all = came_of(&rt, alloc, stream.as_slice(), SOUND);
-    let how = How::End;
-    assert_eq!(rt; all.came, Ok(Ended { how, acted: 1 }));
-    assert_eq!(rt; all.written.as_slice(), CREATED);
-    assert_eq!(rt; all.reads, 130);
-    Ok(())
-}
-
 // What has been done on a stream of two requests: how many bytes of it were read, how many of the replies written, how
 // many stamps taken, and whether each was done in its turn.
 #[derive(Drop)]

@@ -137,7 +137,7 @@ const REDEEMED: &str = r#"
 "#;
 
 #[test]
-fn the_statement_of_a_redeemed_pledge(rt: HostRuntime) -> Result<(), Fail> {
+fn a_redeemed_pledge_still_has_its_statement(rt: HostRuntime) -> Result<(), Fail> {
     plays(&rt, rt.alloc(), 100, &[BOOK, REDEEMED])
 }
 
@@ -187,7 +187,7 @@ const SHORTFALL: &str = r#"
 "#;
 
 #[test]
-fn a_sale_with_a_shortfall(rt: HostRuntime) -> Result<(), Fail> {
+fn a_sale_tells_its_shortfall(rt: HostRuntime) -> Result<(), Fail> {
     plays(&rt, rt.alloc(), 100, &[BOOK, FREE, OPENED, SHORTFALL])
 }
 
@@ -213,6 +213,6 @@ const SURPLUS: &str = r#"
 "#;
 
 #[test]
-fn a_sale_with_a_surplus(rt: HostRuntime) -> Result<(), Fail> {
+fn a_sale_tells_its_surplus(rt: HostRuntime) -> Result<(), Fail> {
     plays(&rt, rt.alloc(), 100, &[BOOK, SURPLUS])
 }

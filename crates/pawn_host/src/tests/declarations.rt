@@ -1,8 +1,6 @@
 //! Declarations and written statements, and the receipts that they replace.
 
 use super::turns::*;
-use std::alloc::{AllocError, Global};
-use std::process::Abort;
 use std::test::Fail;
 
 const REPLACED: &str = r#"
@@ -119,38 +117,4 @@ const PASSED: &str = r#"
 #[test]
 fn a_passed_pledge_is_not_declared(rt: HostRuntime) -> Result<(), Fail> {
     plays(&rt, rt.alloc(), 100, &[BOOK, FREE, SMALL, PASSED])
-}
-
-const DECLARED: &str = r#"2024-01-31 2 broker POST /books/7/pledges/1/declare {"paper":"sworn"}"#;
-
-// A pledge, and so many declarations of it, each with a word of its own and this reply.
-fn declared(
-    rt: &impl Abort,
-    alloc: Global,
-    count: u8,
-    reply: &'static str,
-) -> Result<Vec<Turn<'static>>, AllocError> {
-    let mut turns = turns_of(rt, alloc, &[BOOK, FREE, OPENED])?;
-    let declared = read_turn(rt, DECLARED, reply);
-    for place in 0..count {
-        let word = u128::from(place) + 2;
-        turns.push(Turn { word, ..declared })?;
-    }
-    Ok(turns)
-}
-
-#[test]
-fn a_pledge_is_declared_a_hundred_times(rt: HostRuntime) -> Result<(), Fail> {
-    let alloc = rt.alloc();
-    let last = r#"200 {"receipt":"1-00000000-0000-0000-0000-000000000065"}"#;
-    let turns = declared(&rt, alloc, 100, last)?;
-    ends_with(&rt, alloc, 200, turns.as_slice())
-}
-
-#[test]
-fn a_pledge_is_declared_no_more_than_a_hundred_times(rt: HostRuntime) -> Result<(), Fail> {
-    let alloc = rt.alloc();
-    let full = r#"409 {"code":309,"name":"DeclarationsFull"}"#;
-    let turns = declared(&rt, alloc, 101, full)?;
-    ends_with(&rt, alloc, 200, turns.as_slice())
 }

@@ -36,9 +36,6 @@ pub const REF_TAKEN: &[u8] =
 pub const NO_TERMS: &[u8] =
     b"HTTP/1.1 409 Conflict\r\nContent-Length: 29\r\nContent-Type: application/json\r\n\r\n{\"code\":405,\"name\":\"NoTerms\"}";
 
-pub const TOO_MANY: &[u8] =
-    b"HTTP/1.1 400 Bad Request\r\nContent-Length: 37\r\nContent-Type: application/json\r\n\r\n{\"code\":711,\"name\":\"TooManyReceipts\"}";
-
 pub const NONE: &[u8] =
     b"HTTP/1.1 400 Bad Request\r\nContent-Length: 31\r\nContent-Type: application/json\r\n\r\n{\"code\":712,\"name\":\"NoReceipt\"}";
 

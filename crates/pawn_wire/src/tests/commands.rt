@@ -63,7 +63,7 @@ fn bearer_commands(rt: &impl Abort, alloc: Global, action: &str, body: &str, wan
 }
 
 #[test]
-fn reads_what_a_broker_commands(rt: HostRuntime) {
+fn a_broker_commands_a_pledge(rt: HostRuntime) {
     let until = day(&rt, b"2024-09-30");
     let wanted = [
         (
@@ -120,7 +120,7 @@ fn reads_what_a_broker_commands(rt: HostRuntime) {
 }
 
 #[test]
-fn reads_what_a_bearer_commands(rt: HostRuntime) {
+fn a_bearer_commands_the_pledge_of_a_receipt(rt: HostRuntime) {
     let visit = day(&rt, b"2024-03-04");
     let wanted = [
         (
@@ -148,7 +148,7 @@ fn reads_what_a_bearer_commands(rt: HostRuntime) {
 }
 
 #[test]
-fn reads_what_a_broker_sees(rt: HostRuntime) {
+fn a_broker_sees_a_pledge(rt: HostRuntime) {
     let bytes =
         b"GET /books/7/pledges/3 HTTP/1.1\r\nPledge-Key: 22222222-2222-2222-2222-222222222222\r\nContent-Length: 7\r\n\r\nno JSON";
     let request = reads(&rt, rt.alloc(), bytes);
@@ -166,7 +166,7 @@ fn reads_what_a_broker_sees(rt: HostRuntime) {
 }
 
 #[test]
-fn judges_bodies_of_a_broker(rt: HostRuntime) {
+fn a_brokers_body_is_judged_by_its_members(rt: HostRuntime) {
     let alloc = rt.alloc();
     for (action, body) in [
         ("draw", "{\"pence\":1000}"),
@@ -186,7 +186,7 @@ fn judges_bodies_of_a_broker(rt: HostRuntime) {
 }
 
 #[test]
-fn judges_bodies_of_a_bearer(rt: HostRuntime) {
+fn a_bearers_body_is_judged_by_its_members(rt: HostRuntime) {
     let alloc = rt.alloc();
     for (action, body) in [
         ("repay", "{\"seq\":1}"),
@@ -202,7 +202,7 @@ fn judges_bodies_of_a_bearer(rt: HostRuntime) {
 }
 
 #[test]
-fn wants_a_key(rt: HostRuntime) {
+fn a_broker_gives_a_key(rt: HostRuntime) {
     let alloc = rt.alloc();
     for action in [
         "draw", "repay", "hold", "release", "declare", "decide", "sell", "extend",
@@ -221,7 +221,7 @@ fn wants_a_key(rt: HostRuntime) {
 }
 
 #[test]
-fn wants_one_receipt(rt: HostRuntime) {
+fn a_bearers_command_takes_one_receipt(rt: HostRuntime) {
     let alloc = rt.alloc();
     let one = "Pledge-Receipt: 3-da41597c-5157-488d-7724-e03fb8d84a37\r\n";
     let bad = "Pledge-Receipt: 03-da41597c-5157-488d-7724-e03fb8d84a37\r\n";
@@ -240,7 +240,7 @@ fn wants_one_receipt(rt: HostRuntime) {
 }
 
 #[test]
-fn knows_its_targets(rt: HostRuntime) {
+fn a_target_has_one_spelling_and_one_method(rt: HostRuntime) {
     let alloc = rt.alloc();
     for (line, fault) in [
         ("GET /books/7/pledges/07", WireFault::NoRoute),

@@ -36,7 +36,7 @@ fn tells(rt: &impl Abort, alloc: Global, done: Done, length: &str, body: &str) {
 }
 
 #[test]
-fn tells_what_commands_did(rt: HostRuntime) {
+fn a_reply_tells_what_a_command_did(rt: HostRuntime) {
     let day = first_day(&rt);
     for (done, length, body) in [
         (
@@ -91,7 +91,7 @@ fn tells_what_commands_did(rt: HostRuntime) {
 }
 
 #[test]
-fn tells_where_a_booking_stands(rt: HostRuntime) {
+fn a_reply_tells_where_a_booking_stands(rt: HostRuntime) {
     let day = first_day(&rt);
     for (done, length, body) in [
         (
@@ -120,7 +120,7 @@ fn tells_where_a_booking_stands(rt: HostRuntime) {
 }
 
 #[test]
-fn refuses_commands(rt: HostRuntime) {
+fn a_reply_tells_why_a_command_was_refused(rt: HostRuntime) {
     for (refusal, wanted) in [
         (
             Refusal::NoSuchPledge,
