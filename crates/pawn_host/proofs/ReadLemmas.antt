@@ -12,7 +12,7 @@ use Rattle.pawn_wire.specs.declared.head.HeadRead.TheVariants.{Partial}
 use Rattle.pawn_wire.specs.declared.fault.HeadFault.{HeadFault}
 use Rattle.pawn_wire.specs.declared.head.HeadFacts.{HeadFacts}
 use Rattle.pawn_wire.proofs.StreamLemmas.{reads_more}
-use Rattle.pawn_host.specs.Split.{IsRequest, Passes, HasNoWhole, IsWanting, AreWanted, most_requests}
+use Rattle.pawn_host.specs.Split.{IsRequest, Passes, HasNoWhole, AreWanted, most_requests}
 use Rattle.pawn_host.specs.Finding.{Finds, HasHead, AreMissing, IsFetched, IfRequest}
 use Rattle.pawn_host.specs.Session.{IsRead}
 use Rattle.pawn_host.specs.declared.session.Found.{Found}

@@ -5,7 +5,6 @@ use Rattle.std.proofs.lemmas.List.{take_all}
 use Rattle.std.proofs.Math.Seq.{take-append-add}
 use Rattle.std.proofs.KnownBytes.{Appends-nil, Appends-trans}
 use Rattle.std.specs.Io.KnownBytes.{Keeps, Appends, prepend_known}
-use Rattle.std.specs.Prelude.{All}
 use Rattle.std.proofs.lemmas.List.Elements.{All-append, All-cons, All-nil}
 use Rattle.pawn_host.specs.Split.{at_end, cut, faulted, at_limit, closed, Splits, Begins, IsUnderWay, most_requests}
 use Rattle.pawn_pledge.specs.declared.command.Stamp.{Stamp}

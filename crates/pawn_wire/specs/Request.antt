@@ -21,7 +21,6 @@ use Rattle.pawn_wire.specs.Member.{body_said}
 use Rattle.pawn_wire.specs.Named.{number_said}
 use Rattle.pawn_wire.specs.Receipts.{presented, receipts_said, one_said}
 use Rattle.pawn_wire.specs.Route.{AskedFor, asked_of, method_of}
-use Rattle.pawn_wire.specs.declared.fault.HeadFault.{HeadFault}
 use Rattle.pawn_wire.specs.declared.fault.WireFault.{WireFault}
 use Rattle.pawn_wire.specs.declared.fault.WireFault.TheVariants.{BadHead, BadLength, NoRoute, WrongMethod, BadBody, BadKey, Memory}
 use Rattle.pawn_wire.specs.declared.request.Place.{Place}

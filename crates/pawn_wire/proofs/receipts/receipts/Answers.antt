@@ -1,4 +1,4 @@
-use Rattle.std.proofs.Common.{◌≡◌, ◌≤◌, arith, ◌∙◌, length, map}
+use Rattle.std.proofs.Common.{◌≡◌, ◌≤◌, arith, ◌∙◌, length}
 use Rattle.pawn_wire.specs.Fields.{pairs_of}
 use Rattle.pawn_wire.specs.Receipts.{presented}
 use Rattle.pawn_wire.proofs.ReceiptLemmas.{few_said}

@@ -1,4 +1,4 @@
-use Rattle.std.proofs.Common.{arith, ℕ, [], refl, drop, ap, ◌∙◌, take, ◌+◌}
+use Rattle.std.proofs.Common.{arith, ℕ, refl, drop, ap, ◌∙◌, take, ◌+◌}
 use Rattle.pawn_host.proofs.SessionLemmas.{ended_at_end, ended_cut, ended_limit, ended_dry, broken_off, finished_faulty, finished_memory, broken_write, ended_closed, goes_on, acted_at, starts, taken_none, taken_more, are_taken, open_then}
 use Rattle.pawn_host.proofs.ReadLemmas.{read_none, read_then, read_more}
 use Rattle.pawn_host.proofs.FindLemmas.{not_by_writer}
