@@ -30,7 +30,9 @@ use Rattle.pawn_book.specs.declared.reply.Reply.TheVariants.{BookMade, TermsPut,
 use Rattle.pawn_book.specs.declared.change.Change.{Change}
 use Rattle.pawn_book.specs.declared.change.Change.TheVariants.{AddTerms, PutPledge}
 use Rattle.pawn_book.specs.BookStep.{BookValue, Told, Refuses, Says, are_rates, first_secret, is_live, only_live, book_step, changed_book, created, first_receipt, head_of, is_agreed, is_book, is_flag, is_kind, is_opening, is_text, made_book, newest, next_terms, pledge_from, put_from, put_terms, take_pledge, terms_at, with_reference, under_terms}
-use Rattle.pawn_book.specs.Laws.{ChangesDiffer, RepeatsActOnce, book_run}
+use Rattle.pawn_book.specs.declared.request.Caller.TheVariants.{Operator, Broker, Bearer}
+use Rattle.pawn_book.specs.declared.request.BrokerRequest.TheVariants.{PutTerms, TakePledge, OnPledge, Show}
+use Rattle.pawn_book.specs.Laws.{Asks, ChangesDiffer, IsMaking, RepeatsActOnce, book_run}
 use Rattle.pawn_book.proofs.Sounds.{absurd_none, each_at, some_is}
 use Rattle.pawn_book.specs.Changes.{Continues}
 use Rattle.pawn_book.proofs.KeptLemmas.{number_kept, put_there, reference_kept}
@@ -67,7 +69,7 @@ change_differs before operator b stamp caller change reply is same = from (made_
         let after : Some (record book { pledges = put_from 1 book.pledges p.agreement.number p }) ≡ Some book =
         ap (λ o. changed_book o (PutPledge b p.agreement.number p)) (sym stands) ∙ ap (changed_book before) (sym makes) ∙ same ∙ stands in
         longer book.pledges p (sym (next_pledges book opening stamp p answer) ∙ ap (λ (o : Option BookValue). (unwrap_or o book).pledges) after)
-    from (CommandIs book n command stands never did) =
+    from (CommandIs book n command stands asks did) =
         let after : Some (record book { pledges = put_from 1 book.pledges n did.next }) ≡ Some book =
         ap (λ o. changed_book o (PutPledge b n did.next)) (sym stands) ∙ ap (changed_book before) (sym did.makes) ∙ same ∙ stands in
         let list : put_from 1 book.pledges n did.next ≡ book.pledges = ap (λ (o : Option BookValue). (unwrap_or o book).pledges) after in
@@ -146,6 +148,15 @@ first_kept p q issued one kept =
     ap (λ n. let r : Receipt = record { number = n; secret = first_secret q.secrets } in r) (ap (λ (a : Agreement). a.number) kept.agreement)
     ∙ ap (λ s. let r : Receipt = record { number = p.agreement.number; secret = s } in r) secrets
 
+-- who commands a pledge makes none
+asks_not_making : (caller : Caller) (n : ℕ) (command : Command) → Asks caller n command → IsMaking caller → ⊥
+asks_not_making (Operator key new) n command asks making = asks
+asks_not_making (Broker key (PutTerms new)) n command asks making = asks
+asks_not_making (Broker key (TakePledge opening)) n command asks making = asks
+asks_not_making (Broker key (OnPledge m own)) n command asks making = making
+asks_not_making (Broker key (Show m)) n command asks making = asks
+asks_not_making (Bearer asked) n command asks making = making
+
 -- a request that made a change is told the same again, and makes none
 pub repeat_told : RepeatsActOnce
 repeat_told before operator b stamp again caller change reply later making is = from (made_by before operator b stamp caller change reply is)
@@ -195,7 +206,7 @@ repeat_told before operator b stamp again caller change reply later making is = 
         ∙ ap (λ v. if v then Says (Told (Opened (first_receipt q))) else Refuses RefTaken) (opening_kept p q opening found.2 ∙ same)
         ∙ ap (λ r. Says (Told (Opened r))) (first_kept p q taken.first.0 taken.first.1 found.2)
         ∙ ap (λ r. Says (Told r)) (sym says))
-    from (CommandIs book n command stands never did) = absurd (never making)
+    from (CommandIs book n command stands asks did) = absurd (asks_not_making caller n command asks making)
 
 -- the pledge that a command changed stands at its number after any run
 pub stands_after : (book : BookValue) (operator b n : ℕ) (stamp : Stamp) (command : Command) (change : Change) (reply : Reply) (later : List (Stamp × Caller)) (did : DidOn book b n stamp command change reply)

@@ -17,3 +17,7 @@ pub mod NextLemmas
 pub mod ListReads
 pub mod ListSaves
 pub mod ListKeeping
+pub mod SlotMachine
+pub mod SlotRuns
+pub mod SlotAccepted
+pub mod SlotSpent

@@ -22,7 +22,7 @@ use Rattle.pawn_book.specs.declared.reply.Reply.TheVariants.{BookMade, TermsPut,
 use Rattle.pawn_book.specs.declared.change.Change.{Change}
 use Rattle.pawn_book.specs.declared.change.Change.TheVariants.{MakeBook, AddTerms, PutPledge}
 use Rattle.pawn_book.specs.BookStep.{BookValue, Out, Shown, Outcome, Refuses, Says, Makes, are_rates, are_unknown, bearer_commands, broker_commands, confirmed_booking, is_window_full, judged_outcome, shown, windowed, book_step, first_receipt, head_of, held_out, is_book, is_opening, made, newest, next_terms, pledge_from, put_terms, take_pledge, taken_under, terms_at, with_reference, live_at, pledge_in}
-use Rattle.pawn_book.specs.Laws.{IsMaking}
+use Rattle.pawn_book.specs.Laws.{Asks}
 use Rattle.pawn_book.proofs.CommandPlans.{live_is}
 
 -- what an outcome makes
@@ -56,7 +56,7 @@ pub data MadeBy (before : Option BookValue) (operator b : ℕ) (stamp : Stamp) (
   PledgeIs : (key : ℕ) (opening : Opening) (book : BookValue) (p : PledgeValue) → caller ≡ Broker key (TakePledge opening) → before ≡ Some book → (book.key == key) ≡ true
       → with_reference book.pledges opening.reference ≡ None → taken_under (head_of book) opening stamp (newest book.terms) ≡ Ok p
       → change ≡ PutPledge b p.agreement.number p → reply ≡ Opened (first_receipt p) → MadeBy before operator b stamp caller change reply
-  CommandIs : (book : BookValue) (n : ℕ) (command : Command) → before ≡ Some book → (IsMaking caller → ⊥) → DidOn book b n stamp command change reply
+  CommandIs : (book : BookValue) (n : ℕ) (command : Command) → before ≡ Some book → Asks caller n command → DidOn book b n stamp command change reply
       → MadeBy before operator b stamp caller change reply
 
 pub if_makes : (test : Bool) (x : Outcome) (why : Refusal) (change : Change) (reply : Reply) → (if test then x else Refuses why) ≡ Makes change reply → (test ≡ true) × (x ≡ Makes change reply)
@@ -146,13 +146,13 @@ made_by (Some book) operator b stamp (Broker key (TakePledge opening)) change re
         PledgeIs key opening book ok.0 refl refl (if_makes (book.key == key) _ _ change reply is).0 at ok.1 (same_change _ change _ reply ok.2) (same_reply _ change _ reply ok.2)
 made_by (Some book) operator b stamp (Broker key (OnPledge n command)) change reply is =
     let passed = if_makes (book.key == key) _ _ change reply is in
-    CommandIs book n command refl (λ making. making)
+    CommandIs book n command refl (refl, refl)
     (number_made book b n stamp command (pledge_from 1 book.pledges n) change reply refl passed.1)
 made_by (Some book) operator b stamp (Broker key (Show n)) change reply is =
     let passed = if_makes (book.key == key) _ _ change reply is in shown_makes stamp (pledge_from 1 book.pledges n) change reply passed.1
 made_by None operator b stamp (Bearer (OnReceipt r command)) change reply is = cc is
 made_by (Some book) operator b stamp (Bearer (OnReceipt r command)) change reply is =
-    CommandIs book r.number command refl (λ making. making)
+    CommandIs book r.number command refl (refl, refl)
     (receipt_made book b r stamp command (live_at (pledge_in (Some book)) r) change reply refl is)
 made_by before operator b stamp (Bearer (Held receipts)) change reply is = held_makes (map (live_at (pledge_in before)) receipts) is
   where

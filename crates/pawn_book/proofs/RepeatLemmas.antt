@@ -24,7 +24,7 @@ use Rattle.pawn_book.proofs.MadeLemmas.{DidOn, if_makes, number_made, receipt_ma
 use Rattle.pawn_book.proofs.Sounds.{some_is}
 
 -- a command that made a change
-did_on : (book : BookValue) (operator b : ℕ) (stamp : Stamp) (caller : Caller) (n : ℕ) (command : Command) (change : Change) (reply : Reply) → Asks caller n command
+pub did_on : (book : BookValue) (operator b : ℕ) (stamp : Stamp) (caller : Caller) (n : ℕ) (command : Command) (change : Change) (reply : Reply) → Asks caller n command
     → book_step (Some book) operator b stamp caller ≡ Makes change reply → DidOn book b n stamp command change reply
 did_on book operator b stamp (Operator key new) n command change reply asks is = absurd asks
 did_on book operator b stamp (Broker key (PutTerms new)) n command change reply asks is = absurd asks

@@ -11,3 +11,6 @@ pub mod Sound
 pub mod Books
 pub mod Listed
 pub mod Laws
+pub mod Traces
+pub mod Machines
+pub mod Slots

@@ -1,4 +1,5 @@
 ghost use Rattle.pawn_book.specs.Laws.{ChangesDiffer, EntriesActOnce, EntriesActOnceForAll, ExtensionsActOnce, RepeatsActOnce, StandingEndIsTold};
+ghost use Rattle.pawn_book.specs.Slots.{BearersJoin, BooksAnswerAlone, EarlierReceiptsAreSpent, EqualTracesAnswerAlike, OtherBooksStay, SlotsAnswerAlone, SlotsAreHeld, SpentIsUnknown, SpentReceiptsStaySpent, TracesAreAccepted};
 
 /// What a plan calls a change is one.
 pub fn changes_differ()
@@ -21,4 +22,33 @@ pub fn entries_act_once()
 pub fn extensions_act_once()
     ensures standing_end { StandingEndIsTold }
     ensures law { ExtensionsActOnce }
+{}
+
+/// Each settled reply about a book is that of the book alone, fed its own requests, and no request changes another book.
+/// F is the type of what may be wrong with a request's bytes.
+pub fn books_answer_alone<F>()
+    ensures alone { BooksAnswerAlone F }
+    ensures others { OtherBooksStay }
+{}
+
+/// Each settled reply to a slot's request is that of the slot's own machine, fed its own trace: so what other callers do
+/// shows in none, and equal traces are answered alike.
+pub fn slots_answer_alone<F>()
+    ensures alone { SlotsAnswerAlone F }
+    ensures alike { EqualTracesAnswerAlike F }
+{}
+
+/// A slot's machine holds the pledges whose live receipt is in the slot; each command of its trace is accepted in its
+/// turn, and a bearer's joins exactly where the machine accepts it with a change.
+pub fn slots_are_held<F>()
+    ensures held { SlotsAreHeld F }
+    ensures accepted { TracesAreAccepted F }
+    ensures joins { BearersJoin F }
+{}
+
+/// A receipt that was declared away or surrendered is answered for good as one that was never issued.
+pub fn spent_receipts_are_unknown<F>()
+    ensures earlier { EarlierReceiptsAreSpent }
+    ensures stay { SpentReceiptsStaySpent F }
+    ensures unknown { SpentIsUnknown }
 {}

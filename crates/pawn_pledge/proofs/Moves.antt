@@ -47,7 +47,7 @@ pub if-unanswered : (b : Bool) (a : Done) (own : Judged) (q : PledgeValue) (d : 
 if-unanswered true a own q d h = cc
 if-unanswered false a own q d h = (refl, h)
 
-changed-is : (p q : PledgeValue) (d e : Done) → Changed p d ≡ Changed q e → q ≡ p
+pub changed-is : (p q : PledgeValue) (d e : Done) → Changed p d ≡ Changed q e → q ≡ p
 changed-is p q d e h = cc
 
 -- tests on numbers
@@ -78,7 +78,7 @@ open-is Closing.Open h = refl
 open-is (Closing.Redeemed day paid) h = absurd (true≢false h)
 open-is (Closing.Sold day net) h = absurd (true≢false h)
 
-gate-is : (p : PledgeValue) (x : ℕ) → NoneApplies (bars p x) → IsGated p x
+pub gate-is : (p : PledgeValue) (x : ℕ) → NoneApplies (bars p x) → IsGated p x
 gate-is p x h = record { later = not_below x p.standing.last h.0; standing = open-is p.standing.closing h.1.0; not_passed = h.1.1.0 }
 
 -- what a step that changes does, on the day x with the word w; a day that the command names is one that a request can give

@@ -136,12 +136,34 @@ OneIsLive =
     (p : PledgeValue) (commands : List (Stamp × Command)) (one other : ℕ)
     → live_of (pledge_after_all p commands) ≡ Some one → live_of (pledge_after_all p commands) ≡ Some other → one ≡ other
 
--- a secret that was issued and is not live, declared away or surrendered, is never live again
+-- a secret that was issued and is not live: declared away, or surrendered
+pub record IsSpent (p : PledgeValue) (secret : ℕ) : Type 0 where
+  pub issued : list_any (λ i. i.secret == secret) p.secrets ≡ true
+  pub not_live : live_of p ≡ Some secret → ⊥
+
+-- it is never live again
 abbrev pub NeverLiveAgain : Type 0
-NeverLiveAgain =
-    (p : PledgeValue) (commands : List (Stamp × Command)) (secret : ℕ)
-    → list_any (λ i. i.secret == secret) p.secrets ≡ true → (live_of p ≡ Some secret → ⊥)
-    → live_of (pledge_after_all p commands) ≡ Some secret → ⊥
+NeverLiveAgain = (p : PledgeValue) (commands : List (Stamp × Command)) (secret : ℕ) → IsSpent p secret → IsSpent (pledge_after_all p commands) secret
+
+-- a declaration or a redemption
+abbrev pub IsReplacing : Command → Type 0
+IsReplacing (Command.Draw seq pence) = ⊥
+IsReplacing (Command.Repay seq pence) = ⊥
+IsReplacing Command.Hold = ⊥
+IsReplacing Command.Release = ⊥
+IsReplacing (Command.Declare paper) = Unit {0}
+IsReplacing (Command.AskBooking day window) = ⊥
+IsReplacing Command.CancelBooking = ⊥
+IsReplacing (Command.DecideBooking decision) = ⊥
+IsReplacing (Command.Redeem paid) = Unit {0}
+IsReplacing (Command.Sell net) = ⊥
+IsReplacing (Command.Extend until) = ⊥
+
+-- each secret that was issued before one of them is spent by it
+abbrev pub EarlierAreSpent : Type 0
+EarlierAreSpent =
+    (p next : PledgeValue) (stamp : Stamp) (command : Command) (done : Done) (secret : ℕ)
+    → IsReplacing command → pledge_step p stamp command ≡ Changed next done → list_any (λ i. i.secret == secret) p.secrets ≡ true → IsSpent next secret
 
 -- a brief tells what its pledge owes
 abbrev pub BriefOwes : Type 0

@@ -1,4 +1,4 @@
-ghost use Rattle.pawn_pledge.specs.Laws.{StartsStanding, StaysReplayable, StaysWithin, StaysStanding, AgreementStays, ChangesDiffer, ClosedStays, SecretsGrow, EntriesGrow, ExtensionsGrow, ListsGrow, EntriesActOnce, StandingEndIsAnswered, ExtensionsActOnce, OneIsLive, NeverLiveAgain, BriefOwes, BriefHasStatus, BriefIsWithin, SecretTextsReadBack, ReceiptTextsReadBack, ReceiptTextsAreOne};
+ghost use Rattle.pawn_pledge.specs.Laws.{StartsStanding, StaysReplayable, StaysWithin, StaysStanding, AgreementStays, ChangesDiffer, ClosedStays, SecretsGrow, EntriesGrow, ExtensionsGrow, ListsGrow, EntriesActOnce, StandingEndIsAnswered, ExtensionsActOnce, OneIsLive, NeverLiveAgain, EarlierAreSpent, BriefOwes, BriefHasStatus, BriefIsWithin, SecretTextsReadBack, ReceiptTextsReadBack, ReceiptTextsAreOne};
 
 /// Whatever is sent, a pledge stays one that can have come about, and a change changes something.
 pub fn laws_of_steps()
@@ -29,6 +29,7 @@ pub fn laws_of_repeats()
 pub fn laws_of_receipts()
     ensures grow { SecretsGrow }
     ensures one { OneIsLive }
+    ensures earlier { EarlierAreSpent }
     ensures never_again { NeverLiveAgain }
 {}
 

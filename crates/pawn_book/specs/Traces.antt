@@ -1,0 +1,134 @@
+-- What a run of requests leaves of one book, and of a slot: a list of receipts of one book.
+use Rattle.std.specs.Prelude.{ℕ, List, [], ◌∷◌, ◌++◌, ◌+◌, ◌==◌, Bool, true, false, ◌&&◌, Option, None, Some, is_some, Result, Ok, Err, if◌then◌else◌}
+use Rattle.std.specs.List.{list_any, flat_map}
+use Rattle.std.specs.FinMap.{get}
+use Rattle.pawn_pledge.specs.declared.command.Stamp.{Stamp}
+use Rattle.pawn_pledge.specs.declared.command.Command.{Command}
+use Rattle.pawn_pledge.specs.declared.receipt.Receipt.{Receipt}
+use Rattle.pawn_pledge.specs.Pledge.{PledgeValue}
+use Rattle.pawn_book.specs.declared.request.Request.{Request}
+use Rattle.pawn_book.specs.declared.request.Caller.{Caller}
+use Rattle.pawn_book.specs.declared.request.Caller.TheVariants.{Operator, Broker, Bearer}
+use Rattle.pawn_book.specs.declared.request.BrokerRequest.{BrokerRequest}
+use Rattle.pawn_book.specs.declared.request.BrokerRequest.TheVariants.{PutTerms, TakePledge, OnPledge, Show}
+use Rattle.pawn_book.specs.declared.request.BearerRequest.{BearerRequest}
+use Rattle.pawn_book.specs.declared.request.BearerRequest.TheVariants.{Held, OnPledge as OnReceipt}
+use Rattle.pawn_book.specs.declared.change.Change.{Change}
+use Rattle.pawn_book.specs.declared.change.Change.TheVariants.{MakeBook, AddTerms, PutPledge}
+use Rattle.pawn_book.specs.declared.refusal.Refusal.{Refusal}
+use Rattle.pawn_book.specs.declared.refusal.Refusal.TheVariants.{Full, Memory, Store}
+use Rattle.pawn_book.specs.BookStep.{BookValue, Out, Told, Denied, Shown, Outcome, Refuses, Says, Makes, out_of, is_live, pledge_in}
+use Rattle.pawn_book.specs.HostStep.{Host, host_step}
+use Rattle.pawn_book.specs.Keeping.{pledges_of}
+use Rattle.pawn_book.specs.Runs.{Mark, read_as, no_memory, no_store, Event, event_after}
+
+-- settled replies
+
+-- what the rules refuse; the rest is want of rows, of memory or of a store
+abbrev pub is_by_rules : Refusal → Bool
+is_by_rules Full = false
+is_by_rules Memory = false
+is_by_rules Store = false
+is_by_rules why = true
+
+abbrev pub is_settled : Out → Bool
+is_settled (Told reply) = true
+is_settled (Denied why) = is_by_rules why
+is_settled (Shown day pledges) = true
+
+-- a book's trace
+
+-- a request on book b whose reply is settled
+abbrev pub named : ℕ → Stamp → Request → Out → List (Stamp × Caller)
+named b stamp request out = if (request.book == b) && is_settled out then (stamp, request.caller) ∷ [] else []
+
+abbrev pub marked_named : {F : Type 0} → ℕ → Host → ℕ → Stamp → Mark F → List (Stamp × Caller)
+marked_named b h operator stamp (read_as (Ok request)) = named b stamp request (out_of (host_step h operator stamp request))
+marked_named b h operator stamp (read_as (Err fault)) = []
+marked_named b h operator stamp no_memory = []
+marked_named b h operator stamp no_store = []
+
+-- the requests of a run on book b whose replies are settled, in order
+abbrev pub book_trace : {F : Type 0} → ℕ → Host → ℕ → List (Event F) → List (Stamp × Caller)
+book_trace b h operator [] = []
+book_trace b h operator (event ∷ events) =
+    marked_named b h operator event.stamp event.mark ++ book_trace b (event_after h operator event) operator events
+
+-- a slot's trace
+
+-- what happens to a slot
+pub data SlotEvent : Type 0 where
+  -- a pledge comes in, as it is when a receipt of the slot becomes its live one
+  Entered : (number : ℕ) (pledge : PledgeValue) → SlotEvent
+  -- a command changes a pledge that is in
+  Did : (number : ℕ) (stamp : Stamp) (command : Command) → SlotEvent
+
+-- a receipt of the slot is the live one of pledge n
+abbrev pub is_live_in : List Receipt → ℕ → PledgeValue → Bool
+is_live_in slot n p = list_any (λ r. (r.number == n) && is_live r.secret p) slot
+
+-- pledge n, if it is in the slot
+abbrev pub within_slot : List Receipt → ℕ → Option PledgeValue → Option PledgeValue
+within_slot slot n None = None
+within_slot slot n (Some p) = if is_live_in slot n p then Some p else None
+
+-- the pledges of a book that are in the slot
+abbrev pub slot_of : List Receipt → Option BookValue → ℕ → Option PledgeValue
+slot_of slot book n = within_slot slot n (pledge_in book n)
+
+abbrev pub enters : List Receipt → ℕ × PledgeValue → List SlotEvent
+enters slot pledge = if is_live_in slot pledge.0 pledge.1 then Entered pledge.0 pledge.1 ∷ [] else []
+
+-- the command that a request carries
+abbrev pub broker_does : ℕ → Stamp → BrokerRequest → List SlotEvent
+broker_does n stamp (PutTerms new) = []
+broker_does n stamp (TakePledge opening) = []
+broker_does n stamp (OnPledge number command) = Did n stamp command ∷ []
+broker_does n stamp (Show number) = []
+
+abbrev pub bearer_does : ℕ → Stamp → BearerRequest → List SlotEvent
+bearer_does n stamp (Held receipts) = []
+bearer_does n stamp (OnReceipt receipt command) = Did n stamp command ∷ []
+
+abbrev pub does : ℕ → Stamp → Caller → List SlotEvent
+does n stamp (Operator key new) = []
+does n stamp (Broker key asked) = broker_does n stamp asked
+does n stamp (Bearer asked) = bearer_does n stamp asked
+
+-- the pledges that a change makes or changes, as they are after it
+abbrev pub touched : Change → List (ℕ × PledgeValue)
+touched (MakeBook b new) = []
+touched (AddTerms b version terms) = []
+touched (PutPledge b n p) = (n, p) ∷ []
+
+-- what a changed pledge is to the slot: if it was in, the command happened to it; else it may come in
+abbrev pub touches : List Receipt → Option BookValue → Stamp → Caller → ℕ × PledgeValue → List SlotEvent
+touches slot before stamp caller pledge =
+    if is_some (slot_of slot before pledge.0) then does pledge.0 stamp caller else enters slot pledge
+
+abbrev pub slot_events : List Receipt → Option BookValue → Stamp → Caller → Outcome → List SlotEvent
+slot_events slot before stamp caller (Refuses why) = []
+slot_events slot before stamp caller (Says out) = []
+slot_events slot before stamp caller (Makes change reply) = flat_map (touches slot before stamp caller) (touched change)
+
+abbrev pub marked_events : {F : Type 0} → ℕ → List Receipt → Host → ℕ → Stamp → Mark F → List SlotEvent
+marked_events b slot h operator stamp (read_as (Ok request)) =
+    if request.book == b then slot_events slot (get h.books b) stamp request.caller (host_step h operator stamp request) else []
+marked_events b slot h operator stamp (read_as (Err fault)) = []
+marked_events b slot h operator stamp no_memory = []
+marked_events b slot h operator stamp no_store = []
+
+-- what happens to the slot in a run
+abbrev pub run_events : {F : Type 0} → ℕ → List Receipt → Host → ℕ → List (Event F) → List SlotEvent
+run_events b slot h operator [] = []
+run_events b slot h operator (event ∷ events) =
+    marked_events b slot h operator event.stamp event.mark ++ run_events b slot (event_after h operator event) operator events
+
+abbrev pub numbered_from : ℕ → List PledgeValue → List (ℕ × PledgeValue)
+numbered_from k [] = []
+numbered_from k (p ∷ ps) = (k, p) ∷ numbered_from (k + 1) ps
+
+-- first what is in the slot when the run begins, by number
+abbrev pub slot_trace : {F : Type 0} → ℕ → List Receipt → Host → ℕ → List (Event F) → List SlotEvent
+slot_trace b slot h operator events =
+    flat_map (enters slot) (numbered_from 1 (pledges_of (get h.books b))) ++ run_events b slot h operator events
