@@ -14,3 +14,4 @@ pub mod Laws
 pub mod Traces
 pub mod Machines
 pub mod Slots
+pub mod WorkedSlots

@@ -19,6 +19,7 @@ mod reply;
 mod request;
 mod set_up;
 mod visit;
+mod worked;
 
 pub use acting::{act, commit};
 pub use capacity::Capacity;
@@ -42,6 +43,7 @@ pub use refusal::Refusal;
 pub use reply::Reply;
 pub use request::{BearerRequest, BrokerRequest, Caller, Name, NewBook, NewTerms, Request};
 pub use visit::{Flow, Visitor};
+pub use worked::worked_slots;
 
 #[cfg(test)]
 mod tests;

@@ -5,3 +5,4 @@ pub mod SessionLemmas
 pub mod RunLemmas
 pub mod RunMore
 pub mod LawLemmas
+pub mod HeadlineLemmas

@@ -1,4 +1,5 @@
 //! Laws of the definitions.
+ghost use Rattle.pawn_host.specs.Headline.{EqualTracesAnswerAlike, RunsAnswerAlone};
 ghost use Rattle.pawn_host.specs.Laws.{SplitIsUnique, OpenEnds, SplitEndsEarly, SplitBegins, SplitIsFront, ItemsAreUnique, RunReadsEvents, RunsJoin, FaultIsExact, NothingIsWanted};
 
 /// A stream has one split, but for its ending in a head that can't be completed.
@@ -49,4 +50,10 @@ pub fn nothing_is_wanted()
 /// A rest that can still become a head is not faulted, and one that can't is.
 pub fn fault_is_exact()
     ensures law { FaultIsExact }
+{}
+
+/// Each answer of a run is that of one slot alone, and slots with equal traces are answered alike.
+pub fn runs_answer_alone()
+    ensures alone { RunsAnswerAlone }
+    ensures alike { EqualTracesAnswerAlike }
 {}

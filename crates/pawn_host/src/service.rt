@@ -5,6 +5,7 @@ ghost use Rattle.pawn_book.specs.declared.request.BearerRequest.TheVariants.{Hel
 ghost use Rattle.pawn_book.specs.declared.request.BrokerRequest.TheVariants.{Show};
 ghost use Rattle.pawn_book.specs.Plans.{IsWritten};
 ghost use Rattle.pawn_wire.specs.Reply.{out_text};
+ghost use Rattle.pawn_host.specs.Headline.{IsRunOfSlots};
 ghost use Rattle.pawn_host.specs.Keeps.{service_keep, service_operator, answer_bytes, IsKeyOf, Tells, StaysOpen, Serves, Answers, IsActed, IsRun};
 
 use pawn_book::{
@@ -184,6 +185,8 @@ impl<K: Keep> Service<K> {
         ensures stays { StaysOpen K.keeping self.old self.new }
         ensures run { IfOk result (λ answers. Serves K.keeping self.old self.new
             (λ start. IsRun start (map (λ p. (p.0, p.1.items)) items.now) (map answer_bytes answers.items))) }
+        ensures headline { IfOk result (λ answers. Serves K.keeping self.old self.new
+            (λ start. IsRunOfSlots start (map (λ p. (p.0, p.1.items)) items.now) (map answer_bytes answers.items))) }
         ensures err { OnErr result (self.new ≡ self.old) }
     {
         let mut answers = Vec::with_capacity(self.alloc, items.len())?;

@@ -1,6 +1,8 @@
-use Rattle.std.proofs.Common.{◌∙◌, ap, ◌+◌, ℕ, refl}
+use Rattle.std.proofs.Common.{◌∙◌, ap, arith, ◌+◌, ℕ, refl}
+use Rattle.std.proofs.lemmas.List.{take_all}
 use Rattle.pawn_host.specs.Keeps.{start_of, answer_bytes, host_by}
 use Rattle.pawn_host.proofs.SessionLemmas.{acted_at, open_then}
+use Rattle.pawn_host.proofs.HeadlineLemmas.{run_of_slots}
 use Rattle.pawn_host.proofs.RunMore.{run_turn}
 use Rattle.pawn_host.proofs.service.Service.run.Goals as goal
 
@@ -16,3 +18,8 @@ loop-item-preserved g c = record {
       run_turn start _ _ c.loop-item.item-index c.args.items.now c.item-item.result c.loop-item.answers.items _ c.answer_one-answer.result c.loop-item-test.true c.item-item.is c.push_reserved.ensures.items before
       (acted_at _ start c.item-item.result.0 c.as_slice.result.now c.item-item.result.1.items _ (answer_bytes c.answer_one-answer.result) _ acted c.loop-item.invariant.stays.on.stays c.loop-item.invariant.stays.operator c.as_slice.ensures.value refl);
 }
+
+pub returns-clause-headline : goal.returns-clause-headline
+returns-clause-headline g c = λ honest h sound at.
+    let run = c.loop-item.invariant.run honest h sound at in
+    run_of_slots (start_of g.K.Keep.keeping c.args.self.now h) _ _ _ (rw (take_all c.loop-item.item-index c.args.items.now (omega (arith, c.loop-item-test.false))) at run)

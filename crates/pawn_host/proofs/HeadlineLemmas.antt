@@ -1,0 +1,114 @@
+-- Each answer of a run is that of a machine alone.
+use Rattle.std.proofs.Common.{◌≡◌, ◌≢◌, ℕ, zero, suc, List, [], ◌∷◌, map, take, true, Some, None, Ok, Err, refl, ◌∙◌, ap, sym, subst}
+use Rattle.std.specs.Prelude.{All, Result, slice_get}
+use Rattle.std.specs.FinMap.{get}
+use Rattle.std.specs.Result.{result_unwrap_or}
+use Rattle.std.proofs.lemmas.List.Elements.{All-head, All-tail}
+use Rattle.pawn_pledge.specs.declared.command.Stamp.{Stamp}
+use Rattle.pawn_pledge.specs.declared.receipt.Receipt.{Receipt}
+use Rattle.pawn_book.specs.declared.refusal.Refusal.{Refusal}
+use Rattle.pawn_book.specs.declared.refusal.Refusal.TheVariants as no
+use Rattle.pawn_book.specs.declared.request.Request.{Request}
+use Rattle.pawn_book.specs.declared.request.Caller.TheVariants.{Bearer}
+use Rattle.pawn_book.specs.declared.request.BearerRequest.{BearerRequest}
+use Rattle.pawn_book.specs.BookStep.{Out, Told, Denied, Shown, out_of}
+use Rattle.pawn_book.specs.HostStep.{Host, host_step}
+use Rattle.pawn_book.specs.Runs.{Mark, read_as, no_memory, no_store, Said, Answered, event_after, marked_said}
+use Rattle.pawn_book.specs.Traces.{is_settled, slot_trace}
+use Rattle.pawn_book.specs.Machines.{solo_reply}
+use Rattle.pawn_book.proofs.Sounds.{absurd_none, some_is}
+use Rattle.pawn_book.proofs.SlotRuns.{books_answer_alone, slots_answer_alone}
+use Rattle.pawn_wire.specs.Request.{Reads}
+use Rattle.pawn_wire.specs.declared.fault.WireFault.{WireFault}
+use Rattle.pawn_wire.proofs.RequestLemmas.{reads_unique}
+use Rattle.pawn_host.specs.Run.{Item, IsMarkOf, IsMarked, event_of, events, host_after, replies, said_text}
+use Rattle.pawn_host.specs.Keeps.{Start, IsRun}
+use Rattle.pawn_host.specs.Headline.{AnswerAlone, EqualTracesAnswerAlike, IsRunOfSlots, IsSettled, RunsAnswerAlone, by_bearer, reply_bytes}
+use Rattle.pawn_host.proofs.RunMore.{marked_all}
+
+-- the answer at a place is what its item was told
+answer_at : (h : Host) (operator : ℕ) (items : List Item) (i : ℕ) (item : Item) (answer : List ℕ) → slice_get items i ≡ Some item → slice_get (replies h operator items) i ≡ Some answer
+    → answer ≡ said_text (marked_said (host_after h operator (take i items)) operator item.stamp item.mark)
+answer_at h operator [] i item answer is told = absurd_none is
+answer_at h operator (x ∷ items) zero item answer is told =
+    sym (some_is _ answer told) ∙ ap (λ (y : Item). said_text (marked_said h operator y.stamp y.mark)) (some_is x item is)
+answer_at h operator (x ∷ items) (suc i) item answer is told = answer_at (event_after h operator (event_of x)) operator items i item answer is told
+
+-- and the item there has its mark
+marked_at : (Steady : Type 0) (items : List Item) (i : ℕ) (item : Item) → All (IsMarked Steady) items → slice_get items i ≡ Some item → IsMarked Steady item
+marked_at Steady [] i item marked is = absurd_none is
+marked_at Steady (x ∷ items) zero item marked is = subst (IsMarked Steady) (some_is x item is) (All-head (IsMarked Steady) x items marked)
+marked_at Steady (x ∷ items) (suc i) item marked is = marked_at Steady items i item (All-tail (IsMarked Steady) x items marked) is
+
+-- what is none of the three texts is settled
+settled_refusal : (why : Refusal) → IsSettled (reply_bytes (Denied why)) → is_settled (Denied why) ≡ true
+settled_refusal (no.Pledge refusal) settled = refl
+settled_refusal (no.Terms fault) settled = refl
+settled_refusal no.NoSuchBook settled = refl
+settled_refusal no.NoSuchReceipt settled = refl
+settled_refusal no.NoSuchPledge settled = refl
+settled_refusal no.BookTaken settled = refl
+settled_refusal no.NoTerms settled = refl
+settled_refusal no.TermsSeq settled = refl
+settled_refusal no.RefTaken settled = refl
+settled_refusal no.WindowFull settled = refl
+settled_refusal no.NotOperator settled = refl
+settled_refusal no.TermsFull settled = refl
+settled_refusal no.PledgesFull settled = refl
+settled_refusal no.Full settled = absurd (settled.0 refl)
+settled_refusal no.Memory settled = absurd (settled.1 refl)
+settled_refusal no.Store settled = absurd (settled.2 refl)
+
+settled_out : (out : Out) → IsSettled (reply_bytes out) → is_settled out ≡ true
+settled_out (Told reply) settled = refl
+settled_out (Denied why) settled = settled_refusal why settled
+settled_out (Shown day pledges) settled = refl
+
+-- bytes that are a request were read as that request
+request_read : (bytes : List ℕ) (request : Request) (said : Result Request WireFault) → Reads bytes (Ok request) → Reads bytes said → said ≡ Ok request
+request_read bytes request said asked read = reads_unique bytes said (Ok request) read asked
+
+-- a settled answer is the host's reply to the request, and that is settled
+pub record IsHostsReply (h : Host) (operator : ℕ) (stamp : Stamp) (request : Request) (answer : List ℕ) : Type 0 where
+  pub text : answer ≡ reply_bytes (out_of (host_step h operator stamp request))
+  pub settled : is_settled (out_of (host_step h operator stamp request)) ≡ true
+
+hosts_reply : (Steady : Type 0) (h : Host) (operator : ℕ) (stamp : Stamp) (bytes : List ℕ) (mark : Mark WireFault) (request : Request) (answer : List ℕ)
+    → IsMarkOf Steady bytes mark → answer ≡ said_text (marked_said h operator stamp mark) → Reads bytes (Ok request) → IsSettled answer → IsHostsReply h operator stamp request answer
+hosts_reply Steady h operator stamp bytes (read_as said) request answer marked told asked settled =
+    let text : answer ≡ reply_bytes (out_of (host_step h operator stamp request)) =
+    told ∙ ap (λ (r : Result Request WireFault). said_text (marked_said h operator stamp (read_as r))) (request_read bytes request said asked marked.0) in
+    record { text = text; settled = settled_out (out_of (host_step h operator stamp request)) (subst IsSettled text settled) }
+hosts_reply Steady h operator stamp bytes no_memory request answer marked told asked settled = absurd (settled.1 told)
+hosts_reply Steady h operator stamp bytes no_store request answer marked told asked settled = absurd (settled.2 told)
+
+reply_at : (h : Host) (operator : ℕ) (items : List Item) (i : ℕ) (item : Item) (request : Request) (answer : List ℕ) → All (IsMarked ⊥) items → slice_get items i ≡ Some item → slice_get (replies h operator items) i ≡ Some answer
+    → Reads item.bytes (Ok request) → IsSettled answer → IsHostsReply (host_after h operator (take i items)) operator item.stamp request answer
+reply_at h operator items i item request answer marked is told asked settled =
+    hosts_reply ⊥ (host_after h operator (take i items)) operator item.stamp item.bytes item.mark request answer
+    (marked_at ⊥ items i item marked is) (answer_at h operator items i item answer is told) asked settled
+
+pub runs_answer_alone : RunsAnswerAlone
+runs_answer_alone h operator items marked = record {
+  books = λ i item answer is told request asked settled.
+      let reply = reply_at h operator items i item request answer marked is told asked settled in
+      reply.text ∙ ap reply_bytes (books_answer_alone h operator (events (take i items)) item.stamp request reply.settled);
+  slots = λ i item answer is told b slot asked read mine settled.
+      let reply = reply_at h operator items i item (by_bearer b asked) answer marked is told read settled in
+      reply.text ∙ ap reply_bytes (slots_answer_alone h operator b slot (events (take i items)) item.stamp asked mine reply.settled);
+}
+
+pub equal_traces_answer_alike : EqualTracesAnswerAlike
+equal_traces_answer_alike h g operator items others marked also i j item twin answer other is told twin_is twin_told b slot asked read twin_read stamps mine settled twin_settled same =
+    (runs_answer_alone h operator items marked).slots i item answer is told b slot asked read mine settled
+    ∙ ap (λ trace. reply_bytes (solo_reply slot trace b item.stamp asked)) same
+    ∙ ap (λ (stamp : Stamp). reply_bytes (solo_reply slot (slot_trace b slot g operator (events (take j others))) b stamp asked)) stamps
+    ∙ sym ((runs_answer_alone g operator others also).slots j twin other twin_is twin_told b slot asked twin_read mine twin_settled)
+
+pub run_of_slots : (start : Start) (given : List (Stamp × List ℕ)) (answers : List (List ℕ)) (stands : Host → Type 0) → IsRun start given answers stands → IsRunOfSlots start given answers stands
+run_of_slots start given answers stands run =
+    let marked : All (IsMarked ⊥) run.items = marked_all start.Steady ⊥ run.items (λ (never : ⊥). absurd never) run.marked in
+    record {
+      run = run;
+      alone = subst (AnswerAlone start.host start.operator run.items) (sym run.answers_are) (runs_answer_alone start.host start.operator run.items marked);
+    }

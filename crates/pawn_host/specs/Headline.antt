@@ -1,0 +1,72 @@
+-- The headline: each answer is what a plain machine gives that is fed one slot's trace alone.
+use Rattle.std.specs.Prelude.{◌≡◌, ◌≢◌, ℕ, List, take, slice_get, true, Some, Ok, All}
+use Rattle.std.specs.FinMap.{get}
+use Rattle.pawn_pledge.specs.declared.command.Stamp.{Stamp}
+use Rattle.pawn_pledge.specs.declared.receipt.Receipt.{Receipt}
+use Rattle.pawn_book.specs.declared.refusal.Refusal.TheVariants.{Full, Memory, Store}
+use Rattle.pawn_book.specs.declared.request.Request.{Request}
+use Rattle.pawn_book.specs.declared.request.Caller.TheVariants.{Bearer}
+use Rattle.pawn_book.specs.declared.request.BearerRequest.{BearerRequest}
+use Rattle.pawn_book.specs.BookStep.{Out, Denied}
+use Rattle.pawn_book.specs.HostStep.{Host}
+use Rattle.pawn_book.specs.Runs.{Answered}
+use Rattle.pawn_book.specs.Traces.{book_trace, slot_trace}
+use Rattle.pawn_book.specs.Machines.{is_slots, reply_alone, solo_reply}
+use Rattle.pawn_wire.specs.Request.{Reads}
+use Rattle.pawn_host.specs.Run.{Item, IsMarked, events, replies, said_text}
+use Rattle.pawn_host.specs.Keeps.{Start, IsRun}
+
+-- the bytes of a reply
+abbrev pub reply_bytes : Out → List ℕ
+reply_bytes out = said_text (Answered out)
+
+-- an answer that is none of these three: no row is left, memory was wanted, the store failed
+abbrev pub IsSettled : List ℕ → Type 0
+IsSettled answer = (answer ≢ reply_bytes (Denied Full)) × (answer ≢ reply_bytes (Denied Memory)) × (answer ≢ reply_bytes (Denied Store))
+
+-- the answer to a request on a book is the reply of that book alone to the requests on it before, whoever else was served
+abbrev pub BookAnswersAlone : Host → ℕ → List Item → Item → List ℕ → Type 0
+BookAnswersAlone h operator before item answer =
+    (request : Request)
+    → Reads item.bytes (Ok request) → IsSettled answer
+    → answer ≡ reply_bytes (reply_alone (get h.books request.book) operator request.book (book_trace request.book h operator (events before)) item.stamp request.caller)
+
+-- a bearer's request on book b
+abbrev pub by_bearer : ℕ → BearerRequest → Request
+by_bearer b asked = record { book = b; caller = Bearer asked }
+
+-- the answer to a slot's request is the reply of the slot alone to its own trace before, whoever else was served
+abbrev pub SlotAnswersAlone : Host → ℕ → List Item → Item → List ℕ → Type 0
+SlotAnswersAlone h operator before item answer =
+    (b : ℕ) (slot : List Receipt) (asked : BearerRequest)
+    → Reads item.bytes (Ok (by_bearer b asked)) → is_slots slot asked ≡ true → IsSettled answer
+    → answer ≡ reply_bytes (solo_reply slot (slot_trace b slot h operator (events before)) b item.stamp asked)
+
+-- each answer of a run is so
+pub record AnswerAlone (h : Host) (operator : ℕ) (items : List Item) (answers : List (List ℕ)) : Type 0 where
+  pub books : (i : ℕ) (item : Item) (answer : List ℕ)
+      → slice_get items i ≡ Some item → slice_get answers i ≡ Some answer → BookAnswersAlone h operator (take i items) item answer
+  pub slots : (i : ℕ) (item : Item) (answer : List ℕ)
+      → slice_get items i ≡ Some item → slice_get answers i ≡ Some answer → SlotAnswersAlone h operator (take i items) item answer
+
+-- a run of these items led to these answers, and each of them is so
+pub record IsRunOfSlots (start : Start) (given : List (Stamp × List ℕ)) (answers : List (List ℕ)) (stands : Host → Type 0) : Type 0 where
+  pub run : IsRun start given answers stands
+  pub alone : AnswerAlone start.host start.operator run.items answers
+
+-- so it is of the items of any run, and of those of one conversation
+abbrev pub RunsAnswerAlone : Type 0
+RunsAnswerAlone = (h : Host) (operator : ℕ) (items : List Item) → All (IsMarked ⊥) items → AnswerAlone h operator items (replies h operator items)
+
+-- after runs from two hosts, under one operator's key, that left a slot one trace, its next request is answered alike
+abbrev pub EqualTracesAnswerAlike : Type 0
+EqualTracesAnswerAlike =
+    (h g : Host) (operator : ℕ) (items others : List Item) → All (IsMarked ⊥) items → All (IsMarked ⊥) others
+    → (i j : ℕ) (item twin : Item) (answer other : List ℕ)
+    → slice_get items i ≡ Some item → slice_get (replies h operator items) i ≡ Some answer
+    → slice_get others j ≡ Some twin → slice_get (replies g operator others) j ≡ Some other
+    → (b : ℕ) (slot : List Receipt) (asked : BearerRequest)
+    → Reads item.bytes (Ok (by_bearer b asked)) → Reads twin.bytes (Ok (by_bearer b asked)) → item.stamp ≡ twin.stamp
+    → is_slots slot asked ≡ true → IsSettled answer → IsSettled other
+    → slot_trace b slot h operator (events (take i items)) ≡ slot_trace b slot g operator (events (take j others))
+    → answer ≡ other
