@@ -13,13 +13,13 @@ use Rattle.pawn_pledge.specs.declared.receipt.Receipt.{Receipt}
 use Rattle.pawn_book.specs.declared.request.Caller.{Caller}
 use Rattle.pawn_book.specs.declared.request.Caller.TheVariants.{Operator, Broker, Bearer}
 use Rattle.pawn_book.specs.declared.request.BrokerRequest.TheVariants.{PutTerms, TakePledge, OnPledge, Show}
-use Rattle.pawn_book.specs.declared.request.BearerRequest.TheVariants.{Held, OnPledge as OnReceipt}
+use Rattle.pawn_book.specs.declared.request.BearerRequest.TheVariants.{Present, OnPledge as OnReceipt}
 use Rattle.pawn_book.specs.declared.request.NewTerms.{NewTerms}
 use Rattle.pawn_book.specs.declared.refusal.Refusal.{Refusal}
 use Rattle.pawn_book.specs.declared.refusal.Refusal.TheVariants.{NoSuchReceipt, WindowFull}
 use Rattle.pawn_book.specs.declared.reply.Reply.TheVariants.{TermsPut, Opened}
 use Rattle.pawn_book.specs.declared.change.Change.TheVariants.{AddTerms, PutPledge}
-use Rattle.pawn_book.specs.BookStep.{BookValue, Shown, Outcome, Refuses, Says, Makes, are_rates, are_unknown, bearer_commands, book_after, broker_commands, confirmed_booking, is_window_full, judged_outcome, shown, windowed, book_step, first_receipt, head_of, held_out, is_book, is_opening, made, newest, next_terms, pledge_from, put_from, put_terms, take_pledge, taken_under, terms_at, with_reference, live_at, pledge_in}
+use Rattle.pawn_book.specs.BookStep.{BookValue, Shown, Outcome, Refuses, Says, Makes, are_rates, are_unknown, bearer_commands, book_after, broker_commands, confirmed_booking, is_window_full, judged_outcome, shown, windowed, book_step, first_receipt, head_of, present_receipts, is_book, is_opening, made, newest, next_terms, pledge_from, put_from, put_terms, take_pledge, taken_under, terms_at, with_reference, live_at, pledge_in}
 use Rattle.pawn_book.specs.Laws.{book_run}
 use Rattle.pawn_book.proofs.Sounds.{put_next}
 use Rattle.pawn_book.proofs.KeptLemmas.{AreKept, are_kept_on, are_kept_push, are_kept_put, are_kept_same, kept_moved}
@@ -88,8 +88,8 @@ take_pledge_grows book b opening stamp None = from (taken_under (head_of book) o
       record { key = refl; name = refl; capacity = refl; terms = ([], sym (append-nil book.terms)); pledges = subst (AreKept book.pledges) (sym (next_pledges book opening stamp p is)) (are_kept_push book.pledges (p ∷ [])) },
     )
 
-held_stays : (book : BookValue) (stamp : Stamp) (shown : List (Option PledgeValue)) → GrowsTo book (book_after (Some book) (held_out stamp shown))
-held_stays book stamp shown = grows_by book (are_unknown shown) (Refuses NoSuchReceipt) (Says (Shown stamp.day shown)) (stays book) (stays book)
+present_stays : (book : BookValue) (stamp : Stamp) (shown : List (Option PledgeValue)) → GrowsTo book (book_after (Some book) (present_receipts stamp shown))
+present_stays book stamp shown = grows_by book (are_unknown shown) (Refuses NoSuchReceipt) (Says (Shown stamp.day shown)) (stays book) (stays book)
 
 -- a book with what a command made of a pledge
 put_grows : (book : BookValue) (n : ℕ) (p q : PledgeValue) (stamp : Stamp) (command : Command) (done : Done) → pledge_from 1 book.pledges n ≡ Some p
@@ -142,7 +142,7 @@ step_grows book operator b stamp (Broker key (TakePledge opening)) =
 step_grows book operator b stamp (Broker key (OnPledge n command)) =
     grows_by book (book.key == key) _ _ (number_grows book b n stamp command (pledge_from 1 book.pledges n) refl) (stays book)
 step_grows book operator b stamp (Broker key (Show n)) = grows_by book (book.key == key) _ _ (shown_stays book stamp (pledge_from 1 book.pledges n)) (stays book)
-step_grows book operator b stamp (Bearer (Held receipts)) = held_stays book stamp (map (live_at (pledge_in (Some book))) receipts)
+step_grows book operator b stamp (Bearer (Present receipts)) = present_stays book stamp (map (live_at (pledge_in (Some book))) receipts)
 step_grows book operator b stamp (Bearer (OnReceipt r command)) = receipt_grows book b r stamp command (live_at (pledge_in (Some book)) r) refl
 
 pub run_grows : (base book : BookValue) (operator b : ℕ) (later : List (Stamp × Caller)) → Grown base book → GrowsTo base (book_run (Some book) operator b later)

@@ -12,7 +12,7 @@ use Rattle.pawn_pledge.specs.declared.receipt.Receipt.{Receipt}
 use Rattle.pawn_book.specs.declared.request.Caller.{Caller}
 use Rattle.pawn_book.specs.declared.request.Caller.TheVariants.{Operator, Broker, Bearer}
 use Rattle.pawn_book.specs.declared.request.BrokerRequest.TheVariants.{PutTerms, TakePledge, OnPledge, Show}
-use Rattle.pawn_book.specs.declared.request.BearerRequest.TheVariants.{Held, OnPledge as OnReceipt}
+use Rattle.pawn_book.specs.declared.request.BearerRequest.TheVariants.{Present, OnPledge as OnReceipt}
 use Rattle.pawn_book.specs.declared.request.NewBook.{NewBook}
 use Rattle.pawn_book.specs.declared.request.NewTerms.{NewTerms}
 use Rattle.pawn_book.specs.declared.refusal.Refusal.{Refusal}
@@ -21,7 +21,7 @@ use Rattle.pawn_book.specs.declared.reply.Reply.{Reply}
 use Rattle.pawn_book.specs.declared.reply.Reply.TheVariants.{BookMade, TermsPut, Opened, Commanded}
 use Rattle.pawn_book.specs.declared.change.Change.{Change}
 use Rattle.pawn_book.specs.declared.change.Change.TheVariants.{MakeBook, AddTerms, PutPledge}
-use Rattle.pawn_book.specs.BookStep.{BookValue, Out, Shown, Outcome, Refuses, Says, Makes, are_rates, are_unknown, bearer_commands, broker_commands, confirmed_booking, is_window_full, judged_outcome, shown, windowed, book_step, first_receipt, head_of, held_out, is_book, is_opening, made, newest, next_terms, pledge_from, put_terms, take_pledge, taken_under, terms_at, with_reference, live_at, pledge_in}
+use Rattle.pawn_book.specs.BookStep.{BookValue, Out, Shown, Outcome, Refuses, Says, Makes, are_rates, are_unknown, bearer_commands, broker_commands, confirmed_booking, is_window_full, judged_outcome, shown, windowed, book_step, first_receipt, head_of, present_receipts, is_book, is_opening, made, newest, next_terms, pledge_from, put_terms, take_pledge, taken_under, terms_at, with_reference, live_at, pledge_in}
 use Rattle.pawn_book.specs.Laws.{IsMaking}
 use Rattle.pawn_book.proofs.CommandPlans.{live_is}
 
@@ -154,11 +154,11 @@ made_by None operator b stamp (Bearer (OnReceipt r command)) change reply is = c
 made_by (Some book) operator b stamp (Bearer (OnReceipt r command)) change reply is =
     CommandIs book r.number command refl (λ making. making)
     (receipt_made book b r stamp command (live_at (pledge_in (Some book)) r) change reply refl is)
-made_by before operator b stamp (Bearer (Held receipts)) change reply is = held_makes (map (live_at (pledge_in before)) receipts) is
+made_by before operator b stamp (Bearer (Present receipts)) change reply is = present_makes (map (live_at (pledge_in before)) receipts) is
   where
-    held_makes : (shown : List (Option PledgeValue)) → held_out stamp shown ≡ Makes change reply → MadeBy before operator b stamp (Bearer (Held receipts)) change reply
-    held_makes shown is = denied (are_unknown shown) is
+    present_makes : (shown : List (Option PledgeValue)) → present_receipts stamp shown ≡ Makes change reply → MadeBy before operator b stamp (Bearer (Present receipts)) change reply
+    present_makes shown is = denied (are_unknown shown) is
       where
-        denied : (test : Bool) → (if test then Refuses NoSuchReceipt else Says (Shown stamp.day shown)) ≡ Makes change reply → MadeBy before operator b stamp (Bearer (Held receipts)) change reply
+        denied : (test : Bool) → (if test then Refuses NoSuchReceipt else Says (Shown stamp.day shown)) ≡ Makes change reply → MadeBy before operator b stamp (Bearer (Present receipts)) change reply
         denied true is = cc is
         denied false is = cc is

@@ -29,7 +29,7 @@ use Rattle.pawn_book.specs.declared.request.Caller.TheVariants.{Operator, Broker
 use Rattle.pawn_book.specs.declared.request.BrokerRequest.{BrokerRequest}
 use Rattle.pawn_book.specs.declared.request.BrokerRequest.TheVariants.{PutTerms, TakePledge, OnPledge, Show}
 use Rattle.pawn_book.specs.declared.request.BearerRequest.{BearerRequest}
-use Rattle.pawn_book.specs.declared.request.BearerRequest.TheVariants.{Held, OnPledge as OnReceipt}
+use Rattle.pawn_book.specs.declared.request.BearerRequest.TheVariants.{Present, OnPledge as OnReceipt}
 use Rattle.pawn_book.specs.declared.change.Imported.{Imported}
 use Rattle.pawn_book.specs.declared.change.Head.{Head}
 use Rattle.pawn_book.specs.declared.change.Change.{Change}
@@ -318,13 +318,13 @@ are_unknown [] = true
 are_unknown (None ∷ ps) = are_unknown ps
 are_unknown (Some p ∷ ps) = false
 
--- Held: refused where none of the receipts is live
-abbrev pub held_out : Stamp → List (Option PledgeValue) → Outcome
-held_out stamp pledges = if are_unknown pledges then Refuses NoSuchReceipt else Says (Shown stamp.day pledges)
+-- Present: refused where none of the receipts is live
+abbrev pub present_receipts : Stamp → List (Option PledgeValue) → Outcome
+present_receipts stamp pledges = if are_unknown pledges then Refuses NoSuchReceipt else Says (Shown stamp.day pledges)
 
 -- what a bearer asks, where pledges are looked up so
 abbrev pub bearer_step : (ℕ → Option PledgeValue) → ℕ → Stamp → BearerRequest → Outcome
-bearer_step pledges b stamp (Held receipts) = held_out stamp (map (live_at pledges) receipts)
+bearer_step pledges b stamp (Present receipts) = present_receipts stamp (map (live_at pledges) receipts)
 bearer_step pledges b stamp (OnReceipt r command) = bearer_commands b r.number stamp command (live_at pledges r)
 
 abbrev pub book_step : Option BookValue → ℕ → ℕ → Stamp → Caller → Outcome

@@ -80,7 +80,7 @@ IsBrokerWrite (broker.OnPledge number command) = Unit {0}
 IsBrokerWrite (broker.Show number) = ⊥
 
 abbrev pub IsBearerWrite : BearerRequest → Type 0
-IsBearerWrite (bearer.Held receipts) = ⊥
+IsBearerWrite (bearer.Present receipts) = ⊥
 IsBearerWrite (bearer.OnPledge receipt command) = Unit {0}
 
 abbrev pub IsWritten : Caller → Type 0

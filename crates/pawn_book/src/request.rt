@@ -114,7 +114,7 @@ pub struct NewTerms {
 #[derive(Drop)]
 pub enum BearerRequest {
     /// To see the pledges of these receipts.
-    Held(Receipts),
+    Present(Receipts),
     /// To command the pledge of a receipt.
     OnPledge {
         receipt: Receipt,
@@ -128,7 +128,7 @@ impl BearerRequest {
         ensures writes { IsTrue result ↔ IsBearerWrite self.now }
     {
         match self {
-            BearerRequest::Held(_) => false,
+            BearerRequest::Present(_) => false,
             BearerRequest::OnPledge { .. } => true,
         }
     }

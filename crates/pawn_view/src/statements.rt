@@ -104,7 +104,7 @@ pub(crate) fn put_statement<K: Keep, W: Write>(
 ///
 /// The caller's condition: the writer has not failed. Errors: `NoSuchPledge`; `Memory` and `Store` where the keeper
 /// does not answer; `Write` only where the writer failed in the call.
-pub fn statement<K: Keep, W: Write>(
+pub fn show_statement<K: Keep, W: Write>(
     keep: &mut K,
     book: Number,
     number: Number,

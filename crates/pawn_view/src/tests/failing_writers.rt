@@ -3,7 +3,7 @@ ghost use Rattle.std.specs.Prelude.{Some};
 
 use super::{STATEMENT, day, number, one_pledge};
 use crate::fault::ViewFault;
-use crate::statements::statement;
+use crate::statements::show_statement;
 use crate::writing::{Writing, put, send};
 use pawn_book::ListKeep;
 use std::alloc::Global;
@@ -67,7 +67,7 @@ fn states(
         return Err(ViewFault::Write);
     }
     let asked = day(rt, "2024-01-31").day();
-    statement(keep, number(rt, 7), number(rt, 1), asked, writer)
+    show_statement(keep, number(rt, 7), number(rt, 1), asked, writer)
 }
 
 // How many calls the whole statement takes.

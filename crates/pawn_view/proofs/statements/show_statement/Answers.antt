@@ -2,7 +2,7 @@ use Rattle.pawn_view.specs.declared.fault.ViewFault.TheVariants as fault
 use Rattle.pawn_view.specs.Shown.{pledge_at}
 use Rattle.pawn_book.proofs.Reading.{reads_then}
 use Rattle.pawn_view.proofs.StatementLemmas.{statement_shows}
-use Rattle.pawn_view.proofs.statements.statement.Goals as goal
+use Rattle.pawn_view.proofs.statements.show_statement.Goals as goal
 
 pub returns-clause-shows : goal.returns-clause-shows
 returns-clause-shows g c =
