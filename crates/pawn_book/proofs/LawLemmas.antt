@@ -29,7 +29,7 @@ use Rattle.pawn_book.specs.declared.reply.Reply.{Reply}
 use Rattle.pawn_book.specs.declared.reply.Reply.TheVariants.{BookMade, TermsPut, Opened}
 use Rattle.pawn_book.specs.declared.change.Change.{Change}
 use Rattle.pawn_book.specs.declared.change.Change.TheVariants.{AddTerms, PutPledge}
-use Rattle.pawn_book.specs.BookStep.{BookValue, Told, Refuses, Says, are_rates, first_secret, is_live, only_live, book_step, changed_book, created, first_receipt, head_of, is_agreed, is_book, is_flag, is_kind, is_opening, is_text, made_book, newest, next_terms, pledge_from, put_from, put_terms, take_pledge, terms_at, with_reference, under_terms}
+use Rattle.pawn_book.specs.BookStep.{BookValue, Told, Refuses, Says, are_rates, first_secret, is_live, only_live, book_step, changed_book, created, first_receipt, book_head, is_agreed, is_book, is_flag, is_kind, is_opening, is_text, made_book, newest, next_terms, pledge_from, put_from, put_terms, take_pledge, terms_at, with_reference, under_terms}
 use Rattle.pawn_book.specs.Laws.{ChangesDiffer, RepeatsActOnce, book_run}
 use Rattle.pawn_book.proofs.Sounds.{absurd_none, each_at, some_is}
 use Rattle.pawn_book.specs.Changes.{Continues}
@@ -162,7 +162,7 @@ repeat_told before operator b stamp again caller change reply later making is = 
 
     from : MadeBy before operator b stamp caller change reply → book_step (book_run (changed_book before change) operator b later) operator b again caller ≡ Says (Told reply)
     from (BookIs key new asks passes none makes says) = told (made_book new) (ap (changed_book before) makes) (λ next grown.
-        let same : is_book (head_of next) new ≡ true =
+        let same : is_book (book_head next) new ≡ true =
         both _ _ (both _ _ (ap (λ k. k == new.key) grown.key ∙ number_same new.key) (ap (λ t. is_text t new.name) grown.name ∙ text_same new.name))
         (ap (λ n. n == new.capacity) grown.capacity ∙ number_same new.capacity) in
         ap (book_step (Some next) operator b again) asks
@@ -182,7 +182,7 @@ repeat_told before operator b stamp again caller change reply later making is = 
         ∙ ap (λ r. Says (Told r)) (sym says))
     from (PledgeIs key opening book p asks stands passes absent answer makes says) =
         told (record book { pledges = put_from 1 book.pledges p.agreement.number p }) (ap (changed_book before) makes ∙ ap (λ o. changed_book o (PutPledge b p.agreement.number p)) stands) (λ next grown.
-        let taken = taken_is (head_of book) opening stamp (newest book.terms) p answer in
+        let taken = taken_is (book_head book) opening stamp (newest book.terms) p answer in
         let asked : is_text p.agreement.opening.reference opening.reference ≡ true = ap (λ (o : Opening). is_text o.reference opening.reference) taken.asked ∙ text_same opening.reference in
         let same : is_opening p.agreement.opening opening ≡ true = ap (λ (o : Opening). is_opening o opening) taken.asked ∙ opening_same opening in
         let there : with_reference (put_from 1 book.pledges p.agreement.number p) opening.reference ≡ Some p =

@@ -25,8 +25,8 @@ use Rattle.pawn_book.specs.declared.refusal.Refusal.{Refusal}
 use Rattle.pawn_book.specs.declared.refusal.Refusal.TheVariants.{PledgesFull, TermsFull, TermsSeq}
 use Rattle.pawn_book.specs.declared.change.Change.{Change}
 use Rattle.pawn_book.specs.declared.change.Change.TheVariants.{MakeBook, AddTerms, PutPledge}
-use Rattle.pawn_book.specs.declared.change.Head.{Head}
-use Rattle.pawn_book.specs.BookStep.{BookValue, Makes, created, made, made_book, next_terms, put_terms, take_pledge, taken_under, under_pledge, with_room, terms_at, newest, with_reference, head_of, first_receipt, changed_book, pledge_from, pledge_in, put_from, is_text}
+use Rattle.pawn_book.specs.declared.change.BookHead.{BookHead}
+use Rattle.pawn_book.specs.BookStep.{BookValue, Makes, created, made, made_book, next_terms, put_terms, take_pledge, taken_under, under_pledge, with_room, terms_at, newest, with_reference, book_head, first_receipt, changed_book, pledge_from, pledge_in, put_from, is_text}
 use Rattle.pawn_book.specs.HostStep.{Host, with_book}
 use Rattle.pawn_book.specs.Limits.{IsCapacity, most_terms, most_pledges}
 use Rattle.pawn_book.specs.Sound.{AreNumberedFrom, AreSound, AreWords, HasTextsAndWords, IsSound, IsWord}
@@ -70,7 +70,7 @@ terms_plans h b at new terms sound is none answer version few checked =
 
 -- the next pledge is taken
 pub pledge_plans : (h : Host) (b : ℕ) (at : BookValue) (opening : Opening) (stamp : Stamp) (p : PledgeValue) → IsSound h → get h.books b ≡ Some at
-    → with_reference at.pledges opening.reference ≡ None → taken_under (head_of at) opening stamp (newest at.terms) ≡ Ok p
+    → with_reference at.pledges opening.reference ≡ None → taken_under (book_head at) opening stamp (newest at.terms) ≡ Ok p
     → IsNext at p → IsStanding p → HasTextsAndWords p
     → Plans h b (take_pledge at b opening stamp (with_reference at.pledges opening.reference)) (Ok (record { change = Some (PutPledge b p.agreement.number p); reply = Opened (first_receipt p) }))
 pledge_plans h b at opening stamp p sound is none answer next standing written =
@@ -147,24 +147,24 @@ not_standing (t ∷ ts) (suc zero) none low = absurd_none (sym none)
 not_standing (t ∷ ts) (suc (suc n)) none low = let rest = not_standing ts (suc n) none (omega arith) in omega (arith, rest)
 
 -- the next version of terms, as a keeper tells of them
-pub next_plans : (h : Host) (b : ℕ) (at : BookValue) (head : Head) (new : NewTerms) (terms : Rates) → IsSound h → get h.books b ≡ Some at → head ≡ head_of at
+pub next_plans : (h : Host) (b : ℕ) (at : BookValue) (head : BookHead) (new : NewTerms) (terms : Rates) → IsSound h → get h.books b ≡ Some at → head ≡ book_head at
     → None ≡ terms_at (terms_of (get h.books b)) new.version → next_terms head.terms new ≡ Ok terms → IsChecked terms
     → Plans h b (put_terms at b new (terms_at at.terms new.version)) (Ok (record { change = Some (AddTerms b new.version terms); reply = TermsPut new.version }))
 next_plans h b at head new terms sound is heads none answer checked =
     let absent : terms_at at.terms new.version ≡ None = sym (none ∙ ap (λ o. terms_at (terms_of o) new.version) is) in
-    let next : next_terms (length at.terms) new ≡ Ok terms = ap (λ (q : Head). next_terms q.terms new) (sym heads) ∙ answer in
+    let next : next_terms (length at.terms) new ≡ Ok terms = ap (λ (q : BookHead). next_terms q.terms new) (sym heads) ∙ answer in
     let bounds = next_is (length at.terms) new terms next in
     let past = not_standing at.terms new.version absent bounds.0 in
     let high = bounds.1 in
     terms_plans h b at new terms sound is absent next (omega (arith, past, high)) bounds.2 checked
 
 -- where a keeper tells of no head, there is no book
-pub no_head : (book : Option BookValue) → None ≡ option_map head_of book → book ≡ None
+pub no_head : (book : Option BookValue) → None ≡ option_map book_head book → book ≡ None
 no_head None is = refl
 no_head (Some book) is = absurd_none is
 
 -- a pledge as it is taken: the next of its book, for what was asked, under the newest terms, with the stamp's word
-pub record IsTakenAs (head : Head) (opening : Opening) (stamp : Stamp) (newest : Option Rates) (p : PledgeValue) : Type 0 where
+pub record IsTakenAs (head : BookHead) (opening : Opening) (stamp : Stamp) (newest : Option Rates) (p : PledgeValue) : Type 0 where
   pub number : p.agreement.number ≡ head.pledges + 1
   pub asked : p.agreement.opening ≡ opening
   pub version : p.agreement.version ≡ head.terms
@@ -172,7 +172,7 @@ pub record IsTakenAs (head : Head) (opening : Opening) (stamp : Stamp) (newest :
   pub first : (issued : Issued) × (p.secrets ≡ issued ∷ []) × (issued.secret ≡ stamp.word)
   pub few : head.pledges < most_pledges
 
-pub taken_is : (head : Head) (opening : Opening) (stamp : Stamp) (newest : Option Rates) (p : PledgeValue) → taken_under head opening stamp newest ≡ Ok p → IsTakenAs head opening stamp newest p
+pub taken_is : (head : BookHead) (opening : Opening) (stamp : Stamp) (newest : Option Rates) (p : PledgeValue) → taken_under head opening stamp newest ≡ Ok p → IsTakenAs head opening stamp newest p
 taken_is head opening stamp None p is = cc is
 taken_is head opening stamp (Some terms) p is = from (started (head.pledges + 1) opening head.terms terms stamp) refl is
   where
@@ -188,14 +188,14 @@ taken_is head opening stamp (Some terms) p is = from (started (head.pledges + 1)
         (record { number = refl; asked = refl; version = refl; under = refl; first = (_, refl, refl); few = few })
 
 -- the next pledge, as a keeper tells of the book
-pub taken_plans : (h : Host) (b : ℕ) (at : BookValue) (head : Head) (opening : Opening) (stamp : Stamp) (p : PledgeValue) → IsSound h → get h.books b ≡ Some at → head ≡ head_of at
+pub taken_plans : (h : Host) (b : ℕ) (at : BookValue) (head : BookHead) (opening : Opening) (stamp : Stamp) (p : PledgeValue) → IsSound h → get h.books b ≡ Some at → head ≡ book_head at
     → None ≡ with_reference (pledges_of (get h.books b)) opening.reference → taken_under head opening stamp (newest at.terms) ≡ Ok p → IsStanding p
     → IsUtf8 opening.reference → IsUtf8 opening.article → IsWord stamp.word
     → Plans h b (take_pledge at b opening stamp (with_reference at.pledges opening.reference)) (Ok (record { change = Some (PutPledge b p.agreement.number p); reply = Opened (first_receipt p) }))
 taken_plans h b at head opening stamp p sound is heads none answer standing reference article word =
     let absent : with_reference at.pledges opening.reference ≡ None = sym (none ∙ ap (λ o. with_reference (pledges_of o) opening.reference) is) in
-    let next : taken_under (head_of at) opening stamp (newest at.terms) ≡ Ok p = ap (λ (q : Head). taken_under q opening stamp (newest at.terms)) (sym heads) ∙ answer in
-    let taken = taken_is (head_of at) opening stamp (newest at.terms) p next in
+    let next : taken_under (book_head at) opening stamp (newest at.terms) ≡ Ok p = ap (λ (q : BookHead). taken_under q opening stamp (newest at.terms)) (sym heads) ∙ answer in
+    let taken = taken_is (book_head at) opening stamp (newest at.terms) p next in
     let is_next : IsNext at p = record {
       number = taken.number;
       reference = ap (λ (o : Opening). with_reference at.pledges o.reference) taken.asked ∙ absent;

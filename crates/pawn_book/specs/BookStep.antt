@@ -31,7 +31,7 @@ use Rattle.pawn_book.specs.declared.request.BrokerRequest.TheVariants.{PutTerms,
 use Rattle.pawn_book.specs.declared.request.BearerRequest.{BearerRequest}
 use Rattle.pawn_book.specs.declared.request.BearerRequest.TheVariants.{Present, OnPledge as OnReceipt}
 use Rattle.pawn_book.specs.declared.change.Imported.{Imported}
-use Rattle.pawn_book.specs.declared.change.Head.{Head}
+use Rattle.pawn_book.specs.declared.change.BookHead.{BookHead}
 use Rattle.pawn_book.specs.declared.change.Change.{Change}
 use Rattle.pawn_book.specs.declared.change.Change.TheVariants.{MakeBook, AddTerms, PutPledge}
 use Rattle.pawn_book.specs.Limits.{most_terms, most_pledges}
@@ -121,8 +121,8 @@ made (Ok v) makes = makes v
 made (Err why) makes = Refuses why
 
 -- what a book has beside its terms and pledges
-abbrev pub head_of : BookValue → Head
-head_of book = record {
+abbrev pub book_head : BookValue → BookHead
+book_head book = record {
   key = book.key;
   name = book.name;
   capacity = book.capacity;
@@ -132,13 +132,13 @@ head_of book = record {
 }
 
 -- the same key, name and capacity
-abbrev pub is_book : Head → NewBook → Bool
+abbrev pub is_book : BookHead → NewBook → Bool
 is_book head new = (head.key == new.key) && is_text head.name new.name && (head.capacity == new.capacity)
 
 -- Create: an equal book is told again
 abbrev pub created : Option BookValue → ℕ → NewBook → Outcome
 created None b new = Makes (MakeBook b new) (BookMade b)
-created (Some book) b new = if is_book (head_of book) new then Says (Told (BookMade b)) else Refuses BookTaken
+created (Some book) b new = if is_book (book_head book) new then Says (Told (BookMade b)) else Refuses BookTaken
 
 -- by the operator's key
 abbrev pub operated : ℕ → ℕ → Outcome → Outcome
@@ -206,7 +206,7 @@ with_room standing (Ok p) = first_of ((nat_le most_pledges standing, PledgesFull
 with_room standing (Err why) = Err why
 
 -- a pledge under the newest terms, one past the book's last
-abbrev pub taken_under : Head → Opening → Stamp → Option Rates → Result PledgeValue Refusal
+abbrev pub taken_under : BookHead → Opening → Stamp → Option Rates → Result PledgeValue Refusal
 taken_under head opening stamp None = Err NoTerms
 taken_under head opening stamp (Some terms) =
     with_room head.pledges (under_pledge (started (head.pledges + 1) opening head.terms terms stamp))
@@ -215,7 +215,7 @@ taken_under head opening stamp (Some terms) =
 abbrev pub take_pledge : BookValue → ℕ → Opening → Stamp → Option PledgeValue → Outcome
 take_pledge book b opening stamp (Some p) = if is_opening p.agreement.opening opening then Says (Told (Opened (first_receipt p))) else Refuses RefTaken
 take_pledge book b opening stamp None =
-    made (taken_under (head_of book) opening stamp (newest book.terms)) (λ p. Makes (PutPledge b p.agreement.number p) (Opened (first_receipt p)))
+    made (taken_under (book_head book) opening stamp (newest book.terms)) (λ p. Makes (PutPledge b p.agreement.number p) (Opened (first_receipt p)))
 
 -- bookings
 

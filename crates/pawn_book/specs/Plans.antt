@@ -12,10 +12,10 @@ use Rattle.pawn_book.specs.declared.request.Request.{Request}
 use Rattle.pawn_book.specs.declared.reply.Reply.{Reply}
 use Rattle.pawn_book.specs.declared.refusal.Refusal.{Refusal}
 use Rattle.pawn_book.specs.declared.refusal.Refusal.TheVariants as No
-use Rattle.pawn_book.specs.declared.change.Head.{Head}
+use Rattle.pawn_book.specs.declared.change.BookHead.{BookHead}
 use Rattle.pawn_book.specs.declared.change.Change.{Change}
 use Rattle.pawn_book.specs.declared.change.Planned.{Planned}
-use Rattle.pawn_book.specs.BookStep.{BookValue, Told, Outcome, Refuses, Says, Makes, out_of, confirmed_booking, gated, head_of}
+use Rattle.pawn_book.specs.BookStep.{BookValue, Told, Outcome, Refuses, Says, Makes, out_of, confirmed_booking, gated, book_head}
 use Rattle.pawn_book.specs.HostStep.{Host, rows, host_step, host_after}
 use Rattle.pawn_book.specs.Sound.{IsSound}
 use Rattle.pawn_book.specs.Changes.{CanSave, book_of, changed}
@@ -50,8 +50,8 @@ newly_confirmed None reply = None
 newly_confirmed (Some change) reply = confirmed_booking reply
 
 -- the gate lets the holder of the book's key in, and no one else
-abbrev pub Gates : Option BookValue → ℕ → Result Head Refusal → Type 0
-Gates book key (Ok head) = (at : BookValue) × (book ≡ Some at) × (head ≡ head_of at) × (at.key ≡ key)
+abbrev pub Gates : Option BookValue → ℕ → Result BookHead Refusal → Type 0
+Gates book key (Ok head) = (at : BookValue) × (book ≡ Some at) × (head ≡ book_head at) × (at.key ≡ key)
 Gates book key (Err why) = IsUnwell why ⊎ ((why ≡ No.NoSuchBook) × ((step : BookValue → Outcome) → gated book key step ≡ Refuses No.NoSuchBook))
 
 -- what came of a plan's change: there was room for it, or nothing changed

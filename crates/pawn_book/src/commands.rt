@@ -4,12 +4,12 @@ ghost use Rattle.std.specs.FinMap.{get};
 ghost use Rattle.pawn_terms.specs.Calendar.{IsStampDay};
 ghost use Rattle.pawn_pledge.specs.Commands.{IsCommand};
 ghost use Rattle.pawn_pledge.specs.Step.{pledge_step};
-ghost use Rattle.pawn_book.specs.BookStep.{BookValue, bearer_commands, broker_commands, confirmed_booking, head_of, judged_outcome, live_at, pledge_from, pledge_in, windowed};
+ghost use Rattle.pawn_book.specs.BookStep.{BookValue, bearer_commands, broker_commands, confirmed_booking, book_head, judged_outcome, live_at, pledge_from, pledge_in, windowed};
 ghost use Rattle.pawn_book.specs.Sound.{IsSound, IsWord};
 ghost use Rattle.pawn_book.specs.Keeping.{IsQuiet, Reads};
 ghost use Rattle.pawn_book.specs.Plans.{IsOutcome, Plans, newly_confirmed, outcome_of};
 
-use crate::change::{Change, Head, Planned};
+use crate::change::{Change, BookHead, Planned};
 use crate::gates::{find_live, know_word, unwell};
 use crate::keep::Keep;
 use crate::refusal::Refusal;
@@ -22,13 +22,13 @@ use pawn_pledge::{
 pub(crate) fn plan_number<K: Keep>(
     keep: &mut K,
     book: Number,
-    head: &Head,
+    head: &BookHead,
     number: Number,
     stamp: &Stamp,
     command: &Command,
 ) -> Result<Planned, Refusal>
     requires within { IsCommand command.now }
-    ensures reads { Reads K.keeping keep.old keep.new (λ h. IsSound h → (at : BookValue) → get h.books book ≡ Some at → head.now ≡ head_of at →
+    ensures reads { Reads K.keeping keep.old keep.new (λ h. IsSound h → (at : BookValue) → get h.books book ≡ Some at → head.now ≡ book_head at →
         Plans h book (broker_commands at book number stamp.now command.now (pledge_from 1 at.pledges number)) result) }
     ensures steady { IsQuiet K.keeping keep.old result }
 {
@@ -110,10 +110,10 @@ fn plan_command(
 fn find_room<K: Keep>(
     keep: &mut K,
     book: Number,
-    head: &Head,
+    head: &BookHead,
     planned: Planned,
 ) -> Result<Planned, Refusal>
-    ensures reads { Reads K.keeping keep.old keep.new (λ h. (at : BookValue) → get h.books book ≡ Some at → head.now ≡ head_of at →
+    ensures reads { Reads K.keeping keep.old keep.new (λ h. (at : BookValue) → get h.books book ≡ Some at → head.now ≡ book_head at →
         IsOutcome (windowed at (outcome_of planned.change planned.reply)) result) }
     ensures same { IfOk result (λ p. p ≡ planned) }
     ensures steady { IsQuiet K.keeping keep.old result }

@@ -6,7 +6,7 @@ ghost use Rattle.pawn_book.specs.Sound.{IsWord};
 ghost use Rattle.pawn_book.specs.Keeping.{IsQuiet, IsSteady, Reads};
 ghost use Rattle.pawn_book.specs.Plans.{Gates, IsUnwell};
 
-use crate::change::Head;
+use crate::change::BookHead;
 use crate::fault::KeepError;
 use crate::keep::Keep;
 use crate::refusal::Refusal;
@@ -14,11 +14,11 @@ use pawn_pledge::{Number, Pledge, Receipt, Secret, Stamp};
 
 /// The head of a book, for the holder of its key. Refused as `NoSuchBook` where the book does not
 /// stand or the key is another's.
-pub fn gate<K: Keep>(keep: &mut K, book: Number, key: Secret) -> Result<Head, Refusal>
+pub fn gate<K: Keep>(keep: &mut K, book: Number, key: Secret) -> Result<BookHead, Refusal>
     ensures reads { Reads K.keeping keep.old keep.new (λ h. Gates (get h.books book) key result) }
     ensures steady { IsQuiet K.keeping keep.old result }
 {
-    match keep.head(book) {
+    match keep.book_head(book) {
         Err(error) => Err(unwell(error)),
         Ok(None) => Err(Refusal::NoSuchBook),
         Ok(Some(head)) => {

@@ -1,13 +1,13 @@
 ghost use Rattle.std.specs.Prelude.{◌≡◌, IfOk, option_map, unwrap_or};
 ghost use Rattle.std.specs.FinMap.{get};
 ghost use Rattle.pawn_pledge.specs.Brief.{brief_of};
-ghost use Rattle.pawn_book.specs.BookStep.{confirmed_for, head_of, pledge_in, terms_at};
+ghost use Rattle.pawn_book.specs.BookStep.{confirmed_for, book_head, pledge_in, terms_at};
 ghost use Rattle.pawn_book.specs.HostStep.{Host};
 ghost use Rattle.pawn_book.specs.Changes.{CanSave};
 ghost use Rattle.pawn_book.specs.Keeping.{Errs, IsNextBook, Keeping, Of, Reads, Saves, entries_of, extensions_of, number_of, pledges_of, terms_of};
 ghost use Rattle.pawn_book.specs.Visits.{IsShare, Visits, call_end};
 
-use crate::change::{Change, Head};
+use crate::change::{Change, BookHead};
 use crate::fault::{KeepError, SaveError};
 use crate::visit::Visitor;
 use pawn_pledge::{Brief, Day, Entry, Extension, Number, Pledge, Reference, Terms};
@@ -19,8 +19,8 @@ pub trait Keep {
     ghost keeping: { Keeping Self };
 
     /// The head of a book, if the book stands.
-    fn head(&mut self, book: Number) -> Result<Option<Head>, KeepError>
-        ensures reads { Reads keeping self.old self.new (λ h. IfOk result (λ head. head ≡ option_map head_of (get h.books book))) }
+    fn book_head(&mut self, book: Number) -> Result<Option<BookHead>, KeepError>
+        ensures reads { Reads keeping self.old self.new (λ h. IfOk result (λ head. head ≡ option_map book_head (get h.books book))) }
         ensures errs { Errs keeping self.old self.new result };
 
     /// The terms of a version.

@@ -1,13 +1,13 @@
 ghost use Rattle.std.specs.Prelude.{[], ◌≡◌, ◌<◌, ◌≤◌, ◌+◌, ◌&&◌, if◌then◌else◌, IfNone, IfOk, IfSome, MatchOption, None, OnErr, OnOk, Some, length, map, nat_lt, option_map, unwrap_or};
 ghost use Rattle.pawn_pledge.specs.Brief.{brief_of};
-ghost use Rattle.pawn_book.specs.BookStep.{confirmed_for, head_of, is_confirmed_for, pledge_from, pledge_in, put_from, terms_at, with_reference};
+ghost use Rattle.pawn_book.specs.BookStep.{confirmed_for, book_head, is_confirmed_for, pledge_from, pledge_in, put_from, terms_at, with_reference};
 ghost use Rattle.pawn_book.specs.HostStep.{pledge_rows};
 ghost use Rattle.pawn_book.specs.Changes.{CanSave};
 ghost use Rattle.pawn_book.specs.Keeping.{entries_of, extensions_of, number_of, pledges_of, terms_of};
 ghost use Rattle.pawn_book.specs.Listed.{IsLeastAbove, IsPlace, Saves, book_at, entry_of, host_of, standing_rows};
 ghost use Rattle.pawn_book.specs.Visits.{IsShare, Visits, Whole};
 
-use crate::change::{Change, Head, Imported};
+use crate::change::{Change, BookHead, Imported};
 use crate::fault::{KeepError, SaveError};
 use crate::keep::Keep;
 use crate::limits::MOST_ROWS;
@@ -145,7 +145,7 @@ impl Keep for ListKeep {
 
     ghost keeping = { list_keeping };
 
-    fn head(&mut self, book: Number) -> Result<Option<Head>, KeepError> {
+    fn book_head(&mut self, book: Number) -> Result<Option<BookHead>, KeepError> {
         let Ok(head) = head_in(&self.books, book) else {
             return Err(KeepError::Memory);
         };
@@ -303,14 +303,14 @@ fn number_with(pledges: &[Pledge], reference: &Reference) -> Option<Number>
 }
 
 // What a book has beside its terms and pledges.
-fn head_in(books: &[Kept], book: Number) -> Result<Option<Head>, AllocError>
-    ensures value { IfOk result (λ head. head ≡ option_map head_of (book_at (map entry_of books.now) book)) }
+fn head_in(books: &[Kept], book: Number) -> Result<Option<BookHead>, AllocError>
+    ensures value { IfOk result (λ head. head ≡ option_map book_head (book_at (map entry_of books.now) book)) }
 {
     let Some(kept) = kept_at(books, book) else {
         return Ok(None);
     };
     let name = kept.made.name.copy()?;
-    Ok(Some(Head {
+    Ok(Some(BookHead {
         key: kept.made.key,
         name,
         capacity: kept.made.capacity,

@@ -4,12 +4,12 @@ ghost use Rattle.std.specs.FinMap.{get};
 ghost use Rattle.std.specs.Str.{IsUtf8};
 ghost use Rattle.pawn_terms.specs.Refusals.{IsSaid};
 ghost use Rattle.pawn_pledge.specs.Replayable.{IsStanding};
-ghost use Rattle.pawn_book.specs.BookStep.{BookValue, first_receipt, head_of, is_opening, newest, take_pledge, taken_under, with_reference};
+ghost use Rattle.pawn_book.specs.BookStep.{BookValue, first_receipt, book_head, is_opening, newest, take_pledge, taken_under, with_reference};
 ghost use Rattle.pawn_book.specs.Sound.{IsSound, IsWord};
 ghost use Rattle.pawn_book.specs.Keeping.{IsQuiet, IsSteady, Reads, pledges_of};
 ghost use Rattle.pawn_book.specs.Plans.{IsUnwell, Plans};
 
-use crate::change::{Change, Head, Planned};
+use crate::change::{Change, BookHead, Planned};
 use crate::fault::KeepError;
 use crate::gates::{know_word, unwell};
 use crate::keep::Keep;
@@ -26,11 +26,11 @@ pub(crate) fn plan_pledge<K: Keep>(
     alloc: Global,
     keep: &mut K,
     book: Number,
-    head: &Head,
+    head: &BookHead,
     opening: &Opening,
     stamp: &Stamp,
 ) -> Result<Planned, Refusal>
-    ensures reads { Reads K.keeping keep.old keep.new (λ h. IsSound h → (at : BookValue) → get h.books book ≡ Some at → head.now ≡ head_of at →
+    ensures reads { Reads K.keeping keep.old keep.new (λ h. IsSound h → (at : BookValue) → get h.books book ≡ Some at → head.now ≡ book_head at →
         Plans h book (take_pledge at book opening.now stamp.now (with_reference at.pledges opening.now.reference)) result) }
     ensures steady { IsQuiet K.keeping keep.old result }
 {
@@ -97,11 +97,11 @@ fn take<K: Keep>(
     alloc: Global,
     keep: &mut K,
     book: Number,
-    head: &Head,
+    head: &BookHead,
     opening: &Opening,
     stamp: &Stamp,
 ) -> Result<Pledge, Refusal>
-    ensures reads { Reads K.keeping keep.old keep.new (λ h. (at : BookValue) → get h.books book ≡ Some at → head.now ≡ head_of at →
+    ensures reads { Reads K.keeping keep.old keep.new (λ h. (at : BookValue) → get h.books book ≡ Some at → head.now ≡ book_head at →
         IsSaid IsUnwell (taken_under head.now opening.now stamp.now (newest at.terms)) result) }
     ensures standing { IfOk result IsStanding }
     ensures steady { IsQuiet K.keeping keep.old result }
@@ -116,7 +116,7 @@ fn take<K: Keep>(
 // A new pledge under these terms, one past the last of a book with that head.
 fn start(
     alloc: Global,
-    head: &Head,
+    head: &BookHead,
     opening: &Opening,
     terms: Terms,
     stamp: &Stamp,

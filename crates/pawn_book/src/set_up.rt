@@ -2,12 +2,12 @@
 ghost use Rattle.std.specs.Prelude.{◌≡◌, IfOk};
 ghost use Rattle.std.specs.FinMap.{get};
 ghost use Rattle.pawn_terms.specs.Terms.{IsChecked};
-ghost use Rattle.pawn_book.specs.BookStep.{BookValue, are_rates, created, head_of, is_book, next_terms, put_terms, terms_at};
+ghost use Rattle.pawn_book.specs.BookStep.{BookValue, are_rates, created, book_head, is_book, next_terms, put_terms, terms_at};
 ghost use Rattle.pawn_book.specs.Sound.{IsSound};
 ghost use Rattle.pawn_book.specs.Keeping.{IsQuiet, Reads};
 ghost use Rattle.pawn_book.specs.Plans.{Plans};
 
-use crate::change::{Change, Head, Planned};
+use crate::change::{Change, BookHead, Planned};
 use crate::gates::unwell;
 use crate::keep::Keep;
 use crate::limits::MOST_TERMS;
@@ -28,7 +28,7 @@ pub(crate) fn plan_book<K: Keep>(
     // Whoever reads the number knows that it is one that a book may have.
     let _ = book.get();
     let reply = Reply::BookMade(book);
-    match keep.head(book) {
+    match keep.book_head(book) {
         Err(error) => Err(unwell(error)),
         Ok(Some(head)) => {
             if !is_book(&head, new_book) {
@@ -52,7 +52,7 @@ pub(crate) fn plan_book<K: Keep>(
 }
 
 // Whether a book has this key, name and capacity.
-fn is_book(head: &Head, new_book: &NewBook) -> bool
+fn is_book(head: &BookHead, new_book: &NewBook) -> bool
     ensures value { result ≡ is_book head.now new_book.now }
 {
     head.key == new_book.key
@@ -64,10 +64,10 @@ fn is_book(head: &Head, new_book: &NewBook) -> bool
 pub(crate) fn plan_terms<K: Keep>(
     keep: &mut K,
     book: Number,
-    head: &Head,
+    head: &BookHead,
     new_terms: &NewTerms,
 ) -> Result<Planned, Refusal>
-    ensures reads { Reads K.keeping keep.old keep.new (λ h. IsSound h → (at : BookValue) → get h.books book ≡ Some at → head.now ≡ head_of at →
+    ensures reads { Reads K.keeping keep.old keep.new (λ h. IsSound h → (at : BookValue) → get h.books book ≡ Some at → head.now ≡ book_head at →
         Plans h book (put_terms at book new_terms.now (terms_at at.terms new_terms.now.version)) result) }
     ensures steady { IsQuiet K.keeping keep.old result }
 {
