@@ -22,7 +22,7 @@ use Rattle.pawn_book.specs.declared.reply.Reply.{Reply}
 use Rattle.pawn_book.specs.BookStep.{BookValue, Makes, Outcome, Refuses, Says, bearer_commands, broker_commands, changed_book, is_live, judged_outcome, live_at, only_live, pledge_from, pledge_in, put_from, terms_at, windowed}
 use Rattle.pawn_book.specs.HostStep.{Host, with_book}
 use Rattle.pawn_book.specs.Sound.{AreDistinct, AreSound, AreWords, DoNotFall, HasTextsAndWords, IsSound, IsSoundBook, IsUnder, IsWord}
-use Rattle.pawn_book.specs.Changes.{CanSave, Continues, book_of, changed}
+use Rattle.pawn_book.specs.Changes.{CanSave, Continues, book_number, changed}
 use Rattle.pawn_book.specs.Plans.{IsOutcome, Plans, outcome_of}
 use Rattle.pawn_book.proofs.KeptLemmas.{kept_moved}
 use Rattle.pawn_book.proofs.Places.{pledge_within}
@@ -83,19 +83,19 @@ change_of (Makes change reply) other = change
 
 -- what a command's outcome changes may be saved
 pub command_saves : (h : Host) (b n : ℕ) (p : PledgeValue) (stamp : Stamp) (command : Command) (change : Option Change) (reply : Reply) → IsSound h → pledge_in (get h.books b) n ≡ Some p
-    → IsStampDay stamp.day → IsWord stamp.word → IsCommand command → judged_outcome b n (pledge_step p stamp command) ≡ outcome_of change reply → IfSome change (λ c. (book_of c ≡ b) × CanSave h c)
+    → IsStampDay stamp.day → IsWord stamp.word → IsCommand command → judged_outcome b n (pledge_step p stamp command) ≡ outcome_of change reply → IfSome change (λ c. (book_number c ≡ b) × CanSave h c)
 command_saves h b n p stamp command None reply sound stands day word given is = tt
 command_saves h b n p stamp command (Some change) reply sound stands day word given is = in_book (get h.books b) refl stands
   where
     judged : (at : BookValue) (j : Judged) → get h.books b ≡ Some at → pledge_from 1 at.pledges n ≡ Some p → pledge_step p stamp command ≡ j → judged_outcome b n j ≡ Makes change reply
-        → (book_of change ≡ b) × CanSave h change
+        → (book_number change ≡ b) × CanSave h change
     judged at (Refused why) e there step made = cc made
     judged at (Answered done) e there step made = cc made
     judged at (Changed q done) e there step made =
         let same : PutPledge b n q ≡ change = ap (λ o. change_of o change) made in
-        subst (λ (c : Change). (book_of c ≡ b) × CanSave h c) same (refl, put_saves h b n at p q stamp command done sound e there day word given step)
+        subst (λ (c : Change). (book_number c ≡ b) × CanSave h c) same (refl, put_saves h b n at p q stamp command done sound e there day word given step)
 
-    in_book : (o : Option BookValue) → get h.books b ≡ o → pledge_in o n ≡ Some p → (book_of change ≡ b) × CanSave h change
+    in_book : (o : Option BookValue) → get h.books b ≡ o → pledge_in o n ≡ Some p → (book_number change ≡ b) × CanSave h change
     in_book None e there = absurd_none there
     in_book (Some at) e there = judged at (pledge_step p stamp command) e there refl is
 
@@ -134,7 +134,7 @@ number_plans h b n at p stamp command planned result sound is stands day word gi
         → Plans h b (broker_commands at b n stamp command (pledge_from 1 at.pledges n)) r
     from (Ok q) told as_planned = (
       steps ∙ told,
-      subst (λ (x : Planned). IfSome x.change (λ c. (book_of c ≡ b) × CanSave h c)) (sym as_planned)
+      subst (λ (x : Planned). IfSome x.change (λ c. (book_number c ≡ b) × CanSave h c)) (sym as_planned)
           (command_saves h b n p stamp command planned.change planned.reply sound (sym stands) day word given judged),
     )
     from (Err why) (inl unwell) as_planned = inl unwell

@@ -19,7 +19,7 @@ use Rattle.pawn_book.specs.declared.refusal.Refusal.{Refusal}
 use Rattle.pawn_book.specs.declared.refusal.Refusal.TheVariants.{NoSuchReceipt, WindowFull}
 use Rattle.pawn_book.specs.declared.reply.Reply.TheVariants.{TermsPut, Opened}
 use Rattle.pawn_book.specs.declared.change.Change.TheVariants.{AddTerms, PutPledge}
-use Rattle.pawn_book.specs.BookStep.{BookValue, Shown, Outcome, Refuses, Says, Makes, are_rates, are_unknown, bearer_commands, book_after, broker_commands, confirmed_booking, is_window_full, judged_outcome, shown, windowed, book_step, first_receipt, book_head, present_receipts, is_book, is_opening, made, newest, next_terms, pledge_from, put_from, put_terms, take_pledge, taken_under, terms_at, with_reference, live_at, pledge_in}
+use Rattle.pawn_book.specs.BookStep.{BookValue, Shown, Outcome, Refuses, Says, Makes, are_same_rates, are_unknown, bearer_commands, book_after, broker_commands, confirmed_booking, is_window_full, judged_outcome, shown, windowed, book_step, first_receipt, book_head, present_receipts, is_same_book, is_same_opening, made, newest, next_terms, pledge_from, put_from, put_terms, take_pledge, taken_under, terms_at, with_reference, live_at, pledge_in}
 use Rattle.pawn_book.specs.Laws.{book_run}
 use Rattle.pawn_book.proofs.Sounds.{put_next}
 use Rattle.pawn_book.proofs.KeptLemmas.{AreKept, are_kept_on, are_kept_push, are_kept_put, are_kept_same, kept_moved}
@@ -57,7 +57,7 @@ grows_by book true x y f s = f
 grows_by book false x y f s = s
 
 put_terms_grows : (book : BookValue) (b : ℕ) (new : NewTerms) (o : Option Rates) → GrowsTo book (book_after (Some book) (put_terms book b new o))
-put_terms_grows book b new (Some terms) = grows_by book (are_rates terms new.rates) _ _ (stays book) (stays book)
+put_terms_grows book b new (Some terms) = grows_by book (are_same_rates terms new.rates) _ _ (stays book) (stays book)
 put_terms_grows book b new None = from (next_terms (length book.terms) new)
   where
     from : (r : Result Rates Refusal) → GrowsTo book (book_after (Some book) (made r (λ terms. Makes (AddTerms b new.version terms) (TermsPut new.version))))
@@ -76,7 +76,7 @@ next_pledges book opening stamp p is =
     put_next 1 book.pledges p.agreement.number p (omega (arith, number))
 
 take_pledge_grows : (book : BookValue) (b : ℕ) (opening : Opening) (stamp : Stamp) (o : Option PledgeValue) → GrowsTo book (book_after (Some book) (take_pledge book b opening stamp o))
-take_pledge_grows book b opening stamp (Some p) = grows_by book (is_opening p.agreement.opening opening) _ _ (stays book) (stays book)
+take_pledge_grows book b opening stamp (Some p) = grows_by book (is_same_opening p.agreement.opening opening) _ _ (stays book) (stays book)
 take_pledge_grows book b opening stamp None = from (taken_under (book_head book) opening stamp (newest book.terms)) refl
   where
     from : (r : Result PledgeValue Refusal) → taken_under (book_head book) opening stamp (newest book.terms) ≡ r
@@ -134,7 +134,7 @@ shown_stays book stamp (Some p) = stays book
 -- a book grows with each request
 step_grows : (book : BookValue) (operator b : ℕ) (stamp : Stamp) (caller : Caller) → GrowsTo book (book_after (Some book) (book_step (Some book) operator b stamp caller))
 step_grows book operator b stamp (Operator key new) =
-    grows_by book (key == operator) _ _ (grows_by book (is_book (book_head book) new) _ _ (stays book) (stays book)) (stays book)
+    grows_by book (key == operator) _ _ (grows_by book (is_same_book (book_head book) new) _ _ (stays book) (stays book)) (stays book)
 step_grows book operator b stamp (Broker key (PutTerms new)) =
     grows_by book (book.key == key) _ _ (put_terms_grows book b new (terms_at book.terms new.version)) (stays book)
 step_grows book operator b stamp (Broker key (TakePledge opening)) =

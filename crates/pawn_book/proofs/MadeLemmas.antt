@@ -21,7 +21,7 @@ use Rattle.pawn_book.specs.declared.reply.Reply.{Reply}
 use Rattle.pawn_book.specs.declared.reply.Reply.TheVariants.{BookMade, TermsPut, Opened, Commanded}
 use Rattle.pawn_book.specs.declared.change.Change.{Change}
 use Rattle.pawn_book.specs.declared.change.Change.TheVariants.{MakeBook, AddTerms, PutPledge}
-use Rattle.pawn_book.specs.BookStep.{BookValue, Out, Shown, Outcome, Refuses, Says, Makes, are_rates, are_unknown, bearer_commands, broker_commands, confirmed_booking, is_window_full, judged_outcome, shown, windowed, book_step, first_receipt, book_head, present_receipts, is_book, is_opening, made, newest, next_terms, pledge_from, put_terms, take_pledge, taken_under, terms_at, with_reference, live_at, pledge_in}
+use Rattle.pawn_book.specs.BookStep.{BookValue, Out, Shown, Outcome, Refuses, Says, Makes, are_same_rates, are_unknown, bearer_commands, broker_commands, confirmed_booking, is_window_full, judged_outcome, shown, windowed, book_step, first_receipt, book_head, present_receipts, is_same_book, is_same_opening, made, newest, next_terms, pledge_from, put_terms, take_pledge, taken_under, terms_at, with_reference, live_at, pledge_in}
 use Rattle.pawn_book.specs.Laws.{IsMaking}
 use Rattle.pawn_book.proofs.CommandPlans.{live_is}
 
@@ -125,13 +125,13 @@ made_by None operator b stamp (Operator key new) change reply is =
     let passed = if_makes (key == operator) _ _ change reply is in
     BookIs key new refl passed.0 refl (same_change _ change _ reply passed.1) (same_reply _ change _ reply passed.1)
 made_by (Some book) operator b stamp (Operator key new) change reply is =
-    let passed = if_makes (key == operator) _ _ change reply is in told_again (is_book (book_head book) new) _ _ change reply passed.1
+    let passed = if_makes (key == operator) _ _ change reply is in told_again (is_same_book (book_head book) new) _ _ change reply passed.1
 made_by None operator b stamp (Broker key asked) change reply is = cc is
 made_by (Some book) operator b stamp (Broker key (PutTerms new)) change reply is =
     let passed = if_makes (book.key == key) _ _ change reply is in from (terms_at book.terms new.version) refl passed.1
   where
     from : (o : Option Rates) → terms_at book.terms new.version ≡ o → put_terms book b new o ≡ Makes change reply → MadeBy (Some book) operator b stamp (Broker key (PutTerms new)) change reply
-    from (Some terms) at is = told_again (are_rates terms new.rates) _ _ change reply is
+    from (Some terms) at is = told_again (are_same_rates terms new.rates) _ _ change reply is
     from None at made_is =
         let ok = made_ok (next_terms (length book.terms) new) _ change reply made_is in
         TermsAre key new book ok.0 refl refl (if_makes (book.key == key) _ _ change reply is).0 at ok.1 (same_change _ change _ reply ok.2) (same_reply _ change _ reply ok.2)
@@ -140,7 +140,7 @@ made_by (Some book) operator b stamp (Broker key (TakePledge opening)) change re
   where
     from : (o : Option PledgeValue) → with_reference book.pledges opening.reference ≡ o → take_pledge book b opening stamp o ≡ Makes change reply
         → MadeBy (Some book) operator b stamp (Broker key (TakePledge opening)) change reply
-    from (Some p) at is = told_again (is_opening p.agreement.opening opening) _ _ change reply is
+    from (Some p) at is = told_again (is_same_opening p.agreement.opening opening) _ _ change reply is
     from None at made_is =
         let ok = made_ok (taken_under (book_head book) opening stamp (newest book.terms)) _ change reply made_is in
         PledgeIs key opening book ok.0 refl refl (if_makes (book.key == key) _ _ change reply is).0 at ok.1 (same_change _ change _ reply ok.2) (same_reply _ change _ reply ok.2)

@@ -26,17 +26,17 @@ use Rattle.pawn_book.specs.declared.refusal.Refusal.TheVariants.{PledgesFull, Te
 use Rattle.pawn_book.specs.declared.change.Change.{Change}
 use Rattle.pawn_book.specs.declared.change.Change.TheVariants.{MakeBook, AddTerms, PutPledge}
 use Rattle.pawn_book.specs.declared.change.BookHead.{BookHead}
-use Rattle.pawn_book.specs.BookStep.{BookValue, Makes, created, made, made_book, next_terms, put_terms, take_pledge, taken_under, under_pledge, with_room, terms_at, newest, with_reference, book_head, first_receipt, changed_book, pledge_from, pledge_in, put_from, is_text}
+use Rattle.pawn_book.specs.BookStep.{BookValue, Makes, created, made, made_book, next_terms, put_terms, take_pledge, taken_under, under_pledge, with_room, terms_at, newest, with_reference, book_head, first_receipt, changed_book, pledge_from, pledge_in, put_from, is_same_text}
 use Rattle.pawn_book.specs.HostStep.{Host, with_book}
 use Rattle.pawn_book.specs.Limits.{IsCapacity, most_terms, most_pledges}
 use Rattle.pawn_book.specs.Sound.{AreNumberedFrom, AreSound, AreWords, HasTextsAndWords, IsSound, IsWord}
-use Rattle.pawn_book.specs.Changes.{book_of, changed}
+use Rattle.pawn_book.specs.Changes.{book_number, changed}
 use Rattle.pawn_book.specs.Keeping.{number_of, pledges_of, terms_of}
 use Rattle.pawn_book.specs.Plans.{Plans}
 use Rattle.pawn_book.proofs.Sounds.{IsNext, absurd_none, some_is, sound_made, sound_next, sound_terms, sound_with}
 
 -- the book of a change, set in the host
-pub changed_is : (h : Host) (b : ℕ) (change : Change) (book : BookValue) → book_of change ≡ b → changed_book (get h.books b) change ≡ Some book → changed h change ≡ with_book h b (Some book)
+pub changed_is : (h : Host) (b : ℕ) (change : Change) (book : BookValue) → book_number change ≡ b → changed_book (get h.books b) change ≡ Some book → changed h change ≡ with_book h b (Some book)
 changed_is h b change book named is = ap (λ (c : ℕ). with_book h c (changed_book (get h.books c) change)) named ∙ ap (with_book h b) is
 
 -- a row that did not apply
@@ -92,7 +92,7 @@ reference_from : (k : ℕ) (ps : List PledgeValue) (reference : List ℕ) (p : P
     → (k ≤ p.agreement.number) × (pledge_from k ps p.agreement.number ≡ Some p)
 reference_from k [] reference p numbered is = absurd_none is
 reference_from k (r ∷ ps) reference p numbered is =
-    elim (is_text r.agreement.opening.reference reference) as (λ v. (if v then Some r else with_reference ps reference) ≡ Some p → (k ≤ p.agreement.number) × (pledge_from k (r ∷ ps) p.agreement.number ≡ Some p)) [
+    elim (is_same_text r.agreement.opening.reference reference) as (λ v. (if v then Some r else with_reference ps reference) ≡ Some p → (k ≤ p.agreement.number) × (pledge_from k (r ∷ ps) p.agreement.number ≡ Some p)) [
       | true ↦ λ here.
           let same = some_is r p here in
           let at_k : p.agreement.number ≡ k = ap (λ (q : PledgeValue). q.agreement.number) (sym same) ∙ numbered.0 in

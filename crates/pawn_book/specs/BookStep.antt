@@ -68,8 +68,8 @@ out_of (Says out) = out
 out_of (Makes change reply) = Told reply
 
 -- a text is the same
-abbrev pub is_text : List ℕ → List ℕ → Bool
-is_text a b = pointwise nat_eq a b
+abbrev pub is_same_text : List ℕ → List ℕ → Bool
+is_same_text a b = pointwise nat_eq a b
 
 -- the terms that stand under a version; none under 0
 abbrev pub terms_at : List Rates → ℕ → Option Rates
@@ -96,7 +96,7 @@ put_from k (q ∷ ps) n p = if n == k then p ∷ ps else q ∷ put_from (k + 1) 
 
 -- the pledge with this reference
 abbrev pub with_reference : List PledgeValue → List ℕ → Option PledgeValue
-with_reference pledges reference = find (λ p. is_text p.agreement.opening.reference reference) pledges
+with_reference pledges reference = find (λ p. is_same_text p.agreement.opening.reference reference) pledges
 
 -- the book that a change makes
 abbrev pub made_book : NewBook → BookValue
@@ -132,21 +132,21 @@ book_head book = record {
 }
 
 -- the same key, name and capacity
-abbrev pub is_book : BookHead → NewBook → Bool
-is_book head new = (head.key == new.key) && is_text head.name new.name && (head.capacity == new.capacity)
+abbrev pub is_same_book : BookHead → NewBook → Bool
+is_same_book head new = (head.key == new.key) && is_same_text head.name new.name && (head.capacity == new.capacity)
 
 -- Create: an equal book is told again
 abbrev pub created : Option BookValue → ℕ → NewBook → Outcome
 created None b new = Makes (MakeBook b new) (BookMade b)
-created (Some book) b new = if is_book (book_head book) new then Says (Told (BookMade b)) else Refuses BookTaken
+created (Some book) b new = if is_same_book (book_head book) new then Says (Told (BookMade b)) else Refuses BookTaken
 
 -- by the operator's key
 abbrev pub operated : ℕ → ℕ → Outcome → Outcome
 operated operator key step = if key == operator then step else Refuses NotOperator
 
 -- the same three numbers
-abbrev pub are_rates : Rates → Rates → Bool
-are_rates a b = (a.rate == b.rate) && (a.keep_before == b.keep_before) && (a.keep_after == b.keep_after)
+abbrev pub are_same_rates : Rates → Rates → Bool
+are_same_rates a b = (a.rate == b.rate) && (a.keep_before == b.keep_before) && (a.keep_after == b.keep_after)
 
 abbrev pub under_terms : Result Rates TermsFault → Result Rates Refusal
 under_terms (Ok terms) = Ok terms
@@ -164,7 +164,7 @@ next_terms standing new =
 
 -- PutTerms: equal terms that stand are told again
 abbrev pub put_terms : BookValue → ℕ → NewTerms → Option Rates → Outcome
-put_terms book b new (Some terms) = if are_rates terms new.rates then Says (Told (TermsPut new.version)) else Refuses TermsSeq
+put_terms book b new (Some terms) = if are_same_rates terms new.rates then Says (Told (TermsPut new.version)) else Refuses TermsSeq
 put_terms book b new None = made (next_terms (length book.terms) new) (λ terms. Makes (AddTerms b new.version terms) (TermsPut new.version))
 
 -- the secret that came with the opening
@@ -175,26 +175,26 @@ first_secret (i ∷ is) = i.secret
 abbrev pub first_receipt : PledgeValue → Receipt
 first_receipt p = record { number = p.agreement.number; secret = first_secret p.secrets }
 
-abbrev pub is_kind : Kind → Kind → Bool
-is_kind (Fixed a) (Fixed b) = a == b
-is_kind (Running a) (Running b) = a == b
-is_kind (Fixed a) (Running b) = false
-is_kind (Running a) (Fixed b) = false
+abbrev pub is_same_kind : Kind → Kind → Bool
+is_same_kind (Fixed a) (Fixed b) = a == b
+is_same_kind (Running a) (Running b) = a == b
+is_same_kind (Fixed a) (Running b) = false
+is_same_kind (Running a) (Fixed b) = false
 
-abbrev pub is_agreed : Option ℕ → Option ℕ → Bool
-is_agreed None None = true
-is_agreed (Some a) (Some b) = a == b
-is_agreed None (Some b) = false
-is_agreed (Some a) None = false
+abbrev pub is_same_end : Option ℕ → Option ℕ → Bool
+is_same_end None None = true
+is_same_end (Some a) (Some b) = a == b
+is_same_end None (Some b) = false
+is_same_end (Some a) None = false
 
-abbrev pub is_flag : Bool → Bool → Bool
-is_flag true b = b
-is_flag false true = false
-is_flag false false = true
+abbrev pub is_same_flag : Bool → Bool → Bool
+is_same_flag true b = b
+is_same_flag false true = false
+is_same_flag false false = true
 
 -- the same opening, its reference aside
-abbrev pub is_opening : Opening → Opening → Bool
-is_opening a b = is_text a.article b.article && is_kind a.kind b.kind && is_agreed a.agreed b.agreed && is_flag a.five_days b.five_days
+abbrev pub is_same_opening : Opening → Opening → Bool
+is_same_opening a b = is_same_text a.article b.article && is_same_kind a.kind b.kind && is_same_end a.agreed b.agreed && is_same_flag a.five_days b.five_days
 
 abbrev pub under_pledge : Result PledgeValue PledgeRefusal → Result PledgeValue Refusal
 under_pledge (Ok p) = Ok p
@@ -213,7 +213,7 @@ taken_under head opening stamp (Some terms) =
 
 -- TakePledge: an equal opening is answered as the first time
 abbrev pub take_pledge : BookValue → ℕ → Opening → Stamp → Option PledgeValue → Outcome
-take_pledge book b opening stamp (Some p) = if is_opening p.agreement.opening opening then Says (Told (Opened (first_receipt p))) else Refuses RefTaken
+take_pledge book b opening stamp (Some p) = if is_same_opening p.agreement.opening opening then Says (Told (Opened (first_receipt p))) else Refuses RefTaken
 take_pledge book b opening stamp None =
     made (taken_under (book_head book) opening stamp (newest book.terms)) (λ p. Makes (PutPledge b p.agreement.number p) (Opened (first_receipt p)))
 

@@ -10,14 +10,14 @@ use Rattle.pawn_book.specs.HostStep.{Host, with_book}
 use Rattle.pawn_book.specs.Sound.{AreSound}
 
 -- the book of a change
-abbrev pub book_of : Change → ℕ
-book_of (MakeBook book new) = book
-book_of (AddTerms book version terms) = book
-book_of (PutPledge book number pledge) = book
+abbrev pub book_number : Change → ℕ
+book_number (MakeBook book new) = book
+book_number (AddTerms book version terms) = book
+book_number (PutPledge book number pledge) = book
 
 -- the host with a change
 abbrev pub changed : Host → Change → Host
-changed h change = with_book h (book_of change) (changed_book (get h.books (book_of change)) change)
+changed h change = with_book h (book_number change) (changed_book (get h.books (book_number change)) change)
 
 -- what was agreed on a pledge that stands stays, and its lists grow at their ends alone
 pub record Continues (old new : PledgeValue) : Type 0 where

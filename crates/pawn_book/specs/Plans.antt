@@ -18,7 +18,7 @@ use Rattle.pawn_book.specs.declared.change.Planned.{Planned}
 use Rattle.pawn_book.specs.BookStep.{BookValue, Told, Outcome, Refuses, Says, Makes, out_of, confirmed_booking, gated, book_head}
 use Rattle.pawn_book.specs.HostStep.{Host, rows, host_step, host_after}
 use Rattle.pawn_book.specs.Sound.{IsSound}
-use Rattle.pawn_book.specs.Changes.{CanSave, book_of, changed}
+use Rattle.pawn_book.specs.Changes.{CanSave, book_number, changed}
 
 -- want of memory, or a fault of the store
 abbrev pub IsUnwell : Refusal → Type 0
@@ -36,7 +36,7 @@ outcome_of (Some change) reply = Makes change reply
 -- the plan is the outcome: its reply, and its change, which may be saved
 abbrev pub Plans : Host → ℕ → Outcome → Result Planned Refusal → Type 0
 Plans h b outcome (Ok planned) =
-    (outcome ≡ outcome_of planned.change planned.reply) × IfSome planned.change (λ change. (book_of change ≡ b) × CanSave h change)
+    (outcome ≡ outcome_of planned.change planned.reply) × IfSome planned.change (λ change. (book_number change ≡ b) × CanSave h change)
 Plans h b outcome (Err why) = IsRefused outcome why
 
 -- the answer is the outcome, or a keeper did not answer

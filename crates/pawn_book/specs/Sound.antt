@@ -10,7 +10,7 @@ use Rattle.pawn_pledge.specs.Number.{IsNumber}
 use Rattle.pawn_pledge.specs.Pledge.{PledgeValue}
 use Rattle.pawn_pledge.specs.Replayable.{Each, IsStanding}
 use Rattle.pawn_pledge.specs.Text.{IsText}
-use Rattle.pawn_book.specs.BookStep.{BookValue, is_text, terms_at}
+use Rattle.pawn_book.specs.BookStep.{BookValue, is_same_text, terms_at}
 use Rattle.pawn_book.specs.HostStep.{Host, rows}
 use Rattle.pawn_book.specs.Limits.{IsCapacity, most_terms, most_pledges}
 
@@ -22,7 +22,7 @@ AreNumberedFrom k (p ∷ ps) = (p.agreement.number ≡ k) × AreNumberedFrom (k 
 -- no text stands twice
 abbrev pub AreDistinct : List (List ℕ) → Type 0
 AreDistinct [] = Unit {0}
-AreDistinct (t ∷ ts) = (list_any (is_text t) ts ≡ false) × AreDistinct ts
+AreDistinct (t ∷ ts) = (list_any (is_same_text t) ts ≡ false) × AreDistinct ts
 
 -- numbers don't fall, from one on
 abbrev pub DoNotFall : ℕ → List ℕ → Type 0

@@ -4,7 +4,7 @@ ghost use Rattle.std.specs.FinMap.{get};
 ghost use Rattle.std.specs.Str.{IsUtf8};
 ghost use Rattle.pawn_terms.specs.Refusals.{IsSaid};
 ghost use Rattle.pawn_pledge.specs.Replayable.{IsStanding};
-ghost use Rattle.pawn_book.specs.BookStep.{BookValue, first_receipt, book_head, is_opening, newest, take_pledge, taken_under, with_reference};
+ghost use Rattle.pawn_book.specs.BookStep.{BookValue, first_receipt, book_head, is_same_opening, newest, take_pledge, taken_under, with_reference};
 ghost use Rattle.pawn_book.specs.Sound.{IsSound, IsWord};
 ghost use Rattle.pawn_book.specs.Keeping.{IsQuiet, IsSteady, Reads, pledges_of};
 ghost use Rattle.pawn_book.specs.Plans.{IsUnwell, Plans};
@@ -38,7 +38,7 @@ pub(crate) fn plan_pledge<K: Keep>(
     match find_reference(keep, book, &opening.reference) {
         Err(error) => Err(unwell(error)),
         Ok(Some(pledge)) => {
-            if !is_opening(&pledge.agreement().opening, opening) {
+            if !is_same_opening(&pledge.agreement().opening, opening) {
                 return Err(Refusal::RefTaken);
             }
             Ok(Planned {
@@ -145,8 +145,8 @@ fn start(
 }
 
 // Whether two openings are the same, their references aside.
-fn is_opening(a: &Opening, b: &Opening) -> bool
-    ensures value { result ≡ is_opening a.now b.now }
+fn is_same_opening(a: &Opening, b: &Opening) -> bool
+    ensures value { result ≡ is_same_opening a.now b.now }
 {
     a.article.as_str() == b.article.as_str()
         && a.kind == b.kind

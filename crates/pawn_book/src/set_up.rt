@@ -2,7 +2,7 @@
 ghost use Rattle.std.specs.Prelude.{◌≡◌, IfOk};
 ghost use Rattle.std.specs.FinMap.{get};
 ghost use Rattle.pawn_terms.specs.Terms.{IsChecked};
-ghost use Rattle.pawn_book.specs.BookStep.{BookValue, are_rates, created, book_head, is_book, next_terms, put_terms, terms_at};
+ghost use Rattle.pawn_book.specs.BookStep.{BookValue, are_same_rates, created, book_head, is_same_book, next_terms, put_terms, terms_at};
 ghost use Rattle.pawn_book.specs.Sound.{IsSound};
 ghost use Rattle.pawn_book.specs.Keeping.{IsQuiet, Reads};
 ghost use Rattle.pawn_book.specs.Plans.{Plans};
@@ -31,7 +31,7 @@ pub(crate) fn plan_book<K: Keep>(
     match keep.book_head(book) {
         Err(error) => Err(unwell(error)),
         Ok(Some(head)) => {
-            if !is_book(&head, new_book) {
+            if !is_same_book(&head, new_book) {
                 return Err(Refusal::BookTaken);
             }
             Ok(Planned {
@@ -52,8 +52,8 @@ pub(crate) fn plan_book<K: Keep>(
 }
 
 // Whether a book has this key, name and capacity.
-fn is_book(head: &BookHead, new_book: &NewBook) -> bool
-    ensures value { result ≡ is_book head.now new_book.now }
+fn is_same_book(head: &BookHead, new_book: &NewBook) -> bool
+    ensures value { result ≡ is_same_book head.now new_book.now }
 {
     head.key == new_book.key
         && head.name.as_str() == new_book.name.as_str()
@@ -76,7 +76,7 @@ pub(crate) fn plan_terms<K: Keep>(
     match keep.terms(book, version) {
         Err(error) => Err(unwell(error)),
         Ok(Some(terms)) => {
-            if !are_rates(terms.rates(), new_terms.rates) {
+            if !are_same_rates(terms.rates(), new_terms.rates) {
                 return Err(Refusal::TermsSeq);
             }
             Ok(Planned {
@@ -99,8 +99,8 @@ pub(crate) fn plan_terms<K: Keep>(
 }
 
 // Whether these are the same three numbers.
-fn are_rates(a: Rates, b: Rates) -> bool
-    ensures value { result ≡ are_rates a b }
+fn are_same_rates(a: Rates, b: Rates) -> bool
+    ensures value { result ≡ are_same_rates a b }
 {
     a.rate == b.rate && a.keep_before == b.keep_before && a.keep_after == b.keep_after
 }
