@@ -19,7 +19,7 @@ use Rattle.pawn_book.specs.declared.refusal.Refusal.{Refusal}
 use Rattle.pawn_book.specs.declared.refusal.Refusal.TheVariants.{NoSuchReceipt, WindowFull}
 use Rattle.pawn_book.specs.declared.reply.Reply.TheVariants.{TermsPut, Opened}
 use Rattle.pawn_book.specs.declared.change.Change.TheVariants.{AddTerms, PutPledge}
-use Rattle.pawn_book.specs.BookStep.{BookValue, Shown, Outcome, Refuses, Says, Makes, are_same_rates, are_unknown, bearer_commands, book_after, broker_commands, confirmed_booking, is_window_full, judged_outcome, shown, windowed, book_step, first_receipt, book_head, present_receipts, is_same_book, is_same_opening, made, newest, next_terms, pledge_from, put_from, put_terms, take_pledge, taken_under, terms_at, with_reference, live_at, pledge_in}
+use Rattle.pawn_book.specs.BookStep.{BookValue, Shown, Outcome, Refuses, Says, Makes, are_same_rates, are_unknown, bearer_commands, book_after, broker_commands, confirmed_booking, is_window_full, judged_outcome, show_pledge, within_window, book_step, first_receipt, book_head, present_receipts, is_same_book, is_same_opening, make_or_refuse, newest, next_terms, pledge_from, put_from, put_terms, take_pledge, taken_under, terms_at, with_reference, live_at, pledge_in}
 use Rattle.pawn_book.specs.Laws.{book_run}
 use Rattle.pawn_book.proofs.Sounds.{put_next}
 use Rattle.pawn_book.proofs.KeptLemmas.{AreKept, are_kept_on, are_kept_push, are_kept_put, are_kept_same, kept_moved}
@@ -60,7 +60,7 @@ put_terms_grows : (book : BookValue) (b : ℕ) (new : NewTerms) (o : Option Rate
 put_terms_grows book b new (Some terms) = grows_by book (are_same_rates terms new.rates) _ _ (stays book) (stays book)
 put_terms_grows book b new None = from (next_terms (length book.terms) new)
   where
-    from : (r : Result Rates Refusal) → GrowsTo book (book_after (Some book) (made r (λ terms. Makes (AddTerms b new.version terms) (TermsPut new.version))))
+    from : (r : Result Rates Refusal) → GrowsTo book (book_after (Some book) (make_or_refuse r (λ terms. Makes (AddTerms b new.version terms) (TermsPut new.version))))
     from (Err why) = stays book
     from (Ok terms) = (
       record book { terms = book.terms ++ terms ∷ [] },
@@ -80,7 +80,7 @@ take_pledge_grows book b opening stamp (Some p) = grows_by book (is_same_opening
 take_pledge_grows book b opening stamp None = from (taken_under (book_head book) opening stamp (newest book.terms)) refl
   where
     from : (r : Result PledgeValue Refusal) → taken_under (book_head book) opening stamp (newest book.terms) ≡ r
-        → GrowsTo book (book_after (Some book) (made r (λ p. Makes (PutPledge b p.agreement.number p) (Opened (first_receipt p)))))
+        → GrowsTo book (book_after (Some book) (make_or_refuse r (λ p. Makes (PutPledge b p.agreement.number p) (Opened (first_receipt p)))))
     from (Err why) is = stays book
     from (Ok p) is = (
       record book { pledges = put_from 1 book.pledges p.agreement.number p },
@@ -111,23 +111,23 @@ judged_grows book b n p stamp command at = from (pledge_step p stamp command) re
     from (Answered done) step = stays book
     from (Changed q done) step = (record book { pledges = put_from 1 book.pledges n q }, refl, put_grows book n p q stamp command done at step)
 
-windowed_grows : (book : BookValue) (o : Outcome) → GrowsTo book (book_after (Some book) o) → GrowsTo book (book_after (Some book) (windowed book o))
-windowed_grows book (Refuses why) grows = grows
-windowed_grows book (Says out) grows = grows
-windowed_grows book (Makes change reply) grows =
+window_grows : (book : BookValue) (o : Outcome) → GrowsTo book (book_after (Some book) o) → GrowsTo book (book_after (Some book) (within_window book o))
+window_grows book (Refuses why) grows = grows
+window_grows book (Says out) grows = grows
+window_grows book (Makes change reply) grows =
     grows_by book (is_window_full book (confirmed_booking reply)) (Refuses WindowFull) (Makes change reply) (stays book) grows
 
 number_grows : (book : BookValue) (b n : ℕ) (stamp : Stamp) (command : Command) (o : Option PledgeValue) → pledge_from 1 book.pledges n ≡ o
     → GrowsTo book (book_after (Some book) (broker_commands book b n stamp command o))
 number_grows book b n stamp command None at = stays book
-number_grows book b n stamp command (Some p) at = windowed_grows book (judged_outcome b n (pledge_step p stamp command)) (judged_grows book b n p stamp command at)
+number_grows book b n stamp command (Some p) at = window_grows book (judged_outcome b n (pledge_step p stamp command)) (judged_grows book b n p stamp command at)
 
 receipt_grows : (book : BookValue) (b : ℕ) (r : Receipt) (stamp : Stamp) (command : Command) (o : Option PledgeValue) → live_at (pledge_in (Some book)) r ≡ o
     → GrowsTo book (book_after (Some book) (bearer_commands b r.number stamp command o))
 receipt_grows book b r stamp command None at = stays book
 receipt_grows book b r stamp command (Some p) at = judged_grows book b r.number p stamp command (live_is r.secret (pledge_from 1 book.pledges r.number) p (sym at))
 
-shown_stays : (book : BookValue) (stamp : Stamp) (o : Option PledgeValue) → GrowsTo book (book_after (Some book) (shown stamp o))
+shown_stays : (book : BookValue) (stamp : Stamp) (o : Option PledgeValue) → GrowsTo book (book_after (Some book) (show_pledge stamp o))
 shown_stays book stamp None = stays book
 shown_stays book stamp (Some p) = stays book
 

@@ -29,7 +29,7 @@ use Rattle.pawn_book.specs.declared.reply.Reply.{Reply}
 use Rattle.pawn_book.specs.declared.reply.Reply.TheVariants.{BookMade, TermsPut, Opened}
 use Rattle.pawn_book.specs.declared.change.Change.{Change}
 use Rattle.pawn_book.specs.declared.change.Change.TheVariants.{AddTerms, PutPledge}
-use Rattle.pawn_book.specs.BookStep.{BookValue, Told, Refuses, Says, are_same_rates, first_secret, is_live, only_live, book_step, changed_book, created, first_receipt, book_head, is_same_end, is_same_book, is_same_flag, is_same_kind, is_same_opening, is_same_text, made_book, newest, next_terms, pledge_from, put_from, put_terms, take_pledge, terms_at, with_reference, under_terms}
+use Rattle.pawn_book.specs.BookStep.{BookValue, Told, Refuses, Says, are_same_rates, first_secret, is_live, only_live, book_step, changed_book, make_book, first_receipt, book_head, is_same_end, is_same_book, is_same_flag, is_same_kind, is_same_opening, is_same_text, made_book, newest, next_terms, pledge_from, put_from, put_terms, take_pledge, terms_at, with_reference, under_terms}
 use Rattle.pawn_book.specs.Laws.{ChangesDiffer, RepeatsActOnce, book_run}
 use Rattle.pawn_book.proofs.Sounds.{absurd_none, each_at, some_is}
 use Rattle.pawn_book.specs.Changes.{Continues}
@@ -166,7 +166,7 @@ repeat_told before operator b stamp again caller change reply later making is = 
         both _ _ (both _ _ (ap (λ k. k == new.key) grown.key ∙ number_same new.key) (ap (λ t. is_same_text t new.name) grown.name ∙ text_same new.name))
         (ap (λ n. n == new.capacity) grown.capacity ∙ number_same new.capacity) in
         ap (book_step (Some next) operator b again) asks
-        ∙ ap (λ v. if v then created (Some next) b new else Refuses NotOperator) passes
+        ∙ ap (λ v. if v then make_book (Some next) b new else Refuses NotOperator) passes
         ∙ ap (λ v. if v then Says (Told (BookMade b)) else Refuses BookTaken) same ∙ ap (λ r. Says (Told r)) (sym says))
     from (TermsAre key new book terms asks stands passes absent answer makes says) =
         told (record book { terms = book.terms ++ terms ∷ [] }) (ap (changed_book before) makes ∙ ap (λ o. changed_book o (AddTerms b new.version terms)) stands) (λ next grown.

@@ -21,7 +21,7 @@ use Rattle.pawn_book.specs.declared.reply.Reply.{Reply}
 use Rattle.pawn_book.specs.declared.reply.Reply.TheVariants.{BookMade, TermsPut, Opened, Commanded}
 use Rattle.pawn_book.specs.declared.change.Change.{Change}
 use Rattle.pawn_book.specs.declared.change.Change.TheVariants.{MakeBook, AddTerms, PutPledge}
-use Rattle.pawn_book.specs.BookStep.{BookValue, Out, Shown, Outcome, Refuses, Says, Makes, are_same_rates, are_unknown, bearer_commands, broker_commands, confirmed_booking, is_window_full, judged_outcome, shown, windowed, book_step, first_receipt, book_head, present_receipts, is_same_book, is_same_opening, made, newest, next_terms, pledge_from, put_terms, take_pledge, taken_under, terms_at, with_reference, live_at, pledge_in}
+use Rattle.pawn_book.specs.BookStep.{BookValue, Out, Shown, Outcome, Refuses, Says, Makes, are_same_rates, are_unknown, bearer_commands, broker_commands, confirmed_booking, is_window_full, judged_outcome, show_pledge, within_window, book_step, first_receipt, book_head, present_receipts, is_same_book, is_same_opening, make_or_refuse, newest, next_terms, pledge_from, put_terms, take_pledge, taken_under, terms_at, with_reference, live_at, pledge_in}
 use Rattle.pawn_book.specs.Laws.{IsMaking}
 use Rattle.pawn_book.proofs.CommandPlans.{live_is}
 
@@ -73,7 +73,7 @@ same_change c d r s is = sym (ap (λ o. change_in o c) is)
 same_reply : (c d : Change) (r s : Reply) → Makes c r ≡ Makes d s → s ≡ r
 same_reply c d r s is = sym (ap (λ o. reply_in o r) is)
 
-made_ok : {V : Type 0} (r : Result V Refusal) (makes : V → Outcome) (change : Change) (reply : Reply) → made r makes ≡ Makes change reply → (v : V) × (r ≡ Ok v) × (makes v ≡ Makes change reply)
+made_ok : {V : Type 0} (r : Result V Refusal) (makes : V → Outcome) (change : Change) (reply : Reply) → make_or_refuse r makes ≡ Makes change reply → (v : V) × (r ≡ Ok v) × (makes v ≡ Makes change reply)
 made_ok (Err why) makes change reply is = cc is
 made_ok (Ok v) makes change reply is = (v, refl, is)
 
@@ -95,10 +95,10 @@ judged_made book b n p stamp command change reply at is = from (pledge_step p st
       says = same_reply _ change _ reply made;
     }
 
-windowed_made : (book : BookValue) (o : Outcome) (change : Change) (reply : Reply) → windowed book o ≡ Makes change reply → o ≡ Makes change reply
-windowed_made book (Refuses why) change reply is = cc is
-windowed_made book (Says out) change reply is = cc is
-windowed_made book (Makes c r) change reply is = from (is_window_full book (confirmed_booking r)) is
+window_made : (book : BookValue) (o : Outcome) (change : Change) (reply : Reply) → within_window book o ≡ Makes change reply → o ≡ Makes change reply
+window_made book (Refuses why) change reply is = cc is
+window_made book (Says out) change reply is = cc is
+window_made book (Makes c r) change reply is = from (is_window_full book (confirmed_booking r)) is
   where
     from : (full : Bool) → (if full then Refuses WindowFull else Makes c r) ≡ Makes change reply → Makes c r ≡ Makes change reply
     from true made = cc made
@@ -107,7 +107,7 @@ windowed_made book (Makes c r) change reply is = from (is_window_full book (conf
 pub number_made : (book : BookValue) (b n : ℕ) (stamp : Stamp) (command : Command) (o : Option PledgeValue) (change : Change) (reply : Reply) → pledge_from 1 book.pledges n ≡ o
     → broker_commands book b n stamp command o ≡ Makes change reply → DidOn book b n stamp command change reply
 number_made book b n stamp command None change reply at is = cc is
-number_made book b n stamp command (Some p) change reply at is = judged_made book b n p stamp command change reply at (windowed_made book _ change reply is)
+number_made book b n stamp command (Some p) change reply at is = judged_made book b n p stamp command change reply at (window_made book _ change reply is)
 
 pub receipt_made : (book : BookValue) (b : ℕ) (r : Receipt) (stamp : Stamp) (command : Command) (o : Option PledgeValue) (change : Change) (reply : Reply)
     → live_at (pledge_in (Some book)) r ≡ o → bearer_commands b r.number stamp command o ≡ Makes change reply → DidOn book b r.number stamp command change reply
@@ -115,7 +115,7 @@ receipt_made book b r stamp command None change reply at is = cc is
 receipt_made book b r stamp command (Some p) change reply at is =
     judged_made book b r.number p stamp command change reply (live_is r.secret (pledge_from 1 book.pledges r.number) p (sym at)) is
 
-shown_makes : {P : Type 0} (stamp : Stamp) (o : Option PledgeValue) (change : Change) (reply : Reply) → shown stamp o ≡ Makes change reply → P
+shown_makes : {P : Type 0} (stamp : Stamp) (o : Option PledgeValue) (change : Change) (reply : Reply) → show_pledge stamp o ≡ Makes change reply → P
 shown_makes stamp None change reply is = cc is
 shown_makes stamp (Some p) change reply is = cc is
 

@@ -26,17 +26,17 @@ use Rattle.pawn_book.specs.declared.refusal.Refusal.TheVariants.{PledgesFull, Te
 use Rattle.pawn_book.specs.declared.change.Change.{Change}
 use Rattle.pawn_book.specs.declared.change.Change.TheVariants.{MakeBook, AddTerms, PutPledge}
 use Rattle.pawn_book.specs.declared.change.BookHead.{BookHead}
-use Rattle.pawn_book.specs.BookStep.{BookValue, Makes, created, made, made_book, next_terms, put_terms, take_pledge, taken_under, under_pledge, with_room, terms_at, newest, with_reference, book_head, first_receipt, changed_book, pledge_from, pledge_in, put_from, is_same_text}
+use Rattle.pawn_book.specs.BookStep.{BookValue, Makes, make_book, make_or_refuse, made_book, next_terms, put_terms, take_pledge, taken_under, under_pledge, with_room, terms_at, newest, with_reference, book_head, first_receipt, changed_book, pledge_from, pledge_in, put_from, is_same_text}
 use Rattle.pawn_book.specs.HostStep.{Host, with_book}
 use Rattle.pawn_book.specs.Limits.{IsCapacity, most_terms, most_pledges}
 use Rattle.pawn_book.specs.Sound.{AreNumberedFrom, AreSound, AreWords, HasTextsAndWords, IsSound, IsWord}
-use Rattle.pawn_book.specs.Changes.{book_number, changed}
+use Rattle.pawn_book.specs.Changes.{book_number, with_change}
 use Rattle.pawn_book.specs.Keeping.{number_of, pledges_of, terms_of}
 use Rattle.pawn_book.specs.Plans.{Plans}
 use Rattle.pawn_book.proofs.Sounds.{IsNext, absurd_none, some_is, sound_made, sound_next, sound_terms, sound_with}
 
 -- the book of a change, set in the host
-pub changed_is : (h : Host) (b : ℕ) (change : Change) (book : BookValue) → book_number change ≡ b → changed_book (get h.books b) change ≡ Some book → changed h change ≡ with_book h b (Some book)
+pub changed_is : (h : Host) (b : ℕ) (change : Change) (book : BookValue) → book_number change ≡ b → changed_book (get h.books b) change ≡ Some book → with_change h change ≡ with_book h b (Some book)
 changed_is h b change book named is = ap (λ (c : ℕ). with_book h c (changed_book (get h.books c) change)) named ∙ ap (with_book h b) is
 
 -- a row that did not apply
@@ -46,9 +46,9 @@ past_row false why rest v is = (refl, is)
 
 -- a book that doesn't stand is made
 pub book_plans : (h : Host) (b : ℕ) (new : NewBook) → IsNumber b → IsWord new.key → IsUtf8 new.name → IsText 60 new.name → IsCapacity new.capacity → IsSound h → get h.books b ≡ None
-    → Plans h b (created (get h.books b) b new) (Ok (record { change = Some (MakeBook b new); reply = BookMade b }))
+    → Plans h b (make_book (get h.books b) b new) (Ok (record { change = Some (MakeBook b new); reply = BookMade b }))
 book_plans h b new number key utf8 name capacity sound none =
-    (ap (λ o. created o b new) none, (refl, record { follows = none; sound = sound_with h b (made_book new) sound.books (number, sound_made new key utf8 name capacity) }))
+    (ap (λ o. make_book o b new) none, (refl, record { follows = none; sound = sound_with h b (made_book new) sound.books (number, sound_made new key utf8 name capacity) }))
 
 -- the next version of terms is added
 pub terms_plans : (h : Host) (b : ℕ) (at : BookValue) (new : NewTerms) (terms : Rates) → IsSound h → get h.books b ≡ Some at
@@ -56,9 +56,9 @@ pub terms_plans : (h : Host) (b : ℕ) (at : BookValue) (new : NewTerms) (terms 
     → Plans h b (put_terms at b new (terms_at at.terms new.version)) (Ok (record { change = Some (AddTerms b new.version terms); reply = TermsPut new.version }))
 terms_plans h b at new terms sound is none answer version few checked =
     let book : BookValue = record at { terms = at.terms ++ terms ∷ [] } in
-    let same : changed h (AddTerms b new.version terms) ≡ with_book h b (Some book) =
+    let same : with_change h (AddTerms b new.version terms) ≡ with_book h b (Some book) =
     changed_is h b (AddTerms b new.version terms) book refl (ap (λ o. changed_book o (AddTerms b new.version terms)) is) in (
-      ap (put_terms at b new) none ∙ ap (λ r. made r (λ terms. Makes (AddTerms b new.version terms) (TermsPut new.version))) answer,
+      ap (put_terms at b new) none ∙ ap (λ r. make_or_refuse r (λ terms. Makes (AddTerms b new.version terms) (TermsPut new.version))) answer,
       (
         refl,
         record {
@@ -75,9 +75,9 @@ pub pledge_plans : (h : Host) (b : ℕ) (at : BookValue) (opening : Opening) (st
     → Plans h b (take_pledge at b opening stamp (with_reference at.pledges opening.reference)) (Ok (record { change = Some (PutPledge b p.agreement.number p); reply = Opened (first_receipt p) }))
 pledge_plans h b at opening stamp p sound is none answer next standing written =
     let book : BookValue = record at { pledges = put_from 1 at.pledges p.agreement.number p } in
-    let same : changed h (PutPledge b p.agreement.number p) ≡ with_book h b (Some book) =
+    let same : with_change h (PutPledge b p.agreement.number p) ≡ with_book h b (Some book) =
     changed_is h b (PutPledge b p.agreement.number p) book refl (ap (λ o. changed_book o (PutPledge b p.agreement.number p)) is) in (
-      ap (take_pledge at b opening stamp) none ∙ ap (λ r. made r (λ p. Makes (PutPledge b p.agreement.number p) (Opened (first_receipt p)))) answer,
+      ap (take_pledge at b opening stamp) none ∙ ap (λ r. make_or_refuse r (λ p. Makes (PutPledge b p.agreement.number p) (Opened (first_receipt p)))) answer,
       (
         refl,
         record {

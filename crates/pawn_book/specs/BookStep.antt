@@ -116,9 +116,9 @@ book_after before (Says out) = before
 book_after before (Makes change reply) = changed_book before change
 
 -- a change that stands unless it was refused
-abbrev pub made : {V : Type 0} → Result V Refusal → (V → Outcome) → Outcome
-made (Ok v) makes = makes v
-made (Err why) makes = Refuses why
+abbrev pub make_or_refuse : {V : Type 0} → Result V Refusal → (V → Outcome) → Outcome
+make_or_refuse (Ok v) makes = makes v
+make_or_refuse (Err why) makes = Refuses why
 
 -- what a book has beside its terms and pledges
 abbrev pub book_head : BookValue → BookHead
@@ -136,13 +136,13 @@ abbrev pub is_same_book : BookHead → NewBook → Bool
 is_same_book head new = (head.key == new.key) && is_same_text head.name new.name && (head.capacity == new.capacity)
 
 -- Create: an equal book is told again
-abbrev pub created : Option BookValue → ℕ → NewBook → Outcome
-created None b new = Makes (MakeBook b new) (BookMade b)
-created (Some book) b new = if is_same_book (book_head book) new then Says (Told (BookMade b)) else Refuses BookTaken
+abbrev pub make_book : Option BookValue → ℕ → NewBook → Outcome
+make_book None b new = Makes (MakeBook b new) (BookMade b)
+make_book (Some book) b new = if is_same_book (book_head book) new then Says (Told (BookMade b)) else Refuses BookTaken
 
 -- by the operator's key
-abbrev pub operated : ℕ → ℕ → Outcome → Outcome
-operated operator key step = if key == operator then step else Refuses NotOperator
+abbrev pub operator_step : ℕ → ℕ → Outcome → Outcome
+operator_step operator key step = if key == operator then step else Refuses NotOperator
 
 -- the same three numbers
 abbrev pub are_same_rates : Rates → Rates → Bool
@@ -165,7 +165,7 @@ next_terms standing new =
 -- PutTerms: equal terms that stand are told again
 abbrev pub put_terms : BookValue → ℕ → NewTerms → Option Rates → Outcome
 put_terms book b new (Some terms) = if are_same_rates terms new.rates then Says (Told (TermsPut new.version)) else Refuses TermsSeq
-put_terms book b new None = made (next_terms (length book.terms) new) (λ terms. Makes (AddTerms b new.version terms) (TermsPut new.version))
+put_terms book b new None = make_or_refuse (next_terms (length book.terms) new) (λ terms. Makes (AddTerms b new.version terms) (TermsPut new.version))
 
 -- the secret that came with the opening
 abbrev pub first_secret : List Issued → ℕ
@@ -215,7 +215,7 @@ taken_under head opening stamp (Some terms) =
 abbrev pub take_pledge : BookValue → ℕ → Opening → Stamp → Option PledgeValue → Outcome
 take_pledge book b opening stamp (Some p) = if is_same_opening p.agreement.opening opening then Says (Told (Opened (first_receipt p))) else Refuses RefTaken
 take_pledge book b opening stamp None =
-    made (taken_under (book_head book) opening stamp (newest book.terms)) (λ p. Makes (PutPledge b p.agreement.number p) (Opened (first_receipt p)))
+    make_or_refuse (taken_under (book_head book) opening stamp (newest book.terms)) (λ p. Makes (PutPledge b p.agreement.number p) (Opened (first_receipt p)))
 
 -- bookings
 
@@ -231,8 +231,8 @@ is_confirmed_for day window None = false
 is_confirmed_for day window (Some booking) = (booking.day == day) && (booking.window == window) && is_confirmed booking.state
 
 -- how many pledges have one
-abbrev pub confirmed_for : List PledgeValue → ℕ → ℕ → ℕ
-confirmed_for pledges day window = count_by (λ p. is_confirmed_for day window p.standing.booking) pledges
+abbrev pub confirmed_count : List PledgeValue → ℕ → ℕ → ℕ
+confirmed_count pledges day window = count_by (λ p. is_confirmed_for day window p.standing.booking) pledges
 
 -- the booking that a command confirmed
 abbrev pub confirmed_by : Done → Option Booking
@@ -254,7 +254,7 @@ confirmed_booking (Commanded n done) = confirmed_by done
 -- as many of its window are confirmed as the book confirms
 abbrev pub is_window_full : BookValue → Option Booking → Bool
 is_window_full book None = false
-is_window_full book (Some booking) = nat_le book.capacity (confirmed_for book.pledges booking.day booking.window)
+is_window_full book (Some booking) = nat_le book.capacity (confirmed_count book.pledges booking.day booking.window)
 
 -- commands
 
@@ -265,15 +265,15 @@ judged_outcome b n (Answered done) = Says (Told (Commanded n done))
 judged_outcome b n (Changed next done) = Makes (PutPledge b n next) (Commanded n done)
 
 -- a booking is confirmed only where its window has room
-abbrev pub windowed : BookValue → Outcome → Outcome
-windowed book (Refuses why) = Refuses why
-windowed book (Says out) = Says out
-windowed book (Makes change reply) = if is_window_full book (confirmed_booking reply) then Refuses WindowFull else Makes change reply
+abbrev pub within_window : BookValue → Outcome → Outcome
+within_window book (Refuses why) = Refuses why
+within_window book (Says out) = Says out
+within_window book (Makes change reply) = if is_window_full book (confirmed_booking reply) then Refuses WindowFull else Makes change reply
 
 -- a broker's command on pledge n
 abbrev pub broker_commands : BookValue → ℕ → ℕ → Stamp → Command → Option PledgeValue → Outcome
 broker_commands book b n stamp command None = Refuses NoSuchPledge
-broker_commands book b n stamp command (Some p) = windowed book (judged_outcome b n (pledge_step p stamp command))
+broker_commands book b n stamp command (Some p) = within_window book (judged_outcome b n (pledge_step p stamp command))
 
 -- a bearer's command, on the pledge of a live receipt
 abbrev pub bearer_commands : ℕ → ℕ → Stamp → Command → Option PledgeValue → Outcome
@@ -281,21 +281,21 @@ bearer_commands b n stamp command None = Refuses NoSuchReceipt
 bearer_commands b n stamp command (Some p) = judged_outcome b n (pledge_step p stamp command)
 
 -- Show: the statement of a pledge
-abbrev pub shown : Stamp → Option PledgeValue → Outcome
-shown stamp None = Refuses NoSuchPledge
-shown stamp (Some p) = Says (Shown stamp.day (Some p ∷ []))
+abbrev pub show_pledge : Stamp → Option PledgeValue → Outcome
+show_pledge stamp None = Refuses NoSuchPledge
+show_pledge stamp (Some p) = Says (Shown stamp.day (Some p ∷ []))
 
 -- what a broker asks of the book
 abbrev pub broker_step : BookValue → ℕ → Stamp → BrokerRequest → Outcome
 broker_step book b stamp (PutTerms new) = put_terms book b new (terms_at book.terms new.version)
 broker_step book b stamp (TakePledge opening) = take_pledge book b opening stamp (with_reference book.pledges opening.reference)
 broker_step book b stamp (OnPledge n command) = broker_commands book b n stamp command (pledge_from 1 book.pledges n)
-broker_step book b stamp (Show n) = shown stamp (pledge_from 1 book.pledges n)
+broker_step book b stamp (Show n) = show_pledge stamp (pledge_from 1 book.pledges n)
 
 -- for a caller with the book's key
-abbrev pub gated : Option BookValue → ℕ → (BookValue → Outcome) → Outcome
-gated None key step = Refuses NoSuchBook
-gated (Some book) key step = if book.key == key then step book else Refuses NoSuchBook
+abbrev pub gate_step : Option BookValue → ℕ → (BookValue → Outcome) → Outcome
+gate_step None key step = Refuses NoSuchBook
+gate_step (Some book) key step = if book.key == key then step book else Refuses NoSuchBook
 
 abbrev pub is_secret : ℕ → Option ℕ → Bool
 is_secret s None = false
@@ -328,6 +328,6 @@ bearer_step pledges b stamp (Present receipts) = present_receipts stamp (map (li
 bearer_step pledges b stamp (OnReceipt r command) = bearer_commands b r.number stamp command (live_at pledges r)
 
 abbrev pub book_step : Option BookValue → ℕ → ℕ → Stamp → Caller → Outcome
-book_step before operator b stamp (Operator key new) = operated operator key (created before b new)
-book_step before operator b stamp (Broker key asked) = gated before key (λ book. broker_step book b stamp asked)
+book_step before operator b stamp (Operator key new) = operator_step operator key (make_book before b new)
+book_step before operator b stamp (Broker key asked) = gate_step before key (λ book. broker_step book b stamp asked)
 book_step before operator b stamp (Bearer asked) = bearer_step (pledge_in before) b stamp asked

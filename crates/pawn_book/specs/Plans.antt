@@ -15,10 +15,10 @@ use Rattle.pawn_book.specs.declared.refusal.Refusal.TheVariants as No
 use Rattle.pawn_book.specs.declared.change.BookHead.{BookHead}
 use Rattle.pawn_book.specs.declared.change.Change.{Change}
 use Rattle.pawn_book.specs.declared.change.Planned.{Planned}
-use Rattle.pawn_book.specs.BookStep.{BookValue, Told, Outcome, Refuses, Says, Makes, out_of, confirmed_booking, gated, book_head}
+use Rattle.pawn_book.specs.BookStep.{BookValue, Told, Outcome, Refuses, Says, Makes, out_of, confirmed_booking, gate_step, book_head}
 use Rattle.pawn_book.specs.HostStep.{Host, rows, host_step, host_after}
 use Rattle.pawn_book.specs.Sound.{IsSound}
-use Rattle.pawn_book.specs.Changes.{CanSave, book_number, changed}
+use Rattle.pawn_book.specs.Changes.{CanSave, book_number, with_change}
 
 -- want of memory, or a fault of the store
 abbrev pub IsUnwell : Refusal → Type 0
@@ -52,24 +52,24 @@ newly_confirmed (Some change) reply = confirmed_booking reply
 -- the gate lets the holder of the book's key in, and no one else
 abbrev pub Gates : Option BookValue → ℕ → Result BookHead Refusal → Type 0
 Gates book key (Ok head) = (at : BookValue) × (book ≡ Some at) × (head ≡ book_head at) × (at.key ≡ key)
-Gates book key (Err why) = IsUnwell why ⊎ ((why ≡ No.NoSuchBook) × ((step : BookValue → Outcome) → gated book key step ≡ Refuses No.NoSuchBook))
+Gates book key (Err why) = IsUnwell why ⊎ ((why ≡ No.NoSuchBook) × ((step : BookValue → Outcome) → gate_step book key step ≡ Refuses No.NoSuchBook))
 
 -- what came of a plan's change: there was room for it, or nothing changed
 abbrev pub Commits : Host → Option Change → Result (Unit {0}) Refusal → (Host → Type 0) → Type 0
 Commits h None (Ok done) stands = stands h
 Commits h None (Err why) stands = ⊥
-Commits h (Some change) (Ok done) stands = stands (changed h change) × (rows (changed h change) ≤ h.limit)
+Commits h (Some change) (Ok done) stands = stands (with_change h change) × (rows (with_change h change) ≤ h.limit)
 Commits h (Some change) (Err why) stands =
-    stands h × (IsUnwell why ⊎ ((why ≡ No.Full) × (h.limit < rows (changed h change))))
+    stands h × (IsUnwell why ⊎ ((why ≡ No.Full) × (h.limit < rows (with_change h change))))
 
 -- the host after a request
-abbrev pub stepped : Host → ℕ → Stamp → Request → Host
-stepped h operator stamp request = host_after h request.book (host_step h operator stamp request)
+abbrev pub next_host : Host → ℕ → Stamp → Request → Host
+next_host h operator stamp request = host_after h request.book (host_step h operator stamp request)
 
 -- the answer is the host's step, and the keeper goes on to the host after it, which is sound
 abbrev pub Acts : Host → ℕ → Stamp → Request → Result Reply Refusal → (Host → Type 0) → Type 0
 Acts h operator stamp request (Ok reply) stands =
-    (out_of (host_step h operator stamp request) ≡ Told reply) × stands (stepped h operator stamp request) × IsSound (stepped h operator stamp request)
+    (out_of (host_step h operator stamp request) ≡ Told reply) × stands (next_host h operator stamp request) × IsSound (next_host h operator stamp request)
 Acts h operator stamp request (Err why) stands = stands h × IsRefused (host_step h operator stamp request) why
 
 -- a request that may change its book

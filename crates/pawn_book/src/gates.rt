@@ -19,7 +19,7 @@ pub fn gate<K: Keep>(keep: &mut K, book: Number, key: Secret) -> Result<BookHead
     ensures steady { IsQuiet K.keeping keep.old result }
 {
     match keep.book_head(book) {
-        Err(error) => Err(unwell(error)),
+        Err(error) => Err(unwell_refusal(error)),
         Ok(None) => Err(Refusal::NoSuchBook),
         Ok(Some(head)) => {
             if head.key == key {
@@ -48,7 +48,7 @@ pub fn find_live<K: Keep>(
 }
 
 // The refusal for a keeper that did not answer.
-pub(crate) fn unwell(error: KeepError) -> Refusal
+pub(crate) fn unwell_refusal(error: KeepError) -> Refusal
     ensures unwell { IsUnwell result }
     ensures memory { error ≡ KeepError.Memory → result ≡ Refusal.Memory }
 {

@@ -1,7 +1,7 @@
 ghost use Rattle.std.specs.Prelude.{◌≡◌, IfOk, option_map, unwrap_or};
 ghost use Rattle.std.specs.FinMap.{get};
 ghost use Rattle.pawn_pledge.specs.Brief.{brief_of};
-ghost use Rattle.pawn_book.specs.BookStep.{confirmed_for, book_head, pledge_in, terms_at};
+ghost use Rattle.pawn_book.specs.BookStep.{confirmed_count, book_head, pledge_in, terms_at};
 ghost use Rattle.pawn_book.specs.HostStep.{Host};
 ghost use Rattle.pawn_book.specs.Changes.{CanSave};
 ghost use Rattle.pawn_book.specs.Keeping.{Errs, IsNextBook, Keeping, Of, Reads, Saves, entries_of, extensions_of, number_of, pledges_of, terms_of};
@@ -39,8 +39,8 @@ pub trait Keep {
         ensures errs { Errs keeping self.old self.new result };
 
     /// How many pledges have a confirmed booking for a day and a window.
-    fn confirmed(&mut self, book: Number, day: Day, window: u64) -> Result<u64, KeepError>
-        ensures reads { Reads keeping self.old self.new (λ h. IfOk result (λ count. count ≡ confirmed_for (pledges_of (get h.books book)) day window)) }
+    fn confirmed_count(&mut self, book: Number, day: Day, window: u64) -> Result<u64, KeepError>
+        ensures reads { Reads keeping self.old self.new (λ h. IfOk result (λ count. count ≡ confirmed_count (pledges_of (get h.books book)) day window)) }
         ensures errs { Errs keeping self.old self.new result };
 
     /// Hands the visitor the pledges of a book in order of their numbers, until it wants no more.

@@ -1,6 +1,6 @@
 ghost use Rattle.std.specs.Prelude.{[], ◌≡◌, ◌<◌, ◌≤◌, ◌+◌, ◌&&◌, if◌then◌else◌, IfNone, IfOk, IfSome, MatchOption, None, OnErr, OnOk, Some, length, map, nat_lt, option_map, unwrap_or};
 ghost use Rattle.pawn_pledge.specs.Brief.{brief_of};
-ghost use Rattle.pawn_book.specs.BookStep.{confirmed_for, book_head, is_confirmed_for, pledge_from, pledge_in, put_from, terms_at, with_reference};
+ghost use Rattle.pawn_book.specs.BookStep.{confirmed_count, book_head, is_confirmed_for, pledge_from, pledge_in, put_from, terms_at, with_reference};
 ghost use Rattle.pawn_book.specs.HostStep.{pledge_rows};
 ghost use Rattle.pawn_book.specs.Changes.{CanSave};
 ghost use Rattle.pawn_book.specs.Keeping.{entries_of, extensions_of, number_of, pledges_of, terms_of};
@@ -173,8 +173,8 @@ impl Keep for ListKeep {
         Ok(number)
     }
 
-    fn confirmed(&mut self, book: Number, day: Day, window: u64) -> Result<u64, KeepError> {
-        let count = confirmed_in(pledges_in(&self.books, book), day, window);
+    fn confirmed_count(&mut self, book: Number, day: Day, window: u64) -> Result<u64, KeepError> {
+        let count = confirmed_count(pledges_in(&self.books, book), day, window);
         Ok(count as u64)
     }
 
@@ -387,8 +387,8 @@ fn is_confirmed_for(booking: Option<Booking>, day: Day, window: u64) -> bool
 }
 
 // How many pledges have a confirmed booking for a day and a window.
-fn confirmed_in(pledges: &[Pledge], day: Day, window: u64) -> usize
-    ensures value { result ≡ confirmed_for pledges.now day window }
+fn confirmed_count(pledges: &[Pledge], day: Day, window: u64) -> usize
+    ensures value { result ≡ confirmed_count pledges.now day window }
 {
     pledges
         .iter()
@@ -412,13 +412,13 @@ fn next_number(books: &[Kept], after: u32) -> Option<Number>
 {
     let mut next: Option<Number> = None;
     for kept in books {
-        next = nearer(kept.number, after, next);
+        next = nearer_number(kept.number, after, next);
     }
     next
 }
 
 // A number in place of another, if it is less and above a third.
-fn nearer(number: Number, after: u32, next: Option<Number>) -> Option<Number>
+fn nearer_number(number: Number, after: u32, next: Option<Number>) -> Option<Number>
     ensures value { result ≡ (if nat_lt after number && nat_lt number (unwrap_or next (number + 1)) then Some number else next) }
 {
     let is_less = match next {

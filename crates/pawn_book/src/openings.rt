@@ -11,7 +11,7 @@ ghost use Rattle.pawn_book.specs.Plans.{IsUnwell, Plans};
 
 use crate::change::{Change, BookHead, Planned};
 use crate::fault::KeepError;
-use crate::gates::{know_word, unwell};
+use crate::gates::{know_word, unwell_refusal};
 use crate::keep::Keep;
 use crate::limits::MOST_PLEDGES;
 use crate::refusal::Refusal;
@@ -36,7 +36,7 @@ pub(crate) fn plan_pledge<K: Keep>(
 {
     know_given(opening, stamp);
     match find_reference(keep, book, &opening.reference) {
-        Err(error) => Err(unwell(error)),
+        Err(error) => Err(unwell_refusal(error)),
         Ok(Some(pledge)) => {
             if !is_same_opening(&pledge.agreement().opening, opening) {
                 return Err(Refusal::RefTaken);
@@ -107,7 +107,7 @@ fn take<K: Keep>(
     ensures steady { IsQuiet K.keeping keep.old result }
 {
     match keep.terms(book, head.terms) {
-        Err(error) => Err(unwell(error)),
+        Err(error) => Err(unwell_refusal(error)),
         Ok(None) => Err(Refusal::NoTerms),
         Ok(Some(terms)) => start(alloc, head, opening, terms, stamp),
     }

@@ -2,13 +2,13 @@
 ghost use Rattle.std.specs.Prelude.{◌≡◌, IfOk};
 ghost use Rattle.std.specs.FinMap.{get};
 ghost use Rattle.pawn_terms.specs.Terms.{IsChecked};
-ghost use Rattle.pawn_book.specs.BookStep.{BookValue, are_same_rates, created, book_head, is_same_book, next_terms, put_terms, terms_at};
+ghost use Rattle.pawn_book.specs.BookStep.{BookValue, are_same_rates, make_book, book_head, is_same_book, next_terms, put_terms, terms_at};
 ghost use Rattle.pawn_book.specs.Sound.{IsSound};
 ghost use Rattle.pawn_book.specs.Keeping.{IsQuiet, Reads};
 ghost use Rattle.pawn_book.specs.Plans.{Plans};
 
 use crate::change::{Change, BookHead, Planned};
-use crate::gates::unwell;
+use crate::gates::unwell_refusal;
 use crate::keep::Keep;
 use crate::limits::MOST_TERMS;
 use crate::refusal::Refusal;
@@ -22,14 +22,14 @@ pub(crate) fn plan_book<K: Keep>(
     book: Number,
     new_book: &NewBook,
 ) -> Result<Planned, Refusal>
-    ensures reads { Reads K.keeping keep.old keep.new (λ h. IsSound h → Plans h book (created (get h.books book) book new_book.now) result) }
+    ensures reads { Reads K.keeping keep.old keep.new (λ h. IsSound h → Plans h book (make_book (get h.books book) book new_book.now) result) }
     ensures steady { IsQuiet K.keeping keep.old result }
 {
     // Whoever reads the number knows that it is one that a book may have.
     let _ = book.get();
     let reply = Reply::BookMade(book);
     match keep.book_head(book) {
-        Err(error) => Err(unwell(error)),
+        Err(error) => Err(unwell_refusal(error)),
         Ok(Some(head)) => {
             if !is_same_book(&head, new_book) {
                 return Err(Refusal::BookTaken);
@@ -74,7 +74,7 @@ pub(crate) fn plan_terms<K: Keep>(
     let version = new_terms.version;
     let reply = Reply::TermsPut(version);
     match keep.terms(book, version) {
-        Err(error) => Err(unwell(error)),
+        Err(error) => Err(unwell_refusal(error)),
         Ok(Some(terms)) => {
             if !are_same_rates(terms.rates(), new_terms.rates) {
                 return Err(Refusal::TermsSeq);

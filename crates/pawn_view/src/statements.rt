@@ -24,7 +24,7 @@ impl<W: Write> Visitor<Entry> for Writing<W> {
 
     fn visit(&mut self, entry: &Entry) -> Flow {
         put_entry(self, entry);
-        if self.failed() { Flow::Stop } else { Flow::Go }
+        if self.has_failed() { Flow::Stop } else { Flow::Go }
     }
 }
 
@@ -33,7 +33,7 @@ impl<W: Write> Visitor<Extension> for Writing<W> {
 
     fn visit(&mut self, extension: &Extension) -> Flow {
         put_extended(self, extension);
-        if self.failed() { Flow::Stop } else { Flow::Go }
+        if self.has_failed() { Flow::Stop } else { Flow::Go }
     }
 }
 
@@ -129,7 +129,7 @@ pub fn show_statement<K: Keep, W: Write>(
 pub(crate) fn ending<W>(done: Result<(), KeepError>, writer: &Writing<W>) -> Result<(), ViewFault>
     ensures answer { result ≡ ending_of done (write_failed writer.now) }
 {
-    if writer.failed() {
+    if writer.has_failed() {
         return Err(ViewFault::Write);
     }
     match done {
