@@ -9,7 +9,7 @@ ghost use Rattle.pawn_book.specs.Sound.{IsSound, IsWord};
 ghost use Rattle.pawn_book.specs.Keeping.{IsQuiet, IsSteady, Reads, pledges_of};
 ghost use Rattle.pawn_book.specs.Plans.{IsUnwell, Plans};
 
-use crate::change::{Change, BookHead, Planned};
+use crate::change::{BookHead, Change, Planned};
 use crate::fault::KeepError;
 use crate::gates::{know_word, unwell_refusal};
 use crate::keep::Keep;
@@ -17,7 +17,7 @@ use crate::limits::MOST_PLEDGES;
 use crate::refusal::Refusal;
 use crate::reply::Reply;
 use pawn_pledge::{
-    Number, Opening, Pledge, Receipt, Reference, Refusal as PledgeRefusal, Secret, Stamp, Terms,
+    Number, Opening, Pledge, Receipt, Reference, Refusal as PledgeRefusal, Stamp, Terms,
 };
 use std::alloc::Global;
 
@@ -160,7 +160,7 @@ fn first_receipt(pledge: &Pledge) -> Receipt
 {
     let secret = match pledge.secrets() {
         [first, ..] => first.secret,
-        [] => Secret::of_word(0),
+        [] => unreachable!(),
     };
     Receipt {
         number: pledge.agreement().number,
