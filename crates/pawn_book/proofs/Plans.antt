@@ -28,7 +28,7 @@ use Rattle.pawn_book.specs.declared.change.Change.TheVariants.{MakeBook, AddTerm
 use Rattle.pawn_book.specs.declared.change.BookHead.{BookHead}
 use Rattle.pawn_book.specs.BookStep.{BookValue, Makes, make_book, make_or_refuse, made_book, next_terms, put_terms, take_pledge, taken_under, under_pledge, with_room, terms_at, newest, with_reference, book_head, first_receipt, changed_book, pledge_from, pledge_in, put_from, is_same_text}
 use Rattle.pawn_book.specs.HostStep.{Host, with_book}
-use Rattle.pawn_book.specs.Limits.{IsCapacity, most_terms, most_pledges}
+use Rattle.pawn_book.specs.Limits.{IsCapacity, most_name_bytes, most_pledges, most_terms}
 use Rattle.pawn_book.specs.Sound.{AreNumberedFrom, AreSound, AreWords, HasTextsAndWords, IsSound, IsWord}
 use Rattle.pawn_book.specs.Changes.{book_number, with_change}
 use Rattle.pawn_book.specs.Keeping.{number_of, pledges_of, terms_of}
@@ -45,7 +45,7 @@ past_row true why rest v is = cc is
 past_row false why rest v is = (refl, is)
 
 -- a book that doesn't stand is made
-pub book_plans : (h : Host) (b : ℕ) (new : NewBook) → IsNumber b → IsWord new.key → IsUtf8 new.name → IsText 60 new.name → IsCapacity new.capacity → IsSound h → get h.books b ≡ None
+pub book_plans : (h : Host) (b : ℕ) (new : NewBook) → IsNumber b → IsWord new.key → IsUtf8 new.name → IsText most_name_bytes new.name → IsCapacity new.capacity → IsSound h → get h.books b ≡ None
     → Plans h b (make_book (get h.books b) b new) (Ok (record { change = Some (MakeBook b new); reply = BookMade b }))
 book_plans h b new number key utf8 name capacity sound none =
     (ap (λ o. make_book o b new) none, (refl, record { follows = none; sound = sound_with h b (made_book new) sound.books (number, sound_made new key utf8 name capacity) }))

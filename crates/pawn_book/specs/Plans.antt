@@ -1,7 +1,6 @@
 -- What is planned and made of a request.
 use Rattle.std.specs.Prelude.{◌≡◌, ◌⊎◌, ℕ, ◌≤◌, ◌<◌, Option, Some, None, Result, Ok, Err, IfSome}
 use Rattle.pawn_pledge.specs.declared.command.Stamp.{Stamp}
-use Rattle.pawn_pledge.specs.declared.record.Booking.{Booking}
 use Rattle.pawn_book.specs.declared.request.Caller.{Caller}
 use Rattle.pawn_book.specs.declared.request.Caller.TheVariants.{Operator, Broker, Bearer}
 use Rattle.pawn_book.specs.declared.request.BrokerRequest.{BrokerRequest}
@@ -15,7 +14,7 @@ use Rattle.pawn_book.specs.declared.refusal.Refusal.TheVariants as No
 use Rattle.pawn_book.specs.declared.change.BookHead.{BookHead}
 use Rattle.pawn_book.specs.declared.change.Change.{Change}
 use Rattle.pawn_book.specs.declared.change.Planned.{Planned}
-use Rattle.pawn_book.specs.BookStep.{BookValue, Told, Outcome, Refuses, Says, Makes, out_of, confirmed_booking, gate_step, book_head}
+use Rattle.pawn_book.specs.BookStep.{BookValue, Told, Outcome, Refuses, Says, Makes, out_of, gate_step, book_head}
 use Rattle.pawn_book.specs.HostStep.{Host, rows, host_step, host_after}
 use Rattle.pawn_book.specs.Sound.{IsSound}
 use Rattle.pawn_book.specs.Changes.{CanSave, book_number, with_change}
@@ -43,11 +42,6 @@ Plans h b outcome (Err why) = IsRefused outcome why
 abbrev pub IsOutcome : Outcome → Result Planned Refusal → Type 0
 IsOutcome outcome (Ok planned) = outcome ≡ outcome_of planned.change planned.reply
 IsOutcome outcome (Err why) = IsRefused outcome why
-
--- the booking that a plan's change confirms
-abbrev pub newly_confirmed : Option Change → Reply → Option Booking
-newly_confirmed None reply = None
-newly_confirmed (Some change) reply = confirmed_booking reply
 
 -- the gate lets the holder of the book's key in, and no one else
 abbrev pub Gates : Option BookValue → ℕ → Result BookHead Refusal → Type 0

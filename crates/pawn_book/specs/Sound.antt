@@ -12,7 +12,7 @@ use Rattle.pawn_pledge.specs.Replayable.{Each, IsStanding}
 use Rattle.pawn_pledge.specs.Text.{IsText}
 use Rattle.pawn_book.specs.BookStep.{BookValue, is_same_text, terms_at}
 use Rattle.pawn_book.specs.HostStep.{Host, rows}
-use Rattle.pawn_book.specs.Limits.{IsCapacity, most_terms, most_pledges}
+use Rattle.pawn_book.specs.Limits.{IsCapacity, most_name_bytes, most_pledges, most_terms}
 
 -- pledges are numbered k, k + 1, ..
 abbrev pub AreNumberedFrom : ℕ → List PledgeValue → Type 0
@@ -52,7 +52,7 @@ pub record IsSoundBook (book : BookValue) : Type 0 where
   pub key : IsWord book.key
   pub imported : IfSome book.imported (λ imported. IsWord imported.key)
   pub utf8 : IsUtf8 book.name
-  pub name : IsText 60 book.name
+  pub name : IsText most_name_bytes book.name
   pub capacity : IsCapacity book.capacity
   pub numbered : AreNumberedFrom 1 book.pledges
   pub standing : Each IsStanding book.pledges

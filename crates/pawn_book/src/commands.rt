@@ -7,9 +7,9 @@ ghost use Rattle.pawn_pledge.specs.Step.{pledge_step};
 ghost use Rattle.pawn_book.specs.BookStep.{BookValue, bearer_commands, broker_commands, confirmed_booking, book_head, judged_outcome, live_at, pledge_from, pledge_in, within_window};
 ghost use Rattle.pawn_book.specs.Sound.{IsSound, IsWord};
 ghost use Rattle.pawn_book.specs.Keeping.{IsQuiet, Reads};
-ghost use Rattle.pawn_book.specs.Plans.{IsOutcome, Plans, newly_confirmed, outcome_of};
+ghost use Rattle.pawn_book.specs.Plans.{IsOutcome, Plans, outcome_of};
 
-use crate::change::{Change, BookHead, Planned};
+use crate::change::{BookHead, Change, Planned};
 use crate::gates::{find_live, know_word, unwell_refusal};
 use crate::keep::Keep;
 use crate::refusal::Refusal;
@@ -118,7 +118,11 @@ fn find_room<K: Keep>(
     ensures same { IfOk result (λ p. p ≡ planned) }
     ensures steady { IsQuiet K.keeping keep.old result }
 {
-    let Some(booking) = newly_confirmed(&planned) else {
+    let booking = match planned.change {
+        None => None,
+        Some(_) => confirmed_booking(planned.reply),
+    };
+    let Some(booking) = booking else {
         return Ok(planned);
     };
     match keep.confirmed_count(book, booking.day, booking.window) {
@@ -129,16 +133,6 @@ fn find_room<K: Keep>(
             }
             Ok(planned)
         }
-    }
-}
-
-// The booking that a change confirms.
-fn newly_confirmed(planned: &Planned) -> Option<Booking>
-    ensures value { result ≡ newly_confirmed planned.now.change planned.now.reply }
-{
-    match planned.change {
-        None => None,
-        Some(_) => confirmed_booking(planned.reply),
     }
 }
 

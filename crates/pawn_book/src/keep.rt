@@ -7,7 +7,7 @@ ghost use Rattle.pawn_book.specs.Changes.{CanSave};
 ghost use Rattle.pawn_book.specs.Keeping.{Errs, IsNextBook, Keeping, Of, Reads, Saves, entries_of, extensions_of, number_of, pledges_of, terms_of};
 ghost use Rattle.pawn_book.specs.Visits.{IsShare, Visits, call_end};
 
-use crate::change::{Change, BookHead};
+use crate::change::{BookHead, Change};
 use crate::fault::{KeepError, SaveError};
 use crate::visit::Visitor;
 use pawn_pledge::{Brief, Day, Entry, Extension, Number, Pledge, Reference, Terms};

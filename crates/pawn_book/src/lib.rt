@@ -22,7 +22,7 @@ mod visit;
 
 pub use acting::{act, commit};
 pub use capacity::Capacity;
-pub use change::{Change, BookHead, Imported, Planned};
+pub use change::{BookHead, Change, Imported, Planned};
 pub use fault::{KeepError, SaveError, StoreFault};
 pub use gates::{find_live, gate};
 pub use keep::Keep;

@@ -7,7 +7,7 @@ ghost use Rattle.pawn_book.specs.Keeping.{entries_of, extensions_of, number_of, 
 ghost use Rattle.pawn_book.specs.Listed.{IsLeastAbove, IsPlace, Saves, book_at, entry_of, host_of, standing_rows};
 ghost use Rattle.pawn_book.specs.Visits.{IsShare, Visits, Whole};
 
-use crate::change::{Change, BookHead, Imported};
+use crate::change::{BookHead, Change, Imported};
 use crate::fault::{KeepError, SaveError};
 use crate::keep::Keep;
 use crate::limits::MOST_ROWS;

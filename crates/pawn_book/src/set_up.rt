@@ -7,7 +7,7 @@ ghost use Rattle.pawn_book.specs.Sound.{IsSound};
 ghost use Rattle.pawn_book.specs.Keeping.{IsQuiet, Reads};
 ghost use Rattle.pawn_book.specs.Plans.{Plans};
 
-use crate::change::{Change, BookHead, Planned};
+use crate::change::{BookHead, Change, Planned};
 use crate::gates::unwell_refusal;
 use crate::keep::Keep;
 use crate::limits::MOST_TERMS;
