@@ -147,11 +147,11 @@ presented_stops contents a w day f receipts x some at first =
     (share_more contents a w (shown_text day (f x)) (further_texts day (map f (take (length receipts - 1) (drop 1 receipts)))) first)
 
 -- the text of receipts one of which is live
-pub presented_shows : {W : Type 0} (contents : W → Option (List ℕ)) (missing : ViewFault) (a w : Writing W) (text : List ℕ) (unknown : Bool) (done : Result (Unit {0}) KeepError) (answer : Result (Unit {0}) ViewFault)
+pub presented_shows : {W : Type 0} (contents : W → Option (List ℕ)) (a w : Writing W) (text : List ℕ) (unknown : Bool) (done : Result (Unit {0}) KeepError) (answer : Result (Unit {0}) ViewFault)
     → write_failed a ≡ false → answer ≡ ending_of done (write_failed w) → true ≡ not unknown → PutsShare contents a text (call_end done) w
-    → Shows contents missing a (if unknown then None else Some text) answer w
-presented_shows contents missing a w text true done answer fine is known share = cc
-presented_shows contents missing a w text false done answer fine is known share = shows_ended contents missing a w text done answer fine is share
+    → Shows contents a (if unknown then None else Some text) answer w
+presented_shows contents a w text true done answer fine is known share = cc
+presented_shows contents a w text false done answer fine is known share = shows_ended contents a w text done answer fine is share
 
 pub further_goes_on : {W : Type 0} (contents : W → Option (List ℕ)) (a b c w : Writing W) (day : ℕ) (f : Receipt → Option PledgeValue) (receipts : List Receipt) (i : ℕ) (x : Receipt) → i < length receipts → x ≡ get_or receipts i x
     → PutsShare contents a (further_texts day (map f (take i receipts))) Whole b → Puts contents b (codes "\n") c → PutsShare contents c (shown_text day (f x)) Whole w

@@ -51,13 +51,12 @@ presented_of h book receipts day =
 
 -- the text went out, or why not all of it. A refusal writes nothing, and comes just where there is nothing to show;
 -- where the writer failed, or the keeper wanted memory or failed, a front of the text went out
-abbrev pub Shows : {W U : Type 0} → (W → Option (List ℕ)) → ViewFault → Writing W → Option (List ℕ) → Result U ViewFault → Writing W → Type 0
-Shows contents missing old text (Ok u) new = (t : List ℕ) × (text ≡ Some t) × Written contents old t Whole new
-Shows contents missing old text (Err fault.Write) new = (t : List ℕ) × (text ≡ Some t) × Written contents old t Front new
-Shows contents missing old text (Err fault.Memory) new = PutFront contents old (unwrap_or text []) new × (write_failed new ≡ false)
-Shows contents missing old text (Err fault.Store) new = PutFront contents old (unwrap_or text []) new × (write_failed new ≡ false)
-Shows contents missing old text (Err fault.NoSuchPledge) new = (missing ≡ fault.NoSuchPledge) × (text ≡ None) × (new ≡ old)
-Shows contents missing old text (Err fault.NoSuchReceipt) new = (missing ≡ fault.NoSuchReceipt) × (text ≡ None) × (new ≡ old)
+abbrev pub Shows : {W U : Type 0} → (W → Option (List ℕ)) → Writing W → Option (List ℕ) → Result U ViewFault → Writing W → Type 0
+Shows contents old text (Ok u) new = (t : List ℕ) × (text ≡ Some t) × Written contents old t Whole new
+Shows contents old text (Err fault.Write) new = (t : List ℕ) × (text ≡ Some t) × Written contents old t Front new
+Shows contents old text (Err fault.Memory) new = PutFront contents old (unwrap_or text []) new × (write_failed new ≡ false)
+Shows contents old text (Err fault.Store) new = PutFront contents old (unwrap_or text []) new × (write_failed new ≡ false)
+Shows contents old text (Err fault.Unknown) new = (text ≡ None) × (new ≡ old)
 
 -- over a steady keeper no text is refused by a fault of the store
 abbrev pub IsQuietView : {K U : Type 0} → Keeping K → K → Result U ViewFault → Type 0

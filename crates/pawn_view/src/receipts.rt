@@ -113,7 +113,7 @@ fn put_presented<K: Keep, W: Write>(
 /// its pledge, or a line where the receipt is not live; a blank line stands between two. The keeper's content stays as
 /// it is.
 ///
-/// The caller's condition: the writer has not failed. Errors: `NoSuchReceipt` where none of the receipts is live;
+/// The caller's condition: the writer has not failed. Errors: `Unknown` where none of the receipts is live;
 /// `Memory` and `Store` where the keeper does not answer; `Write` only where the writer failed in the call.
 pub fn show_presented<K: Keep, W: Write>(
     keep: &mut K,
@@ -123,13 +123,13 @@ pub fn show_presented<K: Keep, W: Write>(
     writer: &mut Writing<W>,
 ) -> Result<(), ViewFault>
     requires fine { write_failed writer.old ≡ false }
-    ensures shows { Reads K.keeping keep.old keep.new (λ h. IsSound h → Shows W.contents ViewFault.NoSuchReceipt writer.old (presented_of h book receipts.now day) result writer.new) }
+    ensures shows { Reads K.keeping keep.old keep.new (λ h. IsSound h → Shows W.contents writer.old (presented_of h book receipts.now day) result writer.new) }
     ensures write { IsErrOf result ViewFault.Write → write_failed writer.new ≡ true }
     ensures steady { IsQuietView K.keeping keep.old result }
 {
     match is_any_live(keep, book, receipts) {
         Ok(true) => {}
-        Ok(false) => return Err(ViewFault::NoSuchReceipt),
+        Ok(false) => return Err(ViewFault::Unknown),
         Err(error) => return Err(view_fault(error)),
     }
     let done = put_presented(keep, book, receipts, day, writer);

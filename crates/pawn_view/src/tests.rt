@@ -152,7 +152,7 @@ fn nothing_is_put_of_a_pledge_that_does_not_stand(rt: HostRuntime) {
         let mut writer = Writing::new(Vec::new(alloc));
         let (book, pledge) = (number(&rt, book), number(&rt, pledge));
         let came = show_statement(&mut keep, book, pledge, asked, &mut writer);
-        assert_eq!(rt; came, Err(ViewFault::NoSuchPledge));
+        assert_eq!(rt; came, Err(ViewFault::Unknown));
         assert_eq!(rt; writer.into_inner().len(), 0);
     }
 }
@@ -203,7 +203,7 @@ fn nothing_is_put_where_no_receipt_is_live(rt: HostRuntime) {
         asked,
         &mut writer,
     );
-    assert_eq!(rt; came, Err(ViewFault::NoSuchReceipt));
+    assert_eq!(rt; came, Err(ViewFault::Unknown));
     puts(&rt, writer, b"");
 }
 
