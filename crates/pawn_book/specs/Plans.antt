@@ -43,10 +43,10 @@ abbrev pub IsOutcome : Outcome → Result Planned Refusal → Type 0
 IsOutcome outcome (Ok planned) = outcome ≡ outcome_of planned.change planned.reply
 IsOutcome outcome (Err why) = IsRefused outcome why
 
--- the gate lets the holder of the book's key in, and no one else
+-- the gate lets the holder of the book's key in; whatever is asked behind it is refused to anyone else
 abbrev pub Gates : Option BookValue → ℕ → Result BookHead Refusal → Type 0
 Gates book key (Ok head) = (at : BookValue) × (book ≡ Some at) × (head ≡ book_head at) × (at.key ≡ key)
-Gates book key (Err why) = IsUnwell why ⊎ ((why ≡ No.NoSuchBook) × ((step : BookValue → Outcome) → gate_step book key step ≡ Refuses No.NoSuchBook))
+Gates book key (Err why) = (step : BookValue → Outcome) → IsRefused (gate_step book key step) why
 
 -- what came of a plan's change: there was room for it, or nothing changed
 abbrev pub Commits : Host → Option Change → Result (Unit {0}) Refusal → (Host → Type 0) → Type 0
