@@ -13,8 +13,8 @@ use Rattle.pawn_book.specs.declared.refusal.Refusal.TheVariants.{Full}
 use Rattle.pawn_book.specs.declared.reply.Reply.{Reply}
 use Rattle.pawn_book.specs.declared.request.Caller.{Caller}
 use Rattle.pawn_book.specs.declared.request.Request.{Request}
-use Rattle.pawn_book.specs.BookStep.{BookValue, Outcome, Refuses, Says, Makes, book_step, changed_book, head_of, pledge_from}
-use Rattle.pawn_book.specs.HostStep.{Host, host_step, limited, rows, with_book}
+use Rattle.pawn_book.specs.BookStep.{BookValue, Outcome, Refuses, Says, Makes, book_step, changed_book, book_head, pledge_from}
+use Rattle.pawn_book.specs.HostStep.{Host, host_step, within_limit, rows, with_book}
 use Rattle.pawn_book.specs.Keeping.{pledges_of}
 use Rattle.pawn_book.specs.Runs.{Mark, read_as, no_memory, no_store, Event, event_after}
 use Rattle.pawn_book.specs.Traces.{SlotEvent, Entered, Did, does, enters, is_live_in, marked_events, numbered_from, run_events, slot_events, slot_of, within_slot}
@@ -67,7 +67,7 @@ made_accepted slot before operator b stamp caller change reply (BookIs key new a
 made_accepted slot before operator b stamp caller change reply (TermsAre key new book terms asks stands passes absent answer makes says) =
     subst (λ (c : Change). Accepts slot before stamp caller (Makes c reply)) (sym makes) tt
 made_accepted slot before operator b stamp caller change reply (PledgeIs key opening book p asks stands passes absent answer makes says) =
-    let number = (taken_is (head_of book) opening stamp _ p answer).number in
+    let number = (taken_is (book_head book) opening stamp _ p answer).number in
     subst (λ o. Accepts slot o stamp caller (Makes change reply)) (sym stands)
     (subst (λ (c : Change). Accepts slot (Some book) stamp caller (Makes c reply)) (sym makes)
     (accepts_put slot book b p.agreement.number p stamp caller reply None (pledge_past 1 book.pledges p.agreement.number (omega (arith, number))) (λ o e at. cc e)))
@@ -86,7 +86,7 @@ step_accepted slot before operator b stamp caller = from (book_step before opera
     from (Says out) is = tt
     from (Makes change reply) is = made_accepted slot before operator b stamp caller change reply (made_by before operator b stamp caller change reply is)
 
-limited_accepted : (slot : List Receipt) (h : Host) (b : ℕ) (stamp : Stamp) (caller : Caller) (o : Outcome) → Accepts slot (get h.books b) stamp caller o → Accepts slot (get h.books b) stamp caller (limited h b o)
+limited_accepted : (slot : List Receipt) (h : Host) (b : ℕ) (stamp : Stamp) (caller : Caller) (o : Outcome) → Accepts slot (get h.books b) stamp caller o → Accepts slot (get h.books b) stamp caller (within_limit h b o)
 limited_accepted slot h b stamp caller (Refuses why) k = k
 limited_accepted slot h b stamp caller (Says out) k = k
 limited_accepted slot h b stamp caller (Makes change reply) k =

@@ -10,11 +10,11 @@ use Rattle.pawn_pledge.specs.Pledge.{PledgeValue}
 use Rattle.pawn_book.specs.declared.change.Change.{Change}
 use Rattle.pawn_book.specs.declared.change.Change.TheVariants.{MakeBook, AddTerms, PutPledge}
 use Rattle.pawn_book.specs.declared.reply.Reply.{Reply}
-use Rattle.pawn_book.specs.declared.request.BearerRequest.TheVariants.{Held, OnPledge as OnReceipt}
+use Rattle.pawn_book.specs.declared.request.BearerRequest.TheVariants.{Present, OnPledge as OnReceipt}
 use Rattle.pawn_book.specs.declared.request.BrokerRequest.TheVariants.{PutTerms, TakePledge, OnPledge, Show}
 use Rattle.pawn_book.specs.declared.request.Caller.{Caller}
 use Rattle.pawn_book.specs.declared.request.Caller.TheVariants.{Operator, Broker, Bearer}
-use Rattle.pawn_book.specs.BookStep.{BookValue, Outcome, Refuses, Says, Makes, book_after, book_step, changed_book, head_of, pledge_from}
+use Rattle.pawn_book.specs.BookStep.{BookValue, Outcome, Refuses, Says, Makes, book_after, book_step, changed_book, book_head, pledge_from}
 use Rattle.pawn_book.specs.Laws.{Asks}
 use Rattle.pawn_book.specs.Traces.{SlotEvent, Entered, Did, does, enters, is_live_in, numbered_from, slot_events, slot_of, touches, within_slot}
 use Rattle.pawn_book.specs.Machines.{commanded, judged_in, placed, solo_from, solo_step}
@@ -97,7 +97,7 @@ does_asked (Broker key (PutTerms new)) n stamp command asks = absurd asks
 does_asked (Broker key (TakePledge opening)) n stamp command asks = absurd asks
 does_asked (Broker key (OnPledge m own)) n stamp command asks = ap (λ (c : Command). Did n stamp c ∷ []) asks.1
 does_asked (Broker key (Show m)) n stamp command asks = absurd asks
-does_asked (Bearer (Held receipts)) n stamp command asks = absurd asks
+does_asked (Bearer (Present receipts)) n stamp command asks = absurd asks
 does_asked (Bearer (OnReceipt r own)) n stamp command asks = ap (λ (c : Command). Did n stamp c ∷ []) asks.1
 
 -- a change, by how it came about
@@ -110,7 +110,7 @@ made_follows slot before operator b stamp caller change reply (TermsAre key new 
     subst (λ o. Follows slot o stamp caller (Makes change reply)) (sym stands)
     (subst (λ (c : Change). Follows slot (Some book) stamp caller (Makes c reply)) (sym makes) (λ q. refl))
 made_follows slot before operator b stamp caller change reply (PledgeIs key opening book p asks stands passes absent answer makes says) =
-    let number = (taken_is (head_of book) opening stamp _ p answer).number in
+    let number = (taken_is (book_head book) opening stamp _ p answer).number in
     let low : 1 ≤ p.agreement.number = omega (arith, number) in
     let high : p.agreement.number ≤ 1 + length book.pledges = omega (arith, number) in
     subst (λ o. Follows slot o stamp caller (Makes change reply)) (sym stands)

@@ -13,15 +13,15 @@ use Rattle.pawn_book.specs.declared.change.Change.{Change}
 use Rattle.pawn_book.specs.declared.change.Change.TheVariants.{MakeBook, AddTerms, PutPledge}
 use Rattle.pawn_book.specs.declared.refusal.Refusal.TheVariants.{Full}
 use Rattle.pawn_book.specs.declared.request.BearerRequest.{BearerRequest}
-use Rattle.pawn_book.specs.declared.request.BearerRequest.TheVariants.{Held, OnPledge as OnReceipt}
+use Rattle.pawn_book.specs.declared.request.BearerRequest.TheVariants.{Present, OnPledge as OnReceipt}
 use Rattle.pawn_book.specs.declared.request.Caller.{Caller}
 use Rattle.pawn_book.specs.declared.request.Caller.TheVariants.{Bearer}
 use Rattle.pawn_book.specs.declared.request.Request.{Request}
-use Rattle.pawn_book.specs.BookStep.{BookValue, Outcome, Refuses, Says, Makes, bearer_commands, bearer_step, book_after, book_step, changed_book, held_out, judged_outcome, is_live, live_at, only_live, out_of, pledge_in}
-use Rattle.pawn_book.specs.HostStep.{Host, host_after, host_step, limited, rows, with_book}
+use Rattle.pawn_book.specs.BookStep.{BookValue, Outcome, Refuses, Says, Makes, bearer_commands, bearer_step, book_after, book_step, changed_book, present_receipts, judged_outcome, is_live, live_at, only_live, out_of, pledge_in}
+use Rattle.pawn_book.specs.HostStep.{Host, host_after, host_step, within_limit, rows, with_book}
 use Rattle.pawn_book.specs.Keeping.{pledges_of}
 use Rattle.pawn_book.specs.Laws.{book_run}
-use Rattle.pawn_book.specs.Plans.{stepped}
+use Rattle.pawn_book.specs.Plans.{next_host}
 use Rattle.pawn_book.specs.Runs.{Mark, read_as, no_memory, no_store, Event, event_after, marked_after, run_host}
 use Rattle.pawn_book.specs.Traces.{SlotEvent, book_trace, enters, is_live_in, is_settled, marked_events, marked_named, named, numbered_from, run_events, slot_events, slot_of, slot_trace, within_slot}
 use Rattle.pawn_book.specs.Machines.{is_in, is_slots, no_pledge, solo, solo_from, solo_reply}
@@ -54,7 +54,7 @@ other_books_stay h operator b stamp request other =
     ∙ ap (λ v. if v then book_after (get h.books request.book) (host_step h operator stamp request) else get h.books b) no
 
 -- where the rows are full the machine stays
-limited_follows : (slot : List Receipt) (h : Host) (b : ℕ) (stamp : Stamp) (caller : Caller) (o : Outcome) → Follows slot (get h.books b) stamp caller o → Follows slot (get h.books b) stamp caller (limited h b o)
+limited_follows : (slot : List Receipt) (h : Host) (b : ℕ) (stamp : Stamp) (caller : Caller) (o : Outcome) → Follows slot (get h.books b) stamp caller o → Follows slot (get h.books b) stamp caller (within_limit h b o)
 limited_follows slot h b stamp caller (Refuses why) follows = follows
 limited_follows slot h b stamp caller (Says out) follows = follows
 limited_follows slot h b stamp caller (Makes change reply) follows =
@@ -148,10 +148,10 @@ all_live_in_slot slot before (r ∷ rs) e =
 pub bearer_in_slot : (slot : List Receipt) (before : Option BookValue) (b : ℕ) (stamp : Stamp) (asked : BearerRequest) → is_slots slot asked ≡ true
     → bearer_step (pledge_in before) b stamp asked ≡ bearer_step (slot_of slot before) b stamp asked
 bearer_in_slot slot before b stamp (OnReceipt r command) e = ap (bearer_commands b r.number stamp command) (live_in_slot slot r (pledge_in before r.number) e)
-bearer_in_slot slot before b stamp (Held rs) e = ap (held_out stamp) (all_live_in_slot slot before rs e)
+bearer_in_slot slot before b stamp (Present rs) e = ap (present_receipts stamp) (all_live_in_slot slot before rs e)
 
 -- where the reply is settled, the step is the book's
-limited_settled : (h : Host) (b : ℕ) (o : Outcome) → is_settled (out_of (limited h b o)) ≡ true → limited h b o ≡ o
+limited_settled : (h : Host) (b : ℕ) (o : Outcome) → is_settled (out_of (within_limit h b o)) ≡ true → within_limit h b o ≡ o
 limited_settled h b (Refuses why) e = refl
 limited_settled h b (Says out) e = refl
 limited_settled h b (Makes change reply) e =

@@ -16,12 +16,12 @@ use Rattle.pawn_book.specs.declared.change.Change.TheVariants.{PutPledge}
 use Rattle.pawn_book.specs.declared.refusal.Refusal.TheVariants.{Full, NoSuchReceipt}
 use Rattle.pawn_book.specs.declared.reply.Reply.{Reply}
 use Rattle.pawn_book.specs.declared.request.BearerRequest.{BearerRequest}
-use Rattle.pawn_book.specs.declared.request.BearerRequest.TheVariants.{Held, OnPledge as OnReceipt}
+use Rattle.pawn_book.specs.declared.request.BearerRequest.TheVariants.{Present, OnPledge as OnReceipt}
 use Rattle.pawn_book.specs.declared.request.Caller.{Caller}
 use Rattle.pawn_book.specs.declared.request.Request.{Request}
-use Rattle.pawn_book.specs.BookStep.{BookValue, Outcome, Refuses, Says, Makes, are_unknown, bearer_commands, bearer_step, book_after, book_step, changed_book, head_of, held_out, is_live, is_secret, live_at, only_live, out_of, pledge_from, pledge_in, put_from, Shown}
-use Rattle.pawn_book.specs.HostStep.{Host, host_after, host_step, limited, rows, with_book}
-use Rattle.pawn_book.specs.Plans.{stepped}
+use Rattle.pawn_book.specs.BookStep.{BookValue, Outcome, Refuses, Says, Makes, are_unknown, bearer_commands, bearer_step, book_after, book_step, changed_book, book_head, present_receipts, is_live, is_secret, live_at, only_live, out_of, pledge_from, pledge_in, put_from, Shown}
+use Rattle.pawn_book.specs.HostStep.{Host, host_after, host_step, within_limit, rows, with_book}
+use Rattle.pawn_book.specs.Plans.{next_host}
 use Rattle.pawn_book.specs.Runs.{Mark, read_as, no_memory, no_store, Event, event_after, marked_after, run_host}
 use Rattle.pawn_book.specs.Traces.{is_settled}
 use Rattle.pawn_book.specs.Slots.{EarlierReceiptsAreSpent, IsSpentReceipt, PresentsSpent, SpentIsUnknown, SpentReceiptsStaySpent}
@@ -54,7 +54,7 @@ spent_made before operator b stamp caller change reply r (TermsAre key new book 
     subst (λ o. IsSpentReceipt (changed_book o change) r) (sym stands)
     (subst (λ (c : Change). IsSpentReceipt (changed_book (Some book) c) r) (sym makes) (record { pledge = here.pledge; stands = here.stands; spent = here.spent }))
 spent_made before operator b stamp caller change reply r (PledgeIs key opening book p asks stands passes absent answer makes says) spent =
-    let number = (taken_is (head_of book) opening stamp _ p answer).number in
+    let number = (taken_is (book_head book) opening stamp _ p answer).number in
     let low : 1 ≤ p.agreement.number = omega (arith, number) in
     let high : p.agreement.number ≤ 1 + length book.pledges = omega (arith, number) in
     let here : IsSpentReceipt (Some book) r = subst (λ o. IsSpentReceipt o r) stands spent in
@@ -72,7 +72,7 @@ spent_made before operator b stamp caller change reply r (CommandIs book n comma
     let old : here.pledge ≡ did.old = sym (some_is did.old here.pledge (sym did.stands ∙ ap (pledge_from 1 book.pledges) (sym same) ∙ here.stands)) in
     spent-changed did.old did.next stamp command did.done r.secret (subst (λ (p : PledgeValue). IsSpent p r.secret) old here.spent) did.step) here))
 
-spent_limited : (h : Host) (b : ℕ) (o : Outcome) (r : Receipt) → IsSpentReceipt (get h.books b) r → IsSpentReceipt (book_after (get h.books b) o) r → IsSpentReceipt (book_after (get h.books b) (limited h b o)) r
+spent_limited : (h : Host) (b : ℕ) (o : Outcome) (r : Receipt) → IsSpentReceipt (get h.books b) r → IsSpentReceipt (book_after (get h.books b) o) r → IsSpentReceipt (book_after (get h.books b) (within_limit h b o)) r
 spent_limited h b (Refuses why) r before after = after
 spent_limited h b (Says out) r before after = after
 spent_limited h b (Makes change reply) r before after =
@@ -150,7 +150,7 @@ all_unknown book (r ∷ rs) each = ap (λ o. are_unknown (o ∷ map (live_at (pl
 
 spent_alone : (book : Option BookValue) (b : ℕ) (stamp : Stamp) (asked : BearerRequest) → PresentsSpent book asked → bearer_step (pledge_in book) b stamp asked ≡ Refuses NoSuchReceipt
 spent_alone book b stamp (OnReceipt r command) spent = ap (bearer_commands b r.number stamp command) (spent_unknown book r spent)
-spent_alone book b stamp (Held rs) each =
+spent_alone book b stamp (Present rs) each =
     ap (λ v. if v then Refuses NoSuchReceipt else Says (Shown stamp.day (map (live_at (pledge_in book)) rs))) (all_unknown book rs each)
 
 pub spent_is_unknown : SpentIsUnknown

@@ -8,7 +8,7 @@ use Rattle.pawn_pledge.specs.Pledge.{PledgeValue}
 use Rattle.pawn_pledge.specs.Step.{Judged, Refused, Answered, Changed, pledge_step}
 use Rattle.pawn_book.specs.declared.request.Caller.{Caller}
 use Rattle.pawn_book.specs.declared.request.BearerRequest.{BearerRequest}
-use Rattle.pawn_book.specs.declared.request.BearerRequest.TheVariants.{Held, OnPledge as OnReceipt}
+use Rattle.pawn_book.specs.declared.request.BearerRequest.TheVariants.{Present, OnPledge as OnReceipt}
 use Rattle.pawn_book.specs.BookStep.{BookValue, Out, out_of, book_step, bearer_step}
 use Rattle.pawn_book.specs.Laws.{book_run}
 use Rattle.pawn_book.specs.Traces.{SlotEvent, Entered, Did, within_slot}
@@ -56,5 +56,5 @@ is_in slot r = list_any (λ t. (t.number == r.number) && (t.secret == r.secret))
 
 -- a slot's request: all that it presents are receipts of the slot
 abbrev pub is_slots : List Receipt → BearerRequest → Bool
-is_slots slot (Held receipts) = list_all (is_in slot) receipts
+is_slots slot (Present receipts) = list_all (is_in slot) receipts
 is_slots slot (OnReceipt receipt command) = is_in slot receipt

@@ -17,11 +17,11 @@ use Rattle.pawn_book.specs.declared.request.Request.{Request}
 use Rattle.pawn_book.specs.declared.request.Caller.{Caller}
 use Rattle.pawn_book.specs.declared.request.Caller.TheVariants.{Bearer}
 use Rattle.pawn_book.specs.declared.request.BearerRequest.{BearerRequest}
-use Rattle.pawn_book.specs.declared.request.BearerRequest.TheVariants.{Held, OnPledge as OnReceipt}
+use Rattle.pawn_book.specs.declared.request.BearerRequest.TheVariants.{Present, OnPledge as OnReceipt}
 use Rattle.pawn_book.specs.BookStep.{BookValue, Out, Outcome, Refuses, Says, Makes, out_of, bearer_step, live_at, pledge_in}
 use Rattle.pawn_book.specs.HostStep.{Host, host_step}
 use Rattle.pawn_book.specs.Laws.{Asks}
-use Rattle.pawn_book.specs.Plans.{stepped}
+use Rattle.pawn_book.specs.Plans.{next_host}
 use Rattle.pawn_book.specs.Runs.{Event, run_host}
 use Rattle.pawn_book.specs.Traces.{SlotEvent, Entered, Did, is_settled, book_trace, slot_of, slot_trace, slot_events}
 use Rattle.pawn_book.specs.Machines.{is_slots, no_pledge, reply_alone, solo, solo_reply, solo_step}
@@ -42,7 +42,7 @@ BooksAnswerAlone F =
 abbrev pub OtherBooksStay : Type 0
 OtherBooksStay =
     (h : Host) (operator b : ℕ) (stamp : Stamp) (request : Request)
-    → (request.book ≡ b → ⊥) → get (stepped h operator stamp request).books b ≡ get h.books b
+    → (request.book ≡ b → ⊥) → get (next_host h operator stamp request).books b ≡ get h.books b
 
 -- a slot's machine holds the pledges of the book that are in the slot
 abbrev pub SlotsAreHeld : Type 0 → Type 0
@@ -117,7 +117,7 @@ EarlierReceiptsAreSpent =
     → Asks request.caller r.number command → IsReplacing command
     → pledge_in (get h.books request.book) r.number ≡ Some p → list_any (λ i. i.secret == r.secret) p.secrets ≡ true
     → host_step h operator stamp request ≡ Makes change reply
-    → IsSpentReceipt (get (stepped h operator stamp request).books request.book) r
+    → IsSpentReceipt (get (next_host h operator stamp request).books request.book) r
 
 -- it stays spent, whatever is done
 abbrev pub SpentReceiptsStaySpent : Type 0 → Type 0
@@ -127,7 +127,7 @@ SpentReceiptsStaySpent F =
 
 -- all that a bearer presents is spent
 abbrev pub PresentsSpent : Option BookValue → BearerRequest → Type 0
-PresentsSpent book (Held receipts) = Each (IsSpentReceipt book) receipts
+PresentsSpent book (Present receipts) = Each (IsSpentReceipt book) receipts
 PresentsSpent book (OnReceipt r command) = IsSpentReceipt book r
 
 -- such a bearer is told what the bearer of a receipt never issued is told; among others a spent receipt shows the unknown line

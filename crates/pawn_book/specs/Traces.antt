@@ -12,7 +12,7 @@ use Rattle.pawn_book.specs.declared.request.Caller.TheVariants.{Operator, Broker
 use Rattle.pawn_book.specs.declared.request.BrokerRequest.{BrokerRequest}
 use Rattle.pawn_book.specs.declared.request.BrokerRequest.TheVariants.{PutTerms, TakePledge, OnPledge, Show}
 use Rattle.pawn_book.specs.declared.request.BearerRequest.{BearerRequest}
-use Rattle.pawn_book.specs.declared.request.BearerRequest.TheVariants.{Held, OnPledge as OnReceipt}
+use Rattle.pawn_book.specs.declared.request.BearerRequest.TheVariants.{Present, OnPledge as OnReceipt}
 use Rattle.pawn_book.specs.declared.change.Change.{Change}
 use Rattle.pawn_book.specs.declared.change.Change.TheVariants.{MakeBook, AddTerms, PutPledge}
 use Rattle.pawn_book.specs.declared.refusal.Refusal.{Refusal}
@@ -87,7 +87,7 @@ broker_does n stamp (OnPledge number command) = Did n stamp command ∷ []
 broker_does n stamp (Show number) = []
 
 abbrev pub bearer_does : ℕ → Stamp → BearerRequest → List SlotEvent
-bearer_does n stamp (Held receipts) = []
+bearer_does n stamp (Present receipts) = []
 bearer_does n stamp (OnReceipt receipt command) = Did n stamp command ∷ []
 
 abbrev pub does : ℕ → Stamp → Caller → List SlotEvent
