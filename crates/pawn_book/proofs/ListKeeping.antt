@@ -16,6 +16,7 @@ list_reads k P told = record {
   same = λ honest h is. is;
   back = λ honest now h is. is;
   tells = λ honest h is. subst P (sym is) told;
+  crash = λ honest h left. left;
 }
 
 -- the book that is read from the fields

@@ -20,11 +20,12 @@ reads_then f s both = record {
   same = λ honest h at. s.same honest h (f.same (s.on.past honest) h at);
   back = λ honest now h at. f.back (s.on.past honest) (s.on.served honest now) h (s.back honest now h at);
   tells = λ honest h at. both h (f.tells (s.on.past honest) h at) (s.tells honest h (f.same (s.on.past honest) h at));
+  crash = λ honest h left. f.crash (s.on.past honest) h (s.crash honest h left);
 }
 
 -- what a read tells, in other words
 pub reads_as : {K : Type 0} {k : Keeping K} {a b : K} {P Q : Host → Type 0} → Reads k a b P → ((h : Host) → P h → Q h) → Reads k a b Q
-reads_as f as_q = record { on = f.on; same = f.same; back = f.back; tells = λ honest h at. as_q h (f.tells honest h at) }
+reads_as f as_q = record { on = f.on; same = f.same; back = f.back; tells = λ honest h at. as_q h (f.tells honest h at); crash = f.crash }
 
 -- what an Ok holds is what was told of it
 pub ok_is : {T E : Type 0} {r : Result T E} {v x : T} → r ≡ Ok v → IfOk r (λ p. p ≡ x) → v ≡ x

@@ -1,5 +1,5 @@
 -- What a keeper's calls say of the host that it stands for.
-use Rattle.std.specs.Prelude.{◌≡◌, ℕ, ◌≤◌, ◌<◌, List, [], Option, Some, None, Result, Err, option_map, IfErr, OnErr, OnOk}
+use Rattle.std.specs.Prelude.{◌≡◌, ◌⊎◌, ℕ, ◌≤◌, ◌<◌, List, [], Option, Some, None, Result, Ok, Err, option_map, IfErr, OnErr, OnOk}
 use Rattle.std.specs.FinMap.{get}
 use Rattle.pawn_terms.specs.declared.terms.Rates.{Rates}
 use Rattle.pawn_debt.specs.declared.entry.Entry.{Entry}
@@ -28,6 +28,8 @@ pub record Keeping (K : Type 0) : Type 1 where
   pub serves : K → Type 0
   -- its store never fails
   pub steady : K → Type 0
+  -- the hosts that a crash now may leave
+  pub leaves : K → Host → Type 0
 
 -- a keeper goes on after a call: one that is honest, or serves, was so before, and a steady one stays so
 pub record GoesOn {K : Type 0} (k : Keeping K) (old new : K) : Type 0 where
@@ -41,6 +43,8 @@ pub record Reads {K : Type 0} (k : Keeping K) (old new : K) (P : Host → Type 0
   pub same : k.honest new → (h : Host) → k.stands old h → k.stands new h
   pub back : k.honest new → k.serves new → (h : Host) → k.stands new h → k.stands old h
   pub tells : k.honest new → (h : Host) → k.stands old h → P h
+  -- a crash leaves no further host
+  pub crash : k.honest new → (left : Host) → k.leaves new left → k.leaves old left
 
 -- why a keeper does not answer: a steady one for want of memory alone, and any one tells that a stored row is no record
 -- only of a host with a book that is not sound
@@ -60,11 +64,23 @@ IsQuiet k old result = k.steady old → result ≡ Err No.Store → ⊥
 abbrev pub Of : {K : Type 0} → Keeping K → K → K → (Host → Type 0) → Type 0
 Of k old new P = k.honest new → (h : Host) → IsSound h → k.stands old h → P h
 
+-- the changed host, with its rows within the limit
+abbrev pub IsFitting : Host → Change → Host → Type 0
+IsFitting h change left = (left ≡ with_change h change) × (rows (with_change h change) ≤ h.limit)
+
 -- want of rows or of memory
 abbrev pub IsSteadyError : SaveError → Type 0
 IsSteadyError Save.Full = Unit {0}
 IsSteadyError Save.Memory = Unit {0}
 IsSteadyError (Save.Store fault) = ⊥
+
+-- a host that a crash may leave after a save, where it might have left these before: the changed host alone, once it was saved;
+-- these, where the rows were full; else these, or the changed host, if its rows are within the limit
+abbrev pub IsLeftBy : {T : Type 0} → Host → Change → (Host → Type 0) → Result T SaveError → Host → Type 0
+IsLeftBy h change before (Ok done) left = left ≡ with_change h change
+IsLeftBy h change before (Err Save.Full) left = before left
+IsLeftBy h change before (Err Save.Memory) left = before left ⊎ IsFitting h change left
+IsLeftBy h change before (Err (Save.Store fault)) left = before left ⊎ IsFitting h change left
 
 -- a change is saved where the rows stay within the limit, and nothing is where it is not; a steady keeper does not save one
 -- for want of rows or of memory alone
@@ -73,6 +89,7 @@ pub record Saves {K T : Type 0} (k : Keeping K) (old new : K) (change : Change) 
   pub ok : OnOk result (Of k old new (λ h. k.stands new (with_change h change) × (rows (with_change h change) ≤ h.limit)))
   pub full : result ≡ Err Save.Full → Of k old new (λ h. h.limit < rows (with_change h change))
   pub err : OnErr result (Of k old new (λ h. k.stands new h))
+  pub crash : Of k old new (λ h. (left : Host) → k.leaves new left → IsLeftBy h change (k.leaves old) result left)
   pub never : k.steady old → IfErr result (λ e. IsSteadyError e)
 
 abbrev pub terms_of : Option BookValue → List Rates
