@@ -1,6 +1,6 @@
 -- What is planned and made is the host's step.
 use Rattle.std.proofs.Common.{◌≡◌, ℕ, ◌<◌, ◌≤◌, Some, None, Ok, Err, refl, ◌∙◌, ap, sym, subst, arith, inl, inr}
-use Rattle.std.specs.Prelude.{if◌then◌else◌, Option, true, false, nat_lt, ◌⊎◌}
+use Rattle.std.specs.Prelude.{Result, if◌then◌else◌, Option, true, false, nat_lt, ◌⊎◌}
 use Rattle.std.specs.FinMap.{get}
 use Rattle.std.proofs.lemmas.Bool.Decides.{nat_tests}
 use Rattle.pawn_pledge.specs.declared.command.Stamp.{Stamp}
@@ -13,7 +13,10 @@ use Rattle.pawn_book.specs.BookStep.{BookValue, Outcome, Refuses, Says, Makes, T
 use Rattle.pawn_book.specs.HostStep.{Host, within_limit, host_step, host_after, with_book, rows}
 use Rattle.pawn_book.specs.Sound.{IsSound}
 use Rattle.pawn_book.specs.Changes.{book_number, with_change}
-use Rattle.pawn_book.specs.Plans.{IsUnwell, Plans, Acts, Commits, next_host}
+use Rattle.pawn_book.specs.declared.fault.SaveError.{SaveError}
+use Rattle.pawn_book.specs.declared.fault.SaveError.TheVariants as Save
+use Rattle.pawn_book.specs.Keeping.{IsLeftBy}
+use Rattle.pawn_book.specs.Plans.{IsLeftByAct, IsLeftByCommit, IsLeftByStep, IsUnwell, Plans, Acts, Commits, next_host}
 
 -- the step of the request's book
 abbrev pub step_of : Host → ℕ → Stamp → Request → Outcome
@@ -71,3 +74,54 @@ unmade_acts h operator stamp request stands (Some change) reply why plans made =
     from : IsUnwell why ⊎ ((why ≡ Full) × (h.limit < rows (with_change h change))) → IsUnwell why ⊎ (host_step h operator stamp request ≡ Refuses why)
     from (inl unwell) = inl unwell
     from (inr full) = inr (ap (within_limit h request.book) plans.0 ∙ crowding h request.book change reply plans.1.0 full.1 ∙ ap Refuses (sym full.0))
+
+-- what a crash may leave
+
+-- after a change that was saved
+pub saved_left : (h : Host) (change : Option Change) (c : Change) (before : Host → Type 0) (result : Result (Unit {0}) SaveError) (done : Unit {0}) (left : Host)
+    → change ≡ Some c → result ≡ Ok done → IsLeftBy h c before result left → IsLeftByCommit h change before (Ok tt) left
+saved_left h change c before result done left is ok by =
+    let after : left ≡ with_change h c = subst (λ (r : Result (Unit {0}) SaveError). IsLeftBy h c before r left) ok by in
+    subst (λ o. IsLeftByCommit h o before (Ok tt) left) (sym is) after
+
+-- how a save's error is told
+abbrev pub IsRefusalOf : SaveError → Refusal → Type 0
+IsRefusalOf Save.Full why = why ≡ Full
+IsRefusalOf Save.Memory why = IsUnwell why
+IsRefusalOf (Save.Store fault) why = IsUnwell why
+
+-- after one that was not: for want of rows, of memory, or by a fault of the store
+unsaved_left : (h : Host) (c : Change) (before : Host → Type 0) (error : SaveError) (why : Refusal) (left : Host)
+    → IsRefusalOf error why → IsLeftBy {T = Unit {0}} h c before (Err error) left → IsLeftByCommit h (Some c) before (Err why) left
+unsaved_left h c before Save.Full why left full by = inl by
+unsaved_left h c before Save.Memory why left unwell (inl same) = inl same
+unsaved_left h c before Save.Memory why left unwell (inr fits) = inr (unwell, fits)
+unsaved_left h c before (Save.Store fault) why left unwell (inl same) = inl same
+unsaved_left h c before (Save.Store fault) why left unwell (inr fits) = inr (unwell, fits)
+
+pub refused_left : (h : Host) (change : Option Change) (c : Change) (before : Host → Type 0) (result : Result (Unit {0}) SaveError) (error : SaveError) (why : Refusal) (left : Host)
+    → change ≡ Some c → result ≡ Err error → IsRefusalOf error why → IsLeftBy h c before result left → IsLeftByCommit h change before (Err why) left
+refused_left h change c before result error why left is err refusal by =
+    subst (λ o. IsLeftByCommit h o before (Err why) left) (sym is)
+    (unsaved_left h c before error why left refusal (subst (λ (r : Result (Unit {0}) SaveError). IsLeftBy h c before r left) err by))
+
+-- after the step of a plan that was made
+pub made_left : (h : Host) (operator : ℕ) (stamp : Stamp) (request : Request) (change : Option Change) (reply : Reply) (stands before mid : Host → Type 0) (left : Host)
+    → Plans h request.book (step_of h operator stamp request) (Ok (record { change = change; reply = reply })) → Commits h change (Ok tt) stands
+    → ((g : Host) → mid g → before g) → IsLeftByCommit h change mid (Ok tt) left → IsLeftByAct h operator stamp request before (Ok reply) left
+made_left h operator stamp request None reply stands before mid left plans made back by =
+    let is : host_step h operator stamp request ≡ Says (Told reply) = ap (within_limit h request.book) plans.0 in
+    subst (λ o. IsLeftByStep h request.book o before left) (sym is) (back left by)
+made_left h operator stamp request (Some change) reply stands before mid left plans made back by =
+    let is : host_step h operator stamp request ≡ Makes change reply = ap (within_limit h request.book) plans.0 ∙ fitting h request.book change reply plans.1.0 made.1 in
+    subst (λ o. IsLeftByStep h request.book o before left) (sym is) (by ∙ sym (same_change h request.book change plans.1.0))
+
+-- and of one that was not
+pub unmade_left : (h : Host) (operator : ℕ) (stamp : Stamp) (request : Request) (change : Option Change) (reply : Reply) (why : Refusal) (before mid : Host → Type 0) (left : Host)
+    → Plans h request.book (step_of h operator stamp request) (Ok (record { change = change; reply = reply }))
+    → ((g : Host) → mid g → before g) → IsLeftByCommit h change mid (Err why) left → IsLeftByAct h operator stamp request before (Err why) left
+unmade_left h operator stamp request None reply why before mid left plans back by = inl (back left by)
+unmade_left h operator stamp request (Some change) reply why before mid left plans back (inl same) = inl (back left same)
+unmade_left h operator stamp request (Some change) reply why before mid left plans back (inr fits) =
+    let is : host_step h operator stamp request ≡ Makes change reply = ap (within_limit h request.book) plans.0 ∙ fitting h request.book change reply plans.1.0 fits.1.1 in
+    inr (fits.0, fits.1.0 ∙ sym (ap (host_after h request.book) is ∙ same_change h request.book change plans.1.0))

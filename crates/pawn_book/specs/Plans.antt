@@ -18,6 +18,7 @@ use Rattle.pawn_book.specs.BookStep.{BookValue, Told, Outcome, Refuses, Says, Ma
 use Rattle.pawn_book.specs.HostStep.{Host, rows, host_step, host_after}
 use Rattle.pawn_book.specs.Sound.{IsSound}
 use Rattle.pawn_book.specs.Changes.{CanSave, book_number, with_change}
+use Rattle.pawn_book.specs.Keeping.{IsFitting}
 
 -- want of memory, or a fault of the store
 abbrev pub IsUnwell : Refusal → Type 0
@@ -56,6 +57,13 @@ Commits h (Some change) (Ok done) stands = stands (with_change h change) × (row
 Commits h (Some change) (Err why) stands =
     stands h × (IsUnwell why ⊎ ((why ≡ No.Full) × (h.limit < rows (with_change h change))))
 
+-- a host that a crash may leave after a plan's change, where it might have left these before: the changed host alone, once it
+-- was made; else these, or the changed host where the keeper did not answer
+abbrev pub IsLeftByCommit : Host → Option Change → (Host → Type 0) → Result (Unit {0}) Refusal → Host → Type 0
+IsLeftByCommit h None before result left = before left
+IsLeftByCommit h (Some change) before (Ok done) left = left ≡ with_change h change
+IsLeftByCommit h (Some change) before (Err why) left = before left ⊎ (IsUnwell why × IsFitting h change left)
+
 -- the host after a request
 abbrev pub next_host : Host → ℕ → Stamp → Request → Host
 next_host h operator stamp request = host_after h request.book (host_step h operator stamp request)
@@ -65,6 +73,17 @@ abbrev pub Acts : Host → ℕ → Stamp → Request → Result Reply Refusal �
 Acts h operator stamp request (Ok reply) stands =
     (out_of (host_step h operator stamp request) ≡ Told reply) × stands (next_host h operator stamp request) × IsSound (next_host h operator stamp request)
 Acts h operator stamp request (Err why) stands = stands h × IsRefused (host_step h operator stamp request) why
+
+-- a host that a crash may leave after an outcome: the host after a change alone, else what it might have left before
+abbrev pub IsLeftByStep : Host → ℕ → Outcome → (Host → Type 0) → Host → Type 0
+IsLeftByStep h b (Refuses why) before left = before left
+IsLeftByStep h b (Says out) before left = before left
+IsLeftByStep h b (Makes change reply) before left = left ≡ host_after h b (Makes change reply)
+
+-- .. after a request: one that the keeper did not answer may be done all the same
+abbrev pub IsLeftByAct : Host → ℕ → Stamp → Request → (Host → Type 0) → Result Reply Refusal → Host → Type 0
+IsLeftByAct h operator stamp request before (Ok reply) left = IsLeftByStep h request.book (host_step h operator stamp request) before left
+IsLeftByAct h operator stamp request before (Err why) left = before left ⊎ (IsUnwell why × (left ≡ next_host h operator stamp request))
 
 -- a request that may change its book
 abbrev pub IsBrokerWrite : BrokerRequest → Type 0

@@ -1,7 +1,8 @@
 ghost use Rattle.std.specs.Prelude.{◌≡◌, IfSome};
 ghost use Rattle.pawn_book.specs.Changes.{CanSave};
+ghost use Rattle.pawn_book.specs.HostStep.{Host};
 ghost use Rattle.pawn_book.specs.Keeping.{GoesOn, IsQuiet, Of};
-ghost use Rattle.pawn_book.specs.Plans.{Acts, Commits, IsWritten};
+ghost use Rattle.pawn_book.specs.Plans.{Acts, Commits, IsLeftByAct, IsLeftByCommit, IsWritten};
 
 use crate::change::Planned;
 use crate::fault::SaveError;
@@ -18,6 +19,8 @@ pub fn commit<K: Keep>(keep: &mut K, planned: &Planned) -> Result<(), Refusal>
     requires saves { K.keeping.serves keep.old → Of K.keeping keep.old keep.old (λ h. IfSome planned.now.change (CanSave h)) }
     ensures on { GoesOn K.keeping keep.old keep.new }
     ensures commits { Of K.keeping keep.old keep.new (λ h. Commits h planned.now.change result (K.keeping.stands keep.new)) }
+    ensures crash { Of K.keeping keep.old keep.new (λ h. (left : Host) → K.keeping.leaves keep.new left
+        → IsLeftByCommit h planned.now.change (K.keeping.leaves keep.old) result left) }
     ensures steady { IsQuiet K.keeping keep.old result }
 {
     match &planned.change {
@@ -42,6 +45,8 @@ pub fn act<K: Keep>(
     requires written { IsWritten request.now.caller }
     ensures on { GoesOn K.keeping keep.old keep.new }
     ensures acts { Of K.keeping keep.old keep.new (λ h. Acts h operator stamp.now request.now result (K.keeping.stands keep.new)) }
+    ensures crash { Of K.keeping keep.old keep.new (λ h. (left : Host) → K.keeping.leaves keep.new left
+        → IsLeftByAct h operator stamp.now request.now (K.keeping.leaves keep.old) result left) }
     ensures steady { IsQuiet K.keeping keep.old result }
 {
     let planned = match plan(alloc, keep, operator, stamp, request) {
