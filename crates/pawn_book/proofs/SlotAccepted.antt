@@ -17,7 +17,7 @@ use Rattle.pawn_book.specs.BookStep.{BookValue, Outcome, Refuses, Says, Makes, b
 use Rattle.pawn_book.specs.HostStep.{Host, host_step, within_limit, rows, with_book}
 use Rattle.pawn_book.specs.Keeping.{pledges_of}
 use Rattle.pawn_book.specs.Runs.{Mark, read_as, no_memory, no_store, Event, event_after}
-use Rattle.pawn_book.specs.Traces.{SlotEvent, Entered, Did, does, enters, is_live_in, marked_events, numbered_from, run_events, slot_events, slot_of, within_slot}
+use Rattle.pawn_book.specs.Traces.{SlotEvent, Entered, Did, does, enters, is_live_in, event_slot, numbered_from, run_slot, slot_events, slot_of, within_slot}
 use Rattle.pawn_book.specs.Machines.{no_pledge, solo_from, solo_step}
 use Rattle.pawn_book.specs.Slots.{AreAccepted, IsAccepted, TracesAreAccepted}
 use Rattle.pawn_book.proofs.MadeLemmas.{BookIs, CommandIs, MadeBy, PledgeIs, TermsAre, made_by}
@@ -92,7 +92,7 @@ limited_accepted slot h b stamp caller (Says out) k = k
 limited_accepted slot h b stamp caller (Makes change reply) k =
     elim (nat_lt h.limit (rows (with_book h b (changed_book (get h.books b) change)))) as (λ v. Accepts slot (get h.books b) stamp caller (if v then Refuses Full else Makes change reply)) [ true ↦ tt | false ↦ k ]
 
-marked_accepted : {F : Type 0} (b : ℕ) (slot : List Receipt) (h : Host) (operator : ℕ) (stamp : Stamp) (mark : Mark F) → AreAccepted slot (slot_of slot (get h.books b)) (marked_events b slot h operator stamp mark)
+marked_accepted : {F : Type 0} (b : ℕ) (slot : List Receipt) (h : Host) (operator : ℕ) (stamp : Stamp) (mark : Mark F) → AreAccepted slot (slot_of slot (get h.books b)) (event_slot b slot h operator stamp mark)
 marked_accepted b slot h operator stamp (read_as (Ok request)) = from (request.book == b) refl
   where
     from : (v : Bool) → request.book == b ≡ v
@@ -106,16 +106,16 @@ marked_accepted b slot h operator stamp (read_as (Err fault)) = tt
 marked_accepted b slot h operator stamp no_memory = tt
 marked_accepted b slot h operator stamp no_store = tt
 
-run_accepted : {F : Type 0} (b : ℕ) (slot : List Receipt) (h : Host) (operator : ℕ) (events : List (Event F)) → AreAccepted slot (slot_of slot (get h.books b)) (run_events b slot h operator events)
+run_accepted : {F : Type 0} (b : ℕ) (slot : List Receipt) (h : Host) (operator : ℕ) (events : List (Event F)) → AreAccepted slot (slot_of slot (get h.books b)) (run_slot b slot h operator events)
 run_accepted b slot h operator [] = tt
 run_accepted b slot h operator (event ∷ events) =
-    accepted-append slot (slot_of slot (get h.books b)) (marked_events b slot h operator event.stamp event.mark) (run_events b slot (event_after h operator event) operator events)
+    accepted-append slot (slot_of slot (get h.books b)) (event_slot b slot h operator event.stamp event.mark) (run_slot b slot (event_after h operator event) operator events)
     (marked_accepted b slot h operator event.stamp event.mark)
-    (subst (λ m. AreAccepted slot m (run_events b slot (event_after h operator event) operator events)) (sym (event_follows b slot h operator event))
+    (subst (λ m. AreAccepted slot m (run_slot b slot (event_after h operator event) operator events)) (sym (event_follows b slot h operator event))
     (run_accepted b slot (event_after h operator event) operator events))
 
 pub traces_are_accepted : {F : Type 0} → TracesAreAccepted F
 traces_are_accepted h operator b slot events =
-    accepted-append slot no_pledge (flat_map (enters slot) (numbered_from 1 (pledges_of (get h.books b)))) (run_events b slot h operator events)
+    accepted-append slot no_pledge (flat_map (enters slot) (numbered_from 1 (pledges_of (get h.books b)))) (run_slot b slot h operator events)
     (accepted_all slot no_pledge 1 (pledges_of (get h.books b)))
-    (subst (λ m. AreAccepted slot m (run_events b slot h operator events)) (sym (entered_start slot (get h.books b))) (run_accepted b slot h operator events))
+    (subst (λ m. AreAccepted slot m (run_slot b slot h operator events)) (sym (entered_start slot (get h.books b))) (run_accepted b slot h operator events))

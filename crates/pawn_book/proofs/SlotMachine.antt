@@ -17,7 +17,7 @@ use Rattle.pawn_book.specs.declared.request.Caller.TheVariants.{Operator, Broker
 use Rattle.pawn_book.specs.BookStep.{BookValue, Outcome, Refuses, Says, Makes, book_after, book_step, changed_book, book_head, pledge_from}
 use Rattle.pawn_book.specs.Laws.{Asks}
 use Rattle.pawn_book.specs.Traces.{SlotEvent, Entered, Did, does, enters, is_live_in, numbered_from, slot_events, slot_of, touches, within_slot}
-use Rattle.pawn_book.specs.Machines.{commanded, judged_in, placed, solo_from, solo_step}
+use Rattle.pawn_book.specs.Machines.{after_command, after_judgement, with_pledge, solo_from, solo_step}
 use Rattle.pawn_book.proofs.MadeLemmas.{BookIs, CommandIs, MadeBy, PledgeIs, TermsAre, made_by}
 use Rattle.pawn_book.proofs.Places.{pledge_below, pledge_from-put, pledge_past, pledge_within}
 use Rattle.pawn_book.proofs.Plans.{taken_is}
@@ -38,7 +38,7 @@ enter_one slot m n p q none =
 -- a pledge is put at n, where another stood or none: the machine follows
 pub put_one : (slot : List Receipt) (m : ℕ → Option PledgeValue) (n : ℕ) (p : PledgeValue) (old : Option PledgeValue) (did : List SlotEvent) (q : ℕ)
     → m n ≡ within_slot slot n old
-    → ((o : PledgeValue) → old ≡ Some o → m n ≡ Some o → solo_from slot m did ≡ placed slot n p m)
+    → ((o : PledgeValue) → old ≡ Some o → m n ≡ Some o → solo_from slot m did ≡ with_pledge slot n p m)
     → solo_from slot m (if is_some (within_slot slot n old) then did else enters slot (n, p)) q ≡ (if q == n then within_slot slot n (Some p) else m q)
 put_one slot m n p None did q at step = enter_one slot m n p q at
 put_one slot m n p (Some o) did q at step =
@@ -81,7 +81,7 @@ within_put slot n q p o = grind (arith, nat_tests)
 
 put_follows : (slot : List Receipt) (book : BookValue) (b n : ℕ) (p : PledgeValue) (stamp : Stamp) (caller : Caller) (reply : Reply) (old : Option PledgeValue)
     → pledge_from 1 book.pledges n ≡ old → 1 ≤ n → n ≤ 1 + length book.pledges
-    → ((o : PledgeValue) → old ≡ Some o → slot_of slot (Some book) n ≡ Some o → solo_from slot (slot_of slot (Some book)) (does n stamp caller) ≡ placed slot n p (slot_of slot (Some book)))
+    → ((o : PledgeValue) → old ≡ Some o → slot_of slot (Some book) n ≡ Some o → solo_from slot (slot_of slot (Some book)) (does n stamp caller) ≡ with_pledge slot n p (slot_of slot (Some book)))
     → Follows slot (Some book) stamp caller (Makes (PutPledge b n p) reply)
 put_follows slot book b n p stamp caller reply old is low high step q =
     ap (λ f. f q) (solo_from-append slot (slot_of slot (Some book)) (touches slot (Some book) stamp caller (n, p)) [])
@@ -123,8 +123,8 @@ made_follows slot before operator b stamp caller change reply (CommandIs book n 
     (subst (λ (c : Change). Follows slot (Some book) stamp caller (Makes c reply)) (sym did.makes)
     (put_follows slot book b n did.next stamp caller reply (Some did.old) did.stands within.0 high (λ o same in_slot.
     ap (solo_from slot (slot_of slot (Some book))) (does_asked caller n stamp command asks)
-    ∙ ap (λ x. commanded slot n stamp command x (slot_of slot (Some book))) (in_slot ∙ sym same)
-    ∙ ap (λ j. judged_in slot n j (slot_of slot (Some book))) did.step)))
+    ∙ ap (λ x. after_command slot n stamp command x (slot_of slot (Some book))) (in_slot ∙ sym same)
+    ∙ ap (λ j. after_judgement slot n j (slot_of slot (Some book))) did.step)))
 
 -- one step of a book
 pub step_follows : (slot : List Receipt) (before : Option BookValue) (operator b : ℕ) (stamp : Stamp) (caller : Caller) → Follows slot before stamp caller (book_step before operator b stamp caller)

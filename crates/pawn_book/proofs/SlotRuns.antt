@@ -23,7 +23,7 @@ use Rattle.pawn_book.specs.Keeping.{pledges_of}
 use Rattle.pawn_book.specs.Laws.{book_run}
 use Rattle.pawn_book.specs.Plans.{next_host}
 use Rattle.pawn_book.specs.Runs.{Mark, read_as, no_memory, no_store, Event, event_after, marked_after, run_host}
-use Rattle.pawn_book.specs.Traces.{SlotEvent, book_trace, enters, is_live_in, is_settled, marked_events, marked_named, named, numbered_from, run_events, slot_events, slot_of, slot_trace, within_slot}
+use Rattle.pawn_book.specs.Traces.{SlotEvent, book_trace, enters, is_live_in, is_settled, event_slot, event_request, request_on, numbered_from, run_slot, slot_events, slot_of, slot_trace, within_slot}
 use Rattle.pawn_book.specs.Machines.{is_in, is_slots, no_pledge, solo, solo_from, solo_reply}
 use Rattle.pawn_book.specs.Slots.{BearersJoin, BooksAnswerAlone, EqualTracesAnswerAlike, OtherBooksStay, SlotsAnswerAlone, SlotsAreHeld, joins}
 use Rattle.pawn_book.proofs.Sounds.{get-with_book}
@@ -85,22 +85,22 @@ seen slot h b stamp request o q follows = from (request.book == b) refl
     from false is = ap (λ x. slot_of slot x q) (after false is)
 
 marked_follows : {F : Type 0} (b : ℕ) (slot : List Receipt) (h : Host) (operator : ℕ) (stamp : Stamp) (mark : Mark F) (q : ℕ)
-    → solo_from slot (slot_of slot (get h.books b)) (marked_events b slot h operator stamp mark) q ≡ slot_of slot (get (marked_after h operator stamp mark).books b) q
+    → solo_from slot (slot_of slot (get h.books b)) (event_slot b slot h operator stamp mark) q ≡ slot_of slot (get (marked_after h operator stamp mark).books b) q
 marked_follows b slot h operator stamp (read_as (Ok request)) q = seen slot h b stamp request (host_step h operator stamp request) q (host_follows slot h operator stamp request)
 marked_follows b slot h operator stamp (read_as (Err fault)) q = refl
 marked_follows b slot h operator stamp no_memory q = refl
 marked_follows b slot h operator stamp no_store q = refl
 
 pub event_follows : {F : Type 0} (b : ℕ) (slot : List Receipt) (h : Host) (operator : ℕ) (event : Event F)
-    → solo_from slot (slot_of slot (get h.books b)) (marked_events b slot h operator event.stamp event.mark) ≡ slot_of slot (get (event_after h operator event).books b)
+    → solo_from slot (slot_of slot (get h.books b)) (event_slot b slot h operator event.stamp event.mark) ≡ slot_of slot (get (event_after h operator event).books b)
 event_follows b slot h operator event = λ i q. marked_follows b slot h operator event.stamp event.mark q i
 
 run_follows : {F : Type 0} (b : ℕ) (slot : List Receipt) (h : Host) (operator : ℕ) (events : List (Event F))
-    → solo_from slot (slot_of slot (get h.books b)) (run_events b slot h operator events) ≡ slot_of slot (get (run_host h operator events).books b)
+    → solo_from slot (slot_of slot (get h.books b)) (run_slot b slot h operator events) ≡ slot_of slot (get (run_host h operator events).books b)
 run_follows b slot h operator [] = refl
 run_follows b slot h operator (event ∷ events) =
-    solo_from-append slot (slot_of slot (get h.books b)) (marked_events b slot h operator event.stamp event.mark) (run_events b slot (event_after h operator event) operator events)
-    ∙ ap (λ m. solo_from slot m (run_events b slot (event_after h operator event) operator events)) (event_follows b slot h operator event)
+    solo_from-append slot (slot_of slot (get h.books b)) (event_slot b slot h operator event.stamp event.mark) (run_slot b slot (event_after h operator event) operator events)
+    ∙ ap (λ m. solo_from slot m (run_slot b slot (event_after h operator event) operator events)) (event_follows b slot h operator event)
     ∙ run_follows b slot (event_after h operator event) operator events
 
 enter_start : (slot : List Receipt) (book : Option BookValue) (q : ℕ) → solo_from slot no_pledge (flat_map (enters slot) (numbered_from 1 (pledges_of book))) q ≡ slot_of slot book q
@@ -113,8 +113,8 @@ entered_start slot book = λ i q. enter_start slot book q i
 -- a slot's machine holds what is in the slot
 pub slot_is_held : {F : Type 0} (h : Host) (operator b : ℕ) (slot : List Receipt) (events : List (Event F)) → solo slot (slot_trace b slot h operator events) ≡ slot_of slot (get (run_host h operator events).books b)
 slot_is_held h operator b slot events =
-    solo_from-append slot no_pledge (flat_map (enters slot) (numbered_from 1 (pledges_of (get h.books b)))) (run_events b slot h operator events)
-    ∙ ap (λ m. solo_from slot m (run_events b slot h operator events)) (entered_start slot (get h.books b))
+    solo_from-append slot no_pledge (flat_map (enters slot) (numbered_from 1 (pledges_of (get h.books b)))) (run_slot b slot h operator events)
+    ∙ ap (λ m. solo_from slot m (run_slot b slot h operator events)) (entered_start slot (get h.books b))
     ∙ run_follows b slot h operator events
 
 pub slots_are_held : {F : Type 0} → SlotsAreHeld F
@@ -214,10 +214,10 @@ unsettled_same h b (Refuses why) unsettled = refl
 unsettled_same h b (Says out) unsettled = refl
 unsettled_same h b (Makes change reply) unsettled = cc unsettled
 
-named_alone : (h : Host) (operator b : ℕ) (stamp : Stamp) (request : Request) (o : Outcome)
+request_alone : (h : Host) (operator b : ℕ) (stamp : Stamp) (request : Request) (o : Outcome)
     → (is_settled (out_of o) ≡ true → o ≡ book_step (get h.books request.book) operator request.book stamp request.caller)
-    → book_run (get h.books b) operator b (named b stamp request (out_of o)) ≡ get (host_after h request.book o).books b
-named_alone h operator b stamp request o settled = from (request.book == b) refl (is_settled (out_of o)) refl
+    → book_run (get h.books b) operator b (request_on b stamp request (out_of o)) ≡ get (host_after h request.book o).books b
+request_alone h operator b stamp request o settled = from (request.book == b) refl (is_settled (out_of o)) refl
   where
     after : (v : Bool) → request.book == b ≡ v → get (host_after h request.book o).books b ≡ (if v then book_after (get h.books request.book) o else get h.books b)
     after v is = host_get h request.book b o ∙ ap (λ v. if v then book_after (get h.books request.book) o else get h.books b) is
@@ -232,8 +232,8 @@ named_alone h operator b stamp request o settled = from (request.book == b) refl
         ∙ ap (λ (c : ℕ). book_after (get h.books c) (book_step (get h.books c) operator c stamp request.caller)) here)
 
 marked_alone : {F : Type 0} (h : Host) (operator b : ℕ) (stamp : Stamp) (mark : Mark F)
-    → book_run (get h.books b) operator b (marked_named b h operator stamp mark) ≡ get (marked_after h operator stamp mark).books b
-marked_alone h operator b stamp (read_as (Ok request)) = named_alone h operator b stamp request (host_step h operator stamp request) (settled_step h operator stamp request)
+    → book_run (get h.books b) operator b (event_request b h operator stamp mark) ≡ get (marked_after h operator stamp mark).books b
+marked_alone h operator b stamp (read_as (Ok request)) = request_alone h operator b stamp request (host_step h operator stamp request) (settled_step h operator stamp request)
 marked_alone h operator b stamp (read_as (Err fault)) = refl
 marked_alone h operator b stamp no_memory = refl
 marked_alone h operator b stamp no_store = refl
@@ -245,7 +245,7 @@ book_run-append book operator b (x ∷ xs) ys = book_run-append (book_after book
 book_is_alone : {F : Type 0} (h : Host) (operator b : ℕ) (events : List (Event F)) → book_run (get h.books b) operator b (book_trace b h operator events) ≡ get (run_host h operator events).books b
 book_is_alone h operator b [] = refl
 book_is_alone h operator b (event ∷ events) =
-    book_run-append (get h.books b) operator b (marked_named b h operator event.stamp event.mark) (book_trace b (event_after h operator event) operator events)
+    book_run-append (get h.books b) operator b (event_request b h operator event.stamp event.mark) (book_trace b (event_after h operator event) operator events)
     ∙ ap (λ x. book_run x operator b (book_trace b (event_after h operator event) operator events)) (marked_alone h operator b event.stamp event.mark)
     ∙ book_is_alone (event_after h operator event) operator b events
 

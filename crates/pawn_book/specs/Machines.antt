@@ -18,22 +18,22 @@ abbrev pub reply_alone : Option BookValue → ℕ → ℕ → List (Stamp × Cal
 reply_alone book operator b trace stamp caller = out_of (book_step (book_run book operator b trace) operator b stamp caller)
 
 -- a slot's machine is a map from numbers to pledges; a pledge stays in it while a receipt of the slot is its live one
-abbrev pub placed : List Receipt → ℕ → PledgeValue → (ℕ → Option PledgeValue) → ℕ → Option PledgeValue
-placed slot n p pledges m = if m == n then within_slot slot n (Some p) else pledges m
+abbrev pub with_pledge : List Receipt → ℕ → PledgeValue → (ℕ → Option PledgeValue) → ℕ → Option PledgeValue
+with_pledge slot n p pledges m = if m == n then within_slot slot n (Some p) else pledges m
 
-abbrev pub judged_in : List Receipt → ℕ → Judged → (ℕ → Option PledgeValue) → ℕ → Option PledgeValue
-judged_in slot n (Changed p done) pledges = placed slot n p pledges
-judged_in slot n (Answered done) pledges = pledges
-judged_in slot n (Refused why) pledges = pledges
+abbrev pub after_judgement : List Receipt → ℕ → Judged → (ℕ → Option PledgeValue) → ℕ → Option PledgeValue
+after_judgement slot n (Changed p done) pledges = with_pledge slot n p pledges
+after_judgement slot n (Answered done) pledges = pledges
+after_judgement slot n (Refused why) pledges = pledges
 
-abbrev pub commanded : List Receipt → ℕ → Stamp → Command → Option PledgeValue → (ℕ → Option PledgeValue) → ℕ → Option PledgeValue
-commanded slot n stamp command None pledges = pledges
-commanded slot n stamp command (Some p) pledges = judged_in slot n (pledge_step p stamp command) pledges
+abbrev pub after_command : List Receipt → ℕ → Stamp → Command → Option PledgeValue → (ℕ → Option PledgeValue) → ℕ → Option PledgeValue
+after_command slot n stamp command None pledges = pledges
+after_command slot n stamp command (Some p) pledges = after_judgement slot n (pledge_step p stamp command) pledges
 
 -- one event: a pledge is put in, or its command is carried out by a pledge's own rules
 abbrev pub solo_step : List Receipt → SlotEvent → (ℕ → Option PledgeValue) → ℕ → Option PledgeValue
-solo_step slot (Entered n p) pledges = placed slot n p pledges
-solo_step slot (Did n stamp command) pledges = commanded slot n stamp command (pledges n) pledges
+solo_step slot (Entered n p) pledges = with_pledge slot n p pledges
+solo_step slot (Did n stamp command) pledges = after_command slot n stamp command (pledges n) pledges
 
 abbrev pub solo_from : List Receipt → (ℕ → Option PledgeValue) → List SlotEvent → ℕ → Option PledgeValue
 solo_from slot pledges [] = pledges

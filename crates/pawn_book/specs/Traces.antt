@@ -39,20 +39,20 @@ is_settled (Shown day pledges) = true
 -- a book's trace
 
 -- a request on book b whose reply is settled
-abbrev pub named : ℕ → Stamp → Request → Out → List (Stamp × Caller)
-named b stamp request out = if (request.book == b) && is_settled out then (stamp, request.caller) ∷ [] else []
+abbrev pub request_on : ℕ → Stamp → Request → Out → List (Stamp × Caller)
+request_on b stamp request out = if (request.book == b) && is_settled out then (stamp, request.caller) ∷ [] else []
 
-abbrev pub marked_named : {F : Type 0} → ℕ → Host → ℕ → Stamp → Mark F → List (Stamp × Caller)
-marked_named b h operator stamp (read_as (Ok request)) = named b stamp request (out_of (host_step h operator stamp request))
-marked_named b h operator stamp (read_as (Err fault)) = []
-marked_named b h operator stamp no_memory = []
-marked_named b h operator stamp no_store = []
+abbrev pub event_request : {F : Type 0} → ℕ → Host → ℕ → Stamp → Mark F → List (Stamp × Caller)
+event_request b h operator stamp (read_as (Ok request)) = request_on b stamp request (out_of (host_step h operator stamp request))
+event_request b h operator stamp (read_as (Err fault)) = []
+event_request b h operator stamp no_memory = []
+event_request b h operator stamp no_store = []
 
 -- the requests of a run on book b whose replies are settled, in order
 abbrev pub book_trace : {F : Type 0} → ℕ → Host → ℕ → List (Event F) → List (Stamp × Caller)
 book_trace b h operator [] = []
 book_trace b h operator (event ∷ events) =
-    marked_named b h operator event.stamp event.mark ++ book_trace b (event_after h operator event) operator events
+    event_request b h operator event.stamp event.mark ++ book_trace b (event_after h operator event) operator events
 
 -- a slot's trace
 
@@ -96,10 +96,10 @@ does n stamp (Broker key asked) = broker_does n stamp asked
 does n stamp (Bearer asked) = bearer_does n stamp asked
 
 -- the pledges that a change makes or changes, as they are after it
-abbrev pub touched : Change → List (ℕ × PledgeValue)
-touched (MakeBook b new) = []
-touched (AddTerms b version terms) = []
-touched (PutPledge b n p) = (n, p) ∷ []
+abbrev pub touched_pledges : Change → List (ℕ × PledgeValue)
+touched_pledges (MakeBook b new) = []
+touched_pledges (AddTerms b version terms) = []
+touched_pledges (PutPledge b n p) = (n, p) ∷ []
 
 -- what a changed pledge is to the slot: if it was in, the command happened to it; else it may come in
 abbrev pub touches : List Receipt → Option BookValue → Stamp → Caller → ℕ × PledgeValue → List SlotEvent
@@ -109,20 +109,20 @@ touches slot before stamp caller pledge =
 abbrev pub slot_events : List Receipt → Option BookValue → Stamp → Caller → Outcome → List SlotEvent
 slot_events slot before stamp caller (Refuses why) = []
 slot_events slot before stamp caller (Says out) = []
-slot_events slot before stamp caller (Makes change reply) = flat_map (touches slot before stamp caller) (touched change)
+slot_events slot before stamp caller (Makes change reply) = flat_map (touches slot before stamp caller) (touched_pledges change)
 
-abbrev pub marked_events : {F : Type 0} → ℕ → List Receipt → Host → ℕ → Stamp → Mark F → List SlotEvent
-marked_events b slot h operator stamp (read_as (Ok request)) =
+abbrev pub event_slot : {F : Type 0} → ℕ → List Receipt → Host → ℕ → Stamp → Mark F → List SlotEvent
+event_slot b slot h operator stamp (read_as (Ok request)) =
     if request.book == b then slot_events slot (get h.books b) stamp request.caller (host_step h operator stamp request) else []
-marked_events b slot h operator stamp (read_as (Err fault)) = []
-marked_events b slot h operator stamp no_memory = []
-marked_events b slot h operator stamp no_store = []
+event_slot b slot h operator stamp (read_as (Err fault)) = []
+event_slot b slot h operator stamp no_memory = []
+event_slot b slot h operator stamp no_store = []
 
 -- what happens to the slot in a run
-abbrev pub run_events : {F : Type 0} → ℕ → List Receipt → Host → ℕ → List (Event F) → List SlotEvent
-run_events b slot h operator [] = []
-run_events b slot h operator (event ∷ events) =
-    marked_events b slot h operator event.stamp event.mark ++ run_events b slot (event_after h operator event) operator events
+abbrev pub run_slot : {F : Type 0} → ℕ → List Receipt → Host → ℕ → List (Event F) → List SlotEvent
+run_slot b slot h operator [] = []
+run_slot b slot h operator (event ∷ events) =
+    event_slot b slot h operator event.stamp event.mark ++ run_slot b slot (event_after h operator event) operator events
 
 abbrev pub numbered_from : ℕ → List PledgeValue → List (ℕ × PledgeValue)
 numbered_from k [] = []
@@ -131,4 +131,4 @@ numbered_from k (p ∷ ps) = (k, p) ∷ numbered_from (k + 1) ps
 -- first what is in the slot when the run begins, by number
 abbrev pub slot_trace : {F : Type 0} → ℕ → List Receipt → Host → ℕ → List (Event F) → List SlotEvent
 slot_trace b slot h operator events =
-    flat_map (enters slot) (numbered_from 1 (pledges_of (get h.books b))) ++ run_events b slot h operator events
+    flat_map (enters slot) (numbered_from 1 (pledges_of (get h.books b))) ++ run_slot b slot h operator events
