@@ -62,7 +62,7 @@ impl Command {
             | Command::DecideBooking(_)
             | Command::Sell { .. }
             | Command::Extend { .. } => true,
-            Command::AskBooking { .. } | Command::CancelBooking | Command::Redeem { .. } => false,
+            _ => false,
         }
     }
 
@@ -75,13 +75,7 @@ impl Command {
             | Command::AskBooking { .. }
             | Command::CancelBooking
             | Command::Redeem { .. } => true,
-            Command::Draw { .. }
-            | Command::Hold
-            | Command::Release
-            | Command::Declare(_)
-            | Command::DecideBooking(_)
-            | Command::Sell { .. }
-            | Command::Extend { .. } => false,
+            _ => false,
         }
     }
 
@@ -96,15 +90,7 @@ impl Command {
             Command::Extend { until } => {
                 let _ = until.day();
             }
-            Command::Draw { .. }
-            | Command::Repay { .. }
-            | Command::Hold
-            | Command::Release
-            | Command::Declare(_)
-            | Command::CancelBooking
-            | Command::DecideBooking(_)
-            | Command::Redeem { .. }
-            | Command::Sell { .. } => {}
+            _ => {}
         }
     }
 }
@@ -228,7 +214,7 @@ pub struct Applied {
 
 impl Applied {
     // An answer without a change.
-    pub(crate) fn answered(done: Done) -> Applied
+    pub(crate) fn of_answer(done: Done) -> Applied
         ensures value { result ≡ record { done = done; changed = false } }
     {
         Applied {
@@ -238,7 +224,7 @@ impl Applied {
     }
 
     // An answer with a change.
-    pub(crate) fn changed(done: Done) -> Applied
+    pub(crate) fn of_change(done: Done) -> Applied
         ensures value { result ≡ record { done = done; changed = true } }
     {
         Applied {
