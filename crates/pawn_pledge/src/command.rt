@@ -1,4 +1,4 @@
-ghost use Rattle.std.specs.Prelude.{◌≡◌, true, false, Some, None, if◌then◌else◌};
+ghost use Rattle.std.specs.Prelude.{◌≡◌, true, false, if◌then◌else◌};
 ghost use Rattle.pawn_pledge.specs.Commands.{IsCommand, is_brokers, is_bearers};
 
 use crate::record::Booking;
@@ -115,19 +115,25 @@ impl Model for BrokerCommand {
     ghost inverse = { λ command. record { command = command } };
 }
 
-impl BrokerCommand {
-    /// The command, where a broker may send it.
-    pub fn new(command: Command) -> Option<BrokerCommand>
-        ensures value { result ≡ (if is_brokers command then Some command else None) }
-    {
+impl TryFrom<Command> for BrokerCommand {
+    ghost use Rattle.std.specs.Prelude.{Ok, Err};
+
+    type Error = Command;
+
+    ghost try_from_gives = { λ command result. result ≡ (if is_brokers command then Ok command else Err command) };
+
+    /// The command, where a broker may send it, or it is handed back.
+    fn try_from(command: Command) -> Result<BrokerCommand, Command> {
         command.know_days();
         if command.is_brokers() {
-            Some(BrokerCommand { command })
+            Ok(BrokerCommand { command })
         } else {
-            None
+            Err(command)
         }
     }
+}
 
+impl BrokerCommand {
     /// The command.
     pub fn command(self) -> Command
         ensures same { result ≡ self }
@@ -158,19 +164,25 @@ impl Model for BearerCommand {
     ghost inverse = { λ command. record { command = command } };
 }
 
-impl BearerCommand {
-    /// The command, where a bearer may send it.
-    pub fn new(command: Command) -> Option<BearerCommand>
-        ensures value { result ≡ (if is_bearers command then Some command else None) }
-    {
+impl TryFrom<Command> for BearerCommand {
+    ghost use Rattle.std.specs.Prelude.{Ok, Err};
+
+    type Error = Command;
+
+    ghost try_from_gives = { λ command result. result ≡ (if is_bearers command then Ok command else Err command) };
+
+    /// The command, where a bearer may send it, or it is handed back.
+    fn try_from(command: Command) -> Result<BearerCommand, Command> {
         command.know_days();
         if command.is_bearers() {
-            Some(BearerCommand { command })
+            Ok(BearerCommand { command })
         } else {
-            None
+            Err(command)
         }
     }
+}
 
+impl BearerCommand {
     /// The command.
     pub fn command(self) -> Command
         ensures same { result ≡ self }
