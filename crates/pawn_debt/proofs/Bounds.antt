@@ -6,6 +6,7 @@ use Rattle.std.proofs.lemmas.Bool.Decides.{nat_tests}
 use Rattle.pawn_terms.specs.declared.terms.Rates.{Rates}
 use Rattle.pawn_terms.specs.Terms.{IsChecked}
 use Rattle.pawn_terms.proofs.RefusalLemmas.{first_of-is_ok}
+use Rattle.pawn_terms.proofs.OrderLemmas.{last_by-le, DoNotFall-push, last_by-push}
 use Rattle.pawn_debt.specs.declared.entry.Entry.{Entry}
 use Rattle.pawn_debt.specs.declared.entry.Kind.{Kind}
 use Rattle.pawn_debt.specs.declared.entry.Kind.TheVariants.{Fixed, Running}
@@ -15,7 +16,7 @@ use Rattle.pawn_debt.specs.Due.{Due, DebtValue, due, due_after, after_days, keep
 use Rattle.pawn_debt.specs.Answers.{draw_rows, repay_rows, with_entry}
 use Rattle.pawn_debt.specs.Replay.{IsAccepted, AreAccepted, sort_answer}
 use Rattle.pawn_debt.proofs.DueLemmas.{after_days-principal}
-use Rattle.pawn_debt.proofs.EntryLemmas.{due-from-last, due-pushed, due-start, pushed, last-le, AreOrdered-push, last_of-push}
+use Rattle.pawn_debt.proofs.EntryLemmas.{due-from-last, due-pushed, due-start, pushed}
 use Rattle.pawn_debt.specs.Limits.{most_pence, most_a_day}
 
 keep-small : (t : Rates) (ends x : ℕ) → IsChecked t → keep_on t ends x ≤ 10000000
@@ -49,7 +50,7 @@ record IsRunning (p : DebtValue) : Type 0 where
 later-bounded : (p : DebtValue) (x : ℕ) → IsChecked p.terms → IsRunning p → last_of p.taken p.entries ≤ x → IsBounded p x
 later-bounded p x h r late =
     let last = last_of p.taken p.entries in
-    let low = last-le p.taken p.entries r.ordered in
+    let low = last_by-le (λ (e : Entry). e.day) p.taken p.entries r.ordered in
     let e = due-from-last p x r.ordered late in
     let same = after_days-principal p.terms p.ends last (x - last) (due p last) in
     let small = after_days-small p.terms p.ends last (x - last) (due p last) h r.bounded.principal in
@@ -74,14 +75,14 @@ entered-bounded p Repay x pence credit b h =
 
 next-running : (p : DebtValue) (e : Entry) → IsChecked p.terms → credit_of p.kind ≤ most_pence → IsRunning p → IsAccepted p e → IsRunning (pushed p e)
 next-running p e h credit r ok =
-    let low = last-le p.taken p.entries r.ordered in
+    let low = last_by-le (λ (e : Entry). e.day) p.taken p.entries r.ordered in
     let late = late_of p e.sort e.day e.pence ok.1 in
     let a = entered-bounded p e.sort e.day e.pence credit (later-bounded p e.day h r late) ok.1 in
     let after = due-pushed p e (omega (arith, low, late)) in
     let B : ℕ → Type 0 = λ x. IsBounded (pushed p e) x in
     record {
-      ordered = AreOrdered-push p.taken p.entries e r.ordered late;
-      bounded = subst B (sym (last_of-push p.taken p.entries e)) (record {
+      ordered = DoNotFall-push (λ (e : Entry). e.day) p.taken p.entries e r.ordered late;
+      bounded = subst B (sym (last_by-push (λ (e : Entry). e.day) p.taken p.entries e)) (record {
         principal = omega (arith, ap (λ (o : Due). o.principal) after, a.0);
         millionths = omega (arith, ap (λ (o : Due). o.millionths) after, a.1);
       });

@@ -1,6 +1,7 @@
 -- What is owed on a day, told day by day.
-use Rattle.std.specs.Prelude.{ℕ, zero, suc, ◌+◌, ◌-◌, ◌*◌, ◌/◌, ◌≤◌, ◌==◌, nat_le, min, if◌then◌else◌, List, [], ◌∷◌, filter}
+use Rattle.std.specs.Prelude.{ℕ, zero, suc, ◌+◌, ◌-◌, ◌*◌, ◌/◌, ◌==◌, nat_le, min, if◌then◌else◌, List, [], ◌∷◌, filter}
 use Rattle.pawn_terms.specs.declared.terms.Rates.{Rates}
+use Rattle.pawn_terms.specs.Order.{DoNotFall, last_by}
 use Rattle.pawn_debt.specs.Limits.{penny}
 use Rattle.pawn_debt.specs.declared.entry.Entry.{Entry}
 use Rattle.pawn_debt.specs.declared.entry.Sort.{Sort}
@@ -80,10 +81,8 @@ after_days terms ends x (suc n) owed = after_charges terms ends (x + suc n) (aft
 
 -- the day of the last entry, or the day before them all
 abbrev pub last_of : ℕ → List Entry → ℕ
-last_of day [] = day
-last_of day (e ∷ es) = last_of e.day es
+last_of day entries = last_by (λ e. e.day) day entries
 
 -- no day is before the one before it
 abbrev pub AreOrdered : ℕ → List Entry → Type 0
-AreOrdered day [] = Unit {0}
-AreOrdered day (e ∷ es) = (day ≤ e.day) × AreOrdered e.day es
+AreOrdered day entries = DoNotFall (λ e. e.day) day entries

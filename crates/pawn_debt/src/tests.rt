@@ -1,6 +1,6 @@
 //! What takes memory is run once, and its answer compared. What the rules answer is proved, and worked out in
 //! `specs/Worked.antt`.
-use crate::{Debt, DebtFault, Entries, Kind};
+use crate::{Debt, Entries, Kind};
 use pawn_terms::{Day, RequestDay, Terms, last_day};
 use std::alloc::Global;
 use std::test::Fail;
@@ -26,15 +26,6 @@ fn a_drawing_and_a_repayment_are_entered(rt: HostRuntime) -> Result<(), Fail> {
     assert_eq!(rt; debt.count(), 2);
     assert_eq!(rt; debt.totals().principal, 2240);
     assert_eq!(rt; debt.totals().millionths, 30_000);
-    Ok(())
-}
-
-#[test]
-fn a_refused_drawing_enters_nothing(rt: HostRuntime) -> Result<(), Fail> {
-    let mut debt = account(rt.alloc())?;
-    let over = debt.draw(day(b"2024-03-01")?, 2761);
-    assert_eq!(rt; over, Err(DebtFault::OverLimit));
-    assert_eq!(rt; debt.count(), 2);
     Ok(())
 }
 

@@ -6,13 +6,13 @@ use Rattle.std.proofs.lemmas.Bool.Decides.{nat_tests}
 use Rattle.std.proofs.lemmas.List.{drop_more, take_rest}
 use Rattle.std.proofs.lemmas.List.Folds.{list_any-append}
 use Rattle.pawn_terms.specs.Calendar.{later_of}
+use Rattle.pawn_terms.proofs.OrderLemmas.{last_by-le}
 use Rattle.pawn_debt.specs.declared.entry.Entry.{Entry}
-use Rattle.pawn_debt.specs.Due.{last_of, AreOrdered}
-use Rattle.pawn_debt.proofs.EntryLemmas.{last-le}
+use Rattle.pawn_terms.specs.Order.{DoNotFall, last_by}
 use Rattle.pawn_pledge.specs.declared.record.Issued.{Issued}
 use Rattle.pawn_pledge.specs.declared.record.Extension.{Extension}
 use Rattle.pawn_pledge.specs.Pledge.{last_element, last_until}
-use Rattle.pawn_pledge.specs.Replayable.{Each, IsLaterIssue, AreIssued, AreDistinct, DoNotFall, last_issue, AreNumbered, AreExtended, last_extension}
+use Rattle.pawn_pledge.specs.Replayable.{Each, IsLaterIssue, AreIssued, AreDistinct, AreNumbered, AreExtended}
 
 last-push : {A : Type 0} (xs : List A) (x : A) → slice_get (xs ++ x ∷ []) (length xs) ≡ Some x
 last-push [] x = refl
@@ -35,6 +35,12 @@ pub Each-all : {A : Type 0} (P : A → Type 0) (xs : List A) → ((x : A) → P 
 Each-all P [] f = tt
 Each-all P (x ∷ xs) f = (f x, Each-all P xs f)
 
+-- what does not fall lies between the first and the last
+pub DoNotFall-each : {A : Type 0} (f : A → ℕ) (low n high : ℕ) (xs : List A) → low ≤ n → DoNotFall f n xs → last_by f n xs ≤ high → Each (λ x. (low ≤ f x) × (f x ≤ high)) xs
+DoNotFall-each f low n high [] after h before = tt
+DoNotFall-each f low n high (x ∷ xs) after h before =
+    ((omega (arith, after, h.0), omega (arith, last_by-le f (f x) xs h.1, before)), DoNotFall-each f low (f x) high xs (omega (arith, after, h.0)) h.1 before)
+
 -- secrets
 pub AreIssued-push : (taken credit : ℕ) (is : List Issued) (j : Issued) → AreIssued taken credit is → IsLaterIssue credit j.sort → AreIssued taken credit (is ++ j ∷ [])
 AreIssued-push taken credit [] j h last = absurd h
@@ -51,24 +57,10 @@ AreDistinct-push (i ∷ is) j h new =
       AreDistinct-push is j h.1 parts.1,
     )
 
-pub DoNotFall-push : (day : ℕ) (is : List Issued) (j : Issued) → DoNotFall day is → last_issue day is ≤ j.day → DoNotFall day (is ++ j ∷ [])
-DoNotFall-push day [] j h late = (late, tt)
-DoNotFall-push day (i ∷ is) j h late = (h.0, DoNotFall-push i.day is j h.1 late)
-
-pub last_issue-push : (day : ℕ) (is : List Issued) (j : Issued) → last_issue day (is ++ j ∷ []) ≡ j.day
-last_issue-push day [] j = refl
-last_issue-push day (i ∷ is) j = last_issue-push i.day is j
-
 -- entries
 pub AreNumbered-push : (n : ℕ) (es : List Entry) (e : Entry) → AreNumbered n es → e.seq ≡ n + length es → AreNumbered n (es ++ e ∷ [])
 AreNumbered-push n [] e h is = (omega (arith, is), tt)
 AreNumbered-push n (f ∷ es) e h is = (h.0, AreNumbered-push (n + 1) es e h.1 (omega (arith, is)))
-
--- the days of entries lie between the first and the last
-pub AreOrdered-each : (low day high : ℕ) (es : List Entry) → low ≤ day → AreOrdered day es → last_of day es ≤ high → Each (λ e. (low ≤ e.day) × (e.day ≤ high)) es
-AreOrdered-each low day high [] after h before = tt
-AreOrdered-each low day high (e ∷ es) after h before =
-    ((omega (arith, after, h.0), omega (arith, last-le e.day es h.1, before)), AreOrdered-each low e.day high es (omega (arith, after, h.0)) h.1 before)
 
 -- extensions
 pub later_of-le : (day : ℕ) (o : Option ℕ) → day ≤ later_of day o
@@ -93,11 +85,11 @@ later_of-until : (day ends : ℕ) (xs : List Extension) → AreExtended day ends
 later_of-until day ends [] h = refl
 later_of-until day ends (x ∷ xs) h = rw (last_until-is x xs) (omega (arith, h.2, until_after-le x.day x.until xs h.3))
 
-AreExtended-after : (day ends : ℕ) (xs : List Extension) (x : Extension) → AreExtended day ends xs → last_extension day xs ≤ x.day → x.day ≤ until_after ends xs → until_after ends xs < x.until → AreExtended day ends (xs ++ x ∷ [])
+AreExtended-after : (day ends : ℕ) (xs : List Extension) (x : Extension) → AreExtended day ends xs → last_by (λ e. e.day) day xs ≤ x.day → x.day ≤ until_after ends xs → until_after ends xs < x.until → AreExtended day ends (xs ++ x ∷ [])
 AreExtended-after day ends [] x h late inside longer = (late, inside, longer, tt)
 AreExtended-after day ends (y ∷ ys) x h late inside longer = (h.0, h.1, h.2, AreExtended-after y.day y.until ys x h.3 late inside longer)
 
-pub AreExtended-push : (day ends : ℕ) (xs : List Extension) (x : Extension) → AreExtended day ends xs → last_extension day xs ≤ x.day → x.day ≤ later_of ends (last_until xs) → later_of ends (last_until xs) < x.until → AreExtended day ends (xs ++ x ∷ [])
+pub AreExtended-push : (day ends : ℕ) (xs : List Extension) (x : Extension) → AreExtended day ends xs → last_by (λ e. e.day) day xs ≤ x.day → x.day ≤ later_of ends (last_until xs) → later_of ends (last_until xs) < x.until → AreExtended day ends (xs ++ x ∷ [])
 AreExtended-push day ends xs x h late inside longer =
     let e = later_of-until day ends xs h in
     AreExtended-after day ends xs x h late (omega (arith, inside, e)) (omega (arith, longer, e))
@@ -105,10 +97,6 @@ AreExtended-push day ends xs x h late inside longer =
 -- one more extension to a later end puts the end there
 pub later_of-push : (ends : ℕ) (xs : List Extension) (x : Extension) → later_of ends (last_until xs) < x.until → later_of ends (last_until (xs ++ x ∷ [])) ≡ x.until
 later_of-push ends xs x longer = rw (last_element-push xs x) (omega (arith, longer, later_of-le ends (last_until xs)))
-
-pub last_extension-push : (day : ℕ) (xs : List Extension) (x : Extension) → last_extension day (xs ++ x ∷ []) ≡ x.day
-last_extension-push day [] x = refl
-last_extension-push day (y ∷ ys) x = last_extension-push y.day ys x
 
 -- one secret on, by a test of the slice after it
 pub AreDistinct-step : (is : List Issued) (k : ℕ) (i : Issued) → k < length is → i ≡ get_or is k i → list_any (λ j. j.secret == i.secret) (take (length is - (k + 1)) (drop (k + 1) is)) ≡ false

@@ -5,13 +5,13 @@ use Rattle.std.proofs.lemmas.Bool.Decides.{nat_tests}
 use Rattle.pawn_terms.specs.Calendar.{later_of, period_end, six_months}
 use Rattle.pawn_terms.specs.Refusals.{NoneApplies}
 use Rattle.pawn_terms.specs.Limits.{last_stamp_day}
+use Rattle.pawn_terms.proofs.OrderLemmas.{last_by-push, DoNotFall-push}
 use Rattle.pawn_debt.specs.declared.entry.Entry.{Entry}
 use Rattle.pawn_debt.specs.declared.entry.Sort.{Sort}
 use Rattle.pawn_debt.specs.declared.entry.Sort.TheVariants.{Draw, Repay}
 use Rattle.pawn_debt.specs.Due.{last_of, credit_of}
 use Rattle.pawn_debt.specs.Answers.{with_entry}
 use Rattle.pawn_debt.specs.Replay.{sort_answer, IsAccepted}
-use Rattle.pawn_debt.proofs.EntryLemmas.{last_of-push, AreOrdered-push}
 use Rattle.pawn_debt.proofs.ReplayLemmas.{AreAccepted-push, AreAccepted-ended, AreInside-ordered}
 use Rattle.pawn_pledge.specs.declared.record.Issued.{Issued}
 use Rattle.pawn_pledge.specs.declared.record.Extension.{Extension}
@@ -28,7 +28,7 @@ use Rattle.pawn_pledge.specs.Replayable.{IsNotPassed, IsLaterIssue, IsDrawnBy, I
 use Rattle.pawn_pledge.specs.Commands.{IsCommand}
 use Rattle.pawn_pledge.proofs.Moves.{not_most, Move, Entering, Declaring, Extending, Settling}
 use Rattle.pawn_pledge.proofs.Settled.{IsGated, still-open}
-use Rattle.pawn_pledge.proofs.Pushes.{Each-push, Each-map, Each-all, AreIssued-push, AreDistinct-push, DoNotFall-push, last_issue-push, AreNumbered-push, AreOrdered-each, later_of-le, later_of-push, AreExtended-push, last_extension-push}
+use Rattle.pawn_pledge.proofs.Pushes.{Each-push, Each-map, Each-all, AreIssued-push, AreDistinct-push, AreNumbered-push, DoNotFall-each, later_of-le, later_of-push, AreExtended-push}
 use Rattle.pawn_pledge.specs.Limits.{small_credit, most_secrets}
 
 -- not passed, where the last case is not
@@ -68,8 +68,8 @@ stays-entered p x pence sort h g ok late drawn =
       issued = record { sorts = h.issued.sorts; distinct = h.issued.distinct; ordered = h.issued.ordered; before = omega (arith, h.issued.before, g.later); not_passed = h.issued.not_passed };
       entered = record {
         numbered = AreNumbered-push 1 p.entries e h.entered.numbered (omega arith);
-        ordered = AreOrdered-push p.agreement.taken p.entries e h.entered.ordered late;
-        before = omega (arith, last_of-push p.agreement.taken p.entries e);
+        ordered = DoNotFall-push (λ (e : Entry). e.day) p.agreement.taken p.entries e h.entered.ordered late;
+        before = omega (arith, last_by-push (λ (e : Entry). e.day) p.agreement.taken p.entries e);
         accepted = AreAccepted-push (debt_of p) [] p.entries e h.entered.accepted accepted;
         not_passed = Each-push (λ (f : Entry). IsNotPassed p f.day) p.entries e h.entered.not_passed g.not_passed;
         drawn = Each-push (λ (f : Entry). IsDrawnBy (end_of p) f.sort f.day) p.entries e h.entered.drawn drawn;
@@ -103,8 +103,8 @@ stays-declared p x word paper h g ok =
       issued = record {
         sorts = AreIssued-push p.agreement.taken (credit_of p.agreement.opening.kind) p.secrets i h.issued.sorts (later-issue p paper ok.0);
         distinct = AreDistinct-push p.secrets i h.issued.distinct ok.1.1.0;
-        ordered = DoNotFall-push p.agreement.taken p.secrets i h.issued.ordered (omega (arith, h.issued.before, g.later));
-        before = omega (arith, last_issue-push p.agreement.taken p.secrets i);
+        ordered = DoNotFall-push (λ (j : Issued). j.day) p.agreement.taken p.secrets i h.issued.ordered (omega (arith, h.issued.before, g.later));
+        before = omega (arith, last_by-push (λ (j : Issued). j.day) p.agreement.taken p.secrets i);
         not_passed = Each-push (λ (j : Issued). IsNotPassed p j.day) p.secrets i h.issued.not_passed g.not_passed;
       };
       entered = record { numbered = h.entered.numbered; ordered = h.entered.ordered; before = omega (arith, h.entered.before, g.later); accepted = h.entered.accepted; not_passed = h.entered.not_passed; drawn = h.entered.drawn };
@@ -141,7 +141,7 @@ stays-extended p x until h g inside longer =
     let six : six_months p.agreement.taken ≤ end_of p = period_end-late p.agreement.taken p.agreement.opening.agreed (last_until p.extensions) in
     let past : six_months p.agreement.taken < end_of q = omega (arith, ends, longer, six) in
     let any : (y : ℕ) → IsNotPassed q y = λ y. longer-not_passed q y (unequal (end_of q) (six_months p.agreement.taken) past) in
-    let days = AreOrdered-each p.agreement.taken p.agreement.taken (end_of p) p.entries (omega arith) h.entered.ordered (omega (arith, h.entered.before, g.later, inside)) in
+    let days = DoNotFall-each (λ (f : Entry). f.day) p.agreement.taken p.agreement.taken (end_of p) p.entries (omega arith) h.entered.ordered (omega (arith, h.entered.before, g.later, inside)) in
     record {
       credit = h.credit;
       issued = record { sorts = h.issued.sorts; distinct = h.issued.distinct; ordered = h.issued.ordered; before = omega (arith, h.issued.before, g.later); not_passed = Each-all (λ (j : Issued). IsNotPassed q j.day) p.secrets (λ j. any j.day) };
@@ -159,7 +159,7 @@ stays-extended p x until h g inside longer =
       booked = booked-longer p q p.standing.booking refl refl any h.booked;
       extended = record {
         each = AreExtended-push p.agreement.taken (end_with p.agreement None) p.extensions e h.extended.each (omega (arith, h.extended.before, g.later)) inside longer;
-        before = omega (arith, last_extension-push p.agreement.taken p.extensions e);
+        before = omega (arith, last_by-push (λ (k : Extension). k.day) p.agreement.taken p.extensions e);
       };
     }
 

@@ -1,9 +1,10 @@
 ghost use Rattle.std.specs.Prelude.{◌≡◌, ◌≤◌, ◌↔◌, IsTrue, IfSome, IfNone};
 ghost use Rattle.pawn_terms.specs.Limits.{last_stamp_day};
+ghost use Rattle.pawn_terms.specs.Order.{DoNotFall, last_by};
 ghost use Rattle.pawn_debt.specs.Kept.{IsKept as IsOwed};
 ghost use Rattle.pawn_pledge.specs.Pledge.{debt_of, last_until, end_of, open_status, is_passed};
 ghost use Rattle.pawn_pledge.specs.Parts.{IsTyped, IsLimited, AreIssuedIn};
-ghost use Rattle.pawn_pledge.specs.Replayable.{Each, IsLaterIssue, AreIssued, AreDistinct, DoNotFall, last_issue, IsDrawnBy, AreExtended, last_extension, IsOverUnder, IsBooked, IsClosed, IsStanding};
+ghost use Rattle.pawn_pledge.specs.Replayable.{Each, IsLaterIssue, AreIssued, AreDistinct, IsDrawnBy, AreExtended, IsOverUnder, IsBooked, IsClosed, IsStanding};
 
 use crate::limits::{LAST_WINDOW, MOST_EXTENSIONS, MOST_SECRETS};
 use crate::record::{
@@ -26,7 +27,7 @@ pub struct Parts {
 
 // Whether each extension was agreed in the period as it then was, for a later end, and none after the last change.
 fn are_extended(taken: Day, first_end: Day, last: Day, extensions: &[Extension]) -> bool
-    ensures answer { IsTrue result ↔ (AreExtended taken first_end extensions.now × (last_extension taken extensions.now ≤ last)) }
+    ensures answer { IsTrue result ↔ (AreExtended taken first_end extensions.now × (last_by (λ e. e.day) taken extensions.now ≤ last)) }
 {
     let mut day = taken;
     let mut ends = first_end;
@@ -97,7 +98,7 @@ fn are_distinct(issued: &[Issued]) -> bool
 
 // Whether days don't fall, from the day taken to the last.
 fn do_not_fall(taken: Day, last: Day, issued: &[Issued]) -> bool
-    ensures answer { IsTrue result ↔ (DoNotFall taken issued.now × (last_issue taken issued.now ≤ last)) }
+    ensures answer { IsTrue result ↔ (DoNotFall (λ i. i.day) taken issued.now × (last_by (λ i. i.day) taken issued.now ≤ last)) }
 {
     let mut day = taken;
     for i in issued {
