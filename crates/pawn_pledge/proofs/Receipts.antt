@@ -1,5 +1,5 @@
 -- Which secret of a pledge is live.
-use Rattle.std.proofs.Common.{◌≡◌, ℕ, ◌-◌, ◌==◌, ◌||◌, Bool, true, false, List, [], ◌∷◌, ◌++◌, length, Some, None, refl, sym, ap, subst, ◌∙◌, arith, slice_get, length-append}
+use Rattle.std.proofs.Common.{◌≡◌, ℕ, ◌==◌, ◌||◌, Bool, true, false, List, [], ◌∷◌, ◌++◌, Option, Some, option_map, refl, sym, ap, subst, ◌∙◌}
 use Rattle.std.specs.List.{list_any}
 use Rattle.std.proofs.lemmas.Bool.{true≢false}
 use Rattle.std.proofs.lemmas.List.Folds.{list_any-append}
@@ -7,30 +7,19 @@ use Rattle.pawn_pledge.specs.declared.record.Issued.{Issued}
 use Rattle.pawn_pledge.specs.declared.record.Closing.{Closing}
 use Rattle.pawn_pledge.specs.declared.command.Stamp.{Stamp}
 use Rattle.pawn_pledge.specs.declared.command.Command.{Command}
-use Rattle.pawn_pledge.specs.declared.refusal.Refusal.{Refusal}
-use Rattle.pawn_pledge.specs.declared.refusal.Refusal.TheVariants as Refusal
-use Rattle.pawn_pledge.specs.Pledge.{PledgeValue, last_secret, live_under, live_of, total_on}
-use Rattle.std.specs.Prelude.{not}
+use Rattle.pawn_pledge.specs.Pledge.{PledgeValue, last_secret, live_under, live_of}
 use Rattle.pawn_pledge.specs.Words.{close, is_open, issue_of, with_secret}
-use Rattle.pawn_pledge.specs.Step.{Judged, Refused, Answered, Changed, bars, declare_bars, declare_step, pledge_step, pledge_after, redeem_step, unless}
+use Rattle.pawn_pledge.specs.Step.{Judged, Refused, Answered, Changed, bars, declare_bars, declare_step, pledge_step, pledge_after, redeem_bars, redeem_step, unless}
 use Rattle.pawn_pledge.specs.Laws.{EarlierAreSpent, IsReplacing, IsSpent, NeverLiveAgain}
 use Rattle.pawn_pledge.specs.declared.command.Done.{Done}
 use Rattle.pawn_pledge.specs.declared.command.Paper.{Paper}
-use Rattle.pawn_pledge.proofs.Moves.{IsGated, Move, changed-is, gate-is, unless-changed, pledge_moves, Entering, Holding, Declaring, Asking, Marking, Redeeming, Selling, Extending}
+use Rattle.pawn_pledge.proofs.Moves.{Move, changed-is, gate-is, unless-changed, pledge_moves, Entering, Declaring, Extending, Settling}
+use Rattle.pawn_pledge.proofs.Settled.{IsGated}
+use Rattle.pawn_pledge.proofs.Pushes.{last_element-push}
 
 -- no command gets past a closing
 pub closed-moved : (c : Closing) → is_open c ≡ false → c ≡ Closing.Open → ⊥
 closed-moved c shut is = true≢false (sym (ap is_open is) ∙ shut)
-
--- the last of a list that one was put on
-last_of-push : (xs : List Issued) (x : Issued) → slice_get (xs ++ x ∷ []) (length xs) ≡ Some x
-last_of-push [] x = refl
-last_of-push (y ∷ ys) x = last_of-push ys x
-
-last_secret-push : (xs : List Issued) (x : Issued) → last_secret (xs ++ x ∷ []) ≡ Some x.secret
-last_secret-push xs x =
-    let n : length (xs ++ x ∷ []) - 1 ≡ length xs = omega (arith, length-append xs (x ∷ [])) in
-    rw (n, last_of-push xs x) refl
 
 -- where secrets and closing stay, it stays so
 spent-same : (p q : PledgeValue) (secret : ℕ) → IsSpent p secret → q.secrets ≡ p.secrets → q.standing.closing ≡ p.standing.closing → IsSpent q secret
@@ -57,29 +46,27 @@ spent-declared p q x new secret old g secrets closing fresh =
       not_live = λ k.
           let live : live_of q ≡ Some new.secret =
           ap (λ (c : Closing). live_under c (last_secret q.secrets)) (closing ∙ g.standing)
-          ∙ ap (λ (l : List Issued). last_secret l) secrets ∙ last_secret-push p.secrets new in
+          ∙ ap last_secret secrets ∙ ap (option_map (λ (i : Issued). i.secret)) (last_element-push p.secrets new) in
           let e : Some new.secret ≡ Some secret = sym live ∙ k in
           let same : new.secret ≡ secret = cc in
           let F : ℕ → Type 0 = λ n. list_any (λ (i : Issued). i.secret == n) p.secrets ≡ false in
           true≢false (sym old ∙ subst F same fresh);
     }
 
+-- a closing makes no secret live
+live_under-some : (c : Closing) (o : Option ℕ) (secret : ℕ) → live_under c o ≡ Some secret → o ≡ Some secret
+live_under-some Closing.Open o secret h = h
+live_under-some (Closing.Redeemed day paid) o secret h = cc
+live_under-some (Closing.Sold day net) o secret h = h
+
 spent-moved : (p q : PledgeValue) (c : Command) (w x secret : ℕ) → IsSpent p secret → IsGated p x → Move p x w c q → IsSpent q secret
 spent-moved p q c w x secret h g (Entering sort pence ok late few drawn is) = spent-kept p q _ secret h is refl refl
-spent-moved p q c w x secret h g (Holding flag new is) = spent-kept p q _ secret h is refl refl
 spent-moved p q c w x secret h g (Declaring paper ok is) =
     spent-declared p q x (record { day = x; sort = issue_of paper; secret = w }) secret h.issued g (ap (λ (v : PledgeValue). v.secrets) is) (ap (λ (v : PledgeValue). v.standing.closing) is) ok.1.1.0
-spent-moved p q c w x secret h g (Asking b later live small state new named is) = spent-kept p q _ secret h is refl refl
-spent-moved p q c w x secret h g (Marking b state at new is) = spent-kept p q _ secret h is refl refl
-spent-moved p q c w x secret h g (Redeeming paid free total is) =
+spent-moved p q c w x secret h g (Settling s to is) =
     record {
       issued = ap (λ (v : PledgeValue). list_any (λ (i : Issued). i.secret == secret) v.secrets) is ∙ h.issued;
-      not_live = λ k. let none : None ≡ Some secret = sym (ap live_of is) ∙ k in cc;
-    }
-spent-moved p q c w x secret h g (Selling net status small is) =
-    record {
-      issued = ap (λ (v : PledgeValue). list_any (λ (i : Issued). i.secret == secret) v.secrets) is ∙ h.issued;
-      not_live = λ k. h.not_live (ap (λ (o : Closing). live_under o (last_secret p.secrets)) g.standing ∙ sym (ap live_of is) ∙ k);
+      not_live = λ k. h.not_live (ap (λ (o : Closing). live_under o (last_secret p.secrets)) g.standing ∙ live_under-some s.closing (last_secret p.secrets) secret (sym (ap live_of is) ∙ k));
     }
 spent-moved p q c w x secret h g (Extending until inside longer few named is) = spent-kept p q _ secret h is refl refl
 
@@ -115,8 +102,7 @@ spent-by-redemption : (p q : PledgeValue) (stamp : Stamp) (paid : ℕ) (d : Done
 spent-by-redemption p q stamp paid d secret issued h =
     let next : PledgeValue = close p stamp.day (Closing.Redeemed stamp.day paid) in
     let a = unless-changed (bars p stamp.day) (redeem_step p stamp.day paid) q d h in
-    let rows : List (Bool × Refusal) = (p.standing.held, Refusal.Held) ∷ (not (paid == total_on p stamp.day), Refusal.WrongAmount (total_on p stamp.day)) ∷ [] in
-    let b = unless-changed rows (Changed next (Done.Redeemed stamp.day paid)) q d a.1 in
+    let b = unless-changed (redeem_bars p stamp.day paid) (Changed next (Done.Redeemed stamp.day paid)) q d a.1 in
     let is : q ≡ next = changed-is next q _ d b.1 in
     record {
       issued = ap (λ (v : PledgeValue). list_any (λ (i : Issued). i.secret == secret) v.secrets) is ∙ issued;

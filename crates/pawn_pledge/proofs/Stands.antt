@@ -1,10 +1,11 @@
 -- What the tests on parts find makes a record that can stand.
-use Rattle.std.proofs.Common.{◌≡◌, ℕ, ◌+◌, ◌≤◌, ◌==◌, nat_le, Bool, true, false, ◌&&◌, if◌then◌else◌, List, [], ◌∷◌, ◌++◌, length, refl, sym, ◌∙◌, arith, length-append}
+use Rattle.std.proofs.Common.{◌≡◌, ℕ, ◌+◌, ◌≤◌, ◌==◌, nat_le, Bool, true, false, ◌&&◌, if◌then◌else◌, List, [], ◌∷◌, ◌++◌, length, None, refl, sym, ◌∙◌, arith, length-append}
 use Rattle.std.proofs.lemmas.Bool.{false≢true}
 use Rattle.std.proofs.lemmas.Bool.Decides.{nat_tests}
 use Rattle.pawn_pledge.specs.Parts.{IsTyped, IsLimited, AreIssuedIn}
 use Rattle.pawn_terms.specs.Calendar.{six_months}
 use Rattle.pawn_terms.specs.Terms.{IsChecked}
+use Rattle.pawn_terms.specs.Order.{last_by}
 use Rattle.pawn_debt.specs.declared.entry.Entry.{Entry}
 use Rattle.pawn_debt.specs.declared.owing.Totals.{Totals}
 use Rattle.pawn_debt.specs.Due.{DebtValue, credit_of, last_of}
@@ -12,9 +13,9 @@ use Rattle.pawn_debt.specs.Kept.{IsKept}
 use Rattle.pawn_debt.specs.Replay.{AreAccepted}
 use Rattle.pawn_pledge.specs.declared.record.Issued.{Issued}
 use Rattle.pawn_pledge.specs.declared.record.Status.TheVariants as Status
-use Rattle.pawn_pledge.specs.Pledge.{PledgeValue, end_of, is_small, debt_of, first_end, is_passed}
-use Rattle.pawn_pledge.specs.Replayable.{Each, IsNotPassed, DoNotFall, last_issue, AreNumbered, IsDrawnBy, AreExtended, last_extension, IsClosed, IsBooked, IsStanding}
-use Rattle.pawn_pledge.proofs.Pushes.{Each-map, AreOrdered-each}
+use Rattle.pawn_pledge.specs.Pledge.{PledgeValue, end_of, is_small, debt_of, end_with, is_passed}
+use Rattle.pawn_pledge.specs.Replayable.{Each, IsNotPassed, AreNumbered, IsDrawnBy, AreExtended, IsClosed, IsBooked, IsStanding}
+use Rattle.pawn_pledge.proofs.Pushes.{Each-map, DoNotFall-each}
 
 -- what is not passed on a day was not passed before
 early : (a b c d s : Bool) → (a ≡ true → c ≡ true) → (b ≡ true → d ≡ true)
@@ -39,15 +40,6 @@ not_passed-earlier p d x before h =
     early (nat_le x (end_of p)) (p.agreement.opening.five_days && nat_le x (end_of p + 5)) (nat_le d (end_of p)) (p.agreement.opening.five_days && nat_le d (end_of p + 5)) ((end_of p == six_months p.agreement.taken) && is_small (credit_of p.agreement.opening.kind))
     (le_earlier d x (end_of p) before) (grace_earlier p.agreement.opening.five_days d x (end_of p + 5) before) h
 
-last_issue-le : (day : ℕ) (is : List Issued) → DoNotFall day is → day ≤ last_issue day is
-last_issue-le day [] h = omega arith
-last_issue-le day (i ∷ is) h = omega (arith, h.0, last_issue-le i.day is h.1)
-
-issued-before : (p : PledgeValue) (day : ℕ) (is : List Issued) → DoNotFall day is → last_issue day is ≤ p.standing.last → IsNotPassed p p.standing.last → Each (λ i. IsNotPassed p i.day) is
-issued-before p day [] h before live = tt
-issued-before p day (i ∷ is) h before live =
-    (not_passed-earlier p i.day p.standing.last (omega (arith, before, last_issue-le i.day is h.1)) live, issued-before p i.day is h.1 before live)
-
 -- accepted entries are numbered
 pub accepted-numbered : (d : DebtValue) (prior es : List Entry) (n : ℕ) → n ≡ length prior + 1 → AreAccepted d prior es → AreNumbered n es
 accepted-numbered d prior [] n is h = tt
@@ -62,7 +54,7 @@ pub record IsFound (v : PledgeValue) (t : Totals) : Type 0 where
   pub typed : IsTyped v
   pub limited : IsLimited v
   pub taken : v.agreement.taken ≤ v.standing.last
-  pub extended : AreExtended v.agreement.taken (first_end v.agreement) v.extensions × (last_extension v.agreement.taken v.extensions ≤ v.standing.last)
+  pub extended : AreExtended v.agreement.taken (end_with v.agreement None) v.extensions × (last_by (λ e. e.day) v.agreement.taken v.extensions ≤ v.standing.last)
   pub kept : IsKept (debt_of v) t
   pub accepted : AreAccepted (debt_of v) [] v.entries
   pub entered : t.day ≤ v.standing.last
@@ -75,12 +67,13 @@ pub record IsFound (v : PledgeValue) (t : Totals) : Type 0 where
 pub stands : (v : PledgeValue) (t : Totals) → IsFound v t → IsStanding v
 stands v t f =
     let before : last_of v.agreement.taken v.entries ≤ v.standing.last = omega (arith, f.kept.day, f.entered) in
-    let days = AreOrdered-each v.agreement.taken v.agreement.taken v.standing.last v.entries (omega arith) f.kept.ordered before in
+    let days = DoNotFall-each (λ (e : Entry). e.day) v.agreement.taken v.agreement.taken v.standing.last v.entries (omega arith) f.kept.ordered before in
+    let issues = DoNotFall-each (λ (i : Issued). i.day) v.agreement.taken v.agreement.taken v.standing.last v.secrets (omega arith) f.issued.ordered f.issued.before in
     record {
       terms = f.terms;
       replayable = record {
         credit = (f.limited.some, f.limited.credit);
-        issued = record { sorts = f.issued.sorts; distinct = f.issued.distinct; ordered = f.issued.ordered; before = f.issued.before; not_passed = issued-before v v.agreement.taken v.secrets f.issued.ordered f.issued.before f.live };
+        issued = record { sorts = f.issued.sorts; distinct = f.issued.distinct; ordered = f.issued.ordered; before = f.issued.before; not_passed = Each-map _ (λ (i : Issued). IsNotPassed v i.day) v.secrets (λ i k. not_passed-earlier v i.day v.standing.last k.1 f.live) issues };
         entered = record {
           numbered = accepted-numbered (debt_of v) [] v.entries 1 (omega arith) f.accepted;
           ordered = f.kept.ordered;

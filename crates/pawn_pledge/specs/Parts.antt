@@ -1,11 +1,12 @@
 -- What is found of a record before a pledge is made.
 use Rattle.std.specs.Prelude.{◌≤◌, length, IfSome}
 use Rattle.pawn_terms.specs.Limits.{last_stamp_day}
+use Rattle.pawn_terms.specs.Order.{DoNotFall, last_by}
 use Rattle.pawn_debt.specs.Due.{credit_of}
 use Rattle.pawn_debt.specs.Limits.{most_pence}
 use Rattle.pawn_pledge.specs.Number.{IsNumber}
 use Rattle.pawn_pledge.specs.Pledge.{PledgeValue}
-use Rattle.pawn_pledge.specs.Replayable.{Each, IsOpening, AreIssued, AreDistinct, DoNotFall, last_issue}
+use Rattle.pawn_pledge.specs.Replayable.{Each, IsOpening, AreIssued, AreDistinct}
 use Rattle.pawn_pledge.specs.Limits.{most_secrets, most_extensions}
 
 -- what the types of parts keep
@@ -27,5 +28,5 @@ pub record IsLimited (p : PledgeValue) : Type 0 where
 pub record AreIssuedIn (p : PledgeValue) : Type 0 where
   pub sorts : AreIssued p.agreement.taken (credit_of p.agreement.opening.kind) p.secrets
   pub distinct : AreDistinct p.secrets
-  pub ordered : DoNotFall p.agreement.taken p.secrets
-  pub before : last_issue p.agreement.taken p.secrets ≤ p.standing.last
+  pub ordered : DoNotFall (λ i. i.day) p.agreement.taken p.secrets
+  pub before : last_by (λ i. i.day) p.agreement.taken p.secrets ≤ p.standing.last

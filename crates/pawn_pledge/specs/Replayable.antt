@@ -1,9 +1,10 @@
 -- Which records can have come about by commands.
-use Rattle.std.specs.Prelude.{◌≡◌, ℕ, ◌+◌, ◌≤◌, ◌<◌, ◌==◌, max, false, List, [], ◌∷◌, length, Option, Some, None, IfSome}
+use Rattle.std.specs.Prelude.{◌≡◌, ℕ, ◌+◌, ◌≤◌, ◌<◌, ◌==◌, false, List, [], ◌∷◌, length, Option, Some, None, IfSome}
 use Rattle.std.specs.List.{list_any}
 use Rattle.pawn_terms.specs.Calendar.{IsStampDay}
 use Rattle.pawn_terms.specs.Terms.{IsChecked}
 use Rattle.pawn_terms.specs.Limits.{last_stamp_day}
+use Rattle.pawn_terms.specs.Order.{DoNotFall, last_by}
 use Rattle.pawn_debt.specs.declared.entry.Entry.{Entry}
 use Rattle.pawn_debt.specs.declared.entry.Sort.{Sort}
 use Rattle.pawn_debt.specs.declared.entry.Sort.TheVariants.{Draw, Repay}
@@ -20,7 +21,7 @@ use Rattle.pawn_pledge.specs.declared.record.Status.TheVariants as Status
 use Rattle.pawn_pledge.specs.declared.record.Opening.{Opening}
 use Rattle.pawn_pledge.specs.Number.{IsNumber}
 use Rattle.pawn_pledge.specs.Text.{IsText}
-use Rattle.pawn_pledge.specs.Pledge.{PledgeValue, first_end, end_of, total_on, debt_of, open_status, is_passed}
+use Rattle.pawn_pledge.specs.Pledge.{PledgeValue, end_with, end_of, total_on, debt_of, open_status, is_passed}
 use Rattle.pawn_pledge.specs.Limits.{small_credit, most_secrets, most_extensions, last_window}
 
 -- each element of a list
@@ -49,16 +50,6 @@ abbrev pub AreDistinct : List Issued → Type 0
 AreDistinct [] = Unit {0}
 AreDistinct (i ∷ is) = (list_any (λ j. j.secret == i.secret) is ≡ false) × AreDistinct is
 
--- days don't fall
-abbrev pub DoNotFall : ℕ → List Issued → Type 0
-DoNotFall day [] = Unit {0}
-DoNotFall day (i ∷ is) = (day ≤ i.day) × DoNotFall i.day is
-
--- the day of the last secret, or the day before them all
-abbrev pub last_issue : ℕ → List Issued → ℕ
-last_issue day [] = day
-last_issue day (i ∷ is) = last_issue i.day is
-
 -- entries are numbered from a number on
 abbrev pub AreNumbered : ℕ → List Entry → Type 0
 AreNumbered n [] = Unit {0}
@@ -73,12 +64,7 @@ IsDrawnBy ends Repay day = Unit {0}
 abbrev pub AreExtended : ℕ → ℕ → List Extension → Type 0
 AreExtended day ends [] = Unit {0}
 AreExtended day ends (e ∷ es) =
-    (day ≤ e.day) × (e.day ≤ ends) × (ends < e.until) × AreExtended e.day (max ends e.until) es
-
--- the day of the last extension, or the day before them all
-abbrev pub last_extension : ℕ → List Extension → ℕ
-last_extension day [] = day
-last_extension day (e ∷ es) = last_extension e.day es
+    (day ≤ e.day) × (e.day ≤ ends) × (ends < e.until) × AreExtended e.day e.until es
 
 -- a pledge is closed on the day of its last change, on payment of all that is owing then or by a sale
 abbrev pub IsClosed : PledgeValue → Closing → Type 0
@@ -90,14 +76,12 @@ IsClosed p (Closing.Sold day net) = (day ≡ p.standing.last) × (open_status p 
 abbrev pub IsOver : BookingState → Type 0
 IsOver BookingState.Asked = ⊥
 IsOver BookingState.Confirmed = ⊥
-IsOver BookingState.Refused = Unit {0}
-IsOver BookingState.Cancelled = Unit {0}
+IsOver other = Unit {0}
 
 -- on a closed pledge no booking stands
 abbrev pub IsOverUnder : Closing → BookingState → Type 0
 IsOverUnder Closing.Open state = Unit {0}
-IsOverUnder (Closing.Redeemed day paid) state = IsOver state
-IsOverUnder (Closing.Sold day net) state = IsOver state
+IsOverUnder closed state = IsOver state
 
 -- a booking for a day in the pledge's time
 abbrev pub IsBooked : PledgeValue → Option Booking → Type 0
@@ -108,8 +92,8 @@ IsBooked p (Some b) = (p.agreement.taken ≤ b.day) × IsNotPassed p b.day × (b
 pub record IsIssued (p : PledgeValue) : Type 0 where
   pub sorts : AreIssued p.agreement.taken (credit_of p.agreement.opening.kind) p.secrets
   pub distinct : AreDistinct p.secrets
-  pub ordered : DoNotFall p.agreement.taken p.secrets
-  pub before : last_issue p.agreement.taken p.secrets ≤ p.standing.last
+  pub ordered : DoNotFall (λ i. i.day) p.agreement.taken p.secrets
+  pub before : last_by (λ i. i.day) p.agreement.taken p.secrets ≤ p.standing.last
   pub not_passed : Each (λ i. IsNotPassed p i.day) p.secrets
 
 -- the entries: the rules accept each after those before it
@@ -123,8 +107,8 @@ pub record IsEntered (p : PledgeValue) : Type 0 where
 
 -- the extensions
 pub record IsExtended (p : PledgeValue) : Type 0 where
-  pub each : AreExtended p.agreement.taken (first_end p.agreement) p.extensions
-  pub before : last_extension p.agreement.taken p.extensions ≤ p.standing.last
+  pub each : AreExtended p.agreement.taken (end_with p.agreement None) p.extensions
+  pub before : last_by (λ e. e.day) p.agreement.taken p.extensions ≤ p.standing.last
 
 -- a record that can have come about by commands
 pub record IsReplayable (p : PledgeValue) : Type 0 where

@@ -78,7 +78,7 @@ fn request_of(order: &Order) -> Result<Request, Fail> {
             key: Secret::of_word(KEY),
             asked: BrokerRequest::OnPledge {
                 number,
-                command: BrokerCommand::new(command).ok_or("no broker's command")?,
+                command: BrokerCommand::try_from(command).ok().ok_or("no broker's command")?,
             },
         },
         Who::Bearer(word, command) => Caller::Bearer(BearerRequest::OnPledge {
@@ -86,7 +86,7 @@ fn request_of(order: &Order) -> Result<Request, Fail> {
                 number,
                 secret: Secret::of_word(word),
             },
-            command: BearerCommand::new(command).ok_or("no bearer's command")?,
+            command: BearerCommand::try_from(command).ok().ok_or("no bearer's command")?,
         }),
     };
     Ok(Request {
