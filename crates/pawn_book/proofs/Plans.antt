@@ -14,7 +14,7 @@ use Rattle.pawn_debt.specs.Due.{credit_of}
 use Rattle.pawn_pledge.specs.declared.refusal.Refusal.{Refusal as PledgeRefusal}
 use Rattle.pawn_pledge.specs.Replayable.{IsStanding}
 use Rattle.pawn_pledge.specs.Text.{IsText}
-use Rattle.pawn_pledge.specs.Step.{started}
+use Rattle.pawn_pledge.specs.Step.{pledge_start}
 use Rattle.std.specs.Result.{result_unwrap_or}
 use Rattle.pawn_pledge.specs.declared.record.Opening.{Opening}
 use Rattle.pawn_pledge.specs.declared.command.Stamp.{Stamp}
@@ -174,9 +174,9 @@ pub record IsTakenAs (head : BookHead) (opening : Opening) (stamp : Stamp) (newe
 
 pub taken_is : (head : BookHead) (opening : Opening) (stamp : Stamp) (newest : Option Rates) (p : PledgeValue) → taken_under head opening stamp newest ≡ Ok p → IsTakenAs head opening stamp newest p
 taken_is head opening stamp None p is = cc is
-taken_is head opening stamp (Some terms) p is = from (started (head.pledges + 1) opening head.terms terms stamp) refl is
+taken_is head opening stamp (Some terms) p is = from (pledge_start (head.pledges + 1) opening head.terms terms stamp) refl is
   where
-    from : (r : Result PledgeValue PledgeRefusal) → started (head.pledges + 1) opening head.terms terms stamp ≡ r → with_room head.pledges (under_pledge r) ≡ Ok p
+    from : (r : Result PledgeValue PledgeRefusal) → pledge_start (head.pledges + 1) opening head.terms terms stamp ≡ r → with_room head.pledges (under_pledge r) ≡ Ok p
         → IsTakenAs head opening stamp (Some terms) p
     from (Err why) at is = cc is
     from (Ok q) at is =

@@ -5,7 +5,7 @@ use Rattle.std.proofs.lemmas.Bool.Decides.{nat_tests}
 use Rattle.pawn_pledge.specs.declared.command.Command.{Command}
 use Rattle.pawn_pledge.specs.declared.command.Done.{Done}
 use Rattle.pawn_pledge.specs.declared.command.Stamp.{Stamp}
-use Rattle.pawn_pledge.specs.Laws.{entering}
+use Rattle.pawn_pledge.specs.Laws.{entry_command}
 use Rattle.pawn_pledge.specs.Pledge.{PledgeValue, end_of}
 use Rattle.pawn_pledge.specs.Step.{Answered, pledge_step}
 use Rattle.pawn_pledge.proofs.Repeats.{entered_again, extended-made, standing_end_is_answered}
@@ -66,12 +66,12 @@ told_to book operator b stamp (Bearer (OnReceipt r own)) n command p done asks p
 -- an entry is told again
 pub entry_told_to_all : EntriesActOnceForAll
 entry_told_to_all before operator b stamp again caller other n sort seq pence change reply later sound asks asks' is passes =
-    let did = did_on before operator b stamp caller n (entering sort seq pence) change reply asks is in
-    let stands = stands_after before operator b n stamp (entering sort seq pence) change reply later did in
+    let did = did_on before operator b stamp caller n (entry_command sort seq pence) change reply asks is in
+    let stands = stands_after before operator b n stamp (entry_command sort seq pence) change reply later did in
     let q = stands.3.0 in
     let told = entered_again did.old did.next q stamp again sort seq pence did.done (numbered_in before n did.old sound did.stands) did.step stands.3.2.lists in
     ap (λ o. book_step o operator b again other) stands.1
-    ∙ told_to stands.0 operator b again other n (entering sort seq pence) q did.done asks' (subst (λ (o : Option BookValue). Passes o other) stands.1 passes) stands.3.1 told
+    ∙ told_to stands.0 operator b again other n (entry_command sort seq pence) q did.done asks' (subst (λ (o : Option BookValue). Passes o other) stands.1 passes) stands.3.1 told
     ∙ ap (λ r. Says (Told r)) (sym did.says)
 
 -- whoever asked passes still: the broker by the key, and a bearer while the receipt is live
@@ -90,7 +90,7 @@ still_passes before operator b stamp (Bearer request) n command change reply lat
 pub entry_told : EntriesActOnce
 entry_told before operator b stamp again caller n sort seq pence change reply later sound asks is passes =
     entry_told_to_all before operator b stamp again caller caller n sort seq pence change reply later sound asks asks is
-    (still_passes before operator b stamp caller n (entering sort seq pence) change reply later asks is passes)
+    (still_passes before operator b stamp caller n (entry_command sort seq pence) change reply later asks is passes)
 
 pub standing_end_is_told : StandingEndIsTold
 standing_end_is_told book operator b n stamp p at may =

@@ -16,7 +16,7 @@ use Rattle.pawn_pledge.specs.declared.record.Opening.{Opening}
 use Rattle.pawn_pledge.specs.declared.receipt.Receipt.{Receipt}
 use Rattle.pawn_pledge.specs.declared.record.Issued.{Issued}
 use Rattle.pawn_pledge.specs.Pledge.{PledgeValue, live_of}
-use Rattle.pawn_pledge.specs.Step.{Judged, Refused, Answered, Changed, started, pledge_step}
+use Rattle.pawn_pledge.specs.Step.{Judged, Refused, Answered, Changed, pledge_start, pledge_step}
 use Rattle.pawn_pledge.specs.declared.refusal.Refusal.{Refusal as PledgeRefusal}
 use Rattle.pawn_book.specs.declared.refusal.Refusal.{Refusal}
 use Rattle.pawn_book.specs.declared.refusal.Refusal.TheVariants.{Pledge, Terms, NoSuchBook, NoSuchReceipt, NoSuchPledge, BookTaken, NoTerms, TermsSeq, RefTaken, WindowFull, NotOperator, TermsFull, PledgesFull}
@@ -209,7 +209,7 @@ with_room standing (Err why) = Err why
 abbrev pub taken_under : BookHead → Opening → Stamp → Option Rates → Result PledgeValue Refusal
 taken_under head opening stamp None = Err NoTerms
 taken_under head opening stamp (Some terms) =
-    with_room head.pledges (under_pledge (started (head.pledges + 1) opening head.terms terms stamp))
+    with_room head.pledges (under_pledge (pledge_start (head.pledges + 1) opening head.terms terms stamp))
 
 -- TakePledge: an equal opening is answered as the first time
 abbrev pub take_pledge : BookValue → ℕ → Opening → Stamp → Option PledgeValue → Outcome

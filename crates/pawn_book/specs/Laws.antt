@@ -4,7 +4,7 @@ use Rattle.pawn_debt.specs.declared.entry.Sort.{Sort}
 use Rattle.pawn_pledge.specs.declared.command.Command.{Command}
 use Rattle.pawn_pledge.specs.declared.command.Done.{Done}
 use Rattle.pawn_pledge.specs.declared.command.Stamp.{Stamp}
-use Rattle.pawn_pledge.specs.Laws.{MayExtend, entering}
+use Rattle.pawn_pledge.specs.Laws.{MayExtend, entry_command}
 use Rattle.pawn_pledge.specs.Pledge.{PledgeValue, end_of}
 use Rattle.pawn_book.specs.declared.request.Caller.{Caller}
 use Rattle.pawn_book.specs.declared.request.Caller.TheVariants.{Operator, Broker, Bearer}
@@ -82,7 +82,7 @@ abbrev pub EntriesActOnce : Type 0
 EntriesActOnce =
     (before : BookValue) (operator b : ℕ) (stamp again : Stamp) (caller : Caller) (n : ℕ) (sort : Sort) (seq pence : ℕ)
     (change : Change) (reply : Reply) (later : List (Stamp × Caller))
-    → IsSoundBook before → Asks caller n (entering sort seq pence) → book_step (Some before) operator b stamp caller ≡ Makes change reply
+    → IsSoundBook before → Asks caller n (entry_command sort seq pence) → book_step (Some before) operator b stamp caller ≡ Makes change reply
     → StillPasses (book_run (changed_book (Some before) change) operator b later) caller
     → book_step (book_run (changed_book (Some before) change) operator b later) operator b again caller ≡ Says (Told reply)
 
@@ -98,7 +98,7 @@ abbrev pub EntriesActOnceForAll : Type 0
 EntriesActOnceForAll =
     (before : BookValue) (operator b : ℕ) (stamp again : Stamp) (caller other : Caller) (n : ℕ) (sort : Sort) (seq pence : ℕ)
     (change : Change) (reply : Reply) (later : List (Stamp × Caller))
-    → IsSoundBook before → Asks caller n (entering sort seq pence) → Asks other n (entering sort seq pence)
+    → IsSoundBook before → Asks caller n (entry_command sort seq pence) → Asks other n (entry_command sort seq pence)
     → book_step (Some before) operator b stamp caller ≡ Makes change reply
     → Passes (book_run (changed_book (Some before) change) operator b later) other
     → book_step (book_run (changed_book (Some before) change) operator b later) operator b again other ≡ Says (Told reply)

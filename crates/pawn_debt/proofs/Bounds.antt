@@ -11,10 +11,10 @@ use Rattle.pawn_debt.specs.declared.entry.Kind.{Kind}
 use Rattle.pawn_debt.specs.declared.entry.Kind.TheVariants.{Fixed, Running}
 use Rattle.pawn_debt.specs.declared.entry.Sort.{Sort}
 use Rattle.pawn_debt.specs.declared.entry.Sort.TheVariants.{Draw, Repay}
-use Rattle.pawn_debt.specs.Due.{Due, DebtValue, due, due_after, carried, keep_on, last_of, AreOrdered, after_sort, first_principal, credit_of}
+use Rattle.pawn_debt.specs.Due.{Due, DebtValue, due, due_after, after_days, keep_on, last_of, AreOrdered, after_sort, first_principal, credit_of}
 use Rattle.pawn_debt.specs.Answers.{draw_rows, repay_rows, with_entry}
 use Rattle.pawn_debt.specs.Replay.{IsAccepted, AreAccepted, sort_answer}
-use Rattle.pawn_debt.proofs.DueLemmas.{carried-principal}
+use Rattle.pawn_debt.proofs.DueLemmas.{after_days-principal}
 use Rattle.pawn_debt.proofs.EntryLemmas.{due-from-last, due-pushed, due-start, pushed, last-le, AreOrdered-push, last_of-push}
 use Rattle.pawn_debt.specs.Limits.{most_pence, most_a_day}
 
@@ -26,13 +26,13 @@ keep-small t ends x h = from (nat_le x ends)
     from false = omega (arith, h.1, h.2)
 
 -- no day adds more than the most
-carried-small : (t : Rates) (ends x n : ℕ) (o : Due) → IsChecked t → o.principal ≤ most_pence → (carried t ends x n o).millionths ≤ o.millionths + n * most_a_day
-unfolding carried
-carried-small t ends x zero o h small = omega arith
-carried-small t ends x (suc n) o h small =
-    let less = carried-small t ends x n o h small in
-    let same = carried-principal t ends x n o in
-    let interest : (carried t ends x n o).principal * t.rate ≤ 100000000 * 20000 = mul-le _ _ 100000000 20000 (omega (arith, same, small)) h.0 in
+after_days-small : (t : Rates) (ends x n : ℕ) (o : Due) → IsChecked t → o.principal ≤ most_pence → (after_days t ends x n o).millionths ≤ o.millionths + n * most_a_day
+unfolding after_days
+after_days-small t ends x zero o h small = omega arith
+after_days-small t ends x (suc n) o h small =
+    let less = after_days-small t ends x n o h small in
+    let same = after_days-principal t ends x n o in
+    let interest : (after_days t ends x n o).principal * t.rate ≤ 100000000 * 20000 = mul-le _ _ 100000000 20000 (omega (arith, same, small)) h.0 in
     let keep = keep-small t ends (x + suc n) h in
     omega (arith, less, interest, keep)
 
@@ -51,8 +51,8 @@ later-bounded p x h r late =
     let last = last_of p.taken p.entries in
     let low = last-le p.taken p.entries r.ordered in
     let e = due-from-last p x r.ordered late in
-    let same = carried-principal p.terms p.ends last (x - last) (due p last) in
-    let small = carried-small p.terms p.ends last (x - last) (due p last) h r.bounded.principal in
+    let same = after_days-principal p.terms p.ends last (x - last) (due p last) in
+    let small = after_days-small p.terms p.ends last (x - last) (due p last) h r.bounded.principal in
     record {
       principal = omega (arith, ap (λ (o : Due). o.principal) e, same, r.bounded.principal);
       millionths = omega (arith, ap (λ (o : Due). o.millionths) e, small, r.bounded.millionths, low, late);

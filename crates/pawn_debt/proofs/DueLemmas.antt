@@ -3,7 +3,7 @@ use Rattle.std.proofs.Common.{◌≡◌, ℕ, zero, suc, ◌+◌, ◌-◌, ◌*�
 use Rattle.std.proofs.lemmas.Bool.{cases_lt}
 use Rattle.std.proofs.lemmas.Bool.Decides.{nat_tests}
 use Rattle.pawn_terms.specs.declared.terms.Rates.{Rates}
-use Rattle.pawn_debt.specs.Due.{Due, carried, keep_on}
+use Rattle.pawn_debt.specs.Due.{Due, after_days, keep_on}
 
 -- the days of the n after x that are not past the end
 abbrev pub days_inside : ℕ → ℕ → ℕ → ℕ
@@ -21,35 +21,35 @@ pub keep_on-past : (t : Rates) (ends x : ℕ) → ends < x → keep_on t ends x 
 keep_on-past t ends x h = let e : nat_le x ends ≡ false = grind (arith, nat_tests) in rw e refl
 
 -- the principal stays
-pub carried-principal : (t : Rates) (ends x n : ℕ) (o : Due) → (carried t ends x n o).principal ≡ o.principal
-unfolding carried
-carried-principal t ends x zero o = refl
-carried-principal t ends x (suc n) o = carried-principal t ends x n o
+pub after_days-principal : (t : Rates) (ends x n : ℕ) (o : Due) → (after_days t ends x n o).principal ≡ o.principal
+unfolding after_days
+after_days-principal t ends x zero o = refl
+after_days-principal t ends x (suc n) o = after_days-principal t ends x n o
 
 -- charges up to the end of the period
-carried-inside : (t : Rates) (ends x n : ℕ) (o : Due) → x + n ≤ ends → (carried t ends x n o).millionths ≡ o.millionths + n * (o.principal * t.rate) + n * t.keep_before
-unfolding carried
-carried-inside t ends x zero o h = omega arith
-carried-inside t ends x (suc n) o h =
-    let ih = carried-inside t ends x n o (omega arith) in
+after_days-inside : (t : Rates) (ends x n : ℕ) (o : Due) → x + n ≤ ends → (after_days t ends x n o).millionths ≡ o.millionths + n * (o.principal * t.rate) + n * t.keep_before
+unfolding after_days
+after_days-inside t ends x zero o h = omega arith
+after_days-inside t ends x (suc n) o h =
+    let ih = after_days-inside t ends x n o (omega arith) in
     let k = keep_on-inside t ends (x + suc n) h in
-    let p = carried-principal t ends x n o in
+    let p = after_days-principal t ends x n o in
     rw (ih, k, p) (omega arith)
 
 -- charges over days that go past it
-carried-past : (t : Rates) (ends x n : ℕ) (o : Due) → ends ≤ x + n → (carried t ends x n o).millionths ≡ o.millionths + n * (o.principal * t.rate) + (ends - x) * t.keep_before + (n - (ends - x)) * t.keep_after
-unfolding carried
-carried-past t ends x zero o h = let z : ends - x ≡ 0 = omega arith in rw z (omega arith)
-carried-past t ends x (suc n) o h =
-    let p = carried-principal t ends x n o in
+after_days-past : (t : Rates) (ends x n : ℕ) (o : Due) → ends ≤ x + n → (after_days t ends x n o).millionths ≡ o.millionths + n * (o.principal * t.rate) + (ends - x) * t.keep_before + (n - (ends - x)) * t.keep_after
+unfolding after_days
+after_days-past t ends x zero o h = let z : ends - x ≡ 0 = omega arith in rw z (omega arith)
+after_days-past t ends x (suc n) o h =
+    let p = after_days-principal t ends x n o in
     elim (cases_lt ends (x + suc n)) [
       | inl past ↦
-          let ih = carried-past t ends x n o (omega arith) in
+          let ih = after_days-past t ends x n o (omega arith) in
           let k = keep_on-past t ends (x + suc n) past in
           let m : suc n - (ends - x) ≡ suc (n - (ends - x)) = omega arith in
           rw (ih, k, p, m) (omega arith)
       | inr last ↦
-          let ih = carried-inside t ends x n o (omega arith) in
+          let ih = after_days-inside t ends x n o (omega arith) in
           let k = keep_on-inside t ends (x + suc n) last in
           let e : ends - x ≡ suc n = omega arith in
           let m : suc n - suc n ≡ 0 = omega arith in
@@ -57,16 +57,16 @@ carried-past t ends x (suc n) o h =
     ]
 
 -- what n days without entries add, in one multiplication
-pub carried-millionths : (t : Rates) (ends x n : ℕ) (o : Due) → (carried t ends x n o).millionths ≡ o.millionths + n * (o.principal * t.rate) + days_inside ends x n * t.keep_before + (n - days_inside ends x n) * t.keep_after
-carried-millionths t ends x n o =
+pub after_days-millionths : (t : Rates) (ends x n : ℕ) (o : Due) → (after_days t ends x n o).millionths ≡ o.millionths + n * (o.principal * t.rate) + days_inside ends x n * t.keep_before + (n - days_inside ends x n) * t.keep_after
+after_days-millionths t ends x n o =
     elim (cases_lt ends (x + n)) [
-      | inl past ↦ let e : days_inside ends x n ≡ ends - x = omega arith in rw e (carried-past t ends x n o (omega arith))
+      | inl past ↦ let e : days_inside ends x n ≡ ends - x = omega arith in rw e (after_days-past t ends x n o (omega arith))
       | inr inside ↦
           let e : days_inside ends x n ≡ n = omega arith in
           let m : n - n ≡ 0 = omega arith in
-          rw (e, m) (omega (arith, carried-inside t ends x n o inside))
+          rw (e, m) (omega (arith, after_days-inside t ends x n o inside))
     ]
 
 -- the same, of the two numbers that are kept
-pub carried-is : (t : Rates) (ends x n : ℕ) (o : Due) (charges : ℕ) → charges ≡ o.millionths + n * (o.principal * t.rate) + days_inside ends x n * t.keep_before + (n - days_inside ends x n) * t.keep_after → record { principal = o.principal; millionths = charges } ≡ carried t ends x n o
-carried-is t ends x n o charges e = due_eq _ _ (sym (carried-principal t ends x n o)) (e ∙ sym (carried-millionths t ends x n o))
+pub after_days-is : (t : Rates) (ends x n : ℕ) (o : Due) (charges : ℕ) → charges ≡ o.millionths + n * (o.principal * t.rate) + days_inside ends x n * t.keep_before + (n - days_inside ends x n) * t.keep_after → record { principal = o.principal; millionths = charges } ≡ after_days t ends x n o
+after_days-is t ends x n o charges e = due_eq _ _ (sym (after_days-principal t ends x n o)) (e ∙ sym (after_days-millionths t ends x n o))

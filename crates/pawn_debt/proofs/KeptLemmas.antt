@@ -4,19 +4,19 @@ use Rattle.pawn_terms.specs.Calendar.{IsDayNumber}
 use Rattle.pawn_debt.specs.declared.entry.Entry.{Entry}
 use Rattle.pawn_debt.specs.declared.owing.Totals.{Totals}
 use Rattle.pawn_debt.specs.declared.entry.Sort.{Sort}
-use Rattle.pawn_debt.specs.Due.{Due, DebtValue, due, carried, last_of, after_sort, due_after, first_principal, credit_of}
+use Rattle.pawn_debt.specs.Due.{Due, DebtValue, due, after_days, last_of, after_sort, due_after, first_principal, credit_of}
 use Rattle.pawn_debt.specs.Kept.{IsKept, owed_of}
 use Rattle.pawn_debt.specs.Answers.{with_entry}
 use Rattle.pawn_debt.proofs.EntryLemmas.{due-from-last, due-pushed, last-le, AreOrdered-push, last_of-push, due-start, due-extended}
 use Rattle.pawn_debt.specs.Limits.{most_pence, most_entries, most_a_day}
 
 -- what is owed on a later day; v is the value that a contract sees, and p what the fields hold
-pub owed-later : (p v : DebtValue) (t : Totals) (x : ℕ) → IsKept p t → p ≡ v → last_of v.taken v.entries ≤ x → carried p.terms p.ends t.day (x - t.day) (owed_of t) ≡ due v x
+pub owed-later : (p v : DebtValue) (t : Totals) (x : ℕ) → IsKept p t → p ≡ v → last_of v.taken v.entries ≤ x → after_days p.terms p.ends t.day (x - t.day) (owed_of t) ≡ due v x
 owed-later p v t x h is late =
     let P : DebtValue → Type 0 = λ q. last_of q.taken q.entries ≤ x in
     let held : last_of p.taken p.entries ≤ x = subst P (sym is) late in
-    ap (λ (o : Due). carried p.terms p.ends t.day (x - t.day) o) h.owed
-    ∙ ap (λ (y : ℕ). carried p.terms p.ends y (x - y) (due p y)) h.day
+    ap (λ (o : Due). after_days p.terms p.ends t.day (x - t.day) o) h.owed
+    ∙ ap (λ (y : ℕ). after_days p.terms p.ends y (x - y) (due p y)) h.day
     ∙ due-from-last p x h.ordered held ∙ ap (λ (q : DebtValue). due q x) is
 
 -- and a bound on its charges

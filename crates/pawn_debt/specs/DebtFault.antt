@@ -26,9 +26,4 @@ name_of Memory = codes "Memory"
 -- what was owing, where more was paid
 abbrev pub fault_total : DebtFault → Option ℕ
 fault_total (OverOwing total) = Some total
-fault_total BadAmount = None
-fault_total FixedSum = None
-fault_total OverLimit = None
-fault_total EarlierDay = None
-fault_total EntriesFull = None
-fault_total Memory = None
+fault_total other = None

@@ -54,8 +54,8 @@ keep_on terms ends x = if nat_le x ends then terms.keep_before else terms.keep_a
 
 -- what is owed on the day x before its entries, from what was owed on the day before: the charges grow
 -- by interest on the principal and by safe keeping
-abbrev pub accrued : Rates → ℕ → ℕ → Due → Due
-accrued terms ends x due =
+abbrev pub after_charges : Rates → ℕ → ℕ → Due → Due
+after_charges terms ends x due =
     record { principal = due.principal; millionths = due.millionths + due.principal * terms.rate + keep_on terms ends x }
 
 -- the entries of a day, in order
@@ -67,16 +67,16 @@ unfoldable pub due_after : DebtValue → ℕ → Due
 due_after p zero =
     after_entries (record { principal = first_principal p.kind; millionths = 0 }) (entries_on p.entries p.taken)
 due_after p (suc n) =
-    after_entries (accrued p.terms p.ends (p.taken + suc n) (due_after p n)) (entries_on p.entries (p.taken + suc n))
+    after_entries (after_charges p.terms p.ends (p.taken + suc n) (due_after p n)) (entries_on p.entries (p.taken + suc n))
 
 -- what is owed on the day x
 abbrev pub due : DebtValue → ℕ → Due
 due p x = due_after p (x - p.taken)
 
 -- what is owed n days after the day x, where no entries come in between
-unfoldable pub carried : Rates → ℕ → ℕ → ℕ → Due → Due
-carried terms ends x zero owed = owed
-carried terms ends x (suc n) owed = accrued terms ends (x + suc n) (carried terms ends x n owed)
+unfoldable pub after_days : Rates → ℕ → ℕ → ℕ → Due → Due
+after_days terms ends x zero owed = owed
+after_days terms ends x (suc n) owed = after_charges terms ends (x + suc n) (after_days terms ends x n owed)
 
 -- the day of the last entry, or the day before them all
 abbrev pub last_of : ℕ → List Entry → ℕ

@@ -10,7 +10,7 @@ use Rattle.pawn_debt.specs.declared.entry.Kind.TheVariants.{Fixed, Running}
 use Rattle.pawn_debt.specs.declared.entry.Sort.TheVariants.{Draw, Repay}
 use Rattle.pawn_debt.specs.declared.owing.Owing.{Owing}
 use Rattle.pawn_debt.specs.declared.fault.DebtFault.TheVariants.{BadAmount, FixedSum, OverLimit, OverOwing, EarlierDay, EntriesFull}
-use Rattle.pawn_debt.specs.Due.{Due, DebtValue, due, carried}
+use Rattle.pawn_debt.specs.Due.{Due, DebtValue, due, after_days}
 use Rattle.pawn_debt.specs.Owing.{owing_of}
 use Rattle.pawn_debt.specs.Answers.{draw_answer, repay_answer, start_answer, with_entry}
 use Rattle.pawn_debt.specs.Kept.{totals_of}
@@ -65,7 +65,7 @@ abbrev pub WorkedTotals : Type 0
 WorkedTotals =
     (totals_of at_interest ≡ record { day = date 2024 1 1; principal = 10000; millionths = 0 })
     × (totals_of repaid_in_part ≡ record { day = date 2024 1 31; principal = 9800; millionths = 100000 })
-    × (owing_of (carried (rates_of 2667 0 0) (date 2024 7 1) (date 2024 1 31) (date 2024 3 1 - date 2024 1 31) (pence_and_millionths 9800 100000)) ≡ owed 9800 784 10584)
+    × (owing_of (after_days (rates_of 2667 0 0) (date 2024 7 1) (date 2024 1 31) (date 2024 3 1 - date 2024 1 31) (pence_and_millionths 9800 100000)) ≡ owed 9800 784 10584)
 
 -- a penny a day for safe keeping up to the end, and half a penny after it
 abbrev pub in_safe_keeping : DebtValue

@@ -10,7 +10,7 @@ ghost use Rattle.pawn_debt.specs.Limits.{most_pence, most_entries, most_a_day, m
 use crate::entry::{Entries, Entry, Kind, Sort, find_entry};
 use crate::fault::DebtFault;
 use crate::limits::{MOST_ENTRIES, MOST_PENCE};
-use crate::owing::{Owing, Totals, after_draw, after_repay, carry, owing_after};
+use crate::owing::{Owing, Totals, after_days, after_draw, after_repay, owing_after};
 use crate::replay::replay_entries;
 use pawn_terms::{Day, Terms};
 use std::alloc::{AllocError, Global};
@@ -126,7 +126,7 @@ impl Debt {
         ensures millionths_in { result.millionths ≤ (day - self.now.taken) * most_a_day }
         ensures in_range { IsDayNumber day }
     {
-        carry(&self.totals, self.terms, self.ends, day)
+        after_days(&self.totals, self.terms, self.ends, day)
     }
 
     /// What is owed on a day that is not before the last entry or the day taken.

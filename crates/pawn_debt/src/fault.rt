@@ -61,12 +61,7 @@ impl DebtFault {
     {
         match self {
             DebtFault::OverOwing { total } => Some(total),
-            DebtFault::BadAmount
-            | DebtFault::FixedSum
-            | DebtFault::OverLimit
-            | DebtFault::EarlierDay
-            | DebtFault::EntriesFull
-            | DebtFault::Memory => None,
+            _ => None,
         }
     }
 }

@@ -1,7 +1,7 @@
 ghost use Rattle.std.specs.Prelude.{◌≡◌, ◌+◌, ◌-◌, ◌*◌, ◌≤◌};
 ghost use Rattle.pawn_terms.specs.Calendar.{IsDayNumber};
 ghost use Rattle.pawn_debt.specs.declared.entry.Sort.TheVariants.{Draw, Repay};
-ghost use Rattle.pawn_debt.specs.Due.{carried, after_sort};
+ghost use Rattle.pawn_debt.specs.Due.{after_days, after_sort};
 ghost use Rattle.pawn_debt.specs.Owing.{total_of, owing_of};
 ghost use Rattle.pawn_debt.specs.Kept.{owed_of};
 ghost use Rattle.pawn_debt.specs.Limits.{most_pence, most_a_day, most_millionths};
@@ -28,12 +28,12 @@ pub struct Totals {
 }
 
 // What is owed on a later day, from what was owed on an earlier one, where no entries come in between.
-pub(crate) fn carry(totals: &Totals, terms: Terms, ends: Day, day: Day) -> Totals
+pub(crate) fn after_days(totals: &Totals, terms: Terms, ends: Day, day: Day) -> Totals
     requires later { totals.now.day ≤ day }
     requires principal_in { totals.now.principal ≤ most_pence }
     requires millionths_in { totals.now.millionths ≤ most_millionths }
     ensures day { result.day ≡ day }
-    ensures owed { owed_of result ≡ carried terms ends totals.now.day (day - totals.now.day) (owed_of totals.now) }
+    ensures owed { owed_of result ≡ after_days terms ends totals.now.day (day - totals.now.day) (owed_of totals.now) }
     ensures principal { result.principal ≡ totals.now.principal }
     ensures small { result.millionths ≤ totals.now.millionths + (day - totals.now.day) * most_a_day }
     ensures in_range { IsDayNumber result.day }
@@ -56,9 +56,9 @@ pub fn owing_from(totals: &Totals, terms: &Terms, ends: Day, day: Day) -> Owing
     requires later { totals.now.day ≤ day }
     requires principal_in { totals.now.principal ≤ most_pence }
     requires millionths_in { totals.now.millionths ≤ most_millionths }
-    ensures value { result ≡ owing_of (carried terms.now ends totals.now.day (day - totals.now.day) (owed_of totals.now)) }
+    ensures value { result ≡ owing_of (after_days terms.now ends totals.now.day (day - totals.now.day) (owed_of totals.now)) }
 {
-    owing_after(&carry(totals, *terms, ends, day))
+    owing_after(&after_days(totals, *terms, ends, day))
 }
 
 // The pence that are owed.

@@ -8,7 +8,7 @@ ghost use Rattle.pawn_debt.specs.Limits.{most_pence, most_a_day};
 
 use crate::entry::{Entry, Kind, Sort};
 use crate::limits::{MOST_ENTRIES, MOST_PENCE};
-use crate::owing::{Owing, Totals, after_draw, after_repay, carry, owing_after};
+use crate::owing::{Owing, Totals, after_days, after_draw, after_repay, owing_after};
 use pawn_terms::{Day, Terms};
 
 // What is owed on a day from the last entry's on.
@@ -30,7 +30,7 @@ fn owed_at(
     ensures in_range { IsDayNumber day }
     ensures later { totals.now.day ≤ day }
 {
-    carry(totals, terms, ends, day)
+    after_days(totals, terms, ends, day)
 }
 
 /// What is owed after one more entry, if the rules accept it.

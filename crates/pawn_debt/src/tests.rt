@@ -13,7 +13,7 @@ fn day(text: &[u8]) -> Result<Day, Fail> {
 fn account(alloc: Global) -> Result<Debt, Fail> {
     let taken = RequestDay::of_text(b"2024-01-31")?.day();
     let terms = Terms::check(2667, 0, 0)?;
-    let ends = last_day(taken, None);
+    let ends = last_day(taken, None, None);
     let mut debt = Debt::start(alloc, Kind::Running(5000), terms, taken, ends)?;
     debt.draw(taken, 3000)?;
     debt.repay(day(b"2024-03-01")?, 1000)?;
@@ -51,7 +51,7 @@ fn a_copy_has_the_same_entries(rt: HostRuntime) -> Result<(), Fail> {
 fn account_of(entries: Entries) -> Result<Debt, Fail> {
     let taken = RequestDay::of_text(b"2024-01-31")?.day();
     let terms = Terms::check(2667, 0, 0)?;
-    let ends = last_day(taken, None);
+    let ends = last_day(taken, None, None);
     Debt::of_entries(Kind::Running(5000), terms, taken, ends, entries).map_err(
         |_| "handed back".into(),
     )

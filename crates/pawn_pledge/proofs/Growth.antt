@@ -5,15 +5,14 @@ use Rattle.std.proofs.lemmas.List.{append-nil}
 use Rattle.pawn_debt.specs.declared.entry.Entry.{Entry}
 use Rattle.pawn_pledge.specs.declared.record.Issued.{Issued}
 use Rattle.pawn_pledge.specs.declared.record.Extension.{Extension}
-use Rattle.pawn_pledge.specs.declared.record.Standing.{Standing}
 use Rattle.pawn_pledge.specs.declared.command.Stamp.{Stamp}
 use Rattle.pawn_pledge.specs.declared.command.Command.{Command}
 use Rattle.pawn_pledge.specs.Pledge.{PledgeValue, end_of}
-use Rattle.pawn_pledge.specs.Words.{with_standing, issue_of, new_entry}
+use Rattle.pawn_pledge.specs.Words.{issue_of, new_entry}
 use Rattle.pawn_pledge.specs.Step.{Judged, Refused, Answered, Changed, pledge_step, pledge_after}
 use Rattle.pawn_pledge.specs.Growth.{Grows, StaysOrGrows}
 use Rattle.pawn_pledge.specs.Laws.{ListsGrow}
-use Rattle.pawn_pledge.proofs.Moves.{Move, pledge_moves, Entering, Holding, Declaring, Asking, Marking, Redeeming, Selling, Extending}
+use Rattle.pawn_pledge.proofs.Moves.{Move, pledge_moves, Entering, Declaring, Extending, Settling}
 
 -- each list stays, or grows at its end by one
 pub record ListsMoved (p q : PledgeValue) (w x : ℕ) : Type 0 where
@@ -21,30 +20,22 @@ pub record ListsMoved (p q : PledgeValue) (w x : ℕ) : Type 0 where
   pub secrets : StaysOrGrows (λ (i : Issued). (i.secret ≡ w) × (list_any (λ (j : Issued). j.secret == w) p.secrets ≡ false)) p.secrets q.secrets
   pub extensions : StaysOrGrows (λ (e : Extension). (e.day ≡ x) × (end_of p < e.until)) p.extensions q.extensions
 
--- a change of how the pledge stands changes none
-stays-lists : (p q : PledgeValue) (w x : ℕ) (s : Standing) → q ≡ with_standing p s → ListsMoved p q w x
-stays-lists p q w x s is = record {
-  entries = inl (ap (λ (v : PledgeValue). v.entries) is);
-  secrets = inl (ap (λ (v : PledgeValue). v.secrets) is);
-  extensions = inl (ap (λ (v : PledgeValue). v.extensions) is);
-}
-
 pub lists-moved : (p q : PledgeValue) (c : Command) (w x : ℕ) → Move p x w c q → ListsMoved p q w x
 lists-moved p q c w x (Entering sort pence ok late few drawn is) = record {
   entries = inr (new_entry p x sort pence, ap (λ (v : PledgeValue). v.entries) is, (refl, refl));
   secrets = inl (ap (λ (v : PledgeValue). v.secrets) is);
   extensions = inl (ap (λ (v : PledgeValue). v.extensions) is);
 }
-lists-moved p q c w x (Holding flag new is) = stays-lists p q w x _ is
 lists-moved p q c w x (Declaring paper ok is) = record {
   entries = inl (ap (λ (v : PledgeValue). v.entries) is);
   secrets = inr (record { day = x; sort = issue_of paper; secret = w }, ap (λ (v : PledgeValue). v.secrets) is, (refl, ok.1.1.0));
   extensions = inl (ap (λ (v : PledgeValue). v.extensions) is);
 }
-lists-moved p q c w x (Asking b later live small state new named is) = stays-lists p q w x _ is
-lists-moved p q c w x (Marking b state at new is) = stays-lists p q w x _ is
-lists-moved p q c w x (Redeeming paid free total is) = stays-lists p q w x _ is
-lists-moved p q c w x (Selling net status small is) = stays-lists p q w x _ is
+lists-moved p q c w x (Settling s to is) = record {
+  entries = inl (ap (λ (v : PledgeValue). v.entries) is);
+  secrets = inl (ap (λ (v : PledgeValue). v.secrets) is);
+  extensions = inl (ap (λ (v : PledgeValue). v.extensions) is);
+}
 lists-moved p q c w x (Extending until inside longer few named is) = record {
   entries = inl (ap (λ (v : PledgeValue). v.entries) is);
   secrets = inl (ap (λ (v : PledgeValue). v.secrets) is);

@@ -1,12 +1,12 @@
 -- What the fields of a pledge keep, after an extension.
-use Rattle.std.proofs.Common.{◌≡◌, ℕ, ◌<◌, ◌≤◌, List, [], ◌∷◌, ◌++◌, sym, ap, subst, ◌∙◌, arith}
+use Rattle.std.proofs.Common.{◌≡◌, ℕ, ◌<◌, ◌≤◌, List, [], ◌∷◌, ◌++◌, None, sym, ap, subst, ◌∙◌, arith}
 use Rattle.pawn_debt.specs.declared.entry.Entry.{Entry}
 use Rattle.pawn_debt.specs.Due.{DebtValue}
 use Rattle.pawn_pledge.specs.declared.record.Extension.{Extension}
 use Rattle.pawn_pledge.specs.Words.{with_last, with_extension}
-use Rattle.pawn_pledge.specs.Pledge.{PledgeValue, first_end, end_of, debt_of}
+use Rattle.pawn_pledge.specs.Pledge.{PledgeValue, end_with, end_of, debt_of}
 use Rattle.pawn_pledge.specs.Kept.{IsKept}
-use Rattle.pawn_pledge.proofs.Pushes.{end_after-push}
+use Rattle.pawn_pledge.proofs.Pushes.{later_of-push}
 
 -- p is what the fields hold, v the value that a contract sees
 pub kept-extended : (p v : PledgeValue) (d new : DebtValue) (es : List Entry) (xs : List Extension) (x : Extension) → p ≡ v → IsKept p d → es ≡ p.entries → new ≡ record d { ends = x.until }
@@ -15,7 +15,7 @@ pub kept-extended : (p v : PledgeValue) (d new : DebtValue) (es : List Entry) (x
 kept-extended p v d new es xs x is h entries moved more later longer =
     let P : PledgeValue → Type 0 = λ q. (q.standing.last ≤ x.day) × (end_of q < x.until) in
     let a : P p = subst P (sym is) (later, longer) in
-    let ends : end_of (with_extension p x) ≡ x.until = omega (arith, end_after-push (first_end p.agreement) p.extensions x, a.1) in
+    let ends : end_of (with_extension p x) ≡ x.until = later_of-push (end_with p.agreement None) p.extensions x a.1 in
     rw (entries, more, moved) (record {
       debt = ap (λ (e : DebtValue). record e { ends = x.until }) h.debt ∙ ap (λ (n : ℕ). record (debt_of p) { ends = n }) (sym ends);
       taken_in = h.taken_in;

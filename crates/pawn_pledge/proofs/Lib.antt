@@ -1,3 +1,4 @@
+pub mod Settled
 pub mod Moves
 pub mod Pushes
 pub mod Replays

@@ -1,5 +1,5 @@
 -- Each step that changes a pledge is one of a few moves.
-use Rattle.std.proofs.Common.{◌≡◌, ℕ, ◌<◌, ◌≤◌, ◌==◌, nat_lt, nat_le, Bool, true, false, not, if◌then◌else◌, List, [], ◌∷◌, ◌++◌, length, Option, Some, None, Result, Ok, Err, refl, sym, ap, ◌∙◌, arith}
+use Rattle.std.proofs.Common.{◌≡◌, ℕ, ◌<◌, ◌≤◌, ◌==◌, nat_lt, nat_le, Bool, true, false, not, if◌then◌else◌, List, [], ◌∷◌, ◌++◌, length, Option, Some, None, Result, Ok, Err, refl, sym, ap, subst, ◌∙◌, arith}
 use Rattle.std.proofs.lemmas.Bool.{true≢false}
 use Rattle.std.proofs.lemmas.Bool.Decides.{nat_tests}
 use Rattle.pawn_terms.specs.Refusals.{first_of, NoneApplies}
@@ -17,6 +17,7 @@ use Rattle.pawn_debt.specs.Limits.{most_pence, most_entries}
 use Rattle.pawn_pledge.specs.declared.record.Booking.{Booking}
 use Rattle.pawn_pledge.specs.declared.record.BookingState.{BookingState}
 use Rattle.pawn_pledge.specs.declared.record.Closing.{Closing}
+use Rattle.pawn_pledge.specs.declared.record.Standing.{Standing}
 use Rattle.pawn_pledge.specs.declared.record.Status.{Status}
 use Rattle.pawn_pledge.specs.declared.command.Stamp.{Stamp}
 use Rattle.pawn_pledge.specs.declared.command.Paper.{Paper}
@@ -25,12 +26,13 @@ use Rattle.pawn_pledge.specs.declared.command.Decision.TheVariants.{Confirm, Ref
 use Rattle.pawn_pledge.specs.declared.command.Command.{Command}
 use Rattle.pawn_pledge.specs.declared.command.Done.{Done}
 use Rattle.pawn_pledge.specs.declared.refusal.Refusal.{Refusal}
-use Rattle.pawn_pledge.specs.Words.{with_last, with_standing, is_open, is_repeat, is_ahead, new_entry, same_flag, with_hold, with_secret, issue_of, with_booking, in_state, is_standing, stands_for, close, with_extension}
-use Rattle.pawn_pledge.specs.Pledge.{PledgeValue, end_of, debt_of, total_on, open_status, is_passed, is_realisable}
-use Rattle.pawn_pledge.specs.Step.{Judged, Answered, Changed, past, unless, bars, under_debt, entry_step, numbered_step, hold_step, declare_bars, declare_step, books, ask_once, ask_step, cancel_in, cancel_step, confirm_in, decline_in, decide_step, redeem_step, sell_step, extend_step, pledge_step}
+use Rattle.pawn_pledge.specs.Words.{with_last, with_standing, is_open, is_repeat, is_ahead, new_entry, same_flag, with_secret, issue_of, with_booking, in_state, is_standing, stands_for, with_extension}
+use Rattle.pawn_pledge.specs.Pledge.{PledgeValue, end_of, debt_of, total_on, open_status, is_realisable}
+use Rattle.pawn_pledge.specs.Step.{Judged, Answered, Changed, past, unless, bars, period_bars, under_debt, entry_step, numbered_step, hold_step, declare_bars, declare_step, books, ask_once, ask_bars, ask_step, cancel_in, cancel_step, confirm_in, decline_in, decide_step, redeem_bars, redeem_step, sell_bars, sell_step, extend_bars, extend_step, pledge_step}
 use Rattle.pawn_pledge.specs.Replayable.{IsNotPassed, IsDrawnBy}
 use Rattle.pawn_pledge.specs.Commands.{IsCommand}
 use Rattle.pawn_pledge.specs.Limits.{last_window, most_extensions}
+use Rattle.pawn_pledge.proofs.Settled.{IsGated, IsSettled, hold-settles, ask-settles, mark-settles, close-settles}
 
 -- a step that changes was not refused on the way
 past-changed : (g : Result (Unit {0}) Refusal) (own : Judged) (q : PledgeValue) (d : Done) → past g own ≡ Changed q d → (g ≡ Ok tt) × (own ≡ Changed q d)
@@ -67,16 +69,9 @@ not_other a b h = by (a == b) refl h
 not_same : (a b : ℕ) → (a == b) ≡ false → a ≡ b → ⊥
 not_same a b h e = grind (arith, nat_tests, h, e)
 
--- nothing bars a command
-pub record IsGated (p : PledgeValue) (x : ℕ) : Type 0 where
-  pub later : p.standing.last ≤ x
-  pub standing : p.standing.closing ≡ Closing.Open
-  pub not_passed : IsNotPassed p x
-
 open-is : (c : Closing) → not (is_open c) ≡ false → c ≡ Closing.Open
 open-is Closing.Open h = refl
-open-is (Closing.Redeemed day paid) h = absurd (true≢false h)
-open-is (Closing.Sold day net) h = absurd (true≢false h)
+open-is closed h = absurd (true≢false h)
 
 gate-is : (p : PledgeValue) (x : ℕ) → NoneApplies (bars p x) → IsGated p x
 gate-is p x h = record { later = not_below x p.standing.last h.0; standing = open-is p.standing.closing h.1.0; not_passed = h.1.1.0 }
@@ -86,17 +81,11 @@ pub data Move (p : PledgeValue) (x w : ℕ) (command : Command) (q : PledgeValue
   Entering : (sort : Sort) (pence : ℕ) → sort_answer sort (debt_of p) x pence ≡ Ok (with_entry (debt_of p) x sort pence)
       → last_of p.agreement.taken p.entries ≤ x → length p.entries < most_entries → IsDrawnBy (end_of p) sort x
       → q ≡ record p { entries = p.entries ++ new_entry p x sort pence ∷ []; standing = with_last p.standing x } → Move p x w command q
-  Holding : (flag : Bool) → same_flag p.standing.held flag ≡ false → q ≡ with_standing p (with_hold p.standing flag x) → Move p x w command q
   Declaring : (paper : Paper) → NoneApplies (declare_bars p paper w)
       → q ≡ with_secret p (record { day = x; sort = issue_of paper; secret = w }) → Move p x w command q
-  Asking : (b : Booking) → x ≤ b.day → IsNotPassed p b.day → b.window ≤ last_window → b.state ≡ BookingState.Asked → (p.standing.booking ≡ Some b → ⊥)
-      → (IsCommand command → b.day ≤ last_stamp_day) → q ≡ with_standing p (with_booking p.standing b x) → Move p x w command q
-  Marking : (b : Booking) (state : BookingState) → p.standing.booking ≡ Some b → (b.state ≡ state → ⊥)
-      → q ≡ with_standing p (with_booking p.standing (in_state b state) x) → Move p x w command q
-  Redeeming : (paid : ℕ) → p.standing.held ≡ false → paid ≡ total_on p x → q ≡ close p x (Closing.Redeemed x paid) → Move p x w command q
-  Selling : (net : ℕ) → open_status p x ≡ Status.Realisable → net ≤ most_pence → q ≡ close p x (Closing.Sold x net) → Move p x w command q
   Extending : (until : ℕ) → x ≤ end_of p → end_of p < until → length p.extensions < most_extensions
       → (IsCommand command → until ≤ last_stamp_day) → q ≡ with_extension p (record { day = x; until = until }) → Move p x w command q
+  Settling : (s : Standing) → IsSettled p x command s → q ≡ with_standing p s → Move p x w command q
 
 -- drawings and repayments
 under_debt-moves : (p q : PledgeValue) (c : Command) (w x : ℕ) (sort : Sort) (pence : ℕ) (r : Result DebtValue DebtFault) (d : Done)
@@ -110,7 +99,7 @@ under_debt-moves p q c w x sort pence (Err fault) d is drawn h = cc
 
 entry-moves : (p q : PledgeValue) (c : Command) (w x : ℕ) (sort : Sort) (pence : ℕ) (d : Done) → entry_step p x sort pence ≡ Changed q d → Move p x w c q
 entry-moves p q c w x Draw pence d h =
-    let a = unless-changed ((nat_lt (end_of p) x, Refusal.PeriodOver) ∷ []) (under_debt p x Draw pence (draw_answer (debt_of p) x pence)) q d h in
+    let a = unless-changed (period_bars p x) (under_debt p x Draw pence (draw_answer (debt_of p) x pence)) q d h in
     under_debt-moves p q c w x Draw pence (draw_answer (debt_of p) x pence) d refl (not_below (end_of p) x a.0.0) a.1
 entry-moves p q c w x Repay pence d h = under_debt-moves p q c w x Repay pence (repay_answer (debt_of p) x pence) d refl tt h
 
@@ -118,10 +107,11 @@ entry-moves p q c w x Repay pence d h = under_debt-moves p q c w x Repay pence (
 abbrev pub Goes : PledgeValue → ℕ → ℕ → Command → PledgeValue → Type 0
 Goes p x w c q = IsGated p x × Move p x w c q
 
-gated : (p q : PledgeValue) (c : Command) (w x : ℕ) (own : Judged) (d : Done) → (own ≡ Changed q d → Move p x w c q) → unless (bars p x) own ≡ Changed q d → Goes p x w c q
+gated : (p q : PledgeValue) (c : Command) (w x : ℕ) (own : Judged) (d : Done) → (IsGated p x → own ≡ Changed q d → Move p x w c q) → unless (bars p x) own ≡ Changed q d → Goes p x w c q
 gated p q c w x own d moves h =
     let a = unless-changed (bars p x) own q d h in
-    (gate-is p x a.0, moves a.1)
+    let g = gate-is p x a.0 in
+    (g, moves g a.1)
 
 numbered-moves : (p q : PledgeValue) (c : Command) (w x seq : ℕ) (sort : Sort) (pence : ℕ) (o : Option Entry) (d : Done) → numbered_step p x seq sort pence o ≡ Changed q d → Goes p x w c q
 numbered-moves p q c w x seq sort pence (Some e) d h =
@@ -130,13 +120,17 @@ numbered-moves p q c w x seq sort pence (Some e) d h =
     cc
 numbered-moves p q c w x seq sort pence None d h =
     let a = unless-changed ((is_ahead p seq, Refusal.SeqAhead) ∷ []) (unless (bars p x) (entry_step p x sort pence)) q d h in
-    gated p q c w x (entry_step p x sort pence) d (λ k. entry-moves p q c w x sort pence d k) a.1
+    gated p q c w x (entry_step p x sort pence) d (λ g k. entry-moves p q c w x sort pence d k) a.1
+
+-- how the pledge stands alone
+settled : (p q : PledgeValue) (c : Command) (w x : ℕ) (s : Standing) (e d : Done) → IsSettled p x c s → Changed (with_standing p s) e ≡ Changed q d → Move p x w c q
+settled p q c w x s e d to h = Settling s to (changed-is (with_standing p s) q e d h)
 
 -- the flag
-hold-moves : (p q : PledgeValue) (c : Command) (w x : ℕ) (flag : Bool) (d : Done) → hold_step p x flag ≡ Changed q d → Move p x w c q
-hold-moves p q c w x flag d h =
+hold-moves : (p q : PledgeValue) (c : Command) (w x : ℕ) (flag : Bool) (d : Done) → IsGated p x → hold_step p x flag ≡ Changed q d → Move p x w c q
+hold-moves p q c w x flag d g h =
     let a = if-unanswered (same_flag p.standing.held flag) _ _ q d h in
-    Holding flag a.0 (changed-is (with_standing p (with_hold p.standing flag x)) q _ d a.1)
+    settled p q c w x _ _ d (hold-settles p x c flag g a.0) a.1
 
 -- declarations
 declare-moves : (p q : PledgeValue) (c : Command) (stamp : Stamp) (paper : Paper) (d : Done) → declare_step p stamp paper ≡ Changed q d → Move p stamp.day stamp.word c q
@@ -149,86 +143,81 @@ declare-moves p q c stamp paper d h =
 stands-asked : (b : Booking) → b.state ≡ BookingState.Asked → stands_for b b.day b.window ≡ true
 stands-asked b e = let s : is_standing b.state ≡ true = rw e refl in grind (arith, nat_tests, s)
 
-ask_once-moves : (p q : PledgeValue) (c : Command) (w x day window : ℕ) (o : Option Booking) (d : Done) → p.standing.booking ≡ o → x ≤ day → IsNotPassed p day → window ≤ last_window
-    → (IsCommand c → day ≤ last_stamp_day) → ask_once p x day window o ≡ Changed q d → Move p x w c q
-ask_once-moves p q c w x day window None d is later live small named h =
+ask_once-moves : (p q : PledgeValue) (c : Command) (w x day window : ℕ) (o : Option Booking) (d : Done) → p.standing.booking ≡ o
+    → ((b : Booking) → b.day ≡ day → b.window ≡ window → (p.standing.booking ≡ Some b → ⊥) → IsSettled p x c (with_booking p.standing b x)) → ask_once p x day window o ≡ Changed q d → Move p x w c q
+ask_once-moves p q c w x day window None d is settles h =
     let b : Booking = record { day = day; window = window; state = BookingState.Asked } in
-    Asking b later live small refl (λ e. let f : None ≡ Some b = sym is ∙ e in cc) named (changed-is (with_standing p (with_booking p.standing b x)) q _ d h)
-ask_once-moves p q c w x day window (Some o) d is later live small named h =
+    settled p q c w x _ _ d (settles b refl refl (λ e. let f : None ≡ Some b = sym is ∙ e in cc)) h
+ask_once-moves p q c w x day window (Some o) d is settles h =
     let b : Booking = record { day = day; window = window; state = BookingState.Asked } in
     let a = if-unanswered (stands_for o day window) _ _ q d h in
-    Asking b later live small refl
-    (λ e. let f : Some o ≡ Some b = sym is ∙ e in
+    settled p q c w x _ _ d
+    (settles b refl refl (λ e.
+    let f : Some o ≡ Some b = sym is ∙ e in
     let g : o ≡ b = cc in
     let t : stands_for o day window ≡ true = ap (λ (k : Booking). stands_for k day window) g ∙ stands-asked b refl in
-    true≢false (sym t ∙ a.0))
-    named (changed-is (with_standing p (with_booking p.standing b x)) q _ d a.1)
+    true≢false (sym t ∙ a.0)))
+    a.1
 
-ask-moves : (p q : PledgeValue) (c : Command) (w x day window : ℕ) (d : Done) → (IsCommand c → day ≤ last_stamp_day) → ask_step p x day window ≡ Changed q d → Move p x w c q
-ask-moves p q c w x day window d named h =
-    let rows : List (Bool × Refusal) = (nat_lt last_window window, Refusal.BadWindow) ∷ (nat_lt day x, Refusal.BookingDay) ∷ (is_passed (open_status p day), Refusal.BookingDay) ∷ [] in
-    let a = unless-changed rows (ask_once p x day window p.standing.booking) q d h in
-    ask_once-moves p q c w x day window p.standing.booking d refl (not_below day x a.0.1.0) a.0.1.1.0 (not_below last_window window a.0.0) named a.1
+ask-moves : (p q : PledgeValue) (c : Command) (w x day window : ℕ) (d : Done) → (IsCommand c → day ≤ last_stamp_day) → IsGated p x → ask_step p x day window ≡ Changed q d → Move p x w c q
+ask-moves p q c w x day window d named g h =
+    let a = unless-changed (ask_bars p x day window) (ask_once p x day window p.standing.booking) q d h in
+    let later = not_below day x a.0.1.0 in
+    let small = not_below last_window window a.0.0 in
+    ask_once-moves p q c w x day window p.standing.booking d refl
+    (λ b at same new. ask-settles p x c b g (omega (arith, later, at)) (subst (IsNotPassed p) (sym at) a.0.1.1.0) (omega (arith, small, same)) (λ n. omega (arith, named n, at)) new) a.1
 
-marked : (p q : PledgeValue) (c : Command) (w x : ℕ) (b : Booking) (state : BookingState) (d : Done) → p.standing.booking ≡ Some b → (b.state ≡ state → ⊥) → books p x (in_state b state) ≡ Changed q d → Move p x w c q
-marked p q c w x b state d is other h = Marking b state is other (changed-is (with_standing p (with_booking p.standing (in_state b state) x)) q _ d h)
+marked : (p q : PledgeValue) (c : Command) (w x : ℕ) (b : Booking) (state : BookingState) (d : Done) → IsGated p x → p.standing.booking ≡ Some b → (b.state ≡ state → ⊥) → books p x (in_state b state) ≡ Changed q d → Move p x w c q
+marked p q c w x b state d g is other h = settled p q c w x _ _ d (mark-settles p x c b state g is other) h
 
 -- two states that differ
 other : (s t u : BookingState) → s ≡ t → (t ≡ u → ⊥) → s ≡ u → ⊥
 other s t u e n f = n (sym e ∙ f)
 
-cancel_in-moves : (p q : PledgeValue) (c : Command) (w x : ℕ) (b : Booking) (s : BookingState) (d : Done) → p.standing.booking ≡ Some b → b.state ≡ s → cancel_in p x b s ≡ Changed q d → Move p x w c q
-cancel_in-moves p q c w x b BookingState.Asked d is at h = marked p q c w x b BookingState.Cancelled d is (other b.state BookingState.Asked BookingState.Cancelled at (λ e. cc)) h
-cancel_in-moves p q c w x b BookingState.Confirmed d is at h = marked p q c w x b BookingState.Cancelled d is (other b.state BookingState.Confirmed BookingState.Cancelled at (λ e. cc)) h
-cancel_in-moves p q c w x b BookingState.Refused d is at h = cc
-cancel_in-moves p q c w x b BookingState.Cancelled d is at h = cc
+cancel_in-moves : (p q : PledgeValue) (c : Command) (w x : ℕ) (b : Booking) (s : BookingState) (d : Done) → IsGated p x → p.standing.booking ≡ Some b → b.state ≡ s → cancel_in p x b s ≡ Changed q d → Move p x w c q
+cancel_in-moves p q c w x b BookingState.Asked d g is at h = marked p q c w x b BookingState.Cancelled d g is (other b.state BookingState.Asked BookingState.Cancelled at (λ e. cc)) h
+cancel_in-moves p q c w x b BookingState.Confirmed d g is at h = marked p q c w x b BookingState.Cancelled d g is (other b.state BookingState.Confirmed BookingState.Cancelled at (λ e. cc)) h
+cancel_in-moves p q c w x b BookingState.Refused d g is at h = cc
+cancel_in-moves p q c w x b BookingState.Cancelled d g is at h = cc
 
-cancel-moves : (p q : PledgeValue) (c : Command) (w x : ℕ) (o : Option Booking) (d : Done) → p.standing.booking ≡ o → cancel_step p x o ≡ Changed q d → Move p x w c q
-cancel-moves p q c w x None d is h = cc
-cancel-moves p q c w x (Some b) d is h = cancel_in-moves p q c w x b b.state d is refl h
+cancel-moves : (p q : PledgeValue) (c : Command) (w x : ℕ) (o : Option Booking) (d : Done) → IsGated p x → p.standing.booking ≡ o → cancel_step p x o ≡ Changed q d → Move p x w c q
+cancel-moves p q c w x None d g is h = cc
+cancel-moves p q c w x (Some b) d g is h = cancel_in-moves p q c w x b b.state d g is refl h
 
-confirm_in-moves : (p q : PledgeValue) (c : Command) (w x : ℕ) (b : Booking) (s : BookingState) (d : Done) → p.standing.booking ≡ Some b → b.state ≡ s → confirm_in p x b s ≡ Changed q d → Move p x w c q
-confirm_in-moves p q c w x b BookingState.Asked d is at h =
+confirm_in-moves : (p q : PledgeValue) (c : Command) (w x : ℕ) (b : Booking) (s : BookingState) (d : Done) → IsGated p x → p.standing.booking ≡ Some b → b.state ≡ s → confirm_in p x b s ≡ Changed q d → Move p x w c q
+confirm_in-moves p q c w x b BookingState.Asked d g is at h =
     let a = unless-changed ((nat_lt b.day x, Refusal.BookingDay) ∷ []) (books p x (in_state b BookingState.Confirmed)) q d h in
-    marked p q c w x b BookingState.Confirmed d is (other b.state BookingState.Asked BookingState.Confirmed at (λ e. cc)) a.1
-confirm_in-moves p q c w x b BookingState.Confirmed d is at h = cc
-confirm_in-moves p q c w x b BookingState.Refused d is at h = cc
-confirm_in-moves p q c w x b BookingState.Cancelled d is at h = cc
+    marked p q c w x b BookingState.Confirmed d g is (other b.state BookingState.Asked BookingState.Confirmed at (λ e. cc)) a.1
+confirm_in-moves p q c w x b BookingState.Confirmed d g is at h = cc
+confirm_in-moves p q c w x b BookingState.Refused d g is at h = cc
+confirm_in-moves p q c w x b BookingState.Cancelled d g is at h = cc
 
-decline_in-moves : (p q : PledgeValue) (c : Command) (w x : ℕ) (b : Booking) (s : BookingState) (d : Done) → p.standing.booking ≡ Some b → b.state ≡ s → decline_in p x b s ≡ Changed q d → Move p x w c q
-decline_in-moves p q c w x b BookingState.Asked d is at h = marked p q c w x b BookingState.Refused d is (other b.state BookingState.Asked BookingState.Refused at (λ e. cc)) h
-decline_in-moves p q c w x b BookingState.Confirmed d is at h = marked p q c w x b BookingState.Refused d is (other b.state BookingState.Confirmed BookingState.Refused at (λ e. cc)) h
-decline_in-moves p q c w x b BookingState.Refused d is at h = cc
-decline_in-moves p q c w x b BookingState.Cancelled d is at h = cc
+decline_in-moves : (p q : PledgeValue) (c : Command) (w x : ℕ) (b : Booking) (s : BookingState) (d : Done) → IsGated p x → p.standing.booking ≡ Some b → b.state ≡ s → decline_in p x b s ≡ Changed q d → Move p x w c q
+decline_in-moves p q c w x b BookingState.Asked d g is at h = marked p q c w x b BookingState.Refused d g is (other b.state BookingState.Asked BookingState.Refused at (λ e. cc)) h
+decline_in-moves p q c w x b BookingState.Confirmed d g is at h = marked p q c w x b BookingState.Refused d g is (other b.state BookingState.Confirmed BookingState.Refused at (λ e. cc)) h
+decline_in-moves p q c w x b BookingState.Refused d g is at h = cc
+decline_in-moves p q c w x b BookingState.Cancelled d g is at h = cc
 
-decide-moves : (p q : PledgeValue) (c : Command) (w x : ℕ) (decision : Decision) (o : Option Booking) (d : Done) → p.standing.booking ≡ o → decide_step p x decision o ≡ Changed q d → Move p x w c q
-decide-moves p q c w x Confirm None d is h = cc
-decide-moves p q c w x Refuse None d is h = cc
-decide-moves p q c w x Confirm (Some b) d is h = confirm_in-moves p q c w x b b.state d is refl h
-decide-moves p q c w x Refuse (Some b) d is h = decline_in-moves p q c w x b b.state d is refl h
+decide-moves : (p q : PledgeValue) (c : Command) (w x : ℕ) (decision : Decision) (o : Option Booking) (d : Done) → IsGated p x → p.standing.booking ≡ o → decide_step p x decision o ≡ Changed q d → Move p x w c q
+decide-moves p q c w x Confirm None d g is h = cc
+decide-moves p q c w x Refuse None d g is h = cc
+decide-moves p q c w x Confirm (Some b) d g is h = confirm_in-moves p q c w x b b.state d g is refl h
+decide-moves p q c w x Refuse (Some b) d g is h = decline_in-moves p q c w x b b.state d g is refl h
 
 -- closings
-redeem-moves : (p q : PledgeValue) (c : Command) (w x paid : ℕ) (d : Done) → redeem_step p x paid ≡ Changed q d → Move p x w c q
-redeem-moves p q c w x paid d h =
-    let rows : List (Bool × Refusal) = (p.standing.held, Refusal.Held) ∷ (not (paid == total_on p x), Refusal.WrongAmount (total_on p x)) ∷ [] in
-    let next : PledgeValue = close p x (Closing.Redeemed x paid) in
-    let a = unless-changed rows (Changed next (Done.Redeemed x paid)) q d h in
-    Redeeming paid a.0.0 (not_other paid (total_on p x) a.0.1.0) (changed-is next q _ d a.1)
+redeem-moves : (p q : PledgeValue) (c : Command) (w x paid : ℕ) (d : Done) → IsGated p x → redeem_step p x paid ≡ Changed q d → Move p x w c q
+redeem-moves p q c w x paid d g h =
+    let a = unless-changed (redeem_bars p x paid) _ q d h in
+    settled p q c w x _ _ d (close-settles p x c (Closing.Redeemed x paid) g (refl, not_other paid (total_on p x) a.0.1.0, a.0.0) (λ e. cc)) a.1
 
 realisable-is : (s : Status) → not (is_realisable s) ≡ false → s ≡ Status.Realisable
 realisable-is Status.Realisable h = refl
-realisable-is Status.Inside h = absurd (true≢false h)
-realisable-is Status.Grace h = absurd (true≢false h)
-realisable-is Status.Passed h = absurd (true≢false h)
-realisable-is Status.Redeemed h = absurd (true≢false h)
-realisable-is Status.Sold h = absurd (true≢false h)
+realisable-is other h = absurd (true≢false h)
 
-sell-moves : (p q : PledgeValue) (c : Command) (w x net : ℕ) (d : Done) → sell_step p x net ≡ Changed q d → Move p x w c q
-sell-moves p q c w x net d h =
-    let rows : List (Bool × Refusal) = (not (is_realisable (open_status p x)), Refusal.NotRealisable) ∷ (nat_lt most_pence net, Refusal.Debt DebtFault.BadAmount) ∷ [] in
-    let next : PledgeValue = close p x (Closing.Sold x net) in
-    let a = unless-changed rows (Changed next _) q d h in
-    Selling net (realisable-is (open_status p x) a.0.0) (not_below most_pence net a.0.1.0) (changed-is next q _ d a.1)
+sell-moves : (p q : PledgeValue) (c : Command) (w x net : ℕ) (d : Done) → IsGated p x → sell_step p x net ≡ Changed q d → Move p x w c q
+sell-moves p q c w x net d g h =
+    let a = unless-changed (sell_bars p x net) _ q d h in
+    settled p q c w x _ _ d (close-settles p x c (Closing.Sold x net) g (refl, realisable-is (open_status p x) a.0.0, not_below most_pence net a.0.1.0) (λ e. cc)) a.1
 
 -- longer periods
 above : (m n : ℕ) → n ≤ m → (m ≡ n → ⊥) → n < m
@@ -237,23 +226,22 @@ above m n low apart = grind (arith, low, apart)
 extend-moves : (p q : PledgeValue) (c : Command) (w x until : ℕ) (d : Done) → (IsCommand c → until ≤ last_stamp_day) → extend_step p x until ≡ Changed q d → Move p x w c q
 extend-moves p q c w x until d named h =
     let next : PledgeValue = with_extension p (record { day = x; until = until }) in
-    let rows : List (Bool × Refusal) = (nat_lt until (end_of p), Refusal.NotLater) ∷ (nat_le most_extensions (length p.extensions), Refusal.ExtensionsFull) ∷ [] in
-    let own : Judged = unless rows (Changed next (Done.Extended until)) in
-    let a = unless-changed ((nat_lt (end_of p) x, Refusal.PeriodOver) ∷ []) (if until == end_of p then Answered (Done.Extended until) else own) q d h in
+    let own : Judged = unless (extend_bars p until) (Changed next (Done.Extended until)) in
+    let a = unless-changed (period_bars p x) (if until == end_of p then Answered (Done.Extended until) else own) q d h in
     let b = if-unanswered (until == end_of p) _ own q d a.1 in
-    let e = unless-changed rows (Changed next (Done.Extended until)) q d b.1 in
+    let e = unless-changed (extend_bars p until) (Changed next (Done.Extended until)) q d b.1 in
     Extending until (not_below (end_of p) x a.0.0) (above until (end_of p) (not_below until (end_of p) e.0.0) (not_same until (end_of p) b.0))
     (not_most most_extensions (length p.extensions) e.0.1.0) named (changed-is next q _ d e.1)
 
 pub pledge_moves : (p q : PledgeValue) (stamp : Stamp) (c : Command) (d : Done) → pledge_step p stamp c ≡ Changed q d → Goes p stamp.day stamp.word c q
 pledge_moves p q stamp (Command.Draw seq pence) d h = numbered-moves p q _ stamp.word stamp.day seq Draw pence _ d h
 pledge_moves p q stamp (Command.Repay seq pence) d h = numbered-moves p q _ stamp.word stamp.day seq Repay pence _ d h
-pledge_moves p q stamp Command.Hold d h = gated p q _ stamp.word stamp.day _ d (λ k. hold-moves p q _ stamp.word stamp.day true d k) h
-pledge_moves p q stamp Command.Release d h = gated p q _ stamp.word stamp.day _ d (λ k. hold-moves p q _ stamp.word stamp.day false d k) h
-pledge_moves p q stamp (Command.Declare paper) d h = gated p q _ stamp.word stamp.day _ d (λ k. declare-moves p q _ stamp paper d k) h
-pledge_moves p q stamp (Command.AskBooking day window) d h = gated p q _ stamp.word stamp.day _ d (λ k. ask-moves p q _ stamp.word stamp.day day window d (λ n. n.1) k) h
-pledge_moves p q stamp Command.CancelBooking d h = gated p q _ stamp.word stamp.day _ d (λ k. cancel-moves p q _ stamp.word stamp.day p.standing.booking d refl k) h
-pledge_moves p q stamp (Command.DecideBooking decision) d h = gated p q _ stamp.word stamp.day _ d (λ k. decide-moves p q _ stamp.word stamp.day decision p.standing.booking d refl k) h
-pledge_moves p q stamp (Command.Redeem paid) d h = gated p q _ stamp.word stamp.day _ d (λ k. redeem-moves p q _ stamp.word stamp.day paid d k) h
-pledge_moves p q stamp (Command.Sell net) d h = gated p q _ stamp.word stamp.day _ d (λ k. sell-moves p q _ stamp.word stamp.day net d k) h
-pledge_moves p q stamp (Command.Extend until) d h = gated p q _ stamp.word stamp.day _ d (λ k. extend-moves p q _ stamp.word stamp.day until d (λ n. n.1) k) h
+pledge_moves p q stamp Command.Hold d h = gated p q _ stamp.word stamp.day _ d (λ g k. hold-moves p q _ stamp.word stamp.day true d g k) h
+pledge_moves p q stamp Command.Release d h = gated p q _ stamp.word stamp.day _ d (λ g k. hold-moves p q _ stamp.word stamp.day false d g k) h
+pledge_moves p q stamp (Command.Declare paper) d h = gated p q _ stamp.word stamp.day _ d (λ g k. declare-moves p q _ stamp paper d k) h
+pledge_moves p q stamp (Command.AskBooking day window) d h = gated p q _ stamp.word stamp.day _ d (λ g k. ask-moves p q _ stamp.word stamp.day day window d (λ n. n.1) g k) h
+pledge_moves p q stamp Command.CancelBooking d h = gated p q _ stamp.word stamp.day _ d (λ g k. cancel-moves p q _ stamp.word stamp.day p.standing.booking d g refl k) h
+pledge_moves p q stamp (Command.DecideBooking decision) d h = gated p q _ stamp.word stamp.day _ d (λ g k. decide-moves p q _ stamp.word stamp.day decision p.standing.booking d g refl k) h
+pledge_moves p q stamp (Command.Redeem paid) d h = gated p q _ stamp.word stamp.day _ d (λ g k. redeem-moves p q _ stamp.word stamp.day paid d g k) h
+pledge_moves p q stamp (Command.Sell net) d h = gated p q _ stamp.word stamp.day _ d (λ g k. sell-moves p q _ stamp.word stamp.day net d g k) h
+pledge_moves p q stamp (Command.Extend until) d h = gated p q _ stamp.word stamp.day _ d (λ g k. extend-moves p q _ stamp.word stamp.day until d (λ n. n.1) k) h

@@ -1,17 +1,26 @@
 -- One more element at the end of a list of a record.
-use Rattle.std.proofs.Common.{◌≡◌, ℕ, ◌+◌, ◌<◌, ◌≤◌, ◌==◌, max, false, List, [], ◌∷◌, ◌++◌, drop, take, get_or, ◌-◌, length, refl, sym, ap, subst, ◌∙◌, arith}
+use Rattle.std.proofs.Common.{◌≡◌, ℕ, ◌+◌, ◌<◌, ◌≤◌, ◌==◌, false, List, [], ◌∷◌, ◌++◌, drop, take, get_or, ◌-◌, length, Option, Some, None, suc, refl, sym, ap, subst, ◌∙◌, arith, slice_get, length-append}
 use Rattle.std.specs.List.{list_any}
 use Rattle.std.proofs.lemmas.Bool.{or_parts, or_from}
 use Rattle.std.proofs.lemmas.Bool.Decides.{nat_tests}
 use Rattle.std.proofs.lemmas.List.{drop_more, take_rest}
 use Rattle.std.proofs.lemmas.List.Folds.{list_any-append}
+use Rattle.pawn_terms.specs.Calendar.{later_of}
 use Rattle.pawn_debt.specs.declared.entry.Entry.{Entry}
 use Rattle.pawn_debt.specs.Due.{last_of, AreOrdered}
 use Rattle.pawn_debt.proofs.EntryLemmas.{last-le}
 use Rattle.pawn_pledge.specs.declared.record.Issued.{Issued}
 use Rattle.pawn_pledge.specs.declared.record.Extension.{Extension}
-use Rattle.pawn_pledge.specs.Pledge.{end_after}
+use Rattle.pawn_pledge.specs.Pledge.{last_element, last_until}
 use Rattle.pawn_pledge.specs.Replayable.{Each, IsLaterIssue, AreIssued, AreDistinct, DoNotFall, last_issue, AreNumbered, AreExtended, last_extension}
+
+last-push : {A : Type 0} (xs : List A) (x : A) → slice_get (xs ++ x ∷ []) (length xs) ≡ Some x
+last-push [] x = refl
+last-push (y ∷ ys) x = last-push ys x
+
+-- the last of a list that one was put on
+pub last_element-push : {A : Type 0} (xs : List A) (x : A) → last_element (xs ++ x ∷ []) ≡ Some x
+last_element-push xs x = let n : length (xs ++ x ∷ []) - 1 ≡ length xs = omega (arith, length-append xs (x ∷ [])) in rw n (last-push xs x)
 
 pub Each-push : {A : Type 0} (P : A → Type 0) (xs : List A) (x : A) → Each P xs → P x → Each P (xs ++ x ∷ [])
 Each-push P [] x h last = (last, tt)
@@ -62,17 +71,40 @@ AreOrdered-each low day high (e ∷ es) after h before =
     ((omega (arith, after, h.0), omega (arith, last-le e.day es h.1, before)), AreOrdered-each low e.day high es (omega (arith, after, h.0)) h.1 before)
 
 -- extensions
-pub end_after-push : (ends : ℕ) (xs : List Extension) (x : Extension) → end_after ends (xs ++ x ∷ []) ≡ max (end_after ends xs) x.until
-end_after-push ends [] x = refl
-end_after-push ends (y ∷ ys) x = end_after-push (max ends y.until) ys x
+pub later_of-le : (day : ℕ) (o : Option ℕ) → day ≤ later_of day o
+later_of-le day None = omega arith
+later_of-le day (Some other) = omega arith
 
-pub end_after-le : (ends : ℕ) (xs : List Extension) → ends ≤ end_after ends xs
-end_after-le ends [] = omega arith
-end_after-le ends (y ∷ ys) = omega (arith, end_after-le (max ends y.until) ys)
+-- the end after extensions that were agreed, and each put it off
+abbrev until_after : ℕ → List Extension → ℕ
+until_after ends [] = ends
+until_after ends (x ∷ xs) = until_after x.until xs
 
-pub AreExtended-push : (day ends : ℕ) (xs : List Extension) (x : Extension) → AreExtended day ends xs → last_extension day xs ≤ x.day → x.day ≤ end_after ends xs → end_after ends xs < x.until → AreExtended day ends (xs ++ x ∷ [])
-AreExtended-push day ends [] x h late inside longer = (late, inside, longer, tt)
-AreExtended-push day ends (y ∷ ys) x h late inside longer = (h.0, h.1, h.2, AreExtended-push y.day (max ends y.until) ys x h.3 late inside longer)
+until_after-le : (day ends : ℕ) (xs : List Extension) → AreExtended day ends xs → ends ≤ until_after ends xs
+until_after-le day ends [] h = omega arith
+until_after-le day ends (x ∷ xs) h = omega (arith, h.2, until_after-le x.day x.until xs h.3)
+
+last_until-is : (x : Extension) (xs : List Extension) → last_until (x ∷ xs) ≡ Some (until_after x.until xs)
+last_until-is x [] = refl
+last_until-is x (y ∷ ys) = let n : length (x ∷ y ∷ ys) - 1 ≡ suc (length (y ∷ ys) - 1) = omega arith in rw n (last_until-is y ys)
+
+-- so the last of them is the latest
+later_of-until : (day ends : ℕ) (xs : List Extension) → AreExtended day ends xs → later_of ends (last_until xs) ≡ until_after ends xs
+later_of-until day ends [] h = refl
+later_of-until day ends (x ∷ xs) h = rw (last_until-is x xs) (omega (arith, h.2, until_after-le x.day x.until xs h.3))
+
+AreExtended-after : (day ends : ℕ) (xs : List Extension) (x : Extension) → AreExtended day ends xs → last_extension day xs ≤ x.day → x.day ≤ until_after ends xs → until_after ends xs < x.until → AreExtended day ends (xs ++ x ∷ [])
+AreExtended-after day ends [] x h late inside longer = (late, inside, longer, tt)
+AreExtended-after day ends (y ∷ ys) x h late inside longer = (h.0, h.1, h.2, AreExtended-after y.day y.until ys x h.3 late inside longer)
+
+pub AreExtended-push : (day ends : ℕ) (xs : List Extension) (x : Extension) → AreExtended day ends xs → last_extension day xs ≤ x.day → x.day ≤ later_of ends (last_until xs) → later_of ends (last_until xs) < x.until → AreExtended day ends (xs ++ x ∷ [])
+AreExtended-push day ends xs x h late inside longer =
+    let e = later_of-until day ends xs h in
+    AreExtended-after day ends xs x h late (omega (arith, inside, e)) (omega (arith, longer, e))
+
+-- one more extension to a later end puts the end there
+pub later_of-push : (ends : ℕ) (xs : List Extension) (x : Extension) → later_of ends (last_until xs) < x.until → later_of ends (last_until (xs ++ x ∷ [])) ≡ x.until
+later_of-push ends xs x longer = rw (last_element-push xs x) (omega (arith, longer, later_of-le ends (last_until xs)))
 
 pub last_extension-push : (day : ℕ) (xs : List Extension) (x : Extension) → last_extension day (xs ++ x ∷ []) ≡ x.day
 last_extension-push day [] x = refl

@@ -1,5 +1,5 @@
 -- Which secret of a pledge is live.
-use Rattle.std.proofs.Common.{◌≡◌, ℕ, ◌-◌, ◌==◌, ◌||◌, Bool, true, false, List, [], ◌∷◌, ◌++◌, length, Some, None, refl, sym, ap, subst, ◌∙◌, arith, slice_get, length-append}
+use Rattle.std.proofs.Common.{◌≡◌, ℕ, ◌==◌, ◌||◌, Bool, true, false, List, [], ◌∷◌, ◌++◌, Option, Some, option_map, refl, sym, ap, subst, ◌∙◌}
 use Rattle.std.specs.List.{list_any}
 use Rattle.std.proofs.lemmas.Bool.{true≢false}
 use Rattle.std.proofs.lemmas.List.Folds.{list_any-append}
@@ -11,21 +11,13 @@ use Rattle.pawn_pledge.specs.Pledge.{PledgeValue, last_secret, live_under, live_
 use Rattle.pawn_pledge.specs.Words.{is_open, issue_of}
 use Rattle.pawn_pledge.specs.Step.{Judged, Refused, Answered, Changed, pledge_step, pledge_after}
 use Rattle.pawn_pledge.specs.Laws.{NeverLiveAgain}
-use Rattle.pawn_pledge.proofs.Moves.{IsGated, Move, pledge_moves, Entering, Holding, Declaring, Asking, Marking, Redeeming, Selling, Extending}
+use Rattle.pawn_pledge.proofs.Moves.{Move, pledge_moves, Entering, Declaring, Extending, Settling}
+use Rattle.pawn_pledge.proofs.Settled.{IsGated}
+use Rattle.pawn_pledge.proofs.Pushes.{last_element-push}
 
 -- no command gets past a closing
 pub closed-moved : (c : Closing) → is_open c ≡ false → c ≡ Closing.Open → ⊥
 closed-moved c shut is = true≢false (sym (ap is_open is) ∙ shut)
-
--- the last of a list that one was put on
-last_of-push : (xs : List Issued) (x : Issued) → slice_get (xs ++ x ∷ []) (length xs) ≡ Some x
-last_of-push [] x = refl
-last_of-push (y ∷ ys) x = last_of-push ys x
-
-last_secret-push : (xs : List Issued) (x : Issued) → last_secret (xs ++ x ∷ []) ≡ Some x.secret
-last_secret-push xs x =
-    let n : length (xs ++ x ∷ []) - 1 ≡ length xs = omega (arith, length-append xs (x ∷ [])) in
-    rw (n, last_of-push xs x) refl
 
 -- a secret was issued, and is not live
 pub record IsDead (p : PledgeValue) (secret : ℕ) : Type 0 where
@@ -57,29 +49,27 @@ dead-declared p q x new secret h g secrets closing fresh =
       dead = λ k.
           let live : live_of q ≡ Some new.secret =
           ap (λ (c : Closing). live_under c (last_secret q.secrets)) (closing ∙ g.standing)
-          ∙ ap (λ (l : List Issued). last_secret l) secrets ∙ last_secret-push p.secrets new in
+          ∙ ap last_secret secrets ∙ ap (option_map (λ (i : Issued). i.secret)) (last_element-push p.secrets new) in
           let e : Some new.secret ≡ Some secret = sym live ∙ k in
           let same : new.secret ≡ secret = cc in
           let F : ℕ → Type 0 = λ n. list_any (λ (i : Issued). i.secret == n) p.secrets ≡ false in
           true≢false (sym h.issued ∙ subst F same fresh);
     }
 
+-- a closing makes no secret live
+live_under-some : (c : Closing) (o : Option ℕ) (secret : ℕ) → live_under c o ≡ Some secret → o ≡ Some secret
+live_under-some Closing.Open o secret h = h
+live_under-some (Closing.Redeemed day paid) o secret h = cc
+live_under-some (Closing.Sold day net) o secret h = h
+
 dead-moved : (p q : PledgeValue) (c : Command) (w x secret : ℕ) → IsDead p secret → IsGated p x → Move p x w c q → IsDead q secret
 dead-moved p q c w x secret h g (Entering sort pence ok late few drawn is) = dead-kept p q _ secret h is refl refl
-dead-moved p q c w x secret h g (Holding flag new is) = dead-kept p q _ secret h is refl refl
 dead-moved p q c w x secret h g (Declaring paper ok is) =
     dead-declared p q x (record { day = x; sort = issue_of paper; secret = w }) secret h g (ap (λ (v : PledgeValue). v.secrets) is) (ap (λ (v : PledgeValue). v.standing.closing) is) ok.1.1.0
-dead-moved p q c w x secret h g (Asking b later live small state new named is) = dead-kept p q _ secret h is refl refl
-dead-moved p q c w x secret h g (Marking b state at new is) = dead-kept p q _ secret h is refl refl
-dead-moved p q c w x secret h g (Redeeming paid free total is) =
+dead-moved p q c w x secret h g (Settling s to is) =
     record {
       issued = ap (λ (v : PledgeValue). list_any (λ (i : Issued). i.secret == secret) v.secrets) is ∙ h.issued;
-      dead = λ k. let none : None ≡ Some secret = sym (ap live_of is) ∙ k in cc;
-    }
-dead-moved p q c w x secret h g (Selling net status small is) =
-    record {
-      issued = ap (λ (v : PledgeValue). list_any (λ (i : Issued). i.secret == secret) v.secrets) is ∙ h.issued;
-      dead = λ k. h.dead (ap (λ (o : Closing). live_under o (last_secret p.secrets)) g.standing ∙ sym (ap live_of is) ∙ k);
+      dead = λ k. h.dead (ap (λ (o : Closing). live_under o (last_secret p.secrets)) g.standing ∙ live_under-some s.closing (last_secret p.secrets) secret (sym (ap live_of is) ∙ k));
     }
 dead-moved p q c w x secret h g (Extending until inside longer few named is) = dead-kept p q _ secret h is refl refl
 

@@ -1,5 +1,5 @@
 -- What stands is answered again.
-use Rattle.std.proofs.Common.{◌≡◌, ◌≢◌, ℕ, ◌+◌, ◌≤◌, List, [], ◌∷◌, ◌++◌, length, Some, None, Ok, Err, refl, ◌∙◌, ap, sym, arith, ◌==◌, nat_lt, not, true, false, Bool, Option, Result, if◌then◌else◌, nat_le, ◌&&◌}
+use Rattle.std.proofs.Common.{◌≡◌, ◌≢◌, ℕ, ◌+◌, ◌≤◌, List, [], ◌∷◌, ◌++◌, length, Some, None, Ok, Err, refl, ◌∙◌, ap, sym, arith, ◌==◌, nat_lt, not, true, false, Bool, Option, Result, if◌then◌else◌, ◌&&◌}
 use Rattle.std.specs.Prelude.{find}
 use Rattle.std.proofs.lemmas.Bool.Decides.{nat_tests}
 use Rattle.pawn_terms.specs.Refusals.{NoneApplies}
@@ -19,12 +19,11 @@ use Rattle.pawn_pledge.specs.declared.refusal.Refusal.{Refusal}
 use Rattle.pawn_pledge.specs.Words.{with_last, is_ahead, is_repeat, new_entry, same_sort, with_extension}
 use Rattle.pawn_pledge.specs.Pledge.{PledgeValue, debt_of, end_of}
 use Rattle.pawn_pledge.specs.Replayable.{AreNumbered}
-use Rattle.pawn_pledge.specs.Step.{Answered, Changed, Judged, past, bars, under_debt, entry_of, entry_step, numbered_step, pledge_step, unless}
+use Rattle.pawn_pledge.specs.Step.{Answered, Changed, Judged, past, bars, period_bars, extend_bars, under_debt, entry_of, entry_step, numbered_step, pledge_step, unless}
 use Rattle.pawn_pledge.specs.Growth.{Grows}
-use Rattle.pawn_pledge.specs.Laws.{entering, EntriesActOnce, StandingEndIsAnswered, ExtensionsActOnce, pledge_after_all}
+use Rattle.pawn_pledge.specs.Laws.{entry_command, EntriesActOnce, StandingEndIsAnswered, ExtensionsActOnce, pledge_after_all}
 use Rattle.pawn_pledge.proofs.Moves.{unless-changed, if-unanswered}
 use Rattle.pawn_pledge.proofs.Growth.{lists_grow}
-use Rattle.pawn_pledge.specs.Limits.{most_extensions}
 
 -- what is not refused comes to what follows
 pub unless-past : (rows : List (Bool × Refusal)) (own : Judged) → NoneApplies rows → unless rows own ≡ own
@@ -47,7 +46,7 @@ under_debt-made p q x sort pence (Err fault) d is h = cc
 
 entry-made : (p q : PledgeValue) (x : ℕ) (sort : Sort) (pence : ℕ) (d : Done) → entry_step p x sort pence ≡ Changed q d → IsMade p x sort pence q d
 entry-made p q x Draw pence d h =
-    let a = unless-changed ((nat_lt (end_of p) x, Refusal.PeriodOver) ∷ []) (under_debt p x Draw pence (draw_answer (debt_of p) x pence)) q d h in
+    let a = unless-changed (period_bars p x) (under_debt p x Draw pence (draw_answer (debt_of p) x pence)) q d h in
     under_debt-made p q x Draw pence (draw_answer (debt_of p) x pence) d refl a.1
 entry-made p q x Repay pence d h = under_debt-made p q x Repay pence (repay_answer (debt_of p) x pence) d refl h
 
@@ -113,7 +112,7 @@ numbered-again p next q x y seq sort pence None d numbered at h grows =
 
 -- the same, of any pledge whose lists have grown since
 pub entered_again : (p next q : PledgeValue) (stamp again : Stamp) (sort : Sort) (seq pence : ℕ) (done : Done) → AreNumbered 1 p.entries
-    → pledge_step p stamp (entering sort seq pence) ≡ Changed next done → Grows next q → pledge_step q again (entering sort seq pence) ≡ Answered done
+    → pledge_step p stamp (entry_command sort seq pence) ≡ Changed next done → Grows next q → pledge_step q again (entry_command sort seq pence) ≡ Answered done
 entered_again p next q stamp again Draw seq pence done numbered step grows = numbered-again p next q stamp.day again.day seq Draw pence (entry_of p seq) done numbered refl step grows
 entered_again p next q stamp again Repay seq pence done numbered step grows = numbered-again p next q stamp.day again.day seq Repay pence (entry_of p seq) done numbered refl step grows
 
@@ -128,19 +127,18 @@ standing_end_is_answered p stamp h =
     let inside : nat_lt (end_of p) x ≡ false = grind (arith, nat_tests, h.1) in
     let here : (end_of p == end_of p) ≡ true = grind (arith, nat_tests) in
     unless-past (bars p x) _ h.0
-    ∙ unless-past ((nat_lt (end_of p) x, Refusal.PeriodOver) ∷ []) _ (inside, tt)
+    ∙ unless-past (period_bars p x) _ (inside, tt)
     ∙ rw here refl
 
 pub extended-made : (p q : PledgeValue) (stamp : Stamp) (until : ℕ) (d : Done) → pledge_step p stamp (Command.Extend until) ≡ Changed q d → d ≡ Done.Extended until
 extended-made p q stamp until d h =
     let x = stamp.day in
     let next : PledgeValue = with_extension p (record { day = x; until = until }) in
-    let rows : List (Bool × Refusal) = (nat_lt until (end_of p), Refusal.NotLater) ∷ (nat_le most_extensions (length p.extensions), Refusal.ExtensionsFull) ∷ [] in
-    let own : Judged = unless rows (Changed next (Done.Extended until)) in
+    let own : Judged = unless (extend_bars p until) (Changed next (Done.Extended until)) in
     let a = unless-changed (bars p x) _ q d h in
-    let b = unless-changed ((nat_lt (end_of p) x, Refusal.PeriodOver) ∷ []) (if until == end_of p then Answered (Done.Extended until) else own) q d a.1 in
+    let b = unless-changed (period_bars p x) (if until == end_of p then Answered (Done.Extended until) else own) q d a.1 in
     let f = if-unanswered (until == end_of p) _ own q d b.1 in
-    let e = unless-changed rows (Changed next (Done.Extended until)) q d f.1 in
+    let e = unless-changed (extend_bars p until) (Changed next (Done.Extended until)) q d f.1 in
     (changed-both next q (Done.Extended until) d e.1).1
 
 pub extensions_act_once : ExtensionsActOnce

@@ -1,8 +1,8 @@
 -- A step keeps a pledge one that can have come about.
-use Rattle.std.proofs.Common.{◌≡◌, ℕ, ◌+◌, ◌<◌, ◌≤◌, ◌==◌, max, nat_le, Bool, true, false, not, ◌&&◌, if◌then◌else◌, List, [], ◌∷◌, ◌++◌, length, Option, Some, None, Ok, refl, sym, ap, subst, ◌∙◌, arith, length-append, IfSome}
-use Rattle.std.proofs.lemmas.Bool.{true≢false, false≢true}
+use Rattle.std.proofs.Common.{◌≡◌, ℕ, ◌+◌, ◌<◌, ◌≤◌, ◌==◌, nat_le, Bool, true, false, not, ◌&&◌, if◌then◌else◌, List, [], ◌∷◌, ◌++◌, length, Option, Some, None, Ok, refl, sym, ap, subst, ◌∙◌, arith, length-append}
+use Rattle.std.proofs.lemmas.Bool.{true≢false}
 use Rattle.std.proofs.lemmas.Bool.Decides.{nat_tests}
-use Rattle.pawn_terms.specs.Calendar.{period_end, six_months}
+use Rattle.pawn_terms.specs.Calendar.{later_of, period_end, six_months}
 use Rattle.pawn_terms.specs.Refusals.{NoneApplies}
 use Rattle.pawn_terms.specs.Limits.{last_stamp_day}
 use Rattle.pawn_debt.specs.declared.entry.Entry.{Entry}
@@ -17,18 +17,18 @@ use Rattle.pawn_pledge.specs.declared.record.Issued.{Issued}
 use Rattle.pawn_pledge.specs.declared.record.Extension.{Extension}
 use Rattle.pawn_pledge.specs.declared.record.Standing.{Standing}
 use Rattle.pawn_pledge.specs.declared.record.Booking.{Booking}
-use Rattle.pawn_pledge.specs.declared.record.BookingState.{BookingState}
 use Rattle.pawn_pledge.specs.declared.record.Closing.{Closing}
 use Rattle.pawn_pledge.specs.declared.record.Status.TheVariants as Status
 use Rattle.pawn_pledge.specs.declared.command.Paper.{Paper}
 use Rattle.pawn_pledge.specs.declared.command.Command.{Command}
-use Rattle.pawn_pledge.specs.Words.{with_last, with_standing, same_flag, with_hold, with_booking, with_closing, close, is_written, issue_of, new_entry, with_secret, in_state, state_after, booking_after, with_extension}
-use Rattle.pawn_pledge.specs.Pledge.{PledgeValue, first_end, end_of, is_small, debt_of, is_passed}
+use Rattle.pawn_pledge.specs.Words.{with_last, with_standing, is_written, issue_of, new_entry, with_secret, with_extension}
+use Rattle.pawn_pledge.specs.Pledge.{PledgeValue, end_with, last_until, end_of, is_small, debt_of, is_passed}
 use Rattle.pawn_pledge.specs.Step.{declare_bars}
-use Rattle.pawn_pledge.specs.Replayable.{IsNotPassed, IsLaterIssue, IsDrawnBy, IsClosed, IsOver, IsOverUnder, IsBooked, IsReplayable, IsWithin}
+use Rattle.pawn_pledge.specs.Replayable.{IsNotPassed, IsLaterIssue, IsDrawnBy, IsClosed, IsOverUnder, IsBooked, IsReplayable, IsWithin}
 use Rattle.pawn_pledge.specs.Commands.{IsCommand}
-use Rattle.pawn_pledge.proofs.Moves.{not_most, IsGated, Move, Entering, Holding, Declaring, Asking, Marking, Redeeming, Selling, Extending}
-use Rattle.pawn_pledge.proofs.Pushes.{Each-push, Each-map, Each-all, AreIssued-push, AreDistinct-push, DoNotFall-push, last_issue-push, AreNumbered-push, AreOrdered-each, end_after-push, end_after-le, AreExtended-push, last_extension-push}
+use Rattle.pawn_pledge.proofs.Moves.{not_most, Move, Entering, Declaring, Extending, Settling}
+use Rattle.pawn_pledge.proofs.Settled.{IsGated, still-open}
+use Rattle.pawn_pledge.proofs.Pushes.{Each-push, Each-map, Each-all, AreIssued-push, AreDistinct-push, DoNotFall-push, last_issue-push, AreNumbered-push, AreOrdered-each, later_of-le, later_of-push, AreExtended-push, last_extension-push}
 use Rattle.pawn_pledge.specs.Limits.{small_credit, most_secrets}
 
 -- not passed, where the last case is not
@@ -40,17 +40,6 @@ unpassed false false = refl
 -- a period that was made longer is never passed
 pub longer-not_passed : (p : PledgeValue) (x : ℕ) → (end_of p == six_months p.agreement.taken) ≡ false → IsNotPassed p x
 longer-not_passed p x h = rw h (unpassed (nat_le x (end_of p)) (p.agreement.opening.five_days && nat_le x (end_of p + 5)))
-
--- what a move leaves open
-still-open : (p : PledgeValue) (c : Closing) → c ≡ Closing.Open → IsClosed p c
-still-open p Closing.Open h = tt
-still-open p (Closing.Redeemed day paid) h = cc
-still-open p (Closing.Sold day net) h = cc
-
-open-booked : (c : Closing) (s : BookingState) → c ≡ Closing.Open → IsOverUnder c s
-open-booked Closing.Open s h = tt
-open-booked (Closing.Redeemed day paid) s h = cc
-open-booked (Closing.Sold day net) s h = cc
 
 -- a change that no list depends on
 pub stays-with_standing : (p : PledgeValue) (s : Standing) → IsReplayable p → p.standing.last ≤ s.last → IsNotPassed p s.last
@@ -127,9 +116,8 @@ stays-declared p x word paper h g ok =
     }
 
 -- a longer period
-pub period_end-late : (taken : ℕ) (agreed : Option ℕ) → six_months taken ≤ period_end taken agreed
-period_end-late taken None = omega arith
-period_end-late taken (Some day) = omega arith
+pub period_end-late : (taken : ℕ) (agreed extended : Option ℕ) → six_months taken ≤ period_end taken agreed extended
+period_end-late taken agreed extended = omega (arith, later_of-le (six_months taken) agreed, later_of-le (later_of (six_months taken) agreed) extended)
 
 unequal : (a b : ℕ) → b < a → (a == b) ≡ false
 unequal a b h = grind (arith, nat_tests)
@@ -148,11 +136,10 @@ pub stays-extended : (p : PledgeValue) (x until : ℕ) → IsReplayable p → Is
 stays-extended p x until h g inside longer =
     let e : Extension = record { day = x; until = until } in
     let q : PledgeValue = with_extension p e in
-    let ends : end_of q ≡ max (end_of p) until = end_after-push (first_end p.agreement) p.extensions e in
-    let later : end_of p ≤ end_of q = omega (arith, ends) in
-    let first : first_end p.agreement ≤ end_of p = end_after-le (first_end p.agreement) p.extensions in
-    let six : six_months p.agreement.taken ≤ first_end p.agreement = period_end-late p.agreement.taken p.agreement.opening.agreed in
-    let past : six_months p.agreement.taken < end_of q = omega (arith, ends, longer, first, six) in
+    let ends : end_of q ≡ until = later_of-push (end_with p.agreement None) p.extensions e longer in
+    let later : end_of p ≤ end_of q = omega (arith, ends, longer) in
+    let six : six_months p.agreement.taken ≤ end_of p = period_end-late p.agreement.taken p.agreement.opening.agreed (last_until p.extensions) in
+    let past : six_months p.agreement.taken < end_of q = omega (arith, ends, longer, six) in
     let any : (y : ℕ) → IsNotPassed q y = λ y. longer-not_passed q y (unequal (end_of q) (six_months p.agreement.taken) past) in
     let days = AreOrdered-each p.agreement.taken p.agreement.taken (end_of p) p.entries (omega arith) h.entered.ordered (omega (arith, h.entered.before, g.later, inside)) in
     record {
@@ -171,61 +158,20 @@ stays-extended p x until h g inside longer =
       closed = still-open q p.standing.closing g.standing;
       booked = booked-longer p q p.standing.booking refl refl any h.booked;
       extended = record {
-        each = AreExtended-push p.agreement.taken (first_end p.agreement) p.extensions e h.extended.each (omega (arith, h.extended.before, g.later)) inside longer;
+        each = AreExtended-push p.agreement.taken (end_with p.agreement None) p.extensions e h.extended.each (omega (arith, h.extended.before, g.later)) inside longer;
         before = omega (arith, last_extension-push p.agreement.taken p.extensions e);
       };
     }
 
--- a closed pledge's booking
-state_after-over : (s : BookingState) → IsOver (state_after s)
-state_after-over BookingState.Asked = tt
-state_after-over BookingState.Confirmed = tt
-state_after-over BookingState.Refused = tt
-state_after-over BookingState.Cancelled = tt
-
-state_after-under : (c : Closing) (s : BookingState) → IsOverUnder c (state_after s)
-state_after-under Closing.Open s = tt
-state_after-under (Closing.Redeemed day paid) s = state_after-over s
-state_after-under (Closing.Sold day net) s = state_after-over s
-
-closed-booked : (p : PledgeValue) (c : Closing) (x : ℕ) (o : Option Booking) → IsBooked p o → IsBooked (close p x c) (booking_after o)
-closed-booked p c x None h = tt
-closed-booked p c x (Some b) h = (h.0, h.1, h.2, state_after-under c b.state)
-
 -- whatever the move
 pub stays-moved : (p q : PledgeValue) (c : Command) (w x : ℕ) → IsReplayable p → IsGated p x → Move p x w c q → IsReplayable q
 stays-moved p q c w x h g (Entering sort pence ok late few drawn is) = subst IsReplayable (sym is) (stays-entered p x pence sort h g ok late drawn)
-stays-moved p q c w x h g (Holding flag new is) =
-    let s : Standing = with_hold p.standing flag x in
-    subst IsReplayable (sym is) (stays-with_standing p s h g.later g.not_passed (still-open (with_standing p s) p.standing.closing g.standing) h.booked)
 stays-moved p q c w x h g (Declaring paper ok is) = subst IsReplayable (sym is) (stays-declared p x w paper h g ok)
-stays-moved p q c w x h g (Asking b later live small state new named is) =
-    let s : Standing = with_booking p.standing b x in
-    subst IsReplayable (sym is) (stays-with_standing p s h g.later g.not_passed (still-open (with_standing p s) p.standing.closing g.standing)
-    (omega (arith, h.last_in, g.later, later), live, small, open-booked p.standing.closing b.state g.standing))
-stays-moved p q c w x h g (Marking b state at new is) =
-    let P : Option Booking → Type 0 = λ o. IsBooked p o in
-    let old : IsBooked p (Some b) = subst P at h.booked in
-    let s : Standing = with_booking p.standing (in_state b state) x in
-    subst IsReplayable (sym is) (stays-with_standing p s h g.later g.not_passed (still-open (with_standing p s) p.standing.closing g.standing)
-    (old.0, old.1, old.2, open-booked p.standing.closing state g.standing))
-stays-moved p q c w x h g (Redeeming paid free total is) =
-    let o = Closing.Redeemed x paid in
-    subst IsReplayable (sym is) (stays-with_standing p (with_closing p.standing o x) h g.later g.not_passed (refl, total, free) (closed-booked p o x p.standing.booking h.booked))
-stays-moved p q c w x h g (Selling net status small is) =
-    let o = Closing.Sold x net in
-    subst IsReplayable (sym is) (stays-with_standing p (with_closing p.standing o x) h g.later g.not_passed (refl, status, small) (closed-booked p o x p.standing.booking h.booked))
+stays-moved p q c w x h g (Settling s to is) =
+    subst IsReplayable (sym is) (stays-with_standing p s h (omega (arith, to.last, g.later)) (subst (IsNotPassed p) (sym to.last) g.not_passed) to.closed (to.booked (omega (arith, h.last_in, g.later)) h.booked))
 stays-moved p q c w x h g (Extending until inside longer few named is) = subst IsReplayable (sym is) (stays-extended p x until h g inside longer)
 
 -- and a move keeps the limits
-settled-within : (p : PledgeValue) (s : Standing) → s.last ≤ last_stamp_day → IfSome s.booking (λ b. b.day ≤ last_stamp_day) → IsWithin p → IsWithin (with_standing p s)
-settled-within p s stamped named h =
-    record { number = h.number; opening = h.opening; entries = h.entries; secrets = h.secrets; extensions = h.extensions; untils = h.untils; booking = named; last = stamped }
-
-closing-within : (o : Option Booking) → IfSome o (λ b. b.day ≤ last_stamp_day) → IfSome (booking_after o) (λ b. b.day ≤ last_stamp_day)
-closing-within None h = h
-closing-within (Some b) h = h
-
 pub within-moved : (p q : PledgeValue) (c : Command) (w x : ℕ) → x ≤ last_stamp_day → IsCommand c → IsWithin p → Move p x w c q → IsWithin q
 within-moved p q c w x stamped given h (Entering sort pence ok late few drawn is) =
     subst IsWithin (sym is) (record {
@@ -238,7 +184,6 @@ within-moved p q c w x stamped given h (Entering sort pence ok late few drawn is
       booking = h.booking;
       last = stamped;
     })
-within-moved p q c w x stamped given h (Holding flag new is) = subst IsWithin (sym is) (settled-within p (with_hold p.standing flag x) stamped h.booking h)
 within-moved p q c w x stamped given h (Declaring paper ok is) =
     let i : Issued = record { day = x; sort = issue_of paper; secret = w } in
     subst IsWithin (sym is) (record {
@@ -251,16 +196,17 @@ within-moved p q c w x stamped given h (Declaring paper ok is) =
       booking = h.booking;
       last = stamped;
     })
-within-moved p q c w x stamped given h (Asking b later live small state new named is) =
-    subst IsWithin (sym is) (settled-within p (with_booking p.standing b x) stamped (named given) h)
-within-moved p q c w x stamped given h (Marking b state at new is) =
-    let P : Option Booking → Type 0 = λ o. IfSome o (λ k. k.day ≤ last_stamp_day) in
-    let old : P (Some b) = subst P at h.booking in
-    subst IsWithin (sym is) (settled-within p (with_booking p.standing (in_state b state) x) stamped old h)
-within-moved p q c w x stamped given h (Redeeming paid free total is) =
-    subst IsWithin (sym is) (settled-within p (with_closing p.standing (Closing.Redeemed x paid) x) stamped (closing-within p.standing.booking h.booking) h)
-within-moved p q c w x stamped given h (Selling net status small is) =
-    subst IsWithin (sym is) (settled-within p (with_closing p.standing (Closing.Sold x net) x) stamped (closing-within p.standing.booking h.booking) h)
+within-moved p q c w x stamped given h (Settling s to is) =
+    subst IsWithin (sym is) (record {
+      number = h.number;
+      opening = h.opening;
+      entries = h.entries;
+      secrets = h.secrets;
+      extensions = h.extensions;
+      untils = h.untils;
+      booking = to.named given h.booking;
+      last = omega (arith, to.last, stamped);
+    })
 within-moved p q c w x stamped given h (Extending until inside longer few named is) =
     let e : Extension = record { day = x; until = until } in
     subst IsWithin (sym is) (record {
@@ -278,27 +224,11 @@ within-moved p q c w x stamped given h (Extending until inside longer few named 
 grown : {A : Type 0} (xs : List A) (x : A) → xs ++ x ∷ [] ≡ xs → ⊥
 grown xs x h = let n : length (xs ++ x ∷ []) ≡ length xs = ap length h in omega (arith, n, length-append xs (x ∷ []))
 
-another_flag : (held flag : Bool) → same_flag held flag ≡ false → flag ≡ held → ⊥
-another_flag true true h e = true≢false h
-another_flag true false h e = false≢true e
-another_flag false true h e = true≢false e
-another_flag false false h e = true≢false h
-
-closes : (p : PledgeValue) (c : Closing) → p.standing.closing ≡ Closing.Open → c ≡ p.standing.closing → (c ≡ Closing.Open → ⊥) → ⊥
-closes p c standing e n = n (e ∙ standing)
-
 -- and something is another
 pub differs-moved : (p q : PledgeValue) (c : Command) (w x : ℕ) → IsGated p x → Move p x w c q → q ≡ p → ⊥
 differs-moved p q c w x g (Entering sort pence ok late few drawn is) same =
     grown p.entries (record { seq = length p.entries + 1; day = x; sort = sort; pence = pence }) (ap (λ (v : PledgeValue). v.entries) (sym is ∙ same))
-differs-moved p q c w x g (Holding flag new is) same = another_flag p.standing.held flag new (ap (λ (v : PledgeValue). v.standing.held) (sym is ∙ same))
 differs-moved p q c w x g (Declaring paper ok is) same =
     grown p.secrets (record { day = x; sort = issue_of paper; secret = w }) (ap (λ (v : PledgeValue). v.secrets) (sym is ∙ same))
-differs-moved p q c w x g (Asking b later live small state new named is) same = new (sym (ap (λ (v : PledgeValue). v.standing.booking) (sym is ∙ same)))
-differs-moved p q c w x g (Marking b state at new is) same =
-    let e : Some (in_state b state) ≡ Some b = ap (λ (v : PledgeValue). v.standing.booking) (sym is ∙ same) ∙ at in
-    let f : in_state b state ≡ b = cc in
-    new (sym (ap (λ (k : Booking). k.state) f))
-differs-moved p q c w x g (Redeeming paid free total is) same = closes p (Closing.Redeemed x paid) g.standing (ap (λ (v : PledgeValue). v.standing.closing) (sym is ∙ same)) (λ e. cc)
-differs-moved p q c w x g (Selling net status small is) same = closes p (Closing.Sold x net) g.standing (ap (λ (v : PledgeValue). v.standing.closing) (sym is ∙ same)) (λ e. cc)
+differs-moved p q c w x g (Settling s to is) same = to.differs (ap (λ (v : PledgeValue). v.standing) (sym is ∙ same))
 differs-moved p q c w x g (Extending until inside longer few named is) same = grown p.extensions (record { day = x; until = until }) (ap (λ (v : PledgeValue). v.extensions) (sym is ∙ same))

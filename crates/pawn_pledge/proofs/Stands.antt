@@ -1,5 +1,5 @@
 -- What the tests on parts find makes a record that can stand.
-use Rattle.std.proofs.Common.{◌≡◌, ℕ, ◌+◌, ◌≤◌, ◌==◌, nat_le, Bool, true, false, ◌&&◌, if◌then◌else◌, List, [], ◌∷◌, ◌++◌, length, refl, sym, ◌∙◌, arith, length-append}
+use Rattle.std.proofs.Common.{◌≡◌, ℕ, ◌+◌, ◌≤◌, ◌==◌, nat_le, Bool, true, false, ◌&&◌, if◌then◌else◌, List, [], ◌∷◌, ◌++◌, length, None, refl, sym, ◌∙◌, arith, length-append}
 use Rattle.std.proofs.lemmas.Bool.{false≢true}
 use Rattle.std.proofs.lemmas.Bool.Decides.{nat_tests}
 use Rattle.pawn_pledge.specs.Parts.{IsTyped, IsLimited, AreIssuedIn}
@@ -12,7 +12,7 @@ use Rattle.pawn_debt.specs.Kept.{IsKept}
 use Rattle.pawn_debt.specs.Replay.{AreAccepted}
 use Rattle.pawn_pledge.specs.declared.record.Issued.{Issued}
 use Rattle.pawn_pledge.specs.declared.record.Status.TheVariants as Status
-use Rattle.pawn_pledge.specs.Pledge.{PledgeValue, end_of, is_small, debt_of, first_end, is_passed}
+use Rattle.pawn_pledge.specs.Pledge.{PledgeValue, end_of, is_small, debt_of, end_with, is_passed}
 use Rattle.pawn_pledge.specs.Replayable.{Each, IsNotPassed, DoNotFall, last_issue, AreNumbered, IsDrawnBy, AreExtended, last_extension, IsClosed, IsBooked, IsStanding}
 use Rattle.pawn_pledge.proofs.Pushes.{Each-map, AreOrdered-each}
 
@@ -62,7 +62,7 @@ pub record IsFound (v : PledgeValue) (t : Totals) : Type 0 where
   pub typed : IsTyped v
   pub limited : IsLimited v
   pub taken : v.agreement.taken ≤ v.standing.last
-  pub extended : AreExtended v.agreement.taken (first_end v.agreement) v.extensions × (last_extension v.agreement.taken v.extensions ≤ v.standing.last)
+  pub extended : AreExtended v.agreement.taken (end_with v.agreement None) v.extensions × (last_extension v.agreement.taken v.extensions ≤ v.standing.last)
   pub kept : IsKept (debt_of v) t
   pub accepted : AreAccepted (debt_of v) [] v.entries
   pub entered : t.day ≤ v.standing.last

@@ -38,7 +38,7 @@ starts_standing number opening version terms stamp p known within checked day h 
     } in
     let a = first_of-ok ((is_bad_amount (credit_of opening.kind), Refusal.Debt BadAmount) ∷ []) (Ok first) p h in
     let is : first ≡ p = cc in
-    let live : IsNotPassed first stamp.day = inside-not_passed first stamp.day (omega (arith, six_months-later stamp.day day, period_end-late stamp.day opening.agreed)) in
+    let live : IsNotPassed first stamp.day = inside-not_passed first stamp.day (omega (arith, six_months-later stamp.day day, period_end-late stamp.day opening.agreed None)) in
     subst IsStanding is (record {
       terms = checked;
       replayable = record {

@@ -8,7 +8,7 @@ use Rattle.pawn_pledge.specs.declared.command.Done.{Done}
 use Rattle.pawn_pledge.specs.Pledge.{PledgeValue}
 use Rattle.pawn_pledge.specs.Step.{Changed, pledge_step}
 use Rattle.pawn_pledge.specs.Laws.{AgreementStays, StaysReplayable, StaysWithin, StaysStanding, ChangesDiffer}
-use Rattle.pawn_pledge.proofs.Moves.{Move, pledge_moves, Entering, Holding, Declaring, Asking, Marking, Redeeming, Selling, Extending}
+use Rattle.pawn_pledge.proofs.Moves.{Move, pledge_moves, Entering, Declaring, Extending, Settling}
 use Rattle.pawn_pledge.proofs.Replays.{stays-moved, within-moved, differs-moved}
 use Rattle.pawn_pledge.proofs.Growth.{ListsMoved, lists-moved}
 
@@ -17,12 +17,8 @@ agreement_stays p next stamp command done step = of (pledge_moves p next stamp c
   where
     of : Move p stamp.day stamp.word command next → next.agreement ≡ p.agreement
     of (Entering sort pence ok late few drawn is) = ap (λ (v : PledgeValue). v.agreement) is
-    of (Holding flag new is) = ap (λ (v : PledgeValue). v.agreement) is
     of (Declaring paper ok is) = ap (λ (v : PledgeValue). v.agreement) is
-    of (Asking b later live small state new named is) = ap (λ (v : PledgeValue). v.agreement) is
-    of (Marking b state at new is) = ap (λ (v : PledgeValue). v.agreement) is
-    of (Redeeming paid free total is) = ap (λ (v : PledgeValue). v.agreement) is
-    of (Selling net status small is) = ap (λ (v : PledgeValue). v.agreement) is
+    of (Settling s to is) = ap (λ (v : PledgeValue). v.agreement) is
     of (Extending until inside longer few named is) = ap (λ (v : PledgeValue). v.agreement) is
 
 pub stays_replayable : StaysReplayable

@@ -5,17 +5,9 @@ use Rattle.pawn_pledge.specs.declared.command.Command.{Command}
 
 -- a command that a request can give
 abbrev pub IsCommand : Command → Type 0
-IsCommand (Command.Draw seq pence) = Unit {0}
-IsCommand (Command.Repay seq pence) = Unit {0}
-IsCommand Command.Hold = Unit {0}
-IsCommand Command.Release = Unit {0}
-IsCommand (Command.Declare paper) = Unit {0}
 IsCommand (Command.AskBooking day window) = IsStampDay day
-IsCommand Command.CancelBooking = Unit {0}
-IsCommand (Command.DecideBooking decision) = Unit {0}
-IsCommand (Command.Redeem paid) = Unit {0}
-IsCommand (Command.Sell net) = Unit {0}
 IsCommand (Command.Extend until) = IsStampDay until
+IsCommand other = Unit {0}
 
 -- a broker may send it
 abbrev pub is_brokers : Command → Bool
@@ -24,23 +16,15 @@ is_brokers (Command.Repay seq pence) = true
 is_brokers Command.Hold = true
 is_brokers Command.Release = true
 is_brokers (Command.Declare paper) = true
-is_brokers (Command.AskBooking day window) = false
-is_brokers Command.CancelBooking = false
 is_brokers (Command.DecideBooking decision) = true
-is_brokers (Command.Redeem paid) = false
 is_brokers (Command.Sell net) = true
 is_brokers (Command.Extend until) = true
+is_brokers other = false
 
 -- the bearer of a live receipt may
 abbrev pub is_bearers : Command → Bool
-is_bearers (Command.Draw seq pence) = false
 is_bearers (Command.Repay seq pence) = true
-is_bearers Command.Hold = false
-is_bearers Command.Release = false
-is_bearers (Command.Declare paper) = false
 is_bearers (Command.AskBooking day window) = true
 is_bearers Command.CancelBooking = true
-is_bearers (Command.DecideBooking decision) = false
 is_bearers (Command.Redeem paid) = true
-is_bearers (Command.Sell net) = false
-is_bearers (Command.Extend until) = false
+is_bearers other = false

@@ -17,7 +17,7 @@ use Rattle.pawn_pledge.specs.declared.receipt.Receipt.{Receipt}
 use Rattle.pawn_pledge.specs.Number.{IsNumber}
 use Rattle.pawn_pledge.specs.Pledge.{PledgeValue, end_of, debt_of, status_of, live_of}
 use Rattle.pawn_pledge.specs.Words.{is_open}
-use Rattle.pawn_pledge.specs.Step.{Answered, Changed, bars, pledge_step, pledge_after, started}
+use Rattle.pawn_pledge.specs.Step.{Answered, Changed, bars, pledge_step, pledge_after, pledge_start}
 use Rattle.pawn_pledge.specs.Replayable.{IsOpening, IsReplayable, IsWithin, IsStanding}
 use Rattle.pawn_pledge.specs.Commands.{IsCommand}
 use Rattle.pawn_pledge.specs.Growth.{Grows, StaysOrGrows}
@@ -30,7 +30,7 @@ abbrev pub StartsStanding : Type 0
 StartsStanding =
     (number : ℕ) (opening : Opening) (version : ℕ) (terms : Rates) (stamp : Stamp) (p : PledgeValue)
     → IsNumber number → IsOpening opening → IsChecked terms → IsStampDay stamp.day
-    → started number opening version terms stamp ≡ Ok p → IsStanding p
+    → pledge_start number opening version terms stamp ≡ Ok p → IsStanding p
 
 -- a change makes one that can have come about of one that can
 abbrev pub StaysReplayable : Type 0
@@ -99,17 +99,17 @@ abbrev pub ListsGrow : Type 0
 ListsGrow = (p : PledgeValue) (commands : List (Stamp × Command)) → Grows p (pledge_after_all p commands)
 
 -- a drawing or a repayment
-abbrev pub entering : Sort → ℕ → ℕ → Command
-entering Draw seq pence = Command.Draw seq pence
-entering Repay seq pence = Command.Repay seq pence
+abbrev pub entry_command : Sort → ℕ → ℕ → Command
+entry_command Draw seq pence = Command.Draw seq pence
+entry_command Repay seq pence = Command.Repay seq pence
 
 -- a drawing or a repayment that was entered is answered again as the first time and enters nothing, whatever became of the
 -- pledge in between, on any day and with any word
 abbrev pub EntriesActOnce : Type 0
 EntriesActOnce =
     (p next : PledgeValue) (stamp again : Stamp) (sort : Sort) (seq pence : ℕ) (done : Done) (later : List (Stamp × Command))
-    → IsReplayable p → pledge_step p stamp (entering sort seq pence) ≡ Changed next done
-    → pledge_step (pledge_after_all next later) again (entering sort seq pence) ≡ Answered done
+    → IsReplayable p → pledge_step p stamp (entry_command sort seq pence) ≡ Changed next done
+    → pledge_step (pledge_after_all next later) again (entry_command sort seq pence) ≡ Answered done
 
 -- nothing bars a command on the day x, and the period is not over
 abbrev pub MayExtend : PledgeValue → ℕ → Type 0

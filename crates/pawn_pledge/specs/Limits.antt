@@ -1,6 +1,10 @@
 -- The limits of a pledge's record.
 use Rattle.std.specs.Prelude.{ℕ}
 
+-- the highest number of a book or a pledge
+abbrev pub most_number : ℕ
+most_number = 999999999
+
 -- up to 75 pounds
 abbrev pub small_credit : ℕ
 small_credit = 7500

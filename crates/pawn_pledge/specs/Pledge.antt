@@ -1,5 +1,5 @@
 -- A pledge is a record, and what follows from it.
-use Rattle.std.specs.Prelude.{ℕ, ◌+◌, ◌-◌, max, [], ◌∷◌, nat_le, ◌&&◌, ◌==◌, Bool, true, false, if◌then◌else◌, List, length, slice_get, Option, None, option_map}
+use Rattle.std.specs.Prelude.{ℕ, ◌+◌, ◌-◌, nat_le, ◌&&◌, ◌==◌, Bool, true, false, if◌then◌else◌, List, length, slice_get, Option, None, option_map}
 use Rattle.pawn_terms.specs.Calendar.{period_end, six_months}
 use Rattle.pawn_debt.specs.Due.{DebtValue, due, credit_of}
 use Rattle.pawn_debt.specs.Owing.{total_of}
@@ -7,27 +7,29 @@ use Rattle.pawn_pledge.specs.Limits.{small_credit}
 use Rattle.pawn_pledge.specs.declared.record.Issued.{Issued}
 use Rattle.pawn_pledge.specs.declared.record.Extension.{Extension}
 use Rattle.pawn_pledge.specs.declared.record.Agreement.{Agreement}
-use Rattle.pawn_pledge.specs.declared.record.Standing.{Standing}
 use Rattle.pawn_pledge.specs.declared.record.Closing.{Closing}
 use Rattle.pawn_pledge.specs.declared.record.Status.{Status}
 use Rattle.pawn_pledge.specs.declared.parts.Parts.{Parts}
+
+-- the last of a list
+abbrev pub last_element : {A : Type 0} → List A → Option A
+last_element xs = slice_get xs (length xs - 1)
 
 -- a pledge is seen as its record: what was agreed when it was taken, its lists, and how it stands
 abbrev pub PledgeValue : Type 0
 PledgeValue = Parts
 
--- the end of the period as it was first agreed
-abbrev pub first_end : Agreement → ℕ
-first_end a = period_end a.taken a.opening.agreed
+-- the end of the period, where an extension agreed last on that end
+abbrev pub end_with : Agreement → Option ℕ → ℕ
+end_with a extended = period_end a.taken a.opening.agreed extended
 
--- an end that extensions have put off
-abbrev pub end_after : ℕ → List Extension → ℕ
-end_after ends [] = ends
-end_after ends (e ∷ es) = end_after (max ends e.until) es
+-- the end that an extension agreed last
+abbrev pub last_until : List Extension → Option ℕ
+last_until extensions = option_map (λ e. e.until) (last_element extensions)
 
 -- the end of the period
 abbrev pub end_of : PledgeValue → ℕ
-end_of p = end_after (first_end p.agreement) p.extensions
+end_of p = end_with p.agreement (last_until p.extensions)
 
 -- a credit is small
 abbrev pub is_small : ℕ → Bool
@@ -56,20 +58,12 @@ abbrev pub open_status : PledgeValue → ℕ → Status
 open_status p x = status_by p.agreement (end_of p) x
 
 abbrev pub is_passed : Status → Bool
-is_passed Status.Inside = false
-is_passed Status.Grace = false
-is_passed Status.Realisable = false
 is_passed Status.Passed = true
-is_passed Status.Redeemed = false
-is_passed Status.Sold = false
+is_passed other = false
 
 abbrev pub is_realisable : Status → Bool
-is_realisable Status.Inside = false
-is_realisable Status.Grace = false
 is_realisable Status.Realisable = true
-is_realisable Status.Passed = false
-is_realisable Status.Redeemed = false
-is_realisable Status.Sold = false
+is_realisable other = false
 
 -- a closing decides the status
 abbrev pub status_under : Closing → Status → Status
@@ -83,7 +77,7 @@ status_of p x = status_under p.standing.closing (open_status p x)
 
 -- the last secret issued
 abbrev pub last_secret : List Issued → Option ℕ
-last_secret secrets = option_map (λ issued. issued.secret) (slice_get secrets (length secrets - 1))
+last_secret secrets = option_map (λ issued. issued.secret) (last_element secrets)
 
 -- a redemption takes the receipt
 abbrev pub live_under : Closing → Option ℕ → Option ℕ

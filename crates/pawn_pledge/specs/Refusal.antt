@@ -1,7 +1,6 @@
 -- Why a command on a pledge is refused.
 use Rattle.std.specs.Prelude.{ℕ, List, Option, Some, None, codes}
 use Rattle.pawn_debt.specs.declared.fault.DebtFault.{DebtFault}
-use Rattle.pawn_debt.specs.declared.fault.DebtFault.TheVariants.{BadAmount, FixedSum, OverLimit, OverOwing, EarlierDay, EntriesFull}
 use Rattle.pawn_debt.specs.DebtFault as debt
 use Rattle.pawn_pledge.specs.declared.refusal.Refusal.{Refusal}
 use Rattle.pawn_pledge.specs.declared.refusal.Refusal.TheVariants.{Debt, SeqTaken, SeqAhead, Held, Passed, Closed, NotRealisable, NotSmall, SecretUsed, DeclarationsFull, WrongAmount, NoBooking, BookingDay, BadWindow, PeriodOver, NotLater, ExtensionsFull}
@@ -51,30 +50,10 @@ name_of Refusal.Memory = codes "Memory"
 -- what is owing, where another sum was paid
 abbrev pub refusal_total : Refusal → Option ℕ
 refusal_total (Debt fault) = debt.fault_total fault
-refusal_total SeqTaken = None
-refusal_total SeqAhead = None
-refusal_total Held = None
-refusal_total Passed = None
-refusal_total Closed = None
-refusal_total NotRealisable = None
-refusal_total NotSmall = None
-refusal_total SecretUsed = None
-refusal_total DeclarationsFull = None
 refusal_total (WrongAmount total) = Some total
-refusal_total NoBooking = None
-refusal_total BookingDay = None
-refusal_total BadWindow = None
-refusal_total PeriodOver = None
-refusal_total NotLater = None
-refusal_total ExtensionsFull = None
-refusal_total Refusal.Memory = None
+refusal_total other = None
 
 -- a debt's refusal is the pledge's; for want of memory there is one word
 abbrev pub refusal_of : DebtFault → Refusal
 refusal_of DebtFault.Memory = Refusal.Memory
-refusal_of BadAmount = Debt BadAmount
-refusal_of FixedSum = Debt FixedSum
-refusal_of OverLimit = Debt OverLimit
-refusal_of (OverOwing total) = Debt (OverOwing total)
-refusal_of EarlierDay = Debt EarlierDay
-refusal_of EntriesFull = Debt EntriesFull
+refusal_of fault = Debt fault

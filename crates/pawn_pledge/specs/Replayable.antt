@@ -1,5 +1,5 @@
 -- Which records can have come about by commands.
-use Rattle.std.specs.Prelude.{◌≡◌, ℕ, ◌+◌, ◌≤◌, ◌<◌, ◌==◌, max, false, List, [], ◌∷◌, length, Option, Some, None, IfSome}
+use Rattle.std.specs.Prelude.{◌≡◌, ℕ, ◌+◌, ◌≤◌, ◌<◌, ◌==◌, false, List, [], ◌∷◌, length, Option, Some, None, IfSome}
 use Rattle.std.specs.List.{list_any}
 use Rattle.pawn_terms.specs.Calendar.{IsStampDay}
 use Rattle.pawn_terms.specs.Terms.{IsChecked}
@@ -20,7 +20,7 @@ use Rattle.pawn_pledge.specs.declared.record.Status.TheVariants as Status
 use Rattle.pawn_pledge.specs.declared.record.Opening.{Opening}
 use Rattle.pawn_pledge.specs.Number.{IsNumber}
 use Rattle.pawn_pledge.specs.Text.{IsText}
-use Rattle.pawn_pledge.specs.Pledge.{PledgeValue, first_end, end_of, total_on, debt_of, open_status, is_passed}
+use Rattle.pawn_pledge.specs.Pledge.{PledgeValue, end_with, end_of, total_on, debt_of, open_status, is_passed}
 use Rattle.pawn_pledge.specs.Limits.{small_credit, most_secrets, most_extensions, last_window}
 
 -- each element of a list
@@ -73,7 +73,7 @@ IsDrawnBy ends Repay day = Unit {0}
 abbrev pub AreExtended : ℕ → ℕ → List Extension → Type 0
 AreExtended day ends [] = Unit {0}
 AreExtended day ends (e ∷ es) =
-    (day ≤ e.day) × (e.day ≤ ends) × (ends < e.until) × AreExtended e.day (max ends e.until) es
+    (day ≤ e.day) × (e.day ≤ ends) × (ends < e.until) × AreExtended e.day e.until es
 
 -- the day of the last extension, or the day before them all
 abbrev pub last_extension : ℕ → List Extension → ℕ
@@ -90,14 +90,12 @@ IsClosed p (Closing.Sold day net) = (day ≡ p.standing.last) × (open_status p 
 abbrev pub IsOver : BookingState → Type 0
 IsOver BookingState.Asked = ⊥
 IsOver BookingState.Confirmed = ⊥
-IsOver BookingState.Refused = Unit {0}
-IsOver BookingState.Cancelled = Unit {0}
+IsOver other = Unit {0}
 
 -- on a closed pledge no booking stands
 abbrev pub IsOverUnder : Closing → BookingState → Type 0
 IsOverUnder Closing.Open state = Unit {0}
-IsOverUnder (Closing.Redeemed day paid) state = IsOver state
-IsOverUnder (Closing.Sold day net) state = IsOver state
+IsOverUnder closed state = IsOver state
 
 -- a booking for a day in the pledge's time
 abbrev pub IsBooked : PledgeValue → Option Booking → Type 0
@@ -123,7 +121,7 @@ pub record IsEntered (p : PledgeValue) : Type 0 where
 
 -- the extensions
 pub record IsExtended (p : PledgeValue) : Type 0 where
-  pub each : AreExtended p.agreement.taken (first_end p.agreement) p.extensions
+  pub each : AreExtended p.agreement.taken (end_with p.agreement None) p.extensions
   pub before : last_extension p.agreement.taken p.extensions ≤ p.standing.last
 
 -- a record that can have come about by commands

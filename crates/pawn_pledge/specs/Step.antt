@@ -1,5 +1,5 @@
 -- What a command comes to: the first refusal that applies, or an answer and the pledge after it.
-use Rattle.std.specs.Prelude.{◌≡◌, ℕ, ◌+◌, ◌-◌, nat_lt, nat_le, ◌==◌, ◌&&◌, ◌||◌, not, Bool, true, false, if◌then◌else◌, List, [], ◌∷◌, ◌++◌, length, find, Option, Some, None, Result, Ok, Err, IsOk, ◌⊎◌}
+use Rattle.std.specs.Prelude.{◌≡◌, ℕ, ◌-◌, nat_lt, nat_le, ◌==◌, ◌&&◌, not, Bool, true, false, if◌then◌else◌, List, [], ◌∷◌, length, find, Option, Some, None, Result, Ok, Err, ◌⊎◌}
 use Rattle.std.specs.List.{list_any}
 use Rattle.pawn_terms.specs.declared.terms.Rates.{Rates}
 use Rattle.pawn_terms.specs.Refusals.{first_of, IsSaid, IsWant}
@@ -12,13 +12,10 @@ use Rattle.pawn_debt.specs.Due.{DebtValue, credit_of}
 use Rattle.pawn_debt.specs.Answers.{draw_answer, repay_answer, is_bad_amount}
 use Rattle.pawn_debt.specs.Limits.{most_pence}
 use Rattle.pawn_pledge.specs.declared.record.Opening.{Opening}
-use Rattle.pawn_pledge.specs.declared.record.Issued.{Issued}
 use Rattle.pawn_pledge.specs.declared.record.Issue.{Issue}
-use Rattle.pawn_pledge.specs.declared.record.Extension.{Extension}
 use Rattle.pawn_pledge.specs.declared.record.Booking.{Booking}
 use Rattle.pawn_pledge.specs.declared.record.BookingState.{BookingState}
 use Rattle.pawn_pledge.specs.declared.record.Closing.{Closing}
-use Rattle.pawn_pledge.specs.declared.record.Standing.{Standing}
 use Rattle.pawn_pledge.specs.declared.command.Stamp.{Stamp}
 use Rattle.pawn_pledge.specs.declared.command.Paper.{Paper}
 use Rattle.pawn_pledge.specs.declared.command.Decision.{Decision}
@@ -33,8 +30,8 @@ use Rattle.pawn_pledge.specs.Words.{with_last, with_hold, with_booking, with_sta
 use Rattle.pawn_pledge.specs.Pledge.{PledgeValue, end_of, is_small, debt_of, total_on, open_status, is_passed, is_realisable}
 
 -- a pledge as it is taken: its one secret is the stamp's word
-abbrev pub started : ℕ → Opening → ℕ → Rates → Stamp → Result PledgeValue Refusal
-started number opening version terms stamp =
+abbrev pub pledge_start : ℕ → Opening → ℕ → Rates → Stamp → Result PledgeValue Refusal
+pledge_start number opening version terms stamp =
     first_of
     ((is_bad_amount (credit_of opening.kind), Refusal.Debt BadAmount) ∷ [])
     (Ok (record {
@@ -70,6 +67,10 @@ bars p x =
     ∷ (is_passed (open_status p x), Refusal.Passed)
     ∷ []
 
+-- what bars a drawing or an extension
+abbrev pub period_bars : PledgeValue → ℕ → List (Bool × Refusal)
+period_bars p x = (nat_lt (end_of p) x, Refusal.PeriodOver) ∷ []
+
 -- drawings and repayments
 
 -- what the debt answers
@@ -81,7 +82,7 @@ under_debt p x sort pence (Err fault) = Refused (refusal_of fault)
 -- a drawing is made in the period; the other refusals are the debt's
 abbrev pub entry_step : PledgeValue → ℕ → Sort → ℕ → Judged
 entry_step p x Draw pence =
-    unless ((nat_lt (end_of p) x, Refusal.PeriodOver) ∷ []) (under_debt p x Draw pence (draw_answer (debt_of p) x pence))
+    unless (period_bars p x) (under_debt p x Draw pence (draw_answer (debt_of p) x pence))
 entry_step p x Repay pence = under_debt p x Repay pence (repay_answer (debt_of p) x pence)
 
 -- an entry whose number stands is answered as the first time, whatever the day and the pledge's state
@@ -129,14 +130,15 @@ ask_once p x day window (Some booking) =
     if stands_for booking day window then Answered (Done.Booked booking)
     else books p x (record { day = day; window = window; state = BookingState.Asked })
 
-abbrev pub ask_step : PledgeValue → ℕ → ℕ → ℕ → Judged
-ask_step p x day window =
-    unless
-    ((nat_lt last_window window, Refusal.BadWindow)
+abbrev pub ask_bars : PledgeValue → ℕ → ℕ → ℕ → List (Bool × Refusal)
+ask_bars p x day window =
+    (nat_lt last_window window, Refusal.BadWindow)
     ∷ (nat_lt day x, Refusal.BookingDay)
     ∷ (is_passed (open_status p day), Refusal.BookingDay)
-    ∷ [])
-    (ask_once p x day window p.standing.booking)
+    ∷ []
+
+abbrev pub ask_step : PledgeValue → ℕ → ℕ → ℕ → Judged
+ask_step p x day window = unless (ask_bars p x day window) (ask_once p x day window p.standing.booking)
 
 -- cancelling by the booking's state
 abbrev pub cancel_in : PledgeValue → ℕ → Booking → BookingState → Judged
@@ -171,32 +173,40 @@ decide_step p x Refuse (Some booking) = decline_in p x booking booking.state
 
 -- closing a pledge
 
+abbrev pub redeem_bars : PledgeValue → ℕ → ℕ → List (Bool × Refusal)
+redeem_bars p x paid =
+    (p.standing.held, Refusal.Held)
+    ∷ (not (paid == total_on p x), Refusal.WrongAmount (total_on p x))
+    ∷ []
+
 abbrev pub redeem_step : PledgeValue → ℕ → ℕ → Judged
 redeem_step p x paid =
-    unless
-    ((p.standing.held, Refusal.Held)
-    ∷ (not (paid == total_on p x), Refusal.WrongAmount (total_on p x))
-    ∷ [])
-    (Changed (close p x (Closing.Redeemed x paid)) (Done.Redeemed x paid))
+    unless (redeem_bars p x paid) (Changed (close p x (Closing.Redeemed x paid)) (Done.Redeemed x paid))
+
+abbrev pub sell_bars : PledgeValue → ℕ → ℕ → List (Bool × Refusal)
+sell_bars p x net =
+    (not (is_realisable (open_status p x)), Refusal.NotRealisable)
+    ∷ (nat_lt most_pence net, Refusal.Debt BadAmount)
+    ∷ []
 
 -- with what the sale brought above what is owing, and below it
 abbrev pub sell_step : PledgeValue → ℕ → ℕ → Judged
 sell_step p x net =
-    unless
-    ((not (is_realisable (open_status p x)), Refusal.NotRealisable)
-    ∷ (nat_lt most_pence net, Refusal.Debt BadAmount)
-    ∷ [])
+    unless (sell_bars p x net)
     (Changed (close p x (Closing.Sold x net)) (Done.Sold net (net - total_on p x) (total_on p x - net)))
+
+abbrev pub extend_bars : PledgeValue → ℕ → List (Bool × Refusal)
+extend_bars p until =
+    (nat_lt until (end_of p), Refusal.NotLater)
+    ∷ (nat_le most_extensions (length p.extensions), Refusal.ExtensionsFull)
+    ∷ []
 
 -- a longer period; an extension to the end that stands is answered again
 abbrev pub extend_step : PledgeValue → ℕ → ℕ → Judged
 extend_step p x until =
-    unless ((nat_lt (end_of p) x, Refusal.PeriodOver) ∷ [])
+    unless (period_bars p x)
     (if until == end_of p then Answered (Done.Extended until)
-    else unless
-    ((nat_lt until (end_of p), Refusal.NotLater)
-    ∷ (nat_le most_extensions (length p.extensions), Refusal.ExtensionsFull)
-    ∷ [])
+    else unless (extend_bars p until)
     (Changed (with_extension p (record { day = x; until = until })) (Done.Extended until)))
 
 -- what a command comes to
@@ -222,25 +232,20 @@ reply_of (Changed pledge done) = Ok done
 
 -- the pledge afterwards
 abbrev pub pledge_after : PledgeValue → Judged → PledgeValue
-pledge_after p (Refused why) = p
-pledge_after p (Answered done) = p
 pledge_after p (Changed pledge done) = pledge
+pledge_after p other = p
 
 -- an entry, a secret or an extension is added
 abbrev pub IsAddition : Done → Type 0
 IsAddition (Done.Entered entry) = Unit {0}
-IsAddition (Done.Held flag) = ⊥
 IsAddition (Done.Declared secret) = Unit {0}
-IsAddition (Done.Booked booking) = ⊥
-IsAddition (Done.Redeemed day paid) = ⊥
-IsAddition (Done.Sold net surplus shortfall) = ⊥
 IsAddition (Done.Extended until) = Unit {0}
+IsAddition other = ⊥
 
 -- a list of the pledge grows by it
 abbrev pub IsGrowth : Judged → Type 0
-IsGrowth (Refused why) = ⊥
-IsGrowth (Answered done) = ⊥
 IsGrowth (Changed pledge done) = IsAddition done
+IsGrowth other = ⊥
 
 -- the call does what the step says, or wants memory for a list that is to grow and changes nothing
 abbrev pub IsStep : Judged → PledgeValue → Result Done Refusal → PledgeValue → Type 0
@@ -248,12 +253,12 @@ IsStep judged old (Ok done) new = (reply_of judged ≡ Ok done) × (new ≡ pled
 IsStep judged old (Err fault) new = (new ≡ old) × ((judged ≡ Refused fault) ⊎ ((fault ≡ Refusal.Memory) × IsGrowth judged))
 
 -- what a call told, as a step
-abbrev pub judged_by : Applied → PledgeValue → Judged
-judged_by applied new = if applied.changed then Changed new applied.done else Answered applied.done
+abbrev pub judgement_of : Applied → PledgeValue → Judged
+judgement_of applied new = if applied.changed then Changed new applied.done else Answered applied.done
 
 -- the same, where the call also tells whether there was a change
 abbrev pub IsApplied : Judged → PledgeValue → Result Applied Refusal → PledgeValue → Type 0
-IsApplied judged old (Ok applied) new = (judged ≡ judged_by applied new) × (new ≡ pledge_after old judged)
+IsApplied judged old (Ok applied) new = (judged ≡ judgement_of applied new) × (new ≡ pledge_after old judged)
 IsApplied judged old (Err fault) new = (new ≡ old) × ((judged ≡ Refused fault) ⊎ ((fault ≡ Refusal.Memory) × IsGrowth judged))
 
 -- a new pledge is what the rules say, or memory was wanted

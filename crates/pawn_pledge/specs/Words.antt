@@ -31,14 +31,12 @@ with_standing p standing = record p { standing = standing }
 
 abbrev pub is_open : Closing → Bool
 is_open Closing.Open = true
-is_open (Closing.Redeemed day paid) = false
-is_open (Closing.Sold day net) = false
+is_open closed = false
 
 abbrev pub same_sort : Sort → Sort → Bool
 same_sort Draw Draw = true
-same_sort Draw Repay = false
-same_sort Repay Draw = false
 same_sort Repay Repay = true
+same_sort one other = false
 
 -- an entry is asked for again
 abbrev pub is_repeat : Entry → Sort → ℕ → Bool
@@ -75,22 +73,19 @@ in_state booking state = record { day = booking.day; window = booking.window; st
 abbrev pub is_standing : BookingState → Bool
 is_standing BookingState.Asked = true
 is_standing BookingState.Confirmed = true
-is_standing BookingState.Refused = false
-is_standing BookingState.Cancelled = false
+is_standing other = false
 
 abbrev pub stands_for : Booking → ℕ → ℕ → Bool
 stands_for booking day window = (booking.day == day) && (booking.window == window) && is_standing booking.state
 
 -- a closing cancels a booking that stands
-abbrev pub state_after : BookingState → BookingState
-state_after BookingState.Asked = BookingState.Cancelled
-state_after BookingState.Confirmed = BookingState.Cancelled
-state_after BookingState.Refused = BookingState.Refused
-state_after BookingState.Cancelled = BookingState.Cancelled
+abbrev pub after_closing : BookingState → BookingState
+after_closing BookingState.Refused = BookingState.Refused
+after_closing other = BookingState.Cancelled
 
 abbrev pub booking_after : Option Booking → Option Booking
 booking_after None = None
-booking_after (Some booking) = Some (in_state booking (state_after booking.state))
+booking_after (Some booking) = Some (in_state booking (after_closing booking.state))
 
 -- with that closing
 abbrev pub with_closing : Standing → Closing → ℕ → Standing

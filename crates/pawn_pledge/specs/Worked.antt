@@ -23,7 +23,7 @@ use Rattle.pawn_pledge.specs.declared.command.Command.{Command}
 use Rattle.pawn_pledge.specs.declared.command.Done.{Done}
 use Rattle.pawn_pledge.specs.declared.refusal.Refusal.{Refusal}
 use Rattle.pawn_pledge.specs.Pledge.{PledgeValue, end_of, status_of, live_of}
-use Rattle.pawn_pledge.specs.Step.{Answered, started, pledge_step, pledge_after, reply_of}
+use Rattle.pawn_pledge.specs.Step.{Answered, pledge_start, pledge_step, pledge_after, reply_of}
 
 -- what is agreed on a ring
 abbrev pub agreed_on : Kind → Bool → Option ℕ → Opening
@@ -76,10 +76,10 @@ entry_told seq day sort pence = Done.Entered (record { seq = seq; day = day; sor
 -- a pledge begins with a sum or a limit within the limits, and with its first secret live
 abbrev pub WorkedStarts : Type 0
 WorkedStarts =
-    (started 1 (agreed_on (Fixed 10000) false None) 1 free (record { day = date 2024 1 31; word = 1 }) ≡ Ok (ring 10000))
+    (pledge_start 1 (agreed_on (Fixed 10000) false None) 1 free (record { day = date 2024 1 31; word = 1 }) ≡ Ok (ring 10000))
     × (live_of (ring 10000) ≡ Some 1)
-    × (started 1 (agreed_on (Fixed 0) false None) 1 free (on (date 2024 1 31)) ≡ Err (Refusal.Debt BadAmount))
-    × (started 1 (agreed_on (Running 100000001) false None) 1 free (on (date 2024 1 31)) ≡ Err (Refusal.Debt BadAmount))
+    × (pledge_start 1 (agreed_on (Fixed 0) false None) 1 free (on (date 2024 1 31)) ≡ Err (Refusal.Debt BadAmount))
+    × (pledge_start 1 (agreed_on (Running 100000001) false None) 1 free (on (date 2024 1 31)) ≡ Err (Refusal.Debt BadAmount))
 
 -- a small credit for six months passes after the end, or after the five days where these apply
 abbrev pub WorkedStatuses : Type 0

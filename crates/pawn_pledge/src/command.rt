@@ -1,4 +1,4 @@
-ghost use Rattle.std.specs.Prelude.{◌≡◌, true, false, Some, None, if◌then◌else◌};
+ghost use Rattle.std.specs.Prelude.{◌≡◌, true, false, if◌then◌else◌};
 ghost use Rattle.pawn_pledge.specs.Commands.{IsCommand, is_brokers, is_bearers};
 
 use crate::record::Booking;
@@ -62,7 +62,7 @@ impl Command {
             | Command::DecideBooking(_)
             | Command::Sell { .. }
             | Command::Extend { .. } => true,
-            Command::AskBooking { .. } | Command::CancelBooking | Command::Redeem { .. } => false,
+            _ => false,
         }
     }
 
@@ -75,13 +75,7 @@ impl Command {
             | Command::AskBooking { .. }
             | Command::CancelBooking
             | Command::Redeem { .. } => true,
-            Command::Draw { .. }
-            | Command::Hold
-            | Command::Release
-            | Command::Declare(_)
-            | Command::DecideBooking(_)
-            | Command::Sell { .. }
-            | Command::Extend { .. } => false,
+            _ => false,
         }
     }
 
@@ -96,15 +90,7 @@ impl Command {
             Command::Extend { until } => {
                 let _ = until.day();
             }
-            Command::Draw { .. }
-            | Command::Repay { .. }
-            | Command::Hold
-            | Command::Release
-            | Command::Declare(_)
-            | Command::CancelBooking
-            | Command::DecideBooking(_)
-            | Command::Redeem { .. }
-            | Command::Sell { .. } => {}
+            _ => {}
         }
     }
 }
@@ -129,19 +115,25 @@ impl Model for BrokerCommand {
     ghost inverse = { λ command. record { command = command } };
 }
 
-impl BrokerCommand {
-    /// The command, where a broker may send it.
-    pub fn new(command: Command) -> Option<BrokerCommand>
-        ensures value { result ≡ (if is_brokers command then Some command else None) }
-    {
+impl TryFrom<Command> for BrokerCommand {
+    ghost use Rattle.std.specs.Prelude.{Ok, Err};
+
+    type Error = Command;
+
+    ghost try_from_gives = { λ command result. result ≡ (if is_brokers command then Ok command else Err command) };
+
+    /// The command, where a broker may send it, or it is handed back.
+    fn try_from(command: Command) -> Result<BrokerCommand, Command> {
         command.know_days();
         if command.is_brokers() {
-            Some(BrokerCommand { command })
+            Ok(BrokerCommand { command })
         } else {
-            None
+            Err(command)
         }
     }
+}
 
+impl BrokerCommand {
     /// The command.
     pub fn command(self) -> Command
         ensures same { result ≡ self }
@@ -172,19 +164,25 @@ impl Model for BearerCommand {
     ghost inverse = { λ command. record { command = command } };
 }
 
-impl BearerCommand {
-    /// The command, where a bearer may send it.
-    pub fn new(command: Command) -> Option<BearerCommand>
-        ensures value { result ≡ (if is_bearers command then Some command else None) }
-    {
+impl TryFrom<Command> for BearerCommand {
+    ghost use Rattle.std.specs.Prelude.{Ok, Err};
+
+    type Error = Command;
+
+    ghost try_from_gives = { λ command result. result ≡ (if is_bearers command then Ok command else Err command) };
+
+    /// The command, where a bearer may send it, or it is handed back.
+    fn try_from(command: Command) -> Result<BearerCommand, Command> {
         command.know_days();
         if command.is_bearers() {
-            Some(BearerCommand { command })
+            Ok(BearerCommand { command })
         } else {
-            None
+            Err(command)
         }
     }
+}
 
+impl BearerCommand {
     /// The command.
     pub fn command(self) -> Command
         ensures same { result ≡ self }
@@ -228,7 +226,7 @@ pub struct Applied {
 
 impl Applied {
     // An answer without a change.
-    pub(crate) fn answered(done: Done) -> Applied
+    pub(crate) fn of_answer(done: Done) -> Applied
         ensures value { result ≡ record { done = done; changed = false } }
     {
         Applied {
@@ -238,7 +236,7 @@ impl Applied {
     }
 
     // An answer with a change.
-    pub(crate) fn changed(done: Done) -> Applied
+    pub(crate) fn of_change(done: Done) -> Applied
         ensures value { result ≡ record { done = done; changed = true } }
     {
         Applied {

@@ -1,5 +1,8 @@
 //! The limits of a pledge's record.
 
+// The highest number of a book or a pledge.
+pub(crate) const MOST_NUMBER: u64 = 999_999_999;
+
 // A credit up to this is small, in pence.
 pub(crate) const SMALL_CREDIT: u64 = 7_500;
 

@@ -1,10 +1,9 @@
 ghost use Rattle.std.specs.Prelude.{◌≡◌, ◌↔◌, ℕ, IsSome, IfSome, IfNone, decimal};
 ghost use Rattle.pawn_pledge.specs.Number.{IsNumber};
 
+use crate::limits::MOST_NUMBER;
 use itoa::Buffer;
 use std::marker::Model;
-
-const MOST: u64 = 999_999_999;
 
 /// The number of a book or of a pledge, from 1 to 999,999,999.
 #[derive(Clone, Copy, Debug, PartialEq, Eq, PartialOrd, Ord, Hash)]
@@ -28,7 +27,7 @@ impl Number {
         ensures some { IfSome result (λ n. n ≡ number) }
         ensures succeeds { IsSome result ↔ IsNumber number }
     {
-        if number == 0 || number > MOST {
+        if number == 0 || number > MOST_NUMBER {
             return None;
         }
         Some(Number {

@@ -1,7 +1,7 @@
 ghost use Rattle.std.specs.Prelude.{◌≡◌, ◌≤◌, ◌↔◌, IsTrue, IfSome, IfNone};
 ghost use Rattle.pawn_terms.specs.Limits.{last_stamp_day};
 ghost use Rattle.pawn_debt.specs.Kept.{IsKept as IsOwed};
-ghost use Rattle.pawn_pledge.specs.Pledge.{debt_of, end_of, end_after, open_status, is_passed};
+ghost use Rattle.pawn_pledge.specs.Pledge.{debt_of, last_until, end_of, open_status, is_passed};
 ghost use Rattle.pawn_pledge.specs.Parts.{IsTyped, IsLimited, AreIssuedIn};
 ghost use Rattle.pawn_pledge.specs.Replayable.{Each, IsLaterIssue, AreIssued, AreDistinct, DoNotFall, last_issue, IsDrawnBy, AreExtended, last_extension, IsOverUnder, IsBooked, IsClosed, IsStanding};
 
@@ -24,30 +24,27 @@ pub struct Parts {
     pub standing: Standing,
 }
 
-/// The end of the period after extensions, if each was agreed in the period as it then was, for a later end.
-pub(crate) fn extended_to(
-    taken: Day,
-    first_end: Day,
-    last: Day,
-    extensions: &[Extension],
-) -> Option<Day>
-    ensures ends { IfSome result (λ ends. ends ≡ end_after first_end extensions.now) }
-    ensures some { IfSome result (λ ends. AreExtended taken first_end extensions.now × (last_extension taken extensions.now ≤ last)) }
-    ensures none { IfNone result (AreExtended taken first_end extensions.now → last_extension taken extensions.now ≤ last → ⊥) }
+// Whether each extension was agreed in the period as it then was, for a later end, and none after the last change.
+fn are_extended(taken: Day, first_end: Day, last: Day, extensions: &[Extension]) -> bool
+    ensures answer { IsTrue result ↔ (AreExtended taken first_end extensions.now × (last_extension taken extensions.now ≤ last)) }
 {
     let mut day = taken;
     let mut ends = first_end;
     for e in extensions {
         if e.day < day || e.day > ends || e.until <= ends {
-            return None;
+            return false;
         }
         day = e.day;
         ends = e.until;
     }
-    if day > last {
-        return None;
-    }
-    Some(ends)
+    day <= last
+}
+
+// The end that an extension agreed last.
+fn last_until(extensions: &[Extension]) -> Option<Day>
+    ensures value { result ≡ last_until extensions.now }
+{
+    extensions.last().map(|extension| extension.until)
 }
 
 // Whether each drawing is in the period.
@@ -120,8 +117,7 @@ fn is_passed_on(parts: &Parts, ends: Day, day: Day) -> bool
 {
     match status_by(&parts.agreement, ends, day) {
         Status::Passed => true,
-        Status::Inside | Status::Grace | Status::Realisable | Status::Redeemed | Status::Sold =>
-            false,
+        _ => false,
     }
 }
 
@@ -274,13 +270,12 @@ pub(crate) fn judge(parts: &Parts) -> Option<Found>
         return None;
     }
     let taken = parts.agreement.taken;
-    let first = parts.agreement.first_end();
-    let ends = extended_to(
-        taken,
-        first,
-        parts.standing.last,
-        parts.extensions.as_slice(),
-    )?;
+    let extensions = parts.extensions.as_slice();
+    let first = parts.agreement.end_with(None);
+    if !are_extended(taken, first, parts.standing.last, extensions) {
+        return None;
+    }
+    let ends = parts.agreement.end_with(last_until(extensions));
     let entries = parts.entries.as_slice();
     let totals = replay_entries(parts.agreement.opening.kind, terms, taken, ends, entries)?;
     if totals.day > parts.standing.last {

@@ -4,7 +4,7 @@ ghost use Rattle.pawn_debt.specs.Owing.{owing_of};
 ghost use Rattle.pawn_debt.specs.Kept.{IsKept as IsOwed, totals_of};
 ghost use Rattle.pawn_debt.specs.Limits.{most_pence, most_millionths};
 ghost use Rattle.pawn_pledge.specs.Pledge.{status_of, open_status, last_secret, live_of, end_of, debt_of};
-ghost use Rattle.pawn_pledge.specs.Step.{started, IsStarted};
+ghost use Rattle.pawn_pledge.specs.Step.{pledge_start, IsStarted};
 ghost use Rattle.pawn_pledge.specs.Replayable.{IsStanding};
 ghost use Rattle.pawn_pledge.specs.Brief.{brief_of};
 
@@ -56,17 +56,17 @@ impl Pledge {
         terms: Terms,
         stamp: &Stamp,
     ) -> Result<Pledge, Refusal>
-        ensures started { IsStarted (started number opening version terms stamp.now) result }
+        ensures started { IsStarted (pledge_start number opening version terms stamp.now) result }
         ensures standing { IfOk result IsStanding }
     {
         // Whoever reads these knows that they are within their limits.
         let _ = (number.get(), terms.rates(), stamp.day.day());
         opening.know_limits();
-        Pledge::opened(alloc, number, opening, version, terms, stamp)
+        Pledge::of_opening(alloc, number, opening, version, terms, stamp)
     }
 
     // The same, whatever the limits of its parts.
-    fn opened(
+    fn of_opening(
         alloc: Global,
         number: Number,
         opening: Opening,
@@ -74,7 +74,7 @@ impl Pledge {
         terms: Terms,
         stamp: &Stamp,
     ) -> Result<Pledge, Refusal>
-        ensures started { IsStarted (started number opening version terms stamp.now) result }
+        ensures started { IsStarted (pledge_start number opening version terms stamp.now) result }
     {
         let taken = stamp.day.day();
         let agreement = Agreement {
@@ -84,7 +84,7 @@ impl Pledge {
             version,
             terms: terms.rates(),
         };
-        let ends = agreement.first_end();
+        let ends = agreement.end_with(None);
         let debt = Debt::start(alloc, agreement.opening.kind, terms, taken, ends)?;
         let mut secrets = Secrets::new(alloc);
         let first = Issued {

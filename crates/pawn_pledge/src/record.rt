@@ -80,7 +80,7 @@ pub struct Agreement {
 impl Agreement {
     ghost use Rattle.std.specs.Prelude.{◌≡◌, ◌≤◌, IfOk};
     ghost use Rattle.pawn_terms.specs.Limits.{last_stamp_day};
-    ghost use Rattle.pawn_pledge.specs.Pledge.{first_end};
+    ghost use Rattle.pawn_pledge.specs.Pledge.{end_with};
 
     /// The same again.
     pub fn copy(&self) -> Result<Agreement, AllocError>
@@ -96,12 +96,12 @@ impl Agreement {
         })
     }
 
-    // The end of the period before any extension.
-    pub(crate) fn first_end(&self) -> Day
+    // The end of the period, where an extension agreed last on that end.
+    pub(crate) fn end_with(&self, extended: Option<Day>) -> Day
         requires taken { self.now.taken ≤ last_stamp_day }
-        ensures value { result ≡ first_end self.now }
+        ensures value { result ≡ end_with self.now extended }
     {
-        last_day(self.taken, self.opening.agreed_end())
+        last_day(self.taken, self.opening.agreed_end(), extended)
     }
 }
 

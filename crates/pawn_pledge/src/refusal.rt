@@ -107,22 +107,7 @@ impl Refusal {
         match self {
             Refusal::Debt(fault) => fault.total(),
             Refusal::WrongAmount { total } => Some(total),
-            Refusal::SeqTaken
-            | Refusal::SeqAhead
-            | Refusal::Held
-            | Refusal::Passed
-            | Refusal::Closed
-            | Refusal::NotRealisable
-            | Refusal::NotSmall
-            | Refusal::SecretUsed
-            | Refusal::DeclarationsFull
-            | Refusal::NoBooking
-            | Refusal::BookingDay
-            | Refusal::BadWindow
-            | Refusal::PeriodOver
-            | Refusal::NotLater
-            | Refusal::ExtensionsFull
-            | Refusal::Memory => None,
+            _ => None,
         }
     }
 }

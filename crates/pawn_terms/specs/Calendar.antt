@@ -69,10 +69,14 @@ day_number c = first_day + days_of_years (c.year - 2000) + days_of_months c.year
 abbrev pub six_months : ℕ → ℕ
 six_months n = day_number (six_months_later (civil_of n))
 
--- the later of six months after the day taken and the agreed end
-abbrev pub period_end : ℕ → Option ℕ → ℕ
-period_end taken None = six_months taken
-period_end taken (Some agreed) = max (six_months taken) agreed
+-- the later of a day and another, where there is one
+abbrev pub later_of : ℕ → Option ℕ → ℕ
+later_of day None = day
+later_of day (Some other) = max day other
+
+-- the end of a period: the latest of six months after the day taken, the agreed end, and the end that an extension agreed last
+abbrev pub period_end : ℕ → Option ℕ → Option ℕ → ℕ
+period_end taken agreed extended = later_of (later_of (six_months taken) agreed) extended
 
 -- the calendar has the day, and a request may name it
 abbrev pub IsStampCivil : Civil → Type 0

@@ -36,12 +36,13 @@ WorkedSixMonths =
     × (six_months (date 2024 3 31) ≡ date 2024 9 30)
     × (six_months (date 2199 12 31) ≡ date 2200 6 30)
 
--- an agreed end has an effect where it is past the six months
+-- an agreed end has an effect where it is past the six months, and an extension's where it is past both
 abbrev pub WorkedEnds : Type 0
 WorkedEnds =
-    (period_end (date 2024 1 31) None ≡ date 2024 7 31)
-    × (period_end (date 2024 1 31) (Some (date 2024 7 30)) ≡ date 2024 7 31)
-    × (period_end (date 2024 1 31) (Some (date 2024 8 1)) ≡ date 2024 8 1)
+    (period_end (date 2024 1 31) None None ≡ date 2024 7 31)
+    × (period_end (date 2024 1 31) (Some (date 2024 7 30)) None ≡ date 2024 7 31)
+    × (period_end (date 2024 1 31) (Some (date 2024 8 1)) None ≡ date 2024 8 1)
+    × (period_end (date 2024 1 31) (Some (date 2024 8 1)) (Some (date 2024 9 30)) ≡ date 2024 9 30)
 
 -- each number at its limit and past it, and the first fault where there are several
 abbrev pub WorkedTerms : Type 0

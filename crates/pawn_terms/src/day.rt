@@ -3,7 +3,7 @@ ghost use Rattle.std.specs.Int.{IsInRange};
 ghost use Rattle.jiff_core.specs.Calendar.{IsEpochDay};
 ghost use Rattle.jiff_core.specs.Date.{epoch_day};
 ghost use Rattle.jiff_span.specs.Months.{add_months, IsShiftable};
-ghost use Rattle.pawn_terms.specs.Calendar.{Civil, last_stamp_day, final_day, IsDayNumber, IsStampDay, IsStampCivil, civil_of, day_number, six_months, period_end, day_text, civil_text, IsWritable, digit};
+ghost use Rattle.pawn_terms.specs.Calendar.{Civil, last_stamp_day, final_day, IsDayNumber, IsStampDay, IsStampCivil, civil_of, day_number, six_months, later_of, period_end, day_text, civil_text, IsWritable, digit};
 
 use crate::limits::{FINAL_DAY, FIRST_DAY};
 use jiff::ToSpan;
@@ -161,6 +161,16 @@ impl Day {
     {
         Day::of_date(six_months_on(self.date()))
     }
+
+    // The later of this day and another, where there is one.
+    fn later_of(self, other: Option<Day>) -> Day
+        ensures value { result ≡ later_of self other }
+    {
+        match other {
+            Some(day) if day > self => day,
+            _ => self,
+        }
+    }
 }
 
 // The text of a date of the library from 2000 on.
@@ -238,15 +248,11 @@ fn six_months_on(date: civil::Date) -> civil::Date
         .to_plain()
 }
 
-/// The last day of a pledge's period as it was first agreed: the later of the day six months after
-/// it was taken and the agreed end. An earlier agreed end has no effect.
-pub fn last_day(taken: Day, agreed: Option<Day>) -> Day
+/// The last day of a pledge's period: the latest of the day six months after it was taken, the
+/// agreed end, and the end that an extension agreed last.
+pub fn last_day(taken: Day, agreed: Option<Day>, extended: Option<Day>) -> Day
     requires within { taken ≤ last_stamp_day }
-    ensures value { result ≡ period_end taken agreed }
+    ensures value { result ≡ period_end taken agreed extended }
 {
-    let six = taken.six_months_after();
-    match agreed {
-        Some(end) if end > six => end,
-        _ => six,
-    }
+    taken.six_months_after().later_of(agreed).later_of(extended)
 }

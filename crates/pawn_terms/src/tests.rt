@@ -3,7 +3,7 @@ use std::test::Fail;
 
 fn end_of(text: &[u8]) -> Result<[u8; 10], BadDay> {
     let taken = RequestDay::of_text(text)?;
-    Ok(last_day(taken.day(), None).text())
+    Ok(last_day(taken.day(), None, None).text())
 }
 
 #[test]

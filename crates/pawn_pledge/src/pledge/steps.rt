@@ -2,7 +2,7 @@ ghost use Rattle.std.specs.Prelude.{◌≡◌, ◌≤◌, ◌<◌, length, Ok, O
 ghost use Rattle.pawn_terms.specs.Refusals.{first_of};
 ghost use Rattle.pawn_debt.specs.declared.entry.Entry.{Entry};
 ghost use Rattle.pawn_pledge.specs.Pledge.{end_of};
-ghost use Rattle.pawn_pledge.specs.Words.{in_state, is_standing, state_after, booking_after, with_secret, with_extension, issue_of, new_entry, is_ahead, is_repeat};
+ghost use Rattle.pawn_pledge.specs.Words.{in_state, is_standing, after_closing, booking_after, with_secret, with_extension, issue_of, new_entry, is_ahead, is_repeat};
 ghost use Rattle.pawn_pledge.specs.Step.{Changed, unless, bars, declare_bars, pledge_step, numbered_step, entry_of, entry_step, hold_step, declare_step, ask_step, ask_once, cancel_step, decide_step, confirm_in, decline_in, redeem_step, sell_step, extend_step, books, IsStep, IsApplied};
 ghost use Rattle.pawn_pledge.specs.Limits.{most_secrets};
 
@@ -91,7 +91,7 @@ impl Pledge {
             if !is_repeat(&entry, sort, pence) {
                 return Err(Refusal::SeqTaken);
             }
-            return Ok(Applied::answered(Done::Entered(entry)));
+            return Ok(Applied::of_answer(Done::Entered(entry)));
         }
         if self.is_ahead(seq) {
             return Err(Refusal::SeqAhead);
@@ -132,7 +132,7 @@ impl Pledge {
         let entry = self.next_entry(day, Sort::Draw, pence);
         self.debt.draw(day, pence)?;
         self.standing.last = day;
-        Ok(Applied::changed(Done::Entered(entry)))
+        Ok(Applied::of_change(Done::Entered(entry)))
     }
 
     fn repay(&mut self, day: Day, pence: u64) -> Result<Applied, Refusal>
@@ -142,7 +142,7 @@ impl Pledge {
         let entry = self.next_entry(day, Sort::Repay, pence);
         self.debt.repay(day, pence)?;
         self.standing.last = day;
-        Ok(Applied::changed(Done::Entered(entry)))
+        Ok(Applied::of_change(Done::Entered(entry)))
     }
 
     // Sets the flag that bars redemption.
@@ -151,11 +151,11 @@ impl Pledge {
     {
         self.gate(day)?;
         if self.standing.held == flag {
-            return Ok(Applied::answered(Done::Held(flag)));
+            return Ok(Applied::of_answer(Done::Held(flag)));
         }
         self.standing.held = flag;
         self.standing.last = day;
-        Ok(Applied::changed(Done::Held(flag)))
+        Ok(Applied::of_change(Done::Held(flag)))
     }
 
     // Issues the stamp's word as the new secret.
@@ -201,7 +201,7 @@ impl Pledge {
         match self.secrets.push(issued) {
             Ok(()) => {
                 self.standing.last = day;
-                Ok(Applied::changed(Done::Declared(secret)))
+                Ok(Applied::of_change(Done::Declared(secret)))
             }
             Err(_) => Err(Refusal::Memory),
         }
@@ -214,7 +214,7 @@ impl Pledge {
     {
         self.standing.booking = Some(*booking);
         self.standing.last = day;
-        Ok(Applied::changed(Done::Booked(*booking)))
+        Ok(Applied::of_change(Done::Booked(*booking)))
     }
 
     // Asks for a day and a window.
@@ -246,7 +246,7 @@ impl Pledge {
         };
         if let Some(booking) = self.standing.booking {
             if booking.day == wanted && booking.window == window && booking.state.is_standing() {
-                return Ok(Applied::answered(Done::Booked(booking)));
+                return Ok(Applied::of_answer(Done::Booked(booking)));
             }
         }
         self.book(day, &asked)
@@ -265,7 +265,7 @@ impl Pledge {
                 self.book(day, &booking.in_state(BookingState::Cancelled))
             }
             BookingState::Refused => Err(Refusal::NoBooking),
-            BookingState::Cancelled => Ok(Applied::answered(Done::Booked(booking))),
+            BookingState::Cancelled => Ok(Applied::of_answer(Done::Booked(booking))),
         }
     }
 
@@ -294,7 +294,7 @@ impl Pledge {
                 }
                 self.book(day, &booking.in_state(BookingState::Confirmed))
             }
-            BookingState::Confirmed => Ok(Applied::answered(Done::Booked(*booking))),
+            BookingState::Confirmed => Ok(Applied::of_answer(Done::Booked(*booking))),
             BookingState::Refused | BookingState::Cancelled => Err(Refusal::NoBooking),
         }
     }
@@ -307,7 +307,7 @@ impl Pledge {
             BookingState::Asked | BookingState::Confirmed => {
                 self.book(day, &booking.in_state(BookingState::Refused))
             }
-            BookingState::Refused => Ok(Applied::answered(Done::Booked(*booking))),
+            BookingState::Refused => Ok(Applied::of_answer(Done::Booked(*booking))),
             BookingState::Cancelled => Err(Refusal::NoBooking),
         }
     }
@@ -327,7 +327,7 @@ impl Pledge {
         self.standing.booking = booking_after(self.standing.booking);
         self.standing.closing = Closing::Redeemed { day, paid };
         self.standing.last = day;
-        Ok(Applied::changed(Done::Redeemed { day, paid }))
+        Ok(Applied::of_change(Done::Redeemed { day, paid }))
     }
 
     // Closes the pledge by sale.
@@ -345,7 +345,7 @@ impl Pledge {
         self.standing.booking = booking_after(self.standing.booking);
         self.standing.closing = Closing::Sold { day, net };
         self.standing.last = day;
-        Ok(Applied::changed(Done::Sold {
+        Ok(Applied::of_change(Done::Sold {
             net,
             surplus: net.saturating_sub(total),
             shortfall: total.saturating_sub(net),
@@ -362,7 +362,7 @@ impl Pledge {
             return Err(Refusal::PeriodOver);
         }
         if until == ends {
-            return Ok(Applied::answered(Done::Extended { until }));
+            return Ok(Applied::of_answer(Done::Extended { until }));
         }
         if until < ends {
             return Err(Refusal::NotLater);
@@ -386,7 +386,7 @@ impl Pledge {
             Ok(()) => {
                 self.debt.extend(until);
                 self.standing.last = day;
-                Ok(Applied::changed(Done::Extended { until }))
+                Ok(Applied::of_change(Done::Extended { until }))
             }
             Err(_) => Err(Refusal::Memory),
         }
@@ -419,7 +419,7 @@ impl BookingState {
 
     // The state once the pledge is closed.
     fn after_closing(self) -> BookingState
-        ensures value { result ≡ state_after self }
+        ensures value { result ≡ after_closing self }
     {
         match self {
             BookingState::Asked | BookingState::Confirmed => BookingState::Cancelled,

@@ -8,4 +8,4 @@ returns-clause-six_months c = (refl, refl, refl, refl, refl)
 
 pub returns-clause-ends : goal.returns-clause-ends
 unfolding civil_after days_of_years days_of_months
-returns-clause-ends c = (refl, refl, refl)
+returns-clause-ends c = (refl, refl, refl, refl)
