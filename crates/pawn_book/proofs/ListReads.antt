@@ -1,9 +1,9 @@
 -- Reads of books in a list.
 use Rattle.std.proofs.Common.{◌≡◌, ◌≢◌, ℕ, ◌+◌, ◌<◌, ◌≤◌, zero, suc, List, [], ◌∷◌, ◌++◌, length, map, drop, get_or, set, Some, None, refl, ◌∙◌, ap, sym, subst, arith}
-use Rattle.std.specs.Prelude.{if◌then◌else◌, Option, Bool, true, false, ◌==◌}
+use Rattle.std.specs.Prelude.{if◌then◌else◌, Bool, true, false, ◌==◌}
 use Rattle.std.specs.Ordering.{nat_cmp}
 use Rattle.std.specs.Cmp.{unsigned_tied}
-use Rattle.std.specs.FinMap.{get, insert, find, from_entries, get-from_entries, get-insert, same_map, nat_cmp-IsAntisymmetric, from_entries_push}
+use Rattle.std.specs.FinMap.{get, insert, find, from_entries, get-from_entries, nat_cmp-IsAntisymmetric, from_entries_push}
 use Rattle.std.proofs.lemmas.Cmp.{nat_cmp_total}
 use Rattle.std.proofs.lemmas.Bool.Decides.{nat_tests}
 use Rattle.pawn_pledge.specs.Pledge.{PledgeValue}
@@ -12,7 +12,6 @@ use Rattle.std.proofs.lemmas.List.{get_or-map, length-map}
 use Rattle.std.proofs.Math.Seq.{map-set_same}
 use Rattle.pawn_terms.specs.declared.terms.Rates.{Rates}
 use Rattle.pawn_book.specs.declared.request.NewBook.{NewBook}
-use Rattle.pawn_book.specs.declared.change.Imported.{Imported}
 use Rattle.pawn_book.specs.declared.list.Kept.{Kept}
 use Rattle.pawn_book.specs.Listed.{book_at, entry_of, IsPlace}
 
@@ -60,13 +59,6 @@ book_at-set (e ∷ es) b (suc i) book q is =
     swapped : (v : Bool) → (q == e.0) ≡ v → (if v then Some e.1 else (if q == b then Some book else book_at es q)) ≡ (if q == b then Some book else (if v then Some e.1 else book_at es q))
     swapped false other = refl
     swapped true same = let no : (q == b) ≡ false = grind (arith, nat_tests, same, is.0) in sym (ap (λ v. if v then Some book else Some e.1) no)
-
-pub replaced : (es : List (ℕ × BookValue)) (b i : ℕ) (book : BookValue) → IsPlace es b i → from_entries {R = nat_cmp} (set es i (b, book)) ≡ insert (from_entries es) b book
-replaced es b i book is = same_map {R = nat_cmp} nat_cmp_total nat_cmp-IsAntisymmetric _ _ (λ q.
-    get-book_at (set es i (b, book)) q ∙ book_at-set es b i book q is
-    ∙ ap (λ o. if q == b then Some book else o) (sym (get-book_at es q))
-    ∙ ap (λ v. if v then Some book else get (from_entries {R = nat_cmp} es) q) (sym (unsigned_tied q b))
-    ∙ sym (get-insert nat_cmp_total (from_entries {R = nat_cmp} es) b book q))
 
 -- the search for a place
 pub missed : (es : List (ℕ × BookValue)) (b i : ℕ) (d : ℕ × BookValue) → i < length es → (b ≢ (get_or es i d).0) → book_at (drop i es) b ≡ book_at (drop (i + 1) es) b
@@ -155,13 +147,3 @@ entry_made b new made terms pledges same no_terms no_pledges =
     let f : NewBook → List Rates → List PledgeValue → ℕ × BookValue =
     λ m t p. (b, record { key = m.key; name = m.name; capacity = m.capacity; terms = t; pledges = p; imported = None }) in
     ap (λ m. f m terms pledges) same ∙ ap (λ t. f new t pledges) no_terms ∙ ap (λ p. f new [] p) no_pledges
-
--- a book of the list, by its parts
-pub entry_is : (k : Kept) (n : ℕ) (m : NewBook) (ts : List Rates) (ps : List PledgeValue) (i : Option Imported)
-    → k.number ≡ n → k.made ≡ m → k.terms.items ≡ ts → k.pledges.items ≡ ps → k.imported ≡ i
-    → entry_of k ≡ (n, record { key = m.key; name = m.name; capacity = m.capacity; terms = ts; pledges = ps; imported = i })
-entry_is k n m ts ps i number made terms pledges imported =
-    let f : ℕ → NewBook → List Rates → List PledgeValue → Option Imported → ℕ × BookValue =
-    λ n m ts ps i. (n, record { key = m.key; name = m.name; capacity = m.capacity; terms = ts; pledges = ps; imported = i }) in
-    ap (λ x. f x k.made k.terms.items k.pledges.items k.imported) number ∙ ap (λ x. f n x k.terms.items k.pledges.items k.imported) made
-    ∙ ap (λ x. f n m x k.pledges.items k.imported) terms ∙ ap (λ x. f n m ts x k.imported) pledges ∙ ap (λ x. f n m ts ps x) imported

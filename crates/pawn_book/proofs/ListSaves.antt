@@ -1,27 +1,29 @@
 -- A list of books after a change.
-use Rattle.std.proofs.Common.{◌≡◌, ℕ, ◌+◌, ◌<◌, ◌≤◌, List, [], ◌∷◌, ◌++◌, length, map, set, Some, None, Ok, Err, refl, ◌∙◌, ap, sym, subst, arith, inl, inr, length-append}
-use Rattle.std.specs.Prelude.{if◌then◌else◌, Option, true, false, ◌==◌, ◌⊎◌, sum_by}
+use Rattle.std.proofs.Common.{◌≡◌, ℕ, ◌+◌, ◌<◌, ◌≤◌, List, [], ◌∷◌, ◌++◌, length, map, set, get_or, Some, None, Ok, Err, refl, ◌∙◌, ap, sym, subst, arith, inl, inr, length-append}
+use Rattle.std.specs.Prelude.{if◌then◌else◌, true, false, ◌==◌, ◌⊎◌, sum_by}
 use Rattle.std.specs.Ordering.{nat_cmp}
-use Rattle.std.specs.FinMap.{get, empty, entries, from_entries, get-empty, len-empty, len-entries}
+use Rattle.std.specs.FinMap.{get, empty, entries, from_entries, get-empty, len-empty, len-entries, nat_cmp-IsAntisymmetric, same_map}
+use Rattle.std.proofs.lemmas.Cmp.{nat_cmp_total}
+use Rattle.std.proofs.lemmas.List.{map-set}
 use Rattle.std.proofs.lemmas.Bool.Decides.{nat_tests}
 use Rattle.std.proofs.lemmas.List.Sums.{sum_by-cons}
-use Rattle.pawn_terms.specs.declared.terms.Rates.{Rates}
 use Rattle.pawn_pledge.specs.Pledge.{PledgeValue}
 use Rattle.pawn_book.specs.declared.request.NewBook.{NewBook}
 use Rattle.pawn_book.specs.declared.change.Change.{Change}
+use Rattle.pawn_book.specs.declared.list.Kept.{Kept}
 use Rattle.pawn_book.specs.declared.change.Change.TheVariants.{MakeBook, AddTerms, PutPledge}
-use Rattle.pawn_book.specs.BookStep.{BookValue, made_book, changed_book, pledge_from, put_from}
+use Rattle.pawn_book.specs.BookStep.{BookValue, changed_book, made_book, pledge_from, pledge_in, put_from}
 use Rattle.pawn_book.specs.HostStep.{Host, rows, book_rows, pledge_rows, with_book}
 use Rattle.pawn_book.specs.Sound.{AreSound}
-use Rattle.pawn_book.specs.Changes.{CanSave, Follows, Continues, with_change}
+use Rattle.pawn_book.specs.Changes.{CanSave, Continues, Follows, book_number, with_change}
 use Rattle.pawn_book.specs.Books.{Books}
 use Rattle.pawn_book.specs.declared.fault.SaveError.TheVariants.{Full}
 use Rattle.pawn_book.specs.Limits.{most_rows}
-use Rattle.pawn_book.specs.Listed.{IsKept, IsPlace, Saves, book_at, host_of, standing_rows}
+use Rattle.pawn_book.specs.Listed.{Fits, HasChange, IsKept, IsPlace, Saves, added_rows, book_at, entry_of, host_of, replaced_rows, standing_rows}
 use Rattle.pawn_book.proofs.RowSums.{part, rows-with_book}
 use Rattle.pawn_book.proofs.Places.{pledge_within}
-use Rattle.pawn_book.proofs.Sounds.{some_is, absurd_none}
-use Rattle.pawn_book.proofs.ListReads.{get-book_at, pushed, replaced}
+use Rattle.pawn_book.proofs.Sounds.{absurd_none, get-with_book, some_is}
+use Rattle.pawn_book.proofs.ListReads.{book_at-set, get-book_at, kept_is, kept_number, pushed}
 
 no_elements : {A : Type 0} (xs : List A) → length xs ≡ 0 → xs ≡ []
 no_elements [] e = refl
@@ -54,29 +56,6 @@ kept_changed k next count change few same is sound counted fits =
       limit = omega (arith, few, same);
     }
 
--- one row more for a new book
-pub made_rows : (h : Host) (b : ℕ) (new : NewBook) → get h.books b ≡ None → rows (with_change h (MakeBook b new)) ≡ rows h + 1
-made_rows h b new none =
-    let sums = rows-with_book h b (made_book new) in
-    let before : part book_rows (get h.books b) ≡ 0 = ap (part book_rows) none in
-    omega (arith, sums, before)
-
--- the book of a change, set in the host
-set_is : (h : Host) (b : ℕ) (at book : BookValue) (change : Option BookValue → Option BookValue) → get h.books b ≡ Some at → change (Some at) ≡ Some book
-    → with_book h b (change (get h.books b)) ≡ with_book h b (Some book)
-set_is h b at book change is made = ap (with_book h b) (ap change is ∙ made)
-
--- one row more for a version of terms
-pub terms_rows : (h : Host) (b : ℕ) (at : BookValue) (version : ℕ) (terms : Rates) → get h.books b ≡ Some at → rows (with_change h (AddTerms b version terms)) ≡ rows h + 1
-terms_rows h b at version terms is =
-    let book : BookValue = record at { terms = at.terms ++ terms ∷ [] } in
-    let same : with_change h (AddTerms b version terms) ≡ with_book h b (Some book) = set_is h b at book (λ o. changed_book o (AddTerms b version terms)) is refl in
-    let all : rows (with_change h (AddTerms b version terms)) ≡ rows (with_book h b (Some book)) = ap rows same in
-    let sums = rows-with_book h b book in
-    let before : part book_rows (get h.books b) ≡ book_rows at = ap (part book_rows) is in
-    let longer = length-append at.terms (terms ∷ []) in
-    omega (arith, all, sums, before, longer)
-
 sum_by-put : (k : ℕ) (ps : List PledgeValue) (n : ℕ) (p : PledgeValue) → k ≤ n → n ≤ k + length ps
     → sum_by pledge_rows (put_from k ps n p) + standing_rows (pledge_from k ps n) ≡ sum_by pledge_rows ps + pledge_rows p
 sum_by-put k [] n p low high = omega (arith, sum_by-cons pledge_rows p [])
@@ -89,141 +68,121 @@ sum_by-put k (r ∷ ps) n p low high =
           omega (arith, sum_by-put (k + 1) ps n p more less, sum_by-cons pledge_rows r (put_from (k + 1) ps n p), sum_by-cons pledge_rows r ps)
     ] refl
 
--- a pledge's rows in place of those that stood
-pub put_rows : (h : Host) (b n : ℕ) (at : BookValue) (p : PledgeValue) → get h.books b ≡ Some at → 1 ≤ n → n ≤ 1 + length at.pledges
-    → rows (with_change h (PutPledge b n p)) + standing_rows (pledge_from 1 at.pledges n) ≡ rows h + pledge_rows p
-put_rows h b n at p is low high =
-    let book : BookValue = record at { pledges = put_from 1 at.pledges n p } in
-    let same : with_change h (PutPledge b n p) ≡ with_book h b (Some book) = set_is h b at book (λ o. changed_book o (PutPledge b n p)) is refl in
-    let all : rows (with_change h (PutPledge b n p)) ≡ rows (with_book h b (Some book)) = ap rows same in
-    let sums = rows-with_book h b book in
-    let before : part book_rows (get h.books b) ≡ book_rows at = ap (part book_rows) is in
-    let pledges = sum_by-put 1 at.pledges n p low high in
-    omega (arith, all, sums, before, pledges)
+-- where a pledge that follows is put
+follows_at : (at : BookValue) (n : ℕ) (p : PledgeValue) → (n ≡ length at.pledges + 1) ⊎ ((old : PledgeValue) × (pledge_from 1 at.pledges n ≡ Some old) × Continues old p)
+    → (1 ≤ n) × (n ≤ 1 + length at.pledges)
+follows_at at n p (inl next) = (omega (arith, next), omega (arith, next))
+follows_at at n p (inr standing) = let within = pledge_within 1 at.pledges n standing.0 standing.1 in (within.0, omega (arith, within.1))
 
--- where a change of pledges follows, its number is in place
-pub follows_low : (h : Host) (b n : ℕ) (p : PledgeValue) (at : BookValue) → Follows h (PutPledge b n p) → get h.books b ≡ Some at → (1 ≤ n) × (n ≤ 1 + length at.pledges)
-follows_low h b n p at follows is =
-    let same : follows.0 ≡ at = some_is follows.0 at (sym follows.1 ∙ is) in
-    from at follows.0 same follows.2
-  where
-    from : (at other : BookValue) → other ≡ at
-        → ((n ≡ length other.pledges + 1) ⊎ ((old : PledgeValue) × (pledge_from 1 other.pledges n ≡ Some old) × Continues old p))
-        → (1 ≤ n) × (n ≤ 1 + length at.pledges)
-    from at other same (inl next) = let long : length other.pledges ≡ length at.pledges = ap (λ (k : BookValue). length k.pledges) same in (omega (arith, next), omega (arith, next, long))
-    from at other same (inr standing) =
-        let within = pledge_within 1 other.pledges n standing.0 standing.1 in
-        let long : length other.pledges ≡ length at.pledges = ap (λ (k : BookValue). length k.pledges) same in
-        (within.0, omega (arith, within.1, long))
+-- the book of a change that follows
+changes_to : (h : Host) (change : Change) → Follows h change → (book : BookValue) × (changed_book (get h.books (book_number change)) change ≡ Some book)
+changes_to h (MakeBook b new) follows = (made_book new, refl)
+changes_to h (AddTerms b version terms) follows =
+    (record follows.0 { terms = follows.0.terms ++ terms ∷ [] }, ap (λ o. changed_book o (AddTerms b version terms)) follows.1)
+changes_to h (PutPledge b n p) follows =
+    (record follows.0 { pledges = put_from 1 follows.0.pledges n p }, ap (λ o. changed_book o (PutPledge b n p)) follows.1)
 
--- the list with a book more
-pub made_host : (k : Books) (b : ℕ) (new : NewBook) → get (host_of k).books b ≡ None
-    → host_of (record { books = k.books ++ (b, made_book new) ∷ []; limit = k.limit }) ≡ with_change (host_of k) (MakeBook b new)
-made_host k b new none = ap (λ m. record { books = m; limit = k.limit }) (pushed k.books b (made_book new) (sym (get-book_at k.books b) ∙ none))
-
--- the list with a book put at its place
-pub put_host : (k : Books) (b i : ℕ) (at book : BookValue) (change : Option BookValue → Option BookValue) → IsPlace k.books b i → get (host_of k).books b ≡ Some at
-    → change (Some at) ≡ Some book
-    → host_of (record { books = set k.books i (b, book); limit = k.limit }) ≡ with_book (host_of k) b (change (get (host_of k).books b))
-put_host k b i at book change place is made =
-    ap (λ m. record { books = m; limit = k.limit }) (replaced k.books b i book place) ∙ sym (set_is (host_of k) b at book change is made)
-
--- a new book, pushed
-pub make_saved : (k old next : Books) (count b : ℕ) (new : NewBook) → IsKept k count → k ≡ old → CanSave (host_of old) (MakeBook b new)
-    → next.books ≡ k.books ++ (b, made_book new) ∷ [] → next.limit ≡ k.limit → count + 1 ≤ k.limit → IsKept next (count + 1) × Saves old (MakeBook b new) (Ok tt) next
-make_saved k old next count b new kept is can list limit room =
-    let P : Books → Type 0 = λ old. CanSave (host_of old) (MakeBook b new) → IsKept next (count + 1) × Saves old (MakeBook b new) (Ok tt) next in
-    subst P is (λ can.
-    let same : host_of next ≡ with_change (host_of k) (MakeBook b new) =
-    ap (λ (es : List (ℕ × BookValue)). record { books = from_entries es; limit = next.limit }) list
-    ∙ ap (λ n. record { books = from_entries (k.books ++ (b, made_book new) ∷ []); limit = n }) limit
-    ∙ made_host k b new can.follows in
-    let more = made_rows (host_of k) b new can.follows in
-    let counted = kept.counted in
-    let count_is : count + 1 ≡ rows (with_change (host_of k) (MakeBook b new)) = omega (arith, more, counted) in
-    (kept_changed k next (count + 1) (MakeBook b new) kept.limit limit same can.sound count_is room, (same, omega (arith, count_is, room)))) can
-
--- .. for which there is no room
-pub make_full : (k old : Books) (count b : ℕ) (new : NewBook) → IsKept k count → k ≡ old → CanSave (host_of old) (MakeBook b new) → k.limit < count + 1
-    → Saves old (MakeBook b new) (Err Full) old
-make_full k old count b new kept is can over =
-    let P : Books → Type 0 = λ old. CanSave (host_of old) (MakeBook b new) → Saves old (MakeBook b new) (Err Full) old in
-    subst P is (λ can.
-    let more = made_rows (host_of k) b new can.follows in
-    let counted = kept.counted in
-    (refl, omega (arith, more, counted, over))) can
-
--- the next terms, put at the book's place
-pub terms_saved : (k old next : Books) (count b version : ℕ) (terms : Rates) (i : ℕ) (at : BookValue) → IsKept k count → k ≡ old → CanSave (host_of old) (AddTerms b version terms)
-    → IsPlace k.books b i → book_at k.books b ≡ Some at → next.books ≡ set k.books i (b, record at { terms = at.terms ++ terms ∷ [] }) → next.limit ≡ k.limit → count + 1 ≤ k.limit
-    → IsKept next (count + 1) × Saves old (AddTerms b version terms) (Ok tt) next
-terms_saved k old next count b version terms i at kept is can place stands list limit room =
-    let P : Books → Type 0 = λ old. CanSave (host_of old) (AddTerms b version terms) → IsKept next (count + 1) × Saves old (AddTerms b version terms) (Ok tt) next in
-    subst P is (λ can.
-    let found : get (host_of k).books b ≡ Some at = get-book_at k.books b ∙ stands in
+-- a change's rows, in place of those that it replaces
+change_rows : (k : Books) (change : Change) → Follows (host_of k) change → rows (with_change (host_of k) change) + replaced_rows k.books change ≡ rows (host_of k) + added_rows change
+change_rows k (MakeBook b new) none =
+    let sums = rows-with_book (host_of k) b (made_book new) in
+    let before : part book_rows (get (host_of k).books b) ≡ 0 = ap (part book_rows) none in
+    omega (arith, sums, before)
+change_rows k (AddTerms b version terms) follows =
+    let at : BookValue = follows.0 in
     let book : BookValue = record at { terms = at.terms ++ terms ∷ [] } in
-    let same : host_of next ≡ with_change (host_of k) (AddTerms b version terms) =
-    ap (λ (es : List (ℕ × BookValue)). record { books = from_entries es; limit = next.limit }) list
-    ∙ ap (λ n. record { books = from_entries (set k.books i (b, book)); limit = n }) limit
-    ∙ put_host k b i at book (λ o. changed_book o (AddTerms b version terms)) place found refl in
-    let more = terms_rows (host_of k) b at version terms found in
-    let counted = kept.counted in
-    let count_is : count + 1 ≡ rows (with_change (host_of k) (AddTerms b version terms)) = omega (arith, more, counted) in
-    (kept_changed k next (count + 1) (AddTerms b version terms) kept.limit limit same can.sound count_is room, (same, omega (arith, count_is, room)))) can
-
-pub terms_full : (k old : Books) (count b version : ℕ) (terms : Rates) → IsKept k count → k ≡ old → CanSave (host_of old) (AddTerms b version terms) → k.limit < count + 1
-    → Saves old (AddTerms b version terms) (Err Full) old
-terms_full k old count b version terms kept is can over =
-    let P : Books → Type 0 = λ old. CanSave (host_of old) (AddTerms b version terms) → Saves old (AddTerms b version terms) (Err Full) old in
-    subst P is (λ can.
-    let more = terms_rows (host_of k) b can.follows.0 version terms can.follows.1 in
-    let counted = kept.counted in
-    (refl, omega (arith, more, counted, over))) can
-
--- a book that a change needs stands
-pub needed : (k old : Books) (b : ℕ) (at : BookValue) → k ≡ old → get (host_of old).books b ≡ Some at → book_at k.books b ≡ Some at
-needed k old b at is stands = sym (get-book_at k.books b) ∙ ap (λ (o : Books). get (host_of o).books b) is ∙ stands
-
--- a pledge, put into the book at its place
-pub pledge_saved : (k old next : Books) (count after b n : ℕ) (p : PledgeValue) (i : ℕ) (at : BookValue) → IsKept k count → k ≡ old → CanSave (host_of old) (PutPledge b n p)
-    → IsPlace k.books b i → book_at k.books b ≡ Some at → next.books ≡ set k.books i (b, record at { pledges = put_from 1 at.pledges n p }) → next.limit ≡ k.limit
-    → after + standing_rows (pledge_from 1 at.pledges n) ≡ count + pledge_rows p → after ≤ k.limit
-    → IsKept next after × Saves old (PutPledge b n p) (Ok tt) next
-pledge_saved k old next count after b n p i at kept is can place stands list limit sums room =
-    let P : Books → Type 0 = λ old. CanSave (host_of old) (PutPledge b n p) → IsKept next after × Saves old (PutPledge b n p) (Ok tt) next in
-    subst P is (λ can.
-    let found : get (host_of k).books b ≡ Some at = get-book_at k.books b ∙ stands in
+    let all : rows (with_change (host_of k) (AddTerms b version terms)) ≡ rows (with_book (host_of k) b (Some book)) =
+    ap (λ o. rows (with_book (host_of k) b (changed_book o (AddTerms b version terms)))) follows.1 in
+    let sums = rows-with_book (host_of k) b book in
+    let before : part book_rows (get (host_of k).books b) ≡ book_rows at = ap (part book_rows) follows.1 in
+    let longer = length-append at.terms (terms ∷ []) in
+    omega (arith, all, sums, before, longer)
+change_rows k (PutPledge b n p) follows =
+    let at : BookValue = follows.0 in
     let book : BookValue = record at { pledges = put_from 1 at.pledges n p } in
-    let same : host_of next ≡ with_change (host_of k) (PutPledge b n p) =
-    ap (λ (es : List (ℕ × BookValue)). record { books = from_entries es; limit = next.limit }) list
-    ∙ ap (λ n. record { books = from_entries (set k.books i (b, book)); limit = n }) limit
-    ∙ put_host k b i at book (λ o. changed_book o (PutPledge b n p)) place found refl in
-    let bounds = follows_low (host_of k) b n p at can.follows found in
-    let more = put_rows (host_of k) b n at p found bounds.0 bounds.1 in
-    let counted = kept.counted in
-    let after_is : after ≡ rows (with_change (host_of k) (PutPledge b n p)) = omega (arith, more, counted, sums) in
-    (kept_changed k next after (PutPledge b n p) kept.limit limit same can.sound after_is room, (same, omega (arith, after_is, room)))) can
+    let all : rows (with_change (host_of k) (PutPledge b n p)) ≡ rows (with_book (host_of k) b (Some book)) =
+    ap (λ o. rows (with_book (host_of k) b (changed_book o (PutPledge b n p)))) follows.1 in
+    let sums = rows-with_book (host_of k) b book in
+    let before : part book_rows (get (host_of k).books b) ≡ book_rows at = ap (part book_rows) follows.1 in
+    let place = follows_at at n p follows.2 in
+    let pledges = sum_by-put 1 at.pledges n p place.0 place.1 in
+    let stood : standing_rows (pledge_in (book_at k.books b) n) ≡ standing_rows (pledge_from 1 at.pledges n) =
+    ap (λ o. standing_rows (pledge_in o n)) (sym (get-book_at k.books b) ∙ follows.1) in
+    omega (arith, all, sums, before, pledges, stood)
 
-pub pledge_full : (k old : Books) (count after b n : ℕ) (p : PledgeValue) (at : BookValue) → IsKept k count → k ≡ old → CanSave (host_of old) (PutPledge b n p)
-    → book_at k.books b ≡ Some at → after + standing_rows (pledge_from 1 at.pledges n) ≡ count + pledge_rows p → k.limit < after
-    → Saves old (PutPledge b n p) (Err Full) old
-pledge_full k old count after b n p at kept is can stands sums over =
-    let P : Books → Type 0 = λ old. CanSave (host_of old) (PutPledge b n p) → Saves old (PutPledge b n p) (Err Full) old in
+-- books with a change are those of the host with it
+change_host : (k next : Books) (change : Change) (book : BookValue) → changed_book (get (host_of k).books (book_number change)) change ≡ Some book
+    → HasChange k.books change next.books → next.limit ≡ k.limit → host_of next ≡ with_change (host_of k) change
+change_host k next change book made has limit =
+    let b = book_number change in
+    let here : changed_book (book_at k.books b) change ≡ Some book = ap (λ o. changed_book o change) (sym (get-book_at k.books b)) ∙ made in
+    ap (λ n. record { books = from_entries next.books; limit = n }) limit
+    ∙ ap (λ m. record { books = m; limit = k.limit }) (same_map {R = nat_cmp} nat_cmp_total nat_cmp-IsAntisymmetric _ _ (λ q.
+    get-book_at next.books q ∙ has q ∙ ap (λ o. if q == b then o else book_at k.books q) here
+    ∙ ap (λ o. if q == b then Some book else o) (sym (get-book_at k.books q)) ∙ sym (get-with_book (host_of k) b book q)))
+    ∙ sym (ap (with_book (host_of k) b) made)
+
+-- a change that was made
+pub change_saved : (k old next : Books) (count after : ℕ) (change : Change) → IsKept k count → k ≡ old → CanSave (host_of old) change → HasChange k.books change next.books → next.limit ≡ k.limit
+    → after + replaced_rows k.books change ≡ count + added_rows change → after ≤ k.limit → IsKept next after × Saves old change (Ok tt) next
+change_saved k old next count after change kept is can has limit sums room =
+    let P : Books → Type 0 = λ old. CanSave (host_of old) change → IsKept next after × Saves old change (Ok tt) next in
     subst P is (λ can.
-    let found : get (host_of k).books b ≡ Some at = get-book_at k.books b ∙ stands in
-    let bounds = follows_low (host_of k) b n p at can.follows found in
-    let more = put_rows (host_of k) b n at p found bounds.0 bounds.1 in
+    let made = changes_to (host_of k) change can.follows in
+    let same = change_host k next change made.0 made.1 has limit in
+    let more = change_rows k change can.follows in
+    let counted = kept.counted in
+    let after_is : after ≡ rows (with_change (host_of k) change) = omega (arith, more, counted, sums) in
+    (kept_changed k next after change kept.limit limit same can.sound after_is room, (same, omega (arith, after_is, room)))) can
+
+-- .. and one for which there is no room
+pub change_full : (k old : Books) (count after : ℕ) (change : Change) → IsKept k count → k ≡ old → CanSave (host_of old) change
+    → after + replaced_rows k.books change ≡ count + added_rows change → k.limit < after → Saves old change (Err Full) old
+change_full k old count after change kept is can sums over =
+    let P : Books → Type 0 = λ old. CanSave (host_of old) change → Saves old change (Err Full) old in
+    subst P is (λ can.
+    let more = change_rows k change can.follows in
     let counted = kept.counted in
     (refl, omega (arith, more, counted, sums, over))) can
 
--- the rows of a standing pledge are counted
-pub standing_counted : (k old : Books) (count b n : ℕ) (p : PledgeValue) (at : BookValue) → IsKept k count → k ≡ old → CanSave (host_of old) (PutPledge b n p)
-    → book_at k.books b ≡ Some at → (standing_rows (pledge_from 1 at.pledges n) ≤ count + pledge_rows p) × (1 ≤ n) × (n ≤ 1 + length at.pledges)
-standing_counted k old count b n p at kept is can stands =
-    let P : Books → Type 0 = λ old. CanSave (host_of old) (PutPledge b n p) → (standing_rows (pledge_from 1 at.pledges n) ≤ count + pledge_rows p) × (1 ≤ n) × (n ≤ 1 + length at.pledges) in
-    subst P is (λ can.
-    let found : get (host_of k).books b ≡ Some at = get-book_at k.books b ∙ stands in
-    let bounds = follows_low (host_of k) b n p at can.follows found in
-    let more = put_rows (host_of k) b n at p found bounds.0 bounds.1 in
-    let counted = kept.counted in
-    (omega (arith, more, counted), bounds.0, bounds.1)) can
+-- the rows that a change replaces are counted
+pub change_counted : (k old : Books) (count : ℕ) (change : Change) → IsKept k count → k ≡ old → CanSave (host_of old) change → replaced_rows k.books change ≤ count + added_rows change
+change_counted k old count change kept is can =
+    let P : Books → Type 0 = λ old. CanSave (host_of old) change → replaced_rows k.books change ≤ count + added_rows change in
+    subst P is (λ can. let more = change_rows k change can.follows in let counted = kept.counted in omega (arith, more, counted)) can
+
+-- the books have the place of a change that may be saved
+pub change_fits : (k old : Books) (change : Change) → k ≡ old → CanSave (host_of old) change → Fits k.books change
+change_fits k old change is can = from change (subst (λ (o : Books). Follows (host_of o) change) (sym is) can.follows)
+  where
+    from : (change : Change) → Follows (host_of k) change → Fits k.books change
+    from (MakeBook b new) none = sym (get-book_at k.books b) ∙ none
+    from (AddTerms b version terms) follows = (follows.0, sym (get-book_at k.books b) ∙ follows.1)
+    from (PutPledge b n p) follows = (follows.0, sym (get-book_at k.books b) ∙ follows.1, (follows_at follows.0 n p follows.2).1)
+
+-- a new book, pushed
+pub push_changes : (es next : List (ℕ × BookValue)) (b : ℕ) (new : NewBook) → book_at es b ≡ None → next ≡ es ++ (b, made_book new) ∷ [] → HasChange es (MakeBook b new) next
+push_changes es next b new none list q =
+    let limitless : List (ℕ × BookValue) → Books = λ es. record { books = es; limit = 0 } in
+    ap (λ es. book_at es q) list ∙ sym (get-book_at (es ++ (b, made_book new) ∷ []) q)
+    ∙ ap (λ m. get m q) (pushed es b (made_book new) none) ∙ get-with_book (host_of (limitless es)) b (made_book new) q
+    ∙ ap (λ o. if q == b then Some (made_book new) else o) (get-book_at es q)
+
+-- a book, set at its place
+pub set_changes : (qs ks : List Kept) (i : ℕ) (kept next : Kept) (change : Change) → qs ≡ ks → i < length qs → IsPlace (map entry_of qs) (book_number change) i → kept ≡ get_or ks i kept
+    → next.number ≡ kept.number → Some (entry_of next).1 ≡ changed_book (Some (entry_of kept).1) change → HasChange (map entry_of ks) change (map entry_of (set ks i next))
+set_changes qs ks i kept next change same less place is named to q =
+    let b = book_number change in
+    let within : i < length ks = subst (λ (xs : List Kept). i < length xs) same less in
+    let here : IsPlace (map entry_of ks) b i = subst (λ (xs : List Kept). IsPlace (map entry_of xs) b i) same place in
+    ap (λ es. book_at es q) (map-set entry_of ks i next ∙ ap (λ (n : ℕ). set (map entry_of ks) i (n, (entry_of next).1)) (named ∙ kept_number ks b i kept within is here))
+    ∙ book_at-set (map entry_of ks) b i (entry_of next).1 q here
+    ∙ ap (λ o. if q == b then o else book_at (map entry_of ks) q) (to ∙ ap (λ o. changed_book o change) (sym (kept_is ks b i kept within is here)))
+
+-- the book of a number, at its place
+pub kept_at_place : (qs ks : List Kept) (b i : ℕ) (kept : Kept) (at : BookValue) → qs ≡ ks → i < length qs → IsPlace (map entry_of qs) b i → kept ≡ get_or ks i kept
+    → book_at (map entry_of ks) b ≡ Some at → at ≡ (entry_of kept).1
+kept_at_place qs ks b i kept at same less place is stands =
+    let within : i < length ks = subst (λ (xs : List Kept). i < length xs) same less in
+    let here : IsPlace (map entry_of ks) b i = subst (λ (xs : List Kept). IsPlace (map entry_of xs) b i) same place in
+    some_is at (entry_of kept).1 (sym stands ∙ kept_is ks b i kept within is here)

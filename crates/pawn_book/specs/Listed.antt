@@ -1,16 +1,17 @@
 -- The host of books in a list.
-use Rattle.std.specs.Prelude.{◌≡◌, ◌≢◌, ℕ, zero, suc, ◌≤◌, ◌<◌, List, [], ◌∷◌, Option, Some, None, Result, Ok, Err, ◌==◌, if◌then◌else◌, ⊤}
+use Rattle.std.specs.Prelude.{◌≡◌, ◌≢◌, ℕ, zero, suc, ◌+◌, ◌≤◌, ◌<◌, List, [], ◌∷◌, Option, Some, None, Result, Ok, Err, length, ◌==◌, if◌then◌else◌, ⊤}
 use Rattle.std.specs.FinMap.{from_entries}
 use Rattle.pawn_book.specs.declared.list.Kept.{Kept}
 use Rattle.pawn_book.specs.declared.change.Change.{Change}
+use Rattle.pawn_book.specs.declared.change.Change.TheVariants.{MakeBook, AddTerms, PutPledge}
 use Rattle.pawn_book.specs.declared.fault.SaveError.{SaveError}
 use Rattle.pawn_book.specs.declared.fault.SaveError.TheVariants.{Full, Memory, Store}
-use Rattle.pawn_book.specs.BookStep.{BookValue}
+use Rattle.pawn_book.specs.BookStep.{BookValue, changed_book, pledge_in}
 use Rattle.pawn_pledge.specs.Pledge.{PledgeValue}
 use Rattle.pawn_book.specs.HostStep.{Host, rows, pledge_rows}
 use Rattle.pawn_book.specs.Limits.{most_rows}
 use Rattle.pawn_book.specs.Sound.{IsSound}
-use Rattle.pawn_book.specs.Changes.{with_change}
+use Rattle.pawn_book.specs.Changes.{book_number, with_change}
 use Rattle.pawn_book.specs.Keeping.{Keeping}
 use Rattle.pawn_book.specs.Books.{Books}
 
@@ -50,6 +51,28 @@ IsLeastAbove books after (Some next) =
 abbrev pub standing_rows : Option PledgeValue → ℕ
 standing_rows None = 0
 standing_rows (Some p) = pledge_rows p
+
+-- the rows that a change adds, and those of the pledge whose place it takes
+abbrev pub added_rows : Change → ℕ
+added_rows (MakeBook b new) = 1
+added_rows (AddTerms b version terms) = 1
+added_rows (PutPledge b n p) = pledge_rows p
+
+abbrev pub replaced_rows : List (ℕ × BookValue) → Change → ℕ
+replaced_rows books (MakeBook b new) = 0
+replaced_rows books (AddTerms b version terms) = 0
+replaced_rows books (PutPledge b n p) = standing_rows (pledge_in (book_at books b) n)
+
+-- the books of the list have a change's place: none yet of a new book's number, else the book, and a place for the pledge
+abbrev pub Fits : List (ℕ × BookValue) → Change → Type 0
+Fits books (MakeBook b new) = book_at books b ≡ None
+Fits books (AddTerms b version terms) = (at : BookValue) × (book_at books b ≡ Some at)
+Fits books (PutPledge b n p) = (at : BookValue) × (book_at books b ≡ Some at) × (n ≤ 1 + length at.pledges)
+
+-- the book of a change's number is the changed one, and the others are as they were
+abbrev pub HasChange : List (ℕ × BookValue) → Change → List (ℕ × BookValue) → Type 0
+HasChange old change new =
+    (b : ℕ) → book_at new b ≡ (if b == book_number change then changed_book (book_at old (book_number change)) change else book_at old b)
 
 -- the host that the list stands for
 abbrev pub host_of : Books → Host

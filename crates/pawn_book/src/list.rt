@@ -1,10 +1,10 @@
 ghost use Rattle.std.specs.Prelude.{[], ◌≡◌, ◌<◌, ◌≤◌, ◌+◌, ◌&&◌, if◌then◌else◌, IfNone, IfOk, IfSome, MatchOption, None, OnErr, OnOk, Some, length, map, nat_lt, option_map, unwrap_or};
 ghost use Rattle.pawn_pledge.specs.Brief.{brief_of};
-ghost use Rattle.pawn_book.specs.BookStep.{confirmed_count, book_head, is_confirmed_for, pledge_from, pledge_in, put_from, terms_at, with_reference};
+ghost use Rattle.pawn_book.specs.BookStep.{BookValue, confirmed_count, book_head, is_confirmed_for, pledge_from, pledge_in, put_from, terms_at, with_reference};
 ghost use Rattle.pawn_book.specs.HostStep.{pledge_rows};
 ghost use Rattle.pawn_book.specs.Changes.{CanSave};
 ghost use Rattle.pawn_book.specs.Keeping.{entries_of, extensions_of, number_of, pledges_of, terms_of};
-ghost use Rattle.pawn_book.specs.Listed.{IsLeastAbove, IsPlace, Saves, book_at, entry_of, host_of, standing_rows};
+ghost use Rattle.pawn_book.specs.Listed.{Fits, HasChange, IsLeastAbove, IsPlace, Saves, added_rows, book_at, entry_of, host_of, replaced_rows};
 ghost use Rattle.pawn_book.specs.Visits.{IsShare, Visits, Whole};
 
 use crate::change::{BookHead, Change, Imported};
@@ -66,72 +66,17 @@ impl ListKeep {
         }
     }
 
-    // Makes a book.
-    fn make_book(&mut self, book: Number, new_book: &NewBook) -> Result<(), SaveError>
-        requires can_save { CanSave (host_of self.old) (Change.MakeBook book new_book.now) }
-        ensures saves { Saves self.old (Change.MakeBook book new_book.now) result self.new }
+    // Makes a change, unless the rows would be above the limit.
+    fn make(&mut self, change: &Change) -> Result<(), SaveError>
+        requires can_save { CanSave (host_of self.old) change.now }
+        ensures saves { Saves self.old change.now result self.new }
     {
-        let rows = self.rows + 1;
-        if rows > self.limit {
-            return Err(SaveError::Full);
-        }
-        let Ok(made) = new_book.copy() else {
-            return Err(SaveError::Memory);
-        };
-        let kept = Kept {
-            number: book,
-            made,
-            terms: Vec::new(self.alloc),
-            pledges: Vec::new(self.alloc),
-            imported: None,
-        };
-        match self.books.push(kept) {
-            Ok(()) => {}
-            Err(_) => return Err(SaveError::Memory),
-        }
-        self.rows = rows;
-        Ok(())
-    }
-
-    // Adds the next version of a book's terms.
-    fn add_terms(&mut self, book: Number, version: u64, terms: Terms) -> Result<(), SaveError>
-        requires can_save { CanSave (host_of self.old) (Change.AddTerms book version terms) }
-        ensures saves { Saves self.old (Change.AddTerms book version terms) result self.new }
-    {
-        let rows = self.rows + 1;
-        if rows > self.limit {
-            return Err(SaveError::Full);
-        }
-        let Some(place) = place_of(&self.books, book) else {
-            unreachable!();
-        };
-        let kept = &mut self.books[place];
-        match kept.terms.push(terms) {
-            Ok(()) => {}
-            Err(_) => return Err(SaveError::Memory),
-        }
-        self.rows = rows;
-        Ok(())
-    }
-
-    // Puts the next pledge, or one that stands.
-    fn put_pledge(&mut self, book: Number, number: Number, pledge: &Pledge) -> Result<(), SaveError>
-        requires can_save { CanSave (host_of self.old) (Change.PutPledge book number pledge.now) }
-        ensures saves { Saves self.old (Change.PutPledge book number pledge.now) result self.new }
-    {
-        let Some(place) = place_of(&self.books, book) else {
-            unreachable!();
-        };
-        let standing = rows_at(&self.books[place].pledges, number);
-        let rows = u128::from(self.rows) + u128::from(rows_of(pledge)) - u128::from(standing);
+        let rows = rows_with(&self.books, self.rows, change);
         if rows > u128::from(self.limit) {
             return Err(SaveError::Full);
         }
-        let Ok(pledge) = pledge.copy() else {
-            return Err(SaveError::Memory);
-        };
-        let kept = &mut self.books[place];
-        match put(&mut kept.pledges, number, pledge) {
+        let alloc = self.alloc;
+        match make_change(alloc, &mut self.books, change) {
             Ok(()) => {}
             Err(_) => return Err(SaveError::Memory),
         }
@@ -218,19 +163,7 @@ impl Keep for ListKeep {
     fn save(&mut self, change: &Change) -> Result<(), SaveError> {
         // Whoever holds a list knows that its host is sound.
         let _ = &self.rows;
-        match change {
-            Change::MakeBook { book, new_book } => self.make_book(*book, new_book),
-            Change::AddTerms {
-                book,
-                version,
-                terms,
-            } => self.add_terms(*book, *version, *terms),
-            Change::PutPledge {
-                book,
-                number,
-                pledge,
-            } => self.put_pledge(*book, *number, pledge),
-        }
+        self.make(change)
     }
 }
 
@@ -474,14 +407,116 @@ fn rows_of(pledge: &Pledge) -> u64
     1 + pledge.entries().len() as u64 + pledge.secrets().len() as u64 + booking
 }
 
-// The rows of the pledge that stands at a number.
-fn rows_at(pledges: &[Pledge], number: Number) -> u64
-    ensures value { result ≡ standing_rows (pledge_from 1 pledges.now number) }
+// The rows once a change is made, where so many are counted.
+fn rows_with(books: &[Kept], rows: u64, change: &Change) -> u128
+    requires counted { replaced_rows (map entry_of books.now) change.now ≤ rows + added_rows change.now }
+    ensures rows { result + replaced_rows (map entry_of books.now) change.now ≡ rows + added_rows change.now }
 {
-    match pledge_at(pledges, number) {
-        None => 0,
-        Some(pledge) => rows_of(pledge),
+    match change {
+        Change::MakeBook { .. } => u128::from(rows) + 1,
+        Change::AddTerms { .. } => u128::from(rows) + 1,
+        Change::PutPledge {
+            book,
+            number,
+            pledge,
+        } => {
+            let standing = match standing_pledge(books, *book, *number) {
+                None => 0,
+                Some(standing) => rows_of(standing),
+            };
+            u128::from(rows) + u128::from(rows_of(pledge)) - u128::from(standing)
+        }
     }
+}
+
+// Makes a change of the books.
+fn make_change(alloc: Global, books: &mut Vec<Kept>, change: &Change) -> Result<(), AllocError>
+    requires fits { Fits (map entry_of books.old.items) change.now }
+    ensures ok { OnOk result (HasChange (map entry_of books.old.items) change.now (map entry_of books.new.items)) }
+    ensures err { OnErr result (map entry_of books.new.items ≡ map entry_of books.old.items) }
+{
+    match change {
+        Change::MakeBook { book, new_book } => push_book(alloc, books, *book, new_book),
+        Change::AddTerms {
+            book,
+            version,
+            terms,
+        } => push_terms(books, *book, *version, *terms),
+        Change::PutPledge {
+            book,
+            number,
+            pledge,
+        } => put_pledge(books, *book, *number, pledge),
+    }
+}
+
+// Adds a book without terms and pledges.
+fn push_book(
+    alloc: Global,
+    books: &mut Vec<Kept>,
+    book: Number,
+    new_book: &NewBook,
+) -> Result<(), AllocError>
+    requires none { book_at (map entry_of books.old.items) book ≡ None }
+    ensures ok { OnOk result (HasChange (map entry_of books.old.items) (Change.MakeBook book new_book.now) (map entry_of books.new.items)) }
+    ensures err { OnErr result (books.new.items ≡ books.old.items) }
+{
+    let made = match new_book.copy() {
+        Ok(made) => made,
+        Err(error) => return Err(error),
+    };
+    let kept = Kept {
+        number: book,
+        made,
+        terms: Vec::new(alloc),
+        pledges: Vec::new(alloc),
+        imported: None,
+    };
+    books.push(kept)?;
+    Ok(())
+}
+
+// Adds the next version of a book's terms.
+fn push_terms(
+    books: &mut Vec<Kept>,
+    book: Number,
+    version: u64,
+    terms: Terms,
+) -> Result<(), AllocError>
+    requires stands { (at : BookValue) × (book_at (map entry_of books.old.items) book ≡ Some at) }
+    ensures ok { OnOk result (HasChange (map entry_of books.old.items) (Change.AddTerms book version terms) (map entry_of books.new.items)) }
+    ensures err { OnErr result (map entry_of books.new.items ≡ map entry_of books.old.items) }
+{
+    let Some(place) = place_of(books, book) else {
+        unreachable!();
+    };
+    let kept = &mut books[place];
+    match kept.terms.push(terms) {
+        Ok(()) => Ok(()),
+        Err(_) => Err(AllocError),
+    }
+}
+
+// Puts the next pledge of a book, or one that stands.
+fn put_pledge(
+    books: &mut Vec<Kept>,
+    book: Number,
+    number: Number,
+    pledge: &Pledge,
+) -> Result<(), AllocError>
+    requires stands { (at : BookValue) × (book_at (map entry_of books.old.items) book ≡ Some at) × (number ≤ 1 + length at.pledges) }
+    ensures ok { OnOk result (HasChange (map entry_of books.old.items) (Change.PutPledge book number pledge.now) (map entry_of books.new.items)) }
+    ensures err { OnErr result (map entry_of books.new.items ≡ map entry_of books.old.items) }
+{
+    let Some(place) = place_of(books, book) else {
+        unreachable!();
+    };
+    let pledge = match pledge.copy() {
+        Ok(pledge) => pledge,
+        Err(error) => return Err(error),
+    };
+    let kept = &mut books[place];
+    put(&mut kept.pledges, number, pledge)
 }
 
 // Puts a pledge at its number, the next or one that stands.

@@ -1,89 +1,58 @@
 use crate::{
-    Article, BearerRequest, BrokerRequest, Caller, Capacity, Entry, Extension, Flow, Keep, Kind,
-    ListKeep, Name, NewBook, NewTerms, Number, Opening, Rates, Receipt, Receipts, Reference,
-    Refusal, Reply, Request, RequestDay, Secret, Stamp, Status, TermsFault, Visitor, act,
-    find_live, gate, plan,
+    Article, BearerCommand, BearerRequest, Booking, BookingState, BrokerCommand, BrokerRequest,
+    Caller, Capacity, Command, Decision, Done, Entry, Flow, Keep, Kind, ListKeep, Name, NewBook,
+    NewTerms, Number, Opening, Paper, Pledge, PledgeRefusal, Rates, Receipt, Receipts, Reference,
+    Refusal, Reply, Request, RequestDay, Secret, Sort, Stamp, Status, TermsFault, Visitor, act,
+    commit, find_live, gate, plan,
 };
 use pawn_debt::DebtFault;
 use std::alloc::Global;
 use std::test::Fail;
 
-mod commands;
-
 const OPERATOR: u128 = 11;
 
 const KEY: u128 = 22;
 
-// What is asked of a book.
+// What is asked of book 7, which confirms one booking of a window.
 #[derive(Clone, Copy)]
 enum Ask {
+    // The book, by this key and with this capacity.
     Make {
-        name: &'static str,
-        capacity: u64,
         operator: u128,
+        capacity: u64,
     },
     Put {
         version: u64,
         rate: u64,
-        keep_before: u64,
-        keep_after: u64,
     },
+    // A pledge for a sum, under the reference of this number.
     Take {
-        reference: &'static str,
+        reference: u64,
         pence: u64,
+    },
+    // By the book's key.
+    Broker {
+        pledge: u64,
+        command: Command,
+    },
+    // By a receipt of this word.
+    Bearer {
+        pledge: u64,
+        word: u128,
+        command: Command,
     },
 }
 
-// What is asked of a book with a word, and what it is to answer.
+// What is asked with a word, and what is to be answered.
 #[derive(Clone, Copy)]
-struct Step {
-    book: u64,
+struct Turn {
     word: u128,
     ask: Ask,
     answer: Result<Reply, Refusal>,
 }
 
-fn make(book: u64, name: &'static str, capacity: u64, answer: Result<Reply, Refusal>) -> Step {
-    Step {
-        book,
-        word: 1,
-        ask: Ask::Make {
-            name,
-            capacity,
-            operator: OPERATOR,
-        },
-        answer,
-    }
-}
-
-fn put(book: u64, terms: [u64; 4], answer: Result<Reply, Refusal>) -> Step {
-    let [version, rate, keep_before, keep_after] = terms;
-    Step {
-        book,
-        word: 2,
-        ask: Ask::Put {
-            version,
-            rate,
-            keep_before,
-            keep_after,
-        },
-        answer,
-    }
-}
-
-fn take(
-    book: u64,
-    word: u128,
-    reference: &'static str,
-    pence: u64,
-    answer: Result<Reply, Refusal>,
-) -> Step {
-    Step {
-        book,
-        word,
-        ask: Ask::Take { reference, pence },
-        answer,
-    }
+fn asked(word: u128, ask: Ask, answer: Result<Reply, Refusal>) -> Turn {
+    Turn { word, ask, answer }
 }
 
 fn number(n: u64) -> Result<Number, Fail> {
@@ -97,22 +66,24 @@ fn receipt(n: u64, word: u128) -> Result<Receipt, Fail> {
     })
 }
 
-fn stamp(word: u128) -> Result<Stamp, Fail> {
-    Ok(Stamp {
-        day: RequestDay::of_text(b"2024-01-31")?,
-        word,
-    })
+fn day() -> Result<RequestDay, Fail> {
+    Ok(RequestDay::of_text(b"2024-01-31")?)
 }
 
-fn new_book(alloc: Global, name: &str, capacity: u64) -> Result<NewBook, Fail> {
+fn new_book(alloc: Global, capacity: u64) -> Result<NewBook, Fail> {
     Ok(NewBook {
         key: Secret::of_word(KEY),
-        name: Name::of_str(alloc, name)?.ok_or("no name")?,
+        name: Name::of_str(alloc, "High Street")?.ok_or("no name")?,
         capacity: Capacity::new(capacity).ok_or("no capacity")?,
     })
 }
 
-fn opening(alloc: Global, reference: &str, pence: u64) -> Result<Opening, Fail> {
+fn opening(alloc: Global, reference: u64, pence: u64) -> Result<Opening, Fail> {
+    let reference = match reference {
+        1 => "A1",
+        2 => "A2",
+        _ => "A3",
+    };
     Ok(Opening {
         reference: Reference::of_str(alloc, reference)?.ok_or("no reference")?,
         article: Article::of_str(alloc, "Gold ring")?.ok_or("no article")?,
@@ -122,34 +93,39 @@ fn opening(alloc: Global, reference: &str, pence: u64) -> Result<Opening, Fail> 
     })
 }
 
-fn asked_by(alloc: Global, ask: Ask) -> Result<Caller, Fail> {
+fn caller_of(alloc: Global, ask: Ask) -> Result<Caller, Fail> {
     let asked = match ask {
-        Ask::Make {
-            name,
-            capacity,
-            operator,
-        } => {
+        Ask::Make { operator, capacity } => {
             return Ok(Caller::Operator {
                 key: Secret::of_word(operator),
-                new_book: new_book(alloc, name, capacity)?,
+                new_book: new_book(alloc, capacity)?,
             });
         }
-        Ask::Put {
-            version,
-            rate,
-            keep_before,
-            keep_after,
-        } => BrokerRequest::PutTerms(NewTerms {
+        Ask::Bearer {
+            pledge,
+            word,
+            command,
+        } => {
+            return Ok(Caller::Bearer(BearerRequest::OnPledge {
+                receipt: receipt(pledge, word)?,
+                command: BearerCommand::try_from(command).ok().ok_or("no bearer's command")?,
+            }));
+        }
+        Ask::Put { version, rate } => BrokerRequest::PutTerms(NewTerms {
             version,
             rates: Rates {
                 rate,
-                keep_before,
-                keep_after,
+                keep_before: 0,
+                keep_after: 0,
             },
         }),
         Ask::Take { reference, pence } => {
             BrokerRequest::TakePledge(opening(alloc, reference, pence)?)
         }
+        Ask::Broker { pledge, command } => BrokerRequest::OnPledge {
+            number: number(pledge)?,
+            command: BrokerCommand::try_from(command).ok().ok_or("no broker's command")?,
+        },
     };
     Ok(Caller::Broker {
         key: Secret::of_word(KEY),
@@ -157,301 +133,328 @@ fn asked_by(alloc: Global, ask: Ask) -> Result<Caller, Fail> {
     })
 }
 
-// Whether a keeper answers a step as it is to.
-fn answers(alloc: Global, keep: &mut ListKeep, step: &Step) -> Result<bool, Fail> {
-    let stamp = stamp(step.word)?;
-    let book = number(step.book)?;
-    let caller = asked_by(alloc, step.ask)?;
-    let request = Request { book, caller };
+fn request_of(alloc: Global, turn: &Turn) -> Result<Request, Fail> {
+    let book = number(7)?;
+    let caller = caller_of(alloc, turn.ask)?;
+    Ok(Request { book, caller })
+}
+
+// Whether a keeper answers a turn as it is to.
+fn answers(alloc: Global, keep: &mut ListKeep, turn: &Turn) -> Result<bool, Fail> {
+    let stamp = Stamp {
+        day: day()?,
+        word: turn.word,
+    };
+    let request = request_of(alloc, turn)?;
     if !request.caller.writes() {
         return Ok(false);
     }
     let answer = act(alloc, keep, Secret::of_word(OPERATOR), &stamp, &request);
-    Ok(answer == step.answer)
+    Ok(answer == turn.answer)
 }
 
-// Whether it answers each step so.
-fn plays(alloc: Global, keep: &mut ListKeep, steps: &[Step]) -> Result<bool, Fail> {
-    for step in steps {
-        if !answers(alloc, keep, step)? {
+// Whether it answers each turn so.
+fn plays(alloc: Global, keep: &mut ListKeep, turns: &[Turn]) -> Result<bool, Fail> {
+    for turn in turns {
+        if !answers(alloc, keep, turn)? {
             return Ok(false);
         }
     }
     Ok(true)
 }
 
-// Whether it answers each step so once book 7 and its first terms stand.
-fn plays_on(alloc: Global, keep: &mut ListKeep, steps: &[Step]) -> Result<bool, Fail> {
-    let started = [
-        make(7, "High Street", 2, Ok(Reply::BookMade(number(7)?))),
-        put(7, [1, 0, 0, 0], Ok(Reply::TermsPut(1))),
-    ];
-    if !plays(alloc, keep, &started)? {
-        return Ok(false);
+fn make() -> Ask {
+    Ask::Make {
+        operator: OPERATOR,
+        capacity: 1,
     }
-    plays(alloc, keep, steps)
 }
 
-// A keeper of books with room for 1,000 rows.
-fn ample(alloc: Global) -> ListKeep {
-    ListKeep::new(alloc, 1000)
+fn put(version: u64, rate: u64) -> Ask {
+    Ask::Put { version, rate }
 }
 
-// Whether a key opens a book, which then counts that many pledges.
-fn opens(keep: &mut ListKeep, book: u64, key: u128, pledges: u64) -> Result<bool, Fail> {
-    let book = number(book)?;
-    match gate(keep, book, Secret::of_word(key)) {
-        Ok(head) => Ok(head.pledges == pledges && head.name.as_str() == "High Street"),
-        Err(_) => Ok(false),
+fn take(reference: u64, pence: u64) -> Ask {
+    Ask::Take { reference, pence }
+}
+
+fn broker(pledge: u64, command: Command) -> Ask {
+    Ask::Broker { pledge, command }
+}
+
+fn bearer(pledge: u64, word: u128, command: Command) -> Ask {
+    Ask::Bearer {
+        pledge,
+        word,
+        command,
     }
+}
+
+fn told(n: u64, done: Done) -> Result<Result<Reply, Refusal>, Fail> {
+    Ok(Ok(Reply::Commanded {
+        number: number(n)?,
+        done,
+    }))
 }
 
 fn books_are_made(alloc: Global, mut keep: ListKeep) -> Result<bool, Fail> {
     let made = Ok(Reply::BookMade(number(7)?));
-    let stranger = Step {
-        book: 8,
-        word: 4,
-        ask: Ask::Make {
-            name: "Low Street",
-            capacity: 2,
-            operator: KEY,
-        },
-        answer: Err(Refusal::NotOperator),
+    let terms = Ok(Reply::TermsPut(1));
+    let stranger = Ask::Make {
+        operator: KEY,
+        capacity: 1,
     };
-    let steps = [
-        make(7, "High Street", 2, made),
-        make(7, "High Street", 2, made),
-        make(7, "High Street", 3, Err(Refusal::BookTaken)),
-        stranger,
-    ];
-    if !plays(alloc, &mut keep, &steps)? {
-        return Ok(false);
-    }
-    Ok(opens(&mut keep, 7, KEY, 0)? && !opens(&mut keep, 7, OPERATOR, 0)?)
-}
-
-#[test]
-fn a_book_is_made_once(rt: HostRuntime) -> Result<(), Fail> {
-    assert!(rt; books_are_made(rt.alloc(), ample(rt.alloc()))?);
-    Ok(())
-}
-
-// Whether a version can be put.
-fn is_put(alloc: Global, keep: &mut ListKeep, version: u64) -> Result<bool, Fail> {
-    let answer = Ok(Reply::TermsPut(version));
-    let steps = [put(7, [version, version, 0, 0], answer)];
-    plays(alloc, keep, &steps)
-}
-
-// Whether the versions from 2 to 99 can be put.
-fn versions_follow(alloc: Global, keep: &mut ListKeep) -> Result<bool, Fail> {
-    for version in 2..100u64 {
-        if !is_put(alloc, keep, version)? {
-            return Ok(false);
-        }
-    }
-    Ok(true)
-}
-
-fn terms_are_put(alloc: Global, mut keep: ListKeep) -> Result<bool, Fail> {
-    let seq = Err(Refusal::TermsSeq);
-    let keeping = Err(Refusal::Terms(TermsFault::KeepingRate));
+    let other = Ask::Make {
+        operator: OPERATOR,
+        capacity: 2,
+    };
     let rate = Err(Refusal::Terms(TermsFault::RateTooHigh));
-    let steps = [
-        put(7, [1, 0, 0, 0], Ok(Reply::TermsPut(1))),
-        put(7, [1, 0, 5, 0], seq),
-        put(7, [0, 0, 0, 0], seq),
-        put(7, [3, 0, 0, 0], seq),
-        put(7, [2, 0, 5, 6], keeping),
-        put(7, [2, 20_001, 0, 0], rate),
+    let turns = [
+        asked(1, stranger, Err(Refusal::NotOperator)),
+        asked(1, put(1, 0), Err(Refusal::NoSuchBook)),
+        asked(1, make(), made),
+        asked(1, make(), made),
+        asked(1, other, Err(Refusal::BookTaken)),
+        asked(1, take(1, 10_000), Err(Refusal::NoTerms)),
+        asked(1, put(1, 0), terms),
+        asked(1, put(1, 0), terms),
+        asked(1, put(1, 5), Err(Refusal::TermsSeq)),
+        asked(1, put(2, 20_001), rate),
     ];
-    let full = [
-        put(7, [100, 0, 0, 0], Err(Refusal::TermsFull)),
-        put(7, [101, 0, 0, 0], seq),
-        put(8, [1, 0, 0, 0], Err(Refusal::NoSuchBook)),
-    ];
-    if !plays_on(alloc, &mut keep, &steps)? || !versions_follow(alloc, &mut keep)? {
-        return Ok(false);
-    }
-    plays(alloc, &mut keep, &full)
+    plays(alloc, &mut keep, &turns)
 }
 
 #[test]
-fn terms_are_put_in_turn(rt: HostRuntime) -> Result<(), Fail> {
-    assert!(rt; terms_are_put(rt.alloc(), ample(rt.alloc()))?);
+fn a_book_and_its_terms_are_made_once(rt: HostRuntime) -> Result<(), Fail> {
+    assert!(rt; books_are_made(rt.alloc(), ListKeep::new(rt.alloc(), 1000))?);
     Ok(())
 }
 
-fn pledges_are_taken(alloc: Global, mut keep: ListKeep) -> Result<bool, Fail> {
-    let first = Ok(Reply::Opened(receipt(1, 33)?));
-    let second = Ok(Reply::Opened(receipt(2, 44)?));
-    let other = Ok(Reply::BookMade(number(8)?));
-    let amount = Err(Refusal::Pledge(pawn_pledge::Refusal::Debt(DebtFault::BadAmount)));
-    let steps = [
-        take(7, 33, "A1", 10_000, first),
-        take(7, 44, "A1", 10_000, first),
-        take(7, 44, "A1", 10_001, Err(Refusal::RefTaken)),
-        take(7, 44, "A2", 10_000, second),
-        make(8, "Low Street", 1, other),
-        take(8, 5, "A1", 10_000, Err(Refusal::NoTerms)),
-        take(7, 5, "A3", 0, amount),
+// Whether book 7 is made and takes pledges 1 and 2 of 100 pounds, by the words 33 and 44.
+fn pledges(alloc: Global, keep: &mut ListKeep) -> Result<bool, Fail> {
+    let turns = [
+        asked(1, make(), Ok(Reply::BookMade(number(7)?))),
+        asked(1, put(1, 0), Ok(Reply::TermsPut(1))),
+        asked(33, take(1, 10_000), Ok(Reply::Opened(receipt(1, 33)?))),
+        asked(44, take(2, 10_000), Ok(Reply::Opened(receipt(2, 44)?))),
     ];
-    plays_on(alloc, &mut keep, &steps)
+    plays(alloc, keep, &turns)
+}
+
+const REPAY: Command = Command::Repay {
+    seq: 1,
+    pence: 1000,
+};
+
+// What a repayment of pledge 1 is told.
+fn repaid() -> Result<Result<Reply, Refusal>, Fail> {
+    told(
+        1,
+        Done::Entered(Entry {
+            seq: 1,
+            day: day()?.day(),
+            sort: Sort::Repay,
+            pence: 1000,
+        }),
+    )
+}
+
+// An opening and a repayment are told again to whoever passes, and by a receipt that was replaced to nobody.
+fn repeats_are_told(alloc: Global, mut keep: ListKeep) -> Result<bool, Fail> {
+    let amount = Err(Refusal::Pledge(PledgeRefusal::Debt(DebtFault::BadAmount)));
+    let declared = told(1, Done::Declared(Secret::of_word(99)))?;
+    let turns = [
+        asked(55, take(1, 10_000), Ok(Reply::Opened(receipt(1, 33)?))),
+        asked(55, take(1, 10_001), Err(Refusal::RefTaken)),
+        asked(55, take(3, 0), amount),
+        asked(3, bearer(1, 33, REPAY), repaid()?),
+        asked(3, broker(1, REPAY), repaid()?),
+        asked(99, broker(1, Command::Declare(Paper::Sworn)), declared),
+        asked(3, bearer(1, 33, REPAY), Err(Refusal::NoSuchReceipt)),
+        asked(3, bearer(1, 99, REPAY), repaid()?),
+        asked(3, broker(3, REPAY), Err(Refusal::NoSuchPledge)),
+    ];
+    Ok(pledges(alloc, &mut keep)? && plays(alloc, &mut keep, &turns)?)
 }
 
 #[test]
-fn a_pledge_is_taken_once(rt: HostRuntime) -> Result<(), Fail> {
-    assert!(rt; pledges_are_taken(rt.alloc(), ample(rt.alloc()))?);
+fn a_repeat_is_told_to_whoever_passes(rt: HostRuntime) -> Result<(), Fail> {
+    assert!(rt; repeats_are_told(rt.alloc(), ListKeep::new(rt.alloc(), 1000))?);
     Ok(())
 }
 
-fn rows_run_out(alloc: Global, mut keep: ListKeep) -> Result<bool, Fail> {
-    let full = Err(Refusal::Full);
-    let opened = [take(7, 33, "A1", 10_000, full)];
-    let steps = [
-        put(7, [2, 1, 0, 0], Ok(Reply::TermsPut(2))),
-        put(7, [3, 1, 0, 0], full),
-        put(7, [5, 1, 0, 0], Err(Refusal::TermsSeq)),
-        make(8, "Low Street", 1, full),
-    ];
-    if !plays_on(alloc, &mut keep, &opened)? || !opens(&mut keep, 7, KEY, 0)? {
-        return Ok(false);
-    }
-    plays(alloc, &mut keep, &steps)
-}
-
-#[test]
-fn the_row_limit_comes_last(rt: HostRuntime) -> Result<(), Fail> {
-    assert!(rt; rows_run_out(rt.alloc(), ListKeep::new(rt.alloc(), 3))?);
-    Ok(())
-}
-
-// Whether a receipt is live in a book.
-fn is_live(keep: &mut ListKeep, book: u64, receipt: Receipt) -> Result<bool, Fail> {
-    let book = number(book)?;
-    match find_live(keep, book, &receipt) {
-        Ok(Some(live)) => Ok(live.agreement().opening.reference.as_str() == "A1"),
-        _ => Ok(false),
-    }
-}
-
-// Whether pledge 1 of book 7 is inside its period.
-fn is_inside(keep: &mut ListKeep) -> Result<bool, Fail> {
-    let (book, first, day) = (number(7)?, number(1)?, stamp(1)?.day.day());
-    match keep.brief(book, first) {
-        Ok(Some(brief)) => Ok(brief.status(day) == Status::Inside),
-        _ => Ok(false),
-    }
-}
-
-fn one_is_live(alloc: Global, mut keep: ListKeep) -> Result<bool, Fail> {
-    let first = receipt(1, 33)?;
-    let others = [
-        (7u64, receipt(1, 34)?),
-        (7, receipt(2, 33)?),
-        (8, first),
-        (9, first),
-    ];
-    let steps = [
-        take(7, 33, "A1", 10_000, Ok(Reply::Opened(first))),
-        make(8, "Low Street", 1, Ok(Reply::BookMade(number(8)?))),
-    ];
-    if !plays_on(alloc, &mut keep, &steps)? || !is_live(&mut keep, 7, first)? {
-        return Ok(false);
-    }
-    for (book, other) in &others {
-        if is_live(&mut keep, *book, *other)? {
-            return Ok(false);
-        }
-    }
-    is_inside(&mut keep)
-}
-
-#[test]
-fn a_receipt_is_live_in_its_book_alone(rt: HostRuntime) -> Result<(), Fail> {
-    assert!(rt; one_is_live(rt.alloc(), ample(rt.alloc()))?);
-    Ok(())
-}
-
-// Counts what it is handed.
+// Adds up the numbers of the pledges that it is handed, and stops after so many.
 #[derive(Drop)]
-struct Count {
-    entries: u64,
-    extensions: u64,
+struct Sum {
+    total: u32,
+    left: u32,
 }
 
-impl Visitor<Entry> for Count {
+impl Visitor<Pledge> for Sum {
     ghost use Rattle.std.specs.Prelude.{⊤};
 
-    ghost step = { λ v e flow w. ⊤ };
+    ghost step = { λ v p flow w. ⊤ };
 
-    fn visit(&mut self, _entry: &Entry) -> Flow {
-        self.entries = self.entries.saturating_add(1);
+    fn visit(&mut self, pledge: &Pledge) -> Flow {
+        self.total = self.total.saturating_add(pledge.agreement().number.get());
+        self.left = self.left.saturating_sub(1);
+        if self.left == 0 {
+            return Flow::Stop;
+        }
         Flow::Go
     }
 }
 
-impl Visitor<Extension> for Count {
-    ghost use Rattle.std.specs.Prelude.{⊤};
-
-    ghost step = { λ v e flow w. ⊤ };
-
-    fn visit(&mut self, _extension: &Extension) -> Flow {
-        self.extensions = self.extensions.saturating_add(1);
-        Flow::Go
-    }
+// The sum of the first pledges' numbers.
+fn sum_of(keep: &mut ListKeep, left: u32) -> Result<u32, Fail> {
+    let mut sum = Sum { total: 0, left };
+    keep.walk(number(7)?, &mut sum)?;
+    Ok(sum.total)
 }
 
-// Whether the plan of a step is its answer, with a change or with none.
-fn plans(alloc: Global, keep: &mut ListKeep, step: &Step, changes: bool) -> Result<bool, Fail> {
-    let stamp = stamp(step.word)?;
-    let book = number(step.book)?;
-    let caller = asked_by(alloc, step.ask)?;
-    let request = Request { book, caller };
+fn booked(n: u64, state: BookingState) -> Result<Result<Reply, Refusal>, Fail> {
+    let day = day()?.day();
+    told(
+        n,
+        Done::Booked(Booking {
+            day,
+            window: 3,
+            state,
+        }),
+    )
+}
+
+const CONFIRM: Command = Command::DecideBooking(Decision::Confirm);
+
+// Whether the one booking that the book confirms is counted, and its books and pledges are found.
+fn bookings_are_counted(alloc: Global, mut keep: ListKeep) -> Result<bool, Fail> {
+    let (book, wanted) = (number(7)?, day()?);
+    let ask = Command::AskBooking {
+        day: wanted,
+        window: 3,
+    };
+    let turns = [
+        asked(3, bearer(1, 33, ask), booked(1, BookingState::Asked)?),
+        asked(3, broker(1, CONFIRM), booked(1, BookingState::Confirmed)?),
+        asked(3, bearer(2, 44, ask), booked(2, BookingState::Asked)?),
+        asked(3, broker(2, CONFIRM), Err(Refusal::WindowFull)),
+    ];
+    if !pledges(alloc, &mut keep)? || !plays(alloc, &mut keep, &turns)? {
+        return Ok(false);
+    }
+    let count = keep.confirmed_count(book, wanted.day(), 3)?;
+    let books = (keep.next_book(None)?, keep.next_book(Some(book))?);
+    let sums = (sum_of(&mut keep, 9)?, sum_of(&mut keep, 1)?);
+    Ok(count == 1 && books == (Some(book), None) && sums == (3, 1))
+}
+
+#[test]
+fn a_window_is_counted_over_all_pledges(rt: HostRuntime) -> Result<(), Fail> {
+    assert!(rt; bookings_are_counted(rt.alloc(), ListKeep::new(rt.alloc(), 1000))?);
+    Ok(())
+}
+
+// Whether a turn's plan is committed as the turn is to be answered.
+fn commits(alloc: Global, keep: &mut ListKeep, turn: &Turn) -> Result<bool, Fail> {
+    let stamp = Stamp {
+        day: day()?,
+        word: turn.word,
+    };
+    let request = request_of(alloc, turn)?;
     if !request.caller.writes() {
         return Ok(false);
     }
     match plan(alloc, keep, Secret::of_word(OPERATOR), &stamp, &request) {
-        Ok(planned) => Ok(planned.change.is_some() == changes && Ok(planned.reply) == step.answer),
+        Err(_) => Ok(false),
+        Ok(planned) => match commit(keep, &planned) {
+            Err(refusal) => Ok(turn.answer == Err(refusal)),
+            Ok(()) => Ok(turn.answer == Ok(planned.reply)),
+        },
+    }
+}
+
+// Whether the last row is a repayment's, and what is planned and finds no row is not made.
+fn rows_run_out(alloc: Global, mut keep: ListKeep) -> Result<bool, Fail> {
+    let last = asked(3, bearer(1, 33, REPAY), repaid()?);
+    let full = asked(3, bearer(2, 44, REPAY), Err(Refusal::Full));
+    let ahead = asked(3, put(3, 0), Err(Refusal::TermsSeq));
+    Ok(
+        pledges(alloc, &mut keep)?
+            && commits(alloc, &mut keep, &last)?
+            && commits(alloc, &mut keep, &full)?
+            && plays(alloc, &mut keep, &[full, ahead])?,
+    )
+}
+
+#[test]
+fn the_row_limit_comes_last(rt: HostRuntime) -> Result<(), Fail> {
+    assert!(rt; rows_run_out(rt.alloc(), ListKeep::new(rt.alloc(), 7))?);
+    Ok(())
+}
+
+// Whether the versions from 1 to 99 can be put, and no further one.
+fn versions_follow(alloc: Global, mut keep: ListKeep) -> Result<bool, Fail> {
+    let made = asked(1, make(), Ok(Reply::BookMade(number(7)?)));
+    if !answers(alloc, &mut keep, &made)? {
+        return Ok(false);
+    }
+    for version in 1..100u64 {
+        let next = asked(2, put(version, version), Ok(Reply::TermsPut(version)));
+        if !answers(alloc, &mut keep, &next)? {
+            return Ok(false);
+        }
+    }
+    let past = asked(2, put(100, 0), Err(Refusal::TermsFull));
+    answers(alloc, &mut keep, &past)
+}
+
+#[test]
+fn a_book_has_99_versions_of_terms(rt: HostRuntime) -> Result<(), Fail> {
+    assert!(rt; versions_follow(rt.alloc(), ListKeep::new(rt.alloc(), 1000))?);
+    Ok(())
+}
+
+// Whether a receipt of pledge 2 is live in a book.
+fn is_live(keep: &mut ListKeep, book: u64, word: u128) -> Result<bool, Fail> {
+    match find_live(keep, number(book)?, &receipt(2, word)?) {
+        Ok(Some(pledge)) => Ok(pledge.agreement().number.get() == 2),
+        _ => Ok(false),
+    }
+}
+
+// Whether the book has its name and two pledges for who has its key.
+fn opens(keep: &mut ListKeep, key: u128) -> Result<bool, Fail> {
+    match gate(keep, number(7)?, Secret::of_word(key)) {
+        Ok(head) => Ok(head.pledges == 2 && head.name.as_str() == "High Street"),
         Err(_) => Ok(false),
     }
 }
 
-// How many entries and extensions pledge 1 of book 7 has.
-fn rows_of_first(keep: &mut ListKeep) -> Result<u64, Fail> {
-    let (book, first) = (number(7)?, number(1)?);
-    let mut count = Count {
-        entries: 0,
-        extensions: 0,
-    };
-    keep.entries(book, first, &mut count)?;
-    keep.extensions(book, first, &mut count)?;
-    Ok(count.entries.saturating_add(count.extensions))
-}
-
-fn plan_keeps_still(alloc: Global, mut keep: ListKeep) -> Result<bool, Fail> {
-    let step = take(7, 33, "A1", 10_000, Ok(Reply::Opened(receipt(1, 33)?)));
-    if !plays_on(alloc, &mut keep, &[])? || !plans(alloc, &mut keep, &step, true)? {
+// Whether the book opens by its key, a receipt is live in its book, and the pledge is inside its period.
+fn reads(alloc: Global, mut keep: ListKeep) -> Result<bool, Fail> {
+    if !pledges(alloc, &mut keep)? || !opens(&mut keep, KEY)? || opens(&mut keep, OPERATOR)? {
         return Ok(false);
     }
-    if !opens(&mut keep, 7, KEY, 0)? || !answers(alloc, &mut keep, &step)? {
+    if !is_live(&mut keep, 7, 44)? || is_live(&mut keep, 7, 33)? || is_live(&mut keep, 8, 44)? {
         return Ok(false);
     }
-    Ok(plans(alloc, &mut keep, &step, false)? && rows_of_first(&mut keep)? == 0)
+    match keep.brief(number(7)?, number(2)?) {
+        Ok(Some(brief)) => Ok(brief.status(day()?.day()) == Status::Inside),
+        _ => Ok(false),
+    }
 }
 
 #[test]
-fn a_plan_changes_nothing(rt: HostRuntime) -> Result<(), Fail> {
-    assert!(rt; plan_keeps_still(rt.alloc(), ample(rt.alloc()))?);
+fn a_receipt_is_live_in_its_book_alone(rt: HostRuntime) -> Result<(), Fail> {
+    assert!(rt; reads(rt.alloc(), ListKeep::new(rt.alloc(), 1000))?);
     Ok(())
 }
 
 #[test]
 fn receipts_are_few(rt: HostRuntime) -> Result<(), Fail> {
     let mut many = Vec::new(rt.alloc());
-    assert!(rt; Receipts::new(Vec::new(rt.alloc())).is_none());
-    for n in 1..=32u64 {
-        many.push(receipt(n, 1)?)?;
+    for _ in 1..=32u64 {
+        many.push(receipt(1, 1)?)?;
     }
     let receipts = Receipts::new(many).ok_or("too many")?;
     assert_eq!(rt; receipts.as_slice().len(), 32);

@@ -4,210 +4,126 @@ use crate::receipts::show_presented;
 use crate::statements::show_statement;
 use crate::writing::Writing;
 use pawn_book::{
-    Article, BrokerRequest, Caller, Capacity, Kind, ListKeep, Name, NewBook, NewTerms, Number,
+    Article, BrokerRequest, Caller, Capacity, Day, Kind, ListKeep, Name, NewBook, NewTerms, Number,
     Opening, Rates, Receipt, Reference, Request, RequestDay, Secret, Stamp, act,
 };
 use std::alloc::Global;
-use std::process::Abort;
 use std::test::Fail;
 
 mod failing_writers;
 
-const OPERATOR: u128 = 1;
-
-const BROKER: u128 = 2;
+const KEY: u128 = 2;
 
 const WORD: u128 = 3;
 
 const STATEMENT: &[u8] =
     b"Pledge 1\nArticle Gold ring\nKind fixed 100.00\nTaken 2024-01-31\nEnds 2024-07-31\nStatus inside\nPrincipal 100.00\nCharges 0.00\nOwing 100.00\nHeld no\nBooking none\n";
 
-const PASSED: &[u8] =
-    b"Pledge 1\nArticle Gold ring\nKind fixed 75.00\nTaken 2024-01-31\nEnds 2024-07-31\nStatus passed\nHeld no\nBooking none\n";
+const UNKNOWN_AND_STATEMENT: &[u8] =
+    b"Unknown receipt\n\nPledge 1\nArticle Gold ring\nKind fixed 100.00\nTaken 2024-01-31\nEnds 2024-07-31\nStatus inside\nPrincipal 100.00\nCharges 0.00\nOwing 100.00\nHeld no\nBooking none\n";
 
-fn day(rt: &impl Abort, text: &str) -> RequestDay {
-    match RequestDay::of_text(text.as_bytes()) {
-        Ok(day) => day,
-        Err(_) => panic!(rt; "no day: {text}"),
-    }
+fn taken() -> Result<RequestDay, Fail> {
+    Ok(RequestDay::of_text(b"2024-01-31")?)
 }
 
-fn number(rt: &impl Abort, number: u64) -> Number {
-    match Number::new(number) {
-        Some(number) => number,
-        None => panic!(rt; "no number: {number}"),
-    }
+fn day() -> Result<Day, Fail> {
+    Ok(taken()?.day())
 }
 
-fn receipt(rt: &impl Abort, word: u128) -> Receipt {
-    Receipt {
-        number: number(rt, 1),
+fn number(n: u64) -> Result<Number, Fail> {
+    Ok(Number::new(n).ok_or("no number")?)
+}
+
+fn receipt(word: u128) -> Result<Receipt, Fail> {
+    Ok(Receipt {
+        number: number(1)?,
         secret: Secret::of_word(word),
-    }
+    })
 }
 
-fn made(rt: &impl Abort, alloc: Global, keep: &mut ListKeep, caller: Caller) {
+fn acts(alloc: Global, keep: &mut ListKeep, caller: Caller) -> Result<(), Fail> {
     let stamp = Stamp {
-        day: day(rt, "2024-01-31"),
+        day: taken()?,
         word: WORD,
     };
-    let request = Request {
-        book: number(rt, 7),
-        caller,
-    };
+    let book = number(7)?;
+    let request = Request { book, caller };
     if !request.caller.writes() {
-        panic!(rt; "a request that writes nothing");
+        return Err(Fail::from("a request that writes nothing"));
     }
-    assert!(rt; act(alloc, keep, Secret::of_word(OPERATOR), &stamp, &request).is_ok());
-}
-
-fn new_book(rt: &impl Abort, alloc: Global) -> Caller {
-    let (Ok(Some(name)), Some(capacity)) = (Name::of_str(alloc, "High Street"), Capacity::new(2))
-    else {
-        panic!(rt; "no book");
-    };
-    Caller::Operator {
-        key: Secret::of_word(OPERATOR),
-        new_book: NewBook {
-            key: Secret::of_word(BROKER),
-            name,
-            capacity,
-        },
+    match act(alloc, keep, Secret::of_word(KEY), &stamp, &request) {
+        Ok(_) => Ok(()),
+        Err(_) => Err(Fail::from("refused")),
     }
 }
 
-fn opening(rt: &impl Abort, alloc: Global, pence: u64) -> Caller {
-    let (Ok(Some(reference)), Ok(Some(article))) = (
-        Reference::of_str(alloc, "A1"),
-        Article::of_str(alloc, "Gold ring"),
-    ) else {
-        panic!(rt; "no opening");
-    };
-    Caller::Broker {
-        key: Secret::of_word(BROKER),
-        asked: BrokerRequest::TakePledge(Opening {
-            reference,
-            article,
-            kind: Kind::Fixed(pence),
-            agreed: None,
-            five_days: false,
-        }),
-    }
-}
-
-// Book 7 with one pledge of this sum, taken on 2024-01-31 under terms of no charge.
-fn one_pledge(rt: &impl Abort, alloc: Global, pence: u64) -> ListKeep {
+// Book 7 with one pledge of 100 pounds, taken under terms of no charge.
+fn one_pledge(alloc: Global) -> Result<ListKeep, Fail> {
     let mut keep = ListKeep::new(alloc, 100);
-    let terms = NewTerms {
-        version: 1,
-        rates: Rates {
-            rate: 0,
-            keep_before: 0,
-            keep_after: 0,
-        },
+    let key = Secret::of_word(KEY);
+    let new_book = NewBook {
+        key,
+        name: Name::of_str(alloc, "High Street")?.ok_or("no name")?,
+        capacity: Capacity::new(2).ok_or("no capacity")?,
     };
-    made(rt, alloc, &mut keep, new_book(rt, alloc));
-    made(
-        rt,
+    let rates = Rates {
+        rate: 0,
+        keep_before: 0,
+        keep_after: 0,
+    };
+    let terms = BrokerRequest::PutTerms(NewTerms { version: 1, rates });
+    let opening = BrokerRequest::TakePledge(Opening {
+        reference: Reference::of_str(alloc, "A1")?.ok_or("no reference")?,
+        article: Article::of_str(alloc, "Gold ring")?.ok_or("no article")?,
+        kind: Kind::Fixed(10_000),
+        agreed: None,
+        five_days: false,
+    });
+    acts(alloc, &mut keep, Caller::Operator { key, new_book })?;
+    acts(alloc, &mut keep, Caller::Broker { key, asked: terms })?;
+    acts(
         alloc,
         &mut keep,
         Caller::Broker {
-            key: Secret::of_word(BROKER),
-            asked: BrokerRequest::PutTerms(terms),
+            key,
+            asked: opening,
         },
-    );
-    made(rt, alloc, &mut keep, opening(rt, alloc, pence));
-    keep
+    )?;
+    Ok(keep)
 }
 
 #[test]
-fn a_statement_is_put_line_by_line(rt: HostRuntime) {
-    let alloc = rt.alloc();
-    for (pence, asked, text) in [
-        (10_000, "2024-01-31", STATEMENT),
-        (10_000, "2020-02-29", STATEMENT),
-        (7_500, "2024-08-01", PASSED),
+fn a_statement_is_of_a_pledge_that_stands(rt: HostRuntime) -> Result<(), Fail> {
+    let mut keep = one_pledge(rt.alloc())?;
+    for (pledge, came, text) in [
+        (1u64, Ok(()), STATEMENT),
+        (2, Err(ViewFault::Unknown), b"".as_slice()),
     ] {
-        let mut keep = one_pledge(&rt, alloc, pence);
-        let mut writer = Writing::new(Vec::new(alloc));
-        let asked = day(&rt, asked).day();
-        let came = show_statement(
-            &mut keep,
-            number(&rt, 7),
-            number(&rt, 1),
-            asked,
-            &mut writer,
+        let mut writer = Writing::new(Vec::new(rt.alloc()));
+        let (book, pledge) = (number(7)?, number(pledge)?);
+        assert_eq!(rt;
+            show_statement(&mut keep, book, pledge, day()?, &mut writer),
+            came
         );
-        assert_eq!(rt; came, Ok(()));
         assert_eq!(rt; writer.into_inner().as_slice(), text);
     }
-}
-
-#[test]
-fn nothing_is_put_of_a_pledge_that_does_not_stand(rt: HostRuntime) {
-    let alloc = rt.alloc();
-    let mut keep = one_pledge(&rt, alloc, 10_000);
-    let asked = day(&rt, "2024-01-31").day();
-    for (book, pledge) in [(7, 2), (8, 1)] {
-        let mut writer = Writing::new(Vec::new(alloc));
-        let (book, pledge) = (number(&rt, book), number(&rt, pledge));
-        let came = show_statement(&mut keep, book, pledge, asked, &mut writer);
-        assert_eq!(rt; came, Err(ViewFault::Unknown));
-        assert_eq!(rt; writer.into_inner().len(), 0);
-    }
-}
-
-// Compares what is shown for these receipts of book 7 with a text.
-fn shows(rt: &impl Abort, alloc: Global, presented: &[Receipt], text: &[u8]) {
-    let mut keep = one_pledge(rt, alloc, 10_000);
-    let asked = day(rt, "2024-01-31").day();
-    let mut writer = Writing::new(Vec::new(alloc));
-    let came = show_presented(&mut keep, number(rt, 7), presented, asked, &mut writer);
-    assert_eq!(rt; came, Ok(()));
-    puts(rt, writer, text);
-}
-
-#[test]
-fn a_blank_line_stands_between_two_receipts(rt: HostRuntime) -> Result<(), Fail> {
-    let alloc = rt.alloc();
-    let mut mixed = Vec::from_slice(alloc, b"Unknown receipt\n\n")?;
-    mixed.extend_from_slice(STATEMENT)?;
-    shows(
-        &rt,
-        alloc,
-        &[receipt(&rt, 9), receipt(&rt, WORD)],
-        mixed.as_slice(),
-    );
-    let mut twice = Vec::from_slice(alloc, STATEMENT)?;
-    twice.push(b'\n')?;
-    twice.extend_from_slice(STATEMENT)?;
-    shows(
-        &rt,
-        alloc,
-        &[receipt(&rt, WORD), receipt(&rt, WORD)],
-        twice.as_slice(),
-    );
     Ok(())
 }
 
 #[test]
-fn nothing_is_put_where_no_receipt_is_live(rt: HostRuntime) {
-    let alloc = rt.alloc();
-    let mut keep = one_pledge(&rt, alloc, 10_000);
-    let asked = day(&rt, "2024-01-31").day();
-    let mut writer = Writing::new(Vec::new(alloc));
-    let came = show_presented(
-        &mut keep,
-        number(&rt, 7),
-        &[receipt(&rt, 9), receipt(&rt, 8)],
-        asked,
-        &mut writer,
-    );
-    assert_eq!(rt; came, Err(ViewFault::Unknown));
-    puts(&rt, writer, b"");
-}
-
-// Compares what was put with a text.
-fn puts(rt: &impl Abort, writer: Writing<Vec<u8>>, text: &[u8]) {
-    assert_eq!(rt; writer.into_inner().as_slice(), text);
+fn receipts_are_shown_where_one_is_live(rt: HostRuntime) -> Result<(), Fail> {
+    let mut keep = one_pledge(rt.alloc())?;
+    for (second, came, text) in [
+        (WORD, Ok(()), UNKNOWN_AND_STATEMENT),
+        (8, Err(ViewFault::Unknown), b"".as_slice()),
+    ] {
+        let mut writer = Writing::new(Vec::new(rt.alloc()));
+        let presented = [receipt(9)?, receipt(second)?];
+        assert_eq!(rt;
+            show_presented(&mut keep, number(7)?, &presented, day()?, &mut writer),
+            came
+        );
+        assert_eq!(rt; writer.into_inner().as_slice(), text);
+    }
+    Ok(())
 }

@@ -9,7 +9,7 @@ use pawn_book::ListKeep;
 use std::alloc::Global;
 use std::io;
 use std::io::{ErrorKind, Write};
-use std::process::Abort;
+use std::test::Fail;
 
 // How a call fails: with an error, or by taking none of some bytes.
 #[derive(Clone, Copy, Debug, PartialEq, Eq)]
@@ -58,67 +58,77 @@ fn failing_at(alloc: Global, failing: usize, failure: Failure) -> Writing<Flaky>
 }
 
 // Writes the statement of the only pledge.
-fn states(
-    rt: &impl Abort,
-    keep: &mut ListKeep,
-    writer: &mut Writing<Flaky>,
-) -> Result<(), ViewFault> {
+fn states(keep: &mut ListKeep, writer: &mut Writing<Flaky>) -> Result<Result<(), ViewFault>, Fail> {
     if writer.has_failed() {
-        return Err(ViewFault::Write);
+        return Ok(Err(ViewFault::Write));
     }
-    let asked = day(rt, "2024-01-31").day();
-    show_statement(keep, number(rt, 7), number(rt, 1), asked, writer)
+    Ok(show_statement(keep, number(7)?, number(1)?, day()?, writer))
 }
 
-// How many calls the whole statement takes.
-fn calls_of_all(rt: &impl Abort, alloc: Global, keep: &mut ListKeep) -> usize {
+// How many calls the whole statement takes, or none if it is another.
+fn calls_of_all(alloc: Global, keep: &mut ListKeep) -> Result<usize, Fail> {
     let mut writer = failing_at(alloc, 0, Failure::Error);
-    assert_eq!(rt; states(rt, keep, &mut writer), Ok(()));
+    let came = states(keep, &mut writer)?;
     let whole = writer.into_inner();
-    assert_eq!(rt; whole.taken.as_slice(), STATEMENT);
-    whole.calls
+    if came != Ok(()) || whole.taken.as_slice() != STATEMENT {
+        return Ok(0);
+    }
+    Ok(whole.calls)
+}
+
+// Whether the statement ends with the failing call, and a front of it went out.
+fn stops_at(alloc: Global, keep: &mut ListKeep, at: usize, failure: Failure) -> Result<bool, Fail> {
+    let mut writer = failing_at(alloc, at, failure);
+    let came = states(keep, &mut writer)?;
+    let failed = writer.has_failed();
+    let end = writer.into_inner();
+    let is_front = end.taken.len() < STATEMENT.len() && STATEMENT.starts_with(end.taken.as_slice());
+    Ok(came == Err(ViewFault::Write) && failed && end.calls == at && is_front)
 }
 
 #[test]
-fn no_failed_write_is_tried_again(rt: HostRuntime) {
-    let alloc = rt.alloc();
-    let mut keep = one_pledge(&rt, alloc, 10_000);
-    let calls = calls_of_all(&rt, alloc, &mut keep);
-    for failing in 1..=calls {
-        for failure in [Failure::Error, Failure::Nothing] {
-            let mut writer = failing_at(alloc, failing, failure);
-            assert_eq!(rt; states(&rt, &mut keep, &mut writer), Err(ViewFault::Write));
-            assert!(rt; writer.has_failed());
-            let end = writer.into_inner();
-            assert_eq!(rt; end.calls, failing);
-            assert!(rt; end.taken.len() < STATEMENT.len());
-            assert!(rt; STATEMENT.starts_with(end.taken.as_slice()));
-        }
+fn no_failed_write_is_tried_again(rt: HostRuntime) -> Result<(), Fail> {
+    let mut keep = one_pledge(rt.alloc())?;
+    let calls = calls_of_all(rt.alloc(), &mut keep)?;
+    assert!(rt; calls > 20);
+    for at in 1..=calls {
+        assert!(rt; stops_at(rt.alloc(), &mut keep, at, Failure::Error)?);
+        assert!(rt; stops_at(rt.alloc(), &mut keep, at, Failure::Nothing)?);
     }
+    Ok(())
 }
 
-// Whether a write took so many bytes, or gave the inner writer's error.
-fn is_answer(answer: io::Result<usize>, taken: Option<usize>) -> bool {
+// How many bytes a write took, or the sort of the inner writer's error.
+fn answer_of(answer: io::Result<usize>) -> Result<usize, ErrorKind> {
     match answer {
-        Ok(n) => taken == Some(n),
-        Err(error) => taken.is_none() && error.kind() == ErrorKind::BrokenPipe,
+        Ok(n) => Ok(n),
+        Err(error) => Err(error.kind()),
     }
 }
 
 #[test]
 fn each_write_is_one_call(rt: HostRuntime) {
-    for (failure, second) in [(Failure::Error, None), (Failure::Nothing, Some(0usize))] {
+    for (failure, second) in [
+        (Failure::Error, Err(ErrorKind::BrokenPipe)),
+        (Failure::Nothing, Ok(0usize)),
+    ] {
         let mut writer = failing_at(rt.alloc(), 2, failure);
-        assert_eq!(rt; writer.write(b"Pledge 12").ok(), Some(7));
-        assert!(rt; !writer.has_failed());
-        assert!(rt; is_answer(writer.write(b"12"), second));
-        assert!(rt; writer.has_failed());
+        let first = (answer_of(writer.write(b"Pledge 12")), writer.has_failed());
+        assert_eq!(rt; first, (Ok(7), false));
+        assert_eq!(rt;
+            (answer_of(writer.write(b"12")), writer.has_failed()),
+            (second, true)
+        );
         put(&mut writer, b"12");
-        assert_eq!(rt; writer.write(b"12").ok(), Some(2));
-        assert!(rt; writer.has_failed());
+        assert_eq!(rt;
+            (answer_of(writer.write(b"12")), writer.has_failed()),
+            (Ok(2), true)
+        );
         let end = writer.into_inner();
-        assert_eq!(rt; end.calls, 3);
-        assert_eq!(rt; end.taken.as_slice(), b"Pledge 12".as_slice());
+        assert_eq!(rt;
+            (end.calls, end.taken.as_slice()),
+            (3, b"Pledge 12".as_slice())
+        );
     }
 }
 
