@@ -19,10 +19,10 @@ use Rattle.pawn_book.specs.declared.change.Change.TheVariants.{PutPledge}
 use Rattle.pawn_book.specs.declared.change.Planned.{Planned}
 use Rattle.pawn_book.specs.declared.refusal.Refusal.{Refusal}
 use Rattle.pawn_book.specs.declared.reply.Reply.{Reply}
-use Rattle.pawn_book.specs.BookStep.{BookValue, Makes, Outcome, Refuses, Says, bearer_commands, broker_commands, changed_book, is_live, judged_outcome, live_at, only_live, pledge_from, pledge_in, put_from, terms_at, windowed}
+use Rattle.pawn_book.specs.BookStep.{BookValue, Makes, Outcome, Refuses, Says, bearer_commands, broker_commands, changed_book, is_live, judged_outcome, live_at, only_live, pledge_from, pledge_in, put_from, terms_at, within_window}
 use Rattle.pawn_book.specs.HostStep.{Host, with_book}
 use Rattle.pawn_book.specs.Sound.{AreDistinct, AreSound, AreWords, DoNotFall, HasTextsAndWords, IsSound, IsSoundBook, IsUnder, IsWord}
-use Rattle.pawn_book.specs.Changes.{CanSave, Continues, book_of, changed}
+use Rattle.pawn_book.specs.Changes.{CanSave, Continues, book_number, with_change}
 use Rattle.pawn_book.specs.Plans.{IsOutcome, Plans, outcome_of}
 use Rattle.pawn_book.proofs.KeptLemmas.{kept_moved}
 use Rattle.pawn_book.proofs.Places.{pledge_within}
@@ -69,7 +69,7 @@ put_saves h b n at p q stamp command done sound is stands day word given step =
     let standing = stays_standing p q stamp command done day given (each_at IsStanding 1 at.pledges n p one.standing stands) step in
     let words = words_moved p q stamp command done word (each_at HasTextsAndWords 1 at.pledges n p one.written stands).secrets step in
     let book : BookValue = record at { pledges = put_from 1 at.pledges n q } in
-    let same : changed h (PutPledge b n q) ≡ with_book h b (Some book) =
+    let same : with_change h (PutPledge b n q) ≡ with_book h b (Some book) =
     changed_is h b (PutPledge b n q) book refl (ap (λ o. changed_book o (PutPledge b n q)) is) in
     record {
       follows = (at, is, inr (p, stands, kept));
@@ -83,19 +83,19 @@ change_of (Makes change reply) other = change
 
 -- what a command's outcome changes may be saved
 pub command_saves : (h : Host) (b n : ℕ) (p : PledgeValue) (stamp : Stamp) (command : Command) (change : Option Change) (reply : Reply) → IsSound h → pledge_in (get h.books b) n ≡ Some p
-    → IsStampDay stamp.day → IsWord stamp.word → IsCommand command → judged_outcome b n (pledge_step p stamp command) ≡ outcome_of change reply → IfSome change (λ c. (book_of c ≡ b) × CanSave h c)
+    → IsStampDay stamp.day → IsWord stamp.word → IsCommand command → judged_outcome b n (pledge_step p stamp command) ≡ outcome_of change reply → IfSome change (λ c. (book_number c ≡ b) × CanSave h c)
 command_saves h b n p stamp command None reply sound stands day word given is = tt
 command_saves h b n p stamp command (Some change) reply sound stands day word given is = in_book (get h.books b) refl stands
   where
     judged : (at : BookValue) (j : Judged) → get h.books b ≡ Some at → pledge_from 1 at.pledges n ≡ Some p → pledge_step p stamp command ≡ j → judged_outcome b n j ≡ Makes change reply
-        → (book_of change ≡ b) × CanSave h change
+        → (book_number change ≡ b) × CanSave h change
     judged at (Refused why) e there step made = cc made
     judged at (Answered done) e there step made = cc made
     judged at (Changed q done) e there step made =
         let same : PutPledge b n q ≡ change = ap (λ o. change_of o change) made in
-        subst (λ (c : Change). (book_of c ≡ b) × CanSave h c) same (refl, put_saves h b n at p q stamp command done sound e there day word given step)
+        subst (λ (c : Change). (book_number c ≡ b) × CanSave h c) same (refl, put_saves h b n at p q stamp command done sound e there day word given step)
 
-    in_book : (o : Option BookValue) → get h.books b ≡ o → pledge_in o n ≡ Some p → (book_of change ≡ b) × CanSave h change
+    in_book : (o : Option BookValue) → get h.books b ≡ o → pledge_in o n ≡ Some p → (book_number change ≡ b) × CanSave h change
     in_book None e there = absurd_none there
     in_book (Some at) e there = judged at (pledge_step p stamp command) e there refl is
 
@@ -120,21 +120,21 @@ receipt_plans h b r p stamp command (Err why) sound live day word given (inr is)
 -- a broker's command, once its window was looked at
 pub number_plans : (h : Host) (b n : ℕ) (at : BookValue) (p : PledgeValue) (stamp : Stamp) (command : Command) (planned : Planned) (result : Result Planned Refusal) → IsSound h
     → get h.books b ≡ Some at → Some p ≡ pledge_in (get h.books b) n → IsStampDay stamp.day → IsWord stamp.word → IsCommand command
-    → judged_outcome b n (pledge_step p stamp command) ≡ outcome_of planned.change planned.reply → IsOutcome (windowed at (outcome_of planned.change planned.reply)) result
+    → judged_outcome b n (pledge_step p stamp command) ≡ outcome_of planned.change planned.reply → IsOutcome (within_window at (outcome_of planned.change planned.reply)) result
     → IfOk result (λ q. q ≡ planned) → Plans h b (broker_commands at b n stamp command (pledge_from 1 at.pledges n)) result
 number_plans h b n at p stamp command planned result sound is stands day word given judged roomed same = from result roomed same
   where
     there : pledge_from 1 at.pledges n ≡ Some p
     there = ap (λ o. pledge_in o n) (sym is) ∙ sym stands
 
-    steps : broker_commands at b n stamp command (pledge_from 1 at.pledges n) ≡ windowed at (outcome_of planned.change planned.reply)
-    steps = ap (broker_commands at b n stamp command) there ∙ ap (windowed at) judged
+    steps : broker_commands at b n stamp command (pledge_from 1 at.pledges n) ≡ within_window at (outcome_of planned.change planned.reply)
+    steps = ap (broker_commands at b n stamp command) there ∙ ap (within_window at) judged
 
-    from : (r : Result Planned Refusal) → IsOutcome (windowed at (outcome_of planned.change planned.reply)) r → IfOk r (λ q. q ≡ planned)
+    from : (r : Result Planned Refusal) → IsOutcome (within_window at (outcome_of planned.change planned.reply)) r → IfOk r (λ q. q ≡ planned)
         → Plans h b (broker_commands at b n stamp command (pledge_from 1 at.pledges n)) r
     from (Ok q) told as_planned = (
       steps ∙ told,
-      subst (λ (x : Planned). IfSome x.change (λ c. (book_of c ≡ b) × CanSave h c)) (sym as_planned)
+      subst (λ (x : Planned). IfSome x.change (λ c. (book_number c ≡ b) × CanSave h c)) (sym as_planned)
           (command_saves h b n p stamp command planned.change planned.reply sound (sym stands) day word given judged),
     )
     from (Err why) (inl unwell) as_planned = inl unwell
@@ -145,4 +145,4 @@ pub number_refused : (h : Host) (b n : ℕ) (at : BookValue) (p : PledgeValue) (
     → IsOutcome (judged_outcome b n (pledge_step p stamp command)) (Err why) → Plans h b (broker_commands at b n stamp command (pledge_from 1 at.pledges n)) (Err why)
 number_refused h b n at p stamp command why is stands (inl unwell) = inl unwell
 number_refused h b n at p stamp command why is stands (inr judged) =
-    inr (ap (broker_commands at b n stamp command) (ap (λ o. pledge_in o n) (sym is) ∙ sym stands) ∙ ap (windowed at) judged)
+    inr (ap (broker_commands at b n stamp command) (ap (λ o. pledge_in o n) (sym is) ∙ sym stands) ∙ ap (within_window at) judged)

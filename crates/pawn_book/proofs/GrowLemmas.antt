@@ -13,13 +13,13 @@ use Rattle.pawn_pledge.specs.declared.receipt.Receipt.{Receipt}
 use Rattle.pawn_book.specs.declared.request.Caller.{Caller}
 use Rattle.pawn_book.specs.declared.request.Caller.TheVariants.{Operator, Broker, Bearer}
 use Rattle.pawn_book.specs.declared.request.BrokerRequest.TheVariants.{PutTerms, TakePledge, OnPledge, Show}
-use Rattle.pawn_book.specs.declared.request.BearerRequest.TheVariants.{Held, OnPledge as OnReceipt}
+use Rattle.pawn_book.specs.declared.request.BearerRequest.TheVariants.{Present, OnPledge as OnReceipt}
 use Rattle.pawn_book.specs.declared.request.NewTerms.{NewTerms}
 use Rattle.pawn_book.specs.declared.refusal.Refusal.{Refusal}
 use Rattle.pawn_book.specs.declared.refusal.Refusal.TheVariants.{NoSuchReceipt, WindowFull}
 use Rattle.pawn_book.specs.declared.reply.Reply.TheVariants.{TermsPut, Opened}
 use Rattle.pawn_book.specs.declared.change.Change.TheVariants.{AddTerms, PutPledge}
-use Rattle.pawn_book.specs.BookStep.{BookValue, Shown, Outcome, Refuses, Says, Makes, are_rates, are_unknown, bearer_commands, book_after, broker_commands, confirmed_booking, is_window_full, judged_outcome, shown, windowed, book_step, first_receipt, head_of, held_out, is_book, is_opening, made, newest, next_terms, pledge_from, put_from, put_terms, take_pledge, taken_under, terms_at, with_reference, live_at, pledge_in}
+use Rattle.pawn_book.specs.BookStep.{BookValue, Shown, Outcome, Refuses, Says, Makes, are_same_rates, are_unknown, bearer_commands, book_after, broker_commands, confirmed_booking, is_window_full, judged_outcome, show_pledge, within_window, book_step, first_receipt, book_head, present_receipts, is_same_book, is_same_opening, make_or_refuse, newest, next_terms, pledge_from, put_from, put_terms, take_pledge, taken_under, terms_at, with_reference, live_at, pledge_in}
 use Rattle.pawn_book.specs.Laws.{book_run}
 use Rattle.pawn_book.proofs.Sounds.{put_next}
 use Rattle.pawn_book.proofs.KeptLemmas.{AreKept, are_kept_on, are_kept_push, are_kept_put, are_kept_same, kept_moved}
@@ -57,10 +57,10 @@ grows_by book true x y f s = f
 grows_by book false x y f s = s
 
 put_terms_grows : (book : BookValue) (b : ℕ) (new : NewTerms) (o : Option Rates) → GrowsTo book (book_after (Some book) (put_terms book b new o))
-put_terms_grows book b new (Some terms) = grows_by book (are_rates terms new.rates) _ _ (stays book) (stays book)
+put_terms_grows book b new (Some terms) = grows_by book (are_same_rates terms new.rates) _ _ (stays book) (stays book)
 put_terms_grows book b new None = from (next_terms (length book.terms) new)
   where
-    from : (r : Result Rates Refusal) → GrowsTo book (book_after (Some book) (made r (λ terms. Makes (AddTerms b new.version terms) (TermsPut new.version))))
+    from : (r : Result Rates Refusal) → GrowsTo book (book_after (Some book) (make_or_refuse r (λ terms. Makes (AddTerms b new.version terms) (TermsPut new.version))))
     from (Err why) = stays book
     from (Ok terms) = (
       record book { terms = book.terms ++ terms ∷ [] },
@@ -69,18 +69,18 @@ put_terms_grows book b new None = from (next_terms (length book.terms) new)
     )
 
 -- the list after the next pledge
-pub next_pledges : (book : BookValue) (opening : Opening) (stamp : Stamp) (p : PledgeValue) → taken_under (head_of book) opening stamp (newest book.terms) ≡ Ok p
+pub next_pledges : (book : BookValue) (opening : Opening) (stamp : Stamp) (p : PledgeValue) → taken_under (book_head book) opening stamp (newest book.terms) ≡ Ok p
     → put_from 1 book.pledges p.agreement.number p ≡ book.pledges ++ p ∷ []
 next_pledges book opening stamp p is =
-    let number = (taken_is (head_of book) opening stamp (newest book.terms) p is).number in
+    let number = (taken_is (book_head book) opening stamp (newest book.terms) p is).number in
     put_next 1 book.pledges p.agreement.number p (omega (arith, number))
 
 take_pledge_grows : (book : BookValue) (b : ℕ) (opening : Opening) (stamp : Stamp) (o : Option PledgeValue) → GrowsTo book (book_after (Some book) (take_pledge book b opening stamp o))
-take_pledge_grows book b opening stamp (Some p) = grows_by book (is_opening p.agreement.opening opening) _ _ (stays book) (stays book)
-take_pledge_grows book b opening stamp None = from (taken_under (head_of book) opening stamp (newest book.terms)) refl
+take_pledge_grows book b opening stamp (Some p) = grows_by book (is_same_opening p.agreement.opening opening) _ _ (stays book) (stays book)
+take_pledge_grows book b opening stamp None = from (taken_under (book_head book) opening stamp (newest book.terms)) refl
   where
-    from : (r : Result PledgeValue Refusal) → taken_under (head_of book) opening stamp (newest book.terms) ≡ r
-        → GrowsTo book (book_after (Some book) (made r (λ p. Makes (PutPledge b p.agreement.number p) (Opened (first_receipt p)))))
+    from : (r : Result PledgeValue Refusal) → taken_under (book_head book) opening stamp (newest book.terms) ≡ r
+        → GrowsTo book (book_after (Some book) (make_or_refuse r (λ p. Makes (PutPledge b p.agreement.number p) (Opened (first_receipt p)))))
     from (Err why) is = stays book
     from (Ok p) is = (
       record book { pledges = put_from 1 book.pledges p.agreement.number p },
@@ -88,8 +88,8 @@ take_pledge_grows book b opening stamp None = from (taken_under (head_of book) o
       record { key = refl; name = refl; capacity = refl; terms = ([], sym (append-nil book.terms)); pledges = subst (AreKept book.pledges) (sym (next_pledges book opening stamp p is)) (are_kept_push book.pledges (p ∷ [])) },
     )
 
-held_stays : (book : BookValue) (stamp : Stamp) (shown : List (Option PledgeValue)) → GrowsTo book (book_after (Some book) (held_out stamp shown))
-held_stays book stamp shown = grows_by book (are_unknown shown) (Refuses NoSuchReceipt) (Says (Shown stamp.day shown)) (stays book) (stays book)
+present_stays : (book : BookValue) (stamp : Stamp) (shown : List (Option PledgeValue)) → GrowsTo book (book_after (Some book) (present_receipts stamp shown))
+present_stays book stamp shown = grows_by book (are_unknown shown) (Refuses NoSuchReceipt) (Says (Shown stamp.day shown)) (stays book) (stays book)
 
 -- a book with what a command made of a pledge
 put_grows : (book : BookValue) (n : ℕ) (p q : PledgeValue) (stamp : Stamp) (command : Command) (done : Done) → pledge_from 1 book.pledges n ≡ Some p
@@ -111,30 +111,30 @@ judged_grows book b n p stamp command at = from (pledge_step p stamp command) re
     from (Answered done) step = stays book
     from (Changed q done) step = (record book { pledges = put_from 1 book.pledges n q }, refl, put_grows book n p q stamp command done at step)
 
-windowed_grows : (book : BookValue) (o : Outcome) → GrowsTo book (book_after (Some book) o) → GrowsTo book (book_after (Some book) (windowed book o))
-windowed_grows book (Refuses why) grows = grows
-windowed_grows book (Says out) grows = grows
-windowed_grows book (Makes change reply) grows =
+window_grows : (book : BookValue) (o : Outcome) → GrowsTo book (book_after (Some book) o) → GrowsTo book (book_after (Some book) (within_window book o))
+window_grows book (Refuses why) grows = grows
+window_grows book (Says out) grows = grows
+window_grows book (Makes change reply) grows =
     grows_by book (is_window_full book (confirmed_booking reply)) (Refuses WindowFull) (Makes change reply) (stays book) grows
 
 number_grows : (book : BookValue) (b n : ℕ) (stamp : Stamp) (command : Command) (o : Option PledgeValue) → pledge_from 1 book.pledges n ≡ o
     → GrowsTo book (book_after (Some book) (broker_commands book b n stamp command o))
 number_grows book b n stamp command None at = stays book
-number_grows book b n stamp command (Some p) at = windowed_grows book (judged_outcome b n (pledge_step p stamp command)) (judged_grows book b n p stamp command at)
+number_grows book b n stamp command (Some p) at = window_grows book (judged_outcome b n (pledge_step p stamp command)) (judged_grows book b n p stamp command at)
 
 receipt_grows : (book : BookValue) (b : ℕ) (r : Receipt) (stamp : Stamp) (command : Command) (o : Option PledgeValue) → live_at (pledge_in (Some book)) r ≡ o
     → GrowsTo book (book_after (Some book) (bearer_commands b r.number stamp command o))
 receipt_grows book b r stamp command None at = stays book
 receipt_grows book b r stamp command (Some p) at = judged_grows book b r.number p stamp command (live_is r.secret (pledge_from 1 book.pledges r.number) p (sym at))
 
-shown_stays : (book : BookValue) (stamp : Stamp) (o : Option PledgeValue) → GrowsTo book (book_after (Some book) (shown stamp o))
+shown_stays : (book : BookValue) (stamp : Stamp) (o : Option PledgeValue) → GrowsTo book (book_after (Some book) (show_pledge stamp o))
 shown_stays book stamp None = stays book
 shown_stays book stamp (Some p) = stays book
 
 -- a book grows with each request
 step_grows : (book : BookValue) (operator b : ℕ) (stamp : Stamp) (caller : Caller) → GrowsTo book (book_after (Some book) (book_step (Some book) operator b stamp caller))
 step_grows book operator b stamp (Operator key new) =
-    grows_by book (key == operator) _ _ (grows_by book (is_book (head_of book) new) _ _ (stays book) (stays book)) (stays book)
+    grows_by book (key == operator) _ _ (grows_by book (is_same_book (book_head book) new) _ _ (stays book) (stays book)) (stays book)
 step_grows book operator b stamp (Broker key (PutTerms new)) =
     grows_by book (book.key == key) _ _ (put_terms_grows book b new (terms_at book.terms new.version)) (stays book)
 step_grows book operator b stamp (Broker key (TakePledge opening)) =
@@ -142,7 +142,7 @@ step_grows book operator b stamp (Broker key (TakePledge opening)) =
 step_grows book operator b stamp (Broker key (OnPledge n command)) =
     grows_by book (book.key == key) _ _ (number_grows book b n stamp command (pledge_from 1 book.pledges n) refl) (stays book)
 step_grows book operator b stamp (Broker key (Show n)) = grows_by book (book.key == key) _ _ (shown_stays book stamp (pledge_from 1 book.pledges n)) (stays book)
-step_grows book operator b stamp (Bearer (Held receipts)) = held_stays book stamp (map (live_at (pledge_in (Some book))) receipts)
+step_grows book operator b stamp (Bearer (Present receipts)) = present_stays book stamp (map (live_at (pledge_in (Some book))) receipts)
 step_grows book operator b stamp (Bearer (OnReceipt r command)) = receipt_grows book b r stamp command (live_at (pledge_in (Some book)) r) refl
 
 pub run_grows : (base book : BookValue) (operator b : ℕ) (later : List (Stamp × Caller)) → Grown base book → GrowsTo base (book_run (Some book) operator b later)

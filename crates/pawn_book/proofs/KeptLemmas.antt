@@ -9,7 +9,7 @@ use Rattle.pawn_pledge.specs.Pledge.{PledgeValue}
 use Rattle.pawn_pledge.specs.Step.{Changed, pledge_step}
 use Rattle.pawn_pledge.proofs.Growth.{grows-moved, grows-same, grows-then}
 use Rattle.pawn_pledge.proofs.Steps.{agreement_stays, lists_of_step}
-use Rattle.pawn_book.specs.BookStep.{is_text, pledge_from, put_from, with_reference}
+use Rattle.pawn_book.specs.BookStep.{is_same_text, pledge_from, put_from, with_reference}
 use Rattle.pawn_book.specs.Changes.{Continues}
 use Rattle.pawn_book.proofs.Sounds.{absurd_none, some_is}
 
@@ -71,8 +71,8 @@ pub reference_kept : (ps qs : List PledgeValue) (reference : List ℕ) (p : Pled
 reference_kept [] qs reference p all is = absurd_none is
 reference_kept (r ∷ ps) [] reference p all is = absurd all
 reference_kept (r ∷ ps) (s ∷ qs) reference p all is =
-    let same : is_text s.agreement.opening.reference reference ≡ is_text r.agreement.opening.reference reference = ap (λ (a : Agreement). is_text a.opening.reference reference) all.0.agreement in
-    elim (is_text r.agreement.opening.reference reference) as (λ v. is_text s.agreement.opening.reference reference ≡ v → (if v then Some r else with_reference ps reference) ≡ Some p
+    let same : is_same_text s.agreement.opening.reference reference ≡ is_same_text r.agreement.opening.reference reference = ap (λ (a : Agreement). is_same_text a.opening.reference reference) all.0.agreement in
+    elim (is_same_text r.agreement.opening.reference reference) as (λ v. is_same_text s.agreement.opening.reference reference ≡ v → (if v then Some r else with_reference ps reference) ≡ Some p
     → (q : PledgeValue) × (with_reference (s ∷ qs) reference ≡ Some q) × Continues p q) [
       | true ↦ λ as_there here. (s, ap (λ v. if v then Some s else with_reference qs reference) as_there, subst (λ (x : PledgeValue). Continues x s) (some_is r p here) all.0)
       | false ↦ λ as_there there.

@@ -29,7 +29,7 @@ use Rattle.pawn_book.specs.declared.reply.Reply.{Reply}
 use Rattle.pawn_book.specs.declared.reply.Reply.TheVariants.{BookMade, TermsPut, Opened}
 use Rattle.pawn_book.specs.declared.change.Change.{Change}
 use Rattle.pawn_book.specs.declared.change.Change.TheVariants.{AddTerms, PutPledge}
-use Rattle.pawn_book.specs.BookStep.{BookValue, Told, Refuses, Says, are_rates, first_secret, is_live, only_live, book_step, changed_book, created, first_receipt, head_of, is_agreed, is_book, is_flag, is_kind, is_opening, is_text, made_book, newest, next_terms, pledge_from, put_from, put_terms, take_pledge, terms_at, with_reference, under_terms}
+use Rattle.pawn_book.specs.BookStep.{BookValue, Told, Refuses, Says, are_same_rates, first_secret, is_live, only_live, book_step, changed_book, make_book, first_receipt, book_head, is_same_end, is_same_book, is_same_flag, is_same_kind, is_same_opening, is_same_text, made_book, newest, next_terms, pledge_from, put_from, put_terms, take_pledge, terms_at, with_reference, under_terms}
 use Rattle.pawn_book.specs.Laws.{ChangesDiffer, RepeatsActOnce, book_run}
 use Rattle.pawn_book.proofs.Sounds.{absurd_none, each_at, some_is}
 use Rattle.pawn_book.specs.Changes.{Continues}
@@ -39,9 +39,9 @@ use Rattle.pawn_book.proofs.GrowLemmas.{Grown, grown_same, next_pledges, run_gro
 use Rattle.pawn_book.proofs.MadeLemmas.{BookIs, CommandIs, DidOn, MadeBy, PledgeIs, TermsAre, made_by}
 
 -- a text is itself
-text_same : (xs : List ℕ) → is_text xs xs ≡ true
+text_same : (xs : List ℕ) → is_same_text xs xs ≡ true
 text_same [] = refl
-text_same (x ∷ xs) = let here : (x == x) ≡ true = grind (arith, nat_tests) in ap (λ v. v && is_text xs xs) here ∙ text_same xs
+text_same (x ∷ xs) = let here : (x == x) ≡ true = grind (arith, nat_tests) in ap (λ v. v && is_same_text xs xs) here ∙ text_same xs
 
 both : (a b : Bool) → a ≡ true → b ≡ true → (a && b) ≡ true
 both a b e f = ap (λ v. v && b) e ∙ f
@@ -87,56 +87,56 @@ version_at ts zero t more is = absurd (omega (arith, is))
 version_at ts (suc n) t more is = added_at ts n t more (omega (arith, is))
 
 -- checked terms are the three numbers
-rates_same : (rates t : Rates) → terms_answer rates ≡ Ok t → are_rates t rates ≡ true
+rates_same : (rates t : Rates) → terms_answer rates ≡ Ok t → are_same_rates t rates ≡ true
 rates_same rates t at =
     let one = past_row (nat_lt most_rate rates.rate) RateTooHigh _ t at in
     let two = past_row (nat_lt most_keep rates.keep_before || nat_lt most_keep rates.keep_after) KeepTooHigh _ t one.1 in
     let three = past_row (nat_lt rates.keep_before rates.keep_after) KeepingRate _ t two.1 in
     let same : rates ≡ t = ap (λ (r : Result Rates TermsFault). result_unwrap_or r t) three.1 in
-    subst (λ (x : Rates). are_rates x rates ≡ true) same
+    subst (λ (x : Rates). are_same_rates x rates ≡ true) same
     (both _ _ (both _ _ (number_same rates.rate) (number_same rates.keep_before)) (number_same rates.keep_after))
 
 -- .. and the terms that were added are those that were asked for
-terms_asked : (standing : ℕ) (new : NewTerms) (t : Rates) → next_terms standing new ≡ Ok t → are_rates t new.rates ≡ true
+terms_asked : (standing : ℕ) (new : NewTerms) (t : Rates) → next_terms standing new ≡ Ok t → are_same_rates t new.rates ≡ true
 terms_asked standing new t is =
     let one = past_row (new.version == 0) TermsSeq _ t is in
     let two = past_row (nat_lt (standing + 1) new.version) TermsSeq _ t one.1 in
     let three = past_row (nat_le most_terms standing) TermsFull _ t two.1 in
     under (terms_answer new.rates) refl three.1
   where
-    under : (r : Result Rates TermsFault) → terms_answer new.rates ≡ r → under_terms r ≡ Ok t → are_rates t new.rates ≡ true
+    under : (r : Result Rates TermsFault) → terms_answer new.rates ≡ r → under_terms r ≡ Ok t → are_same_rates t new.rates ≡ true
     under (Err fault) at is = cc is
     under (Ok q) at is = let same : q ≡ t = ap (λ (r : Result Rates Refusal). result_unwrap_or r q) is in
-        subst (λ (x : Rates). are_rates x new.rates ≡ true) same (rates_same new.rates q at)
+        subst (λ (x : Rates). are_same_rates x new.rates ≡ true) same (rates_same new.rates q at)
 
-kind_same : (kind : Kind) → is_kind kind kind ≡ true
+kind_same : (kind : Kind) → is_same_kind kind kind ≡ true
 kind_same (Fixed sum) = number_same sum
 kind_same (Running limit) = number_same limit
 
-agreed_same : (agreed : Option ℕ) → is_agreed agreed agreed ≡ true
+agreed_same : (agreed : Option ℕ) → is_same_end agreed agreed ≡ true
 agreed_same None = refl
 agreed_same (Some day) = number_same day
 
-flag_same : (flag : Bool) → is_flag flag flag ≡ true
+flag_same : (flag : Bool) → is_same_flag flag flag ≡ true
 flag_same true = refl
 flag_same false = refl
 
-opening_same : (o : Opening) → is_opening o o ≡ true
+opening_same : (o : Opening) → is_same_opening o o ≡ true
 opening_same o = both _ _ (both _ _ (both _ _ (text_same o.article) (kind_same o.kind)) (agreed_same o.agreed)) (flag_same o.five_days)
 
 -- the pledge that was taken is the one with its reference
-reference_added : (ps : List PledgeValue) (p : PledgeValue) (reference : List ℕ) → with_reference ps reference ≡ None → is_text p.agreement.opening.reference reference ≡ true
+reference_added : (ps : List PledgeValue) (p : PledgeValue) (reference : List ℕ) → with_reference ps reference ≡ None → is_same_text p.agreement.opening.reference reference ≡ true
     → with_reference (ps ++ p ∷ []) reference ≡ Some p
 reference_added [] p reference none same = ap (λ v. if v then Some p else None) same
 reference_added (q ∷ ps) p reference none same =
-    elim (is_text q.agreement.opening.reference reference) as (λ v. (if v then Some q else with_reference ps reference) ≡ None → (if v then Some q else with_reference (ps ++ p ∷ []) reference) ≡ Some p) [
+    elim (is_same_text q.agreement.opening.reference reference) as (λ v. (if v then Some q else with_reference ps reference) ≡ None → (if v then Some q else with_reference (ps ++ p ∷ []) reference) ≡ Some p) [
       | true ↦ λ at. absurd_none (sym at)
       | false ↦ λ at. reference_added ps p reference at same
     ] none
 
 -- what was agreed is told of a pledge that is kept
-opening_kept : (p q : PledgeValue) (opening : Opening) → Continues p q → is_opening q.agreement.opening opening ≡ is_opening p.agreement.opening opening
-opening_kept p q opening kept = ap (λ (a : Agreement). is_opening a.opening opening) kept.agreement
+opening_kept : (p q : PledgeValue) (opening : Opening) → Continues p q → is_same_opening q.agreement.opening opening ≡ is_same_opening p.agreement.opening opening
+opening_kept p q opening kept = ap (λ (a : Agreement). is_same_opening a.opening opening) kept.agreement
 
 -- .. and its first receipt
 first_kept : (p q : PledgeValue) (issued : Issued) → p.secrets ≡ issued ∷ [] → Continues p q → first_receipt q ≡ first_receipt p
@@ -162,11 +162,11 @@ repeat_told before operator b stamp again caller change reply later making is = 
 
     from : MadeBy before operator b stamp caller change reply → book_step (book_run (changed_book before change) operator b later) operator b again caller ≡ Says (Told reply)
     from (BookIs key new asks passes none makes says) = told (made_book new) (ap (changed_book before) makes) (λ next grown.
-        let same : is_book (head_of next) new ≡ true =
-        both _ _ (both _ _ (ap (λ k. k == new.key) grown.key ∙ number_same new.key) (ap (λ t. is_text t new.name) grown.name ∙ text_same new.name))
+        let same : is_same_book (book_head next) new ≡ true =
+        both _ _ (both _ _ (ap (λ k. k == new.key) grown.key ∙ number_same new.key) (ap (λ t. is_same_text t new.name) grown.name ∙ text_same new.name))
         (ap (λ n. n == new.capacity) grown.capacity ∙ number_same new.capacity) in
         ap (book_step (Some next) operator b again) asks
-        ∙ ap (λ v. if v then created (Some next) b new else Refuses NotOperator) passes
+        ∙ ap (λ v. if v then make_book (Some next) b new else Refuses NotOperator) passes
         ∙ ap (λ v. if v then Says (Told (BookMade b)) else Refuses BookTaken) same ∙ ap (λ r. Says (Told r)) (sym says))
     from (TermsAre key new book terms asks stands passes absent answer makes says) =
         told (record book { terms = book.terms ++ terms ∷ [] }) (ap (changed_book before) makes ∙ ap (λ o. changed_book o (AddTerms b new.version terms)) stands) (λ next grown.
@@ -182,9 +182,9 @@ repeat_told before operator b stamp again caller change reply later making is = 
         ∙ ap (λ r. Says (Told r)) (sym says))
     from (PledgeIs key opening book p asks stands passes absent answer makes says) =
         told (record book { pledges = put_from 1 book.pledges p.agreement.number p }) (ap (changed_book before) makes ∙ ap (λ o. changed_book o (PutPledge b p.agreement.number p)) stands) (λ next grown.
-        let taken = taken_is (head_of book) opening stamp (newest book.terms) p answer in
-        let asked : is_text p.agreement.opening.reference opening.reference ≡ true = ap (λ (o : Opening). is_text o.reference opening.reference) taken.asked ∙ text_same opening.reference in
-        let same : is_opening p.agreement.opening opening ≡ true = ap (λ (o : Opening). is_opening o opening) taken.asked ∙ opening_same opening in
+        let taken = taken_is (book_head book) opening stamp (newest book.terms) p answer in
+        let asked : is_same_text p.agreement.opening.reference opening.reference ≡ true = ap (λ (o : Opening). is_same_text o.reference opening.reference) taken.asked ∙ text_same opening.reference in
+        let same : is_same_opening p.agreement.opening opening ≡ true = ap (λ (o : Opening). is_same_opening o opening) taken.asked ∙ opening_same opening in
         let there : with_reference (put_from 1 book.pledges p.agreement.number p) opening.reference ≡ Some p =
         ap (λ ps. with_reference ps opening.reference) (next_pledges book opening stamp p answer) ∙ reference_added book.pledges p opening.reference absent asked in
         let found = reference_kept (put_from 1 book.pledges p.agreement.number p) next.pledges opening.reference p grown.pledges there in

@@ -13,7 +13,7 @@ use Rattle.pawn_book.specs.declared.change.Change.TheVariants.{MakeBook, AddTerm
 use Rattle.pawn_book.specs.BookStep.{BookValue, made_book, changed_book, pledge_from, put_from}
 use Rattle.pawn_book.specs.HostStep.{Host, rows, book_rows, pledge_rows, with_book}
 use Rattle.pawn_book.specs.Sound.{AreSound}
-use Rattle.pawn_book.specs.Changes.{CanSave, Follows, Continues, changed}
+use Rattle.pawn_book.specs.Changes.{CanSave, Follows, Continues, with_change}
 use Rattle.pawn_book.specs.Books.{Books}
 use Rattle.pawn_book.specs.declared.fault.SaveError.TheVariants.{Full}
 use Rattle.pawn_book.specs.Limits.{most_rows}
@@ -44,8 +44,8 @@ kept_empty limit few =
     }
 
 -- a list that stands for the changed host is kept
-pub kept_changed : (k next : Books) (count : ℕ) (change : Change) → k.limit ≤ most_rows → next.limit ≡ k.limit → host_of next ≡ changed (host_of k) change
-    → AreSound (changed (host_of k) change) → count ≡ rows (changed (host_of k) change) → count ≤ k.limit → IsKept next count
+pub kept_changed : (k next : Books) (count : ℕ) (change : Change) → k.limit ≤ most_rows → next.limit ≡ k.limit → host_of next ≡ with_change (host_of k) change
+    → AreSound (with_change (host_of k) change) → count ≡ rows (with_change (host_of k) change) → count ≤ k.limit → IsKept next count
 kept_changed k next count change few same is sound counted fits =
     let all : rows (host_of next) ≡ count = ap rows is ∙ sym counted in
     record {
@@ -55,7 +55,7 @@ kept_changed k next count change few same is sound counted fits =
     }
 
 -- one row more for a new book
-pub made_rows : (h : Host) (b : ℕ) (new : NewBook) → get h.books b ≡ None → rows (changed h (MakeBook b new)) ≡ rows h + 1
+pub made_rows : (h : Host) (b : ℕ) (new : NewBook) → get h.books b ≡ None → rows (with_change h (MakeBook b new)) ≡ rows h + 1
 made_rows h b new none =
     let sums = rows-with_book h b (made_book new) in
     let before : part book_rows (get h.books b) ≡ 0 = ap (part book_rows) none in
@@ -67,11 +67,11 @@ set_is : (h : Host) (b : ℕ) (at book : BookValue) (change : Option BookValue �
 set_is h b at book change is made = ap (with_book h b) (ap change is ∙ made)
 
 -- one row more for a version of terms
-pub terms_rows : (h : Host) (b : ℕ) (at : BookValue) (version : ℕ) (terms : Rates) → get h.books b ≡ Some at → rows (changed h (AddTerms b version terms)) ≡ rows h + 1
+pub terms_rows : (h : Host) (b : ℕ) (at : BookValue) (version : ℕ) (terms : Rates) → get h.books b ≡ Some at → rows (with_change h (AddTerms b version terms)) ≡ rows h + 1
 terms_rows h b at version terms is =
     let book : BookValue = record at { terms = at.terms ++ terms ∷ [] } in
-    let same : changed h (AddTerms b version terms) ≡ with_book h b (Some book) = set_is h b at book (λ o. changed_book o (AddTerms b version terms)) is refl in
-    let all : rows (changed h (AddTerms b version terms)) ≡ rows (with_book h b (Some book)) = ap rows same in
+    let same : with_change h (AddTerms b version terms) ≡ with_book h b (Some book) = set_is h b at book (λ o. changed_book o (AddTerms b version terms)) is refl in
+    let all : rows (with_change h (AddTerms b version terms)) ≡ rows (with_book h b (Some book)) = ap rows same in
     let sums = rows-with_book h b book in
     let before : part book_rows (get h.books b) ≡ book_rows at = ap (part book_rows) is in
     let longer = length-append at.terms (terms ∷ []) in
@@ -91,11 +91,11 @@ sum_by-put k (r ∷ ps) n p low high =
 
 -- a pledge's rows in place of those that stood
 pub put_rows : (h : Host) (b n : ℕ) (at : BookValue) (p : PledgeValue) → get h.books b ≡ Some at → 1 ≤ n → n ≤ 1 + length at.pledges
-    → rows (changed h (PutPledge b n p)) + standing_rows (pledge_from 1 at.pledges n) ≡ rows h + pledge_rows p
+    → rows (with_change h (PutPledge b n p)) + standing_rows (pledge_from 1 at.pledges n) ≡ rows h + pledge_rows p
 put_rows h b n at p is low high =
     let book : BookValue = record at { pledges = put_from 1 at.pledges n p } in
-    let same : changed h (PutPledge b n p) ≡ with_book h b (Some book) = set_is h b at book (λ o. changed_book o (PutPledge b n p)) is refl in
-    let all : rows (changed h (PutPledge b n p)) ≡ rows (with_book h b (Some book)) = ap rows same in
+    let same : with_change h (PutPledge b n p) ≡ with_book h b (Some book) = set_is h b at book (λ o. changed_book o (PutPledge b n p)) is refl in
+    let all : rows (with_change h (PutPledge b n p)) ≡ rows (with_book h b (Some book)) = ap rows same in
     let sums = rows-with_book h b book in
     let before : part book_rows (get h.books b) ≡ book_rows at = ap (part book_rows) is in
     let pledges = sum_by-put 1 at.pledges n p low high in
@@ -118,7 +118,7 @@ follows_low h b n p at follows is =
 
 -- the list with a book more
 pub made_host : (k : Books) (b : ℕ) (new : NewBook) → get (host_of k).books b ≡ None
-    → host_of (record { books = k.books ++ (b, made_book new) ∷ []; limit = k.limit }) ≡ changed (host_of k) (MakeBook b new)
+    → host_of (record { books = k.books ++ (b, made_book new) ∷ []; limit = k.limit }) ≡ with_change (host_of k) (MakeBook b new)
 made_host k b new none = ap (λ m. record { books = m; limit = k.limit }) (pushed k.books b (made_book new) (sym (get-book_at k.books b) ∙ none))
 
 -- the list with a book put at its place
@@ -134,13 +134,13 @@ pub make_saved : (k old next : Books) (count b : ℕ) (new : NewBook) → IsKept
 make_saved k old next count b new kept is can list limit room =
     let P : Books → Type 0 = λ old. CanSave (host_of old) (MakeBook b new) → IsKept next (count + 1) × Saves old (MakeBook b new) (Ok tt) next in
     subst P is (λ can.
-    let same : host_of next ≡ changed (host_of k) (MakeBook b new) =
+    let same : host_of next ≡ with_change (host_of k) (MakeBook b new) =
     ap (λ (es : List (ℕ × BookValue)). record { books = from_entries es; limit = next.limit }) list
     ∙ ap (λ n. record { books = from_entries (k.books ++ (b, made_book new) ∷ []); limit = n }) limit
     ∙ made_host k b new can.follows in
     let more = made_rows (host_of k) b new can.follows in
     let counted = kept.counted in
-    let count_is : count + 1 ≡ rows (changed (host_of k) (MakeBook b new)) = omega (arith, more, counted) in
+    let count_is : count + 1 ≡ rows (with_change (host_of k) (MakeBook b new)) = omega (arith, more, counted) in
     (kept_changed k next (count + 1) (MakeBook b new) kept.limit limit same can.sound count_is room, (same, omega (arith, count_is, room)))) can
 
 -- .. for which there is no room
@@ -162,13 +162,13 @@ terms_saved k old next count b version terms i at kept is can place stands list 
     subst P is (λ can.
     let found : get (host_of k).books b ≡ Some at = get-book_at k.books b ∙ stands in
     let book : BookValue = record at { terms = at.terms ++ terms ∷ [] } in
-    let same : host_of next ≡ changed (host_of k) (AddTerms b version terms) =
+    let same : host_of next ≡ with_change (host_of k) (AddTerms b version terms) =
     ap (λ (es : List (ℕ × BookValue)). record { books = from_entries es; limit = next.limit }) list
     ∙ ap (λ n. record { books = from_entries (set k.books i (b, book)); limit = n }) limit
     ∙ put_host k b i at book (λ o. changed_book o (AddTerms b version terms)) place found refl in
     let more = terms_rows (host_of k) b at version terms found in
     let counted = kept.counted in
-    let count_is : count + 1 ≡ rows (changed (host_of k) (AddTerms b version terms)) = omega (arith, more, counted) in
+    let count_is : count + 1 ≡ rows (with_change (host_of k) (AddTerms b version terms)) = omega (arith, more, counted) in
     (kept_changed k next (count + 1) (AddTerms b version terms) kept.limit limit same can.sound count_is room, (same, omega (arith, count_is, room)))) can
 
 pub terms_full : (k old : Books) (count b version : ℕ) (terms : Rates) → IsKept k count → k ≡ old → CanSave (host_of old) (AddTerms b version terms) → k.limit < count + 1
@@ -194,14 +194,14 @@ pledge_saved k old next count after b n p i at kept is can place stands list lim
     subst P is (λ can.
     let found : get (host_of k).books b ≡ Some at = get-book_at k.books b ∙ stands in
     let book : BookValue = record at { pledges = put_from 1 at.pledges n p } in
-    let same : host_of next ≡ changed (host_of k) (PutPledge b n p) =
+    let same : host_of next ≡ with_change (host_of k) (PutPledge b n p) =
     ap (λ (es : List (ℕ × BookValue)). record { books = from_entries es; limit = next.limit }) list
     ∙ ap (λ n. record { books = from_entries (set k.books i (b, book)); limit = n }) limit
     ∙ put_host k b i at book (λ o. changed_book o (PutPledge b n p)) place found refl in
     let bounds = follows_low (host_of k) b n p at can.follows found in
     let more = put_rows (host_of k) b n at p found bounds.0 bounds.1 in
     let counted = kept.counted in
-    let after_is : after ≡ rows (changed (host_of k) (PutPledge b n p)) = omega (arith, more, counted, sums) in
+    let after_is : after ≡ rows (with_change (host_of k) (PutPledge b n p)) = omega (arith, more, counted, sums) in
     (kept_changed k next after (PutPledge b n p) kept.limit limit same can.sound after_is room, (same, omega (arith, after_is, room)))) can
 
 pub pledge_full : (k old : Books) (count after b n : ℕ) (p : PledgeValue) (at : BookValue) → IsKept k count → k ≡ old → CanSave (host_of old) (PutPledge b n p)

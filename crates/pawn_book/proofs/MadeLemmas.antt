@@ -12,7 +12,7 @@ use Rattle.pawn_pledge.specs.declared.receipt.Receipt.{Receipt}
 use Rattle.pawn_book.specs.declared.request.Caller.{Caller}
 use Rattle.pawn_book.specs.declared.request.Caller.TheVariants.{Operator, Broker, Bearer}
 use Rattle.pawn_book.specs.declared.request.BrokerRequest.TheVariants.{PutTerms, TakePledge, OnPledge, Show}
-use Rattle.pawn_book.specs.declared.request.BearerRequest.TheVariants.{Held, OnPledge as OnReceipt}
+use Rattle.pawn_book.specs.declared.request.BearerRequest.TheVariants.{Present, OnPledge as OnReceipt}
 use Rattle.pawn_book.specs.declared.request.NewBook.{NewBook}
 use Rattle.pawn_book.specs.declared.request.NewTerms.{NewTerms}
 use Rattle.pawn_book.specs.declared.refusal.Refusal.{Refusal}
@@ -21,7 +21,7 @@ use Rattle.pawn_book.specs.declared.reply.Reply.{Reply}
 use Rattle.pawn_book.specs.declared.reply.Reply.TheVariants.{BookMade, TermsPut, Opened, Commanded}
 use Rattle.pawn_book.specs.declared.change.Change.{Change}
 use Rattle.pawn_book.specs.declared.change.Change.TheVariants.{MakeBook, AddTerms, PutPledge}
-use Rattle.pawn_book.specs.BookStep.{BookValue, Out, Shown, Outcome, Refuses, Says, Makes, are_rates, are_unknown, bearer_commands, broker_commands, confirmed_booking, is_window_full, judged_outcome, shown, windowed, book_step, first_receipt, head_of, held_out, is_book, is_opening, made, newest, next_terms, pledge_from, put_terms, take_pledge, taken_under, terms_at, with_reference, live_at, pledge_in}
+use Rattle.pawn_book.specs.BookStep.{BookValue, Out, Shown, Outcome, Refuses, Says, Makes, are_same_rates, are_unknown, bearer_commands, broker_commands, confirmed_booking, is_window_full, judged_outcome, show_pledge, within_window, book_step, first_receipt, book_head, present_receipts, is_same_book, is_same_opening, make_or_refuse, newest, next_terms, pledge_from, put_terms, take_pledge, taken_under, terms_at, with_reference, live_at, pledge_in}
 use Rattle.pawn_book.specs.Laws.{IsMaking}
 use Rattle.pawn_book.proofs.CommandPlans.{live_is}
 
@@ -54,7 +54,7 @@ pub data MadeBy (before : Option BookValue) (operator b : ℕ) (stamp : Stamp) (
       → terms_at book.terms new.version ≡ None → next_terms (length book.terms) new ≡ Ok terms
       → change ≡ AddTerms b new.version terms → reply ≡ TermsPut new.version → MadeBy before operator b stamp caller change reply
   PledgeIs : (key : ℕ) (opening : Opening) (book : BookValue) (p : PledgeValue) → caller ≡ Broker key (TakePledge opening) → before ≡ Some book → (book.key == key) ≡ true
-      → with_reference book.pledges opening.reference ≡ None → taken_under (head_of book) opening stamp (newest book.terms) ≡ Ok p
+      → with_reference book.pledges opening.reference ≡ None → taken_under (book_head book) opening stamp (newest book.terms) ≡ Ok p
       → change ≡ PutPledge b p.agreement.number p → reply ≡ Opened (first_receipt p) → MadeBy before operator b stamp caller change reply
   CommandIs : (book : BookValue) (n : ℕ) (command : Command) → before ≡ Some book → (IsMaking caller → ⊥) → DidOn book b n stamp command change reply
       → MadeBy before operator b stamp caller change reply
@@ -73,7 +73,7 @@ same_change c d r s is = sym (ap (λ o. change_in o c) is)
 same_reply : (c d : Change) (r s : Reply) → Makes c r ≡ Makes d s → s ≡ r
 same_reply c d r s is = sym (ap (λ o. reply_in o r) is)
 
-made_ok : {V : Type 0} (r : Result V Refusal) (makes : V → Outcome) (change : Change) (reply : Reply) → made r makes ≡ Makes change reply → (v : V) × (r ≡ Ok v) × (makes v ≡ Makes change reply)
+made_ok : {V : Type 0} (r : Result V Refusal) (makes : V → Outcome) (change : Change) (reply : Reply) → make_or_refuse r makes ≡ Makes change reply → (v : V) × (r ≡ Ok v) × (makes v ≡ Makes change reply)
 made_ok (Err why) makes change reply is = cc is
 made_ok (Ok v) makes change reply is = (v, refl, is)
 
@@ -95,10 +95,10 @@ judged_made book b n p stamp command change reply at is = from (pledge_step p st
       says = same_reply _ change _ reply made;
     }
 
-windowed_made : (book : BookValue) (o : Outcome) (change : Change) (reply : Reply) → windowed book o ≡ Makes change reply → o ≡ Makes change reply
-windowed_made book (Refuses why) change reply is = cc is
-windowed_made book (Says out) change reply is = cc is
-windowed_made book (Makes c r) change reply is = from (is_window_full book (confirmed_booking r)) is
+window_made : (book : BookValue) (o : Outcome) (change : Change) (reply : Reply) → within_window book o ≡ Makes change reply → o ≡ Makes change reply
+window_made book (Refuses why) change reply is = cc is
+window_made book (Says out) change reply is = cc is
+window_made book (Makes c r) change reply is = from (is_window_full book (confirmed_booking r)) is
   where
     from : (full : Bool) → (if full then Refuses WindowFull else Makes c r) ≡ Makes change reply → Makes c r ≡ Makes change reply
     from true made = cc made
@@ -107,7 +107,7 @@ windowed_made book (Makes c r) change reply is = from (is_window_full book (conf
 pub number_made : (book : BookValue) (b n : ℕ) (stamp : Stamp) (command : Command) (o : Option PledgeValue) (change : Change) (reply : Reply) → pledge_from 1 book.pledges n ≡ o
     → broker_commands book b n stamp command o ≡ Makes change reply → DidOn book b n stamp command change reply
 number_made book b n stamp command None change reply at is = cc is
-number_made book b n stamp command (Some p) change reply at is = judged_made book b n p stamp command change reply at (windowed_made book _ change reply is)
+number_made book b n stamp command (Some p) change reply at is = judged_made book b n p stamp command change reply at (window_made book _ change reply is)
 
 pub receipt_made : (book : BookValue) (b : ℕ) (r : Receipt) (stamp : Stamp) (command : Command) (o : Option PledgeValue) (change : Change) (reply : Reply)
     → live_at (pledge_in (Some book)) r ≡ o → bearer_commands b r.number stamp command o ≡ Makes change reply → DidOn book b r.number stamp command change reply
@@ -115,7 +115,7 @@ receipt_made book b r stamp command None change reply at is = cc is
 receipt_made book b r stamp command (Some p) change reply at is =
     judged_made book b r.number p stamp command change reply (live_is r.secret (pledge_from 1 book.pledges r.number) p (sym at)) is
 
-shown_makes : {P : Type 0} (stamp : Stamp) (o : Option PledgeValue) (change : Change) (reply : Reply) → shown stamp o ≡ Makes change reply → P
+shown_makes : {P : Type 0} (stamp : Stamp) (o : Option PledgeValue) (change : Change) (reply : Reply) → show_pledge stamp o ≡ Makes change reply → P
 shown_makes stamp None change reply is = cc is
 shown_makes stamp (Some p) change reply is = cc is
 
@@ -125,13 +125,13 @@ made_by None operator b stamp (Operator key new) change reply is =
     let passed = if_makes (key == operator) _ _ change reply is in
     BookIs key new refl passed.0 refl (same_change _ change _ reply passed.1) (same_reply _ change _ reply passed.1)
 made_by (Some book) operator b stamp (Operator key new) change reply is =
-    let passed = if_makes (key == operator) _ _ change reply is in told_again (is_book (head_of book) new) _ _ change reply passed.1
+    let passed = if_makes (key == operator) _ _ change reply is in told_again (is_same_book (book_head book) new) _ _ change reply passed.1
 made_by None operator b stamp (Broker key asked) change reply is = cc is
 made_by (Some book) operator b stamp (Broker key (PutTerms new)) change reply is =
     let passed = if_makes (book.key == key) _ _ change reply is in from (terms_at book.terms new.version) refl passed.1
   where
     from : (o : Option Rates) → terms_at book.terms new.version ≡ o → put_terms book b new o ≡ Makes change reply → MadeBy (Some book) operator b stamp (Broker key (PutTerms new)) change reply
-    from (Some terms) at is = told_again (are_rates terms new.rates) _ _ change reply is
+    from (Some terms) at is = told_again (are_same_rates terms new.rates) _ _ change reply is
     from None at made_is =
         let ok = made_ok (next_terms (length book.terms) new) _ change reply made_is in
         TermsAre key new book ok.0 refl refl (if_makes (book.key == key) _ _ change reply is).0 at ok.1 (same_change _ change _ reply ok.2) (same_reply _ change _ reply ok.2)
@@ -140,9 +140,9 @@ made_by (Some book) operator b stamp (Broker key (TakePledge opening)) change re
   where
     from : (o : Option PledgeValue) → with_reference book.pledges opening.reference ≡ o → take_pledge book b opening stamp o ≡ Makes change reply
         → MadeBy (Some book) operator b stamp (Broker key (TakePledge opening)) change reply
-    from (Some p) at is = told_again (is_opening p.agreement.opening opening) _ _ change reply is
+    from (Some p) at is = told_again (is_same_opening p.agreement.opening opening) _ _ change reply is
     from None at made_is =
-        let ok = made_ok (taken_under (head_of book) opening stamp (newest book.terms)) _ change reply made_is in
+        let ok = made_ok (taken_under (book_head book) opening stamp (newest book.terms)) _ change reply made_is in
         PledgeIs key opening book ok.0 refl refl (if_makes (book.key == key) _ _ change reply is).0 at ok.1 (same_change _ change _ reply ok.2) (same_reply _ change _ reply ok.2)
 made_by (Some book) operator b stamp (Broker key (OnPledge n command)) change reply is =
     let passed = if_makes (book.key == key) _ _ change reply is in
@@ -154,11 +154,11 @@ made_by None operator b stamp (Bearer (OnReceipt r command)) change reply is = c
 made_by (Some book) operator b stamp (Bearer (OnReceipt r command)) change reply is =
     CommandIs book r.number command refl (λ making. making)
     (receipt_made book b r stamp command (live_at (pledge_in (Some book)) r) change reply refl is)
-made_by before operator b stamp (Bearer (Held receipts)) change reply is = held_makes (map (live_at (pledge_in before)) receipts) is
+made_by before operator b stamp (Bearer (Present receipts)) change reply is = present_makes (map (live_at (pledge_in before)) receipts) is
   where
-    held_makes : (shown : List (Option PledgeValue)) → held_out stamp shown ≡ Makes change reply → MadeBy before operator b stamp (Bearer (Held receipts)) change reply
-    held_makes shown is = denied (are_unknown shown) is
+    present_makes : (shown : List (Option PledgeValue)) → present_receipts stamp shown ≡ Makes change reply → MadeBy before operator b stamp (Bearer (Present receipts)) change reply
+    present_makes shown is = denied (are_unknown shown) is
       where
-        denied : (test : Bool) → (if test then Refuses NoSuchReceipt else Says (Shown stamp.day shown)) ≡ Makes change reply → MadeBy before operator b stamp (Bearer (Held receipts)) change reply
+        denied : (test : Bool) → (if test then Refuses NoSuchReceipt else Says (Shown stamp.day shown)) ≡ Makes change reply → MadeBy before operator b stamp (Bearer (Present receipts)) change reply
         denied true is = cc is
         denied false is = cc is

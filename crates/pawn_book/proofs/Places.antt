@@ -4,7 +4,7 @@ use Rattle.std.specs.Prelude.{if◌then◌else◌, ◌==◌, true, false}
 use Rattle.std.proofs.lemmas.Bool.Decides.{nat_tests}
 use Rattle.pawn_pledge.specs.Pledge.{PledgeValue}
 use Rattle.std.proofs.lemmas.List.{drop_more, drop_all}
-use Rattle.pawn_book.specs.BookStep.{is_text, pledge_from, put_from, with_reference}
+use Rattle.pawn_book.specs.BookStep.{is_same_text, pledge_from, put_from, with_reference}
 
 pub pledge_below : (k : ℕ) (ps : List PledgeValue) (n : ℕ) → n < k → pledge_from k ps n ≡ None
 pledge_below k [] n lt = refl
@@ -42,13 +42,13 @@ put_from_place k (r ∷ ps) (suc i) n p less is =
 
 -- the pledge of a reference, searched for from the front
 pub reference_here : (ps : List PledgeValue) (reference : List ℕ) (i : ℕ) (p : PledgeValue) → i < length ps → p ≡ get_or ps i p
-    → is_text p.agreement.opening.reference reference ≡ true → with_reference (drop i ps) reference ≡ Some p
+    → is_same_text p.agreement.opening.reference reference ≡ true → with_reference (drop i ps) reference ≡ Some p
 reference_here ps reference i p less is hit =
     ap (λ qs. with_reference qs reference) (drop_more ps i p less ∙ ap (λ q. q ∷ drop (i + 1) ps) (sym is))
     ∙ ap (λ v. if v then Some p else with_reference (drop (i + 1) ps) reference) hit
 
 pub reference_next : (ps : List PledgeValue) (reference : List ℕ) (i : ℕ) (p : PledgeValue) → i < length ps → p ≡ get_or ps i p
-    → is_text p.agreement.opening.reference reference ≡ false → with_reference (drop i ps) reference ≡ with_reference (drop (i + 1) ps) reference
+    → is_same_text p.agreement.opening.reference reference ≡ false → with_reference (drop i ps) reference ≡ with_reference (drop (i + 1) ps) reference
 reference_next ps reference i p less is miss =
     ap (λ qs. with_reference qs reference) (drop_more ps i p less ∙ ap (λ q. q ∷ drop (i + 1) ps) (sym is))
     ∙ ap (λ v. if v then Some p else with_reference (drop (i + 1) ps) reference) miss

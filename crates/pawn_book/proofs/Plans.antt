@@ -25,18 +25,18 @@ use Rattle.pawn_book.specs.declared.refusal.Refusal.{Refusal}
 use Rattle.pawn_book.specs.declared.refusal.Refusal.TheVariants.{PledgesFull, TermsFull, TermsSeq}
 use Rattle.pawn_book.specs.declared.change.Change.{Change}
 use Rattle.pawn_book.specs.declared.change.Change.TheVariants.{MakeBook, AddTerms, PutPledge}
-use Rattle.pawn_book.specs.declared.change.Head.{Head}
-use Rattle.pawn_book.specs.BookStep.{BookValue, Makes, created, made, made_book, next_terms, put_terms, take_pledge, taken_under, under_pledge, with_room, terms_at, newest, with_reference, head_of, first_receipt, changed_book, pledge_from, pledge_in, put_from, is_text}
+use Rattle.pawn_book.specs.declared.change.BookHead.{BookHead}
+use Rattle.pawn_book.specs.BookStep.{BookValue, Makes, make_book, make_or_refuse, made_book, next_terms, put_terms, take_pledge, taken_under, under_pledge, with_room, terms_at, newest, with_reference, book_head, first_receipt, changed_book, pledge_from, pledge_in, put_from, is_same_text}
 use Rattle.pawn_book.specs.HostStep.{Host, with_book}
-use Rattle.pawn_book.specs.Limits.{IsCapacity, most_terms, most_pledges}
+use Rattle.pawn_book.specs.Limits.{IsCapacity, most_name_bytes, most_pledges, most_terms}
 use Rattle.pawn_book.specs.Sound.{AreNumberedFrom, AreSound, AreWords, HasTextsAndWords, IsSound, IsWord}
-use Rattle.pawn_book.specs.Changes.{book_of, changed}
+use Rattle.pawn_book.specs.Changes.{book_number, with_change}
 use Rattle.pawn_book.specs.Keeping.{number_of, pledges_of, terms_of}
 use Rattle.pawn_book.specs.Plans.{Plans}
 use Rattle.pawn_book.proofs.Sounds.{IsNext, absurd_none, some_is, sound_made, sound_next, sound_terms, sound_with}
 
 -- the book of a change, set in the host
-pub changed_is : (h : Host) (b : ℕ) (change : Change) (book : BookValue) → book_of change ≡ b → changed_book (get h.books b) change ≡ Some book → changed h change ≡ with_book h b (Some book)
+pub changed_is : (h : Host) (b : ℕ) (change : Change) (book : BookValue) → book_number change ≡ b → changed_book (get h.books b) change ≡ Some book → with_change h change ≡ with_book h b (Some book)
 changed_is h b change book named is = ap (λ (c : ℕ). with_book h c (changed_book (get h.books c) change)) named ∙ ap (with_book h b) is
 
 -- a row that did not apply
@@ -45,10 +45,10 @@ past_row true why rest v is = cc is
 past_row false why rest v is = (refl, is)
 
 -- a book that doesn't stand is made
-pub book_plans : (h : Host) (b : ℕ) (new : NewBook) → IsNumber b → IsWord new.key → IsUtf8 new.name → IsText 60 new.name → IsCapacity new.capacity → IsSound h → get h.books b ≡ None
-    → Plans h b (created (get h.books b) b new) (Ok (record { change = Some (MakeBook b new); reply = BookMade b }))
+pub book_plans : (h : Host) (b : ℕ) (new : NewBook) → IsNumber b → IsWord new.key → IsUtf8 new.name → IsText most_name_bytes new.name → IsCapacity new.capacity → IsSound h → get h.books b ≡ None
+    → Plans h b (make_book (get h.books b) b new) (Ok (record { change = Some (MakeBook b new); reply = BookMade b }))
 book_plans h b new number key utf8 name capacity sound none =
-    (ap (λ o. created o b new) none, (refl, record { follows = none; sound = sound_with h b (made_book new) sound.books (number, sound_made new key utf8 name capacity) }))
+    (ap (λ o. make_book o b new) none, (refl, record { follows = none; sound = sound_with h b (made_book new) sound.books (number, sound_made new key utf8 name capacity) }))
 
 -- the next version of terms is added
 pub terms_plans : (h : Host) (b : ℕ) (at : BookValue) (new : NewTerms) (terms : Rates) → IsSound h → get h.books b ≡ Some at
@@ -56,9 +56,9 @@ pub terms_plans : (h : Host) (b : ℕ) (at : BookValue) (new : NewTerms) (terms 
     → Plans h b (put_terms at b new (terms_at at.terms new.version)) (Ok (record { change = Some (AddTerms b new.version terms); reply = TermsPut new.version }))
 terms_plans h b at new terms sound is none answer version few checked =
     let book : BookValue = record at { terms = at.terms ++ terms ∷ [] } in
-    let same : changed h (AddTerms b new.version terms) ≡ with_book h b (Some book) =
+    let same : with_change h (AddTerms b new.version terms) ≡ with_book h b (Some book) =
     changed_is h b (AddTerms b new.version terms) book refl (ap (λ o. changed_book o (AddTerms b new.version terms)) is) in (
-      ap (put_terms at b new) none ∙ ap (λ r. made r (λ terms. Makes (AddTerms b new.version terms) (TermsPut new.version))) answer,
+      ap (put_terms at b new) none ∙ ap (λ r. make_or_refuse r (λ terms. Makes (AddTerms b new.version terms) (TermsPut new.version))) answer,
       (
         refl,
         record {
@@ -70,14 +70,14 @@ terms_plans h b at new terms sound is none answer version few checked =
 
 -- the next pledge is taken
 pub pledge_plans : (h : Host) (b : ℕ) (at : BookValue) (opening : Opening) (stamp : Stamp) (p : PledgeValue) → IsSound h → get h.books b ≡ Some at
-    → with_reference at.pledges opening.reference ≡ None → taken_under (head_of at) opening stamp (newest at.terms) ≡ Ok p
+    → with_reference at.pledges opening.reference ≡ None → taken_under (book_head at) opening stamp (newest at.terms) ≡ Ok p
     → IsNext at p → IsStanding p → HasTextsAndWords p
     → Plans h b (take_pledge at b opening stamp (with_reference at.pledges opening.reference)) (Ok (record { change = Some (PutPledge b p.agreement.number p); reply = Opened (first_receipt p) }))
 pledge_plans h b at opening stamp p sound is none answer next standing written =
     let book : BookValue = record at { pledges = put_from 1 at.pledges p.agreement.number p } in
-    let same : changed h (PutPledge b p.agreement.number p) ≡ with_book h b (Some book) =
+    let same : with_change h (PutPledge b p.agreement.number p) ≡ with_book h b (Some book) =
     changed_is h b (PutPledge b p.agreement.number p) book refl (ap (λ o. changed_book o (PutPledge b p.agreement.number p)) is) in (
-      ap (take_pledge at b opening stamp) none ∙ ap (λ r. made r (λ p. Makes (PutPledge b p.agreement.number p) (Opened (first_receipt p)))) answer,
+      ap (take_pledge at b opening stamp) none ∙ ap (λ r. make_or_refuse r (λ p. Makes (PutPledge b p.agreement.number p) (Opened (first_receipt p)))) answer,
       (
         refl,
         record {
@@ -92,7 +92,7 @@ reference_from : (k : ℕ) (ps : List PledgeValue) (reference : List ℕ) (p : P
     → (k ≤ p.agreement.number) × (pledge_from k ps p.agreement.number ≡ Some p)
 reference_from k [] reference p numbered is = absurd_none is
 reference_from k (r ∷ ps) reference p numbered is =
-    elim (is_text r.agreement.opening.reference reference) as (λ v. (if v then Some r else with_reference ps reference) ≡ Some p → (k ≤ p.agreement.number) × (pledge_from k (r ∷ ps) p.agreement.number ≡ Some p)) [
+    elim (is_same_text r.agreement.opening.reference reference) as (λ v. (if v then Some r else with_reference ps reference) ≡ Some p → (k ≤ p.agreement.number) × (pledge_from k (r ∷ ps) p.agreement.number ≡ Some p)) [
       | true ↦ λ here.
           let same = some_is r p here in
           let at_k : p.agreement.number ≡ k = ap (λ (q : PledgeValue). q.agreement.number) (sym same) ∙ numbered.0 in
@@ -147,24 +147,24 @@ not_standing (t ∷ ts) (suc zero) none low = absurd_none (sym none)
 not_standing (t ∷ ts) (suc (suc n)) none low = let rest = not_standing ts (suc n) none (omega arith) in omega (arith, rest)
 
 -- the next version of terms, as a keeper tells of them
-pub next_plans : (h : Host) (b : ℕ) (at : BookValue) (head : Head) (new : NewTerms) (terms : Rates) → IsSound h → get h.books b ≡ Some at → head ≡ head_of at
+pub next_plans : (h : Host) (b : ℕ) (at : BookValue) (head : BookHead) (new : NewTerms) (terms : Rates) → IsSound h → get h.books b ≡ Some at → head ≡ book_head at
     → None ≡ terms_at (terms_of (get h.books b)) new.version → next_terms head.terms new ≡ Ok terms → IsChecked terms
     → Plans h b (put_terms at b new (terms_at at.terms new.version)) (Ok (record { change = Some (AddTerms b new.version terms); reply = TermsPut new.version }))
 next_plans h b at head new terms sound is heads none answer checked =
     let absent : terms_at at.terms new.version ≡ None = sym (none ∙ ap (λ o. terms_at (terms_of o) new.version) is) in
-    let next : next_terms (length at.terms) new ≡ Ok terms = ap (λ (q : Head). next_terms q.terms new) (sym heads) ∙ answer in
+    let next : next_terms (length at.terms) new ≡ Ok terms = ap (λ (q : BookHead). next_terms q.terms new) (sym heads) ∙ answer in
     let bounds = next_is (length at.terms) new terms next in
     let past = not_standing at.terms new.version absent bounds.0 in
     let high = bounds.1 in
     terms_plans h b at new terms sound is absent next (omega (arith, past, high)) bounds.2 checked
 
 -- where a keeper tells of no head, there is no book
-pub no_head : (book : Option BookValue) → None ≡ option_map head_of book → book ≡ None
+pub no_head : (book : Option BookValue) → None ≡ option_map book_head book → book ≡ None
 no_head None is = refl
 no_head (Some book) is = absurd_none is
 
 -- a pledge as it is taken: the next of its book, for what was asked, under the newest terms, with the stamp's word
-pub record IsTakenAs (head : Head) (opening : Opening) (stamp : Stamp) (newest : Option Rates) (p : PledgeValue) : Type 0 where
+pub record IsTakenAs (head : BookHead) (opening : Opening) (stamp : Stamp) (newest : Option Rates) (p : PledgeValue) : Type 0 where
   pub number : p.agreement.number ≡ head.pledges + 1
   pub asked : p.agreement.opening ≡ opening
   pub version : p.agreement.version ≡ head.terms
@@ -172,7 +172,7 @@ pub record IsTakenAs (head : Head) (opening : Opening) (stamp : Stamp) (newest :
   pub first : (issued : Issued) × (p.secrets ≡ issued ∷ []) × (issued.secret ≡ stamp.word)
   pub few : head.pledges < most_pledges
 
-pub taken_is : (head : Head) (opening : Opening) (stamp : Stamp) (newest : Option Rates) (p : PledgeValue) → taken_under head opening stamp newest ≡ Ok p → IsTakenAs head opening stamp newest p
+pub taken_is : (head : BookHead) (opening : Opening) (stamp : Stamp) (newest : Option Rates) (p : PledgeValue) → taken_under head opening stamp newest ≡ Ok p → IsTakenAs head opening stamp newest p
 taken_is head opening stamp None p is = cc is
 taken_is head opening stamp (Some terms) p is = from (started (head.pledges + 1) opening head.terms terms stamp) refl is
   where
@@ -188,14 +188,14 @@ taken_is head opening stamp (Some terms) p is = from (started (head.pledges + 1)
         (record { number = refl; asked = refl; version = refl; under = refl; first = (_, refl, refl); few = few })
 
 -- the next pledge, as a keeper tells of the book
-pub taken_plans : (h : Host) (b : ℕ) (at : BookValue) (head : Head) (opening : Opening) (stamp : Stamp) (p : PledgeValue) → IsSound h → get h.books b ≡ Some at → head ≡ head_of at
+pub taken_plans : (h : Host) (b : ℕ) (at : BookValue) (head : BookHead) (opening : Opening) (stamp : Stamp) (p : PledgeValue) → IsSound h → get h.books b ≡ Some at → head ≡ book_head at
     → None ≡ with_reference (pledges_of (get h.books b)) opening.reference → taken_under head opening stamp (newest at.terms) ≡ Ok p → IsStanding p
     → IsUtf8 opening.reference → IsUtf8 opening.article → IsWord stamp.word
     → Plans h b (take_pledge at b opening stamp (with_reference at.pledges opening.reference)) (Ok (record { change = Some (PutPledge b p.agreement.number p); reply = Opened (first_receipt p) }))
 taken_plans h b at head opening stamp p sound is heads none answer standing reference article word =
     let absent : with_reference at.pledges opening.reference ≡ None = sym (none ∙ ap (λ o. with_reference (pledges_of o) opening.reference) is) in
-    let next : taken_under (head_of at) opening stamp (newest at.terms) ≡ Ok p = ap (λ (q : Head). taken_under q opening stamp (newest at.terms)) (sym heads) ∙ answer in
-    let taken = taken_is (head_of at) opening stamp (newest at.terms) p next in
+    let next : taken_under (book_head at) opening stamp (newest at.terms) ≡ Ok p = ap (λ (q : BookHead). taken_under q opening stamp (newest at.terms)) (sym heads) ∙ answer in
+    let taken = taken_is (book_head at) opening stamp (newest at.terms) p next in
     let is_next : IsNext at p = record {
       number = taken.number;
       reference = ap (λ (o : Opening). with_reference at.pledges o.reference) taken.asked ∙ absent;

@@ -14,10 +14,10 @@ use Rattle.pawn_book.specs.declared.refusal.Refusal.TheVariants.{NoSuchBook}
 use Rattle.pawn_book.specs.declared.reply.Reply.{Reply}
 use Rattle.pawn_book.specs.declared.reply.Reply.TheVariants.{Commanded}
 use Rattle.pawn_book.specs.declared.request.BrokerRequest.TheVariants.{PutTerms, TakePledge, OnPledge, Show}
-use Rattle.pawn_book.specs.declared.request.BearerRequest.TheVariants.{Held, OnPledge as OnReceipt}
+use Rattle.pawn_book.specs.declared.request.BearerRequest.TheVariants.{Present, OnPledge as OnReceipt}
 use Rattle.pawn_book.specs.declared.request.Caller.{Caller}
 use Rattle.pawn_book.specs.declared.request.Caller.TheVariants.{Operator, Broker, Bearer}
-use Rattle.pawn_book.specs.BookStep.{BookValue, Makes, Refuses, Says, Told, bearer_commands, book_step, broker_commands, changed_book, judged_outcome, live_at, only_live, pledge_from, pledge_in, windowed}
+use Rattle.pawn_book.specs.BookStep.{BookValue, Makes, Refuses, Says, Told, bearer_commands, book_step, broker_commands, changed_book, judged_outcome, live_at, only_live, pledge_from, pledge_in, within_window}
 use Rattle.pawn_book.specs.Laws.{Asks, EntriesActOnce, EntriesActOnceForAll, ExtensionsActOnce, Passes, StandingEndIsTold, StillPasses, book_run}
 use Rattle.pawn_book.proofs.LawLemmas.{live_found, numbered_in, stands_after}
 use Rattle.pawn_book.proofs.MadeLemmas.{DidOn, if_makes, number_made, receipt_made}
@@ -34,7 +34,7 @@ did_on book operator b stamp (Broker key (OnPledge m own)) n command change repl
     let passed = if_makes (book.key == key) _ _ change reply is in
     let did = number_made book b m stamp own (pledge_from 1 book.pledges m) change reply refl passed.1 in
     subst (λ (c : Command). DidOn book b n stamp c change reply) asks.1 (subst (λ (k : ℕ). DidOn book b k stamp own change reply) asks.0 did)
-did_on book operator b stamp (Bearer (Held receipts)) n command change reply asks is = absurd asks
+did_on book operator b stamp (Bearer (Present receipts)) n command change reply asks is = absurd asks
 did_on book operator b stamp (Bearer (OnReceipt r own)) n command change reply asks is =
     let did = receipt_made book b r stamp own (live_at (pledge_in (Some book)) r) change reply refl is in
     subst (λ (c : Command). DidOn book b n stamp c change reply) asks.1 (subst (λ (k : ℕ). DidOn book b k stamp own change reply) asks.0 did)
@@ -52,9 +52,9 @@ told_to book operator b stamp (Broker key (OnPledge m own)) n command p done ask
     let opens : (book.key == key) ≡ true = grind (arith, nat_tests, holds) in
     ap (λ v. if v then broker_commands book b m stamp own (pledge_from 1 book.pledges m) else Refuses NoSuchBook) opens
     ∙ ap (broker_commands book b m stamp own) (ap (pledge_from 1 book.pledges) asks.0 ∙ at)
-    ∙ ap (λ j. windowed book (judged_outcome b m j)) (ap (pledge_step p stamp) asks.1 ∙ step)
+    ∙ ap (λ j. within_window book (judged_outcome b m j)) (ap (pledge_step p stamp) asks.1 ∙ step)
     ∙ ap (λ (k : ℕ). Says (Told (Commanded k done))) asks.0
-told_to book operator b stamp (Bearer (Held receipts)) n command p done asks passes at step = absurd asks
+told_to book operator b stamp (Bearer (Present receipts)) n command p done asks passes at step = absurd asks
 told_to book operator b stamp (Bearer (OnReceipt r own)) n command p done asks passes at step =
     let here : pledge_from 1 book.pledges r.number ≡ Some p = ap (pledge_from 1 book.pledges) asks.0 ∙ at in
     let live : is_some (only_live r.secret (Some p)) ≡ true = ap (λ o. is_some (only_live r.secret o)) (sym here) ∙ passes in

@@ -5,7 +5,7 @@ use Rattle.std.specs.List.{list_any}
 use Rattle.std.proofs.lemmas.List.Folds.{list_any-append}
 use Rattle.pawn_terms.specs.declared.terms.Rates.{Rates}
 use Rattle.pawn_pledge.specs.Pledge.{PledgeValue}
-use Rattle.pawn_book.specs.BookStep.{is_text, pledge_from, put_from, terms_at, with_reference}
+use Rattle.pawn_book.specs.BookStep.{is_same_text, pledge_from, put_from, terms_at, with_reference}
 use Rattle.pawn_book.specs.Sound.{AreDistinct, DoNotFall, IsUnder}
 use Rattle.pawn_pledge.specs.Replayable.{Each}
 
@@ -25,10 +25,10 @@ map-put f k (r ∷ ps) n p q is same =
     ] is
 
 -- a reference that no pledge has
-pub new_reference : (ps : List PledgeValue) (reference : List ℕ) → with_reference ps reference ≡ None → list_any (λ t. is_text t reference) (map (λ p. p.agreement.opening.reference) ps) ≡ false
+pub new_reference : (ps : List PledgeValue) (reference : List ℕ) → with_reference ps reference ≡ None → list_any (λ t. is_same_text t reference) (map (λ p. p.agreement.opening.reference) ps) ≡ false
 new_reference [] reference none = refl
 new_reference (p ∷ ps) reference none =
-    elim (is_text p.agreement.opening.reference reference) as (λ v. (if v then Some p else with_reference ps reference) ≡ None → (v || list_any (λ t. is_text t reference) (map (λ p. p.agreement.opening.reference) ps)) ≡ false) [
+    elim (is_same_text p.agreement.opening.reference reference) as (λ v. (if v then Some p else with_reference ps reference) ≡ None → (v || list_any (λ t. is_same_text t reference) (map (λ p. p.agreement.opening.reference) ps)) ≡ false) [
       | true ↦ λ some. absurd_none (sym some)
       | false ↦ λ rest. new_reference ps reference rest
     ] none
@@ -41,11 +41,11 @@ both_false : (a b : Bool) → a ≡ false → b ≡ false → (a || b) ≡ false
 both_false a b f g = ap (λ v. v || b) f ∙ g
 
 -- .. may stand behind the others
-distinct_push : (ts : List (List ℕ)) (t : List ℕ) → AreDistinct ts → list_any (λ s. is_text s t) ts ≡ false → AreDistinct (ts ++ t ∷ [])
+distinct_push : (ts : List (List ℕ)) (t : List ℕ) → AreDistinct ts → list_any (λ s. is_same_text s t) ts ≡ false → AreDistinct (ts ++ t ∷ [])
 distinct_push [] t all new = (refl, tt)
 distinct_push (s ∷ ts) t all new =
-    let apart = neither (is_text s t) (list_any (λ s. is_text s t) ts) new in
-    (list_any-append (is_text s) ts (t ∷ []) ∙ both_false _ _ all.0 (both_false _ _ apart.0 refl), distinct_push ts t all.1 apart.1)
+    let apart = neither (is_same_text s t) (list_any (λ s. is_same_text s t) ts) new in
+    (list_any-append (is_same_text s) ts (t ∷ []) ∙ both_false _ _ all.0 (both_false _ _ apart.0 refl), distinct_push ts t all.1 apart.1)
 
 map_push : {A : Type 0} (f : PledgeValue → A) (ps : List PledgeValue) (p : PledgeValue) → map f (ps ++ p ∷ []) ≡ map f ps ++ f p ∷ []
 map_push f [] p = refl

@@ -15,7 +15,7 @@ use Rattle.pawn_pledge.specs.Text.{IsText}
 use Rattle.pawn_book.specs.declared.request.NewBook.{NewBook}
 use Rattle.pawn_book.specs.BookStep.{BookValue, made_book, pledge_from, pledge_in, put_from, with_reference}
 use Rattle.pawn_book.specs.HostStep.{Host, with_book}
-use Rattle.pawn_book.specs.Limits.{IsCapacity, most_terms, most_pledges}
+use Rattle.pawn_book.specs.Limits.{IsCapacity, most_name_bytes, most_pledges, most_terms}
 use Rattle.pawn_book.specs.Sound.{AreDistinct, AreNumberedFrom, AreSound, DoNotFall, HasTextsAndWords, IsSound, IsSoundAt, IsSoundBook, IsUnder, IsWord}
 pub use Rattle.pawn_book.proofs.SoundLists.{absurd_none, some_is}
 use Rattle.pawn_book.proofs.SoundLists.{each_under_more, references_push, versions_push}
@@ -33,7 +33,7 @@ sound_with h b book sound one q other is = from (q == b) refl (sym (get-with_boo
         (subst IsNumber (sym same) one.0, subst IsSoundBook (some_is book other is) one.1)
     from false apart is = sound q other is
 
-pub sound_made : (new : NewBook) → IsWord new.key → IsUtf8 new.name → IsText 60 new.name → IsCapacity new.capacity → IsSoundBook (made_book new)
+pub sound_made : (new : NewBook) → IsWord new.key → IsUtf8 new.name → IsText most_name_bytes new.name → IsCapacity new.capacity → IsSoundBook (made_book new)
 sound_made new key utf8 name capacity = record {
   key = key;
   imported = tt;

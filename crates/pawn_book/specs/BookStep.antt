@@ -29,9 +29,9 @@ use Rattle.pawn_book.specs.declared.request.Caller.TheVariants.{Operator, Broker
 use Rattle.pawn_book.specs.declared.request.BrokerRequest.{BrokerRequest}
 use Rattle.pawn_book.specs.declared.request.BrokerRequest.TheVariants.{PutTerms, TakePledge, OnPledge, Show}
 use Rattle.pawn_book.specs.declared.request.BearerRequest.{BearerRequest}
-use Rattle.pawn_book.specs.declared.request.BearerRequest.TheVariants.{Held, OnPledge as OnReceipt}
+use Rattle.pawn_book.specs.declared.request.BearerRequest.TheVariants.{Present, OnPledge as OnReceipt}
 use Rattle.pawn_book.specs.declared.change.Imported.{Imported}
-use Rattle.pawn_book.specs.declared.change.Head.{Head}
+use Rattle.pawn_book.specs.declared.change.BookHead.{BookHead}
 use Rattle.pawn_book.specs.declared.change.Change.{Change}
 use Rattle.pawn_book.specs.declared.change.Change.TheVariants.{MakeBook, AddTerms, PutPledge}
 use Rattle.pawn_book.specs.Limits.{most_terms, most_pledges}
@@ -68,8 +68,8 @@ out_of (Says out) = out
 out_of (Makes change reply) = Told reply
 
 -- a text is the same
-abbrev pub is_text : List ℕ → List ℕ → Bool
-is_text a b = pointwise nat_eq a b
+abbrev pub is_same_text : List ℕ → List ℕ → Bool
+is_same_text a b = pointwise nat_eq a b
 
 -- the terms that stand under a version; none under 0
 abbrev pub terms_at : List Rates → ℕ → Option Rates
@@ -96,7 +96,7 @@ put_from k (q ∷ ps) n p = if n == k then p ∷ ps else q ∷ put_from (k + 1) 
 
 -- the pledge with this reference
 abbrev pub with_reference : List PledgeValue → List ℕ → Option PledgeValue
-with_reference pledges reference = find (λ p. is_text p.agreement.opening.reference reference) pledges
+with_reference pledges reference = find (λ p. is_same_text p.agreement.opening.reference reference) pledges
 
 -- the book that a change makes
 abbrev pub made_book : NewBook → BookValue
@@ -116,13 +116,13 @@ book_after before (Says out) = before
 book_after before (Makes change reply) = changed_book before change
 
 -- a change that stands unless it was refused
-abbrev pub made : {V : Type 0} → Result V Refusal → (V → Outcome) → Outcome
-made (Ok v) makes = makes v
-made (Err why) makes = Refuses why
+abbrev pub make_or_refuse : {V : Type 0} → Result V Refusal → (V → Outcome) → Outcome
+make_or_refuse (Ok v) makes = makes v
+make_or_refuse (Err why) makes = Refuses why
 
 -- what a book has beside its terms and pledges
-abbrev pub head_of : BookValue → Head
-head_of book = record {
+abbrev pub book_head : BookValue → BookHead
+book_head book = record {
   key = book.key;
   name = book.name;
   capacity = book.capacity;
@@ -132,21 +132,21 @@ head_of book = record {
 }
 
 -- the same key, name and capacity
-abbrev pub is_book : Head → NewBook → Bool
-is_book head new = (head.key == new.key) && is_text head.name new.name && (head.capacity == new.capacity)
+abbrev pub is_same_book : BookHead → NewBook → Bool
+is_same_book head new = (head.key == new.key) && is_same_text head.name new.name && (head.capacity == new.capacity)
 
 -- Create: an equal book is told again
-abbrev pub created : Option BookValue → ℕ → NewBook → Outcome
-created None b new = Makes (MakeBook b new) (BookMade b)
-created (Some book) b new = if is_book (head_of book) new then Says (Told (BookMade b)) else Refuses BookTaken
+abbrev pub make_book : Option BookValue → ℕ → NewBook → Outcome
+make_book None b new = Makes (MakeBook b new) (BookMade b)
+make_book (Some book) b new = if is_same_book (book_head book) new then Says (Told (BookMade b)) else Refuses BookTaken
 
 -- by the operator's key
-abbrev pub operated : ℕ → ℕ → Outcome → Outcome
-operated operator key step = if key == operator then step else Refuses NotOperator
+abbrev pub operator_step : ℕ → ℕ → Outcome → Outcome
+operator_step operator key step = if key == operator then step else Refuses NotOperator
 
 -- the same three numbers
-abbrev pub are_rates : Rates → Rates → Bool
-are_rates a b = (a.rate == b.rate) && (a.keep_before == b.keep_before) && (a.keep_after == b.keep_after)
+abbrev pub are_same_rates : Rates → Rates → Bool
+are_same_rates a b = (a.rate == b.rate) && (a.keep_before == b.keep_before) && (a.keep_after == b.keep_after)
 
 abbrev pub under_terms : Result Rates TermsFault → Result Rates Refusal
 under_terms (Ok terms) = Ok terms
@@ -164,8 +164,8 @@ next_terms standing new =
 
 -- PutTerms: equal terms that stand are told again
 abbrev pub put_terms : BookValue → ℕ → NewTerms → Option Rates → Outcome
-put_terms book b new (Some terms) = if are_rates terms new.rates then Says (Told (TermsPut new.version)) else Refuses TermsSeq
-put_terms book b new None = made (next_terms (length book.terms) new) (λ terms. Makes (AddTerms b new.version terms) (TermsPut new.version))
+put_terms book b new (Some terms) = if are_same_rates terms new.rates then Says (Told (TermsPut new.version)) else Refuses TermsSeq
+put_terms book b new None = make_or_refuse (next_terms (length book.terms) new) (λ terms. Makes (AddTerms b new.version terms) (TermsPut new.version))
 
 -- the secret that came with the opening
 abbrev pub first_secret : List Issued → ℕ
@@ -175,26 +175,26 @@ first_secret (i ∷ is) = i.secret
 abbrev pub first_receipt : PledgeValue → Receipt
 first_receipt p = record { number = p.agreement.number; secret = first_secret p.secrets }
 
-abbrev pub is_kind : Kind → Kind → Bool
-is_kind (Fixed a) (Fixed b) = a == b
-is_kind (Running a) (Running b) = a == b
-is_kind (Fixed a) (Running b) = false
-is_kind (Running a) (Fixed b) = false
+abbrev pub is_same_kind : Kind → Kind → Bool
+is_same_kind (Fixed a) (Fixed b) = a == b
+is_same_kind (Running a) (Running b) = a == b
+is_same_kind (Fixed a) (Running b) = false
+is_same_kind (Running a) (Fixed b) = false
 
-abbrev pub is_agreed : Option ℕ → Option ℕ → Bool
-is_agreed None None = true
-is_agreed (Some a) (Some b) = a == b
-is_agreed None (Some b) = false
-is_agreed (Some a) None = false
+abbrev pub is_same_end : Option ℕ → Option ℕ → Bool
+is_same_end None None = true
+is_same_end (Some a) (Some b) = a == b
+is_same_end None (Some b) = false
+is_same_end (Some a) None = false
 
-abbrev pub is_flag : Bool → Bool → Bool
-is_flag true b = b
-is_flag false true = false
-is_flag false false = true
+abbrev pub is_same_flag : Bool → Bool → Bool
+is_same_flag true b = b
+is_same_flag false true = false
+is_same_flag false false = true
 
 -- the same opening, its reference aside
-abbrev pub is_opening : Opening → Opening → Bool
-is_opening a b = is_text a.article b.article && is_kind a.kind b.kind && is_agreed a.agreed b.agreed && is_flag a.five_days b.five_days
+abbrev pub is_same_opening : Opening → Opening → Bool
+is_same_opening a b = is_same_text a.article b.article && is_same_kind a.kind b.kind && is_same_end a.agreed b.agreed && is_same_flag a.five_days b.five_days
 
 abbrev pub under_pledge : Result PledgeValue PledgeRefusal → Result PledgeValue Refusal
 under_pledge (Ok p) = Ok p
@@ -206,16 +206,16 @@ with_room standing (Ok p) = first_of ((nat_le most_pledges standing, PledgesFull
 with_room standing (Err why) = Err why
 
 -- a pledge under the newest terms, one past the book's last
-abbrev pub taken_under : Head → Opening → Stamp → Option Rates → Result PledgeValue Refusal
+abbrev pub taken_under : BookHead → Opening → Stamp → Option Rates → Result PledgeValue Refusal
 taken_under head opening stamp None = Err NoTerms
 taken_under head opening stamp (Some terms) =
     with_room head.pledges (under_pledge (started (head.pledges + 1) opening head.terms terms stamp))
 
 -- TakePledge: an equal opening is answered as the first time
 abbrev pub take_pledge : BookValue → ℕ → Opening → Stamp → Option PledgeValue → Outcome
-take_pledge book b opening stamp (Some p) = if is_opening p.agreement.opening opening then Says (Told (Opened (first_receipt p))) else Refuses RefTaken
+take_pledge book b opening stamp (Some p) = if is_same_opening p.agreement.opening opening then Says (Told (Opened (first_receipt p))) else Refuses RefTaken
 take_pledge book b opening stamp None =
-    made (taken_under (head_of book) opening stamp (newest book.terms)) (λ p. Makes (PutPledge b p.agreement.number p) (Opened (first_receipt p)))
+    make_or_refuse (taken_under (book_head book) opening stamp (newest book.terms)) (λ p. Makes (PutPledge b p.agreement.number p) (Opened (first_receipt p)))
 
 -- bookings
 
@@ -231,8 +231,8 @@ is_confirmed_for day window None = false
 is_confirmed_for day window (Some booking) = (booking.day == day) && (booking.window == window) && is_confirmed booking.state
 
 -- how many pledges have one
-abbrev pub confirmed_for : List PledgeValue → ℕ → ℕ → ℕ
-confirmed_for pledges day window = count_by (λ p. is_confirmed_for day window p.standing.booking) pledges
+abbrev pub confirmed_count : List PledgeValue → ℕ → ℕ → ℕ
+confirmed_count pledges day window = count_by (λ p. is_confirmed_for day window p.standing.booking) pledges
 
 -- the booking that a command confirmed
 abbrev pub confirmed_by : Done → Option Booking
@@ -254,7 +254,7 @@ confirmed_booking (Commanded n done) = confirmed_by done
 -- as many of its window are confirmed as the book confirms
 abbrev pub is_window_full : BookValue → Option Booking → Bool
 is_window_full book None = false
-is_window_full book (Some booking) = nat_le book.capacity (confirmed_for book.pledges booking.day booking.window)
+is_window_full book (Some booking) = nat_le book.capacity (confirmed_count book.pledges booking.day booking.window)
 
 -- commands
 
@@ -265,15 +265,15 @@ judged_outcome b n (Answered done) = Says (Told (Commanded n done))
 judged_outcome b n (Changed next done) = Makes (PutPledge b n next) (Commanded n done)
 
 -- a booking is confirmed only where its window has room
-abbrev pub windowed : BookValue → Outcome → Outcome
-windowed book (Refuses why) = Refuses why
-windowed book (Says out) = Says out
-windowed book (Makes change reply) = if is_window_full book (confirmed_booking reply) then Refuses WindowFull else Makes change reply
+abbrev pub within_window : BookValue → Outcome → Outcome
+within_window book (Refuses why) = Refuses why
+within_window book (Says out) = Says out
+within_window book (Makes change reply) = if is_window_full book (confirmed_booking reply) then Refuses WindowFull else Makes change reply
 
 -- a broker's command on pledge n
 abbrev pub broker_commands : BookValue → ℕ → ℕ → Stamp → Command → Option PledgeValue → Outcome
 broker_commands book b n stamp command None = Refuses NoSuchPledge
-broker_commands book b n stamp command (Some p) = windowed book (judged_outcome b n (pledge_step p stamp command))
+broker_commands book b n stamp command (Some p) = within_window book (judged_outcome b n (pledge_step p stamp command))
 
 -- a bearer's command, on the pledge of a live receipt
 abbrev pub bearer_commands : ℕ → ℕ → Stamp → Command → Option PledgeValue → Outcome
@@ -281,21 +281,21 @@ bearer_commands b n stamp command None = Refuses NoSuchReceipt
 bearer_commands b n stamp command (Some p) = judged_outcome b n (pledge_step p stamp command)
 
 -- Show: the statement of a pledge
-abbrev pub shown : Stamp → Option PledgeValue → Outcome
-shown stamp None = Refuses NoSuchPledge
-shown stamp (Some p) = Says (Shown stamp.day (Some p ∷ []))
+abbrev pub show_pledge : Stamp → Option PledgeValue → Outcome
+show_pledge stamp None = Refuses NoSuchPledge
+show_pledge stamp (Some p) = Says (Shown stamp.day (Some p ∷ []))
 
 -- what a broker asks of the book
 abbrev pub broker_step : BookValue → ℕ → Stamp → BrokerRequest → Outcome
 broker_step book b stamp (PutTerms new) = put_terms book b new (terms_at book.terms new.version)
 broker_step book b stamp (TakePledge opening) = take_pledge book b opening stamp (with_reference book.pledges opening.reference)
 broker_step book b stamp (OnPledge n command) = broker_commands book b n stamp command (pledge_from 1 book.pledges n)
-broker_step book b stamp (Show n) = shown stamp (pledge_from 1 book.pledges n)
+broker_step book b stamp (Show n) = show_pledge stamp (pledge_from 1 book.pledges n)
 
 -- for a caller with the book's key
-abbrev pub gated : Option BookValue → ℕ → (BookValue → Outcome) → Outcome
-gated None key step = Refuses NoSuchBook
-gated (Some book) key step = if book.key == key then step book else Refuses NoSuchBook
+abbrev pub gate_step : Option BookValue → ℕ → (BookValue → Outcome) → Outcome
+gate_step None key step = Refuses NoSuchBook
+gate_step (Some book) key step = if book.key == key then step book else Refuses NoSuchBook
 
 abbrev pub is_secret : ℕ → Option ℕ → Bool
 is_secret s None = false
@@ -318,16 +318,16 @@ are_unknown [] = true
 are_unknown (None ∷ ps) = are_unknown ps
 are_unknown (Some p ∷ ps) = false
 
--- Held: refused where none of the receipts is live
-abbrev pub held_out : Stamp → List (Option PledgeValue) → Outcome
-held_out stamp pledges = if are_unknown pledges then Refuses NoSuchReceipt else Says (Shown stamp.day pledges)
+-- Present: refused where none of the receipts is live
+abbrev pub present_receipts : Stamp → List (Option PledgeValue) → Outcome
+present_receipts stamp pledges = if are_unknown pledges then Refuses NoSuchReceipt else Says (Shown stamp.day pledges)
 
 -- what a bearer asks, where pledges are looked up so
 abbrev pub bearer_step : (ℕ → Option PledgeValue) → ℕ → Stamp → BearerRequest → Outcome
-bearer_step pledges b stamp (Held receipts) = held_out stamp (map (live_at pledges) receipts)
+bearer_step pledges b stamp (Present receipts) = present_receipts stamp (map (live_at pledges) receipts)
 bearer_step pledges b stamp (OnReceipt r command) = bearer_commands b r.number stamp command (live_at pledges r)
 
 abbrev pub book_step : Option BookValue → ℕ → ℕ → Stamp → Caller → Outcome
-book_step before operator b stamp (Operator key new) = operated operator key (created before b new)
-book_step before operator b stamp (Broker key asked) = gated before key (λ book. broker_step book b stamp asked)
+book_step before operator b stamp (Operator key new) = operator_step operator key (make_book before b new)
+book_step before operator b stamp (Broker key asked) = gate_step before key (λ book. broker_step book b stamp asked)
 book_step before operator b stamp (Bearer asked) = bearer_step (pledge_in before) b stamp asked

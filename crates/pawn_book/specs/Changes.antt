@@ -10,14 +10,14 @@ use Rattle.pawn_book.specs.HostStep.{Host, with_book}
 use Rattle.pawn_book.specs.Sound.{AreSound}
 
 -- the book of a change
-abbrev pub book_of : Change → ℕ
-book_of (MakeBook book new) = book
-book_of (AddTerms book version terms) = book
-book_of (PutPledge book number pledge) = book
+abbrev pub book_number : Change → ℕ
+book_number (MakeBook book new) = book
+book_number (AddTerms book version terms) = book
+book_number (PutPledge book number pledge) = book
 
 -- the host with a change
-abbrev pub changed : Host → Change → Host
-changed h change = with_book h (book_of change) (changed_book (get h.books (book_of change)) change)
+abbrev pub with_change : Host → Change → Host
+with_change h change = with_book h (book_number change) (changed_book (get h.books (book_number change)) change)
 
 -- what was agreed on a pledge that stands stays, and its lists grow at their ends alone
 pub record Continues (old new : PledgeValue) : Type 0 where
@@ -35,4 +35,4 @@ Follows h (PutPledge book number pledge) =
 -- a change that may be saved: it follows, and the changed host is sound, but for the limit on its rows
 pub record CanSave (h : Host) (change : Change) : Type 0 where
   pub follows : Follows h change
-  pub sound : AreSound (changed h change)
+  pub sound : AreSound (with_change h change)

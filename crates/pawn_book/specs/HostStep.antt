@@ -41,13 +41,13 @@ host_after h b (Says out) = h
 host_after h b (Makes change reply) = with_book h b (changed_book (get h.books b) change)
 
 -- a change that would bring the rows above the limit is refused, after everything else
-abbrev pub limited : Host → ℕ → Outcome → Outcome
-limited h b (Refuses why) = Refuses why
-limited h b (Says out) = Says out
-limited h b (Makes change reply) =
+abbrev pub within_limit : Host → ℕ → Outcome → Outcome
+within_limit h b (Refuses why) = Refuses why
+within_limit h b (Says out) = Says out
+within_limit h b (Makes change reply) =
     if nat_lt h.limit (rows (with_book h b (changed_book (get h.books b) change))) then Refuses Full else Makes change reply
 
 -- the book's step, within the limit
 abbrev pub host_step : Host → ℕ → Stamp → Request → Outcome
 host_step h operator stamp request =
-    limited h request.book (book_step (get h.books request.book) operator request.book stamp request.caller)
+    within_limit h request.book (book_step (get h.books request.book) operator request.book stamp request.caller)

@@ -16,7 +16,7 @@ use Rattle.pawn_book.specs.declared.fault.SaveError.TheVariants as Save
 use Rattle.pawn_book.specs.BookStep.{BookValue, with_reference}
 use Rattle.pawn_book.specs.HostStep.{Host, rows}
 use Rattle.pawn_book.specs.Sound.{HasUnsoundBook, IsSound}
-use Rattle.pawn_book.specs.Changes.{changed}
+use Rattle.pawn_book.specs.Changes.{with_change}
 
 -- what is known of keepers of a kind, however they keep
 pub record Keeping (K : Type 0) : Type 1 where
@@ -70,8 +70,8 @@ IsSteadyError (Save.Store fault) = ⊥
 -- for want of rows or of memory alone
 pub record Saves {K T : Type 0} (k : Keeping K) (old new : K) (change : Change) (result : Result T SaveError) : Type 0 where
   pub on : GoesOn k old new
-  pub ok : OnOk result (Of k old new (λ h. k.stands new (changed h change) × (rows (changed h change) ≤ h.limit)))
-  pub full : result ≡ Err Save.Full → Of k old new (λ h. h.limit < rows (changed h change))
+  pub ok : OnOk result (Of k old new (λ h. k.stands new (with_change h change) × (rows (with_change h change) ≤ h.limit)))
+  pub full : result ≡ Err Save.Full → Of k old new (λ h. h.limit < rows (with_change h change))
   pub err : OnErr result (Of k old new (λ h. k.stands new h))
   pub never : k.steady old → IfErr result (λ e. IsSteadyError e)
 

@@ -57,7 +57,7 @@ BrokerAsks (asked.OnPledge m own) n command = (m ≡ n) × (own ≡ command)
 BrokerAsks (asked.Show m) n command = ⊥
 
 abbrev pub BearerAsks : BearerRequest → ℕ → Command → Type 0
-BearerAsks (presented.Held receipts) n command = ⊥
+BearerAsks (presented.Present receipts) n command = ⊥
 BearerAsks (presented.OnPledge receipt own) n command = (receipt.number ≡ n) × (own ≡ command)
 
 abbrev pub Asks : Caller → ℕ → Command → Type 0
@@ -67,7 +67,7 @@ Asks (Bearer request) n command = BearerAsks request n command
 
 -- a bearer's receipt is live
 abbrev pub IsStillLive : Option BookValue → BearerRequest → Type 0
-IsStillLive book (presented.Held receipts) = Unit {0}
+IsStillLive book (presented.Present receipts) = Unit {0}
 IsStillLive book (presented.OnPledge receipt command) = is_some (live_at (pledge_in book) receipt) ≡ true
 
 -- the caller still passes

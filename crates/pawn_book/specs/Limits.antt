@@ -9,6 +9,10 @@ most_bookings = 1000
 abbrev pub IsCapacity : ℕ → Type 0
 IsCapacity n = (1 ≤ n) × (n ≤ most_bookings)
 
+-- the bytes of a book's name
+abbrev pub most_name_bytes : ℕ
+most_name_bytes = 60
+
 -- the receipts that are presented at once
 abbrev pub most_receipts : ℕ
 most_receipts = 32

@@ -10,7 +10,7 @@ use Rattle.pawn_pledge.specs.Pledge.{PledgeValue}
 use Rattle.pawn_book.specs.HostStep.{Host, rows, pledge_rows}
 use Rattle.pawn_book.specs.Limits.{most_rows}
 use Rattle.pawn_book.specs.Sound.{IsSound}
-use Rattle.pawn_book.specs.Changes.{changed}
+use Rattle.pawn_book.specs.Changes.{with_change}
 use Rattle.pawn_book.specs.Keeping.{Keeping}
 use Rattle.pawn_book.specs.Books.{Books}
 
@@ -63,8 +63,8 @@ pub record IsKept (k : Books) (count : ℕ) : Type 0 where
 
 -- the change is made, or nothing is, and then for want of rows or of memory
 abbrev pub Saves : Books → Change → Result (Unit {0}) SaveError → Books → Type 0
-Saves old change (Ok done) new = (host_of new ≡ changed (host_of old) change) × (rows (changed (host_of old) change) ≤ old.limit)
-Saves old change (Err Full) new = (new ≡ old) × (old.limit < rows (changed (host_of old) change))
+Saves old change (Ok done) new = (host_of new ≡ with_change (host_of old) change) × (rows (with_change (host_of old) change) ≤ old.limit)
+Saves old change (Err Full) new = (new ≡ old) × (old.limit < rows (with_change (host_of old) change))
 Saves old change (Err Memory) new = new ≡ old
 Saves old change (Err (Store fault)) new = ⊥
 

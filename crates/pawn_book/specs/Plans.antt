@@ -1,7 +1,6 @@
 -- What is planned and made of a request.
 use Rattle.std.specs.Prelude.{◌≡◌, ◌⊎◌, ℕ, ◌≤◌, ◌<◌, Option, Some, None, Result, Ok, Err, IfSome}
 use Rattle.pawn_pledge.specs.declared.command.Stamp.{Stamp}
-use Rattle.pawn_pledge.specs.declared.record.Booking.{Booking}
 use Rattle.pawn_book.specs.declared.request.Caller.{Caller}
 use Rattle.pawn_book.specs.declared.request.Caller.TheVariants.{Operator, Broker, Bearer}
 use Rattle.pawn_book.specs.declared.request.BrokerRequest.{BrokerRequest}
@@ -12,13 +11,13 @@ use Rattle.pawn_book.specs.declared.request.Request.{Request}
 use Rattle.pawn_book.specs.declared.reply.Reply.{Reply}
 use Rattle.pawn_book.specs.declared.refusal.Refusal.{Refusal}
 use Rattle.pawn_book.specs.declared.refusal.Refusal.TheVariants as No
-use Rattle.pawn_book.specs.declared.change.Head.{Head}
+use Rattle.pawn_book.specs.declared.change.BookHead.{BookHead}
 use Rattle.pawn_book.specs.declared.change.Change.{Change}
 use Rattle.pawn_book.specs.declared.change.Planned.{Planned}
-use Rattle.pawn_book.specs.BookStep.{BookValue, Told, Outcome, Refuses, Says, Makes, out_of, confirmed_booking, gated, head_of}
+use Rattle.pawn_book.specs.BookStep.{BookValue, Told, Outcome, Refuses, Says, Makes, out_of, gate_step, book_head}
 use Rattle.pawn_book.specs.HostStep.{Host, rows, host_step, host_after}
 use Rattle.pawn_book.specs.Sound.{IsSound}
-use Rattle.pawn_book.specs.Changes.{CanSave, book_of, changed}
+use Rattle.pawn_book.specs.Changes.{CanSave, book_number, with_change}
 
 -- want of memory, or a fault of the store
 abbrev pub IsUnwell : Refusal → Type 0
@@ -36,7 +35,7 @@ outcome_of (Some change) reply = Makes change reply
 -- the plan is the outcome: its reply, and its change, which may be saved
 abbrev pub Plans : Host → ℕ → Outcome → Result Planned Refusal → Type 0
 Plans h b outcome (Ok planned) =
-    (outcome ≡ outcome_of planned.change planned.reply) × IfSome planned.change (λ change. (book_of change ≡ b) × CanSave h change)
+    (outcome ≡ outcome_of planned.change planned.reply) × IfSome planned.change (λ change. (book_number change ≡ b) × CanSave h change)
 Plans h b outcome (Err why) = IsRefused outcome why
 
 -- the answer is the outcome, or a keeper did not answer
@@ -44,32 +43,27 @@ abbrev pub IsOutcome : Outcome → Result Planned Refusal → Type 0
 IsOutcome outcome (Ok planned) = outcome ≡ outcome_of planned.change planned.reply
 IsOutcome outcome (Err why) = IsRefused outcome why
 
--- the booking that a plan's change confirms
-abbrev pub newly_confirmed : Option Change → Reply → Option Booking
-newly_confirmed None reply = None
-newly_confirmed (Some change) reply = confirmed_booking reply
-
--- the gate lets the holder of the book's key in, and no one else
-abbrev pub Gates : Option BookValue → ℕ → Result Head Refusal → Type 0
-Gates book key (Ok head) = (at : BookValue) × (book ≡ Some at) × (head ≡ head_of at) × (at.key ≡ key)
-Gates book key (Err why) = IsUnwell why ⊎ ((why ≡ No.NoSuchBook) × ((step : BookValue → Outcome) → gated book key step ≡ Refuses No.NoSuchBook))
+-- the gate lets the holder of the book's key in; whatever is asked behind it is refused to anyone else
+abbrev pub Gates : Option BookValue → ℕ → Result BookHead Refusal → Type 0
+Gates book key (Ok head) = (at : BookValue) × (book ≡ Some at) × (head ≡ book_head at) × (at.key ≡ key)
+Gates book key (Err why) = (step : BookValue → Outcome) → IsRefused (gate_step book key step) why
 
 -- what came of a plan's change: there was room for it, or nothing changed
 abbrev pub Commits : Host → Option Change → Result (Unit {0}) Refusal → (Host → Type 0) → Type 0
 Commits h None (Ok done) stands = stands h
 Commits h None (Err why) stands = ⊥
-Commits h (Some change) (Ok done) stands = stands (changed h change) × (rows (changed h change) ≤ h.limit)
+Commits h (Some change) (Ok done) stands = stands (with_change h change) × (rows (with_change h change) ≤ h.limit)
 Commits h (Some change) (Err why) stands =
-    stands h × (IsUnwell why ⊎ ((why ≡ No.Full) × (h.limit < rows (changed h change))))
+    stands h × (IsUnwell why ⊎ ((why ≡ No.Full) × (h.limit < rows (with_change h change))))
 
 -- the host after a request
-abbrev pub stepped : Host → ℕ → Stamp → Request → Host
-stepped h operator stamp request = host_after h request.book (host_step h operator stamp request)
+abbrev pub next_host : Host → ℕ → Stamp → Request → Host
+next_host h operator stamp request = host_after h request.book (host_step h operator stamp request)
 
 -- the answer is the host's step, and the keeper goes on to the host after it, which is sound
 abbrev pub Acts : Host → ℕ → Stamp → Request → Result Reply Refusal → (Host → Type 0) → Type 0
 Acts h operator stamp request (Ok reply) stands =
-    (out_of (host_step h operator stamp request) ≡ Told reply) × stands (stepped h operator stamp request) × IsSound (stepped h operator stamp request)
+    (out_of (host_step h operator stamp request) ≡ Told reply) × stands (next_host h operator stamp request) × IsSound (next_host h operator stamp request)
 Acts h operator stamp request (Err why) stands = stands h × IsRefused (host_step h operator stamp request) why
 
 -- a request that may change its book
@@ -80,7 +74,7 @@ IsBrokerWrite (broker.OnPledge number command) = Unit {0}
 IsBrokerWrite (broker.Show number) = ⊥
 
 abbrev pub IsBearerWrite : BearerRequest → Type 0
-IsBearerWrite (bearer.Held receipts) = ⊥
+IsBearerWrite (bearer.Present receipts) = ⊥
 IsBearerWrite (bearer.OnPledge receipt command) = Unit {0}
 
 abbrev pub IsWritten : Caller → Type 0

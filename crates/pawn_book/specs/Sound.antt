@@ -10,9 +10,9 @@ use Rattle.pawn_pledge.specs.Number.{IsNumber}
 use Rattle.pawn_pledge.specs.Pledge.{PledgeValue}
 use Rattle.pawn_pledge.specs.Replayable.{Each, IsStanding}
 use Rattle.pawn_pledge.specs.Text.{IsText}
-use Rattle.pawn_book.specs.BookStep.{BookValue, is_text, terms_at}
+use Rattle.pawn_book.specs.BookStep.{BookValue, is_same_text, terms_at}
 use Rattle.pawn_book.specs.HostStep.{Host, rows}
-use Rattle.pawn_book.specs.Limits.{IsCapacity, most_terms, most_pledges}
+use Rattle.pawn_book.specs.Limits.{IsCapacity, most_name_bytes, most_pledges, most_terms}
 
 -- pledges are numbered k, k + 1, ..
 abbrev pub AreNumberedFrom : ℕ → List PledgeValue → Type 0
@@ -22,7 +22,7 @@ AreNumberedFrom k (p ∷ ps) = (p.agreement.number ≡ k) × AreNumberedFrom (k 
 -- no text stands twice
 abbrev pub AreDistinct : List (List ℕ) → Type 0
 AreDistinct [] = Unit {0}
-AreDistinct (t ∷ ts) = (list_any (is_text t) ts ≡ false) × AreDistinct ts
+AreDistinct (t ∷ ts) = (list_any (is_same_text t) ts ≡ false) × AreDistinct ts
 
 -- numbers don't fall, from one on
 abbrev pub DoNotFall : ℕ → List ℕ → Type 0
@@ -52,7 +52,7 @@ pub record IsSoundBook (book : BookValue) : Type 0 where
   pub key : IsWord book.key
   pub imported : IfSome book.imported (λ imported. IsWord imported.key)
   pub utf8 : IsUtf8 book.name
-  pub name : IsText 60 book.name
+  pub name : IsText most_name_bytes book.name
   pub capacity : IsCapacity book.capacity
   pub numbered : AreNumberedFrom 1 book.pledges
   pub standing : Each IsStanding book.pledges

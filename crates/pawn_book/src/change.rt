@@ -12,7 +12,7 @@ pub struct Imported {
 
 /// What a book has beside its terms and pledges, with their counts.
 #[derive(Drop)]
-pub struct Head {
+pub struct BookHead {
     pub key: Secret,
     pub name: Name,
     pub capacity: Capacity,

@@ -4,13 +4,13 @@ ghost use Rattle.std.specs.FinMap.{get};
 ghost use Rattle.pawn_terms.specs.Calendar.{IsStampDay};
 ghost use Rattle.pawn_pledge.specs.Commands.{IsCommand};
 ghost use Rattle.pawn_pledge.specs.Step.{pledge_step};
-ghost use Rattle.pawn_book.specs.BookStep.{BookValue, bearer_commands, broker_commands, confirmed_booking, head_of, judged_outcome, live_at, pledge_from, pledge_in, windowed};
+ghost use Rattle.pawn_book.specs.BookStep.{BookValue, bearer_commands, broker_commands, confirmed_booking, book_head, judged_outcome, live_at, pledge_from, pledge_in, within_window};
 ghost use Rattle.pawn_book.specs.Sound.{IsSound, IsWord};
 ghost use Rattle.pawn_book.specs.Keeping.{IsQuiet, Reads};
-ghost use Rattle.pawn_book.specs.Plans.{IsOutcome, Plans, newly_confirmed, outcome_of};
+ghost use Rattle.pawn_book.specs.Plans.{IsOutcome, Plans, outcome_of};
 
-use crate::change::{Change, Head, Planned};
-use crate::gates::{find_live, know_word, unwell};
+use crate::change::{BookHead, Change, Planned};
+use crate::gates::{find_live, know_word, unwell_refusal};
 use crate::keep::Keep;
 use crate::refusal::Refusal;
 use crate::reply::Reply;
@@ -22,18 +22,18 @@ use pawn_pledge::{
 pub(crate) fn plan_number<K: Keep>(
     keep: &mut K,
     book: Number,
-    head: &Head,
+    head: &BookHead,
     number: Number,
     stamp: &Stamp,
     command: &Command,
 ) -> Result<Planned, Refusal>
     requires within { IsCommand command.now }
-    ensures reads { Reads K.keeping keep.old keep.new (λ h. IsSound h → (at : BookValue) → get h.books book ≡ Some at → head.now ≡ head_of at →
+    ensures reads { Reads K.keeping keep.old keep.new (λ h. IsSound h → (at : BookValue) → get h.books book ≡ Some at → head.now ≡ book_head at →
         Plans h book (broker_commands at book number stamp.now command.now (pledge_from 1 at.pledges number)) result) }
     ensures steady { IsQuiet K.keeping keep.old result }
 {
     let pledge = match keep.pledge(book, number) {
-        Err(error) => return Err(unwell(error)),
+        Err(error) => return Err(unwell_refusal(error)),
         Ok(None) => return Err(Refusal::NoSuchPledge),
         Ok(Some(pledge)) => pledge,
     };
@@ -58,7 +58,7 @@ pub(crate) fn plan_receipt<K: Keep>(
     ensures steady { IsQuiet K.keeping keep.old result }
 {
     match find_live(keep, book, receipt) {
-        Err(error) => Err(unwell(error)),
+        Err(error) => Err(unwell_refusal(error)),
         Ok(None) => Err(Refusal::NoSuchReceipt),
         Ok(Some(pledge)) => plan_command(book, receipt.number, pledge, stamp, command),
     }
@@ -110,35 +110,29 @@ fn plan_command(
 fn find_room<K: Keep>(
     keep: &mut K,
     book: Number,
-    head: &Head,
+    head: &BookHead,
     planned: Planned,
 ) -> Result<Planned, Refusal>
-    ensures reads { Reads K.keeping keep.old keep.new (λ h. (at : BookValue) → get h.books book ≡ Some at → head.now ≡ head_of at →
-        IsOutcome (windowed at (outcome_of planned.change planned.reply)) result) }
+    ensures reads { Reads K.keeping keep.old keep.new (λ h. (at : BookValue) → get h.books book ≡ Some at → head.now ≡ book_head at →
+        IsOutcome (within_window at (outcome_of planned.change planned.reply)) result) }
     ensures same { IfOk result (λ p. p ≡ planned) }
     ensures steady { IsQuiet K.keeping keep.old result }
 {
-    let Some(booking) = newly_confirmed(&planned) else {
+    let booking = match planned.change {
+        None => None,
+        Some(_) => confirmed_booking(planned.reply),
+    };
+    let Some(booking) = booking else {
         return Ok(planned);
     };
-    match keep.confirmed(book, booking.day, booking.window) {
-        Err(error) => Err(unwell(error)),
+    match keep.confirmed_count(book, booking.day, booking.window) {
+        Err(error) => Err(unwell_refusal(error)),
         Ok(confirmed) => {
             if confirmed >= u64::from(head.capacity.get()) {
                 return Err(Refusal::WindowFull);
             }
             Ok(planned)
         }
-    }
-}
-
-// The booking that a change confirms.
-fn newly_confirmed(planned: &Planned) -> Option<Booking>
-    ensures value { result ≡ newly_confirmed planned.now.change planned.now.reply }
-{
-    match planned.change {
-        None => None,
-        Some(_) => confirmed_booking(planned.reply),
     }
 }
 

@@ -6,7 +6,7 @@ ghost use Rattle.pawn_book.specs.Sound.{IsWord};
 ghost use Rattle.pawn_book.specs.Keeping.{IsQuiet, IsSteady, Reads};
 ghost use Rattle.pawn_book.specs.Plans.{Gates, IsUnwell};
 
-use crate::change::Head;
+use crate::change::BookHead;
 use crate::fault::KeepError;
 use crate::keep::Keep;
 use crate::refusal::Refusal;
@@ -14,12 +14,12 @@ use pawn_pledge::{Number, Pledge, Receipt, Secret, Stamp};
 
 /// The head of a book, for the holder of its key. Refused as `NoSuchBook` where the book does not
 /// stand or the key is another's.
-pub fn gate<K: Keep>(keep: &mut K, book: Number, key: Secret) -> Result<Head, Refusal>
+pub fn gate<K: Keep>(keep: &mut K, book: Number, key: Secret) -> Result<BookHead, Refusal>
     ensures reads { Reads K.keeping keep.old keep.new (λ h. Gates (get h.books book) key result) }
     ensures steady { IsQuiet K.keeping keep.old result }
 {
-    match keep.head(book) {
-        Err(error) => Err(unwell(error)),
+    match keep.book_head(book) {
+        Err(error) => Err(unwell_refusal(error)),
         Ok(None) => Err(Refusal::NoSuchBook),
         Ok(Some(head)) => {
             if head.key == key {
@@ -48,7 +48,7 @@ pub fn find_live<K: Keep>(
 }
 
 // The refusal for a keeper that did not answer.
-pub(crate) fn unwell(error: KeepError) -> Refusal
+pub(crate) fn unwell_refusal(error: KeepError) -> Refusal
     ensures unwell { IsUnwell result }
     ensures memory { error ≡ KeepError.Memory → result ≡ Refusal.Memory }
 {

@@ -1,13 +1,13 @@
 ghost use Rattle.std.specs.Prelude.{◌≡◌, IfOk, option_map, unwrap_or};
 ghost use Rattle.std.specs.FinMap.{get};
 ghost use Rattle.pawn_pledge.specs.Brief.{brief_of};
-ghost use Rattle.pawn_book.specs.BookStep.{confirmed_for, head_of, pledge_in, terms_at};
+ghost use Rattle.pawn_book.specs.BookStep.{confirmed_count, book_head, pledge_in, terms_at};
 ghost use Rattle.pawn_book.specs.HostStep.{Host};
 ghost use Rattle.pawn_book.specs.Changes.{CanSave};
 ghost use Rattle.pawn_book.specs.Keeping.{Errs, IsNextBook, Keeping, Of, Reads, Saves, entries_of, extensions_of, number_of, pledges_of, terms_of};
 ghost use Rattle.pawn_book.specs.Visits.{IsShare, Visits, call_end};
 
-use crate::change::{Change, Head};
+use crate::change::{BookHead, Change};
 use crate::fault::{KeepError, SaveError};
 use crate::visit::Visitor;
 use pawn_pledge::{Brief, Day, Entry, Extension, Number, Pledge, Reference, Terms};
@@ -19,8 +19,8 @@ pub trait Keep {
     ghost keeping: { Keeping Self };
 
     /// The head of a book, if the book stands.
-    fn head(&mut self, book: Number) -> Result<Option<Head>, KeepError>
-        ensures reads { Reads keeping self.old self.new (λ h. IfOk result (λ head. head ≡ option_map head_of (get h.books book))) }
+    fn book_head(&mut self, book: Number) -> Result<Option<BookHead>, KeepError>
+        ensures reads { Reads keeping self.old self.new (λ h. IfOk result (λ head. head ≡ option_map book_head (get h.books book))) }
         ensures errs { Errs keeping self.old self.new result };
 
     /// The terms of a version.
@@ -39,8 +39,8 @@ pub trait Keep {
         ensures errs { Errs keeping self.old self.new result };
 
     /// How many pledges have a confirmed booking for a day and a window.
-    fn confirmed(&mut self, book: Number, day: Day, window: u64) -> Result<u64, KeepError>
-        ensures reads { Reads keeping self.old self.new (λ h. IfOk result (λ count. count ≡ confirmed_for (pledges_of (get h.books book)) day window)) }
+    fn confirmed_count(&mut self, book: Number, day: Day, window: u64) -> Result<u64, KeepError>
+        ensures reads { Reads keeping self.old self.new (λ h. IfOk result (λ count. count ≡ confirmed_count (pledges_of (get h.books book)) day window)) }
         ensures errs { Errs keeping self.old self.new result };
 
     /// Hands the visitor the pledges of a book in order of their numbers, until it wants no more.

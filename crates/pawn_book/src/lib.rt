@@ -22,12 +22,12 @@ mod visit;
 
 pub use acting::{act, commit};
 pub use capacity::Capacity;
-pub use change::{Change, Head, Imported, Planned};
+pub use change::{BookHead, Change, Imported, Planned};
 pub use fault::{KeepError, SaveError, StoreFault};
 pub use gates::{find_live, gate};
 pub use keep::Keep;
 pub use laws::{changes_differ, entries_act_once, extensions_act_once, repeats_act_once};
-pub use limits::{MOST_BOOKINGS, MOST_RECEIPTS, MOST_ROWS};
+pub use limits::{MOST_BOOKINGS, MOST_NAME_BYTES, MOST_RECEIPTS, MOST_ROWS};
 pub use list::ListKeep;
 pub use pawn_pledge::{
     Agreement, Applied, Article, BadDay, BadReceipt, BearerCommand, Booking, BookingState, Brief,

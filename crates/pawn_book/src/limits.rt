@@ -3,6 +3,9 @@
 /// A book confirms at most as many bookings of one window.
 pub const MOST_BOOKINGS: u32 = 1_000;
 
+/// The bytes of a book's name at most.
+pub const MOST_NAME_BYTES: usize = 60;
+
 /// At most as many receipts are presented at once.
 pub const MOST_RECEIPTS: usize = 32;
 

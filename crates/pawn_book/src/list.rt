@@ -1,13 +1,13 @@
 ghost use Rattle.std.specs.Prelude.{[], ◌≡◌, ◌<◌, ◌≤◌, ◌+◌, ◌&&◌, if◌then◌else◌, IfNone, IfOk, IfSome, MatchOption, None, OnErr, OnOk, Some, length, map, nat_lt, option_map, unwrap_or};
 ghost use Rattle.pawn_pledge.specs.Brief.{brief_of};
-ghost use Rattle.pawn_book.specs.BookStep.{confirmed_for, head_of, is_confirmed_for, pledge_from, pledge_in, put_from, terms_at, with_reference};
+ghost use Rattle.pawn_book.specs.BookStep.{confirmed_count, book_head, is_confirmed_for, pledge_from, pledge_in, put_from, terms_at, with_reference};
 ghost use Rattle.pawn_book.specs.HostStep.{pledge_rows};
 ghost use Rattle.pawn_book.specs.Changes.{CanSave};
 ghost use Rattle.pawn_book.specs.Keeping.{entries_of, extensions_of, number_of, pledges_of, terms_of};
 ghost use Rattle.pawn_book.specs.Listed.{IsLeastAbove, IsPlace, Saves, book_at, entry_of, host_of, standing_rows};
 ghost use Rattle.pawn_book.specs.Visits.{IsShare, Visits, Whole};
 
-use crate::change::{Change, Head, Imported};
+use crate::change::{BookHead, Change, Imported};
 use crate::fault::{KeepError, SaveError};
 use crate::keep::Keep;
 use crate::limits::MOST_ROWS;
@@ -145,7 +145,7 @@ impl Keep for ListKeep {
 
     ghost keeping = { list_keeping };
 
-    fn head(&mut self, book: Number) -> Result<Option<Head>, KeepError> {
+    fn book_head(&mut self, book: Number) -> Result<Option<BookHead>, KeepError> {
         let Ok(head) = head_in(&self.books, book) else {
             return Err(KeepError::Memory);
         };
@@ -173,8 +173,8 @@ impl Keep for ListKeep {
         Ok(number)
     }
 
-    fn confirmed(&mut self, book: Number, day: Day, window: u64) -> Result<u64, KeepError> {
-        let count = confirmed_in(pledges_in(&self.books, book), day, window);
+    fn confirmed_count(&mut self, book: Number, day: Day, window: u64) -> Result<u64, KeepError> {
+        let count = confirmed_count(pledges_in(&self.books, book), day, window);
         Ok(count as u64)
     }
 
@@ -303,14 +303,14 @@ fn number_with(pledges: &[Pledge], reference: &Reference) -> Option<Number>
 }
 
 // What a book has beside its terms and pledges.
-fn head_in(books: &[Kept], book: Number) -> Result<Option<Head>, AllocError>
-    ensures value { IfOk result (λ head. head ≡ option_map head_of (book_at (map entry_of books.now) book)) }
+fn head_in(books: &[Kept], book: Number) -> Result<Option<BookHead>, AllocError>
+    ensures value { IfOk result (λ head. head ≡ option_map book_head (book_at (map entry_of books.now) book)) }
 {
     let Some(kept) = kept_at(books, book) else {
         return Ok(None);
     };
     let name = kept.made.name.copy()?;
-    Ok(Some(Head {
+    Ok(Some(BookHead {
         key: kept.made.key,
         name,
         capacity: kept.made.capacity,
@@ -387,8 +387,8 @@ fn is_confirmed_for(booking: Option<Booking>, day: Day, window: u64) -> bool
 }
 
 // How many pledges have a confirmed booking for a day and a window.
-fn confirmed_in(pledges: &[Pledge], day: Day, window: u64) -> usize
-    ensures value { result ≡ confirmed_for pledges.now day window }
+fn confirmed_count(pledges: &[Pledge], day: Day, window: u64) -> usize
+    ensures value { result ≡ confirmed_count pledges.now day window }
 {
     pledges
         .iter()
@@ -412,13 +412,13 @@ fn next_number(books: &[Kept], after: u32) -> Option<Number>
 {
     let mut next: Option<Number> = None;
     for kept in books {
-        next = nearer(kept.number, after, next);
+        next = nearer_number(kept.number, after, next);
     }
     next
 }
 
 // A number in place of another, if it is less and above a third.
-fn nearer(number: Number, after: u32, next: Option<Number>) -> Option<Number>
+fn nearer_number(number: Number, after: u32, next: Option<Number>) -> Option<Number>
     ensures value { result ≡ (if nat_lt after number && nat_lt number (unwrap_or next (number + 1)) then Some number else next) }
 {
     let is_less = match next {

@@ -4,20 +4,20 @@ ghost use Rattle.std.specs.FinMap.{get};
 ghost use Rattle.std.specs.Str.{IsUtf8};
 ghost use Rattle.pawn_terms.specs.Refusals.{IsSaid};
 ghost use Rattle.pawn_pledge.specs.Replayable.{IsStanding};
-ghost use Rattle.pawn_book.specs.BookStep.{BookValue, first_receipt, head_of, is_opening, newest, take_pledge, taken_under, with_reference};
+ghost use Rattle.pawn_book.specs.BookStep.{BookValue, first_receipt, book_head, is_same_opening, newest, take_pledge, taken_under, with_reference};
 ghost use Rattle.pawn_book.specs.Sound.{IsSound, IsWord};
 ghost use Rattle.pawn_book.specs.Keeping.{IsQuiet, IsSteady, Reads, pledges_of};
 ghost use Rattle.pawn_book.specs.Plans.{IsUnwell, Plans};
 
-use crate::change::{Change, Head, Planned};
+use crate::change::{BookHead, Change, Planned};
 use crate::fault::KeepError;
-use crate::gates::{know_word, unwell};
+use crate::gates::{know_word, unwell_refusal};
 use crate::keep::Keep;
 use crate::limits::MOST_PLEDGES;
 use crate::refusal::Refusal;
 use crate::reply::Reply;
 use pawn_pledge::{
-    Number, Opening, Pledge, Receipt, Reference, Refusal as PledgeRefusal, Secret, Stamp, Terms,
+    Number, Opening, Pledge, Receipt, Reference, Refusal as PledgeRefusal, Stamp, Terms,
 };
 use std::alloc::Global;
 
@@ -26,19 +26,19 @@ pub(crate) fn plan_pledge<K: Keep>(
     alloc: Global,
     keep: &mut K,
     book: Number,
-    head: &Head,
+    head: &BookHead,
     opening: &Opening,
     stamp: &Stamp,
 ) -> Result<Planned, Refusal>
-    ensures reads { Reads K.keeping keep.old keep.new (λ h. IsSound h → (at : BookValue) → get h.books book ≡ Some at → head.now ≡ head_of at →
+    ensures reads { Reads K.keeping keep.old keep.new (λ h. IsSound h → (at : BookValue) → get h.books book ≡ Some at → head.now ≡ book_head at →
         Plans h book (take_pledge at book opening.now stamp.now (with_reference at.pledges opening.now.reference)) result) }
     ensures steady { IsQuiet K.keeping keep.old result }
 {
     know_given(opening, stamp);
     match find_reference(keep, book, &opening.reference) {
-        Err(error) => Err(unwell(error)),
+        Err(error) => Err(unwell_refusal(error)),
         Ok(Some(pledge)) => {
-            if !is_opening(&pledge.agreement().opening, opening) {
+            if !is_same_opening(&pledge.agreement().opening, opening) {
                 return Err(Refusal::RefTaken);
             }
             Ok(Planned {
@@ -97,17 +97,17 @@ fn take<K: Keep>(
     alloc: Global,
     keep: &mut K,
     book: Number,
-    head: &Head,
+    head: &BookHead,
     opening: &Opening,
     stamp: &Stamp,
 ) -> Result<Pledge, Refusal>
-    ensures reads { Reads K.keeping keep.old keep.new (λ h. (at : BookValue) → get h.books book ≡ Some at → head.now ≡ head_of at →
+    ensures reads { Reads K.keeping keep.old keep.new (λ h. (at : BookValue) → get h.books book ≡ Some at → head.now ≡ book_head at →
         IsSaid IsUnwell (taken_under head.now opening.now stamp.now (newest at.terms)) result) }
     ensures standing { IfOk result IsStanding }
     ensures steady { IsQuiet K.keeping keep.old result }
 {
     match keep.terms(book, head.terms) {
-        Err(error) => Err(unwell(error)),
+        Err(error) => Err(unwell_refusal(error)),
         Ok(None) => Err(Refusal::NoTerms),
         Ok(Some(terms)) => start(alloc, head, opening, terms, stamp),
     }
@@ -116,7 +116,7 @@ fn take<K: Keep>(
 // A new pledge under these terms, one past the last of a book with that head.
 fn start(
     alloc: Global,
-    head: &Head,
+    head: &BookHead,
     opening: &Opening,
     terms: Terms,
     stamp: &Stamp,
@@ -145,8 +145,8 @@ fn start(
 }
 
 // Whether two openings are the same, their references aside.
-fn is_opening(a: &Opening, b: &Opening) -> bool
-    ensures value { result ≡ is_opening a.now b.now }
+fn is_same_opening(a: &Opening, b: &Opening) -> bool
+    ensures value { result ≡ is_same_opening a.now b.now }
 {
     a.article.as_str() == b.article.as_str()
         && a.kind == b.kind
@@ -160,7 +160,7 @@ fn first_receipt(pledge: &Pledge) -> Receipt
 {
     let secret = match pledge.secrets() {
         [first, ..] => first.secret,
-        [] => Secret::of_word(0),
+        [] => unreachable!(),
     };
     Receipt {
         number: pledge.agreement().number,

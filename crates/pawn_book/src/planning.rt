@@ -55,7 +55,7 @@ pub fn plan<K: Keep>(
             }
         }
         Caller::Bearer(asked) => match asked {
-            BearerRequest::Held(_) => unreachable!(),
+            BearerRequest::Present(_) => unreachable!(),
             BearerRequest::OnPledge { receipt, command } => {
                 let command = command.command();
                 plan_receipt(keep, request.book, receipt, stamp, &command)

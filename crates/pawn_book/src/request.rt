@@ -6,12 +6,13 @@ ghost use Rattle.pawn_book.specs.Sound.{IsWord};
 ghost use Rattle.pawn_book.specs.Plans.{IsBearerWrite, IsBrokerWrite, IsWritten};
 
 use crate::capacity::Capacity;
+use crate::limits::MOST_NAME_BYTES;
 use crate::receipts::Receipts;
 use pawn_pledge::{BearerCommand, BrokerCommand, Number, Opening, Rates, Receipt, Secret, Text};
 use std::alloc::AllocError;
 
 /// A book's name: 1 to 60 bytes of text without control characters.
-pub type Name = Text<60>;
+pub type Name = Text<MOST_NAME_BYTES>;
 
 /// A request on one book.
 #[derive(Drop)]
@@ -57,7 +58,7 @@ impl NewBook {
     /// The same again.
     pub fn copy(&self) -> Result<NewBook, AllocError>
         ensures same { IfOk result (λ new_book. new_book ≡ self.now) }
-        ensures name { IsText 60 self.now.name }
+        ensures name { IsText MOST_NAME_BYTES self.now.name }
         ensures capacity { IsCapacity self.now.capacity }
         ensures utf8 { IsUtf8 self.now.name }
         ensures key { IsWord self.now.key }
@@ -114,7 +115,7 @@ pub struct NewTerms {
 #[derive(Drop)]
 pub enum BearerRequest {
     /// To see the pledges of these receipts.
-    Held(Receipts),
+    Present(Receipts),
     /// To command the pledge of a receipt.
     OnPledge {
         receipt: Receipt,
@@ -128,7 +129,7 @@ impl BearerRequest {
         ensures writes { IsTrue result ↔ IsBearerWrite self.now }
     {
         match self {
-            BearerRequest::Held(_) => false,
+            BearerRequest::Present(_) => false,
             BearerRequest::OnPledge { .. } => true,
         }
     }

@@ -2,13 +2,13 @@
 ghost use Rattle.std.specs.Prelude.{◌≡◌, IfOk};
 ghost use Rattle.std.specs.FinMap.{get};
 ghost use Rattle.pawn_terms.specs.Terms.{IsChecked};
-ghost use Rattle.pawn_book.specs.BookStep.{BookValue, are_rates, created, head_of, is_book, next_terms, put_terms, terms_at};
+ghost use Rattle.pawn_book.specs.BookStep.{BookValue, are_same_rates, make_book, book_head, is_same_book, next_terms, put_terms, terms_at};
 ghost use Rattle.pawn_book.specs.Sound.{IsSound};
 ghost use Rattle.pawn_book.specs.Keeping.{IsQuiet, Reads};
 ghost use Rattle.pawn_book.specs.Plans.{Plans};
 
-use crate::change::{Change, Head, Planned};
-use crate::gates::unwell;
+use crate::change::{BookHead, Change, Planned};
+use crate::gates::unwell_refusal;
 use crate::keep::Keep;
 use crate::limits::MOST_TERMS;
 use crate::refusal::Refusal;
@@ -22,16 +22,16 @@ pub(crate) fn plan_book<K: Keep>(
     book: Number,
     new_book: &NewBook,
 ) -> Result<Planned, Refusal>
-    ensures reads { Reads K.keeping keep.old keep.new (λ h. IsSound h → Plans h book (created (get h.books book) book new_book.now) result) }
+    ensures reads { Reads K.keeping keep.old keep.new (λ h. IsSound h → Plans h book (make_book (get h.books book) book new_book.now) result) }
     ensures steady { IsQuiet K.keeping keep.old result }
 {
     // Whoever reads the number knows that it is one that a book may have.
     let _ = book.get();
     let reply = Reply::BookMade(book);
-    match keep.head(book) {
-        Err(error) => Err(unwell(error)),
+    match keep.book_head(book) {
+        Err(error) => Err(unwell_refusal(error)),
         Ok(Some(head)) => {
-            if !is_book(&head, new_book) {
+            if !is_same_book(&head, new_book) {
                 return Err(Refusal::BookTaken);
             }
             Ok(Planned {
@@ -52,8 +52,8 @@ pub(crate) fn plan_book<K: Keep>(
 }
 
 // Whether a book has this key, name and capacity.
-fn is_book(head: &Head, new_book: &NewBook) -> bool
-    ensures value { result ≡ is_book head.now new_book.now }
+fn is_same_book(head: &BookHead, new_book: &NewBook) -> bool
+    ensures value { result ≡ is_same_book head.now new_book.now }
 {
     head.key == new_book.key
         && head.name.as_str() == new_book.name.as_str()
@@ -64,19 +64,19 @@ fn is_book(head: &Head, new_book: &NewBook) -> bool
 pub(crate) fn plan_terms<K: Keep>(
     keep: &mut K,
     book: Number,
-    head: &Head,
+    head: &BookHead,
     new_terms: &NewTerms,
 ) -> Result<Planned, Refusal>
-    ensures reads { Reads K.keeping keep.old keep.new (λ h. IsSound h → (at : BookValue) → get h.books book ≡ Some at → head.now ≡ head_of at →
+    ensures reads { Reads K.keeping keep.old keep.new (λ h. IsSound h → (at : BookValue) → get h.books book ≡ Some at → head.now ≡ book_head at →
         Plans h book (put_terms at book new_terms.now (terms_at at.terms new_terms.now.version)) result) }
     ensures steady { IsQuiet K.keeping keep.old result }
 {
     let version = new_terms.version;
     let reply = Reply::TermsPut(version);
     match keep.terms(book, version) {
-        Err(error) => Err(unwell(error)),
+        Err(error) => Err(unwell_refusal(error)),
         Ok(Some(terms)) => {
-            if !are_rates(terms.rates(), new_terms.rates) {
+            if !are_same_rates(terms.rates(), new_terms.rates) {
                 return Err(Refusal::TermsSeq);
             }
             Ok(Planned {
@@ -99,8 +99,8 @@ pub(crate) fn plan_terms<K: Keep>(
 }
 
 // Whether these are the same three numbers.
-fn are_rates(a: Rates, b: Rates) -> bool
-    ensures value { result ≡ are_rates a b }
+fn are_same_rates(a: Rates, b: Rates) -> bool
+    ensures value { result ≡ are_same_rates a b }
 {
     a.rate == b.rate && a.keep_before == b.keep_before && a.keep_after == b.keep_after
 }

@@ -455,7 +455,7 @@ fn receipts_are_few(rt: HostRuntime) -> Result<(), Fail> {
     }
     let receipts = Receipts::new(many).ok_or("too many")?;
     assert_eq!(rt; receipts.as_slice().len(), 32);
-    let asked = Caller::Bearer(BearerRequest::Held(receipts));
+    let asked = Caller::Bearer(BearerRequest::Present(receipts));
     assert!(rt; matches!(&asked, Caller::Bearer(_)));
     Ok(())
 }

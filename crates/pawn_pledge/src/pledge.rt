@@ -1,4 +1,4 @@
-ghost use Rattle.std.specs.Prelude.{◌≡◌, ◌≤◌, ◌↔◌, IsTrue, Some, OnErr, IfOk, IfErr};
+ghost use Rattle.std.specs.Prelude.{◌≡◌, ◌≤◌, ◌↔◌, IsTrue, Some, OnErr, IfOk, IfErr, length};
 ghost use Rattle.pawn_debt.specs.Due.{due, last_of};
 ghost use Rattle.pawn_debt.specs.Owing.{owing_of};
 ghost use Rattle.pawn_debt.specs.Kept.{IsKept as IsOwed, totals_of};
@@ -181,6 +181,7 @@ impl Pledge {
     /// The issued secrets, in order.
     pub fn secrets(&self) -> &[Issued]
         ensures value { result.now ≡ self.now.secrets }
+        ensures some { 1 ≤ length result.now }
     {
         self.secrets.as_slice()
     }

@@ -3,4 +3,4 @@ pub mod PutLemmas
 pub mod ShareLemmas
 pub mod SoundLemmas
 pub mod StatementLemmas
-pub mod HeldLemmas
+pub mod PresentedLemmas

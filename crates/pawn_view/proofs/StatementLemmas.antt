@@ -106,27 +106,27 @@ ended_cut : {W : Type 0} (contents : W → Option (List ℕ)) (a w : Writing W) 
 ended_cut contents a w text end fine going (out, rest, whole, puts, all) =
     let written = now_by contents a w out false going (puts.fine fine) in ((out, rest, whole, written.0), going)
 
-shows_by : {W : Type 0} (contents : W → Option (List ℕ)) (missing : ViewFault) (a w : Writing W) (text : List ℕ) (done : Result (Unit {0}) KeepError) (failed : Bool)
-    → write_failed a ≡ false → write_failed w ≡ failed → PutsShare contents a text (call_end done) w → Shows contents missing a (Some text) (ending_of done failed) w
-shows_by contents missing a w text done true fine now share = (text, refl, ended_failed contents a w text (call_end done) fine now share)
-shows_by contents missing a w text (Ok u) false fine now share = (text, refl, ended_whole contents a w text fine now share)
-shows_by contents missing a w text (Err error.Memory) false fine now share = ended_cut contents a w text Front fine now share
-shows_by contents missing a w text (Err (error.Store why)) false fine now share = ended_cut contents a w text Front fine now share
+shows_by : {W : Type 0} (contents : W → Option (List ℕ)) (a w : Writing W) (text : List ℕ) (done : Result (Unit {0}) KeepError) (failed : Bool)
+    → write_failed a ≡ false → write_failed w ≡ failed → PutsShare contents a text (call_end done) w → Shows contents a (Some text) (ending_of done failed) w
+shows_by contents a w text done true fine now share = (text, refl, ended_failed contents a w text (call_end done) fine now share)
+shows_by contents a w text (Ok u) false fine now share = (text, refl, ended_whole contents a w text fine now share)
+shows_by contents a w text (Err error.Memory) false fine now share = ended_cut contents a w text Front fine now share
+shows_by contents a w text (Err (error.Store why)) false fine now share = ended_cut contents a w text Front fine now share
 
 -- the text was put, and the answer says how that ended
-pub shows_ended : {W : Type 0} (contents : W → Option (List ℕ)) (missing : ViewFault) (a w : Writing W) (text : List ℕ) (done : Result (Unit {0}) KeepError) (answer : Result (Unit {0}) ViewFault)
-    → write_failed a ≡ false → answer ≡ ending_of done (write_failed w) → PutsShare contents a text (call_end done) w → Shows contents missing a (Some text) answer w
-shows_ended contents missing a w text done answer fine is share =
-    subst (λ (r : Result (Unit {0}) ViewFault). Shows contents missing a (Some text) r w) (sym is) (shows_by contents missing a w text done (write_failed w) fine refl share)
+pub shows_ended : {W : Type 0} (contents : W → Option (List ℕ)) (a w : Writing W) (text : List ℕ) (done : Result (Unit {0}) KeepError) (answer : Result (Unit {0}) ViewFault)
+    → write_failed a ≡ false → answer ≡ ending_of done (write_failed w) → PutsShare contents a text (call_end done) w → Shows contents a (Some text) answer w
+shows_ended contents a w text done answer fine is share =
+    subst (λ (r : Result (Unit {0}) ViewFault). Shows contents a (Some text) r w) (sym is) (shows_by contents a w text done (write_failed w) fine refl share)
 
 pub some_same : {A : Type 0} {a b : A} → Some a ≡ Some b → a ≡ b
 some_same {a = a} e = ap (λ (o : Option _). unwrap_or o a) e
 
 -- the same of the pledge that the brief is of
-pub statement_shows : {W : Type 0} (contents : W → Option (List ℕ)) (missing : ViewFault) (a w : Writing W) (day : ℕ) (o : Option PledgeValue) (brief : BriefFields) (done : Result (Unit {0}) KeepError) (answer : Result (Unit {0}) ViewFault)
+pub statement_shows : {W : Type 0} (contents : W → Option (List ℕ)) (a w : Writing W) (day : ℕ) (o : Option PledgeValue) (brief : BriefFields) (done : Result (Unit {0}) KeepError) (answer : Result (Unit {0}) ViewFault)
     → write_failed a ≡ false → answer ≡ ending_of done (write_failed w) → Some brief ≡ option_map brief_of o
     → ((p : PledgeValue) → o ≡ Some p → brief ≡ brief_of p → PutsShare contents a (statement_text day p) (call_end done) w)
-    → Shows contents missing a (option_map (statement_text day) o) answer w
-statement_shows contents missing a w day None brief done answer fine is at share = cc
-statement_shows contents missing a w day (Some p) brief done answer fine is at share =
-    shows_ended contents missing a w (statement_text day p) done answer fine is (share p refl (some_same at))
+    → Shows contents a (option_map (statement_text day) o) answer w
+statement_shows contents a w day None brief done answer fine is at share = cc
+statement_shows contents a w day (Some p) brief done answer fine is at share =
+    shows_ended contents a w (statement_text day p) done answer fine is (share p refl (some_same at))

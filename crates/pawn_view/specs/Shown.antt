@@ -15,7 +15,7 @@ use Rattle.pawn_view.specs.declared.writing.Writing.{Writing}
 use Rattle.pawn_view.specs.declared.fault.ViewFault.{ViewFault}
 use Rattle.pawn_view.specs.declared.fault.ViewFault.TheVariants as fault
 use Rattle.pawn_view.specs.Ends.{PutFront, Written, Puts, write_failed}
-use Rattle.pawn_view.specs.Text.{statement_text, held_text}
+use Rattle.pawn_view.specs.Text.{statement_text, presented_text}
 
 -- a visitor that is a writer: it puts a line for each item, and stops once it failed
 abbrev pub PutsLine : {W T : Type 0} → (W → Option (List ℕ)) → (T → List ℕ) → Writing W → T → Flow → Writing W → Type 0
@@ -45,19 +45,18 @@ abbrev pub statement_of : Host → ℕ → ℕ → ℕ → Option (List ℕ)
 statement_of h book number day = option_map (statement_text day) (pledge_at h book number)
 
 -- what is shown for receipts, if one of them is live
-abbrev pub held_of : Host → ℕ → List Receipt → ℕ → Option (List ℕ)
-held_of h book receipts day =
-    if are_unknown (live_pledges h book receipts) then None else Some (held_text day (live_pledges h book receipts))
+abbrev pub presented_of : Host → ℕ → List Receipt → ℕ → Option (List ℕ)
+presented_of h book receipts day =
+    if are_unknown (live_pledges h book receipts) then None else Some (presented_text day (live_pledges h book receipts))
 
 -- the text went out, or why not all of it. A refusal writes nothing, and comes just where there is nothing to show;
 -- where the writer failed, or the keeper wanted memory or failed, a front of the text went out
-abbrev pub Shows : {W U : Type 0} → (W → Option (List ℕ)) → ViewFault → Writing W → Option (List ℕ) → Result U ViewFault → Writing W → Type 0
-Shows contents missing old text (Ok u) new = (t : List ℕ) × (text ≡ Some t) × Written contents old t Whole new
-Shows contents missing old text (Err fault.Write) new = (t : List ℕ) × (text ≡ Some t) × Written contents old t Front new
-Shows contents missing old text (Err fault.Memory) new = PutFront contents old (unwrap_or text []) new × (write_failed new ≡ false)
-Shows contents missing old text (Err fault.Store) new = PutFront contents old (unwrap_or text []) new × (write_failed new ≡ false)
-Shows contents missing old text (Err fault.NoSuchPledge) new = (missing ≡ fault.NoSuchPledge) × (text ≡ None) × (new ≡ old)
-Shows contents missing old text (Err fault.NoSuchReceipt) new = (missing ≡ fault.NoSuchReceipt) × (text ≡ None) × (new ≡ old)
+abbrev pub Shows : {W U : Type 0} → (W → Option (List ℕ)) → Writing W → Option (List ℕ) → Result U ViewFault → Writing W → Type 0
+Shows contents old text (Ok u) new = (t : List ℕ) × (text ≡ Some t) × Written contents old t Whole new
+Shows contents old text (Err fault.Write) new = (t : List ℕ) × (text ≡ Some t) × Written contents old t Front new
+Shows contents old text (Err fault.Memory) new = PutFront contents old (unwrap_or text []) new × (write_failed new ≡ false)
+Shows contents old text (Err fault.Store) new = PutFront contents old (unwrap_or text []) new × (write_failed new ≡ false)
+Shows contents old text (Err fault.Unknown) new = (text ≡ None) × (new ≡ old)
 
 -- over a steady keeper no text is refused by a fault of the store
 abbrev pub IsQuietView : {K U : Type 0} → Keeping K → K → Result U ViewFault → Type 0

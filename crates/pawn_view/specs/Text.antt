@@ -143,6 +143,6 @@ abbrev pub further_texts : ℕ → List (Option PledgeValue) → List ℕ
 further_texts day pledges = flat_map (λ p. codes "\n" ++ shown_text day p) pledges
 
 -- what is shown for each receipt in order, a blank line between two
-abbrev pub held_text : ℕ → List (Option PledgeValue) → List ℕ
-held_text day [] = []
-held_text day (p ∷ ps) = shown_text day p ++ further_texts day ps
+abbrev pub presented_text : ℕ → List (Option PledgeValue) → List ℕ
+presented_text day [] = []
+presented_text day (p ∷ ps) = shown_text day p ++ further_texts day ps

@@ -9,7 +9,7 @@ use Rattle.pawn_pledge.specs.declared.record.BookingState.TheVariants as state
 use Rattle.pawn_pledge.specs.declared.record.Closing.TheVariants.{Open, Redeemed, Sold}
 use Rattle.pawn_pledge.specs.Pledge.{PledgeValue}
 use Rattle.pawn_pledge.specs.Worked.{after, pawned, ring}
-use Rattle.pawn_view.specs.Text.{money, date_text, kind_line, extended_line, held_line, booking_line, closing_line, entry_line, statement_text, held_text}
+use Rattle.pawn_view.specs.Text.{money, date_text, kind_line, extended_line, held_line, booking_line, closing_line, entry_line, statement_text, presented_text}
 
 -- pounds, and two digits of pence
 abbrev pub WorkedAmounts : Type 0
@@ -87,6 +87,6 @@ WorkedEndings =
 -- receipts: the line of an unknown one, and a blank line between two
 abbrev pub WorkedReceipts : Type 0
 WorkedReceipts =
-    (held_text (date 2024 8 1) (None ∷ Some (ring 7500) ∷ None ∷ [])
+    (presented_text (date 2024 8 1) (None ∷ Some (ring 7500) ∷ None ∷ [])
     ≡ codes "Unknown receipt\n\nPledge 1\nArticle Gold ring\nKind fixed 75.00\nTaken 2024-01-31\nEnds 2024-07-31\nStatus passed\nHeld no\nBooking none\n\nUnknown receipt\n")
-    × (held_text (date 2024 8 1) (None ∷ []) ≡ codes "Unknown receipt\n")
+    × (presented_text (date 2024 8 1) (None ∷ []) ≡ codes "Unknown receipt\n")

@@ -6,10 +6,8 @@ use pawn_book::KeepError;
 /// Why a text was not written whole.
 #[derive(Clone, Copy, Debug, PartialEq, Eq)]
 pub enum ViewFault {
-    /// There is no such pledge; nothing was written.
-    NoSuchPledge,
-    /// None of the receipts is live; nothing was written.
-    NoSuchReceipt,
+    /// There is no such pledge, or none of the receipts is live; nothing was written.
+    Unknown,
     /// The keeper wanted memory; a front of the text was written.
     Memory,
     /// The keeper's store failed; a front of the text was written.

@@ -10,8 +10,8 @@ mod worked;
 mod writing;
 
 pub use fault::ViewFault;
-pub use receipts::held;
-pub use statements::statement;
+pub use receipts::show_presented;
+pub use statements::show_statement;
 pub use worked::{worked_lines, worked_statements, worked_words};
 pub use writing::{Writing, put, put_all, send};
 

@@ -7,8 +7,8 @@ ghost use Rattle.pawn_book.specs.Sound.{IsSound};
 ghost use Rattle.pawn_book.specs.Keeping.{Reads, IsSteady};
 ghost use Rattle.pawn_book.specs.Visits.{call_end};
 ghost use Rattle.pawn_view.specs.Ends.{Puts, write_failed};
-ghost use Rattle.pawn_view.specs.Text.{shown_text, further_texts, held_text};
-ghost use Rattle.pawn_view.specs.Shown.{PutsShare, Shows, IsQuietView, live_pledges, held_of};
+ghost use Rattle.pawn_view.specs.Text.{shown_text, further_texts, presented_text};
+ghost use Rattle.pawn_view.specs.Shown.{PutsShare, Shows, IsQuietView, live_pledges, presented_of};
 
 use crate::fault::{ViewFault, view_fault};
 use crate::statements::{ending, put_statement};
@@ -90,14 +90,14 @@ fn put_further<K: Keep, W: Write>(
 }
 
 // Puts what is shown for these receipts, a blank line between two.
-fn put_held<K: Keep, W: Write>(
+fn put_presented<K: Keep, W: Write>(
     keep: &mut K,
     book: Number,
     receipts: &[Receipt],
     day: Day,
     writer: &mut Writing<W>,
 ) -> Result<(), KeepError>
-    ensures shares { Reads K.keeping keep.old keep.new (λ h. IsSound h → PutsShare W.contents writer.old (held_text day (live_pledges h book receipts.now)) (call_end result) writer.new) }
+    ensures shares { Reads K.keeping keep.old keep.new (λ h. IsSound h → PutsShare W.contents writer.old (presented_text day (live_pledges h book receipts.now)) (call_end result) writer.new) }
     ensures steady { IsSteady K.keeping keep.old result }
 {
     let [first, rest @ ..] = receipts else {
@@ -113,9 +113,9 @@ fn put_held<K: Keep, W: Write>(
 /// its pledge, or a line where the receipt is not live; a blank line stands between two. The keeper's content stays as
 /// it is.
 ///
-/// The caller's condition: the writer has not failed. Errors: `NoSuchReceipt` where none of the receipts is live;
+/// The caller's condition: the writer has not failed. Errors: `Unknown` where none of the receipts is live;
 /// `Memory` and `Store` where the keeper does not answer; `Write` only where the writer failed in the call.
-pub fn held<K: Keep, W: Write>(
+pub fn show_presented<K: Keep, W: Write>(
     keep: &mut K,
     book: Number,
     receipts: &[Receipt],
@@ -123,15 +123,15 @@ pub fn held<K: Keep, W: Write>(
     writer: &mut Writing<W>,
 ) -> Result<(), ViewFault>
     requires fine { write_failed writer.old ≡ false }
-    ensures shows { Reads K.keeping keep.old keep.new (λ h. IsSound h → Shows W.contents ViewFault.NoSuchReceipt writer.old (held_of h book receipts.now day) result writer.new) }
+    ensures shows { Reads K.keeping keep.old keep.new (λ h. IsSound h → Shows W.contents writer.old (presented_of h book receipts.now day) result writer.new) }
     ensures write { IsErrOf result ViewFault.Write → write_failed writer.new ≡ true }
     ensures steady { IsQuietView K.keeping keep.old result }
 {
     match is_any_live(keep, book, receipts) {
         Ok(true) => {}
-        Ok(false) => return Err(ViewFault::NoSuchReceipt),
+        Ok(false) => return Err(ViewFault::Unknown),
         Err(error) => return Err(view_fault(error)),
     }
-    let done = put_held(keep, book, receipts, day, writer);
+    let done = put_presented(keep, book, receipts, day, writer);
     ending(done, writer)
 }

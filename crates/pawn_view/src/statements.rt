@@ -24,7 +24,11 @@ impl<W: Write> Visitor<Entry> for Writing<W> {
 
     fn visit(&mut self, entry: &Entry) -> Flow {
         put_entry(self, entry);
-        if self.failed() { Flow::Stop } else { Flow::Go }
+        if self.has_failed() {
+            Flow::Stop
+        } else {
+            Flow::Go
+        }
     }
 }
 
@@ -33,7 +37,11 @@ impl<W: Write> Visitor<Extension> for Writing<W> {
 
     fn visit(&mut self, extension: &Extension) -> Flow {
         put_extended(self, extension);
-        if self.failed() { Flow::Stop } else { Flow::Go }
+        if self.has_failed() {
+            Flow::Stop
+        } else {
+            Flow::Go
+        }
     }
 }
 
@@ -102,9 +110,9 @@ pub(crate) fn put_statement<K: Keep, W: Write>(
 
 /// Writes the statement of a pledge, asked for on a day. The keeper's content stays as it is.
 ///
-/// The caller's condition: the writer has not failed. Errors: `NoSuchPledge`; `Memory` and `Store` where the keeper
+/// The caller's condition: the writer has not failed. Errors: `Unknown` where it does not stand; `Memory` and `Store` where the keeper
 /// does not answer; `Write` only where the writer failed in the call.
-pub fn statement<K: Keep, W: Write>(
+pub fn show_statement<K: Keep, W: Write>(
     keep: &mut K,
     book: Number,
     number: Number,
@@ -112,13 +120,13 @@ pub fn statement<K: Keep, W: Write>(
     writer: &mut Writing<W>,
 ) -> Result<(), ViewFault>
     requires fine { write_failed writer.old ≡ false }
-    ensures shows { Reads K.keeping keep.old keep.new (λ h. IsSound h → Shows W.contents ViewFault.NoSuchPledge writer.old (statement_of h book number day) result writer.new) }
+    ensures shows { Reads K.keeping keep.old keep.new (λ h. IsSound h → Shows W.contents writer.old (statement_of h book number day) result writer.new) }
     ensures write { IsErrOf result ViewFault.Write → write_failed writer.new ≡ true }
     ensures steady { IsQuietView K.keeping keep.old result }
 {
     let brief = match keep.brief(book, number) {
         Ok(Some(brief)) => brief,
-        Ok(None) => return Err(ViewFault::NoSuchPledge),
+        Ok(None) => return Err(ViewFault::Unknown),
         Err(error) => return Err(view_fault(error)),
     };
     let done = put_statement(keep, book, number, &brief, day, writer);
@@ -129,7 +137,7 @@ pub fn statement<K: Keep, W: Write>(
 pub(crate) fn ending<W>(done: Result<(), KeepError>, writer: &Writing<W>) -> Result<(), ViewFault>
     ensures answer { result ≡ ending_of done (write_failed writer.now) }
 {
-    if writer.failed() {
+    if writer.has_failed() {
         return Err(ViewFault::Write);
     }
     match done {

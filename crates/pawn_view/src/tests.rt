@@ -1,7 +1,7 @@
 //! The texts of a book with one pledge.
 use crate::fault::ViewFault;
-use crate::receipts::held;
-use crate::statements::statement;
+use crate::receipts::show_presented;
+use crate::statements::show_statement;
 use crate::writing::Writing;
 use pawn_book::{
     Article, BrokerRequest, Caller, Capacity, Kind, ListKeep, Name, NewBook, NewTerms, Number,
@@ -131,7 +131,7 @@ fn a_statement_is_put_line_by_line(rt: HostRuntime) {
         let mut keep = one_pledge(&rt, alloc, pence);
         let mut writer = Writing::new(Vec::new(alloc));
         let asked = day(&rt, asked).day();
-        let came = statement(
+        let came = show_statement(
             &mut keep,
             number(&rt, 7),
             number(&rt, 1),
@@ -151,8 +151,8 @@ fn nothing_is_put_of_a_pledge_that_does_not_stand(rt: HostRuntime) {
     for (book, pledge) in [(7, 2), (8, 1)] {
         let mut writer = Writing::new(Vec::new(alloc));
         let (book, pledge) = (number(&rt, book), number(&rt, pledge));
-        let came = statement(&mut keep, book, pledge, asked, &mut writer);
-        assert_eq!(rt; came, Err(ViewFault::NoSuchPledge));
+        let came = show_statement(&mut keep, book, pledge, asked, &mut writer);
+        assert_eq!(rt; came, Err(ViewFault::Unknown));
         assert_eq!(rt; writer.into_inner().len(), 0);
     }
 }
@@ -162,7 +162,7 @@ fn shows(rt: &impl Abort, alloc: Global, presented: &[Receipt], text: &[u8]) {
     let mut keep = one_pledge(rt, alloc, 10_000);
     let asked = day(rt, "2024-01-31").day();
     let mut writer = Writing::new(Vec::new(alloc));
-    let came = held(&mut keep, number(rt, 7), presented, asked, &mut writer);
+    let came = show_presented(&mut keep, number(rt, 7), presented, asked, &mut writer);
     assert_eq!(rt; came, Ok(()));
     puts(rt, writer, text);
 }
@@ -196,14 +196,14 @@ fn nothing_is_put_where_no_receipt_is_live(rt: HostRuntime) {
     let mut keep = one_pledge(&rt, alloc, 10_000);
     let asked = day(&rt, "2024-01-31").day();
     let mut writer = Writing::new(Vec::new(alloc));
-    let came = held(
+    let came = show_presented(
         &mut keep,
         number(&rt, 7),
         &[receipt(&rt, 9), receipt(&rt, 8)],
         asked,
         &mut writer,
     );
-    assert_eq!(rt; came, Err(ViewFault::NoSuchReceipt));
+    assert_eq!(rt; came, Err(ViewFault::Unknown));
     puts(&rt, writer, b"");
 }
 

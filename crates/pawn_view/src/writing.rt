@@ -28,7 +28,7 @@ impl<W> Writing<W> {
     }
 
     /// Whether a write gave an error, or took none of some bytes.
-    pub fn failed(&self) -> bool
+    pub fn has_failed(&self) -> bool
         ensures answer { result ≡ write_failed self.now }
     {
         self.failed
@@ -89,12 +89,12 @@ pub fn send<W: Write>(writer: &mut Writing<W>, bytes: &[u8]) -> usize
     sent
 }
 
-/// Writes these bytes, unless the writer failed before. `failed` tells afterwards whether all that was put went out.
+/// Writes these bytes, unless the writer failed before. `has_failed` tells afterwards whether all that was put went out.
 /// Takes no memory.
 pub fn put<W: Write>(writer: &mut Writing<W>, bytes: &[u8])
     ensures puts { Puts W.contents writer.old bytes.now writer.new }
 {
-    if !writer.failed() {
+    if !writer.has_failed() {
         send(writer, bytes);
     }
 }

@@ -306,9 +306,9 @@ fn is_read(alloc: Global, mut keep: ListKeep) -> Result<bool, Fail> {
         return Ok(false);
     }
     let counts = (
-        keep.confirmed(seven, wanted.day(), 3)?,
-        keep.confirmed(seven, wanted.day(), 4)?,
-        keep.confirmed(nine, wanted.day(), 3)?,
+        keep.confirmed_count(seven, wanted.day(), 3)?,
+        keep.confirmed_count(seven, wanted.day(), 4)?,
+        keep.confirmed_count(nine, wanted.day(), 3)?,
     );
     let books = (
         keep.next_book(None)?,

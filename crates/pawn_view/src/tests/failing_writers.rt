@@ -3,7 +3,7 @@ ghost use Rattle.std.specs.Prelude.{Some};
 
 use super::{STATEMENT, day, number, one_pledge};
 use crate::fault::ViewFault;
-use crate::statements::statement;
+use crate::statements::show_statement;
 use crate::writing::{Writing, put, send};
 use pawn_book::ListKeep;
 use std::alloc::Global;
@@ -63,11 +63,11 @@ fn states(
     keep: &mut ListKeep,
     writer: &mut Writing<Flaky>,
 ) -> Result<(), ViewFault> {
-    if writer.failed() {
+    if writer.has_failed() {
         return Err(ViewFault::Write);
     }
     let asked = day(rt, "2024-01-31").day();
-    statement(keep, number(rt, 7), number(rt, 1), asked, writer)
+    show_statement(keep, number(rt, 7), number(rt, 1), asked, writer)
 }
 
 // How many calls the whole statement takes.
@@ -88,7 +88,7 @@ fn no_failed_write_is_tried_again(rt: HostRuntime) {
         for failure in [Failure::Error, Failure::Nothing] {
             let mut writer = failing_at(alloc, failing, failure);
             assert_eq!(rt; states(&rt, &mut keep, &mut writer), Err(ViewFault::Write));
-            assert!(rt; writer.failed());
+            assert!(rt; writer.has_failed());
             let end = writer.into_inner();
             assert_eq!(rt; end.calls, failing);
             assert!(rt; end.taken.len() < STATEMENT.len());
@@ -110,12 +110,12 @@ fn each_write_is_one_call(rt: HostRuntime) {
     for (failure, second) in [(Failure::Error, None), (Failure::Nothing, Some(0usize))] {
         let mut writer = failing_at(rt.alloc(), 2, failure);
         assert_eq!(rt; writer.write(b"Pledge 12").ok(), Some(7));
-        assert!(rt; !writer.failed());
+        assert!(rt; !writer.has_failed());
         assert!(rt; is_answer(writer.write(b"12"), second));
-        assert!(rt; writer.failed());
+        assert!(rt; writer.has_failed());
         put(&mut writer, b"12");
         assert_eq!(rt; writer.write(b"12").ok(), Some(2));
-        assert!(rt; writer.failed());
+        assert!(rt; writer.has_failed());
         let end = writer.into_inner();
         assert_eq!(rt; end.calls, 3);
         assert_eq!(rt; end.taken.as_slice(), b"Pledge 12".as_slice());
@@ -126,7 +126,7 @@ fn each_write_is_one_call(rt: HostRuntime) {
 fn a_sending_stops_at_the_failure(rt: HostRuntime) {
     for failure in [Failure::Error, Failure::Nothing] {
         let mut writer = failing_at(rt.alloc(), 3, failure);
-        assert!(rt; !writer.failed());
+        assert!(rt; !writer.has_failed());
         assert_eq!(rt; send(&mut writer, STATEMENT), 14);
         let end = writer.into_inner();
         assert_eq!(rt; end.calls, 3);

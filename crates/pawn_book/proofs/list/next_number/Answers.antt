@@ -8,5 +8,5 @@ returns c = record { least = (subst (λ es. IsLeastAbove es c.args.after c.loop-
 
 pub loop-kept-preserved : goal.loop-kept-preserved
 loop-kept-preserved c =
-    subst (λ es. IsLeastAbove es c.args.after c.nearer-next.result) (sym (one_more c.args.books.now c.loop-kept.kept-index c.kept-item.result c.loop-kept-test.true c.kept-item.is))
-    (subst (IsLeastAbove _ c.args.after) (sym c.nearer-next.ensures.value) (least_more _ (entry_of c.kept-item.result) c.args.after c.loop-kept.next c.loop-kept.invariant))
+    subst (λ es. IsLeastAbove es c.args.after c.nearer_number-next.result) (sym (one_more c.args.books.now c.loop-kept.kept-index c.kept-item.result c.loop-kept-test.true c.kept-item.is))
+    (subst (IsLeastAbove _ c.args.after) (sym c.nearer_number-next.ensures.value) (least_more _ (entry_of c.kept-item.result) c.args.after c.loop-kept.next c.loop-kept.invariant))

@@ -1,7 +1,7 @@
 use Rattle.std.specs.FinMap.{get}
 use Rattle.pawn_book.specs.BookStep.{pledge_in, live_at}
 use Rattle.pawn_book.proofs.Reading.{reads_then}
-use Rattle.pawn_view.proofs.HeldLemmas.{further_goes_on, further_stops}
+use Rattle.pawn_view.proofs.PresentedLemmas.{further_goes_on, further_stops}
 use Rattle.pawn_view.proofs.receipts.put_further.Goals as goal
 
 pub returns-in-Err-clause-shares : goal.returns-in-Err-clause-shares

@@ -2,7 +2,7 @@ use Rattle.std.specs.FinMap.{get}
 use Rattle.pawn_book.specs.Visits.{call_end}
 use Rattle.pawn_book.specs.BookStep.{pledge_in}
 use Rattle.pawn_book.proofs.Reading.{reads_then}
-use Rattle.pawn_view.proofs.HeldLemmas.{shown_statement}
+use Rattle.pawn_view.proofs.PresentedLemmas.{shown_statement}
 use Rattle.pawn_view.proofs.receipts.put_shown.Goals as goal
 
 pub returns-in-Ok-Some-clause-shares : goal.returns-in-Ok-Some-clause-shares

@@ -1,11 +1,10 @@
-use Rattle.pawn_view.specs.declared.fault.ViewFault.TheVariants as fault
 use Rattle.pawn_view.specs.Shown.{pledge_at}
 use Rattle.pawn_book.proofs.Reading.{reads_then}
 use Rattle.pawn_view.proofs.StatementLemmas.{statement_shows}
-use Rattle.pawn_view.proofs.statements.statement.Goals as goal
+use Rattle.pawn_view.proofs.statements.show_statement.Goals as goal
 
 pub returns-clause-shows : goal.returns-clause-shows
 returns-clause-shows g c =
     reads_then c.brief.ensures.reads c.put_statement-done.ensures.shares (λ h said share sound.
-    statement_shows g.W.Write.contents fault.NoSuchPledge c.args.writer.now c.put_statement-done.new.writer c.args.day (pledge_at h c.args.book c.args.number) c.in-Ok-Some.brief c.put_statement-done.result c.ending.result
+    statement_shows g.W.Write.contents c.args.writer.now c.put_statement-done.new.writer c.args.day (pledge_at h c.args.book c.args.number) c.in-Ok-Some.brief c.put_statement-done.result c.ending.result
     c.requires.fine c.ending.ensures.answer (rw (c.in-Ok-Some.is, c.in-Ok-Some.field-0-is) at said) (share sound))

@@ -14,7 +14,7 @@ use Rattle.pawn_book.specs.declared.fault.KeepError.{KeepError}
 use Rattle.pawn_view.specs.declared.fault.ViewFault.{ViewFault}
 use Rattle.pawn_view.specs.Ends.{write_failed, Puts}
 use Rattle.pawn_view.specs.Fault.{ending_of}
-use Rattle.pawn_view.specs.Text.{statement_text, shown_text, further_texts, held_text}
+use Rattle.pawn_view.specs.Text.{statement_text, shown_text, further_texts, presented_text}
 use Rattle.pawn_view.specs.Shown.{PutsShare, Shows}
 use Rattle.pawn_view.proofs.PutLemmas.{flat_map-append}
 use Rattle.pawn_view.proofs.ShareLemmas.{share_puts, share_more, share_then}
@@ -125,33 +125,33 @@ further_stops_in contents a b c w day f receipts i d lt first blank share =
     (share_then contents b c w (codes "\n") (shown_text day (f x)) Front (share_puts contents b c (codes "\n") blank) share)))
 
 -- the first, and then the rest
-held_is : (f : Receipt → Option PledgeValue) (day : ℕ) (receipts : List Receipt) (x : Receipt) → 1 ≤ length receipts → x ≡ get_or receipts 0 x
-    → held_text day (map f receipts) ≡ shown_text day (f x) ++ further_texts day (map f (take (length receipts - 1) (drop 1 receipts)))
-held_is f day [] x some at = absurd (omega (arith, some))
-held_is f day (r ∷ rs) x some at =
+presented_is : (f : Receipt → Option PledgeValue) (day : ℕ) (receipts : List Receipt) (x : Receipt) → 1 ≤ length receipts → x ≡ get_or receipts 0 x
+    → presented_text day (map f receipts) ≡ shown_text day (f x) ++ further_texts day (map f (take (length receipts - 1) (drop 1 receipts)))
+presented_is f day [] x some at = absurd (omega (arith, some))
+presented_is f day (r ∷ rs) x some at =
     ap (λ (q : Receipt). shown_text day (f q) ++ further_texts day (map f rs)) (sym at)
     ∙ ap (λ (qs : List Receipt). shown_text day (f x) ++ further_texts day (map f qs)) (sym (take_rest (r ∷ rs) 1))
 
-pub held_goes_on : {W : Type 0} (contents : W → Option (List ℕ)) (a b w : Writing W) (day : ℕ) (f : Receipt → Option PledgeValue) (receipts : List Receipt) (x : Receipt) (end : End) → 1 ≤ length receipts → x ≡ get_or receipts 0 x
+pub presented_goes_on : {W : Type 0} (contents : W → Option (List ℕ)) (a b w : Writing W) (day : ℕ) (f : Receipt → Option PledgeValue) (receipts : List Receipt) (x : Receipt) (end : End) → 1 ≤ length receipts → x ≡ get_or receipts 0 x
     → PutsShare contents a (shown_text day (f x)) Whole b → PutsShare contents b (further_texts day (map f (take (length receipts - 1) (drop 1 receipts)))) end w
-    → PutsShare contents a (held_text day (map f receipts)) end w
-held_goes_on contents a b w day f receipts x end some at first rest =
-    subst (λ (t : List ℕ). PutsShare contents a t end w) (sym (held_is f day receipts x some at))
+    → PutsShare contents a (presented_text day (map f receipts)) end w
+presented_goes_on contents a b w day f receipts x end some at first rest =
+    subst (λ (t : List ℕ). PutsShare contents a t end w) (sym (presented_is f day receipts x some at))
     (share_then contents a b w (shown_text day (f x)) (further_texts day (map f (take (length receipts - 1) (drop 1 receipts)))) end first rest)
 
-pub held_stops : {W : Type 0} (contents : W → Option (List ℕ)) (a w : Writing W) (day : ℕ) (f : Receipt → Option PledgeValue) (receipts : List Receipt) (x : Receipt) → 1 ≤ length receipts → x ≡ get_or receipts 0 x
+pub presented_stops : {W : Type 0} (contents : W → Option (List ℕ)) (a w : Writing W) (day : ℕ) (f : Receipt → Option PledgeValue) (receipts : List Receipt) (x : Receipt) → 1 ≤ length receipts → x ≡ get_or receipts 0 x
     → PutsShare contents a (shown_text day (f x)) Front w
-    → PutsShare contents a (held_text day (map f receipts)) Front w
-held_stops contents a w day f receipts x some at first =
-    subst (λ (t : List ℕ). PutsShare contents a t Front w) (sym (held_is f day receipts x some at))
+    → PutsShare contents a (presented_text day (map f receipts)) Front w
+presented_stops contents a w day f receipts x some at first =
+    subst (λ (t : List ℕ). PutsShare contents a t Front w) (sym (presented_is f day receipts x some at))
     (share_more contents a w (shown_text day (f x)) (further_texts day (map f (take (length receipts - 1) (drop 1 receipts)))) first)
 
 -- the text of receipts one of which is live
-pub held_shows : {W : Type 0} (contents : W → Option (List ℕ)) (missing : ViewFault) (a w : Writing W) (text : List ℕ) (unknown : Bool) (done : Result (Unit {0}) KeepError) (answer : Result (Unit {0}) ViewFault)
+pub presented_shows : {W : Type 0} (contents : W → Option (List ℕ)) (a w : Writing W) (text : List ℕ) (unknown : Bool) (done : Result (Unit {0}) KeepError) (answer : Result (Unit {0}) ViewFault)
     → write_failed a ≡ false → answer ≡ ending_of done (write_failed w) → true ≡ not unknown → PutsShare contents a text (call_end done) w
-    → Shows contents missing a (if unknown then None else Some text) answer w
-held_shows contents missing a w text true done answer fine is known share = cc
-held_shows contents missing a w text false done answer fine is known share = shows_ended contents missing a w text done answer fine is share
+    → Shows contents a (if unknown then None else Some text) answer w
+presented_shows contents a w text true done answer fine is known share = cc
+presented_shows contents a w text false done answer fine is known share = shows_ended contents a w text done answer fine is share
 
 pub further_goes_on : {W : Type 0} (contents : W → Option (List ℕ)) (a b c w : Writing W) (day : ℕ) (f : Receipt → Option PledgeValue) (receipts : List Receipt) (i : ℕ) (x : Receipt) → i < length receipts → x ≡ get_or receipts i x
     → PutsShare contents a (further_texts day (map f (take i receipts))) Whole b → Puts contents b (codes "\n") c → PutsShare contents c (shown_text day (f x)) Whole w
