@@ -182,7 +182,7 @@ fn at_most_32_receipts_are_presented(rt: HostRuntime) -> Result<(), Fail> {
     let field = b"Pledge-Receipt: 1-da41597c-5157-488d-7724-e03fb8d84a37\r\n";
     let thirty_two = repeated(rt.alloc(), head, field, 32, b"\r\n")?;
     match asked(&rt, rt.alloc(), thirty_two.as_slice()).map(|request| request.caller) {
-        Ok(Caller::Bearer(BearerRequest::Held(receipts))) => {
+        Ok(Caller::Bearer(BearerRequest::Present(receipts))) => {
             assert_eq!(rt; receipts.as_slice().len(), 32);
         }
         _ => panic!(rt; "no receipts"),
