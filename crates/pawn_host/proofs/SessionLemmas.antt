@@ -22,7 +22,6 @@ use Rattle.pawn_host.specs.Keeps.{Start, from_host, host_by, StaysOpen, IsActed}
 use Rattle.pawn_host.specs.Finding.{Finds, FindsRest, StopsBy, IsCausedBy}
 use Rattle.pawn_host.proofs.FindLemmas.{not_by_writer}
 use Rattle.pawn_host.specs.Session.{Given, IsServed, IsSession, HasRoom, HadRoom, IsWithinMost, EndsAs, DueAfter, IsFinished, IsLeftBy, IsLeft, IsOver, AreTaken, acted_of, answer_text, requests_of, stamps_of}
-use Rattle.pawn_wire.specs.declared.fault.HeadFault.{HeadFault}
 use Rattle.pawn_wire.specs.declared.fault.WireFault.{WireFault}
 use Rattle.pawn_wire.specs.declared.head.HeadFacts.{HeadFacts}
 use Rattle.pawn_host.specs.declared.session.How.{How}

@@ -191,7 +191,7 @@ pub record IsConversation {K R W S : Type 0} (k : Keeping K) (left : R → Optio
       (record { start = start; stamps = old.stamps; stream = left_of left old.reader; written = written_of written old.writer })
       new.stamps stands (written_of written new.writer) result)
   pub stamps : AreTaken steps old.stamps new.stamps result
-  pub reads : IsRead (reads new.reader) (left_of left old.reader) (left_of left new.reader)
   pub room : IsWithinMost result
   pub whole : OnOk result ((read_failed new.reader ≡ false) × (write_failed new.writer ≡ false))
   pub cause : IfErr result (λ fault. IsCausedBy fault.cause (read_failed new.reader) (reads new.reader) (write_failed new.writer))
+  pub reads : IsRead (reads new.reader) (left_of left old.reader) (left_of left new.reader)

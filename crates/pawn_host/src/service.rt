@@ -70,9 +70,7 @@ impl<K: Keep> Service<K> {
         let day = stamp.day.day();
         match show_presented(&mut self.keep, book, receipts.as_slice(), day, &mut writer) {
             Ok(()) => tell(self.alloc, &Out::Plain(writer.into_inner())),
-            Err(ViewFault::Unknown) => {
-                tell(self.alloc, &Out::Refused(Refusal::NoSuchReceipt))
-            }
+            Err(ViewFault::Unknown) => { tell(self.alloc, &Out::Refused(Refusal::NoSuchReceipt)) }
             Err(ViewFault::Store) => tell(self.alloc, &Out::Refused(Refusal::Store)),
             // The text is built in memory, so a failed write is want of it.
             Err(ViewFault::Memory) => Answer::Memory,

@@ -19,7 +19,7 @@ returns-in-Err-Unknown-clause-acted g c = λ honest h sound at bytes read.
     let stands = g.K.Keep.keeping.stands c.show_presented.new.keep in
     let shows = rw (c.in-Err-Unknown.is, c.in-Err-Unknown.field-0-is, c.as_slice.ensures.list) at (c.show_presented.ensures.shows.tells honest h at sound) in
     acted_refused (start_of g.K.Keep.keeping c.args.self.now h) c.args.stamp.now bytes c.tell-in-Err-Unknown.result stands (present_request c.args.book c.args.receipts.now) No.NoSuchReceipt read c.tell-in-Err-Unknown.ensures.tells
-    (c.show_presented.ensures.shows.same honest h at) sound (inr (nothing_shown h operator c.args.stamp.now c.args.book c.day-day.result c.args.receipts.now shows.1)) (λ steady store. cc)
+    (c.show_presented.ensures.shows.same honest h at) sound (inr (nothing_shown h operator c.args.stamp.now c.args.book c.day-day.result c.args.receipts.now shows.0)) (λ steady store. cc)
 
 pub returns-in-Err-Store-clause-acted : goal.returns-in-Err-Store-clause-acted
 returns-in-Err-Store-clause-acted g c = λ honest h sound at bytes read.

@@ -19,7 +19,7 @@ returns-in-Err-Unknown-clause-acted g c = λ honest h sound at with_key bytes re
     let stands = g.K.Keep.keeping.stands c.show_statement.new.keep in
     let shows = rw (c.in-Err-Unknown.is, c.in-Err-Unknown.field-0-is) at (c.show_statement.ensures.shows.tells honest h at sound) in
     acted_refused (start_of g.K.Keep.keeping c.args.self.now h) c.args.stamp.now bytes c.tell-in-Err-Unknown.result stands (show_request c.args.book c.args.key c.args.number) No.NoSuchPledge read c.tell-in-Err-Unknown.ensures.tells
-    (c.show_statement.ensures.shows.same honest h at) sound (inr (no_pledge h operator c.args.stamp.now c.args.book c.args.key c.args.number c.day-day.result with_key shows.1)) (λ steady store. cc)
+    (c.show_statement.ensures.shows.same honest h at) sound (inr (no_pledge h operator c.args.stamp.now c.args.book c.args.key c.args.number c.day-day.result with_key shows.0)) (λ steady store. cc)
 
 pub returns-in-Err-Store-clause-acted : goal.returns-in-Err-Store-clause-acted
 returns-in-Err-Store-clause-acted g c = λ honest h sound at with_key bytes read.
