@@ -28,7 +28,8 @@ use Rattle.pawn_wire.specs.Commands.{entry_of, paper_of, decision_of, booking_of
 use Rattle.pawn_wire.specs.Fields.{Pair}
 use Rattle.pawn_wire.specs.Head.{fields_of}
 use Rattle.pawn_wire.specs.Laws.{IsShort, IsCommandWithin, IsCallerWithin}
-use Rattle.pawn_wire.specs.Limits.{max_number, most_receipts}
+use Rattle.pawn_wire.specs.Limits.{max_number}
+use Rattle.pawn_book.specs.Limits.{most_receipts}
 use Rattle.pawn_wire.specs.Member.{json_of, in_range, number_at, string_at, flag_at, if_text, text_at, key_at, day_at, body_said}
 use Rattle.pawn_wire.specs.Named.{number_said, day_said}
 use Rattle.pawn_wire.specs.Receipts.{is_hyphen, receipt_said, all_said, receipt_values, receipt_faults, receipts_said, one_said}

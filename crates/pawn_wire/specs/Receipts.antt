@@ -6,7 +6,7 @@ use Rattle.pawn_pledge.specs.declared.receipt.Receipt.{Receipt}
 use Rattle.pawn_terms.specs.Refusals.{first_of}
 use Rattle.pawn_wire.specs.Chain.{and_then, or_fault}
 use Rattle.pawn_wire.specs.Fields.{Pair, values_of}
-use Rattle.pawn_wire.specs.Limits.{most_receipts}
+use Rattle.pawn_book.specs.Limits.{most_receipts}
 use Rattle.pawn_wire.specs.Named.{number_said}
 use Rattle.pawn_wire.specs.declared.fault.WireFault.{WireFault}
 use Rattle.pawn_wire.specs.declared.fault.WireFault.TheVariants.{NoReceipt, TooManyReceipts, BadReceipt}
