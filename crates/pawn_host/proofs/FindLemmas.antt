@@ -1,5 +1,5 @@
 -- What was found in the buffer stands on the stream.
-use Rattle.std.proofs.Common.{◌≡◌, ◌≢◌, ℕ, ◌+◌, ◌<◌, ◌≤◌, Bool, true, false, List, [], ◌∷◌, ◌++◌, length, inl, inr, refl, arith, Option, Some, None, sym, ◌∙◌, ap, subst, append_assoc, append-nil, length-append, IfSome}
+use Rattle.std.proofs.Common.{◌≡◌, ◌≢◌, ℕ, ◌+◌, ◌<◌, ◌≤◌, Bool, true, false, List, [], ◌∷◌, ◌++◌, length, inl, inr, refl, arith, Option, Some, None, Result, Ok, sym, ◌∙◌, ap, subst, append_assoc, append-nil, length-append, IfSome}
 use Rattle.std.specs.Prelude.{◌==◌}
 use Rattle.std.proofs.lemmas.Bool.Decides.{nat_tests}
 use Rattle.std.specs.Io.KnownBytes.{Keeps, Consumes, IsAtEnd, prepend_known}
@@ -11,12 +11,11 @@ use Rattle.pawn_wire.specs.declared.head.HeadRead.TheVariants.{Partial, Fault}
 use Rattle.pawn_wire.specs.declared.head.HeadFacts.{HeadFacts}
 use Rattle.pawn_wire.proofs.StreamLemmas.{reads_more, bad_head_stays}
 use Rattle.pawn_host.specs.Split.{IsCut, HasFault}
-use Rattle.pawn_host.specs.Finding.{Finds, HasHead, IsCausedBy}
+use Rattle.pawn_host.specs.Finding.{Finds, FindsRest, HasHead, IsCausedBy}
 use Rattle.pawn_host.specs.declared.session.Cause.{Cause}
 use Rattle.pawn_host.specs.declared.session.Cause.TheVariants.{Read, Write, Reads}
-use Rattle.pawn_host.specs.declared.session.Found.{Found}
-use Rattle.pawn_host.specs.declared.session.Found.TheVariants.{Request, AtEnd, CutOff}
-use Rattle.pawn_host.specs.declared.session.Found.TheVariants.{Faulty as FoundFaulty}
+use Rattle.pawn_host.specs.declared.session.Rest.{Rest}
+use Rattle.pawn_host.specs.declared.session.Rest.TheVariants.{AtEnd, CutOff, Faulty}
 
 -- the buffer grew by what was read
 pub kept_more : (a b c : Option (List ℕ)) (old new piece : List ℕ) → Keeps a (prepend_known old b) → new ≡ old ++ piece → Consumes b c piece → Keeps a (prepend_known new c)
@@ -47,7 +46,7 @@ pub fault_stays : (s more : List ℕ) (f : HeadFault) → HasFault s f → HasFa
 fault_stays s more f (inl x) = inl (bad_head_stays s more x.0, x.1)
 fault_stays s more f (inr x) = inr (x.0, x.1 ++ more, reads_more s more x.0 x.1 x.2, x.3)
 
-pub found_faulty : (a b : Option (List ℕ)) (buffer : List ℕ) (f : HeadFault) → Keeps a (prepend_known buffer b) → IsHeadRead buffer (Fault f) → IfSome a (λ s. Finds s (FoundFaulty f))
+pub found_faulty : (a b : Option (List ℕ)) (buffer : List ℕ) (f : HeadFault) → Keeps a (prepend_known buffer b) → IsHeadRead buffer (Fault f) → IfSome a (λ s. FindsRest s (Faulty f))
 found_faulty None b buffer f k answers = tt
 found_faulty (Some x) None buffer f k answers = absurd k
 found_faulty (Some x) (Some y) buffer f k answers = subst (λ (s : List ℕ). HasFault s f) k (fault_stays buffer y f answers)
@@ -60,11 +59,11 @@ all_read x old None c k kept end = absurd k
 all_read x old (Some y) None k kept end = absurd kept
 all_read x old (Some y) (Some z) k kept end = sym k ∙ ap (λ (l : List ℕ). old ++ l) (sym kept ∙ end) ∙ append-nil old
 
-pub found_end : (a b c : Option (List ℕ)) (old : List ℕ) → Keeps a (prepend_known old b) → Keeps b c → IsAtEnd c → old ≡ [] → IfSome a (λ s. Finds s AtEnd)
+pub found_end : (a b c : Option (List ℕ)) (old : List ℕ) → Keeps a (prepend_known old b) → Keeps b c → IsAtEnd c → old ≡ [] → IfSome a (λ s. FindsRest s AtEnd)
 found_end None b c old k kept end e = tt
 found_end (Some x) b c old k kept end e = all_read x old b c k kept end ∙ e
 
-pub found_cut : (a b c : Option (List ℕ)) (old : List ℕ) → Keeps a (prepend_known old b) → Keeps b c → IsAtEnd c → IsHeadRead old Partial → (old ≡ [] → ⊥) → IfSome a (λ s. Finds s CutOff)
+pub found_cut : (a b c : Option (List ℕ)) (old : List ℕ) → Keeps a (prepend_known old b) → Keeps b c → IsAtEnd c → IsHeadRead old Partial → (old ≡ [] → ⊥) → IfSome a (λ s. FindsRest s CutOff)
 found_cut None b c old k kept end answers e = tt
 found_cut (Some x) b c old k kept end answers e =
     subst (λ (s : List ℕ). IsCut s) (sym (all_read x old b c k kept end)) (inl (e, answers.0, answers.1, answers.2))
@@ -72,23 +71,23 @@ found_cut (Some x) b c old k kept end answers e =
 rest_length : (s : List ℕ) (h : RequestHead) (rest : List ℕ) → ReadsHead s h rest → length s ≡ length (print_request h) + length rest
 rest_length s h rest x = ap length x.0.1 ∙ length-append (print_request h) rest
 
-pub found_short : (a b c : Option (List ℕ)) (old : List ℕ) (f : HeadFacts) → Keeps a (prepend_known old b) → Keeps b c → IsAtEnd c → HasHead old f → length old < f.len + f.body → IfSome a (λ s. Finds s CutOff)
+pub found_short : (a b c : Option (List ℕ)) (old : List ℕ) (f : HeadFacts) → Keeps a (prepend_known old b) → Keeps b c → IsAtEnd c → HasHead old f → length old < f.len + f.body → IfSome a (λ s. FindsRest s CutOff)
 found_short None b c old f k kept end has short = tt
 found_short (Some x) b c old f k kept end has short =
     let len = rest_length old has.0 has.1 has.2 in
     let less : length has.1 < f.body = omega (arith, len, short, has.3.len) in
     subst (λ (s : List ℕ). IsCut s) (sym (all_read x old b c k kept end)) (inr (has.0, has.1, f.body, has.2, has.3.body, less))
 
-pub found_request : (a b : Option (List ℕ)) (old : List ℕ) (f : HeadFacts) → Keeps a (prepend_known old b) → HasHead old f → f.len + f.body ≤ length old → IfSome a (λ s. Finds s (Request f))
+pub found_request : (a b : Option (List ℕ)) (old : List ℕ) (f : HeadFacts) → Keeps a (prepend_known old b) → HasHead old f → f.len + f.body ≤ length old → IfSome a (λ s. Finds s (Ok f))
 found_request None b old f k has fits = tt
 found_request (Some x) None old f k has fits = absurd k
 found_request (Some x) (Some y) old f k has fits =
     let len = rest_length old has.0 has.1 has.2 in
     let more : f.body ≤ length (has.1 ++ y) = omega (arith, length-append has.1 y, len, has.3.len, fits) in
-    subst (λ (s : List ℕ). Finds s (Request f)) k (has.0, has.1 ++ y, reads_more old y has.0 has.1 has.2, has.3, more)
+    subst (λ (s : List ℕ). Finds s (Ok f)) k (has.0, has.1 ++ y, reads_more old y has.0 has.1 has.2, has.3, more)
 
 -- what a later search finds on the stream from its start
-pub found_later : (a b : Option (List ℕ)) (found : Found) → Keeps a b → IfSome b (λ s. Finds s found) → IfSome a (λ s. Finds s found)
+pub found_later : (a b : Option (List ℕ)) (found : Result HeadFacts Rest) → Keeps a b → IfSome b (λ s. Finds s found) → IfSome a (λ s. Finds s found)
 found_later None b found k h = tt
 found_later (Some x) None found k h = absurd k
 found_later (Some x) (Some y) found k h = subst (λ (s : List ℕ). Finds s found) k h

@@ -1,5 +1,6 @@
 -- What was read while a request was looked for.
-use Rattle.std.proofs.Common.{◌≡◌, ℕ, ◌+◌, ◌<◌, ◌≤◌, Bool, false, List, [], ◌∷◌, ◌++◌, length, take, drop, refl, arith, Option, Some, None, Result, Ok, sym, ◌∙◌, ap, subst, append_assoc, append-nil, length-append}
+use Rattle.std.proofs.Common.{◌≡◌, ℕ, ◌+◌, ◌<◌, ◌≤◌, Bool, false, List, [], ◌∷◌, ◌++◌, length, take, drop, refl, arith, Option, Some, None, Result, Ok, Err, sym, ◌∙◌, ap, subst, append_assoc, append-nil, length-append}
+use Rattle.std.specs.Prelude.{IfOk}
 use Rattle.std.specs.List.{concat}
 use Rattle.std.proofs.lemmas.List.Folds.{concat-append}
 use Rattle.std.specs.Io.KnownBytes.{Keeps, Consumes}
@@ -13,10 +14,9 @@ use Rattle.pawn_wire.specs.declared.fault.HeadFault.{HeadFault}
 use Rattle.pawn_wire.specs.declared.head.HeadFacts.{HeadFacts}
 use Rattle.pawn_wire.proofs.StreamLemmas.{reads_more}
 use Rattle.pawn_host.specs.Split.{IsRequest, Passes, HasNoWhole, AreWanted, most_requests}
-use Rattle.pawn_host.specs.Finding.{Finds, HasHead, AreMissing, IsFetched, IfRequest}
+use Rattle.pawn_host.specs.Finding.{Finds, HasHead, AreMissing, IsFetched}
 use Rattle.pawn_host.specs.Session.{IsRead}
-use Rattle.pawn_host.specs.declared.session.Found.{Found}
-use Rattle.pawn_host.specs.declared.session.Found.TheVariants.{Request, AtEnd, CutOff, Faulty, NoMemory, Stopped}
+use Rattle.pawn_host.specs.declared.session.Rest.{Rest}
 use Rattle.pawn_host.proofs.SplitLemmas.{passes-snoc, front_request, length_snoc}
 
 ok_same : (m n : ℕ) → ◌≡◌ {A = Result ℕ HeadFault} (Ok m) (Ok n) → m ≡ n
@@ -82,28 +82,20 @@ keeps_is_none (Some x) None k = k
 keeps_is_none (Some x) (Some y) k = sym k
 
 -- a search that ended without a further read
-pub fetched_here : (found : Found) (buffer now : List ℕ) (a b : Option (List ℕ)) (reads reads' : ℕ) → FetchedSoFar buffer now a b reads reads' → IsFetched found buffer now a b reads reads'
-fetched_here found buffer now a b reads reads' so = record { pieces = so.pieces; count = so.count; missing = so.missing; gave = so.gave; grown = if_request found so.grown }
+pub fetched_here : (found : Result HeadFacts Rest) (buffer now : List ℕ) (a b : Option (List ℕ)) (reads reads' : ℕ) → FetchedSoFar buffer now a b reads reads' → IsFetched found buffer now a b reads reads'
+fetched_here found buffer now a b reads reads' so = record { pieces = so.pieces; count = so.count; missing = so.missing; gave = so.gave; grown = if_ok found so.grown }
   where
-    if_request : (found : Found) → now ≡ buffer ++ concat so.pieces → IfRequest found (λ head. now ≡ buffer ++ concat so.pieces)
-    if_request (Request head) e = e
-    if_request _ e = tt
+    if_ok : (found : Result HeadFacts Rest) → now ≡ buffer ++ concat so.pieces → IfOk found (λ head. now ≡ buffer ++ concat so.pieces)
+    if_ok (Ok head) e = e
+    if_ok (Err rest) e = tt
 
 -- a search that ended by a read whose bytes found no room
 pub fetched_last : (buffer now piece : List ℕ) (a b c : Option (List ℕ)) (reads reads' reads'' : ℕ) → FetchedSoFar buffer now a b reads reads' → HasNoWhole now → reads'' ≡ reads' + 1 → Consumes b c piece → FetchedSoFar buffer (now ++ piece) a c reads reads''
 fetched_last buffer now piece a b c reads reads' reads'' so none counted gave = fetched_more buffer now (now ++ piece) piece a b c reads reads' reads'' so none counted gave refl
 
 -- a search that ended without a request, whatever is left of the buffer
-pub fetched_other : (found : Found) (buffer now now' : List ℕ) (a b : Option (List ℕ)) (reads reads' : ℕ) → IfRequest found (λ head. ⊥) → FetchedSoFar buffer now a b reads reads' → IsFetched found buffer now' a b reads reads'
-fetched_other found buffer now now' a b reads reads' none so = record { pieces = so.pieces; count = so.count; missing = so.missing; gave = so.gave; grown = nothing found none }
-  where
-    nothing : (found : Found) → IfRequest found (λ head. ⊥) → IfRequest found (λ head. now' ≡ buffer ++ concat so.pieces)
-    nothing (Request head) h = absurd h
-    nothing AtEnd h = tt
-    nothing CutOff h = tt
-    nothing (Faulty f) h = tt
-    nothing NoMemory h = tt
-    nothing (Stopped cause) h = tt
+pub fetched_other : (rest : Rest) (buffer now now' : List ℕ) (a b : Option (List ℕ)) (reads reads' : ℕ) → FetchedSoFar buffer now a b reads reads' → IsFetched (Err rest) buffer now' a b reads reads'
+fetched_other rest buffer now now' a b reads reads' so = record { pieces = so.pieces; count = so.count; missing = so.missing; gave = so.gave; grown = tt }
 
 -- no read was made
 pub fetched_kept : (buffer now : List ℕ) (a b c : Option (List ℕ)) (reads reads' reads'' : ℕ) → FetchedSoFar buffer now a b reads reads' → Keeps b c → reads'' ≡ reads' → FetchedSoFar buffer now a c reads reads''
@@ -116,8 +108,8 @@ fetched_nothing buffer now a b c reads reads' reads'' so none counted kept =
     fetched_more buffer now now [] a b c reads reads' reads'' so none counted (keeps_is_none b c kept) (sym (append-nil now))
 
 -- two searches in turn
-pub fetched_then : (found : Found) (head : HeadFacts) (buffer now now' : List ℕ) (a b c : Option (List ℕ)) (reads reads' reads'' : ℕ)
-    → IsFetched (Request head) buffer now a b reads reads' → IsFetched found now now' b c reads' reads'' → IsFetched found buffer now' a c reads reads''
+pub fetched_then : (found : Result HeadFacts Rest) (head : HeadFacts) (buffer now now' : List ℕ) (a b c : Option (List ℕ)) (reads reads' reads'' : ℕ)
+    → IsFetched (Ok head) buffer now a b reads reads' → IsFetched found now now' b c reads' reads'' → IsFetched found buffer now' a c reads reads''
 fetched_then found head buffer now now' a b c reads reads' reads'' one two = record {
   pieces = one.pieces ++ two.pieces;
   count = omega (arith, one.count, two.count, length-append one.pieces two.pieces);
@@ -130,13 +122,9 @@ fetched_then found head buffer now now' a b c reads reads' reads'' one two = rec
     more e = e ∙ ap (λ (l : List ℕ). l ++ concat two.pieces) one.grown ∙ append_assoc buffer (concat one.pieces) (concat two.pieces)
         ∙ ap (λ (l : List ℕ). buffer ++ l) (sym (concat-append one.pieces two.pieces))
 
-    grown : (found : Found) → IfRequest found (λ head. now' ≡ now ++ concat two.pieces) → IfRequest found (λ head. now' ≡ buffer ++ concat (one.pieces ++ two.pieces))
-    grown (Request head) e = more e
-    grown AtEnd e = tt
-    grown CutOff e = tt
-    grown (Faulty f) e = tt
-    grown NoMemory e = tt
-    grown (Stopped cause) e = tt
+    grown : (found : Result HeadFacts Rest) → IfOk found (λ head. now' ≡ now ++ concat two.pieces) → IfOk found (λ head. now' ≡ buffer ++ concat (one.pieces ++ two.pieces))
+    grown (Ok head) e = more e
+    grown (Err rest) e = tt
 
 -- ---- over the requests of a session
 
@@ -174,7 +162,7 @@ pub read_all : (a b : Option (List ℕ)) (count acted : ℕ) (buffer : List ℕ)
 read_all a b count acted buffer so = record { pieces = so.pieces; count_is = so.count_is; wanted = so.wanted; gave = so.gave }
 
 -- the session is over after a search
-pub read_then : (found : Found) (a b c : Option (List ℕ)) (count count' acted : ℕ) (buffer buffer' : List ℕ) → ReadSoFar a b count acted buffer → acted < 1000 → IsFetched found buffer buffer' b c count count' → IsRead count' a c
+pub read_then : (found : Result HeadFacts Rest) (a b c : Option (List ℕ)) (count count' acted : ℕ) (buffer buffer' : List ℕ) → ReadSoFar a b count acted buffer → acted < 1000 → IsFetched found buffer buffer' b c count count' → IsRead count' a c
 read_then found a b c count count' acted buffer buffer' so few fetched = record {
   pieces = so.pieces ++ fetched.pieces;
   count_is = omega (arith, length-append so.pieces fetched.pieces, so.count_is, fetched.count);
@@ -183,19 +171,19 @@ read_then found a b c count count' acted buffer buffer' so few fetched = record 
 }
 
 -- the buffer begins with a whole request
-stands_whole : (buffer : List ℕ) (f : HeadFacts) → HasHead buffer f → f.len + f.body ≤ length buffer → Finds buffer (Request f)
+stands_whole : (buffer : List ℕ) (f : HeadFacts) → HasHead buffer f → f.len + f.body ≤ length buffer → Finds buffer (Ok f)
 stands_whole buffer f has fits =
     let len : length buffer ≡ length (print_request has.0) + length has.1 = ap length has.2.0.1 ∙ length-append (print_request has.0) has.1 in
     let whole : f.body ≤ length has.1 = omega (arith, len, has.3.len, fits) in
     (has.0, has.1, has.2, has.3, whole)
 
 -- the session goes on behind a request
-pub read_more : (head : HeadFacts) (a b c : Option (List ℕ)) (count count' acted : ℕ) (buffer buffer' left : List ℕ) → ReadSoFar a b count acted buffer → acted < 1000 → IsFetched (Request head) buffer buffer' b c count count'
+pub read_more : (head : HeadFacts) (a b c : Option (List ℕ)) (count count' acted : ℕ) (buffer buffer' left : List ℕ) → ReadSoFar a b count acted buffer → acted < 1000 → IsFetched (Ok head) buffer buffer' b c count count'
     → HasHead buffer' head → head.len + head.body ≤ length buffer' → head.closes ≡ false → left ≡ drop (head.len + head.body) buffer' → ReadSoFar a c count' (acted + 1) left
 unfolding read_then
 read_more head a b c count count' acted buffer buffer' left so few fetched has fits open' dropped =
     let n : ℕ = head.len + head.body in
-    let read = read_then (Request head) a b c count count' acted buffer buffer' so few fetched in
+    let read = read_then (Ok head) a b c count count' acted buffer buffer' so few fetched in
     let come : concat (so.pieces ++ fetched.pieces) ≡ concat so.pieces ++ concat fetched.pieces = concat-append so.pieces fetched.pieces in
     let grown : buffer' ≡ buffer ++ concat fetched.pieces = fetched.grown in
     let parts : buffer' ≡ take n buffer' ++ left = sym (take-append-drop n buffer') ∙ ap (λ (l : List ℕ). take n buffer' ++ l) (sym dropped) in

@@ -11,19 +11,19 @@ use Rattle.pawn_book.specs.declared.request.Request.{Request}
 use Rattle.pawn_book.specs.declared.request.Caller.{Caller}
 use Rattle.pawn_book.specs.declared.request.Caller.TheVariants.{Bearer, Broker}
 use Rattle.pawn_book.specs.declared.request.BearerRequest.{BearerRequest}
-use Rattle.pawn_book.specs.declared.request.BearerRequest.TheVariants.{Held}
+use Rattle.pawn_book.specs.declared.request.BearerRequest.TheVariants.{Present}
 use Rattle.pawn_book.specs.declared.request.BrokerRequest.{BrokerRequest}
 use Rattle.pawn_book.specs.declared.request.BrokerRequest.TheVariants.{Show}
 use Rattle.pawn_book.specs.declared.reply.Reply.{Reply}
 use Rattle.pawn_book.specs.declared.refusal.Refusal.{Refusal}
 use Rattle.pawn_book.specs.declared.refusal.Refusal.TheVariants as No
-use Rattle.pawn_book.specs.BookStep.{BookValue, Out, Told, Denied, Shown, Outcome, Refuses, Says, out_of, are_unknown, gated, pledge_from, pledge_in, shown}
-use Rattle.pawn_book.specs.HostStep.{Host, limited, host_step, host_after}
+use Rattle.pawn_book.specs.BookStep.{BookValue, Out, Told, Denied, Shown, Outcome, Refuses, Says, out_of, are_unknown, gate_step, pledge_from, pledge_in, show_pledge}
+use Rattle.pawn_book.specs.HostStep.{Host, within_limit, host_step, host_after}
 use Rattle.pawn_book.specs.Sound.{IsSound}
 use Rattle.pawn_book.specs.Runs.{read_as, no_memory, no_store, Answered}
-use Rattle.pawn_book.specs.Plans.{Acts, Gates, IsUnwell, stepped}
-use Rattle.pawn_view.specs.Text.{held_text, statement_text}
-use Rattle.pawn_view.specs.Shown.{live_pledges, held_of, pledge_at, statement_of}
+use Rattle.pawn_book.specs.Plans.{Acts, Gates, IsUnwell, next_host}
+use Rattle.pawn_view.specs.Text.{presented_text, statement_text}
+use Rattle.pawn_view.specs.Shown.{live_pledges, presented_of, pledge_at, statement_of}
 use Rattle.pawn_wire.specs.Request.{Reads}
 use Rattle.pawn_wire.specs.Reply.{out_text, reply_text, fault_text, memory_text}
 use Rattle.pawn_wire.specs.declared.reply.Out.TheVariants as wire
@@ -81,7 +81,7 @@ acted_fault start stamp bytes Memory at e read is stands sound = acted_memory st
 -- the step of the host was told
 acted_said : (start : Start) (stamp : Stamp) (bytes reply : List ℕ) (at : Host → Type 0) (request : Request) (out : Out)
     → Reads bytes (Ok request) → out_of (host_step start.host start.operator stamp request) ≡ out → reply ≡ said_text (Answered out)
-    → at (stepped start.host start.operator stamp request) → IsSound (stepped start.host start.operator stamp request) → IsActed start stamp bytes reply at
+    → at (next_host start.host start.operator stamp request) → IsSound (next_host start.host start.operator stamp request) → IsActed start stamp bytes reply at
 acted_said start stamp bytes reply at request out read is text stands sound = record {
   mark = read_as (Ok request);
   marked = (read, λ m. cc);
@@ -100,7 +100,7 @@ acted_refused start stamp bytes (Bytes v) at request why read is stands sound (i
 acted_refused start stamp bytes (Bytes v) at request why read is stands sound (inl (inr store)) calm =
     acted_store start stamp bytes v.items at (is ∙ ap (λ (w : Refusal). out_text (wire.Refused w)) store) stands sound (λ steady. calm steady store)
 acted_refused start stamp bytes (Bytes v) at request why read is stands sound (inr step) calm =
-    let after : stepped start.host start.operator stamp request ≡ start.host = ap (λ (o : Outcome). host_after start.host request.book o) step in
+    let after : next_host start.host start.operator stamp request ≡ start.host = ap (λ (o : Outcome). host_after start.host request.book o) step in
     acted_said start stamp bytes v.items at request (Denied why) read (ap out_of step) is (subst at (sym after) stands) (subst IsSound (sym after) sound)
 
 -- it was acted on, and that was told
@@ -113,19 +113,19 @@ err_is r why is store = is ∙ ap (λ (w : Refusal). Err w) store
 
 -- ---- receipts
 
-abbrev pub held_request : ℕ → List Receipt → Request
-held_request book receipts = record { book = book; caller = Bearer (Held receipts) }
+abbrev pub present_request : ℕ → List Receipt → Request
+present_request book receipts = record { book = book; caller = Bearer (Present receipts) }
 
 -- what comes of receipts, by whether one of them is live
 step_unknown : (h : Host) (operator : ℕ) (stamp : Stamp) (book : ℕ) (receipts : List Receipt) → are_unknown (live_pledges h book receipts) ≡ true
-    → host_step h operator stamp (held_request book receipts) ≡ Refuses No.NoSuchReceipt
+    → host_step h operator stamp (present_request book receipts) ≡ Refuses No.NoSuchReceipt
 step_unknown h operator stamp book receipts is =
-    ap (λ (b : Bool). limited h book (if b then Refuses No.NoSuchReceipt else Says (Shown stamp.day (live_pledges h book receipts)))) is
+    ap (λ (b : Bool). within_limit h book (if b then Refuses No.NoSuchReceipt else Says (Shown stamp.day (live_pledges h book receipts)))) is
 
 step_known : (h : Host) (operator : ℕ) (stamp : Stamp) (book : ℕ) (receipts : List Receipt) → are_unknown (live_pledges h book receipts) ≡ false
-    → host_step h operator stamp (held_request book receipts) ≡ Says (Shown stamp.day (live_pledges h book receipts))
+    → host_step h operator stamp (present_request book receipts) ≡ Says (Shown stamp.day (live_pledges h book receipts))
 step_known h operator stamp book receipts is =
-    ap (λ (b : Bool). limited h book (if b then Refuses No.NoSuchReceipt else Says (Shown stamp.day (live_pledges h book receipts)))) is
+    ap (λ (b : Bool). within_limit h book (if b then Refuses No.NoSuchReceipt else Says (Shown stamp.day (live_pledges h book receipts)))) is
 
 some_same : {A : Type 0} {a b : A} → Some a ≡ Some b → a ≡ b
 some_same {a = a} e = ap (λ (o : Option _). unwrap_or o a) e
@@ -139,24 +139,24 @@ text_unknown true shown is = refl
 text_unknown false shown is = cc
 
 -- nothing was to show
-pub nothing_shown : (h : Host) (operator : ℕ) (stamp : Stamp) (book day : ℕ) (receipts : List Receipt) → held_of h book receipts day ≡ None
-    → host_step h operator stamp (held_request book receipts) ≡ Refuses No.NoSuchReceipt
+pub nothing_shown : (h : Host) (operator : ℕ) (stamp : Stamp) (book day : ℕ) (receipts : List Receipt) → presented_of h book receipts day ≡ None
+    → host_step h operator stamp (present_request book receipts) ≡ Refuses No.NoSuchReceipt
 nothing_shown h operator stamp book day receipts is =
-    step_unknown h operator stamp book receipts (text_unknown (are_unknown (live_pledges h book receipts)) (held_text day (live_pledges h book receipts)) is)
+    step_unknown h operator stamp book receipts (text_unknown (are_unknown (live_pledges h book receipts)) (presented_text day (live_pledges h book receipts)) is)
 
 -- the text of the receipts was told
 pub acted_shown : (start : Start) (stamp : Stamp) (bytes : List ℕ) (answer : Answer) (at : Host → Type 0) (book day : ℕ) (receipts : List Receipt) (text out : List ℕ)
-    → Reads bytes (Ok (held_request book receipts)) → day ≡ stamp.day → held_of start.host book receipts day ≡ Some text → text ≡ out
+    → Reads bytes (Ok (present_request book receipts)) → day ≡ stamp.day → presented_of start.host book receipts day ≡ Some text → text ≡ out
     → Tells answer (reply_text 200 (codes "text/plain; charset=utf-8") out) → at start.host → IsSound start.host
     → IsActed start stamp bytes (answer_bytes answer) at
 acted_shown start stamp bytes Memory at book day receipts text out read day_is is all tells stands sound = acted_memory start stamp bytes memory_text at refl stands sound
 acted_shown start stamp bytes (Bytes v) at book day receipts text out read day_is is all tells stands sound =
     let shown = live_pledges start.host book receipts in
-    let known = text_known (are_unknown shown) (held_text day shown) text is in
+    let known = text_known (are_unknown shown) (presented_text day shown) text is in
     let step = step_known start.host start.operator stamp book receipts known.0 in
-    let request : Request = held_request book receipts in
-    let after : stepped start.host start.operator stamp request ≡ start.host = ap (λ (o : Outcome). host_after start.host book o) step in
-    let same : out ≡ held_text stamp.day shown = sym all ∙ known.1 ∙ ap (λ (x : ℕ). held_text x shown) day_is in
+    let request : Request = present_request book receipts in
+    let after : next_host start.host start.operator stamp request ≡ start.host = ap (λ (o : Outcome). host_after start.host book o) step in
+    let same : out ≡ presented_text stamp.day shown = sym all ∙ known.1 ∙ ap (λ (x : ℕ). presented_text x shown) day_is in
     acted_said start stamp bytes v.items at request (Shown stamp.day shown) read (ap out_of step) (tells ∙ ap (reply_text 200 (codes "text/plain; charset=utf-8")) same)
     (subst at (sym after) stands) (subst IsSound (sym after) sound)
 
@@ -167,21 +167,21 @@ show_request book key number = record { book = book; caller = Broker key (Show n
 
 -- what comes of a pledge that is asked for with the book's key
 step_key : (h : Host) (operator : ℕ) (stamp : Stamp) (book key number : ℕ) → IsKeyOf h book key
-    → host_step h operator stamp (show_request book key number) ≡ limited h book (shown stamp (pledge_at h book number))
+    → host_step h operator stamp (show_request book key number) ≡ within_limit h book (show_pledge stamp (pledge_at h book number))
 step_key h operator stamp book key number with_key =
     let at = with_key.0 in
     let is = with_key.1 in
     let same : (at.key == key) ≡ true = grind (arith, nat_tests, with_key.2) in
-    ap (λ o. limited h book (gated o key (λ (k : BookValue). shown stamp (pledge_from 1 k.pledges number)))) is
-    ∙ ap (λ v. limited h book (if v then shown stamp (pledge_from 1 at.pledges number) else Refuses No.NoSuchBook)) same
-    ∙ ap (λ o. limited h book (shown stamp (pledge_in o number))) (sym is)
+    ap (λ o. within_limit h book (gate_step o key (λ (k : BookValue). show_pledge stamp (pledge_from 1 k.pledges number)))) is
+    ∙ ap (λ v. within_limit h book (if v then show_pledge stamp (pledge_from 1 at.pledges number) else Refuses No.NoSuchBook)) same
+    ∙ ap (λ o. within_limit h book (show_pledge stamp (pledge_in o number))) (sym is)
 
 -- there is no such pledge
 pub no_pledge : (h : Host) (operator : ℕ) (stamp : Stamp) (book key number day : ℕ) → IsKeyOf h book key → statement_of h book number day ≡ None
     → host_step h operator stamp (show_request book key number) ≡ Refuses No.NoSuchPledge
 no_pledge h operator stamp book key number day with_key none = step_key h operator stamp book key number with_key ∙ from (pledge_at h book number) none
   where
-    from : (o : Option PledgeValue) → option_map (statement_text day) o ≡ None → limited h book (shown stamp o) ≡ Refuses No.NoSuchPledge
+    from : (o : Option PledgeValue) → option_map (statement_text day) o ≡ None → within_limit h book (show_pledge stamp o) ≡ Refuses No.NoSuchPledge
     from None none = refl
     from (Some p) none = cc none
 
@@ -200,9 +200,9 @@ acted_statement start stamp bytes (Bytes v) at book key number day text out read
     from (Some p) there is =
         let request : Request = show_request book key number in
         let step : host_step start.host start.operator stamp request ≡ Says (Shown stamp.day (Some p ∷ [])) =
-        step_key start.host start.operator stamp book key number with_key ∙ ap (λ o. limited start.host book (shown stamp o)) there in
-        let after : stepped start.host start.operator stamp request ≡ start.host = ap (λ (o : Outcome). host_after start.host book o) step in
-        let same : out ≡ held_text stamp.day (Some p ∷ []) =
+        step_key start.host start.operator stamp book key number with_key ∙ ap (λ o. within_limit start.host book (show_pledge stamp o)) there in
+        let after : next_host start.host start.operator stamp request ≡ start.host = ap (λ (o : Outcome). host_after start.host book o) step in
+        let same : out ≡ presented_text stamp.day (Some p ∷ []) =
         sym all ∙ sym (some_same is) ∙ ap (λ (x : ℕ). statement_text x p) day_is ∙ sym (append-nil (statement_text stamp.day p)) in
         acted_said start stamp bytes v.items at request (Shown stamp.day (Some p ∷ [])) read (ap out_of step)
         (tells ∙ ap (reply_text 200 (codes "text/plain; charset=utf-8")) same) (subst at (sym after) stands) (subst IsSound (sym after) sound)
@@ -210,18 +210,20 @@ acted_statement start stamp bytes (Bytes v) at book key number day text out read
 -- the key was another's, or the keeper did not answer
 pub gate_refused : (h : Host) (operator : ℕ) (stamp : Stamp) (book key number : ℕ) (why : Refusal) → Gates (get h.books book) key (Err why)
     → IsUnwell why ⊎ (host_step h operator stamp (show_request book key number) ≡ Refuses why)
-gate_refused h operator stamp book key number why (inl unwell) = inl unwell
-gate_refused h operator stamp book key number why (inr other) =
-    inr (ap (limited h book) (other.1 (λ (k : BookValue). shown stamp (pledge_from 1 k.pledges number))) ∙ ap Refuses (sym other.0))
+gate_refused h operator stamp book key number why refused =
+    elim (refused (λ (k : BookValue). show_pledge stamp (pledge_from 1 k.pledges number))) [
+      | inl unwell ↦ inl unwell
+      | inr is ↦ inr (ap (within_limit h book) is)
+    ]
 
 -- what was written into an empty buffer
 pub all_written : (old new out text : List ℕ) → out ≡ new → new ≡ old ++ text → old ≡ [] → text ≡ out
 all_written old new out text same written empty = sym (same ∙ written ∙ ap (λ (x : List ℕ). x ++ text) empty)
 
 -- a request, by its parts
-pub read_held : (bytes : List ℕ) (request : Request) (asked : BearerRequest) (receipts : List Receipt) → request.caller ≡ Bearer asked → asked ≡ Held receipts → Reads bytes (Ok request)
-    → Reads bytes (Ok (held_request request.book receipts))
-read_held bytes request asked receipts called is read =
+pub read_present : (bytes : List ℕ) (request : Request) (asked : BearerRequest) (receipts : List Receipt) → request.caller ≡ Bearer asked → asked ≡ Present receipts → Reads bytes (Ok request)
+    → Reads bytes (Ok (present_request request.book receipts))
+read_present bytes request asked receipts called is read =
     subst (λ (caller : Caller). Reads bytes (Ok (record { book = request.book; caller = caller }))) (called ∙ ap Bearer is) read
 
 pub read_show : (bytes : List ℕ) (request : Request) (key : ℕ) (asked : BrokerRequest) (number : ℕ) → request.caller ≡ Broker key asked → asked ≡ Show number → Reads bytes (Ok request)

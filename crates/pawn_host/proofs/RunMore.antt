@@ -8,7 +8,7 @@ use Rattle.pawn_book.specs.HostStep.{Host}
 use Rattle.pawn_book.specs.Sound.{IsSound}
 use Rattle.pawn_book.specs.Runs.{marked_said, event_after, event_said}
 use Rattle.pawn_host.specs.declared.service.Answer.{Answer}
-use Rattle.pawn_host.specs.Run.{Item, IsMarked, handed, event_of, said_text, host_after, replies}
+use Rattle.pawn_host.specs.Run.{Item, IsMarked, handed_in, event_of, said_text, host_after, replies}
 use Rattle.pawn_host.specs.Keeps.{Start, from_host, host_by, replies_by, IsActed, IsRun, answer_bytes}
 use Rattle.pawn_host.proofs.SessionLemmas.{host_after-snoc, map-snoc, marked_since}
 
@@ -39,7 +39,7 @@ run_more start given answers at at' stamp bytes reply r a =
     record {
       items = r.items ++ item ∷ [];
       marked = All-append (IsMarked start.Steady) r.items (item ∷ []) r.marked (All-cons (IsMarked start.Steady) item [] a.marked (All-nil (IsMarked start.Steady)));
-      given_is = map-snoc handed r.items item ∙ ap (λ (l : List (Stamp × List ℕ)). l ++ (stamp, bytes) ∷ []) r.given_is;
+      given_is = map-snoc handed_in r.items item ∙ ap (λ (l : List (Stamp × List ℕ)). l ++ (stamp, bytes) ∷ []) r.given_is;
       answers_are = ap (λ (l : List (List ℕ)). l ++ reply ∷ []) r.answers_are ∙ ap (λ (t : List ℕ). replies_by start r.items ++ t ∷ []) a.text ∙ sym (replies-snoc start.host start.operator r.items item);
       stands_for = subst at' (sym (host_after-snoc start.host start.operator r.items item)) a.stands_for;
       sound = subst IsSound (sym (host_after-snoc start.host start.operator r.items item)) a.sound;

@@ -1,12 +1,13 @@
 -- A session so far, and how it ends.
-use Rattle.std.proofs.Common.{◌≡◌, ◌≢◌, ℕ, suc, ◌+◌, ◌<◌, ◌≤◌, true, false, List, [], ◌∷◌, ◌++◌, length, take, drop, map, inl, inr, refl, arith, Option, Some, None, Result, Ok, Err, sym, ◌∙◌, ap, subst, append_assoc, append-nil, length-append, IfSome}
+use Rattle.std.proofs.Common.{◌≡◌, ◌≢◌, ℕ, suc, ◌+◌, ◌<◌, ◌≤◌, true, false, List, [], ◌∷◌, ◌++◌, length, take, drop, map, inl, inr, refl, arith, Option, Some, None, Result, Ok, Err, sym, ◌∙◌, ap, subst, append_assoc, append-nil, length-append, IfSome, Bool}
+use Rattle.std.specs.Prelude.{OnOk, IfErr}
 use Rattle.std.specs.Iterator.{Yields}
 use Rattle.std.proofs.lemmas.List.{take_all}
 use Rattle.std.proofs.Math.Seq.{take-append-add}
 use Rattle.std.proofs.KnownBytes.{Appends-nil, Appends-trans}
 use Rattle.std.specs.Io.KnownBytes.{Keeps, Appends, prepend_known}
 use Rattle.std.proofs.lemmas.List.Elements.{All-append, All-cons, All-nil}
-use Rattle.pawn_host.specs.Split.{at_end, cut, faulted, at_limit, closed, Splits, Begins, IsUnderWay, most_requests}
+use Rattle.pawn_host.specs.Split.{Ending, at_end, cut, faulted, at_limit, closed, Splits, StopsAt, Begins, IsUnderWay, most_requests}
 use Rattle.pawn_pledge.specs.declared.command.Stamp.{Stamp}
 use Rattle.pawn_book.specs.HostStep.{Host}
 use Rattle.pawn_book.specs.Sound.{IsSound}
@@ -18,14 +19,15 @@ use Rattle.pawn_book.proofs.Reading.{on_then}
 use Rattle.pawn_book.specs.Keeping.{Keeping}
 use Rattle.pawn_host.specs.declared.service.Service.{Service}
 use Rattle.pawn_host.specs.Keeps.{Start, from_host, host_by, StaysOpen, IsActed}
-use Rattle.pawn_host.specs.Finding.{Finds}
-use Rattle.pawn_host.specs.Session.{Given, IsServed, IsSession, HasRoom, HadRoom, IsWithinMost, EndsAs, DueAfter, IsFinished, IsLeftBy, IsLeft, AreTaken, acted_of, answer_text, requests_of, stamps_of}
-use Rattle.pawn_wire.specs.declared.fault.HeadFault.{HeadFault}
+use Rattle.pawn_host.specs.Finding.{Finds, FindsRest, StopsBy, IsCausedBy}
+use Rattle.pawn_host.proofs.FindLemmas.{not_by_writer}
+use Rattle.pawn_host.specs.Session.{Given, IsServed, IsSession, HasRoom, HadRoom, IsWithinMost, EndsAs, DueAfter, IsFinished, IsLeftBy, IsLeft, IsOver, AreTaken, acted_of, answer_text, requests_of, stamps_of}
 use Rattle.pawn_wire.specs.declared.fault.WireFault.{WireFault}
 use Rattle.pawn_wire.specs.declared.head.HeadFacts.{HeadFacts}
 use Rattle.pawn_host.specs.declared.session.How.{How}
 use Rattle.pawn_host.specs.declared.session.How.TheVariants.{End, Cut, Closed, Faulted, Limit, NoStamp, Memory}
-use Rattle.pawn_host.specs.declared.session.Found.TheVariants.{Request, AtEnd, CutOff, Faulty}
+use Rattle.pawn_host.specs.declared.session.Rest.{Rest}
+use Rattle.pawn_host.specs.declared.session.Rest.TheVariants.{AtEnd, CutOff, Faulty, NoMemory, Stopped}
 use Rattle.pawn_host.specs.declared.session.Cause.{Cause}
 use Rattle.pawn_host.specs.declared.session.Cause.TheVariants.{Read, Write, Reads}
 use Rattle.pawn_host.specs.declared.session.Ended.{Ended}
@@ -71,11 +73,50 @@ taken_more {steps = steps} {from = from} {to = to} to' x so step = record {
 pub are_taken : {S : Type 0} {steps : S → Option Stamp → S → Type 0} {from to : S} {acted : ℕ} (last : S) (result : Result Ended IoFault) → TakenSoFar steps from to acted → acted ≡ acted_of result → IsLeft steps result to last → AreTaken steps from last result
 are_taken {to = to} last result so count left = record { stamps = so.stamps; to = to; count = so.count ∙ count; taken = so.taken; left = left }
 
--- a last text leaves the stamps as they were
-pub finished_left : {S : Type 0} (steps : S → Option Stamp → S → Type 0) (to : S) (how : How) (acted sent : ℕ) (text : List ℕ) (old new : Option (List ℕ)) (result : Result Ended IoFault) → IsLeftBy steps how to to → IsFinished how acted sent text old new result
-    → (acted ≡ acted_of result) × IsLeft steps result to to
-finished_left steps to how acted sent text old new (Ok ended) left fin = (sym fin.1, subst (λ (h : How). IsLeftBy steps h to to) (sym fin.0) left)
-finished_left steps to how acted sent text old new (Err fault) left fin = (sym fin.3, refl)
+-- what a session that is over left, told by its answer
+pub record Leaves {S : Type 0} (steps : S → Option Stamp → S → Type 0) (to : S) (acted reads : ℕ) (read_failed failed : Bool) (result : Result Ended IoFault) : Type 0 where
+  pub count : acted ≡ acted_of result
+  pub left : IsLeft steps result to to
+  pub room : IsWithinMost result
+  pub whole : OnOk result ((read_failed ≡ false) × (failed ≡ false))
+  pub cause : IfErr result (λ fault. IsCausedBy fault.cause read_failed reads failed)
+
+module _ {S : Type 0} (steps : S → Option Stamp → S → Type 0) (to : S) (acted sent reads : ℕ) (old new : Option (List ℕ)) (read_failed failed : Bool) where
+  finished_leaves : (how : How) (text : List ℕ) (result : Result Ended IoFault) → IsLeftBy steps how to to → HasRoom how acted → acted < 1000 → read_failed ≡ false
+      → IsFinished how acted sent text old new failed result → Leaves steps to acted reads read_failed failed result
+  finished_leaves how text (Ok ended) left room few readable is = record {
+    count = sym is.1;
+    left = subst (λ (h : How). IsLeftBy steps h to to) (sym is.0) left;
+    room = subst (λ (h : How). HasRoom h ended.acted) (sym is.0) (subst (HasRoom how) (sym is.1) room);
+    whole = (readable, is.3);
+    cause = tt;
+  }
+  finished_leaves how text (Err fault) left room few readable is = record {
+    count = sym is.3;
+    left = refl;
+    room = subst (λ (c : Cause). HadRoom c fault.acted) (sym is.2) (omega (arith, is.3, few));
+    whole = tt;
+    cause = subst (λ (c : Cause). IsCausedBy c read_failed reads failed) (sym is.2) is.6;
+  }
+
+  pub over_leaves : (rest : Rest) (result : Result Ended IoFault) → acted < 1000 → StopsBy (Err rest) false read_failed reads → IsOver rest acted sent old new failed result → Leaves steps to acted reads read_failed failed result
+  over_leaves AtEnd result few readable is = finished_leaves End [] result refl few few readable is
+  over_leaves CutOff result few readable is = finished_leaves Cut [] result refl few few readable is
+  over_leaves (Faulty f) result few readable is = finished_leaves Faulted (fault_text (wire_fault f)) result refl few few readable is
+  over_leaves NoMemory result few readable is = finished_leaves Memory memory_text result refl few few readable is
+  over_leaves (Stopped cause) result few by is =
+      subst (Leaves steps to acted reads read_failed failed) (sym is.0) record {
+        count = refl;
+        left = refl;
+        room = room cause (not_by_writer cause read_failed reads by);
+        whole = tt;
+        cause = subst (IsCausedBy cause read_failed reads) (sym is.2) by;
+      }
+    where
+      room : (cause : Cause) → cause ≢ Write → HadRoom cause acted
+      room Read by_reader = few
+      room Reads by_reader = few
+      room Write by_reader = absurd (by_reader refl)
 
 pub map-snoc : {A B : Type 0} (f : A → B) (xs : List A) (x : A) → map f (xs ++ x ∷ []) ≡ map f xs ++ f x ∷ []
 map-snoc f [] x = refl
@@ -170,14 +211,6 @@ module _ {S : Type 0} {steps : S → Option Stamp → S → Type 0} {given : Giv
     ends = ends;
   }
 
-  pub ended_at_end : {to : S} {at : Host → Type 0} {rest new : Option (List ℕ)} {acted sent : ℕ} (so : SoFar steps given to at rest new acted sent)
-      → acted < 1000 → IfSome rest (λ r. Finds r AtEnd) → IsSession steps given to at new (Ok (record { how = End; acted = acted }))
-  ended_at_end {to = to} {rest = rest} {acted = acted} so few first = ended End so to refl (refl, splits_ending given.stream rest (requests_of so.items) at_end so.splits (stops_end rest (length (requests_of so.items)) (few_requests so.items acted so.count few) first))
-
-  pub ended_cut : {to : S} {at : Host → Type 0} {rest new : Option (List ℕ)} {acted sent : ℕ} (so : SoFar steps given to at rest new acted sent)
-      → acted < 1000 → IfSome rest (λ r. Finds r CutOff) → IsSession steps given to at new (Ok (record { how = Cut; acted = acted }))
-  ended_cut {to = to} {rest = rest} {acted = acted} so few first = ended Cut so to refl (refl, splits_ending given.stream rest (requests_of so.items) cut so.splits (stops_cut rest (length (requests_of so.items)) (few_requests so.items acted so.count few) first))
-
   pub ended_limit : {to : S} {at : Host → Type 0} {rest new : Option (List ℕ)} {acted sent : ℕ} (so : SoFar steps given to at rest new acted sent)
       → acted ≡ 1000 → IsSession steps given to at new (Ok (record { how = Limit; acted = 1000 }))
   ended_limit {to} {at} {rest} {new} {acted} {sent} so many =
@@ -185,12 +218,12 @@ module _ {S : Type 0} {steps : S → Option Stamp → S → Type 0} {given : Giv
       (ended Limit so to refl (refl, splits_ending given.stream rest (requests_of so.items) at_limit so.splits (stops_limit rest (length (requests_of so.items)) (omega (arith, so.count, length-map (λ (i : Item). i.bytes) so.items)))))
 
   pub ended_dry : {to u : S} {at : Host → Type 0} {rest new : Option (List ℕ)} {acted sent : ℕ} (head : HeadFacts) (so : SoFar steps given to at rest new acted sent)
-      → acted < 1000 → steps to None u → IfSome rest (λ r. Finds r (Request head)) → IsSession steps given u at new (Ok (record { how = NoStamp; acted = acted }))
+      → acted < 1000 → steps to None u → IfSome rest (λ r. Finds r (Ok head)) → IsSession steps given u at new (Ok (record { how = NoStamp; acted = acted }))
   ended_dry {u = u} {rest = rest} {acted = acted} head so few dry first =
       ended NoStamp so u dry (refl, splits_goes_on given.stream rest (requests_of so.items) head so.splits first (few_requests so.items acted so.count few))
 
   -- broken off by the reader
-  pub broken_off : {to : S} {at : Host → Type 0} {rest new : Option (List ℕ)} {acted sent : ℕ} (cause : Cause) (so : SoFar steps given to at rest new acted sent)
+  broken_off : {to : S} {at : Host → Type 0} {rest new : Option (List ℕ)} {acted sent : ℕ} (cause : Cause) (so : SoFar steps given to at rest new acted sent)
       → acted < 1000 → cause ≢ Write → IsSession steps given to at new (Err (record { cause = cause; acted = acted; sent = sent }))
   broken_off {to} {at} {rest} {new} {acted} {sent} cause so few by_reader =
       let all : length (answer_text given.start so.items ++ []) ≡ sent = ap length (append-nil (answer_text given.start so.items)) ∙ sym so.sent_is in
@@ -215,9 +248,9 @@ module _ {S : Type 0} {steps : S → Option Stamp → S → Type 0} {given : Giv
       due Write by_reader = absurd (by_reader refl)
 
   -- a last text was written, or a part of it
-  pub finished : {to : S} {at : Host → Type 0} {rest new : Option (List ℕ)} {acted sent : ℕ} (new' : Option (List ℕ)) (how : How) (text : List ℕ) (result : Result Ended IoFault) (so : SoFar steps given to at rest new acted sent)
-      → IsLeftBy steps how to to → EndsAs how given.stream (requests_of so.items) text → DueAfter Write given.stream (requests_of so.items) text → IsFinished how acted sent text new new' result → IsSession steps given to at new' result
-  finished {to} {at} {rest} {new} {acted} {sent} new' how text (Ok ended) so stamps ends due fin = record {
+  finished : {to : S} {at : Host → Type 0} {rest new : Option (List ℕ)} {acted sent : ℕ} (new' : Option (List ℕ)) (failed : Bool) (how : How) (text : List ℕ) (result : Result Ended IoFault) (so : SoFar steps given to at rest new acted sent)
+      → IsLeftBy steps how to to → EndsAs how given.stream (requests_of so.items) text → DueAfter Write given.stream (requests_of so.items) text → IsFinished how acted sent text new new' failed result → IsSession steps given to at new' result
+  finished {to} {at} {rest} {new} {acted} {sent} new' failed how text (Ok ended) so stamps ends due fin = record {
     items = so.items;
     to = to;
     last = text;
@@ -227,7 +260,7 @@ module _ {S : Type 0} {steps : S → Option Stamp → S → Type 0} {given : Giv
     wrote = Appends-trans given.written new new' (answer_text given.start so.items) text so.wrote fin.2;
     ends = subst (λ (h : How). EndsAs h given.stream (requests_of so.items) text) (sym fin.0) ends;
   }
-  finished {to} {at} {rest} {new} {acted} {sent} new' how text (Err fault) so stamps ends due fin =
+  finished {to} {at} {rest} {new} {acted} {sent} new' failed how text (Err fault) so stamps ends due fin =
       let n : ℕ = fin.0 in
       let sum : fault.sent ≡ length (answer_text given.start so.items) + n = fin.4 ∙ ap (λ (k : ℕ). k + n) so.sent_is in
       let front : take fault.sent (answer_text given.start so.items ++ text) ≡ answer_text given.start so.items ++ take n text = ap (λ (k : ℕ). take k (answer_text given.start so.items ++ text)) sum ∙ take-append-add (answer_text given.start so.items) text n in
@@ -242,17 +275,37 @@ module _ {S : Type 0} {steps : S → Option Stamp → S → Type 0} {given : Giv
         due = subst (λ (c : Cause). DueAfter c given.stream (requests_of so.items) text) (sym fin.2) due;
       }
 
-  pub finished_faulty : {to : S} {at : Host → Type 0} {rest new : Option (List ℕ)} {acted sent : ℕ} (new' : Option (List ℕ)) (f : HeadFault) (text : List ℕ) (result : Result Ended IoFault) (so : SoFar steps given to at rest new acted sent)
-      → acted < 1000 → text ≡ fault_text (wire_fault f) → IfSome rest (λ r. Finds r (Faulty f)) → IsFinished Faulted acted sent text new new' result → IsSession steps given to at new' result
-  finished_faulty {rest = rest} {acted = acted} new' f text result so few is first fin =
-      let split = splits_ending given.stream rest (requests_of so.items) (faulted f) so.splits (stops_fault rest (length (requests_of so.items)) f (few_requests so.items acted so.count few) first) in
-      finished new' Faulted text result so refl (f, is, split) (inr (inr (f, is, split))) fin
+  -- no further request came
+  pub over : {to : S} {at : Host → Type 0} {rest new : Option (List ℕ)} {acted sent : ℕ} (new' : Option (List ℕ)) (was read_failed failed : Bool) (reads : ℕ) (last : Rest) (result : Result Ended IoFault) (so : SoFar steps given to at rest new acted sent)
+      → acted < 1000 → IfSome rest (λ r. FindsRest r last) → StopsBy (Err last) was read_failed reads → IsOver last acted sent new new' failed result → IsSession steps given to at new' result
+  over {to} {at} {rest} {new} {acted} {sent} new' was read_failed failed reads last result so few first stops is = by last first stops is
+    where
+      requests : List (List ℕ)
+      requests = requests_of so.items
 
-  pub finished_memory : {to : S} {at : Host → Type 0} {rest new : Option (List ℕ)} {acted sent : ℕ} (new' : Option (List ℕ)) (text : List ℕ) (result : Result Ended IoFault) (so : SoFar steps given to at rest new acted sent)
-      → acted < 1000 → text ≡ memory_text → IsFinished Memory acted sent text new new' result → IsSession steps given to at new' result
-  finished_memory {rest = rest} {acted = acted} new' text result so few is fin =
-      let split = splits_under_way given.stream rest (requests_of so.items) so.splits (few_requests so.items acted so.count few) in
-      finished new' Memory text result so refl (is, split) (inr (inl (is, split))) fin
+      fewer : length requests < 1000
+      fewer = few_requests so.items acted so.count few
+
+      under_way : IfSome given.stream (λ x. IsUnderWay x requests)
+      under_way = splits_under_way given.stream rest requests so.splits fewer
+
+      begins : (s : Option (List ℕ)) → IfSome s (λ x. IsUnderWay x requests) → IfSome s (λ x. Begins x requests)
+      begins None x = tt
+      begins (Some s) x = inl (x.0, x.1, omega (arith, x.2))
+
+      ends : (e : Ending) → IfSome rest (λ r. StopsAt e (length requests) r) → IfSome given.stream (λ x. Splits x requests e)
+      ends e stops = splits_ending given.stream rest requests e so.splits stops
+
+      by : (last : Rest) → IfSome rest (λ r. FindsRest r last) → StopsBy (Err last) was read_failed reads → IsOver last acted sent new new' failed result → IsSession steps given to at new' result
+      by AtEnd first stops is = finished new' failed End [] result so refl (refl, ends at_end (stops_end rest (length requests) fewer first)) (inl (refl, begins given.stream under_way)) is
+      by CutOff first stops is = finished new' failed Cut [] result so refl (refl, ends cut (stops_cut rest (length requests) fewer first)) (inl (refl, begins given.stream under_way)) is
+      by (Faulty f) first stops is =
+          let split = ends (faulted f) (stops_fault rest (length requests) f fewer first) in
+          finished new' failed Faulted (fault_text (wire_fault f)) result so refl (f, refl, split) (inr (inr (f, refl, split))) is
+      by NoMemory first stops is = finished new' failed Memory memory_text result so refl (refl, under_way) (inr (inl (refl, under_way))) is
+      by (Stopped cause) first stops is =
+          subst (λ (r : Result Ended IoFault). IsSession steps given to at new' r) (sym is.0)
+          (subst (λ (n : Option (List ℕ)). IsSession steps given to at n (Err (record { cause = cause; acted = acted; sent = sent }))) (sym is.1) (broken_off cause so few (not_by_writer cause read_failed reads stops)))
 
   stepped : {to : S} {at : Host → Type 0} {rest new : Option (List ℕ)} {acted sent : ℕ} (to' : S) (at' : Host → Type 0) (stamp : Stamp) (text bytes : List ℕ) (so : SoFar steps given to at rest new acted sent)
       → steps to (Some stamp) to' → IsActed (from_host given.start (host_by given.start so.items)) stamp bytes text at' → Stepped steps given to' at' acted (answer_text given.start so.items) (requests_of so.items) text bytes
@@ -274,7 +327,7 @@ module _ {S : Type 0} {steps : S → Option Stamp → S → Type 0} {given : Giv
   -- the reply could not be written whole
   pub broken_write : {to : S} {at : Host → Type 0} {rest new : Option (List ℕ)} {acted sent : ℕ} (to' : S) (at' : Host → Type 0) (new' left : Option (List ℕ)) (stamp : Stamp) (head : HeadFacts) (count : ℕ) (text buffer : List ℕ) (so : SoFar steps given to at rest new acted sent)
       → acted < 1000 → steps to (Some stamp) to' → IsActed (from_host given.start (host_by given.start so.items)) stamp (take (head.len + head.body) buffer) text at'
-      → IfSome rest (λ r. Finds r (Request head)) → Keeps rest (prepend_known buffer left) → head.len + head.body ≤ length buffer
+      → IfSome rest (λ r. Finds r (Ok head)) → Keeps rest (prepend_known buffer left) → head.len + head.body ≤ length buffer
       → count < length text → Appends new new' (take count text)
       → IsSession steps given to' at' new' (Err (record { cause = Write; acted = acted + 1; sent = sent + count }))
   broken_write {rest = rest} {new = new} {acted = acted} {sent = sent} to' at' new' left stamp head count text buffer so few step a first kept fits short send =
@@ -297,7 +350,7 @@ module _ {S : Type 0} {steps : S → Option Stamp → S → Type 0} {given : Giv
   -- the reply was written, and the stream is closed
   pub ended_closed : {to : S} {at : Host → Type 0} {rest new : Option (List ℕ)} {acted sent : ℕ} (to' : S) (at' : Host → Type 0) (new' left : Option (List ℕ)) (stamp : Stamp) (head : HeadFacts) (count : ℕ) (text buffer : List ℕ) (so : SoFar steps given to at rest new acted sent)
       → acted < 1000 → steps to (Some stamp) to' → IsActed (from_host given.start (host_by given.start so.items)) stamp (take (head.len + head.body) buffer) text at'
-      → IfSome rest (λ r. Finds r (Request head)) → Keeps rest (prepend_known buffer left) → head.len + head.body ≤ length buffer
+      → IfSome rest (λ r. Finds r (Ok head)) → Keeps rest (prepend_known buffer left) → head.len + head.body ≤ length buffer
       → count ≡ length text → Appends new new' (take count text) → head.closes ≡ true
       → IsSession steps given to' at' new' (Ok (record { how = Closed; acted = acted + 1 }))
   ended_closed {rest = rest} {new = new} {acted = acted} {sent = sent} to' at' new' left stamp head count text buffer so few step a first kept fits full send closes =
@@ -320,7 +373,7 @@ module _ {S : Type 0} {steps : S → Option Stamp → S → Type 0} {given : Giv
   -- the reply was written, and the session goes on
   pub goes_on : {to : S} {at : Host → Type 0} {rest new : Option (List ℕ)} {acted sent : ℕ} (to' : S) (at' : Host → Type 0) (new' left : Option (List ℕ)) (stamp : Stamp) (head : HeadFacts) (count : ℕ) (text buffer buffer' : List ℕ) (so : SoFar steps given to at rest new acted sent)
       → acted < 1000 → steps to (Some stamp) to' → IsActed (from_host given.start (host_by given.start so.items)) stamp (take (head.len + head.body) buffer) text at'
-      → IfSome rest (λ r. Finds r (Request head)) → Keeps rest (prepend_known buffer left) → head.len + head.body ≤ length buffer
+      → IfSome rest (λ r. Finds r (Ok head)) → Keeps rest (prepend_known buffer left) → head.len + head.body ≤ length buffer
       → count ≡ length text → Appends new new' (take count text) → head.closes ≡ false → buffer' ≡ drop (head.len + head.body) buffer
       → SoFar steps given to' at' (prepend_known buffer' left) new' (acted + 1) (sent + count)
   goes_on {rest = rest} {new = new} {acted = acted} {sent = sent} to' at' new' left stamp head count text buffer buffer' so few step a first kept fits full send closes dropped =

@@ -8,8 +8,8 @@ use Rattle.pawn_wire.specs.declared.fault.HeadFault.{HeadFault}
 use Rattle.pawn_wire.specs.declared.head.HeadFacts.{HeadFacts}
 use Rattle.pawn_wire.proofs.StreamLemmas.{whole_front}
 use Rattle.pawn_host.specs.Split.{Ending, at_end, cut, closed, faulted, at_limit, IsRequest, Passes, StopsAt, Splits, Begins, BeginsAndGoesOn, IsUnderWay}
-use Rattle.pawn_host.specs.Finding.{Finds}
-use Rattle.pawn_host.specs.declared.session.Found.TheVariants.{Request, AtEnd, CutOff, Faulty}
+use Rattle.pawn_host.specs.Finding.{Finds, FindsRest}
+use Rattle.pawn_host.specs.declared.session.Rest.TheVariants.{AtEnd, CutOff, Faulty}
 
 -- the stream from its start is these requests and then what is left
 abbrev pub SplitsOn : Option (List ℕ) → Option (List ℕ) → List (List ℕ) → Type 0
@@ -22,7 +22,7 @@ passes-snoc s [] x rest p q = (rest, p, q, refl)
 passes-snoc s (r ∷ rs) x rest p q = (p.0, p.1, p.2, passes-snoc p.0 rs x rest p.3 q)
 
 -- a head and its body stand by themselves
-pub front_request : (s : List ℕ) (f : HeadFacts) (closes : Bool) → f.closes ≡ closes → Finds s (Request f) → IsRequest (take (f.len + f.body) s) closes
+pub front_request : (s : List ℕ) (f : HeadFacts) (closes : Bool) → f.closes ≡ closes → Finds s (Ok f) → IsRequest (take (f.len + f.body) s) closes
 front_request s f closes c x =
     let front : ReadsHead (take (length (print_request x.0) + f.body) s) x.0 (take f.body x.1) = whole_front s x.0 x.1 f.body x.2 in
     let size : length (take f.body x.1) ≡ f.body = length-take f.body x.1 ∙ omega (arith, x.4) in
@@ -42,7 +42,7 @@ pub length_snoc : (requests : List (List ℕ)) (x : List ℕ) → length (reques
 length_snoc requests x = length-append requests (x ∷ []) ∙ (omega arith)
 
 -- a request was taken, and the stream goes on
-pub splits_more : (s rest left : Option (List ℕ)) (requests : List (List ℕ)) (buffer : List ℕ) (f : HeadFacts) → SplitsOn s rest requests → IfSome rest (λ r. Finds r (Request f)) → f.closes ≡ false
+pub splits_more : (s rest left : Option (List ℕ)) (requests : List (List ℕ)) (buffer : List ℕ) (f : HeadFacts) → SplitsOn s rest requests → IfSome rest (λ r. Finds r (Ok f)) → f.closes ≡ false
     → Keeps rest (prepend_known buffer left) → f.len + f.body ≤ length buffer → SplitsOn s (prepend_known (drop (f.len + f.body) buffer) left) (requests ++ take (f.len + f.body) buffer ∷ [])
 splits_more None rest left requests buffer f on first c k fits = tt
 splits_more (Some s) None left requests buffer f on first c k fits = absurd on
@@ -56,7 +56,7 @@ splits_more (Some s) (Some r) (Some l) requests buffer f on first c k fits =
     (subst (λ (x : List ℕ). IsRequest x false) front (front_request r f false c first))
 
 -- a request was taken, and the stream is closed
-pub splits_closed : (s rest left : Option (List ℕ)) (requests : List (List ℕ)) (buffer : List ℕ) (f : HeadFacts) → SplitsOn s rest requests → IfSome rest (λ r. Finds r (Request f)) → f.closes ≡ true
+pub splits_closed : (s rest left : Option (List ℕ)) (requests : List (List ℕ)) (buffer : List ℕ) (f : HeadFacts) → SplitsOn s rest requests → IfSome rest (λ r. Finds r (Ok f)) → f.closes ≡ true
     → Keeps rest (prepend_known buffer left) → f.len + f.body ≤ length buffer → length requests < 1000 → IfSome s (λ x. Splits x (requests ++ take (f.len + f.body) buffer ∷ []) closed)
 splits_closed None rest left requests buffer f on first c k fits few = tt
 splits_closed (Some s) None left requests buffer f on first c k fits few = absurd on
@@ -79,7 +79,7 @@ closed_begins (Some s) requests (inl x) = absurd x.2
 closed_begins (Some s) requests (inr x) = inr x.0
 
 -- the request that was taken is one of the split's
-pub splits_begun : (s rest left : Option (List ℕ)) (requests : List (List ℕ)) (buffer : List ℕ) (f : HeadFacts) → SplitsOn s rest requests → IfSome rest (λ r. Finds r (Request f))
+pub splits_begun : (s rest left : Option (List ℕ)) (requests : List (List ℕ)) (buffer : List ℕ) (f : HeadFacts) → SplitsOn s rest requests → IfSome rest (λ r. Finds r (Ok f))
     → Keeps rest (prepend_known buffer left) → f.len + f.body ≤ length buffer → length requests < 1000 → IfSome s (λ x. Begins x (requests ++ take (f.len + f.body) buffer ∷ []))
 splits_begun s rest left requests buffer f on first k fits few =
     elim f.closes as (λ v. f.closes ≡ v → IfSome s (λ x. Begins x (requests ++ take (f.len + f.body) buffer ∷ []))) [
@@ -87,7 +87,7 @@ splits_begun s rest left requests buffer f on first k fits few =
       | false ↦ λ c. splits_begin s (prepend_known (drop (f.len + f.body) buffer) left) (requests ++ take (f.len + f.body) buffer ∷ []) (splits_more s rest left requests buffer f on first c k fits) (omega (arith, length_snoc requests (take (f.len + f.body) buffer)))
     ] refl
 
-pub splits_goes_on : (s rest : Option (List ℕ)) (requests : List (List ℕ)) (f : HeadFacts) → SplitsOn s rest requests → IfSome rest (λ r. Finds r (Request f)) → length requests < 1000 → IfSome s (λ x. BeginsAndGoesOn x requests)
+pub splits_goes_on : (s rest : Option (List ℕ)) (requests : List (List ℕ)) (f : HeadFacts) → SplitsOn s rest requests → IfSome rest (λ r. Finds r (Ok f)) → length requests < 1000 → IfSome s (λ x. BeginsAndGoesOn x requests)
 splits_goes_on None rest requests f on first few = tt
 splits_goes_on (Some s) None requests f on first few = absurd on
 splits_goes_on (Some s) (Some r) requests f on first few =
@@ -100,15 +100,15 @@ splits_ending (Some s) None requests ending on first = absurd on
 splits_ending (Some s) (Some r) requests ending on first = inl (r, on, first)
 
 -- what was found in the rest ends the split
-pub stops_end : (rest : Option (List ℕ)) (n : ℕ) → n < 1000 → IfSome rest (λ r. Finds r AtEnd) → IfSome rest (λ r. StopsAt at_end n r)
+pub stops_end : (rest : Option (List ℕ)) (n : ℕ) → n < 1000 → IfSome rest (λ r. FindsRest r AtEnd) → IfSome rest (λ r. StopsAt at_end n r)
 stops_end None n few x = tt
 stops_end (Some r) n few x = (few, x)
 
-pub stops_cut : (rest : Option (List ℕ)) (n : ℕ) → n < 1000 → IfSome rest (λ r. Finds r CutOff) → IfSome rest (λ r. StopsAt cut n r)
+pub stops_cut : (rest : Option (List ℕ)) (n : ℕ) → n < 1000 → IfSome rest (λ r. FindsRest r CutOff) → IfSome rest (λ r. StopsAt cut n r)
 stops_cut None n few x = tt
 stops_cut (Some r) n few x = (few, x)
 
-pub stops_fault : (rest : Option (List ℕ)) (n : ℕ) (f : HeadFault) → n < 1000 → IfSome rest (λ r. Finds r (Faulty f)) → IfSome rest (λ r. StopsAt (faulted f) n r)
+pub stops_fault : (rest : Option (List ℕ)) (n : ℕ) (f : HeadFault) → n < 1000 → IfSome rest (λ r. FindsRest r (Faulty f)) → IfSome rest (λ r. StopsAt (faulted f) n r)
 stops_fault None n f few x = tt
 stops_fault (Some r) n f few x = (few, x)
 

@@ -1,5 +1,5 @@
 -- What the functions below a session find.
-use Rattle.std.specs.Prelude.{◌≡◌, ℕ, ◌+◌, ◌<◌, ◌≤◌, Bool, true, false, List, [], ◌∷◌, ◌++◌, length, Option}
+use Rattle.std.specs.Prelude.{◌≡◌, ℕ, ◌+◌, ◌<◌, ◌≤◌, Bool, true, false, List, [], ◌∷◌, ◌++◌, length, Option, Result, Ok, Err, IfOk}
 use Rattle.std.specs.List.{concat}
 use Rattle.std.specs.Io.KnownBytes.{Consumes, Keeps, IsAtEnd}
 use Rattle.httparse.specs.Grammar.{RequestHead}
@@ -8,8 +8,8 @@ use Rattle.pawn_wire.specs.declared.head.HeadFacts.{HeadFacts}
 use Rattle.pawn_host.specs.Split.{IsCut, HasFault, HasNoWhole}
 use Rattle.pawn_host.specs.declared.session.Filled.{Filled}
 use Rattle.pawn_host.specs.declared.session.Filled.TheVariants.{More, Done, Failed, OutOfReads, NoRoom}
-use Rattle.pawn_host.specs.declared.session.Found.{Found}
-use Rattle.pawn_host.specs.declared.session.Found.TheVariants.{Request, AtEnd, CutOff, Faulty, NoMemory, Stopped}
+use Rattle.pawn_host.specs.declared.session.Rest.{Rest}
+use Rattle.pawn_host.specs.declared.session.Rest.TheVariants.{AtEnd, CutOff, Faulty, NoMemory, Stopped}
 use Rattle.pawn_host.specs.declared.session.Cause.{Cause}
 use Rattle.pawn_host.specs.declared.session.Cause.TheVariants.{Read, Write, Reads}
 
@@ -21,32 +21,18 @@ IsFilled Failed a b old new = Keeps a b
 IsFilled OutOfReads a b old new = Keeps a b
 IsFilled NoRoom a b old new = (piece : List ℕ) × Consumes a b piece
 
--- what the stream begins with was found
-abbrev pub Finds : List ℕ → Found → Type 0
-Finds s (Request f) = (h : RequestHead) × (rest : List ℕ) × ReadsHead s h rest × IsHead h f × (f.body ≤ length rest)
-Finds s AtEnd = s ≡ []
-Finds s CutOff = IsCut s
-Finds s (Faulty f) = HasFault s f
-Finds s NoMemory = Unit {0}
-Finds s (Stopped cause) = Unit {0}
-
--- the same, where no request was found
-abbrev pub FindsRest : List ℕ → Found → Type 0
-FindsRest s (Request head) = Unit {0}
-FindsRest s AtEnd = Finds s AtEnd
-FindsRest s CutOff = Finds s CutOff
-FindsRest s (Faulty f) = Finds s (Faulty f)
+-- what is there in place of a request
+abbrev pub FindsRest : List ℕ → Rest → Type 0
+FindsRest s AtEnd = s ≡ []
+FindsRest s CutOff = IsCut s
+FindsRest s (Faulty f) = HasFault s f
 FindsRest s NoMemory = Unit {0}
 FindsRest s (Stopped cause) = Unit {0}
 
--- a request was found
-abbrev pub IfRequest : Found → (HeadFacts → Type 0) → Type 0
-IfRequest (Request head) P = P head
-IfRequest AtEnd P = Unit {0}
-IfRequest CutOff P = Unit {0}
-IfRequest (Faulty f) P = Unit {0}
-IfRequest NoMemory P = Unit {0}
-IfRequest (Stopped cause) P = Unit {0}
+-- what the stream begins with was found
+abbrev pub Finds : List ℕ → Result HeadFacts Rest → Type 0
+Finds s (Ok f) = (h : RequestHead) × (rest : List ℕ) × ReadsHead s h rest × IsHead h f × (f.body ≤ length rest)
+Finds s (Err rest) = FindsRest s rest
 
 -- the buffer begins with a head of these facts
 abbrev pub HasHead : List ℕ → HeadFacts → Type 0
@@ -59,13 +45,13 @@ IsCausedBy Write read_failed reads write_failed = write_failed ≡ true
 IsCausedBy Reads read_failed reads write_failed = reads ≡ 100000
 
 -- no read failed, unless that is what was found
-abbrev pub StopsBy : Found → Bool → Bool → ℕ → Type 0
-StopsBy (Request head) was failed reads = failed ≡ was
-StopsBy AtEnd was failed reads = failed ≡ was
-StopsBy CutOff was failed reads = failed ≡ was
-StopsBy (Faulty f) was failed reads = failed ≡ was
-StopsBy NoMemory was failed reads = failed ≡ was
-StopsBy (Stopped cause) was failed reads = IsCausedBy cause failed reads false
+abbrev pub StopsBy : Result HeadFacts Rest → Bool → Bool → ℕ → Type 0
+StopsBy (Ok head) was failed reads = failed ≡ was
+StopsBy (Err AtEnd) was failed reads = failed ≡ was
+StopsBy (Err CutOff) was failed reads = failed ≡ was
+StopsBy (Err (Faulty f)) was failed reads = failed ≡ was
+StopsBy (Err NoMemory) was failed reads = failed ≡ was
+StopsBy (Err (Stopped cause)) was failed reads = IsCausedBy cause failed reads false
 
 -- how many reads were made, and whether one failed
 abbrev pub FilledBy : Filled → Bool → Bool → ℕ → ℕ → Type 0
@@ -81,9 +67,9 @@ AreMissing buffer [] = Unit {0}
 AreMissing buffer (piece ∷ pieces) = HasNoWhole buffer × AreMissing (buffer ++ piece) pieces
 
 -- what was read while something was looked for
-pub record IsFetched (found : Found) (buffer buffer' : List ℕ) (before after : Option (List ℕ)) (reads reads' : ℕ) : Type 0 where
+pub record IsFetched (found : Result HeadFacts Rest) (buffer buffer' : List ℕ) (before after : Option (List ℕ)) (reads reads' : ℕ) : Type 0 where
   pub pieces : List (List ℕ)
   pub count : reads' ≡ reads + length pieces
   pub missing : AreMissing buffer pieces
   pub gave : Consumes before after (concat pieces)
-  pub grown : IfRequest found (λ head. buffer' ≡ buffer ++ concat pieces)
+  pub grown : IfOk found (λ head. buffer' ≡ buffer ++ concat pieces)

@@ -14,7 +14,7 @@ use Rattle.pawn_wire.specs.declared.fault.WireFault.{WireFault}
 use Rattle.pawn_host.specs.declared.service.Service.{Service}
 use Rattle.pawn_host.specs.declared.service.Answer.{Answer}
 use Rattle.pawn_host.specs.declared.service.Answer.TheVariants.{Bytes, Memory}
-use Rattle.pawn_host.specs.Run.{Item, IsMarkOf, IsMarked, handed, said_text, host_after, replies}
+use Rattle.pawn_host.specs.Run.{Item, IsMarkOf, IsMarked, handed_in, said_text, host_after, replies}
 
 abbrev pub service_keep : {K : Type 0} → Service K → K
 service_keep s = s.keep
@@ -83,7 +83,7 @@ replies_by start items = replies start.host start.operator items
 pub record IsRun (start : Start) (given : List (Stamp × List ℕ)) (answers : List (List ℕ)) (stands : Host → Type 0) : Type 0 where
   pub items : List Item
   pub marked : All (IsMarked start.Steady) items
-  pub given_is : map handed items ≡ given
+  pub given_is : map handed_in items ≡ given
   pub answers_are : answers ≡ replies_by start items
   pub stands_for : stands (host_by start items)
   pub sound : IsSound (host_by start items)

@@ -4,7 +4,7 @@ use Rattle.pawn_pledge.specs.declared.command.Stamp.{Stamp}
 use Rattle.pawn_book.specs.BookStep.{Told, Denied, Shown}
 use Rattle.pawn_book.specs.HostStep.{Host}
 use Rattle.pawn_book.specs.Runs.{Mark, read_as, no_memory, no_store, Event, Said, Answered, Faulted, run_host, run_said}
-use Rattle.pawn_view.specs.Text.{held_text}
+use Rattle.pawn_view.specs.Text.{presented_text}
 use Rattle.pawn_wire.specs.Request.{Reads}
 use Rattle.pawn_wire.specs.Reply.{out_text, reply_text, fault_text}
 use Rattle.pawn_wire.specs.declared.reply.Out.TheVariants as wire
@@ -28,8 +28,8 @@ abbrev pub IsMarked : Type 0 → Item → Type 0
 IsMarked Steady item = IsMarkOf Steady item.bytes item.mark
 
 -- what was handed in with an item
-abbrev pub handed : Item → Stamp × List ℕ
-handed item = (item.stamp, item.bytes)
+abbrev pub handed_in : Item → Stamp × List ℕ
+handed_in item = (item.stamp, item.bytes)
 
 -- what an item is to the books: its bytes no longer count
 abbrev pub event_of : Item → Event WireFault
@@ -42,7 +42,7 @@ events items = map event_of items
 abbrev pub said_text : Said WireFault → List ℕ
 said_text (Answered (Told reply)) = out_text (wire.Done reply)
 said_text (Answered (Denied why)) = out_text (wire.Refused why)
-said_text (Answered (Shown day pledges)) = reply_text 200 (codes "text/plain; charset=utf-8") (held_text day pledges)
+said_text (Answered (Shown day pledges)) = reply_text 200 (codes "text/plain; charset=utf-8") (presented_text day pledges)
 said_text (Faulted fault) = fault_text fault
 
 -- the host after a run

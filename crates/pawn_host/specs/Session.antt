@@ -1,5 +1,5 @@
 -- What a session over a reader and a writer did.
-use Rattle.std.specs.Prelude.{◌≡◌, ◌≢◌, ℕ, ◌+◌, ◌<◌, ◌≤◌, ◌⊎◌, All, List, [], ◌++◌, length, take, map, Option, None, IfSome, Result, Ok, Err}
+use Rattle.std.specs.Prelude.{◌≡◌, ◌≢◌, ℕ, ◌+◌, ◌<◌, ◌≤◌, ◌⊎◌, All, Bool, true, false, IfErr, OnOk, List, [], ◌++◌, length, take, map, Option, None, IfSome, Result, Ok, Err}
 use Rattle.std.specs.List.{concat}
 use Rattle.std.specs.Iterator.{Yields}
 use Rattle.std.specs.Io.KnownBytes.{Appends, Consumes}
@@ -10,7 +10,16 @@ use Rattle.pawn_book.specs.Sound.{IsSound}
 use Rattle.pawn_wire.specs.Fault.{wire_fault}
 use Rattle.pawn_wire.specs.Reply.{memory_text, fault_text}
 use Rattle.pawn_wire.specs.declared.fault.HeadFault.{HeadFault}
-use Rattle.pawn_host.specs.Keeps.{Start, host_by, replies_by}
+use Rattle.pawn_view.specs.Ends.{write_failed, written_of}
+use Rattle.pawn_view.specs.declared.writing.Writing.{Writing}
+use Rattle.pawn_book.specs.Keeping.{Keeping}
+use Rattle.pawn_host.specs.Ends.{reads, read_failed, left_of}
+use Rattle.pawn_host.specs.Finding.{IsCausedBy}
+use Rattle.pawn_host.specs.Keeps.{Start, host_by, replies_by, StaysOpen, Serves}
+use Rattle.pawn_host.specs.declared.reading.Reading.{Reading}
+use Rattle.pawn_host.specs.declared.service.Service.{Service}
+use Rattle.pawn_host.specs.declared.session.Rest.{Rest}
+use Rattle.pawn_host.specs.declared.session.Rest.TheVariants.{AtEnd, CutOff, Faulty, NoMemory, Stopped}
 use Rattle.pawn_host.specs.Run.{Item, IsMarked}
 use Rattle.pawn_host.specs.declared.session.How.{How}
 use Rattle.pawn_host.specs.declared.session.How.TheVariants.{End, Cut, Closed, Faulted, Limit, NoStamp, Memory}
@@ -151,6 +160,38 @@ module _ {S : Type 0} (steps : S → Option Stamp → S → Type 0) (given : Giv
   IsSession stamps stands written (Err fault) = IsBrokenOff stamps stands written fault
 
 -- the last text was written, or a part of it
-abbrev pub IsFinished : How → ℕ → ℕ → List ℕ → Option (List ℕ) → Option (List ℕ) → Result Ended IoFault → Type 0
-IsFinished how acted sent text old new (Ok ended) = (ended.how ≡ how) × (ended.acted ≡ acted) × Appends old new text
-IsFinished how acted sent text old new (Err fault) = (n : ℕ) × (n < length text) × (fault.cause ≡ Write) × (fault.acted ≡ acted) × (fault.sent ≡ sent + n) × Appends old new (take n text)
+abbrev pub IsFinished : How → ℕ → ℕ → List ℕ → Option (List ℕ) → Option (List ℕ) → Bool → Result Ended IoFault → Type 0
+IsFinished how acted sent text old new failed (Ok ended) =
+    (ended.how ≡ how) × (ended.acted ≡ acted) × Appends old new text × (failed ≡ false)
+IsFinished how acted sent text old new failed (Err fault) =
+    (n : ℕ) × (n < length text) × (fault.cause ≡ Write) × (fault.acted ≡ acted) × (fault.sent ≡ sent + n) × Appends old new (take n text) × (failed ≡ true)
+
+-- a session ended to which no further request came
+abbrev pub IsOver : Rest → ℕ → ℕ → Option (List ℕ) → Option (List ℕ) → Bool → Result Ended IoFault → Type 0
+IsOver AtEnd acted sent old new failed result = IsFinished End acted sent [] old new failed result
+IsOver CutOff acted sent old new failed result = IsFinished Cut acted sent [] old new failed result
+IsOver (Faulty f) acted sent old new failed result = IsFinished Faulted acted sent (fault_text (wire_fault f)) old new failed result
+IsOver NoMemory acted sent old new failed result = IsFinished Memory acted sent memory_text old new failed result
+IsOver (Stopped cause) acted sent old new failed result =
+    (result ≡ Err (record { cause = cause; acted = acted; sent = sent })) × (new ≡ old) × (failed ≡ false)
+
+-- a service, the two ends of a stream, and where stamps come from
+pub record Parties (K R W S : Type 0) : Type 0 where
+  pub service : Service K
+  pub reader : Reading R
+  pub writer : Writing W
+  pub stamps : S
+
+-- what a session is to its parties, by what the keeper says of itself, the bytes that are left to read and that were written,
+-- and what the iterator gives
+pub record IsConversation {K R W S : Type 0} (k : Keeping K) (left : R → Option (List ℕ)) (written : W → Option (List ℕ)) (steps : S → Option Stamp → S → Type 0)
+    (old new : Parties K R W S) (result : Result Ended IoFault) : Type 0 where
+  pub stays : StaysOpen k old.service new.service
+  pub session : Serves k old.service new.service (λ start stands. IsSession steps
+      (record { start = start; stamps = old.stamps; stream = left_of left old.reader; written = written_of written old.writer })
+      new.stamps stands (written_of written new.writer) result)
+  pub stamps : AreTaken steps old.stamps new.stamps result
+  pub room : IsWithinMost result
+  pub whole : OnOk result ((read_failed new.reader ≡ false) × (write_failed new.writer ≡ false))
+  pub cause : IfErr result (λ fault. IsCausedBy fault.cause (read_failed new.reader) (reads new.reader) (write_failed new.writer))
+  pub reads : IsRead (reads new.reader) (left_of left old.reader) (left_of left new.reader)

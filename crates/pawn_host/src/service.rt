@@ -1,7 +1,7 @@
 //! The service over a keeper: one request, or a list of them.
 ghost use Rattle.std.specs.Prelude.{◌≡◌, IfOk, OnErr, map};
 ghost use Rattle.pawn_book.specs.declared.request.Caller.TheVariants.{Bearer, Broker};
-ghost use Rattle.pawn_book.specs.declared.request.BearerRequest.TheVariants.{Held};
+ghost use Rattle.pawn_book.specs.declared.request.BearerRequest.TheVariants.{Present};
 ghost use Rattle.pawn_book.specs.declared.request.BrokerRequest.TheVariants.{Show};
 ghost use Rattle.pawn_book.specs.Plans.{IsWritten};
 ghost use Rattle.pawn_wire.specs.Reply.{out_text};
@@ -12,7 +12,7 @@ use pawn_book::{
     BearerRequest, BrokerRequest, Caller, Keep, Number, Receipts, Refusal, Request, Secret, Stamp,
     commit, gate, plan,
 };
-use pawn_view::{ViewFault, Writing, held, statement};
+use pawn_view::{ViewFault, Writing, show_presented, show_statement};
 use pawn_wire::{Out, Router, read_request, write_reply};
 use std::alloc::{AllocError, Global};
 
@@ -33,7 +33,7 @@ pub struct Service<K> {
 }
 
 // The answer that tells this.
-fn told(alloc: Global, out: &Out) -> Answer
+fn tell(alloc: Global, out: &Out) -> Answer
     ensures tells { Tells result (out_text out.now) }
 {
     match write_reply(alloc, out) {
@@ -65,17 +65,14 @@ impl<K: Keep> Service<K> {
     fn show(&mut self, stamp: &Stamp, book: Number, receipts: &Receipts) -> Answer
         ensures stays { StaysOpen K.keeping self.old self.new }
         ensures acted { Serves K.keeping self.old self.new
-            (λ start. Answers start stamp.now (record { book = book; caller = Bearer (Held receipts.now) }) (answer_bytes result)) }
+            (λ start. Answers start stamp.now (record { book = book; caller = Bearer (Present receipts.now) }) (answer_bytes result)) }
     {
         let mut writer = Writing::new(Vec::new(self.alloc));
         let day = stamp.day.day();
-        match held(&mut self.keep, book, receipts.as_slice(), day, &mut writer) {
-            Ok(()) => told(self.alloc, &Out::Plain(writer.into_inner())),
-            Err(ViewFault::NoSuchPledge) => Answer::Memory,
-            Err(ViewFault::NoSuchReceipt) => {
-                told(self.alloc, &Out::Refused(Refusal::NoSuchReceipt))
-            }
-            Err(ViewFault::Store) => told(self.alloc, &Out::Refused(Refusal::Store)),
+        match show_presented(&mut self.keep, book, receipts.as_slice(), day, &mut writer) {
+            Ok(()) => tell(self.alloc, &Out::Plain(writer.into_inner())),
+            Err(ViewFault::Unknown) => { tell(self.alloc, &Out::Refused(Refusal::NoSuchReceipt)) }
+            Err(ViewFault::Store) => tell(self.alloc, &Out::Refused(Refusal::Store)),
             // The text is built in memory, so a failed write is want of it.
             Err(ViewFault::Memory) => Answer::Memory,
             Err(ViewFault::Write) => Answer::Memory,
@@ -89,7 +86,7 @@ impl<K: Keep> Service<K> {
             (λ start. Answers start stamp.now (record { book = book; caller = Broker key (Show number) }) (answer_bytes result)) }
     {
         match gate(&mut self.keep, book, key) {
-            Err(refusal) => return told(self.alloc, &Out::Refused(refusal)),
+            Err(refusal) => return tell(self.alloc, &Out::Refused(refusal)),
             Ok(_) => {}
         }
         self.show_number(stamp, book, key, number)
@@ -103,11 +100,10 @@ impl<K: Keep> Service<K> {
     {
         let mut writer = Writing::new(Vec::new(self.alloc));
         let day = stamp.day.day();
-        match statement(&mut self.keep, book, number, day, &mut writer) {
-            Ok(()) => told(self.alloc, &Out::Plain(writer.into_inner())),
-            Err(ViewFault::NoSuchPledge) => told(self.alloc, &Out::Refused(Refusal::NoSuchPledge)),
-            Err(ViewFault::NoSuchReceipt) => Answer::Memory,
-            Err(ViewFault::Store) => told(self.alloc, &Out::Refused(Refusal::Store)),
+        match show_statement(&mut self.keep, book, number, day, &mut writer) {
+            Ok(()) => tell(self.alloc, &Out::Plain(writer.into_inner())),
+            Err(ViewFault::Unknown) => tell(self.alloc, &Out::Refused(Refusal::NoSuchPledge)),
+            Err(ViewFault::Store) => tell(self.alloc, &Out::Refused(Refusal::Store)),
             // The text is built in memory, so a failed write is want of it.
             Err(ViewFault::Memory) => Answer::Memory,
             Err(ViewFault::Write) => Answer::Memory,
@@ -141,7 +137,7 @@ impl<K: Keep> Service<K> {
         ensures acted { Serves K.keeping self.old self.new (λ start. Answers start stamp.now request.now (answer_bytes result)) }
     {
         match asked {
-            BearerRequest::Held(receipts) => self.show(stamp, request.book, receipts),
+            BearerRequest::Present(receipts) => self.show(stamp, request.book, receipts),
             BearerRequest::OnPledge { .. } => self.act(stamp, request),
         }
     }
@@ -153,12 +149,12 @@ impl<K: Keep> Service<K> {
         ensures acted { Serves K.keeping self.old self.new (λ start. Answers start stamp.now request.now (answer_bytes result)) }
     {
         match plan(self.alloc, &mut self.keep, self.operator, stamp, request) {
-            Err(refusal) => told(self.alloc, &Out::Refused(refusal)),
+            Err(refusal) => tell(self.alloc, &Out::Refused(refusal)),
             Ok(planned) => match write_reply(self.alloc, &Out::Done(planned.reply)) {
                 Err(_) => Answer::Memory,
                 Ok(reply) => match commit(&mut self.keep, &planned) {
                     Ok(()) => Answer::Bytes(reply),
-                    Err(refusal) => told(self.alloc, &Out::Refused(refusal)),
+                    Err(refusal) => tell(self.alloc, &Out::Refused(refusal)),
                 },
             },
         }
@@ -171,7 +167,7 @@ impl<K: Keep> Service<K> {
     {
         let request = match read_request(self.alloc, &self.router, bytes) {
             Ok(request) => request,
-            Err(fault) => return told(self.alloc, &Out::Fault(fault)),
+            Err(fault) => return tell(self.alloc, &Out::Fault(fault)),
         };
         match &request.caller {
             Caller::Operator { .. } => self.act(stamp, &request),

@@ -1,11 +1,11 @@
 //! One connection: requests are read, answered and their replies written, one after the other.
-ghost use Rattle.std.specs.Prelude.{◌≡◌, ◌≢◌, ◌+◌, ◌<◌, ◌≤◌, ◌++◌, [], true, false, length, drop, IfSome, IfErr, OnOk, vec_len, ◌*◌, ◌^◌};
+ghost use Rattle.std.specs.Prelude.{◌≡◌, ◌+◌, ◌≤◌, [], drop, IfSome, IfOk, IfErr, vec_len, ◌*◌, ◌^◌, false};
 ghost use Rattle.std.specs.Io.KnownBytes.{Keeps, prepend_known};
 ghost use Rattle.pawn_view.specs.Ends.{write_failed, written_of};
 ghost use Rattle.pawn_host.specs.Ends.{reads, read_failed, left_of};
-ghost use Rattle.pawn_host.specs.Finding.{IsFilled, Finds, FindsRest, HasHead, IfRequest, IsCausedBy, StopsBy, FilledBy, IsFetched};
-ghost use Rattle.pawn_host.specs.Session.{IsSession, IsFinished, IsRead, IsWithinMost, AreTaken};
-ghost use Rattle.pawn_host.specs.Keeps.{StaysOpen, Serves, answer_bytes};
+ghost use Rattle.pawn_host.specs.Finding.{IsFilled, Finds, FindsRest, HasHead, StopsBy, FilledBy, IsFetched};
+ghost use Rattle.pawn_host.specs.Session.{IsFinished, IsOver, IsConversation};
+ghost use Rattle.pawn_host.specs.Keeps.{answer_bytes};
 
 use crate::reading::{MOST_READS, Reading};
 use crate::service::{Answer, Service};
@@ -69,10 +69,9 @@ enum Filled {
     NoRoom,
 }
 
-// What was found on the stream.
+// What is there in place of a further request.
 #[derive(Clone, Copy)]
-enum Found {
-    Request(HeadFacts),
+enum Rest {
     AtEnd,
     CutOff,
     Faulty(HeadFault),
@@ -102,32 +101,32 @@ fn fill<R: Read>(reader: &mut Reading<R>, buffer: &mut Vec<u8>) -> Filled
 }
 
 // Reads until a whole head is in the buffer.
-fn await_head<R: Read>(reader: &mut Reading<R>, buffer: &mut Vec<u8>) -> Found
-    ensures head { IfRequest result (HasHead buffer.new.items) }
-    ensures small { IfRequest result (λ h. h.len + h.body ≤ 1056768) }
-    ensures kept { IfRequest result (λ _. Keeps (prepend_known buffer.old.items (left_of R.remaining reader.old)) (prepend_known buffer.new.items (left_of R.remaining reader.new))) }
-    ensures rest { IfSome (prepend_known buffer.old.items (left_of R.remaining reader.old)) (λ s. FindsRest s result) }
+fn await_head<R: Read>(reader: &mut Reading<R>, buffer: &mut Vec<u8>) -> Result<HeadFacts, Rest>
+    ensures head { IfOk result (HasHead buffer.new.items) }
+    ensures small { IfOk result (λ h. h.len + h.body ≤ 1056768) }
+    ensures kept { IfOk result (λ _. Keeps (prepend_known buffer.old.items (left_of R.remaining reader.old)) (prepend_known buffer.new.items (left_of R.remaining reader.new))) }
+    ensures rest { IfSome (prepend_known buffer.old.items (left_of R.remaining reader.old)) (λ s. IfErr result (FindsRest s)) }
     ensures stops { StopsBy result (read_failed reader.old) (read_failed reader.new) (reads reader.new) }
     ensures fetched { IsFetched result buffer.old.items buffer.new.items (left_of R.remaining reader.old) (left_of R.remaining reader.new) (reads reader.old) (reads reader.new) }
 {
     loop {
         match read_head(buffer.as_slice()) {
-            HeadRead::Whole(head) => return Found::Request(head),
-            HeadRead::Fault(fault) => return Found::Faulty(fault),
+            HeadRead::Whole(head) => return Ok(head),
+            HeadRead::Fault(fault) => return Err(Rest::Faulty(fault)),
             HeadRead::Partial => (),
         }
         match fill(reader, buffer) {
             Filled::More => (),
             Filled::Done => {
-                return if buffer.is_empty() {
-                    Found::AtEnd
+                return Err(if buffer.is_empty() {
+                    Rest::AtEnd
                 } else {
-                    Found::CutOff
-                };
+                    Rest::CutOff
+                });
             }
-            Filled::Failed => return Found::Stopped(Cause::Read),
-            Filled::OutOfReads => return Found::Stopped(Cause::Reads),
-            Filled::NoRoom => return Found::NoMemory,
+            Filled::Failed => return Err(Rest::Stopped(Cause::Read)),
+            Filled::OutOfReads => return Err(Rest::Stopped(Cause::Reads)),
+            Filled::NoRoom => return Err(Rest::NoMemory),
         }
     }
 }
@@ -141,13 +140,17 @@ fn request_len(head: &HeadFacts) -> usize
 }
 
 // Reads until the request with this head is in the buffer.
-fn await_body<R: Read>(reader: &mut Reading<R>, buffer: &mut Vec<u8>, head: HeadFacts) -> Found
+fn await_body<R: Read>(
+    reader: &mut Reading<R>,
+    buffer: &mut Vec<u8>,
+    head: HeadFacts,
+) -> Result<HeadFacts, Rest>
     requires head { HasHead buffer.old.items head }
     requires small { head.len + head.body ≤ 1056768 }
-    ensures head { IfRequest result (HasHead buffer.new.items) }
-    ensures small { IfRequest result (λ h. h.len + h.body ≤ 1056768) }
-    ensures buffered { IfRequest result (λ h. h.len + h.body ≤ vec_len buffer.new) }
-    ensures kept { IfRequest result (λ _. Keeps (prepend_known buffer.old.items (left_of R.remaining reader.old)) (prepend_known buffer.new.items (left_of R.remaining reader.new))) }
+    ensures head { IfOk result (HasHead buffer.new.items) }
+    ensures small { IfOk result (λ h. h.len + h.body ≤ 1056768) }
+    ensures buffered { IfOk result (λ h. h.len + h.body ≤ vec_len buffer.new) }
+    ensures kept { IfOk result (λ _. Keeps (prepend_known buffer.old.items (left_of R.remaining reader.old)) (prepend_known buffer.new.items (left_of R.remaining reader.new))) }
     ensures found { IfSome (prepend_known buffer.old.items (left_of R.remaining reader.old)) (λ s. Finds s result) }
     ensures stops { StopsBy result (read_failed reader.old) (read_failed reader.new) (reads reader.new) }
     ensures fetched { IsFetched result buffer.old.items buffer.new.items (left_of R.remaining reader.old) (left_of R.remaining reader.new) (reads reader.old) (reads reader.new) }
@@ -156,28 +159,28 @@ fn await_body<R: Read>(reader: &mut Reading<R>, buffer: &mut Vec<u8>, head: Head
     while buffer.len() < needed {
         match fill(reader, buffer) {
             Filled::More => (),
-            Filled::Done => return Found::CutOff,
-            Filled::Failed => return Found::Stopped(Cause::Read),
-            Filled::OutOfReads => return Found::Stopped(Cause::Reads),
-            Filled::NoRoom => return Found::NoMemory,
+            Filled::Done => return Err(Rest::CutOff),
+            Filled::Failed => return Err(Rest::Stopped(Cause::Read)),
+            Filled::OutOfReads => return Err(Rest::Stopped(Cause::Reads)),
+            Filled::NoRoom => return Err(Rest::NoMemory),
         }
     }
-    Found::Request(head)
+    Ok(head)
 }
 
 // Reads until the next request is in the buffer.
-fn next_request<R: Read>(reader: &mut Reading<R>, buffer: &mut Vec<u8>) -> Found
-    ensures head { IfRequest result (HasHead buffer.new.items) }
-    ensures small { IfRequest result (λ h. h.len + h.body ≤ 1056768) }
-    ensures buffered { IfRequest result (λ h. h.len + h.body ≤ vec_len buffer.new) }
-    ensures kept { IfRequest result (λ _. Keeps (prepend_known buffer.old.items (left_of R.remaining reader.old)) (prepend_known buffer.new.items (left_of R.remaining reader.new))) }
+fn next_request<R: Read>(reader: &mut Reading<R>, buffer: &mut Vec<u8>) -> Result<HeadFacts, Rest>
+    ensures head { IfOk result (HasHead buffer.new.items) }
+    ensures small { IfOk result (λ h. h.len + h.body ≤ 1056768) }
+    ensures buffered { IfOk result (λ h. h.len + h.body ≤ vec_len buffer.new) }
+    ensures kept { IfOk result (λ _. Keeps (prepend_known buffer.old.items (left_of R.remaining reader.old)) (prepend_known buffer.new.items (left_of R.remaining reader.new))) }
     ensures found { IfSome (prepend_known buffer.old.items (left_of R.remaining reader.old)) (λ s. Finds s result) }
     ensures stops { StopsBy result (read_failed reader.old) (read_failed reader.new) (reads reader.new) }
     ensures fetched { IsFetched result buffer.old.items buffer.new.items (left_of R.remaining reader.old) (left_of R.remaining reader.new) (reads reader.old) (reads reader.new) }
 {
     match await_head(reader, buffer) {
-        Found::Request(head) => await_body(reader, buffer, head),
-        other => other,
+        Ok(head) => await_body(reader, buffer, head),
+        Err(rest) => Err(rest),
     }
 }
 
@@ -203,7 +206,7 @@ fn answer_slice(answer: &Answer) -> &[u8]
 }
 
 // Writes the last text of a session.
-fn finish<W: Write>(
+fn write_last<W: Write>(
     writer: &mut Writing<W>,
     text: &[u8],
     how: How,
@@ -212,9 +215,7 @@ fn finish<W: Write>(
 ) -> Result<Ended, IoFault>
     requires fine { write_failed writer.old ≡ false }
     requires room { sent ≤ acted * 2 ^ 64 }
-    ensures finished { IsFinished how acted sent text.now (written_of W.contents writer.old) (written_of W.contents writer.new) result }
-    ensures failed { IfErr result (λ fault. write_failed writer.new ≡ true) }
-    ensures whole { OnOk result (write_failed writer.new ≡ false) }
+    ensures finished { IsFinished how acted sent text.now (written_of W.contents writer.old) (written_of W.contents writer.new) (write_failed writer.new) result }
 {
     let count = send(writer, text);
     if count < text.len() {
@@ -225,6 +226,26 @@ fn finish<W: Write>(
         });
     }
     Ok(Ended { how, acted })
+}
+
+// Ends a session to which no further request came.
+fn finish<W: Write>(
+    writer: &mut Writing<W>,
+    rest: Rest,
+    acted: u32,
+    sent: u128,
+) -> Result<Ended, IoFault>
+    requires fine { write_failed writer.old ≡ false }
+    requires room { sent ≤ acted * 2 ^ 64 }
+    ensures over { IsOver rest acted sent (written_of W.contents writer.old) (written_of W.contents writer.new) (write_failed writer.new) result }
+{
+    match rest {
+        Rest::AtEnd => write_last(writer, &[], How::End, acted, sent),
+        Rest::CutOff => write_last(writer, &[], How::Cut, acted, sent),
+        Rest::Faulty(fault) => write_last(writer, fault_reply(fault), How::Faulted, acted, sent),
+        Rest::NoMemory => write_last(writer, memory_reply(), How::Memory, acted, sent),
+        Rest::Stopped(cause) => Err(IoFault { cause, acted, sent }),
+    }
 }
 
 impl<K: Keep> Service<K> {
@@ -243,64 +264,39 @@ impl<K: Keep> Service<K> {
         requires fresh { reads reader.old ≡ 0 }
         requires fine { write_failed writer.old ≡ false }
         requires can { I.can_next stamps.old }
-        ensures stays { StaysOpen K.keeping self.old self.new }
-        ensures session { Serves K.keeping self.old self.new (λ start stands. IsSession I.next_gives
-            (record { start = start; stamps = stamps.old; stream = left_of R.remaining reader.old; written = written_of W.contents writer.old })
-            stamps.new stands (written_of W.contents writer.new) result) }
-        ensures stamps { AreTaken I.next_gives stamps.old stamps.new result }
-        ensures reads { IsRead (reads reader.new) (left_of R.remaining reader.old) (left_of R.remaining reader.new) }
-        ensures room { IsWithinMost result }
-        ensures whole { OnOk result ((read_failed reader.new ≡ false) × (write_failed writer.new ≡ false)) }
-        ensures cause { IfErr result (λ fault. IsCausedBy fault.cause (read_failed reader.new) (reads reader.new) (write_failed writer.new)) }
+        ensures conversation { IsConversation K.keeping R.remaining W.contents I.next_gives
+            (record { service = self.old; reader = reader.old; writer = writer.old; stamps = stamps.old })
+            (record { service = self.new; reader = reader.new; writer = writer.new; stamps = stamps.new }) result }
     {
         let mut buffer = Vec::new(self.alloc);
         let mut sent = 0u128;
         for acted in 0..MOST_REQUESTS {
             let head = match next_request(reader, &mut buffer) {
-                Found::Request(head) => head,
-                Found::AtEnd => return Ok(Ended {
-                    how: How::End,
-                    acted,
-                }),
-                Found::CutOff => return Ok(Ended {
-                    how: How::Cut,
-                    acted,
-                }),
-                Found::Faulty(fault) => {
-                    return finish(writer, fault_reply(fault), How::Faulted, acted, sent);
-                }
-                Found::NoMemory => return finish(writer, memory_reply(), How::Memory, acted, sent),
-                Found::Stopped(cause) => return Err(IoFault { cause, acted, sent }),
+                Ok(head) => head,
+                Err(rest) => return finish(writer, rest, acted, sent),
             };
             let Some(stamp) = stamps.next() else {
-                return Ok(Ended {
-                    how: How::NoStamp,
-                    acted,
-                });
+                let how = How::NoStamp;
+                return Ok(Ended { how, acted });
             };
             let needed = request_len(&head);
             let answer = self.answer_one(&stamp, &buffer[..needed]);
             let text = answer_slice(&answer);
             let count = send(writer, text);
+            let acted = acted + 1;
             sent += count as u128;
             if count < text.len() {
-                return Err(IoFault {
-                    cause: Cause::Write,
-                    acted: acted + 1,
-                    sent,
-                });
+                let cause = Cause::Write;
+                return Err(IoFault { cause, acted, sent });
             }
             if head.closes {
-                return Ok(Ended {
-                    how: How::Closed,
-                    acted: acted + 1,
-                });
+                let how = How::Closed;
+                return Ok(Ended { how, acted });
             }
             drop_front(&mut buffer, needed);
         }
-        Ok(Ended {
-            how: How::Limit,
-            acted: MOST_REQUESTS,
-        })
+        let how = How::Limit;
+        let acted = MOST_REQUESTS;
+        Ok(Ended { how, acted })
     }
 }

@@ -1,37 +1,33 @@
-//! Whole requests and their replies: by `run`, and over streams whose ends are slow or fail.
-ghost use Rattle.std.specs.Prelude.{length};
-ghost use Rattle.std.specs.Iterator.{at_most};
+//! Whole requests and their replies: by `run`, one alone, and over streams whose ends are slow or fail.
 
-mod bookings;
-mod books;
-mod calls;
-mod closings;
-mod debts;
-mod declarations;
 mod ends;
-mod extensions;
-mod rows;
 mod turns;
 
 use crate::reading::Reading;
 use crate::service::{Answer, Service};
 use crate::session::{Cause, Ended, How, IoFault};
-use ends::{Drip, Trickle};
+use ends::{Log, Sink, Source, Stamps};
 use pawn_book::{ListKeep, RequestDay, Secret, Stamp};
 use pawn_view::Writing;
-use rows::*;
 use std::alloc::Global;
 use std::process::Abort;
 use std::test::Fail;
+use turns::{ROWS, turns};
 
-const OPERATOR: u128 = 0x11111111_1111_1111_1111_111111111111;
+const ASKED: &[u8] = b"GET /books/7/held HTTP/1.1\r\nHost: x\r\n\r\n";
 
-// The word of which the receipt of the stored run is made.
-const WORD: u128 = 0xda41597c_5157_488d_7724_e03fb8d84a37;
+const NO_RECEIPT: &[u8] =
+    b"HTTP/1.1 400 Bad Request\r\nContent-Length: 31\r\nContent-Type: application/json\r\n\r\n{\"code\":712,\"name\":\"NoReceipt\"}";
 
-fn service(rt: &impl Abort, alloc: Global, limit: u64) -> Service<ListKeep> {
-    let keep = ListKeep::new(alloc, limit.min(1_000_000));
-    match Service::new(alloc, keep, Secret::of_word(OPERATOR)) {
+const BAD_HEAD: &[u8] =
+    b"HTTP/1.1 400 Bad Request\r\nContent-Length: 29\r\nContent-Type: application/json\r\n\r\n{\"code\":701,\"name\":\"BadHead\"}";
+
+// A request after which its connection closes.
+const CLOSING: &[u8] = b"GET /books/7/held HTTP/1.0\r\n\r\n";
+
+fn service(rt: &impl Abort, alloc: Global) -> Service<ListKeep> {
+    let operator = Secret::of_word(0x11111111_1111_1111_1111_111111111111);
+    match Service::new(alloc, ListKeep::new(alloc, ROWS), operator) {
         Ok(service) => service,
         Err(_) => panic!(rt; "no memory"),
     }
@@ -44,263 +40,107 @@ fn stamp(rt: &impl Abort, day: &str, word: u128) -> Stamp {
     }
 }
 
-// Runs these requests on a day each, and compares their replies.
-fn replies_to(
-    rt: &impl Abort,
-    alloc: Global,
-    limit: u64,
-    asked: &[(&str, &[u8], &[u8])],
-) -> Result<(), Fail> {
-    let mut service = service(rt, alloc, limit);
+// Compares an answer with a reply.
+fn tells(rt: &impl Abort, answer: &Answer, reply: &[u8]) {
+    match answer {
+        Answer::Bytes(bytes) => assert_eq!(rt; bytes.as_slice(), reply),
+        Answer::Memory => panic!(rt; "no memory"),
+    }
+}
+
+#[test]
+fn two_pledges_live_through_every_request(rt: HostRuntime) -> Result<(), Fail> {
+    let alloc = rt.alloc();
+    let turns = turns(&rt, alloc)?;
     let mut items = Vec::new(alloc);
-    for (day, request, _) in asked {
-        items.push((stamp(rt, day, WORD), Vec::from_slice(alloc, request)?))?;
+    for turn in turns.iter() {
+        items.push((turn.stamp, turn.request.clone()?))?;
     }
-    let answers = service.run(items.as_slice())?;
-    assert_eq!(rt; answers.len(), asked.len());
-    for (answer, (_, _, reply)) in answers.iter().zip(asked) {
-        match answer {
-            Answer::Bytes(bytes) => assert_eq!(rt; bytes.as_slice(), *reply),
-            Answer::Memory => panic!(rt; "no memory"),
-        }
+    let answers = service(&rt, alloc).run(items.as_slice())?;
+    assert_eq!(rt; answers.len(), turns.len());
+    for (answer, turn) in answers.iter().zip(turns.as_slice()) {
+        tells(&rt, answer, turn.reply.as_slice());
     }
     Ok(())
 }
 
 #[test]
-fn a_pledge_from_book_to_statement(rt: HostRuntime) -> Result<(), Fail> {
-    let day = "2024-01-31";
-    replies_to(
-        &rt,
-        rt.alloc(),
-        100,
-        &[
-            (day, OPENING, UNKNOWN_BOOK),
-            (day, CREATE, CREATED),
-            (day, OPENING, NO_TERMS),
-            (day, TERMS, TERMS_PUT),
-            (day, VIEW, UNKNOWN),
-            (day, OPENING, OPENED),
-            (day, VIEW, STATEMENT),
-            (day, OPENING, OPENED),
-            (day, OTHER_OPENING, REF_TAKEN),
-            (day, TWICE, SHOWN_TWICE),
-            (day, MIXED, SHOWN_MIXED),
-            (day, NO_RECEIPT, NONE),
-        ],
-    )
+fn a_request_is_answered_alone(rt: HostRuntime) {
+    let stamp = stamp(&rt, "2024-01-31", 1);
+    let answer = service(&rt, rt.alloc()).answer_one(&stamp, ASKED);
+    tells(&rt, &answer, NO_RECEIPT);
 }
 
-#[test]
-fn a_receipt_of_no_use_shows_nothing(rt: HostRuntime) -> Result<(), Fail> {
-    let day = "2024-01-31";
-    replies_to(
-        &rt,
-        rt.alloc(),
-        100,
-        &[
-            (day, CREATE, CREATED),
-            (day, CREATE_8, CREATED_8),
-            (day, TERMS, TERMS_PUT),
-            (day, OPENING, OPENED),
-            (day, OTHER_BOOK, UNKNOWN),
-            (day, NO_BOOK, UNKNOWN),
-            (day, WRONG_SECRET, UNKNOWN),
-        ],
-    )
+// How the ends of a stream behave: whether a call moves one byte alone, and at which call each fails, if at any.
+#[derive(Clone, Copy)]
+struct Behaviour {
+    slow: bool,
+    read_fails: u32,
+    write_fails: u32,
+    takes_nothing: bool,
 }
 
-#[test]
-fn a_period_ends_after_six_months_or_as_agreed(rt: HostRuntime) -> Result<(), Fail> {
-    for (day, shown) in [
-        ("2024-08-31", AUGUST),
-        ("2023-08-30", LEAP),
-        ("2199-12-31", LAST),
-    ] {
-        replies_to(
-            &rt,
-            rt.alloc(),
-            100,
-            &[
-                (day, CREATE, CREATED),
-                (day, TERMS, TERMS_PUT),
-                (day, OPENING, OPENED),
-                (day, VIEW, shown),
-            ],
-        )?;
-    }
-    Ok(())
-}
+const SOUND: Behaviour = Behaviour {
+    slow: false,
+    read_fails: 0,
+    write_fails: 0,
+    takes_nothing: false,
+};
 
-#[test]
-fn passed_property_owes_nothing(rt: HostRuntime) -> Result<(), Fail> {
-    let day = "2024-01-31";
-    replies_to(
-        &rt,
-        rt.alloc(),
-        100,
-        &[
-            (day, CREATE, CREATED),
-            (day, TERMS, TERMS_PUT),
-            (day, SMALL_OPENING, OPENED),
-            ("2024-08-01", VIEW, PASSED),
-        ],
-    )
-}
+const SLOW: Behaviour = Behaviour {
+    slow: true,
+    ..SOUND
+};
 
-#[test]
-fn no_row_is_left_for_an_opening(rt: HostRuntime) -> Result<(), Fail> {
-    let day = "2024-01-31";
-    replies_to(
-        &rt,
-        rt.alloc(),
-        3,
-        &[
-            (day, CREATE, CREATED),
-            (day, TERMS, TERMS_PUT),
-            (day, OPENING, FULL),
-            (day, VIEW, UNKNOWN),
-        ],
-    )?;
-    replies_to(
-        &rt,
-        rt.alloc(),
-        4,
-        &[
-            (day, CREATE, CREATED),
-            (day, TERMS, TERMS_PUT),
-            (day, OPENING, OPENED),
-            (day, CREATE_8, FULL),
-            (day, VIEW, STATEMENT),
-        ],
-    )
-}
-
-// Stamps of one day with these words, in order.
-#[derive(Drop)]
-struct Stamps<'a> {
-    day: RequestDay,
-    words: &'a [u128],
-}
-
-impl Iterator for Stamps<'_> {
-    type Item = Stamp;
-
-    ghost remaining = { λ s. at_most (length s.words.now) };
-
-    fn next(&mut self) -> Option<Stamp> {
-        let [word, rest @ ..] = self.words else {
-            return None;
-        };
-        let word = *word;
-        self.words = rest;
-        Some(Stamp {
-            day: self.day,
-            word,
-        })
-    }
-}
-
-// What came of a stream, and what was written.
+// What came of a stream, what was written, what its reader still holds, and how its ends were called.
 #[derive(Drop)]
 struct Came {
     came: Result<Ended, IoFault>,
     written: Vec<u8>,
+    left: usize,
+    reads: u32,
+    writes: u32,
+    calls: u64,
 }
 
-// Answers a stream with four stamps, over a reader and a writer that fail at these calls.
-fn answered(rt: &impl Abort, alloc: Global, stream: &[u8], reads: u32, writes: u32) -> Came {
-    let words = &[1, 2, WORD, 4];
-    answered_with(rt, alloc, stream, words, reads, writes)
-}
-
-// The same, with a stamp for each of these words.
-fn answered_with(
+// Answers a stream with a stamp for each of these.
+fn answered(
     rt: &impl Abort,
     alloc: Global,
     stream: &[u8],
-    words: &[u128],
-    reads: u32,
-    writes: u32,
+    stamps: &[Stamp],
+    behaviour: Behaviour,
 ) -> Came {
-    let mut service = service(rt, alloc, 100);
-    let mut reader = Reading::new(Trickle {
+    let log = Log::new();
+    let mut source = Source {
         bytes: stream,
-        until_failure: reads,
-    });
-    let mut writer = Writing::new(Drip {
-        taken: Vec::new(alloc),
-        until_failure: writes,
-    });
-    let mut stamps = Stamps {
-        day: stamp(rt, "2024-01-31", 0).day,
-        words,
+        slow: behaviour.slow,
+        fails_at: behaviour.read_fails,
+        calls: 0,
+        log: &log,
     };
-    let came = service.answer_all(&mut reader, &mut writer, &mut stamps);
-    let Drip {
-        taken,
-        until_failure: _,
-    } = writer.into_inner();
+    let mut sink = Sink {
+        taken: Vec::new(alloc),
+        slow: behaviour.slow,
+        fails_at: behaviour.write_fails,
+        takes_nothing: behaviour.takes_nothing,
+        calls: 0,
+        log: &log,
+    };
+    let mut stamps = Stamps { stamps, log: &log };
+    let came = service(rt, alloc).answer_all(
+        &mut Reading::new(&mut source),
+        &mut Writing::new(&mut sink),
+        &mut stamps,
+    );
     Came {
         came,
-        written: taken,
+        written: sink.taken,
+        left: source.bytes.len(),
+        reads: source.calls,
+        writes: sink.calls,
+        calls: log.calls(),
     }
-}
-
-fn ends_as(rt: &impl Abort, alloc: Global, stream: &[u8], how: How, acted: u32, replies: &[u8]) {
-    let Came { came, written } = answered(rt, alloc, stream, 100_000, 100_000);
-    assert_eq!(rt; came, Ok(Ended { how, acted }));
-    assert_eq!(rt; written.as_slice(), replies);
-}
-
-fn joined(alloc: Global, parts: &[&[u8]]) -> Result<Vec<u8>, Fail> {
-    let mut bytes = Vec::new(alloc);
-    for part in parts {
-        bytes.extend_from_slice(part)?;
-    }
-    Ok(bytes)
-}
-
-#[test]
-fn a_session_tells_how_its_stream_ended(rt: HostRuntime) -> Result<(), Fail> {
-    let alloc = rt.alloc();
-    ends_as(&rt, alloc, b"", How::End, 0, b"");
-    let all = joined(alloc, &[CREATE, TERMS, OPENING, VIEW])?;
-    let replies = joined(alloc, &[CREATED, TERMS_PUT, OPENED, STATEMENT])?;
-    ends_as(&rt, alloc, all.as_slice(), How::End, 4, replies.as_slice());
-    let more = joined(alloc, &[CREATE, TERMS, OPENING, VIEW, VIEW])?;
-    ends_as(
-        &rt,
-        alloc,
-        more.as_slice(),
-        How::NoStamp,
-        4,
-        replies.as_slice(),
-    );
-    let cut = joined(alloc, &[CREATE, b"GET /books/7/he"])?;
-    ends_as(&rt, alloc, cut.as_slice(), How::Cut, 1, CREATED);
-    let longer = joined(alloc, &[CREATE, b"}"])?;
-    let faulted = joined(alloc, &[CREATED, BAD_HEAD])?;
-    ends_as(
-        &rt,
-        alloc,
-        longer.as_slice(),
-        How::Faulted,
-        1,
-        faulted.as_slice(),
-    );
-    Ok(())
-}
-
-#[test]
-fn a_request_may_close_its_stream(rt: HostRuntime) -> Result<(), Fail> {
-    let alloc = rt.alloc();
-    let asked = b"GET /books/7/held HTTP/1.1\r\nConnection: CLOSE\r\n\r\n";
-    let closed = joined(alloc, &[asked, CREATE])?;
-    ends_as(&rt, alloc, closed.as_slice(), How::Closed, 1, NONE);
-    let old = joined(alloc, &[b"GET /books/7/held HTTP/1.0\r\n\r\n", CREATE])?;
-    ends_as(&rt, alloc, old.as_slice(), How::Closed, 1, NONE);
-    Ok(())
 }
 
 // These bytes so many times, and others behind them.
@@ -313,82 +153,119 @@ fn repeated(alloc: Global, bytes: &[u8], times: u32, rest: &[u8]) -> Result<Vec<
     Ok(all)
 }
 
-// Answers 999 requests and this rest with 1,000 stamps, and compares how that ends, and the replies.
-fn ends_after_999(
-    rt: &impl Abort,
-    alloc: Global,
-    rest: &[u8],
-    how: How,
-    acted: u32,
-) -> Result<(), Fail> {
-    let stream = repeated(alloc, NO_RECEIPT, 999, rest)?;
-    let words = &[WORD; 1000];
-    let Came { came, written } = answered_with(
-        rt,
-        alloc,
-        stream.as_slice(),
-        words,
-        100_000,
-        200_000,
-    );
-    assert_eq!(rt; came, Ok(Ended { how, acted }));
-    let replies = repeated(alloc, NONE, acted, b"")?;
-    assert!(rt; written.as_slice() == replies.as_slice());
+#[test]
+fn slow_ends_change_no_reply(rt: HostRuntime) -> Result<(), Fail> {
+    let alloc = rt.alloc();
+    let mut stream = Vec::new(alloc);
+    let mut stamps = Vec::new(alloc);
+    let mut replies = Vec::new(alloc);
+    for turn in turns(&rt, alloc)?.iter() {
+        stream.extend_from_slice(turn.request.as_slice())?;
+        stamps.push(turn.stamp)?;
+        replies.extend_from_slice(turn.reply.as_slice())?;
+    }
+    let all = answered(&rt, alloc, stream.as_slice(), stamps.as_slice(), SLOW);
+    let how = How::End;
+    assert_eq!(rt; all.came, Ok(Ended { how, acted: 29 }));
+    assert!(rt; all.written.as_slice() == replies.as_slice());
     Ok(())
 }
 
 #[test]
-fn a_thousand_requests(rt: HostRuntime) -> Result<(), Fail> {
+fn a_session_tells_how_its_stream_ended(rt: HostRuntime) -> Result<(), Fail> {
     let alloc = rt.alloc();
-    let closing = b"GET /books/7/held HTTP/1.0\r\n\r\n";
-    let two = joined(alloc, &[NO_RECEIPT, NO_RECEIPT])?;
-    let faulty = joined(alloc, &[NO_RECEIPT, b"}"])?;
-    let closed = joined(alloc, &[closing, NO_RECEIPT])?;
-    for (rest, how, acted) in [
-        (b"".as_slice(), How::End, 999),
-        (NO_RECEIPT, How::Limit, 1000),
-        (two.as_slice(), How::Limit, 1000),
-        (faulty.as_slice(), How::Limit, 1000),
-        (closed.as_slice(), How::Closed, 1000),
+    let stamps = [stamp(&rt, "2024-01-31", 1); 2];
+    for (requests, rest, how, acted, last) in [
+        (0u32, b"".as_slice(), How::End, 0u32, b"".as_slice()),
+        (2, b"", How::End, 2, b""),
+        (3, b"", How::NoStamp, 2, b""),
+        (1, b"GET /books/7/he", How::Cut, 1, b""),
+        (
+            1,
+            b"POST / HTTP/1.1\r\nContent-Length: 2\r\n\r\n{",
+            How::Cut,
+            1,
+            b"",
+        ),
+        (1, b"}", How::Faulted, 1, BAD_HEAD),
+        (
+            0,
+            b"GET /books/7/held HTTP/1.1\r\nConnection: CLOSE\r\n\r\n}",
+            How::Closed,
+            1,
+            b"",
+        ),
+        (1, CLOSING, How::Closed, 2, b""),
     ] {
-        ends_after_999(&rt, alloc, rest, how, acted)?;
+        let stream = repeated(alloc, ASKED, requests, rest)?;
+        let all = answered(&rt, alloc, stream.as_slice(), &stamps, SOUND);
+        let replies = repeated(alloc, NO_RECEIPT, acted, last)?;
+        assert_eq!(rt; all.came, Ok(Ended { how, acted }));
+        assert_eq!(rt; all.written.as_slice(), replies.as_slice());
     }
     Ok(())
 }
 
-// Compares how a stream was broken off, and what went out of its replies.
-fn breaks_off(rt: &impl Abort, came: &Came, fault: IoFault, replies: &[u8]) {
-    assert_eq!(rt; came.came, Err(fault));
-    assert_eq!(rt; came.written.len() as u128, fault.sent);
-    assert!(rt; replies.starts_with(came.written.as_slice()));
+#[test]
+fn a_thousand_requests_are_answered_and_no_more(rt: HostRuntime) -> Result<(), Fail> {
+    let alloc = rt.alloc();
+    let stamps = [stamp(&rt, "2024-01-31", 1); 1001];
+    for (requests, rest, how, acted) in [
+        (999u32, b"".as_slice(), How::End, 999u32),
+        (999, CLOSING, How::Closed, 1000),
+        (1000, b"", How::Limit, 1000),
+        (1001, b"", How::Limit, 1000),
+        (1000, b"}", How::Limit, 1000),
+    ] {
+        let stream = repeated(alloc, ASKED, requests, rest)?;
+        let all = answered(&rt, alloc, stream.as_slice(), &stamps, SOUND);
+        let replies = repeated(alloc, NO_RECEIPT, acted, b"")?;
+        assert_eq!(rt; all.came, Ok(Ended { how, acted }));
+        assert!(rt; all.written.as_slice() == replies.as_slice());
+    }
+    Ok(())
+}
+
+#[test]
+fn what_comes_behind_the_last_request_stays_with_the_reader(rt: HostRuntime) -> Result<(), Fail> {
+    let alloc = rt.alloc();
+    let stamps = [stamp(&rt, "2024-01-31", 1); 1000];
+    for (requests, last, reads) in [
+        (1u32, CLOSING, 1usize),
+        (1, b"} / HTTP/1.1\r\n\r\n", 1),
+        (1000, b"", 5),
+    ] {
+        let mut stream = repeated(alloc, ASKED, requests, last)?;
+        stream.extend_from_slice(&[b'x'; 110_000])?;
+        let all = answered(&rt, alloc, stream.as_slice(), &stamps, SOUND);
+        assert_eq!(rt; all.left, stream.len().saturating_sub(reads * 8192));
+    }
+    Ok(())
+}
+
+#[test]
+fn a_stamp_then_a_reply_then_the_next_read(rt: HostRuntime) -> Result<(), Fail> {
+    let stream = repeated(rt.alloc(), ASKED, 2, b"")?;
+    let stamps = [stamp(&rt, "2024-01-31", 1); 2];
+    let all = answered(&rt, rt.alloc(), stream.as_slice(), &stamps, SLOW);
+    assert_eq!(rt; all.calls, 0x0123_1231);
+    Ok(())
 }
 
 #[test]
 fn a_session_breaks_off_at_the_read_that_fails(rt: HostRuntime) -> Result<(), Fail> {
     let alloc = rt.alloc();
-    let stream = joined(alloc, &[CREATE, VIEW])?;
-    let replies = joined(alloc, &[CREATED, UNKNOWN])?;
-    for reads in 0..300u32 {
-        let count = reads as usize;
-        if count > stream.len() {
-            break;
-        }
-        let came = answered(&rt, alloc, stream.as_slice(), reads, 100_000);
-        let (acted, sent) = if count < CREATE.len() {
-            (0, 0)
-        } else if count < stream.len() {
-            (1, CREATED.len())
-        } else {
-            (2, replies.len())
-        };
+    let stamps = [stamp(&rt, "2024-01-31", 1); 3];
+    let stream = repeated(alloc, ASKED, 2, b"")?;
+    for read_fails in 1..80u32 {
+        let behaviour = Behaviour { read_fails, ..SLOW };
+        let all = answered(&rt, alloc, stream.as_slice(), &stamps, behaviour);
+        let acted = (read_fails - 1) / ASKED.len() as u32;
+        let sent = u128::from(acted) * NO_RECEIPT.len() as u128;
         let cause = Cause::Read;
-        let sent = sent as u128;
-        breaks_off(
-            &rt,
-            &came,
-            IoFault { cause, acted, sent },
-            replies.as_slice(),
-        );
+        assert_eq!(rt; all.came, Err(IoFault { cause, acted, sent }));
+        assert_eq!(rt; all.reads, read_fails);
+        assert_eq!(rt; all.written.len() as u128, sent);
     }
     Ok(())
 }
@@ -396,23 +273,23 @@ fn a_session_breaks_off_at_the_read_that_fails(rt: HostRuntime) -> Result<(), Fa
 #[test]
 fn a_session_breaks_off_at_the_write_that_fails(rt: HostRuntime) -> Result<(), Fail> {
     let alloc = rt.alloc();
-    let stream = joined(alloc, &[CREATE, VIEW])?;
-    let replies = joined(alloc, &[CREATED, UNKNOWN])?;
-    for writes in 0..300u32 {
-        let count = writes as usize;
-        if count >= replies.len() {
-            break;
+    let stamps = [stamp(&rt, "2024-01-31", 1); 3];
+    let stream = repeated(alloc, ASKED, 2, b"")?;
+    for write_fails in 1..223u32 {
+        for takes_nothing in [false, true] {
+            let behaviour = Behaviour {
+                write_fails,
+                takes_nothing,
+                ..SLOW
+            };
+            let all = answered(&rt, alloc, stream.as_slice(), &stamps, behaviour);
+            let sent = u128::from(write_fails - 1);
+            let acted = (write_fails - 1) / NO_RECEIPT.len() as u32 + 1;
+            let cause = Cause::Write;
+            assert_eq!(rt; all.came, Err(IoFault { cause, acted, sent }));
+            assert_eq!(rt; all.writes, write_fails);
+            assert_eq!(rt; all.written.len() as u128, sent);
         }
-        let came = answered(&rt, alloc, stream.as_slice(), 100_000, writes);
-        let acted = if count < CREATED.len() { 1 } else { 2 };
-        let cause = Cause::Write;
-        let sent = u128::from(writes);
-        breaks_off(
-            &rt,
-            &came,
-            IoFault { cause, acted, sent },
-            replies.as_slice(),
-        );
     }
     Ok(())
 }
@@ -420,22 +297,13 @@ fn a_session_breaks_off_at_the_write_that_fails(rt: HostRuntime) -> Result<(), F
 #[test]
 fn a_session_breaks_off_after_a_hundred_thousand_reads(rt: HostRuntime) -> Result<(), Fail> {
     let alloc = rt.alloc();
-    let mut stream = Vec::from_slice(
-        alloc,
-        b"POST /books/7 HTTP/1.1\r\nContent-Length: 100000\r\n\r\n",
-    )?;
-    for _ in 0..100_000 {
-        stream.push(b' ')?;
-    }
-    let Came { came, written } = answered(&rt, alloc, stream.as_slice(), 200_000, 0);
-    assert_eq!(rt;
-        came,
-        Err(IoFault {
-            cause: Cause::Reads,
-            acted: 0,
-            sent: 0,
-        })
-    );
-    assert_eq!(rt; written.len(), 0);
+    let head = b"POST /books/7 HTTP/1.1\r\nContent-Length: 100000\r\n\r\n";
+    let mut stream = Vec::from_slice(alloc, head)?;
+    stream.extend_from_slice(&[b' '; 100_000])?;
+    let all = answered(&rt, alloc, stream.as_slice(), &[], SLOW);
+    let cause = Cause::Reads;
+    let (acted, sent) = (0, 0);
+    assert_eq!(rt; all.came, Err(IoFault { cause, acted, sent }));
+    assert_eq!(rt; all.reads, 100_000);
     Ok(())
 }

@@ -19,10 +19,10 @@ use Rattle.pawn_pledge.specs.Secret.{secret_of_text}
 use Rattle.pawn_pledge.specs.Receipt.{IsReceiptText}
 use Rattle.pawn_pledge.specs.declared.receipt.Receipt.{Receipt}
 use Rattle.pawn_book.specs.Limits.{AreFew}
-use Rattle.pawn_wire.specs.Chain.{given, Says}
+use Rattle.pawn_wire.specs.Chain.{and_then, Says}
 use Rattle.pawn_wire.specs.Fields.{values_of, value_under}
 use Rattle.pawn_wire.specs.Named.{number_said}
-use Rattle.pawn_wire.specs.Receipts.{is_hyphen, receipt_said, all_said, presented, receipts_said}
+use Rattle.pawn_wire.specs.Receipts.{is_hyphen, receipt_said, all_said, receipt_values, receipts_said}
 use Rattle.pawn_wire.specs.declared.fault.WireFault.{WireFault}
 use Rattle.pawn_wire.specs.declared.fault.WireFault.TheVariants.{BadReceipt}
 use Rattle.pawn_wire.proofs.FieldLemmas.{values_hit, values_other}
@@ -68,7 +68,7 @@ after_hyphen front rest h = ap (λ (n : ℕ). drop (n + 1) (front ++ 45 ∷ rest
 
 abbrev receipt_parts : Option ℕ → Option ℕ → Option Receipt
 receipt_parts number secret =
-    given number (λ n. option_map (λ s. record { number = n; secret = s }) secret)
+    and_then number (λ n. option_map (λ s. record { number = n; secret = s }) secret)
 
 -- a text of a receipt says it
 pub receipt_said-some : (text : List ℕ) (r : Receipt) → IsReceiptText text r → receipt_said text ≡ Some r
@@ -135,8 +135,8 @@ all_said-push (v ∷ vs) value receipts receipt all one =
     by_first (receipt_said v) (all_said vs) (λ rs e. all_said-push vs value rs receipt e one) refl all
   where
     by_first : (p : Option Receipt) (o : Option (List Receipt)) → ((rs : List Receipt) → all_said vs ≡ Some rs → all_said (vs ++ value ∷ []) ≡ Some (rs ++ receipt ∷ []))
-        → all_said vs ≡ o → given p (λ r. option_map (λ rs. r ∷ rs) o) ≡ Some receipts
-        → given p (λ r. option_map (λ rs. r ∷ rs) (all_said (vs ++ value ∷ []))) ≡ Some (receipts ++ receipt ∷ [])
+        → all_said vs ≡ o → and_then p (λ r. option_map (λ rs. r ∷ rs) o) ≡ Some receipts
+        → and_then p (λ r. option_map (λ rs. r ∷ rs) (all_said (vs ++ value ∷ []))) ≡ Some (receipts ++ receipt ∷ [])
     by_first None o ih e same = absurd cc
     by_first (Some p) None ih e same = absurd cc
     by_first (Some p) (Some rs) ih e same =
@@ -148,7 +148,7 @@ pub all_said-bad : (values : List (List ℕ)) (value : List ℕ) (more : List (L
 all_said-bad [] value more bad = rw bad refl
 all_said-bad (v ∷ vs) value more bad = rw (all_said-bad vs value more bad) (none (receipt_said v))
   where
-    none : (p : Option Receipt) → given p (λ r. option_map (λ rs. r ∷ rs) None) ≡ None
+    none : (p : Option Receipt) → and_then p (λ r. option_map (λ rs. r ∷ rs) None) ≡ None
     none None = refl
     none (Some r) = refl
 
@@ -157,7 +157,7 @@ pub all_said-length : (values : List (List ℕ)) (receipts : List Receipt) → a
 all_said-length [] receipts all = (let none : [] ≡ receipts = cc in ap length (sym none))
 all_said-length (v ∷ vs) receipts all = by_first (receipt_said v) (all_said vs) (all_said-length vs) refl all
   where
-    by_first : (p : Option Receipt) (o : Option (List Receipt)) → ((rs : List Receipt) → all_said vs ≡ Some rs → length rs ≡ length vs) → all_said vs ≡ o → given p (λ r. option_map (λ rs. r ∷ rs) o) ≡ Some receipts → length receipts ≡ length (v ∷ vs)
+    by_first : (p : Option Receipt) (o : Option (List Receipt)) → ((rs : List Receipt) → all_said vs ≡ Some rs → length rs ≡ length vs) → all_said vs ≡ o → and_then p (λ r. option_map (λ rs. r ∷ rs) o) ≡ Some receipts → length receipts ≡ length (v ∷ vs)
     by_first None o ih e same = absurd cc
     by_first (Some p) None ih e same = absurd cc
     by_first (Some p) (Some rs) ih e same =
@@ -177,25 +177,25 @@ values_of-rest name bytes fs k =
 
 module _ (bytes : List ℕ) (fs : List HeaderSpan) (i : ℕ) (d : HeaderSpan) (fits : i < length fs) where
   pub collect_hit : (items : List Receipt) (receipt : Receipt) → str_eq_ignore_ascii_case (header_bytes bytes (get_or fs i d)).0 (codes "pledge-receipt") ≡ true
-      → all_said (presented (map (header_bytes bytes) (take i fs))) ≡ Some items
+      → all_said (receipt_values (map (header_bytes bytes) (take i fs))) ≡ Some items
       → receipt_said (header_bytes bytes (get_or fs i d)).1 ≡ Some receipt
-      → all_said (presented (map (header_bytes bytes) (take (i + 1) fs))) ≡ Some (items ++ receipt ∷ [])
+      → all_said (receipt_values (map (header_bytes bytes) (take (i + 1) fs))) ≡ Some (items ++ receipt ∷ [])
   collect_hit items receipt e all one =
       ap all_said (values_hit (codes "pledge-receipt") bytes fs i d fits e)
-      ∙ all_said-push (presented (map (header_bytes bytes) (take i fs))) (header_bytes bytes (get_or fs i d)).1 items receipt all one
+      ∙ all_said-push (receipt_values (map (header_bytes bytes) (take i fs))) (header_bytes bytes (get_or fs i d)).1 items receipt all one
 
   pub collect_other : (items : List Receipt) → str_eq_ignore_ascii_case (header_bytes bytes (get_or fs i d)).0 (codes "pledge-receipt") ≡ false
-      → all_said (presented (map (header_bytes bytes) (take i fs))) ≡ Some items
-      → all_said (presented (map (header_bytes bytes) (take (i + 1) fs))) ≡ Some items
+      → all_said (receipt_values (map (header_bytes bytes) (take i fs))) ≡ Some items
+      → all_said (receipt_values (map (header_bytes bytes) (take (i + 1) fs))) ≡ Some items
   collect_other items e all = ap all_said (values_other (codes "pledge-receipt") bytes fs i d fits e) ∙ all
 
   pub collect_bad : str_eq_ignore_ascii_case (header_bytes bytes (get_or fs i d)).0 (codes "pledge-receipt") ≡ true
       → receipt_said (header_bytes bytes (get_or fs i d)).1 ≡ None
-      → all_said (presented (map (header_bytes bytes) fs)) ≡ None
+      → all_said (receipt_values (map (header_bytes bytes) fs)) ≡ None
   collect_bad e bad =
-      let front = presented (map (header_bytes bytes) (take i fs)) in
+      let front = receipt_values (map (header_bytes bytes) (take i fs)) in
       let value = (header_bytes bytes (get_or fs i d)).1 in
-      let others = presented (map (header_bytes bytes) (drop (i + 1) fs)) in
+      let others = receipt_values (map (header_bytes bytes) (drop (i + 1) fs)) in
       ap all_said
       (values_of-rest (codes "pledge-receipt") bytes fs (i + 1)
       ∙ ap (λ (l : List (List ℕ)). l ++ others) (values_hit (codes "pledge-receipt") bytes fs i d fits e)

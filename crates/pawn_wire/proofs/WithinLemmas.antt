@@ -23,23 +23,24 @@ use Rattle.pawn_book.specs.declared.request.Caller.TheVariants.{Operator, Broker
 use Rattle.pawn_book.specs.declared.request.BrokerRequest.TheVariants as broker
 use Rattle.pawn_book.specs.declared.request.BearerRequest.TheVariants as bearer
 use Rattle.pawn_wire.specs.Body.{new_book_of, new_terms_of, opening_of, kind_of, day_or_null, day_if_any, optional_day_at}
-use Rattle.pawn_wire.specs.Chain.{after, given, or_fault}
+use Rattle.pawn_wire.specs.Chain.{after, and_then, or_fault}
 use Rattle.pawn_wire.specs.Commands.{entry_of, paper_of, decision_of, booking_of, command_said}
 use Rattle.pawn_wire.specs.Fields.{Pair}
 use Rattle.pawn_wire.specs.Head.{fields_of}
 use Rattle.pawn_wire.specs.Laws.{IsShort, IsCommandWithin, IsCallerWithin}
-use Rattle.pawn_wire.specs.Limits.{max_number, most_receipts}
+use Rattle.pawn_wire.specs.Limits.{max_number}
+use Rattle.pawn_book.specs.Limits.{most_receipts}
 use Rattle.pawn_wire.specs.Member.{json_of, in_range, number_at, string_at, flag_at, if_text, text_at, key_at, day_at, body_said}
 use Rattle.pawn_wire.specs.Named.{number_said, day_said}
-use Rattle.pawn_wire.specs.Receipts.{is_hyphen, receipt_said, all_said, presented, receipt_faults, receipts_said, one_said}
-use Rattle.pawn_wire.specs.Request.{framing_faults, place_of, place_asked, item_said, is_ascii_text, keyed, if_sent_by, caller_said, request_by, Reads}
+use Rattle.pawn_wire.specs.Receipts.{is_hyphen, receipt_said, all_said, receipt_values, receipt_faults, receipts_said, one_said}
+use Rattle.pawn_wire.specs.Request.{framing_faults, place_of, place_asked, item_said, is_ascii_text, key_given, if_sent_by, caller_said, request_by, Reads}
 use Rattle.pawn_wire.specs.Route.{AskedFor, asked_of, method_of}
 use Rattle.pawn_wire.specs.declared.commands.NewEntry.{NewEntry}
 use Rattle.pawn_wire.specs.declared.fault.WireFault.{WireFault}
 use Rattle.pawn_wire.specs.declared.fault.WireFault.TheVariants.{NoRoute, WrongMethod, BadBody, BadReceipt, TooManyReceipts, NoReceipt}
 use Rattle.pawn_wire.specs.declared.request.Place.{Place}
 use Rattle.pawn_wire.specs.declared.route.Endpoint.{Endpoint}
-use Rattle.pawn_wire.specs.declared.route.Endpoint.TheVariants.{Create, PutTerms, TakePledge, Show, OnPledge, Held, OnReceipt}
+use Rattle.pawn_wire.specs.declared.route.Endpoint.TheVariants.{Create, PutTerms, TakePledge, Show, OnPledge, Present, OnReceipt}
 use Rattle.pawn_wire.specs.declared.route.Action.{Action}
 use Rattle.pawn_wire.specs.declared.route.Action.TheVariants.{Draw, Repay, Hold, Release, Declare, Ask, Cancel, Decide, Redeem, Sell, Extend}
 use Rattle.pawn_wire.proofs.NamedLemmas.{number_said-is, day_said-is}
@@ -51,7 +52,7 @@ after_ok : {A B : Type 0} (x : Result A WireFault) (next : A → Result B WireFa
 after_ok (Ok a) next b e = (a, refl, e)
 after_ok (Err fault) next b e = absurd cc
 
-given_some : {A B : Type 0} (x : Option A) (next : A → Option B) (b : B) → given x next ≡ Some b → (a : A) × (x ≡ Some a) × (next a ≡ Some b)
+given_some : {A B : Type 0} (x : Option A) (next : A → Option B) (b : B) → and_then x next ≡ Some b → (a : A) × (x ≡ Some a) × (next a ≡ Some b)
 given_some None next b e = absurd cc
 given_some (Some a) next b e = (a, refl, e)
 
@@ -93,9 +94,9 @@ day_within : (text : List ℕ) (day : ℕ) → day_said text ≡ Some day → Is
 day_within text day e = (day_said-is day text e).0
 
 some_day : (member : Data) (agreed : Option ℕ) → day_or_null member ≡ Some agreed → IfSome agreed IsStampDay
-some_day member agreed e = by_null (is_some (as_null member)) (given (as_str member) day_said) refl e
+some_day member agreed e = by_null (is_some (as_null member)) (and_then (as_str member) day_said) refl e
   where
-    by_null : (null : Bool) (said : Option ℕ) → given (as_str member) day_said ≡ said → (if null then Some None else option_map Some said) ≡ Some agreed → IfSome agreed IsStampDay
+    by_null : (null : Bool) (said : Option ℕ) → and_then (as_str member) day_said ≡ said → (if null then Some None else option_map Some said) ≡ Some agreed → IfSome agreed IsStampDay
     by_null true said is same = (let k : None ≡ agreed = cc in subst (λ (o : Option ℕ). IfSome o IsStampDay) k tt)
     by_null false None is same = absurd cc
     by_null false (Some day) is same =
@@ -111,7 +112,7 @@ agreed_within (Some member) agreed e = some_day member agreed e
 
 new_book_within : (d : Data) (new : NewBook) → new_book_of d ≡ Some new → IsText 60 new.name × IsCapacity new.capacity
 new_book_within d new e =
-    let capacity = given_some (given (number_at (codes "capacity") d) (in_range 1 1000)) _ new e in
+    let capacity = given_some (and_then (number_at (codes "capacity") d) (in_range 1 1000)) _ new e in
     let bookings = given_some (number_at (codes "capacity") d) (in_range 1 1000) capacity.0 capacity.1 in
     let key = given_some (key_at (codes "key") d) _ new capacity.2 in
     let name = given_some (text_at 60 (codes "name") d) _ new key.2 in
@@ -210,7 +211,7 @@ receipt_within text receipt e =
 
 one_within : (values : List (List ℕ)) (receipt : Receipt) → one_said values ≡ Ok receipt → IsNumber receipt.number
 one_within values receipt e =
-    let one = or_fault_ok BadReceipt (given (slice_get values 0) receipt_said) receipt (first_ok (receipt_faults 1 values) (or_fault BadReceipt (given (slice_get values 0) receipt_said)) receipt e) in
+    let one = or_fault_ok BadReceipt (and_then (slice_get values 0) receipt_said) receipt (first_ok (receipt_faults 1 values) (or_fault BadReceipt (and_then (slice_get values 0) receipt_said)) receipt e) in
     let value = given_some (slice_get values 0) receipt_said receipt one in
     receipt_within value.0 receipt value.2
 
@@ -226,37 +227,37 @@ sent_is may command sent e = by_test (may command) e
 caller_within : (endpoint : Endpoint) (item : Option ℕ) (fields : List Pair) (body : List ℕ) (caller : Caller) → IfSome item IsNumber
     → caller_said endpoint item fields body ≡ Ok caller → IsCallerWithin caller
 caller_within Create item fields body caller numbered e =
-    let key = after_ok (keyed fields) _ caller e in
+    let key = after_ok (key_given fields) _ caller e in
     mapped IsCallerWithin (Operator key.0) (body_said new_book_of body) caller (or_fault_ok BadBody _ caller key.2)
     (λ new is. of_body (λ (b : NewBook). IsText 60 b.name × IsCapacity b.capacity) new_book_of body new is (λ d. new_book_within d new))
 caller_within PutTerms item fields body caller numbered e =
-    let key = after_ok (keyed fields) _ caller e in
+    let key = after_ok (key_given fields) _ caller e in
     mapped IsCallerWithin (λ terms. Broker key.0 (broker.PutTerms terms)) (body_said new_terms_of body) caller (or_fault_ok BadBody _ caller key.2) (λ terms is. tt)
 caller_within TakePledge item fields body caller numbered e =
-    let key = after_ok (keyed fields) _ caller e in
+    let key = after_ok (key_given fields) _ caller e in
     mapped IsCallerWithin (λ opening. Broker key.0 (broker.TakePledge opening)) (body_said opening_of body) caller (or_fault_ok BadBody _ caller key.2)
     (λ opening is. of_body IsOpening opening_of body opening is (λ d. opening_within d opening))
 caller_within Show item fields body caller numbered e =
-    let key = after_ok (keyed fields) _ caller e in
+    let key = after_ok (key_given fields) _ caller e in
     mapped IsCallerWithin (λ number. Broker key.0 (broker.Show number)) item caller (or_fault_ok BadBody _ caller key.2)
     (λ number is. subst (λ (o : Option ℕ). IfSome o IsNumber) is numbered)
 caller_within (OnPledge action) item fields body caller numbered e =
-    let key = after_ok (keyed fields) _ caller e in
+    let key = after_ok (key_given fields) _ caller e in
     let number = given_some item _ caller (or_fault_ok BadBody _ caller key.2) in
-    mapped IsCallerWithin (λ command. Broker key.0 (broker.OnPledge number.0 command)) (given (command_said action body) (if_sent_by is_brokers)) caller number.2
+    mapped IsCallerWithin (λ command. Broker key.0 (broker.OnPledge number.0 command)) (and_then (command_said action body) (if_sent_by is_brokers)) caller number.2
     (λ command is.
     let said = given_some (command_said action body) (if_sent_by is_brokers) command is in
     (subst (λ (o : Option ℕ). IfSome o IsNumber) number.1 numbered, subst IsCommandWithin (sent_is is_brokers said.0 command said.2) (command_within action body said.0 said.1)))
-caller_within Held item fields body caller numbered e =
-    let receipts = after_ok (receipts_said (presented fields)) _ caller e in
-    let same : Bearer (bearer.Held receipts.0) ≡ caller = cc (receipts.2) in
-    subst IsCallerWithin same (few_within (presented fields) receipts.0 receipts.1)
+caller_within Present item fields body caller numbered e =
+    let receipts = after_ok (receipts_said (receipt_values fields)) _ caller e in
+    let same : Bearer (bearer.Present receipts.0) ≡ caller = cc (receipts.2) in
+    subst IsCallerWithin same (few_within (receipt_values fields) receipts.0 receipts.1)
 caller_within (OnReceipt action) item fields body caller numbered e =
-    let receipt = after_ok (one_said (presented fields)) _ caller e in
-    mapped IsCallerWithin (λ command. Bearer (bearer.OnPledge receipt.0 command)) (given (command_said action body) (if_sent_by is_bearers)) caller (or_fault_ok BadBody _ caller receipt.2)
+    let receipt = after_ok (one_said (receipt_values fields)) _ caller e in
+    mapped IsCallerWithin (λ command. Bearer (bearer.OnPledge receipt.0 command)) (and_then (command_said action body) (if_sent_by is_bearers)) caller (or_fault_ok BadBody _ caller receipt.2)
     (λ command is.
     let said = given_some (command_said action body) (if_sent_by is_bearers) command is in
-    (one_within (presented fields) receipt.0 receipt.1, subst IsCommandWithin (sent_is is_bearers said.0 command said.2) (command_within action body said.0 said.1)))
+    (one_within (receipt_values fields) receipt.0 receipt.1, subst IsCommandWithin (sent_is is_bearers said.0 command said.2) (command_within action body said.0 said.1)))
 
 -- a place names numbers
 abbrev IsPlaceWithin : Place → Type 0
@@ -274,7 +275,7 @@ item_within (Some text) item e = by_said (number_said text) refl e
 
 asked_within : (asked : AskedFor) (place : Place) → place_asked asked ≡ Some place → IsPlaceWithin place
 asked_within asked place e =
-    let book = given_some (given asked.book number_said) _ place e in
+    let book = given_some (and_then asked.book number_said) _ place e in
     let text = given_some asked.book number_said book.0 book.1 in
     by_item book.0 (item_said asked.item) (number_said-is book.0 text.0 text.2).0 refl book.2
   where
@@ -288,7 +289,7 @@ asked_within asked place e =
 place_within : (target : List ℕ) (place : Place) → place_of target ≡ Some place → IsPlaceWithin place
 place_within target place e = by_test (is_ascii_text target) e
   where
-    by_test : (b : Bool) → (if b then given (asked_of target) place_asked else None) ≡ Some place → IsPlaceWithin place
+    by_test : (b : Bool) → (if b then and_then (asked_of target) place_asked else None) ≡ Some place → IsPlaceWithin place
     by_test true same = (let asked = given_some (asked_of target) place_asked place same in asked_within asked.0 place asked.2)
     by_test false same = absurd cc
 

@@ -7,25 +7,25 @@ use Rattle.pawn_debt.specs.declared.entry.Kind.TheVariants.{Fixed, Running}
 use Rattle.pawn_pledge.specs.declared.record.Opening.{Opening}
 use Rattle.pawn_book.specs.declared.request.NewBook.{NewBook}
 use Rattle.pawn_book.specs.declared.request.NewTerms.{NewTerms}
-use Rattle.pawn_wire.specs.Chain.{given}
+use Rattle.pawn_wire.specs.Chain.{and_then}
 use Rattle.pawn_wire.specs.Member.{in_range, number_at, string_at, flag_at, text_at, key_at}
 use Rattle.pawn_wire.specs.Named.{day_said}
 
 -- what makes a book
 abbrev pub new_book_of : Data → Option NewBook
 new_book_of d =
-    given (given (number_at (codes "capacity") d) (in_range 1 1000))
-    (λ capacity. given (key_at (codes "key") d)
-    (λ key. given (text_at 60 (codes "name") d)
+    and_then (and_then (number_at (codes "capacity") d) (in_range 1 1000))
+    (λ capacity. and_then (key_at (codes "key") d)
+    (λ key. and_then (text_at 60 (codes "name") d)
     (λ name. Some (record { key = key; name = name; capacity = capacity }))))
 
 -- terms, and their version
 abbrev pub new_terms_of : Data → Option NewTerms
 new_terms_of d =
-    given (number_at (codes "keep_after") d)
-    (λ keep_after. given (number_at (codes "keep_before") d)
-    (λ keep_before. given (number_at (codes "rate") d)
-    (λ rate. given (number_at (codes "version") d)
+    and_then (number_at (codes "keep_after") d)
+    (λ keep_after. and_then (number_at (codes "keep_before") d)
+    (λ keep_before. and_then (number_at (codes "rate") d)
+    (λ rate. and_then (number_at (codes "version") d)
     (λ version. Some (record { version = version; rates = record { rate = rate; keep_before = keep_before; keep_after = keep_after } })))))
 
 -- a fixed sum or a running account, with its sum or its limit
@@ -37,13 +37,13 @@ kind_named word pence =
 
 abbrev pub kind_of : Data → Option Kind
 kind_of d =
-    given (string_at (codes "kind") d)
-    (λ word. given (number_at (codes "pence") d)
+    and_then (string_at (codes "kind") d)
+    (λ word. and_then (number_at (codes "pence") d)
     (λ pence. kind_named word pence))
 
 -- the day that a member says; null says none
 abbrev pub day_or_null : Data → Option (Option ℕ)
-day_or_null member = if is_some (as_null member) then Some None else option_map Some (given (as_str member) day_said)
+day_or_null member = if is_some (as_null member) then Some None else option_map Some (and_then (as_str member) day_said)
 
 -- the same, and so does a missing member
 abbrev pub day_if_any : Option Data → Option (Option ℕ)
@@ -56,9 +56,9 @@ optional_day_at name d = day_if_any (get name d)
 -- what opens a pledge
 abbrev pub opening_of : Data → Option Opening
 opening_of d =
-    given (optional_day_at (codes "agreed") d)
-    (λ agreed. given (text_at 80 (codes "article") d)
-    (λ article. given (flag_at (codes "five_days") d)
-    (λ five_days. given (kind_of d)
-    (λ kind. given (text_at 40 (codes "ref") d)
+    and_then (optional_day_at (codes "agreed") d)
+    (λ agreed. and_then (text_at 80 (codes "article") d)
+    (λ article. and_then (flag_at (codes "five_days") d)
+    (λ five_days. and_then (kind_of d)
+    (λ kind. and_then (text_at 40 (codes "ref") d)
     (λ reference. Some (record { reference = reference; article = article; kind = kind; agreed = agreed; five_days = five_days }))))))

@@ -10,9 +10,9 @@ after (Ok a) next = next a
 after (Err fault) next = Err fault
 
 -- one part, and then what it gives the next; nothing where it is missing
-abbrev pub given : {A B : Type 0} → Option A → (A → Option B) → Option B
-given None next = None
-given (Some a) next = next a
+abbrev pub and_then : {A B : Type 0} → Option A → (A → Option B) → Option B
+and_then None next = None
+and_then (Some a) next = next a
 
 -- a part, or a fault where it is missing
 abbrev pub or_fault : {A : Type 0} → WireFault → Option A → Result A WireFault

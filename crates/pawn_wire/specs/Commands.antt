@@ -6,7 +6,7 @@ use Rattle.pawn_pledge.specs.declared.command.Paper.TheVariants.{Sworn, Written}
 use Rattle.pawn_pledge.specs.declared.command.Decision.{Decision}
 use Rattle.pawn_pledge.specs.declared.command.Decision.TheVariants.{Confirm, Refuse}
 use Rattle.pawn_pledge.specs.declared.command.Command.{Command}
-use Rattle.pawn_wire.specs.Chain.{given}
+use Rattle.pawn_wire.specs.Chain.{and_then}
 use Rattle.pawn_wire.specs.Member.{number_at, string_at, flag_at, day_at, body_said}
 use Rattle.pawn_wire.specs.declared.commands.NewEntry.{NewEntry}
 use Rattle.pawn_wire.specs.declared.route.Action.{Action}
@@ -15,8 +15,8 @@ use Rattle.pawn_wire.specs.declared.route.Action.TheVariants.{Draw, Repay, Hold,
 -- the number of an entry, and its sum
 abbrev pub entry_of : Data → Option NewEntry
 entry_of d =
-    given (number_at (codes "pence") d)
-    (λ pence. given (number_at (codes "seq") d)
+    and_then (number_at (codes "pence") d)
+    (λ pence. and_then (number_at (codes "seq") d)
     (λ seq. Some (record { seq = seq; pence = pence })))
 
 -- the paper that a claimant tenders
@@ -27,7 +27,7 @@ paper_named word =
     else None
 
 abbrev pub paper_of : Data → Option Paper
-paper_of d = given (string_at (codes "paper") d) paper_named
+paper_of d = and_then (string_at (codes "paper") d) paper_named
 
 -- yes confirms a booking, and no refuses it
 abbrev pub decision_by : Bool → Decision
@@ -39,8 +39,8 @@ decision_of d = option_map decision_by (flag_at (codes "yes") d)
 -- the day and the window of a booking
 abbrev pub booking_of : Data → Option Command
 booking_of d =
-    given (day_at (codes "day") d)
-    (λ day. given (number_at (codes "window") d)
+    and_then (day_at (codes "day") d)
+    (λ day. and_then (number_at (codes "window") d)
     (λ window. Some (Command.AskBooking day window)))
 
 -- the command of an action: what its body says, where it takes one

@@ -16,7 +16,7 @@ use Rattle.pawn_book.specs.declared.request.Caller.{Caller}
 use Rattle.pawn_book.specs.declared.request.Caller.TheVariants.{Operator, Broker, Bearer}
 use Rattle.pawn_book.specs.declared.request.BrokerRequest.TheVariants.{PutTerms, TakePledge, Show}
 use Rattle.pawn_book.specs.declared.request.BrokerRequest.TheVariants as broker
-use Rattle.pawn_book.specs.declared.request.BearerRequest.TheVariants.{Held}
+use Rattle.pawn_book.specs.declared.request.BearerRequest.TheVariants.{Present}
 use Rattle.pawn_book.specs.declared.request.BearerRequest.TheVariants as bearer
 use Rattle.pawn_wire.specs.Bodies.{book_text, version_text, opened_text, refusal_text}
 use Rattle.pawn_wire.specs.Done.{sort_text, state_text, entered_text, held_text, declared_text, booked_text, redeemed_text, sold_text, extended_text}
@@ -106,7 +106,7 @@ IsCallerWithin (Broker key (PutTerms terms)) = Unit {0}
 IsCallerWithin (Broker key (TakePledge opening)) = IsOpening opening
 IsCallerWithin (Broker key (broker.OnPledge n command)) = IsNumber n × IsCommandWithin command
 IsCallerWithin (Broker key (Show n)) = IsNumber n
-IsCallerWithin (Bearer (Held receipts)) = AreFew receipts
+IsCallerWithin (Bearer (Present receipts)) = AreFew receipts
 IsCallerWithin (Bearer (bearer.OnPledge receipt command)) = IsNumber receipt.number × IsCommandWithin command
 
 -- a request that bytes say is of a book's number, and within the limits of its parts
@@ -126,10 +126,10 @@ pub record NumbersAreSaid : Type 0 where
   pub leading_zero : (rest : List ℕ) → number_said (48 ∷ rest) ≡ None
 
 -- the form of a target, with 7 for the book and 12 for the pledge that it names in braces
-abbrev pub filled : Bool → List ℕ → List ℕ
-filled in_braces [] = []
-filled true (c ∷ form) = if c == 125 then filled false form else (if c == 98 then codes "7" else codes "12") ++ filled true form
-filled false (c ∷ form) = if c == 123 then filled true form else c ∷ filled false form
+abbrev pub fill : Bool → List ℕ → List ℕ
+fill in_braces [] = []
+fill true (c ∷ form) = if c == 125 then fill false form else (if c == 98 then codes "7" else codes "12") ++ fill true form
+fill false (c ∷ form) = if c == 123 then fill true form else c ∷ fill false form
 
 -- the number that a target for the endpoint names beside its book
 abbrev pub pledge_for : Endpoint → Option (List ℕ)
@@ -138,13 +138,13 @@ pledge_for e.PutTerms = None
 pledge_for e.TakePledge = None
 pledge_for e.Show = Some (codes "12")
 pledge_for (e.OnPledge action) = Some (codes "12")
-pledge_for e.Held = None
+pledge_for e.Present = None
 pledge_for (e.OnReceipt action) = None
 
 -- the target of a row of the table is found, with its endpoint and its numbers
 abbrev pub IsTargetFound : List ℕ × Endpoint → Type 0
 IsTargetFound row =
-    asked_of (filled false row.0) ≡ Some (record { endpoint = row.1; book = Some (codes "7"); item = pledge_for row.1 })
+    asked_of (fill false row.0) ≡ Some (record { endpoint = row.1; book = Some (codes "7"); item = pledge_for row.1 })
 
 abbrev pub TargetsAreFound : Type 0
 TargetsAreFound = Each IsTargetFound table

@@ -16,7 +16,3 @@ max_body = 1048576
 -- the largest number in a body, of 12 digits
 abbrev pub max_number : ℕ
 max_number = 999999999999
-
--- the receipts that are presented at once
-abbrev pub most_receipts : ℕ
-most_receipts = 32

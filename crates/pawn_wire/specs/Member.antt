@@ -8,7 +8,7 @@ use Rattle.serde_json.specs.View.{view}
 use Rattle.serde_json.specs.declared.value.Value.{Value}
 use Rattle.pawn_pledge.specs.Text.{is_text}
 use Rattle.pawn_pledge.specs.Secret.{secret_of_text}
-use Rattle.pawn_wire.specs.Chain.{given}
+use Rattle.pawn_wire.specs.Chain.{and_then}
 use Rattle.pawn_wire.specs.Limits.{max_number}
 use Rattle.pawn_wire.specs.Named.{day_said}
 use Rattle.pawn_wire.specs.declared.fault.WireFault.{WireFault}
@@ -45,16 +45,16 @@ if_text most bytes = if is_text most bytes then Some bytes else None
 
 -- a member that is a text of 1 to so many bytes, none of them a control character
 abbrev pub text_at : ℕ → List ℕ → Data → Option (List ℕ)
-text_at most name d = given (string_at name d) (if_text most)
+text_at most name d = and_then (string_at name d) (if_text most)
 
 -- a member that is a key
 abbrev pub key_at : List ℕ → Data → Option ℕ
-key_at name d = given (string_at name d) secret_of_text
+key_at name d = and_then (string_at name d) secret_of_text
 
 -- a member that is a day
 abbrev pub day_at : List ℕ → Data → Option ℕ
-day_at name d = given (string_at name d) day_said
+day_at name d = and_then (string_at name d) day_said
 
 -- what a body says
 abbrev pub body_said : {A : Type 0} → (Data → Option A) → List ℕ → Option A
-body_said part body = given (json_of body) part
+body_said part body = and_then (json_of body) part

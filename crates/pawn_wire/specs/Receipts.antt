@@ -4,9 +4,9 @@ use Rattle.std.specs.List.{before_first, after_first}
 use Rattle.pawn_pledge.specs.Secret.{secret_of_text}
 use Rattle.pawn_pledge.specs.declared.receipt.Receipt.{Receipt}
 use Rattle.pawn_terms.specs.Refusals.{first_of}
-use Rattle.pawn_wire.specs.Chain.{given, or_fault}
+use Rattle.pawn_wire.specs.Chain.{and_then, or_fault}
 use Rattle.pawn_wire.specs.Fields.{Pair, values_of}
-use Rattle.pawn_wire.specs.Limits.{most_receipts}
+use Rattle.pawn_book.specs.Limits.{most_receipts}
 use Rattle.pawn_wire.specs.Named.{number_said}
 use Rattle.pawn_wire.specs.declared.fault.WireFault.{WireFault}
 use Rattle.pawn_wire.specs.declared.fault.WireFault.TheVariants.{NoReceipt, TooManyReceipts, BadReceipt}
@@ -18,19 +18,19 @@ is_hyphen byte = byte == 45
 -- the receipt of a text: a number, a hyphen and a secret
 abbrev pub receipt_said : List ℕ → Option Receipt
 receipt_said text =
-    given (number_said (before_first is_hyphen text))
+    and_then (number_said (before_first is_hyphen text))
     (λ number. option_map (λ secret. record { number = number; secret = secret }) (secret_of_text (after_first is_hyphen text)))
 
 -- the receipts of these values, if each is one
 abbrev pub all_said : List (List ℕ) → Option (List Receipt)
 all_said [] = Some []
 all_said (value ∷ values) =
-    given (receipt_said value)
+    and_then (receipt_said value)
     (λ receipt. option_map (λ receipts. receipt ∷ receipts) (all_said values))
 
 -- the values of the fields that present receipts
-abbrev pub presented : List Pair → List (List ℕ)
-presented fields = values_of (codes "pledge-receipt") fields
+abbrev pub receipt_values : List Pair → List (List ℕ)
+receipt_values fields = values_of (codes "pledge-receipt") fields
 
 -- no receipt is presented, or more than so many
 abbrev pub receipt_faults : ℕ → List (List ℕ) → List (Bool × WireFault)
@@ -45,4 +45,4 @@ receipts_said values = first_of (receipt_faults most_receipts values) (or_fault 
 
 -- exactly one receipt
 abbrev pub one_said : List (List ℕ) → Result Receipt WireFault
-one_said values = first_of (receipt_faults 1 values) (or_fault BadReceipt (given (slice_get values 0) receipt_said))
+one_said values = first_of (receipt_faults 1 values) (or_fault BadReceipt (and_then (slice_get values 0) receipt_said))

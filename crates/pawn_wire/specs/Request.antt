@@ -12,20 +12,20 @@ use Rattle.pawn_book.specs.declared.request.Caller.TheVariants.{Operator, Broker
 use Rattle.pawn_book.specs.declared.request.BrokerRequest.TheVariants as broker
 use Rattle.pawn_book.specs.declared.request.BearerRequest.TheVariants as bearer
 use Rattle.pawn_wire.specs.Body.{new_book_of, new_terms_of, opening_of}
-use Rattle.pawn_wire.specs.Chain.{after, given, or_fault}
+use Rattle.pawn_wire.specs.Chain.{after, and_then, or_fault}
 use Rattle.pawn_wire.specs.Commands.{command_said}
 use Rattle.pawn_wire.specs.Fault.{wire_fault}
 use Rattle.pawn_wire.specs.Fields.{Pair, values_of}
 use Rattle.pawn_wire.specs.Head.{ReadsHead, fields_of, length_by, field_faults}
 use Rattle.pawn_wire.specs.Member.{body_said}
 use Rattle.pawn_wire.specs.Named.{number_said}
-use Rattle.pawn_wire.specs.Receipts.{presented, receipts_said, one_said}
+use Rattle.pawn_wire.specs.Receipts.{receipt_values, receipts_said, one_said}
 use Rattle.pawn_wire.specs.Route.{AskedFor, asked_of, method_of}
 use Rattle.pawn_wire.specs.declared.fault.WireFault.{WireFault}
 use Rattle.pawn_wire.specs.declared.fault.WireFault.TheVariants.{BadHead, BadLength, NoRoute, WrongMethod, BadBody, BadKey, Memory}
 use Rattle.pawn_wire.specs.declared.request.Place.{Place}
 use Rattle.pawn_wire.specs.declared.route.Endpoint.{Endpoint}
-use Rattle.pawn_wire.specs.declared.route.Endpoint.TheVariants.{Create, PutTerms, TakePledge, Show, OnPledge, Held, OnReceipt}
+use Rattle.pawn_wire.specs.declared.route.Endpoint.TheVariants.{Create, PutTerms, TakePledge, Show, OnPledge, Present, OnReceipt}
 
 -- the faults by which a head and its body can't be parted from what follows, in their order
 abbrev pub framing_faults : List Pair → List ℕ → List (Bool × WireFault)
@@ -45,12 +45,12 @@ item_said (Some text) = option_map Some (number_said text)
 -- the book that was asked for, its pledge, and what was asked of them
 abbrev pub place_asked : AskedFor → Option Place
 place_asked asked =
-    given (given asked.book number_said)
+    and_then (and_then asked.book number_said)
     (λ book. option_map (λ item. record { endpoint = asked.endpoint; book = book; item = item }) (item_said asked.item))
 
 -- what a target asks for; one beyond ASCII asks for nothing
 abbrev pub place_of : List ℕ → Option Place
-place_of target = if is_ascii_text target then given (asked_of target) place_asked else None
+place_of target = if is_ascii_text target then and_then (asked_of target) place_asked else None
 
 -- the one key of these values
 abbrev pub key_said : List (List ℕ) → Option ℕ
@@ -59,8 +59,8 @@ key_said (value ∷ []) = secret_of_text value
 key_said (value ∷ other ∷ values) = None
 
 -- the key that fields give
-abbrev pub keyed : List Pair → Result ℕ WireFault
-keyed fields = or_fault BadKey (key_said (values_of (codes "pledge-key") fields))
+abbrev pub key_given : List Pair → Result ℕ WireFault
+key_given fields = or_fault BadKey (key_said (values_of (codes "pledge-key") fields))
 
 -- a command, if those who ask may send it
 abbrev pub if_sent_by : (Command → Bool) → Command → Option Command
@@ -69,21 +69,21 @@ if_sent_by may command = if may command then Some command else None
 -- Who asks at an endpoint, and what for: by its key or its receipts, and then by what its body says.
 abbrev pub caller_said : Endpoint → Option ℕ → List Pair → List ℕ → Result Caller WireFault
 caller_said Create item fields body =
-    after (keyed fields) (λ key. or_fault BadBody (option_map (Operator key) (body_said new_book_of body)))
+    after (key_given fields) (λ key. or_fault BadBody (option_map (Operator key) (body_said new_book_of body)))
 caller_said PutTerms item fields body =
-    after (keyed fields) (λ key. or_fault BadBody (option_map (λ terms. Broker key (broker.PutTerms terms)) (body_said new_terms_of body)))
+    after (key_given fields) (λ key. or_fault BadBody (option_map (λ terms. Broker key (broker.PutTerms terms)) (body_said new_terms_of body)))
 caller_said TakePledge item fields body =
-    after (keyed fields) (λ key. or_fault BadBody (option_map (λ opening. Broker key (broker.TakePledge opening)) (body_said opening_of body)))
+    after (key_given fields) (λ key. or_fault BadBody (option_map (λ opening. Broker key (broker.TakePledge opening)) (body_said opening_of body)))
 caller_said Show item fields body =
-    after (keyed fields) (λ key. or_fault BadBody (option_map (λ number. Broker key (broker.Show number)) item))
+    after (key_given fields) (λ key. or_fault BadBody (option_map (λ number. Broker key (broker.Show number)) item))
 caller_said (OnPledge action) item fields body =
-    after (keyed fields) (λ key. or_fault BadBody (given item
-    (λ number. option_map (λ command. Broker key (broker.OnPledge number command)) (given (command_said action body) (if_sent_by is_brokers)))))
-caller_said Held item fields body =
-    after (receipts_said (presented fields)) (λ receipts. Ok (Bearer (bearer.Held receipts)))
+    after (key_given fields) (λ key. or_fault BadBody (and_then item
+    (λ number. option_map (λ command. Broker key (broker.OnPledge number command)) (and_then (command_said action body) (if_sent_by is_brokers)))))
+caller_said Present item fields body =
+    after (receipts_said (receipt_values fields)) (λ receipts. Ok (Bearer (bearer.Present receipts)))
 caller_said (OnReceipt action) item fields body =
-    after (one_said (presented fields)) (λ receipt. or_fault BadBody
-    (option_map (λ command. Bearer (bearer.OnPledge receipt command)) (given (command_said action body) (if_sent_by is_bearers))))
+    after (one_said (receipt_values fields)) (λ receipt. or_fault BadBody
+    (option_map (λ command. Bearer (bearer.OnPledge receipt command)) (and_then (command_said action body) (if_sent_by is_bearers))))
 
 -- What the parts of a head and a body say, or the first fault that applies: of the framing, of the target, of the method,
 -- and then of who asks and what for.

@@ -13,13 +13,13 @@ use Rattle.pawn_wire.specs.Commands.{command_said}
 use Rattle.pawn_wire.specs.Fields.{Pair}
 use Rattle.pawn_wire.specs.Member.{body_said}
 use Rattle.pawn_wire.specs.Named.{number_said, day_said}
-use Rattle.pawn_wire.specs.Receipts.{presented, receipt_said, receipts_said, one_said}
-use Rattle.pawn_wire.specs.Request.{place_of, keyed, request_by}
+use Rattle.pawn_wire.specs.Receipts.{receipt_values, receipt_said, receipts_said, one_said}
+use Rattle.pawn_wire.specs.Request.{place_of, key_given, request_by}
 use Rattle.pawn_wire.specs.WorkedHeads.{chunked, tells_length}
 use Rattle.pawn_wire.specs.declared.fault.WireFault.TheVariants.{Transfer, BadLength, BodyTooLong, NoRoute, WrongMethod, BadBody, BadKey, BadReceipt, TooManyReceipts, NoReceipt}
 use Rattle.pawn_wire.specs.declared.request.Place.{Place}
 use Rattle.pawn_wire.specs.declared.route.Endpoint.{Endpoint}
-use Rattle.pawn_wire.specs.declared.route.Endpoint.TheVariants.{Create, PutTerms, TakePledge, Show, OnPledge, Held, OnReceipt}
+use Rattle.pawn_wire.specs.declared.route.Endpoint.TheVariants.{Create, PutTerms, TakePledge, Show, OnPledge, Present, OnReceipt}
 use Rattle.pawn_wire.specs.declared.route.Action.TheVariants.{Draw, Hold, Declare, Ask, Decide, Redeem, Extend}
 
 -- an endpoint of a book
@@ -39,7 +39,7 @@ WorkedTargets =
     × (place_of (codes "/books/12/pledges/3") ≡ of_pledge 12 3 Show)
     × (place_of (codes "/books/7/pledges/12/draw") ≡ of_pledge 7 12 (OnPledge Draw))
     × (place_of (codes "/books/7/pledges/12/extend") ≡ of_pledge 7 12 (OnPledge Extend))
-    × (place_of (codes "/books/7/held") ≡ of_book 7 Held)
+    × (place_of (codes "/books/7/held") ≡ of_book 7 Present)
     × (place_of (codes "/books/7/held/redeem") ≡ of_book 7 (OnReceipt Redeem))
 
 -- what is no target: another number, one in another spelling, and anything more or less
@@ -92,11 +92,11 @@ operator_key = codes "11111111-1111-1111-1111-111111111111"
 -- exactly one key, in any of its forms
 abbrev pub WorkedKeys : Type 0
 WorkedKeys =
-    (keyed (gives_key operator_key ∷ []) ≡ Ok 0x11111111_1111_1111_1111_111111111111)
-    × (keyed ((codes "pledge-KEY", codes "{11111111-1111-1111-1111-111111111111}") ∷ []) ≡ Ok 0x11111111_1111_1111_1111_111111111111)
-    × (keyed [] ≡ Err BadKey)
-    × (keyed (gives_key (codes "1") ∷ []) ≡ Err BadKey)
-    × (keyed (gives_key operator_key ∷ gives_key operator_key ∷ []) ≡ Err BadKey)
+    (key_given (gives_key operator_key ∷ []) ≡ Ok 0x11111111_1111_1111_1111_111111111111)
+    × (key_given ((codes "pledge-KEY", codes "{11111111-1111-1111-1111-111111111111}") ∷ []) ≡ Ok 0x11111111_1111_1111_1111_111111111111)
+    × (key_given [] ≡ Err BadKey)
+    × (key_given (gives_key (codes "1") ∷ []) ≡ Err BadKey)
+    × (key_given (gives_key operator_key ∷ gives_key operator_key ∷ []) ≡ Err BadKey)
 
 -- a receipt of pledge 1, and its text
 abbrev pub some_receipt : Receipt
@@ -117,10 +117,10 @@ WorkedReceipts =
     × (receipt_said (codes "01-da41597c-5157-488d-7724-e03fb8d84a37") ≡ None)
     × (receipt_said (codes "da41597c-5157-488d-7724-e03fb8d84a37") ≡ None)
     × (receipt_said (codes "1") ≡ None)
-    × (one_said (presented (presents some_receipt_text ∷ [])) ≡ Ok some_receipt)
-    × (one_said (presented []) ≡ Err NoReceipt)
-    × (one_said (presented (presents some_receipt_text ∷ presents some_receipt_text ∷ [])) ≡ Err TooManyReceipts)
-    × (one_said (presented (presents (codes "1") ∷ [])) ≡ Err BadReceipt)
+    × (one_said (receipt_values (presents some_receipt_text ∷ [])) ≡ Ok some_receipt)
+    × (one_said (receipt_values []) ≡ Err NoReceipt)
+    × (one_said (receipt_values (presents some_receipt_text ∷ presents some_receipt_text ∷ [])) ≡ Err TooManyReceipts)
+    × (one_said (receipt_values (presents (codes "1") ∷ [])) ≡ Err BadReceipt)
     × (receipts_said [] ≡ Err NoReceipt)
     × (receipts_said (some_receipt_text ∷ codes "1" ∷ []) ≡ Err BadReceipt)
     × (receipts_said (replicate 32 some_receipt_text) ≡ Ok (replicate 32 some_receipt))
@@ -182,6 +182,6 @@ WorkedRequests =
     × (request_by (codes "POST") (codes "/books/7/pledges/3/hold") (gives_key operator_key ∷ []) []
     ≡ Ok (record { book = 7; caller = Broker 0x11111111_1111_1111_1111_111111111111 (broker.OnPledge 3 Command.Hold) }))
     × (request_by (codes "GET") (codes "/books/7/held") (presents some_receipt_text ∷ []) []
-    ≡ Ok (record { book = 7; caller = Bearer (bearer.Held (some_receipt ∷ [])) }))
+    ≡ Ok (record { book = 7; caller = Bearer (bearer.Present (some_receipt ∷ [])) }))
     × (request_by (codes "POST") (codes "/books/7/held/cancel") (presents some_receipt_text ∷ []) []
     ≡ Ok (record { book = 7; caller = Bearer (bearer.OnPledge some_receipt Command.CancelBooking) }))

@@ -2,7 +2,7 @@
 ghost use Rattle.std.specs.Prelude.{◌≡◌, ◌⊎◌, Some, None, MatchResult};
 ghost use Rattle.pawn_wire.specs.Chain.{Says};
 ghost use Rattle.pawn_wire.specs.Fields.{pairs_of};
-ghost use Rattle.pawn_wire.specs.Receipts.{receipt_said, all_said, presented, receipts_said, one_said};
+ghost use Rattle.pawn_wire.specs.Receipts.{receipt_said, all_said, receipt_values, receipts_said, one_said};
 ghost use Rattle.pawn_wire.specs.declared.fault.WireFault.TheVariants.{BadReceipt, Memory};
 
 use crate::fault::WireFault;
@@ -25,8 +25,8 @@ fn receipt_of(text: &[u8]) -> Option<Receipt>
 // The receipts that fields present, if each is one.
 fn collect(alloc: Global, fields: &Fields<'_>) -> Result<Vec<Receipt>, WireFault>
     ensures all { MatchResult result
-        (λ v. all_said (presented (pairs_of fields.now)) ≡ Some v.items)
-        (λ e. (e ≡ Memory) ⊎ ((e ≡ BadReceipt) × (all_said (presented (pairs_of fields.now)) ≡ None))) }
+        (λ v. all_said (receipt_values (pairs_of fields.now)) ≡ Some v.items)
+        (λ e. (e ≡ Memory) ⊎ ((e ≡ BadReceipt) × (all_said (receipt_values (pairs_of fields.now)) ≡ None))) }
 {
     let mut receipts = Vec::new(alloc);
     for field in fields.spans {
@@ -42,7 +42,7 @@ fn collect(alloc: Global, fields: &Fields<'_>) -> Result<Vec<Receipt>, WireFault
 
 // The receipts that fields present, as many as there may be.
 pub(crate) fn receipts(alloc: Global, fields: &Fields<'_>) -> Result<Receipts, WireFault>
-    ensures value { Says result (receipts_said (presented (pairs_of fields.now))) }
+    ensures value { Says result (receipts_said (receipt_values (pairs_of fields.now))) }
 {
     let count = fields.count(FIELD);
     if count == 0 {
@@ -57,7 +57,7 @@ pub(crate) fn receipts(alloc: Global, fields: &Fields<'_>) -> Result<Receipts, W
 
 // The one receipt that fields present.
 pub(crate) fn one(fields: &Fields<'_>) -> Result<Receipt, WireFault>
-    ensures value { result ≡ one_said (presented (pairs_of fields.now)) }
+    ensures value { result ≡ one_said (receipt_values (pairs_of fields.now)) }
 {
     match fields.find(FIELD) {
         Found::One(value) => receipt_of(value).ok_or(WireFault::BadReceipt),

@@ -3,8 +3,8 @@ ghost use Rattle.std.specs.Prelude.{◌≡◌, None, option_copied};
 ghost use Rattle.pawn_wire.specs.Chain.{Says};
 ghost use Rattle.pawn_wire.specs.Fields.{pairs_of};
 ghost use Rattle.pawn_wire.specs.Named.{number_said};
-ghost use Rattle.pawn_wire.specs.Request.{is_ascii_text, item_said, place_of, keyed, caller_said, request_by, IsRead};
-ghost use Rattle.pawn_wire.specs.declared.route.Endpoint.TheVariants.{Create, PutTerms, TakePledge, Show, OnPledge, Held, OnReceipt};
+ghost use Rattle.pawn_wire.specs.Request.{is_ascii_text, item_said, place_of, key_given, caller_said, request_by, IsRead};
+ghost use Rattle.pawn_wire.specs.declared.route.Endpoint.TheVariants.{Create, PutTerms, TakePledge, Show, OnPledge, Present, OnReceipt};
 
 use crate::fault::WireFault;
 use crate::fields::{Fields, Found};
@@ -85,7 +85,7 @@ fn place_of(router: &Router, target: &[u8]) -> Option<Place>
 
 // The key that fields give.
 fn key(fields: &Fields<'_>) -> Result<Secret, WireFault>
-    ensures value { result ≡ keyed (pairs_of fields.now) }
+    ensures value { result ≡ key_given (pairs_of fields.now) }
 {
     match fields.find(b"pledge-key") {
         Found::One(value) => Secret::of_text(value).ok_or(WireFault::BadKey),
@@ -163,10 +163,10 @@ fn command_pledge(
 
 // Who sees what receipts stand for.
 fn present(alloc: Global, sent: &Sent<'_>) -> Result<Caller, WireFault>
-    ensures value { Says result (caller_said Held None (pairs_of sent.now.fields) sent.now.body.now) }
+    ensures value { Says result (caller_said Present None (pairs_of sent.now.fields) sent.now.body.now) }
 {
     let receipts = receipts::receipts(alloc, &sent.fields)?;
-    Ok(Caller::Bearer(BearerRequest::Held(receipts)))
+    Ok(Caller::Bearer(BearerRequest::Present(receipts)))
 }
 
 // Who commands the pledge of a receipt.
@@ -189,7 +189,7 @@ fn caller(alloc: Global, place: Place, sent: &Sent<'_>) -> Result<Caller, WireFa
         Endpoint::TakePledge => take_pledge(alloc, sent),
         Endpoint::Show => show(place.item, sent),
         Endpoint::OnPledge(action) => command_pledge(alloc, place.item, action, sent),
-        Endpoint::Held => present(alloc, sent),
+        Endpoint::Present => present(alloc, sent),
         Endpoint::OnReceipt(action) => command_receipt(alloc, action, sent),
     }
 }

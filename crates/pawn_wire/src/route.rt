@@ -18,7 +18,7 @@ pub enum Endpoint {
     /// To command a pledge of a book.
     OnPledge(Action),
     /// To show what receipts stand for.
-    Held,
+    Present,
     /// To command the pledge of a receipt.
     OnReceipt(Action),
 }
@@ -78,7 +78,7 @@ pub(crate) const ROUTES: [(&str, Endpoint); 17] = [
         "/books/{b}/pledges/{n}/extend",
         Endpoint::OnPledge(Action::Extend),
     ),
-    ("/books/{b}/held", Endpoint::Held),
+    ("/books/{b}/held", Endpoint::Present),
     ("/books/{b}/held/repay", Endpoint::OnReceipt(Action::Repay)),
     ("/books/{b}/held/ask", Endpoint::OnReceipt(Action::Ask)),
     (
@@ -97,7 +97,7 @@ impl Endpoint {
         ensures value { result ≡ method_of self }
     {
         match self {
-            Endpoint::Held => Method::GET,
+            Endpoint::Present => Method::GET,
             Endpoint::Show => Method::GET,
             Endpoint::Create => Method::POST,
             Endpoint::PutTerms => Method::POST,

@@ -1,23 +1,17 @@
-//! Requests as they come over the wire, and the replies to them.
-use crate::fault::WireFault;
+//! What takes memory, each once with its answer, and what may be no longer.
+
+use crate::fault::{HeadFault, WireFault};
+use crate::head::{HeadFacts, HeadRead, read_head};
 use crate::reply::{Out, write_reply};
 use crate::request::read_request;
 use crate::router::Router;
 use pawn_book::{
-    BearerRequest, BrokerRequest, Caller, Kind, Number, Receipt, Reply, Request, Secret,
+    BearerRequest, BrokerRequest, Caller, Kind, Number, PledgeRefusal, Receipt, Refusal, Reply,
+    Request, Secret,
 };
 use std::alloc::{AllocError, Global};
 use std::process::Abort;
-
-mod commands;
-mod done;
-mod heads;
-
-const KEY: u128 = 0x1111_1111_1111_1111_1111_1111_1111_1111;
-
-const BOOK_KEY: u128 = 0x2222_2222_2222_2222_2222_2222_2222_2222;
-
-const SECRET: u128 = 0xda41_597c_5157_488d_7724_e03f_b8d8_4a37;
+use std::test::Fail;
 
 fn asked(rt: &impl Abort, alloc: Global, bytes: &[u8]) -> Result<Request, WireFault> {
     let Ok(router) = Router::new(alloc) else {
@@ -26,306 +20,175 @@ fn asked(rt: &impl Abort, alloc: Global, bytes: &[u8]) -> Result<Request, WireFa
     read_request(alloc, &router, bytes)
 }
 
-// Reads bytes that are a request.
-fn reads(rt: &impl Abort, alloc: Global, bytes: &[u8]) -> Request {
-    match asked(rt, alloc, bytes) {
-        Ok(request) => request,
-        Err(fault) => panic!(rt; "no request: {}", fault.name()),
-    }
-}
-
-// Reads bytes that are no request.
-fn fails(rt: &impl Abort, alloc: Global, bytes: &[u8], wanted: WireFault) {
-    match asked(rt, alloc, bytes) {
-        Ok(_) => panic!(rt; "a request, and not {}", wanted.name()),
-        Err(fault) => assert_eq!(rt; fault, wanted),
-    }
-}
-
-fn answers(rt: &impl Abort, alloc: Global, out: &Out, wanted: &str) {
-    match write_reply(alloc, out) {
-        Ok(bytes) => assert!(rt; bytes.as_slice() == wanted.as_bytes(), "not {wanted}"),
-        Err(_) => panic!(rt; "no memory"),
-    }
-}
-
-fn number(rt: &impl Abort, number: u64) -> Number {
-    Number::new(number).expect(rt, "a number")
-}
-
-#[test]
-fn a_request_makes_a_book(rt: HostRuntime) {
-    let bytes =
-        b"POST /books/7 HTTP/1.1\r\nHost: x\r\nPledge-Key: 11111111-1111-1111-1111-111111111111\r\nContent-Length: 80\r\n\r\n{\"capacity\":2,\"key\":\"22222222-2222-2222-2222-222222222222\",\"name\":\"High Street\"}";
-    let request = reads(&rt, rt.alloc(), bytes);
-    assert_eq!(rt; request.book.get(), 7);
-    match &request.caller {
-        Caller::Operator { key, new_book } => {
-            assert_eq!(rt; key.word(), KEY);
-            assert_eq!(rt; new_book.key.word(), BOOK_KEY);
-            assert_eq!(rt; new_book.name.as_str(), "High Street");
-            assert_eq!(rt; new_book.capacity.get(), 2);
-        }
-        _ => panic!(rt; "no book"),
-    }
-    let made = Out::Done(Reply::BookMade(number(&rt, 7)));
-    answers(
-        &rt,
-        rt.alloc(),
-        &made,
-        "HTTP/1.1 200 OK\r\nContent-Length: 10\r\nContent-Type: application/json\r\n\r\n{\"book\":7}",
-    );
-}
-
-#[test]
-fn a_request_puts_terms(rt: HostRuntime) {
-    let bytes =
-        b"POST /books/7/terms HTTP/1.1\r\nHost: x\r\nPledge-Key: 22222222-2222-2222-2222-222222222222\r\nContent-Length: 53\r\n\r\n{\"keep_after\":0,\"keep_before\":0,\"rate\":0,\"version\":1}";
-    let request = reads(&rt, rt.alloc(), bytes);
-    assert_eq!(rt; request.book.get(), 7);
-    match &request.caller {
-        Caller::Broker {
-            key,
-            asked: BrokerRequest::PutTerms(terms),
-        } => {
-            assert_eq!(rt; key.word(), BOOK_KEY);
-            assert_eq!(rt;
-                (
-                    terms.version,
-                    terms.rates.rate,
-                    terms.rates.keep_before,
-                    terms.rates.keep_after
-                ),
-                (1, 0, 0, 0)
-            );
-        }
-        _ => panic!(rt; "no terms"),
-    }
-    let put = Out::Done(Reply::TermsPut(1));
-    answers(
-        &rt,
-        rt.alloc(),
-        &put,
-        "HTTP/1.1 200 OK\r\nContent-Length: 13\r\nContent-Type: application/json\r\n\r\n{\"version\":1}",
-    );
-}
-
-#[test]
-fn a_request_takes_a_pledge(rt: HostRuntime) {
-    let bytes =
-        b"POST /books/7/pledges HTTP/1.1\r\nHost: x\r\nPledge-Key: 22222222-2222-2222-2222-222222222222\r\nContent-Length: 81\r\n\r\n{\"article\":\"Gold ring\",\"five_days\":false,\"kind\":\"fixed\",\"pence\":10000,\"ref\":\"A1\"}";
-    let request = reads(&rt, rt.alloc(), bytes);
-    assert_eq!(rt; request.book.get(), 7);
-    match &request.caller {
-        Caller::Broker {
-            key,
-            asked: BrokerRequest::TakePledge(opening),
-        } => {
-            assert_eq!(rt; key.word(), BOOK_KEY);
-            assert_eq!(rt; opening.reference.as_str(), "A1");
-            assert_eq!(rt; opening.article.as_str(), "Gold ring");
-            assert_eq!(rt; opening.kind, Kind::Fixed(10_000));
-            assert!(rt; opening.agreed.is_none());
-            assert!(rt; !opening.five_days);
-        }
-        _ => panic!(rt; "no pledge"),
-    }
-    let opened = Out::Done(Reply::Opened(Receipt {
-        number: number(&rt, 1),
-        secret: Secret::of_word(SECRET),
-    }));
-    answers(
-        &rt,
-        rt.alloc(),
-        &opened,
-        "HTTP/1.1 200 OK\r\nContent-Length: 63\r\nContent-Type: application/json\r\n\r\n{\"number\":1,\"receipt\":\"1-da41597c-5157-488d-7724-e03fb8d84a37\"}",
-    );
-}
-
-#[test]
-fn a_request_presents_receipts(rt: HostRuntime) {
-    let bytes =
-        b"GET /books/7/held HTTP/1.1\r\nHost: x\r\npledge-receipt: \t1-da41597c-5157-488d-7724-e03fb8d84a37 \r\n\r\n";
-    let request = reads(&rt, rt.alloc(), bytes);
-    assert_eq!(rt; request.book.get(), 7);
-    match &request.caller {
-        Caller::Bearer(BearerRequest::Held(receipts)) => {
-            assert_eq!(rt; receipts.as_slice().len(), 1);
-            for receipt in receipts.as_slice() {
-                assert_eq!(rt; receipt.number.get(), 1);
-                assert_eq!(rt; receipt.secret.word(), SECRET);
-            }
-        }
-        _ => panic!(rt; "no receipt"),
-    }
-    let Ok(text) = Vec::from_slice(rt.alloc(), b"Pledge 1\n") else {
-        panic!(rt; "no memory");
-    };
-    answers(
-        &rt,
-        rt.alloc(),
-        &Out::Plain(text),
-        "HTTP/1.1 200 OK\r\nContent-Length: 9\r\nContent-Type: text/plain; charset=utf-8\r\n\r\nPledge 1\n",
-    );
-}
-
-#[test]
-fn the_first_fault_is_told(rt: HostRuntime) {
-    let wanted: [(&[u8], WireFault); 19] = [
-        (b"GET /books/7/he", WireFault::BadHead),
-        (b"GET /books/7/held HTTP/2.0\r\n\r\n", WireFault::BadHead),
-        (
-            b"POST /nowhere HTTP/1.1\r\nTransfer-Encoding: chunked\r\n\r\n",
-            WireFault::Transfer,
-        ),
-        (
-            b"PUT /books/7 HTTP/1.1\r\nContent-Length: +5\r\n\r\n",
-            WireFault::BadLength,
-        ),
-        (
-            b"PUT /books/7 HTTP/1.1\r\nContent-Length: 12345678901234567890\r\n\r\n",
-            WireFault::BadLength,
-        ),
-        (
-            b"PUT /books/7 HTTP/1.1\r\nContent-Length: 0\r\ncontent-length: 0\r\n\r\n",
-            WireFault::BadLength,
-        ),
-        (
-            b"PUT /books/7 HTTP/1.1\r\nContent-Length: 1048577\r\n\r\n",
-            WireFault::BodyTooLong,
-        ),
-        (
-            b"PUT /nowhere HTTP/1.1\r\nContent-Length: 3\r\n\r\nab",
-            WireFault::BadLength,
-        ),
-        (
-            b"PUT /nowhere HTTP/1.1\r\nContent-Length: 1\r\n\r\nab",
-            WireFault::BadLength,
-        ),
-        (b"GET /books/07/held HTTP/1.1\r\n\r\n", WireFault::NoRoute),
-        (
-            b"GET /books/7/held?x=1 HTTP/1.1\r\n\r\n",
-            WireFault::NoRoute,
-        ),
-        (b"GET /books/7/held/ HTTP/1.1\r\n\r\n", WireFault::NoRoute),
-        (
-            b"GET /books/1000000000/held HTTP/1.1\r\n\r\n",
-            WireFault::NoRoute,
-        ),
-        (b"PUT /books/07 HTTP/1.1\r\n\r\n", WireFault::NoRoute),
-        (b"PUT /books/7 HTTP/1.1\r\n\r\n", WireFault::WrongMethod),
-        (b"post /books/7 HTTP/1.1\r\n\r\n", WireFault::WrongMethod),
-        (
-            b"POST /books/7 HTTP/1.1\r\nPledge-Key: 11111111-1111-1111-1111-111111111111\r\nPledge-Key: 11111111-1111-1111-1111-111111111111\r\n\r\n",
-            WireFault::BadKey,
-        ),
-        (b"POST /books/7 HTTP/1.1\r\n\r\n", WireFault::BadKey),
-        (b"GET /books/7/held HTTP/1.1\r\n\r\n", WireFault::NoReceipt),
-    ];
-    for (bytes, fault) in wanted {
-        fails(&rt, rt.alloc(), bytes, fault);
-    }
-}
-
-// A request for a number of receipts, the last of them malformed.
-fn presenting(alloc: Global, good: usize) -> Result<Vec<u8>, AllocError> {
-    let mut bytes = Vec::from_slice(alloc, b"GET /books/7/held HTTP/1.1\r\n")?;
-    for _ in 0..good {
-        bytes.extend_from_slice(b"Pledge-Receipt: 1-da41597c-5157-488d-7724-e03fb8d84a37\r\n")?;
-    }
-    bytes.extend_from_slice(b"Pledge-Receipt: 01-da41597c-5157-488d-7724-e03fb8d84a37\r\n\r\n")?;
-    Ok(bytes)
-}
-
-#[test]
-fn too_many_receipts_are_told_before_a_bad_one(rt: HostRuntime) {
-    for (good, wanted) in [
-        (8, WireFault::BadReceipt),
-        (31, WireFault::BadReceipt),
-        (32, WireFault::TooManyReceipts),
-    ] {
-        match presenting(rt.alloc(), good) {
-            Ok(bytes) => fails(&rt, rt.alloc(), bytes.as_slice(), wanted),
-            Err(_) => panic!(rt; "no memory"),
-        }
-    }
-}
-
-// A request to put terms with this body.
-fn with_body(alloc: Global, body: &[u8]) -> Result<Vec<u8>, AllocError> {
-    let length = format!(in alloc; "{}", body.len())?;
-    let mut bytes = Vec::from_slice(
-        alloc,
-        b"POST /books/7/terms HTTP/1.1\r\nPledge-Key: 22222222-2222-2222-2222-222222222222\r\nContent-Length: ",
+// A broker's request for a target of book 7, with this body and a head that tells so many bytes of it.
+fn post(alloc: Global, target: &str, told: usize, body: &[u8]) -> Result<Vec<u8>, AllocError> {
+    let head = format!(in alloc;
+        "POST /books/7/{target} HTTP/1.1\r\nPledge-Key: 22222222-2222-2222-2222-222222222222\r\nContent-Length: {told}\r\n\r\n"
     )?;
-    bytes.extend_from_slice(length.as_bytes())?;
-    bytes.extend_from_slice(b"\r\n\r\n")?;
+    let mut bytes = head.into_bytes();
     bytes.extend_from_slice(body)?;
     Ok(bytes)
 }
 
-fn nested(alloc: Global, depth: usize) -> Result<Vec<u8>, AllocError> {
-    let mut body = Vec::from_slice(
-        alloc,
-        b"{\"keep_after\":0,\"keep_before\":0,\"rate\":0,\"version\":1,\"more\":",
-    )?;
-    for _ in 0..depth {
-        body.extend_from_slice(b"[")?;
+#[test]
+fn a_request_takes_a_pledge(rt: HostRuntime) -> Result<(), Fail> {
+    let body =
+        b"{\"agreed\":null,\"article\":\"Gold ring\",\"five_days\":false,\"kind\":\"fixed\",\"pence\":10000,\"ref\":\"A1\"}";
+    let bytes = post(rt.alloc(), "pledges", body.len(), body)?;
+    match asked(&rt, rt.alloc(), bytes.as_slice()).map(|request| request.caller) {
+        Ok(
+            Caller::Broker {
+                key: _,
+                asked: BrokerRequest::TakePledge(opening),
+            },
+        ) => {
+            assert_eq!(rt; opening.reference.as_str(), "A1");
+            assert_eq!(rt; opening.article.as_str(), "Gold ring");
+            assert_eq!(rt; opening.kind, Kind::Fixed(10_000));
+        }
+        _ => panic!(rt; "no opening"),
     }
-    for _ in 0..depth {
-        body.extend_from_slice(b"]")?;
-    }
-    body.extend_from_slice(b"}")?;
-    Ok(body)
+    Ok(())
 }
 
 #[test]
-fn a_body_is_judged_by_its_members(rt: HostRuntime) {
+fn replies_are_written(rt: HostRuntime) -> Result<(), Fail> {
+    let opened = Out::Done(Reply::Opened(Receipt {
+        number: Number::new(1).ok_or("no number")?,
+        secret: Secret::of_word(0xda41_597c_5157_488d_7724_e03f_b8d8_4a37),
+    }));
+    let refused = Out::Refused(Refusal::Pledge(PledgeRefusal::WrongAmount { total: 7501 }));
+    let shown = Out::Plain(Vec::from_slice(rt.alloc(), b"Pledge 1\n")?);
+    for (out, wanted) in [
+        (
+            opened,
+            "HTTP/1.1 200 OK\r\nContent-Length: 63\r\nContent-Type: application/json\r\n\r\n{\"number\":1,\"receipt\":\"1-da41597c-5157-488d-7724-e03fb8d84a37\"}",
+        ),
+        (
+            refused,
+            "HTTP/1.1 409 Conflict\r\nContent-Length: 46\r\nContent-Type: application/json\r\n\r\n{\"code\":310,\"name\":\"WrongAmount\",\"total\":7501}",
+        ),
+        (
+            Out::Fault(WireFault::NoRoute),
+            "HTTP/1.1 404 Not Found\r\nContent-Length: 29\r\nContent-Type: application/json\r\n\r\n{\"code\":706,\"name\":\"NoRoute\"}",
+        ),
+        (
+            shown,
+            "HTTP/1.1 200 OK\r\nContent-Length: 9\r\nContent-Type: text/plain; charset=utf-8\r\n\r\nPledge 1\n",
+        ),
+    ] {
+        let reply = write_reply(rt.alloc(), &out)?;
+        assert!(rt; reply.as_slice() == wanted.as_bytes(), "not {wanted}");
+    }
+    Ok(())
+}
+
+// A whole head of so many bytes, without a body, after which the connection stays.
+fn whole(len: usize) -> HeadRead {
+    HeadRead::Whole(HeadFacts {
+        len,
+        body: 0,
+        closes: false,
+    })
+}
+
+// These bytes, others so many times behind them, and a last few.
+fn repeated(
+    alloc: Global,
+    first: &[u8],
+    bytes: &[u8],
+    times: usize,
+    last: &[u8],
+) -> Result<Vec<u8>, AllocError> {
+    let mut all = Vec::from_slice(alloc, first)?;
+    for _ in 0..times {
+        all.extend_from_slice(bytes)?;
+    }
+    all.extend_from_slice(last)?;
+    Ok(all)
+}
+
+#[test]
+fn heads_have_64_fields_at_most(rt: HostRuntime) -> Result<(), Fail> {
+    for (fields, wanted) in [
+        (63, whole(333)),
+        (64, whole(338)),
+        (65, HeadRead::Fault(HeadFault::BadHead)),
+    ] {
+        let bytes = repeated(
+            rt.alloc(),
+            b"GET / HTTP/1.1\r\n",
+            b"a:b\r\n",
+            fields,
+            b"\r\n",
+        )?;
+        assert_eq!(rt; read_head(bytes.as_slice()), wanted, "with {fields} fields");
+    }
+    Ok(())
+}
+
+#[test]
+fn heads_have_8192_bytes_at_most(rt: HostRuntime) -> Result<(), Fail> {
+    let bad = HeadRead::Fault(HeadFault::BadHead);
+    for (filling, end, wanted) in [
+        (8169, b"\r\n\r\n".as_slice(), whole(8191)),
+        (8170, b"\r\n\r\n", whole(8192)),
+        (8171, b"\r\n\r\n", bad),
+        (8173, b"", HeadRead::Partial),
+        (8174, b"", bad),
+    ] {
+        let bytes = repeated(rt.alloc(), b"GET / HTTP/1.1\r\na:", b"b", filling, end)?;
+        assert_eq!(rt; read_head(bytes.as_slice()), wanted, "with {filling} bytes");
+    }
+    Ok(())
+}
+
+// Terms in a body of so many bytes.
+fn terms(alloc: Global, length: usize) -> Result<Vec<u8>, AllocError> {
+    let terms = b"{\"keep_after\":0,\"keep_before\":0,\"rate\":0,\"version\":7}";
+    repeated(alloc, terms, b" ", length.saturating_sub(terms.len()), b"")
+}
+
+#[test]
+fn bodies_have_1048576_bytes_at_most(rt: HostRuntime) -> Result<(), Fail> {
     let alloc = rt.alloc();
-    let bad: [&[u8]; 8] = [
-        b"",
-        b"[]",
-        b"{\"keep_after\":0,\"keep_before\":0,\"rate\":0}",
-        b"{\"keep_after\":0,\"keep_before\":0,\"rate\":1.0,\"version\":1}",
-        b"{\"keep_after\":0,\"keep_before\":0,\"rate\":-0,\"version\":1}",
-        b"{\"keep_after\":0,\"keep_before\":0,\"rate\":1000000000000,\"version\":1}",
-        b"{\"keep_after\":0,\"keep_before\":0,\"rate\":0,\"version\":1,\"x\":\"\xff\"}",
-        b"{\"keep_after\":0,\"keep_before\":0,\"rate\":0,\"version\":1}{}",
-    ];
-    for body in bad {
-        match with_body(alloc, body) {
-            Ok(bytes) => fails(&rt, alloc, bytes.as_slice(), WireFault::BadBody),
-            Err(_) => panic!(rt; "no memory"),
+    for (told, length, wanted) in [
+        (1_048_576, 1_048_576, None),
+        (1_048_577, 1_048_577, Some(WireFault::BodyTooLong)),
+        (1_048_576, 1_048_577, Some(WireFault::BadLength)),
+    ] {
+        let body = terms(alloc, length)?;
+        let bytes = post(alloc, "terms", told, body.as_slice())?;
+        assert_eq!(rt; asked(&rt, alloc, bytes.as_slice()).err(), wanted);
+    }
+    Ok(())
+}
+
+#[test]
+fn a_body_of_too_many_levels_is_none(rt: HostRuntime) -> Result<(), Fail> {
+    let alloc = rt.alloc();
+    let terms = b"{\"keep_after\":0,\"keep_before\":0,\"rate\":0,\"version\":7,\"more\":";
+    let levels = repeated(alloc, terms, b"[", 200, b"")?;
+    let body = repeated(alloc, levels.as_slice(), b"]", 200, b"}")?;
+    let bytes = post(alloc, "terms", body.len(), body.as_slice())?;
+    let said = asked(&rt, alloc, bytes.as_slice());
+    assert_eq!(rt; said.err(), Some(WireFault::BadBody));
+    Ok(())
+}
+
+#[test]
+fn at_most_32_receipts_are_presented(rt: HostRuntime) -> Result<(), Fail> {
+    let head = b"GET /books/7/held HTTP/1.1\r\n";
+    let field = b"Pledge-Receipt: 1-da41597c-5157-488d-7724-e03fb8d84a37\r\n";
+    let thirty_two = repeated(rt.alloc(), head, field, 32, b"\r\n")?;
+    match asked(&rt, rt.alloc(), thirty_two.as_slice()).map(|request| request.caller) {
+        Ok(Caller::Bearer(BearerRequest::Present(receipts))) => {
+            assert_eq!(rt; receipts.as_slice().len(), 32);
         }
+        _ => panic!(rt; "no receipts"),
     }
-    match nested(alloc, 200) {
-        Ok(body) => match with_body(alloc, body.as_slice()) {
-            Ok(bytes) => fails(&rt, alloc, bytes.as_slice(), WireFault::BadBody),
-            Err(_) => panic!(rt; "no memory"),
-        },
-        Err(_) => panic!(rt; "no memory"),
-    }
-    let Ok(bytes) = with_body(
-        alloc,
-        b"{\"version\":7,\"keep_after\":3,\"keep_before\":2,\"rate\":9,\"rate\":1,\"other\":null}",
-    ) else {
-        panic!(rt; "no memory");
-    };
-    match &reads(&rt, alloc, bytes.as_slice()).caller {
-        Caller::Broker {
-            asked: BrokerRequest::PutTerms(terms),
-            ..
-        } => {
-            assert_eq!(rt;
-                (
-                    terms.version,
-                    terms.rates.rate,
-                    terms.rates.keep_before,
-                    terms.rates.keep_after
-                ),
-                (7, 1, 2, 3)
-            );
-        }
-        _ => panic!(rt; "no terms"),
-    }
+    let more = repeated(rt.alloc(), head, field, 33, b"\r\n")?;
+    let said = asked(&rt, rt.alloc(), more.as_slice());
+    assert_eq!(rt; said.err(), Some(WireFault::TooManyReceipts));
+    Ok(())
 }

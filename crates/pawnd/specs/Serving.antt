@@ -1,5 +1,5 @@
 -- The connections that are served one after the other.
-use Rattle.std.specs.Prelude.{◌≡◌, ℕ, ◌≤◌, All, List, [], ◌∷◌, ◌++◌, length, Option, Some, None}
+use Rattle.std.specs.Prelude.{◌≡◌, ℕ, ◌≤◌, All, List, [], ◌∷◌, length, Option}
 use Rattle.std.specs.List.{filter_map, flat_map}
 use Rattle.pawn_pledge.specs.declared.command.Stamp.{Stamp}
 use Rattle.pawn_book.specs.HostStep.{Host}

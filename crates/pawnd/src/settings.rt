@@ -156,7 +156,7 @@ fn key_in_file(rt: &(impl Files + Alloc), path: &str) -> Result<Secret, Fault>
 }
 
 // The fault of a key's file that can't be read.
-pub(crate) fn unread(error: &io::Error) -> Fault
+fn unread(error: &io::Error) -> Fault
     ensures memory { error_kind error.now ≡ OutOfMemory → result ≡ Memory }
     ensures key { error_kind error.now ≢ OutOfMemory → result ≡ BadKey }
 {

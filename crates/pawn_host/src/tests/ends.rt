@@ -1,93 +1,79 @@
-//! Readers and writers for tests: some go one byte at a time and fail from a call on, some fail at one call alone and
-//! count their calls.
+//! A reader, a writer and stamps that note how they are called.
 ghost use Rattle.std.specs.Prelude.{Some};
 
+use pawn_book::Stamp;
+use std::cell::Cell;
 use std::io;
 use std::io::{ErrorKind, Read, Write};
 
-/// A reader that gives one byte a read, and fails at a read.
+/// The calls of a session in their order, a digit each, and one for several of a sort in a row: 1 is a read, 2 a stamp, and
+/// 3 a write.
 #[derive(Drop)]
-pub struct Trickle<'a> {
-    pub bytes: &'a [u8],
-    pub until_failure: u32,
+pub struct Log {
+    calls: Cell<u64>,
 }
 
-impl Read for Trickle<'_> {
-    ghost remaining = { λ r. Some r.bytes.now };
+impl Log {
+    pub fn new() -> Log {
+        Log {
+            calls: Cell::new(0),
+        }
+    }
 
-    fn read(&mut self, buf: &mut [u8]) -> io::Result<usize> {
-        if self.until_failure == 0 {
-            return Err(io::Error::from(ErrorKind::BrokenPipe));
+    pub fn calls(&self) -> u64 {
+        self.calls.get()
+    }
+
+    fn note(&self, call: u64) {
+        let calls = self.calls.get();
+        if calls % 16 != call {
+            self.calls.set(calls.wrapping_mul(16).wrapping_add(call));
         }
-        self.until_failure -= 1;
-        if buf.is_empty() {
-            return Ok(0);
-        }
-        self.bytes.read(&mut buf[..1])
     }
 }
 
-/// A writer that takes one byte a write, and fails at a write.
-#[derive(Drop)]
-pub struct Drip {
-    pub taken: Vec<u8>,
-    pub until_failure: u32,
-}
-
-impl Write for Drip {
-    ghost contents = { λ w. Some w.taken.items };
-
-    fn write(&mut self, buf: &[u8]) -> io::Result<usize> {
-        if self.until_failure == 0 {
-            return Err(io::Error::from(ErrorKind::BrokenPipe));
-        }
-        self.until_failure -= 1;
-        if buf.is_empty() {
-            return Ok(0);
-        }
-        self.taken.push(buf[0])?;
-        Ok(1)
-    }
-
-    fn flush(&mut self) -> io::Result<()> {
-        Ok(())
-    }
-}
-
-/// A reader that gives all that it is asked for, fails at one read alone, and counts its reads.
+/// A reader that gives one byte a read where it is slow, and fails at one read alone: the first is 1.
 #[derive(Drop)]
 pub struct Source<'a> {
     pub bytes: &'a [u8],
-    pub calls: u32,
+    pub slow: bool,
     pub fails_at: u32,
+    pub calls: u32,
+    pub log: &'a Log,
 }
 
 impl Read for Source<'_> {
     ghost remaining = { λ r. Some r.bytes.now };
 
     fn read(&mut self, buf: &mut [u8]) -> io::Result<usize> {
+        self.log.note(1);
         self.calls = self.calls.saturating_add(1);
         if self.calls == self.fails_at {
             return Err(io::Error::from(ErrorKind::Interrupted));
+        }
+        if self.slow && !buf.is_empty() {
+            return self.bytes.read(&mut buf[..1]);
         }
         self.bytes.read(buf)
     }
 }
 
-/// A writer that takes all that it is given, but for one write, of which it takes nothing or which fails, and that
-/// counts its writes.
+/// A writer that takes one byte a write where it is slow, but for one write, of which it takes nothing or which fails.
 #[derive(Drop)]
-pub struct Sink {
+pub struct Sink<'a> {
     pub taken: Vec<u8>,
-    pub calls: u32,
+    pub slow: bool,
     pub fails_at: u32,
     pub takes_nothing: bool,
+    pub calls: u32,
+    pub log: &'a Log,
 }
 
-impl Write for Sink {
+impl Write for Sink<'_> {
     ghost contents = { λ w. Some w.taken.items };
 
     fn write(&mut self, buf: &[u8]) -> io::Result<usize> {
+        self.log.note(3);
         self.calls = self.calls.saturating_add(1);
         if self.calls == self.fails_at {
             if self.takes_nothing {
@@ -95,11 +81,36 @@ impl Write for Sink {
             }
             return Err(io::Error::from(ErrorKind::Interrupted));
         }
-        self.taken.extend_from_slice(buf)?;
-        Ok(buf.len())
+        let n = if self.slow {
+            buf.len().min(1)
+        } else {
+            buf.len()
+        };
+        self.taken.extend_from_slice(&buf[..n])?;
+        Ok(n)
     }
 
     fn flush(&mut self) -> io::Result<()> {
         Ok(())
+    }
+}
+
+/// These stamps, in order.
+#[derive(Drop)]
+pub struct Stamps<'a> {
+    pub stamps: &'a [Stamp],
+    pub log: &'a Log,
+}
+
+impl Iterator for Stamps<'_> {
+    type Item = Stamp;
+
+    fn next(&mut self) -> Option<Stamp> {
+        self.log.note(2);
+        let [stamp, rest @ ..] = self.stamps else {
+            return None;
+        };
+        self.stamps = rest;
+        Some(*stamp)
     }
 }

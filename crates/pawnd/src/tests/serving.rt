@@ -30,13 +30,9 @@ impl Clock for Stopped {
 fn a_stamp_has_the_clocks_day_and_the_next_word(rt: HostRuntime) {
     for (seconds, day) in [
         (946_684_799u64, None),
-        (946_684_800, Some("2000-01-01")),
-        (1_706_659_200, Some("2024-01-31")),
         (1_706_745_599, Some("2024-01-31")),
         (1_706_745_600, Some("2024-02-01")),
-        (7_258_118_399, Some("2199-12-31")),
         (7_258_118_400, None),
-        (u64::MAX / 2, None),
     ] {
         let clock = Stopped { seconds };
         let mut stamps = ClockStamps::new(&clock, Words::of_seed([0; 32]));

@@ -1,6 +1,6 @@
 use Rattle.std.proofs.Common.{arith, ◌∙◌}
 use Rattle.pawn_host.specs.declared.session.Cause.TheVariants.{Read}
-use Rattle.pawn_host.specs.declared.session.Found.TheVariants.{CutOff, NoMemory, Stopped}
+use Rattle.pawn_host.specs.declared.session.Rest.TheVariants.{CutOff, NoMemory, Stopped}
 use Rattle.pawn_host.proofs.FindLemmas.{kept_more, head_more, found_short, found_request}
 use Rattle.pawn_host.proofs.ReadLemmas.{short_has_no_whole, fetched_more, fetched_last, fetched_nothing, fetched_other}
 use Rattle.pawn_host.proofs.session.await_body.Goals as goal
@@ -28,15 +28,15 @@ returns-clause-found g c =
 pub returns-in-Done-clause-fetched : goal.returns-in-Done-clause-fetched
 returns-in-Done-clause-fetched g c =
     let none = short_has_no_whole c.loop-reader.buffer.items c.args.head c.loop-reader.invariant.head (omega (arith, c.loop-reader.buffer.ok.0)) in
-    fetched_other CutOff _ _ _ _ _ _ _ tt (fetched_nothing _ c.loop-reader.buffer.items _ _ _ _ _ _ c.loop-reader.invariant.fetched none c.in-Done.ensures.by.0 c.in-Done.ensures.filled.1)
+    fetched_other CutOff _ _ _ _ _ _ _ (fetched_nothing _ c.loop-reader.buffer.items _ _ _ _ _ _ c.loop-reader.invariant.fetched none c.in-Done.ensures.by.0 c.in-Done.ensures.filled.1)
 
 pub returns-in-Failed-clause-fetched : goal.returns-in-Failed-clause-fetched
 returns-in-Failed-clause-fetched g c =
     let none = short_has_no_whole c.loop-reader.buffer.items c.args.head c.loop-reader.invariant.head (omega (arith, c.loop-reader.buffer.ok.0)) in
-    fetched_other (Stopped Read) _ _ _ _ _ _ _ tt (fetched_nothing _ c.loop-reader.buffer.items _ _ _ _ _ _ c.loop-reader.invariant.fetched none c.in-Failed.ensures.by.0 c.in-Failed.ensures.filled)
+    fetched_other (Stopped Read) _ _ _ _ _ _ _ (fetched_nothing _ c.loop-reader.buffer.items _ _ _ _ _ _ c.loop-reader.invariant.fetched none c.in-Failed.ensures.by.0 c.in-Failed.ensures.filled)
 
 pub returns-in-NoRoom-clause-fetched : goal.returns-in-NoRoom-clause-fetched
 returns-in-NoRoom-clause-fetched g c =
     let none = short_has_no_whole c.loop-reader.buffer.items c.args.head c.loop-reader.invariant.head (omega (arith, c.loop-reader.buffer.ok.0)) in
     let f = c.in-NoRoom.ensures.filled in
-    fetched_other NoMemory _ _ _ _ _ _ _ tt (fetched_last _ c.loop-reader.buffer.items f.0 _ _ _ _ _ _ c.loop-reader.invariant.fetched none c.in-NoRoom.ensures.by.0 f.1)
+    fetched_other NoMemory _ _ _ _ _ _ _ (fetched_last _ c.loop-reader.buffer.items f.0 _ _ _ _ _ _ c.loop-reader.invariant.fetched none c.in-NoRoom.ensures.by.0 f.1)

@@ -1,6 +1,6 @@
 use Rattle.std.proofs.Common.{sym, ◌∙◌, ◌≡◌, []}
 use Rattle.pawn_host.specs.declared.session.Cause.TheVariants.{Read}
-use Rattle.pawn_host.specs.declared.session.Found.TheVariants.{AtEnd, CutOff, NoMemory, Stopped}
+use Rattle.pawn_host.specs.declared.session.Rest.TheVariants.{AtEnd, CutOff, NoMemory, Stopped}
 use Rattle.pawn_host.proofs.FindLemmas.{found_faulty, found_end, found_cut, kept_more, answers_at, empty_by_test, full_by_test}
 use Rattle.pawn_host.proofs.ReadLemmas.{partial_has_no_whole, fetched_more, fetched_last, fetched_nothing, fetched_other}
 use Rattle.pawn_wire.specs.declared.head.HeadRead.TheVariants.{Partial, Fault}
@@ -33,20 +33,20 @@ returns-else-is_empty-clause-rest g c =
 pub returns-then-is_empty-clause-fetched : goal.returns-then-is_empty-clause-fetched
 returns-then-is_empty-clause-fetched g c =
     let none = partial_has_no_whole c.loop-head.buffer.items (answers_at _ _ Partial c.as_slice.ensures.value c.in-Partial.ensures.head) in
-    fetched_other AtEnd _ _ _ _ _ _ _ tt (fetched_nothing _ c.loop-head.buffer.items _ _ _ _ _ _ c.loop-head.invariant.fetched none c.in-Done.ensures.by.0 c.in-Done.ensures.filled.1)
+    fetched_other AtEnd _ _ _ _ _ _ _ (fetched_nothing _ c.loop-head.buffer.items _ _ _ _ _ _ c.loop-head.invariant.fetched none c.in-Done.ensures.by.0 c.in-Done.ensures.filled.1)
 
 pub returns-else-is_empty-clause-fetched : goal.returns-else-is_empty-clause-fetched
 returns-else-is_empty-clause-fetched g c =
     let none = partial_has_no_whole c.loop-head.buffer.items (answers_at _ _ Partial c.as_slice.ensures.value c.in-Partial.ensures.head) in
-    fetched_other CutOff _ _ _ _ _ _ _ tt (fetched_nothing _ c.loop-head.buffer.items _ _ _ _ _ _ c.loop-head.invariant.fetched none c.in-Done.ensures.by.0 c.in-Done.ensures.filled.1)
+    fetched_other CutOff _ _ _ _ _ _ _ (fetched_nothing _ c.loop-head.buffer.items _ _ _ _ _ _ c.loop-head.invariant.fetched none c.in-Done.ensures.by.0 c.in-Done.ensures.filled.1)
 
 pub returns-in-Failed-clause-fetched : goal.returns-in-Failed-clause-fetched
 returns-in-Failed-clause-fetched g c =
     let none = partial_has_no_whole c.loop-head.buffer.items (answers_at _ _ Partial c.as_slice.ensures.value c.in-Partial.ensures.head) in
-    fetched_other (Stopped Read) _ _ _ _ _ _ _ tt (fetched_nothing _ c.loop-head.buffer.items _ _ _ _ _ _ c.loop-head.invariant.fetched none c.in-Failed.ensures.by.0 c.in-Failed.ensures.filled)
+    fetched_other (Stopped Read) _ _ _ _ _ _ _ (fetched_nothing _ c.loop-head.buffer.items _ _ _ _ _ _ c.loop-head.invariant.fetched none c.in-Failed.ensures.by.0 c.in-Failed.ensures.filled)
 
 pub returns-in-NoRoom-clause-fetched : goal.returns-in-NoRoom-clause-fetched
 returns-in-NoRoom-clause-fetched g c =
     let none = partial_has_no_whole c.loop-head.buffer.items (answers_at _ _ Partial c.as_slice.ensures.value c.in-Partial.ensures.head) in
     let f = c.in-NoRoom.ensures.filled in
-    fetched_other NoMemory _ _ _ _ _ _ _ tt (fetched_last _ c.loop-head.buffer.items f.0 _ _ _ _ _ _ c.loop-head.invariant.fetched none c.in-NoRoom.ensures.by.0 f.1)
+    fetched_other NoMemory _ _ _ _ _ _ _ (fetched_last _ c.loop-head.buffer.items f.0 _ _ _ _ _ _ c.loop-head.invariant.fetched none c.in-NoRoom.ensures.by.0 f.1)

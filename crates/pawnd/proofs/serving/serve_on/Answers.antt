@@ -17,11 +17,11 @@ loop-turn-preserved g c =
     elim c.match-accept.branch [
       | in-Ok w ↦ rw (w.service-is, w.stamps-is, w.served-is) record {
         counted = omega (arith, c.loop-turn.invariant.counted);
-        stays = open_then c.loop-turn.invariant.stays w.converse.ensures.stays;
+        stays = open_then c.loop-turn.invariant.stays w.converse.ensures.conversation.stays;
         served = λ honest h sound at.
-            let so = c.loop-turn.invariant.served (w.converse.ensures.stays.on.past honest) h sound at in
+            let so = c.loop-turn.invariant.served (w.converse.ensures.conversation.stays.on.past honest) h sound at in
             served_more _ _ (start_of g.K.Keep.keeping c.args.service.now h) c.loop-turn.served.answered _ _ _ _ _ w.converse.result so c.loop-turn.invariant.stays.on.stays c.loop-turn.invariant.stays.operator refl
-            (within_most w.converse.result w.converse.ensures.room) (w.converse.ensures.session honest _ so.sound so.stands_for);
+            (within_most w.converse.result w.converse.ensures.conversation.room) (w.converse.ensures.conversation.session honest _ so.sound so.stands_for);
       }
       | in-Err w ↦ rw (w.service-is, w.stamps-is, w.served-is) record {
         counted = omega (arith, c.loop-turn.invariant.counted);

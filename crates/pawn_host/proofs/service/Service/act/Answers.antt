@@ -10,7 +10,7 @@ returns-in-Err-clause-acted g c = λ honest h sound at bytes read.
     let why = c.in-Err.refusal in
     let plans = rw c.in-Err.is at (c.plan.ensures.reads.tells honest h at sound) in
     let acts = refused_acts h operator c.args.stamp.now c.args.request.now stands why plans (c.plan.ensures.reads.same honest h at) in
-    acted_refused (start_of g.K.Keep.keeping c.args.self.now h) c.args.stamp.now bytes c.told.result stands c.args.request.now why read c.told.ensures.tells acts.0 sound acts.1
+    acted_refused (start_of g.K.Keep.keeping c.args.self.now h) c.args.stamp.now bytes c.tell.result stands c.args.request.now why read c.tell.ensures.tells acts.0 sound acts.1
     (λ steady store. c.plan.ensures.steady steady (err_is c.plan.result why c.in-Err.is store))
 
 pub returns-in-Ok-commit-clause-acted : goal.returns-in-Ok-commit-clause-acted
@@ -33,5 +33,5 @@ returns-clause-acted g c = λ honest h sound at bytes read.
     let plans = rw c.in-Ok.is at (c.plan.ensures.reads.tells before h at sound) in
     let commits = rw c.in-Err-commit.is at (c.commit.ensures.commits honest h sound (c.plan.ensures.reads.same before h at)) in
     let acts = unmade_acts h operator c.args.stamp.now c.args.request.now stands c.in-Ok.planned.change c.in-Ok.planned.reply why plans commits in
-    acted_refused (start_of g.K.Keep.keeping c.args.self.now h) c.args.stamp.now bytes c.told-in-Err-commit.result stands c.args.request.now why read c.told-in-Err-commit.ensures.tells acts.0 sound acts.1
+    acted_refused (start_of g.K.Keep.keeping c.args.self.now h) c.args.stamp.now bytes c.tell-in-Err-commit.result stands c.args.request.now why read c.tell-in-Err-commit.ensures.tells acts.0 sound acts.1
     (λ steady store. c.commit.ensures.steady (c.plan.ensures.reads.on.stays steady) (err_is c.commit.result why c.in-Err-commit.is store))

@@ -1,8 +1,9 @@
-use Rattle.std.proofs.Common.{arith, ℕ, refl, drop, ap, ◌∙◌, take, ◌+◌}
-use Rattle.pawn_host.proofs.SessionLemmas.{ended_at_end, ended_cut, ended_limit, ended_dry, broken_off, finished_faulty, finished_memory, broken_write, ended_closed, goes_on, acted_at, starts, taken_none, taken_more, are_taken, open_then}
-use Rattle.pawn_host.proofs.ReadLemmas.{read_none, read_then, read_more}
-use Rattle.pawn_host.proofs.FindLemmas.{not_by_writer}
-use Rattle.pawn_host.specs.declared.session.Found.TheVariants.{Request, AtEnd, CutOff, Faulty, NoMemory, Stopped}
+use Rattle.std.proofs.Common.{ℕ, arith, refl, drop, ap, subst, Bool, Ok, Err, ◌∙◌, take, ◌+◌}
+use Rattle.pawn_view.specs.Ends.{write_failed}
+use Rattle.pawn_host.specs.Ends.{reads, read_failed}
+use Rattle.pawn_host.specs.Finding.{StopsBy}
+use Rattle.pawn_host.proofs.SessionLemmas.{over, over_leaves, ended_limit, ended_dry, broken_write, ended_closed, goes_on, acted_at, starts, taken_none, taken_more, are_taken, open_then}
+use Rattle.pawn_host.proofs.ReadLemmas.{read_none, read_then, read_more, read_all}
 use Rattle.pawn_host.specs.Keeps.{start_of, host_by}
 use Rattle.pawn_host.proofs.service.Service.answer_all.Goals as goal
 
@@ -18,76 +19,77 @@ loop-acted-init g c = record {
   so_far = λ honest h sound at. starts _ at sound c.new-buffer.ensures.items;
 }
 
-pub returns-in-AtEnd-clause-reads : goal.returns-in-AtEnd-clause-reads
-returns-in-AtEnd-clause-reads g c = read_then AtEnd _ _ _ _ _ c.loop-acted.acted _ _ c.loop-acted.invariant.fetched c.loop-acted-test.true c.in-AtEnd.ensures.fetched
+pub returns-in-Err : goal.returns-in-Err
+returns-in-Err g c =
+    let readable = subst (λ (b : Bool). StopsBy (Err c.in-Err.rest) b (read_failed c.next_request.new.reader) (reads c.next_request.new.reader)) c.loop-acted.invariant.readable c.in-Err.ensures.stops in
+    let leaves = over_leaves g.I.Iterator.next_gives c.loop-acted.stamps c.loop-acted.acted c.loop-acted.sent (reads c.next_request.new.reader) _ _ (read_failed c.next_request.new.reader) (write_failed c.finish.new.writer) c.in-Err.rest c.finish.result c.loop-acted-test.true readable c.finish.ensures.over in
+    record {
+      conversation = record {
+        stays = c.loop-acted.invariant.stays;
+        session = λ honest h sound at. over _ _ _ _ _ c.in-Err.rest _ (c.loop-acted.invariant.so_far honest h sound at) c.loop-acted-test.true c.in-Err.ensures.found c.in-Err.ensures.stops c.finish.ensures.over;
+        stamps = are_taken _ _ c.loop-acted.invariant.taken leaves.count leaves.left;
+        reads = read_then (Err c.in-Err.rest) _ _ _ _ _ c.loop-acted.acted _ _ c.loop-acted.invariant.fetched c.loop-acted-test.true c.in-Err.ensures.fetched;
+        room = leaves.room;
+        whole = leaves.whole;
+        cause = leaves.cause;
+      };
+    }
 
-pub returns-in-CutOff-clause-reads : goal.returns-in-CutOff-clause-reads
-returns-in-CutOff-clause-reads g c = read_then CutOff _ _ _ _ _ c.loop-acted.acted _ _ c.loop-acted.invariant.fetched c.loop-acted-test.true c.in-CutOff.ensures.fetched
+pub returns-in_default : goal.returns-in_default
+returns-in_default g c = record {
+  conversation = record {
+    stays = c.loop-acted.invariant.stays;
+    session = λ honest h sound at. ended_dry c.in-Ok.head (c.loop-acted.invariant.so_far honest h sound at) c.loop-acted-test.true c.in_default.ensures.steps c.in-Ok.ensures.found;
+    stamps = are_taken _ _ c.loop-acted.invariant.taken refl c.in_default.ensures.steps;
+    reads = read_then (Ok c.in-Ok.head) _ _ _ _ _ c.loop-acted.acted _ _ c.loop-acted.invariant.fetched c.loop-acted-test.true c.in-Ok.ensures.fetched;
+    room = c.loop-acted-test.true;
+    whole = (c.in-Ok.ensures.stops ∙ c.loop-acted.invariant.readable, c.loop-acted.invariant.fine);
+    cause = tt;
+  };
+}
 
-pub returns-in-Faulty-clause-reads : goal.returns-in-Faulty-clause-reads
-returns-in-Faulty-clause-reads g c = read_then (Faulty c.in-Faulty.fault) _ _ _ _ _ c.loop-acted.acted _ _ c.loop-acted.invariant.fetched c.loop-acted-test.true c.in-Faulty.ensures.fetched
+pub returns-then-count-text : goal.returns-then-count-text
+returns-then-count-text g c = record {
+  conversation = record {
+    stays = open_then c.loop-acted.invariant.stays c.answer_one-answer.ensures.stays;
+    session = λ honest h sound at.
+        let so = c.loop-acted.invariant.so_far (c.answer_one-answer.ensures.stays.on.past honest) h sound at in
+        let start = start_of g.K.Keep.keeping c.args.self.now h in
+        let mid = host_by start so.items in
+        let acted = acted_at _ start c.in-Some.stamp _ (take (c.in-Ok.head.len + c.in-Ok.head.body) c.next_request.new.buffer.items) _ c.answer_slice-text.result.now _ (c.answer_one-answer.ensures.acted honest mid so.served.sound so.served.stands_for) c.loop-acted.invariant.stays.on.stays c.loop-acted.invariant.stays.operator (ap (take c.request_len-needed.result) c.deref.ensures.value ∙ ap (λ (k : ℕ). take k c.next_request.new.buffer.items) c.request_len-needed.ensures.answer) c.answer_slice-text.ensures.bytes in
+        broken_write _ _ _ _ c.in-Some.stamp c.in-Ok.head c.send-count.result c.answer_slice-text.result.now c.next_request.new.buffer.items so c.loop-acted-test.true c.in-Some.ensures.steps acted c.in-Ok.ensures.found c.in-Ok.ensures.kept (omega (arith, c.in-Ok.ensures.buffered, c.next_request.new.buffer.ok.0)) c.if-count-text.true c.send-count.ensures.bytes;
+    stamps = are_taken _ _ (taken_more _ c.in-Some.stamp c.loop-acted.invariant.taken c.in-Some.ensures.steps) refl refl;
+    reads = read_then (Ok c.in-Ok.head) _ _ _ _ _ c.loop-acted.acted _ _ c.loop-acted.invariant.fetched c.loop-acted-test.true c.in-Ok.ensures.fetched;
+    room = omega (arith, c.loop-acted-test.true);
+    whole = tt;
+    cause = c.send-count.ensures.failed c.if-count-text.true;
+  };
+}
 
-pub returns-in-NoMemory-clause-reads : goal.returns-in-NoMemory-clause-reads
-returns-in-NoMemory-clause-reads g c = read_then NoMemory _ _ _ _ _ c.loop-acted.acted _ _ c.loop-acted.invariant.fetched c.loop-acted-test.true c.in-NoMemory.ensures.fetched
-
-pub returns-in-Stopped-clause-reads : goal.returns-in-Stopped-clause-reads
-returns-in-Stopped-clause-reads g c = read_then (Stopped c.in-Stopped.cause) _ _ _ _ _ c.loop-acted.acted _ _ c.loop-acted.invariant.fetched c.loop-acted-test.true c.in-Stopped.ensures.fetched
-
-pub returns-in_default-clause-reads : goal.returns-in_default-clause-reads
-returns-in_default-clause-reads g c = read_then (Request c.in-Request.head) _ _ _ _ _ c.loop-acted.acted _ _ c.loop-acted.invariant.fetched c.loop-acted-test.true c.in-Request.ensures.fetched
-
-pub returns-then-count-text-clause-reads : goal.returns-then-count-text-clause-reads
-returns-then-count-text-clause-reads g c = read_then (Request c.in-Request.head) _ _ _ _ _ c.loop-acted.acted _ _ c.loop-acted.invariant.fetched c.loop-acted-test.true c.in-Request.ensures.fetched
-
-pub returns-then-head-clause-reads : goal.returns-then-head-clause-reads
-returns-then-head-clause-reads g c = read_then (Request c.in-Request.head) _ _ _ _ _ c.loop-acted.acted _ _ c.loop-acted.invariant.fetched c.loop-acted-test.true c.in-Request.ensures.fetched
-
-pub returns-then-count-text-clause-stamps : goal.returns-then-count-text-clause-stamps
-returns-then-count-text-clause-stamps g c = are_taken _ _ (taken_more _ c.in-Some.stamp c.loop-acted.invariant.taken c.in-Some.ensures.steps) refl refl
-
-pub returns-then-head-clause-stamps : goal.returns-then-head-clause-stamps
-returns-then-head-clause-stamps g c = are_taken _ _ (taken_more _ c.in-Some.stamp c.loop-acted.invariant.taken c.in-Some.ensures.steps) refl refl
-
-pub returns-in-AtEnd-clause-session : goal.returns-in-AtEnd-clause-session
-returns-in-AtEnd-clause-session g c = λ honest h sound at. ended_at_end (c.loop-acted.invariant.so_far honest h sound at) c.loop-acted-test.true c.in-AtEnd.ensures.found
-
-pub returns-in-CutOff-clause-session : goal.returns-in-CutOff-clause-session
-returns-in-CutOff-clause-session g c = λ honest h sound at. ended_cut (c.loop-acted.invariant.so_far honest h sound at) c.loop-acted-test.true c.in-CutOff.ensures.found
-
-pub returns-in-Faulty-clause-session : goal.returns-in-Faulty-clause-session
-returns-in-Faulty-clause-session g c = λ honest h sound at. finished_faulty _ c.in-Faulty.fault _ _ (c.loop-acted.invariant.so_far honest h sound at) c.loop-acted-test.true c.fault_reply.ensures.text c.in-Faulty.ensures.found c.finish.ensures.finished
-
-pub returns-in-NoMemory-clause-session : goal.returns-in-NoMemory-clause-session
-returns-in-NoMemory-clause-session g c = λ honest h sound at. finished_memory _ _ _ (c.loop-acted.invariant.so_far honest h sound at) c.loop-acted-test.true c.memory_reply.ensures.text c.finish-in-NoMemory.ensures.finished
-
-pub returns-in-Stopped-clause-session : goal.returns-in-Stopped-clause-session
-returns-in-Stopped-clause-session g c = λ honest h sound at. broken_off c.in-Stopped.cause (c.loop-acted.invariant.so_far honest h sound at) c.loop-acted-test.true (not_by_writer c.in-Stopped.cause _ _ c.in-Stopped.ensures.stops)
-
-pub returns-in_default-clause-session : goal.returns-in_default-clause-session
-returns-in_default-clause-session g c = λ honest h sound at. ended_dry c.in-Request.head (c.loop-acted.invariant.so_far honest h sound at) c.loop-acted-test.true c.in_default.ensures.steps c.in-Request.ensures.found
-
-pub returns-then-count-text-clause-session : goal.returns-then-count-text-clause-session
-returns-then-count-text-clause-session g c = λ honest h sound at.
-    let so = c.loop-acted.invariant.so_far (c.answer_one-answer.ensures.stays.on.past honest) h sound at in
-    let start = start_of g.K.Keep.keeping c.args.self.now h in
-    let mid = host_by start so.items in
-    let acted = acted_at _ start c.in-Some.stamp _ (take (c.in-Request.head.len + c.in-Request.head.body) c.next_request.new.buffer.items) _ c.answer_slice-text.result.now _ (c.answer_one-answer.ensures.acted honest mid so.served.sound so.served.stands_for) c.loop-acted.invariant.stays.on.stays c.loop-acted.invariant.stays.operator (ap (take c.request_len-needed.result) c.deref.ensures.value ∙ ap (λ (k : ℕ). take k c.next_request.new.buffer.items) c.request_len-needed.ensures.answer) c.answer_slice-text.ensures.bytes in
-    broken_write _ _ _ _ c.in-Some.stamp c.in-Request.head c.send-count.result c.answer_slice-text.result.now c.next_request.new.buffer.items so c.loop-acted-test.true c.in-Some.ensures.steps acted c.in-Request.ensures.found c.in-Request.ensures.kept (omega (arith, c.in-Request.ensures.buffered, c.next_request.new.buffer.ok.0)) c.if-count-text.true c.send-count.ensures.bytes
-
-pub returns-then-head-clause-session : goal.returns-then-head-clause-session
-returns-then-head-clause-session g c = λ honest h sound at.
-    let so = c.loop-acted.invariant.so_far (c.answer_one-answer.ensures.stays.on.past honest) h sound at in
-    let start = start_of g.K.Keep.keeping c.args.self.now h in
-    let mid = host_by start so.items in
-    let acted = acted_at _ start c.in-Some.stamp _ (take (c.in-Request.head.len + c.in-Request.head.body) c.next_request.new.buffer.items) _ c.answer_slice-text.result.now _ (c.answer_one-answer.ensures.acted honest mid so.served.sound so.served.stands_for) c.loop-acted.invariant.stays.on.stays c.loop-acted.invariant.stays.operator (ap (take c.request_len-needed.result) c.deref.ensures.value ∙ ap (λ (k : ℕ). take k c.next_request.new.buffer.items) c.request_len-needed.ensures.answer) c.answer_slice-text.ensures.bytes in
-    ended_closed _ _ _ _ c.in-Some.stamp c.in-Request.head c.send-count.result c.answer_slice-text.result.now c.next_request.new.buffer.items so c.loop-acted-test.true c.in-Some.ensures.steps acted c.in-Request.ensures.found c.in-Request.ensures.kept (omega (arith, c.in-Request.ensures.buffered, c.next_request.new.buffer.ok.0)) (omega (arith, c.send-count.ensures.bound, c.if-count-text.false)) c.send-count.ensures.bytes c.if-head.true
+pub returns-then-head : goal.returns-then-head
+returns-then-head g c = record {
+  conversation = record {
+    stays = open_then c.loop-acted.invariant.stays c.answer_one-answer.ensures.stays;
+    session = λ honest h sound at.
+        let so = c.loop-acted.invariant.so_far (c.answer_one-answer.ensures.stays.on.past honest) h sound at in
+        let start = start_of g.K.Keep.keeping c.args.self.now h in
+        let mid = host_by start so.items in
+        let acted = acted_at _ start c.in-Some.stamp _ (take (c.in-Ok.head.len + c.in-Ok.head.body) c.next_request.new.buffer.items) _ c.answer_slice-text.result.now _ (c.answer_one-answer.ensures.acted honest mid so.served.sound so.served.stands_for) c.loop-acted.invariant.stays.on.stays c.loop-acted.invariant.stays.operator (ap (take c.request_len-needed.result) c.deref.ensures.value ∙ ap (λ (k : ℕ). take k c.next_request.new.buffer.items) c.request_len-needed.ensures.answer) c.answer_slice-text.ensures.bytes in
+        ended_closed _ _ _ _ c.in-Some.stamp c.in-Ok.head c.send-count.result c.answer_slice-text.result.now c.next_request.new.buffer.items so c.loop-acted-test.true c.in-Some.ensures.steps acted c.in-Ok.ensures.found c.in-Ok.ensures.kept (omega (arith, c.in-Ok.ensures.buffered, c.next_request.new.buffer.ok.0)) (omega (arith, c.send-count.ensures.bound, c.if-count-text.false)) c.send-count.ensures.bytes c.if-head.true;
+    stamps = are_taken _ _ (taken_more _ c.in-Some.stamp c.loop-acted.invariant.taken c.in-Some.ensures.steps) refl refl;
+    reads = read_then (Ok c.in-Ok.head) _ _ _ _ _ c.loop-acted.acted _ _ c.loop-acted.invariant.fetched c.loop-acted-test.true c.in-Ok.ensures.fetched;
+    room = omega (arith, c.loop-acted-test.true);
+    whole = (c.in-Ok.ensures.stops ∙ c.loop-acted.invariant.readable, c.send-count.ensures.done (omega (arith, c.send-count.ensures.bound, c.if-count-text.false)));
+    cause = tt;
+  };
+}
 
 pub loop-acted-preserved : goal.loop-acted-preserved
 loop-acted-preserved g c = record {
   fine = c.send-count.ensures.done (omega (arith, c.send-count.ensures.bound, c.if-count-text.false));
-  readable = c.in-Request.ensures.stops ∙ c.loop-acted.invariant.readable;
+  readable = c.in-Ok.ensures.stops ∙ c.loop-acted.invariant.readable;
   taken = taken_more _ c.in-Some.stamp c.loop-acted.invariant.taken c.in-Some.ensures.steps;
-  fetched = read_more c.in-Request.head _ _ _ _ _ c.loop-acted.acted _ c.next_request.new.buffer.items _ c.loop-acted.invariant.fetched c.loop-acted-test.true c.in-Request.ensures.fetched c.in-Request.ensures.head (omega (arith, c.in-Request.ensures.buffered, c.next_request.new.buffer.ok.0)) c.if-head.false
+  fetched = read_more c.in-Ok.head _ _ _ _ _ c.loop-acted.acted _ c.next_request.new.buffer.items _ c.loop-acted.invariant.fetched c.loop-acted-test.true c.in-Ok.ensures.fetched c.in-Ok.ensures.head (omega (arith, c.in-Ok.ensures.buffered, c.next_request.new.buffer.ok.0)) c.if-head.false
       (c.drop_front.ensures.rest ∙ ap (λ (k : ℕ). drop k c.next_request.new.buffer.items) c.request_len-needed.ensures.answer);
   can = c.in-Some.ensures.goes.keeps;
   room = omega (arith, c.loop-acted.invariant.room);
@@ -96,9 +98,19 @@ loop-acted-preserved g c = record {
       let so = c.loop-acted.invariant.so_far (c.answer_one-answer.ensures.stays.on.past honest) h sound at in
       let start = start_of g.K.Keep.keeping c.args.self.now h in
       let mid = host_by start so.items in
-      let acted = acted_at _ start c.in-Some.stamp _ (take (c.in-Request.head.len + c.in-Request.head.body) c.next_request.new.buffer.items) _ c.answer_slice-text.result.now _ (c.answer_one-answer.ensures.acted honest mid so.served.sound so.served.stands_for) c.loop-acted.invariant.stays.on.stays c.loop-acted.invariant.stays.operator (ap (take c.request_len-needed.result) c.deref.ensures.value ∙ ap (λ (k : ℕ). take k c.next_request.new.buffer.items) c.request_len-needed.ensures.answer) c.answer_slice-text.ensures.bytes in
-      goes_on _ _ _ _ c.in-Some.stamp c.in-Request.head c.send-count.result c.answer_slice-text.result.now c.next_request.new.buffer.items _ so c.loop-acted-test.true c.in-Some.ensures.steps acted c.in-Request.ensures.found c.in-Request.ensures.kept (omega (arith, c.in-Request.ensures.buffered, c.next_request.new.buffer.ok.0)) (omega (arith, c.send-count.ensures.bound, c.if-count-text.false)) c.send-count.ensures.bytes c.if-head.false (c.drop_front.ensures.rest ∙ ap (λ (k : ℕ). drop k c.next_request.new.buffer.items) c.request_len-needed.ensures.answer);
+      let acted = acted_at _ start c.in-Some.stamp _ (take (c.in-Ok.head.len + c.in-Ok.head.body) c.next_request.new.buffer.items) _ c.answer_slice-text.result.now _ (c.answer_one-answer.ensures.acted honest mid so.served.sound so.served.stands_for) c.loop-acted.invariant.stays.on.stays c.loop-acted.invariant.stays.operator (ap (take c.request_len-needed.result) c.deref.ensures.value ∙ ap (λ (k : ℕ). take k c.next_request.new.buffer.items) c.request_len-needed.ensures.answer) c.answer_slice-text.ensures.bytes in
+      goes_on _ _ _ _ c.in-Some.stamp c.in-Ok.head c.send-count.result c.answer_slice-text.result.now c.next_request.new.buffer.items _ so c.loop-acted-test.true c.in-Some.ensures.steps acted c.in-Ok.ensures.found c.in-Ok.ensures.kept (omega (arith, c.in-Ok.ensures.buffered, c.next_request.new.buffer.ok.0)) (omega (arith, c.send-count.ensures.bound, c.if-count-text.false)) c.send-count.ensures.bytes c.if-head.false (c.drop_front.ensures.rest ∙ ap (λ (k : ℕ). drop k c.next_request.new.buffer.items) c.request_len-needed.ensures.answer);
 }
 
-pub returns-clause-session : goal.returns-clause-session
-returns-clause-session g c = λ honest h sound at. ended_limit (c.loop-acted.invariant.so_far honest h sound at) (omega arith)
+pub returns : goal.returns
+returns g c = record {
+  conversation = record {
+    stays = c.loop-acted.invariant.stays;
+    session = λ honest h sound at. ended_limit (c.loop-acted.invariant.so_far honest h sound at) (omega arith);
+    stamps = are_taken _ _ c.loop-acted.invariant.taken (omega arith) refl;
+    reads = read_all _ _ _ _ _ c.loop-acted.invariant.fetched;
+    room = refl;
+    whole = (c.loop-acted.invariant.readable, c.loop-acted.invariant.fine);
+    cause = tt;
+  };
+}

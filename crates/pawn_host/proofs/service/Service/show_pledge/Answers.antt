@@ -16,6 +16,6 @@ returns-in-Err-clause-acted g c = λ honest h sound at bytes read.
     let operator = service_operator c.args.self.now in
     let why = c.in-Err.refusal in
     let gates = rw c.in-Err.is at (c.gate.ensures.reads.tells honest h at) in
-    acted_refused (start_of g.K.Keep.keeping c.args.self.now h) c.args.stamp.now bytes c.told.result (g.K.Keep.keeping.stands c.gate.new.keep) (show_request c.args.book c.args.key c.args.number) why read c.told.ensures.tells
+    acted_refused (start_of g.K.Keep.keeping c.args.self.now h) c.args.stamp.now bytes c.tell.result (g.K.Keep.keeping.stands c.gate.new.keep) (show_request c.args.book c.args.key c.args.number) why read c.tell.ensures.tells
     (c.gate.ensures.reads.same honest h at) sound (gate_refused h operator c.args.stamp.now c.args.book c.args.key c.args.number why gates)
     (λ steady store. c.gate.ensures.steady steady (err_is c.gate.result why c.in-Err.is store))
