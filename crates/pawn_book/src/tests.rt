@@ -108,7 +108,9 @@ fn caller_of(alloc: Global, ask: Ask) -> Result<Caller, Fail> {
         } => {
             return Ok(Caller::Bearer(BearerRequest::OnPledge {
                 receipt: receipt(pledge, word)?,
-                command: BearerCommand::try_from(command).ok().ok_or("no bearer's command")?,
+                command: BearerCommand::try_from(command)
+                    .ok()
+                    .ok_or("no bearer's command")?,
             }));
         }
         Ask::Put { version, rate } => BrokerRequest::PutTerms(NewTerms {
@@ -124,7 +126,9 @@ fn caller_of(alloc: Global, ask: Ask) -> Result<Caller, Fail> {
         }
         Ask::Broker { pledge, command } => BrokerRequest::OnPledge {
             number: number(pledge)?,
-            command: BrokerCommand::try_from(command).ok().ok_or("no broker's command")?,
+            command: BrokerCommand::try_from(command)
+                .ok()
+                .ok_or("no broker's command")?,
         },
     };
     Ok(Caller::Broker {
