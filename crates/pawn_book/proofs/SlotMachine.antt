@@ -1,6 +1,6 @@
 -- What one step of a book does to the machine of a slot.
 use Rattle.std.proofs.Common.{◌≡◌, ℕ, ◌+◌, ◌<◌, ◌≤◌, List, [], ◌∷◌, ◌++◌, length, Some, None, refl, ◌∙◌, ap, sym, subst, arith}
-use Rattle.std.specs.Prelude.{if◌then◌else◌, Option, ◌==◌, Bool, true, false, is_some, nat_lt}
+use Rattle.std.specs.Prelude.{if◌then◌else◌, Option, ◌==◌, true, false, is_some, nat_lt}
 use Rattle.std.specs.List.{flat_map}
 use Rattle.std.proofs.lemmas.Bool.Decides.{nat_tests}
 use Rattle.pawn_pledge.specs.declared.command.Command.{Command}
@@ -8,13 +8,13 @@ use Rattle.pawn_pledge.specs.declared.command.Stamp.{Stamp}
 use Rattle.pawn_pledge.specs.declared.receipt.Receipt.{Receipt}
 use Rattle.pawn_pledge.specs.Pledge.{PledgeValue}
 use Rattle.pawn_book.specs.declared.change.Change.{Change}
-use Rattle.pawn_book.specs.declared.change.Change.TheVariants.{MakeBook, AddTerms, PutPledge}
+use Rattle.pawn_book.specs.declared.change.Change.TheVariants.{PutPledge}
 use Rattle.pawn_book.specs.declared.reply.Reply.{Reply}
 use Rattle.pawn_book.specs.declared.request.BearerRequest.TheVariants.{Present, OnPledge as OnReceipt}
 use Rattle.pawn_book.specs.declared.request.BrokerRequest.TheVariants.{PutTerms, TakePledge, OnPledge, Show}
 use Rattle.pawn_book.specs.declared.request.Caller.{Caller}
 use Rattle.pawn_book.specs.declared.request.Caller.TheVariants.{Operator, Broker, Bearer}
-use Rattle.pawn_book.specs.BookStep.{BookValue, Outcome, Refuses, Says, Makes, book_after, book_step, changed_book, book_head, pledge_from}
+use Rattle.pawn_book.specs.BookStep.{BookValue, Outcome, Refuses, Says, Makes, book_after, book_step, book_head, pledge_from}
 use Rattle.pawn_book.specs.Laws.{Asks}
 use Rattle.pawn_book.specs.Traces.{SlotEvent, Entered, Did, does, enters, is_live_in, numbered_from, slot_events, slot_of, touches, within_slot}
 use Rattle.pawn_book.specs.Machines.{after_command, after_judgement, with_pledge, solo_from, solo_step}
@@ -43,7 +43,7 @@ pub put_one : (slot : List Receipt) (m : ℕ → Option PledgeValue) (n : ℕ) (
 put_one slot m n p None did q at step = enter_one slot m n p q at
 put_one slot m n p (Some o) did q at step =
     elim (is_live_in slot n o) as (λ v. m n ≡ (if v then Some o else None)
-        → solo_from slot m (if is_some (if v then Some o else None) then did else enters slot (n, p)) q ≡ (if q == n then within_slot slot n (Some p) else m q)) [
+    → solo_from slot m (if is_some (if v then Some o else None) then did else enters slot (n, p)) q ≡ (if q == n then within_slot slot n (Some p) else m q)) [
       | true ↦ λ e. ap (λ f. f q) (step o refl e)
       | false ↦ λ e. enter_one slot m n p q e
     ] at

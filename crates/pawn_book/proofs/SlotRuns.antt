@@ -21,9 +21,8 @@ use Rattle.pawn_book.specs.BookStep.{BookValue, Outcome, Refuses, Says, Makes, b
 use Rattle.pawn_book.specs.HostStep.{Host, host_after, host_step, within_limit, rows, with_book}
 use Rattle.pawn_book.specs.Keeping.{pledges_of}
 use Rattle.pawn_book.specs.Laws.{book_run}
-use Rattle.pawn_book.specs.Plans.{next_host}
 use Rattle.pawn_book.specs.Runs.{Mark, read_as, no_memory, no_store, Event, event_after, marked_after, run_host}
-use Rattle.pawn_book.specs.Traces.{SlotEvent, book_trace, enters, is_live_in, is_settled, event_slot, event_request, request_on, numbered_from, run_slot, slot_events, slot_of, slot_trace, within_slot}
+use Rattle.pawn_book.specs.Traces.{book_trace, enters, is_live_in, is_settled, event_slot, event_request, request_on, numbered_from, run_slot, slot_events, slot_of, slot_trace, within_slot}
 use Rattle.pawn_book.specs.Machines.{is_in, is_slots, no_pledge, solo, solo_from, solo_reply}
 use Rattle.pawn_book.specs.Slots.{BearersJoin, BooksAnswerAlone, EqualTracesAnswerAlike, OtherBooksStay, SlotsAnswerAlone, SlotsAreHeld, joins}
 use Rattle.pawn_book.proofs.Sounds.{get-with_book}
@@ -193,8 +192,8 @@ joins_found : (slot : List Receipt) (before : Option BookValue) (b : ℕ) (stamp
 joins_found slot before b stamp r command None at mine = refl
 joins_found slot before b stamp r command (Some p) at mine =
     elim (is_live r.secret p) as (λ v. is_live r.secret p ≡ v
-        → slot_events slot before stamp (Bearer (OnReceipt r command)) (bearer_commands b r.number stamp command (if v then Some p else None))
-        ≡ joins r.number stamp command (bearer_commands b r.number stamp command (if v then Some p else None))) [
+    → slot_events slot before stamp (Bearer (OnReceipt r command)) (bearer_commands b r.number stamp command (if v then Some p else None))
+    ≡ joins r.number stamp command (bearer_commands b r.number stamp command (if v then Some p else None))) [
       | true ↦ λ live. joins_live slot before b stamp r command p at (in_live slot r p mine live) (pledge_step p stamp command)
       | false ↦ λ dead. refl
     ] refl

@@ -4,29 +4,25 @@ use Rattle.std.specs.Prelude.{if◌then◌else◌, Option, ◌==◌, Bool, true,
 use Rattle.std.specs.FinMap.{get}
 use Rattle.std.specs.List.{list_any}
 use Rattle.std.proofs.lemmas.Bool.Decides.{nat_tests}
-use Rattle.pawn_pledge.specs.declared.command.Command.{Command}
 use Rattle.pawn_pledge.specs.declared.command.Stamp.{Stamp}
 use Rattle.pawn_pledge.specs.declared.receipt.Receipt.{Receipt}
-use Rattle.pawn_pledge.specs.Laws.{IsReplacing, IsSpent}
+use Rattle.pawn_pledge.specs.Laws.{IsSpent}
 use Rattle.pawn_pledge.specs.Replayable.{Each}
 use Rattle.pawn_pledge.specs.Pledge.{PledgeValue, live_of}
 use Rattle.pawn_pledge.proofs.Receipts.{earlier_are_spent, spent-changed}
 use Rattle.pawn_book.specs.declared.change.Change.{Change}
-use Rattle.pawn_book.specs.declared.change.Change.TheVariants.{PutPledge}
 use Rattle.pawn_book.specs.declared.refusal.Refusal.TheVariants.{Full, NoSuchReceipt}
 use Rattle.pawn_book.specs.declared.reply.Reply.{Reply}
 use Rattle.pawn_book.specs.declared.request.BearerRequest.{BearerRequest}
 use Rattle.pawn_book.specs.declared.request.BearerRequest.TheVariants.{Present, OnPledge as OnReceipt}
 use Rattle.pawn_book.specs.declared.request.Caller.{Caller}
-use Rattle.pawn_book.specs.declared.request.Request.{Request}
-use Rattle.pawn_book.specs.BookStep.{BookValue, Outcome, Refuses, Says, Makes, are_unknown, bearer_commands, bearer_step, book_after, book_step, changed_book, book_head, present_receipts, is_live, is_secret, live_at, only_live, out_of, pledge_from, pledge_in, put_from, Shown}
+use Rattle.pawn_book.specs.BookStep.{BookValue, Outcome, Refuses, Says, Makes, are_unknown, bearer_commands, bearer_step, book_after, book_step, changed_book, book_head, is_secret, live_at, only_live, out_of, pledge_from, pledge_in, put_from, Shown}
 use Rattle.pawn_book.specs.HostStep.{Host, host_after, host_step, within_limit, rows, with_book}
-use Rattle.pawn_book.specs.Plans.{next_host}
-use Rattle.pawn_book.specs.Runs.{Mark, read_as, no_memory, no_store, Event, event_after, marked_after, run_host}
+use Rattle.pawn_book.specs.Runs.{Mark, read_as, no_memory, no_store, event_after, marked_after}
 use Rattle.pawn_book.specs.Traces.{is_settled}
 use Rattle.pawn_book.specs.Slots.{EarlierReceiptsAreSpent, IsSpentReceipt, PresentsSpent, SpentIsUnknown, SpentReceiptsStaySpent}
 use Rattle.pawn_book.proofs.KeptLemmas.{put_there}
-use Rattle.pawn_book.proofs.MadeLemmas.{BookIs, CommandIs, DidOn, MadeBy, PledgeIs, TermsAre, made_by}
+use Rattle.pawn_book.proofs.MadeLemmas.{BookIs, CommandIs, MadeBy, PledgeIs, TermsAre, made_by}
 use Rattle.pawn_book.proofs.Places.{pledge_from-put, pledge_within}
 use Rattle.pawn_book.proofs.Plans.{taken_is}
 use Rattle.pawn_book.proofs.RepeatLemmas.{did_on}

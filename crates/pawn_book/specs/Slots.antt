@@ -1,5 +1,5 @@
 -- The laws of slots: what other callers do shows in no reply to a slot's own request.
-use Rattle.std.specs.Prelude.{◌≡◌, ℕ, List, [], ◌∷◌, ◌==◌, true, Option, None, Some, Result, Ok}
+use Rattle.std.specs.Prelude.{◌≡◌, ℕ, List, [], ◌∷◌, ◌==◌, true, Option, None, Some}
 use Rattle.std.specs.List.{list_any}
 use Rattle.std.specs.FinMap.{get}
 use Rattle.pawn_pledge.specs.declared.command.Stamp.{Stamp}
@@ -14,7 +14,6 @@ use Rattle.pawn_book.specs.declared.change.Change.{Change}
 use Rattle.pawn_book.specs.declared.refusal.Refusal.TheVariants.{NoSuchReceipt}
 use Rattle.pawn_book.specs.declared.reply.Reply.{Reply}
 use Rattle.pawn_book.specs.declared.request.Request.{Request}
-use Rattle.pawn_book.specs.declared.request.Caller.{Caller}
 use Rattle.pawn_book.specs.declared.request.Caller.TheVariants.{Bearer}
 use Rattle.pawn_book.specs.declared.request.BearerRequest.{BearerRequest}
 use Rattle.pawn_book.specs.declared.request.BearerRequest.TheVariants.{Present, OnPledge as OnReceipt}
@@ -99,7 +98,7 @@ BearersJoin F =
     → is_slots slot (OnReceipt r command) ≡ true
     → is_settled (reply_after h operator before stamp (record { book = b; caller = Bearer (OnReceipt r command) })) ≡ true
     → slot_events slot (get (run_host h operator before).books b) stamp (Bearer (OnReceipt r command))
-        (host_step (run_host h operator before) operator stamp (record { book = b; caller = Bearer (OnReceipt r command) }))
+    (host_step (run_host h operator before) operator stamp (record { book = b; caller = Bearer (OnReceipt r command) }))
     ≡ joins r.number stamp command (bearer_step (solo slot (slot_trace b slot h operator before)) b stamp (OnReceipt r command))
 
 -- receipts that were declared away or surrendered

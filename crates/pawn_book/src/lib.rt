@@ -27,7 +27,10 @@ pub use change::{BookHead, Change, Imported, Planned};
 pub use fault::{KeepError, SaveError, StoreFault};
 pub use gates::{find_live, gate};
 pub use keep::Keep;
-pub use laws::{books_answer_alone, changes_differ, entries_act_once, extensions_act_once, repeats_act_once, slots_answer_alone, slots_are_held, spent_receipts_are_unknown};
+pub use laws::{
+    books_answer_alone, changes_differ, entries_act_once, extensions_act_once, repeats_act_once,
+    slots_answer_alone, slots_are_held, spent_receipts_are_unknown,
+};
 pub use limits::{MOST_BOOKINGS, MOST_NAME_BYTES, MOST_RECEIPTS, MOST_ROWS};
 pub use list::ListKeep;
 pub use pawn_pledge::{

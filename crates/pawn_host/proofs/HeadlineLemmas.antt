@@ -1,19 +1,14 @@
 -- Each answer of a run is that of a machine alone.
-use Rattle.std.proofs.Common.{◌≡◌, ◌≢◌, ℕ, zero, suc, List, [], ◌∷◌, map, take, true, Some, None, Ok, Err, refl, ◌∙◌, ap, sym, subst}
+use Rattle.std.proofs.Common.{◌≡◌, ℕ, zero, suc, List, [], ◌∷◌, take, true, Some, Ok, refl, ◌∙◌, ap, sym, subst}
 use Rattle.std.specs.Prelude.{All, Result, slice_get}
-use Rattle.std.specs.FinMap.{get}
-use Rattle.std.specs.Result.{result_unwrap_or}
 use Rattle.std.proofs.lemmas.List.Elements.{All-head, All-tail}
 use Rattle.pawn_pledge.specs.declared.command.Stamp.{Stamp}
-use Rattle.pawn_pledge.specs.declared.receipt.Receipt.{Receipt}
 use Rattle.pawn_book.specs.declared.refusal.Refusal.{Refusal}
 use Rattle.pawn_book.specs.declared.refusal.Refusal.TheVariants as no
 use Rattle.pawn_book.specs.declared.request.Request.{Request}
-use Rattle.pawn_book.specs.declared.request.Caller.TheVariants.{Bearer}
-use Rattle.pawn_book.specs.declared.request.BearerRequest.{BearerRequest}
 use Rattle.pawn_book.specs.BookStep.{Out, Told, Denied, Shown, out_of}
 use Rattle.pawn_book.specs.HostStep.{Host, host_step}
-use Rattle.pawn_book.specs.Runs.{Mark, read_as, no_memory, no_store, Said, Answered, event_after, marked_said}
+use Rattle.pawn_book.specs.Runs.{Mark, read_as, no_memory, no_store, event_after, marked_said}
 use Rattle.pawn_book.specs.Traces.{is_settled, slot_trace}
 use Rattle.pawn_book.specs.Machines.{solo_reply}
 use Rattle.pawn_book.proofs.Sounds.{absurd_none, some_is}

@@ -10,7 +10,7 @@ use Rattle.pawn_pledge.specs.declared.command.Command.{Command}
 use Rattle.pawn_pledge.specs.Pledge.{PledgeValue, last_secret, live_under, live_of}
 use Rattle.pawn_pledge.specs.Words.{close, is_open, issue_of, with_secret}
 use Rattle.pawn_pledge.specs.Step.{Judged, Refused, Answered, Changed, bars, declare_bars, declare_step, pledge_step, pledge_after, redeem_bars, redeem_step, unless}
-use Rattle.pawn_pledge.specs.Laws.{EarlierAreSpent, IsReplacing, IsSpent, NeverLiveAgain}
+use Rattle.pawn_pledge.specs.Laws.{EarlierAreSpent, IsSpent, NeverLiveAgain}
 use Rattle.pawn_pledge.specs.declared.command.Done.{Done}
 use Rattle.pawn_pledge.specs.declared.command.Paper.{Paper}
 use Rattle.pawn_pledge.proofs.Moves.{Move, changed-is, gate-is, unless-changed, pledge_moves, Entering, Declaring, Extending, Settling}

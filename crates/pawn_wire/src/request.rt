@@ -154,7 +154,9 @@ fn command_pledge(
     let key = key(&sent.fields)?;
     let number = item.ok_or(WireFault::BadBody)?;
     let command = commands::command(alloc, action, sent.body)?;
-    let command = BrokerCommand::try_from(command).ok().ok_or(WireFault::BadBody)?;
+    let command = BrokerCommand::try_from(command)
+        .ok()
+        .ok_or(WireFault::BadBody)?;
     Ok(Caller::Broker {
         key,
         asked: BrokerRequest::OnPledge { number, command },
@@ -175,7 +177,9 @@ fn command_receipt(alloc: Global, action: Action, sent: &Sent<'_>) -> Result<Cal
 {
     let receipt = receipts::one(&sent.fields)?;
     let command = commands::command(alloc, action, sent.body)?;
-    let command = BearerCommand::try_from(command).ok().ok_or(WireFault::BadBody)?;
+    let command = BearerCommand::try_from(command)
+        .ok()
+        .ok_or(WireFault::BadBody)?;
     Ok(Caller::Bearer(BearerRequest::OnPledge { receipt, command }))
 }
 
