@@ -1,4 +1,5 @@
 -- What the functions below a session find.
+use Rattle.pawn_host.specs.Limits.{most_reads}
 use Rattle.std.specs.Prelude.{◌≡◌, ℕ, ◌+◌, ◌<◌, ◌≤◌, Bool, true, false, List, [], ◌∷◌, ◌++◌, length, Option, Result, Ok, Err, IfOk}
 use Rattle.std.specs.List.{concat}
 use Rattle.std.specs.Io.KnownBytes.{Consumes, Keeps, IsAtEnd}
@@ -42,7 +43,7 @@ HasHead buffer f = (h : RequestHead) × (rest : List ℕ) × ReadsHead buffer h 
 abbrev pub IsCausedBy : Cause → Bool → ℕ → Bool → Type 0
 IsCausedBy Read read_failed reads write_failed = read_failed ≡ true
 IsCausedBy Write read_failed reads write_failed = write_failed ≡ true
-IsCausedBy Reads read_failed reads write_failed = reads ≡ 100000
+IsCausedBy Reads read_failed reads write_failed = reads ≡ most_reads
 
 -- no read failed, unless that is what was found
 abbrev pub StopsBy : Result HeadFacts Rest → Bool → Bool → ℕ → Type 0
@@ -55,10 +56,10 @@ StopsBy (Err (Stopped cause)) was failed reads = IsCausedBy cause failed reads f
 
 -- how many reads were made, and whether one failed
 abbrev pub FilledBy : Filled → Bool → Bool → ℕ → ℕ → Type 0
-FilledBy More was failed old new = (old < 100000) × (new ≡ old + 1) × (failed ≡ was)
+FilledBy More was failed old new = (old < most_reads) × (new ≡ old + 1) × (failed ≡ was)
 FilledBy Done was failed old new = (new ≡ old + 1) × (failed ≡ was)
 FilledBy Failed was failed old new = (new ≡ old + 1) × (failed ≡ true)
-FilledBy OutOfReads was failed old new = (new ≡ 100000) × (new ≡ old)
+FilledBy OutOfReads was failed old new = (new ≡ most_reads) × (new ≡ old)
 FilledBy NoRoom was failed old new = (new ≡ old + 1) × (failed ≡ was)
 
 -- each read gave a piece, and was made while no whole request stood in the buffer

@@ -1,4 +1,5 @@
 -- A stream as whole requests and a rest.
+pub use Rattle.pawn_host.specs.Limits.{most_requests}
 use Rattle.std.specs.Prelude.{◌≡◌, ◌≢◌, ℕ, ◌<◌, ◌≤◌, ◌⊎◌, Bool, true, false, List, [], ◌∷◌, ◌++◌, length, Ok, Err}
 use Rattle.httparse.specs.Grammar.{RequestHead, HasNoRequest, MayBecomeRequest}
 use Rattle.pawn_wire.specs.Head.{ReadsHead, IsBadHead, fields_of, body_length, closes_by}
@@ -13,10 +14,6 @@ pub data Ending : Type 0 where
   closed : Ending
   faulted : HeadFault → Ending
   at_limit : Ending
-
--- at most so many requests are taken
-abbrev pub most_requests : ℕ
-most_requests = 1000
 
 -- the bytes are one whole request: a head, and as many bytes as it says
 pub record IsRequest (bytes : List ℕ) (closes : Bool) : Type 0 where

@@ -12,6 +12,7 @@
 #![tactic(auto)]
 
 mod laws;
+mod limits;
 mod reading;
 mod service;
 mod session;
@@ -20,11 +21,12 @@ pub use laws::{
     fault_is_exact, items_are_unique, nothing_is_wanted, open_ends, run_reads_events,
     runs_answer_alone, runs_join, split_begins, split_ends_early, split_is_front, split_is_unique,
 };
+pub use limits::{MOST_READS, MOST_REQUESTS};
 pub use pawn_book::{Day, Keep, ListKeep, Number, RequestDay, Secret, Stamp};
 pub use pawn_view::Writing;
-pub use reading::{MOST_READS, Reading};
+pub use reading::Reading;
 pub use service::{Answer, Service};
-pub use session::{Cause, Ended, How, IoFault, MOST_REQUESTS};
+pub use session::{Cause, Ended, How, IoFault};
 
 #[cfg(test)]
 mod tests;

@@ -1,13 +1,12 @@
 //! A reader whose reads are counted.
 ghost use Rattle.std.specs.Prelude.{◌≡◌, ◌+◌, ◌<◌, ◌≤◌, true, false, is_err, ◌||◌, length, take};
 ghost use Rattle.std.specs.Io.{ReadsAtMost};
+ghost use Rattle.pawn_host.specs.Limits.{most_reads};
 ghost use Rattle.std.specs.Io.KnownBytes.{ReadConsumes};
 
+use crate::limits::MOST_READS;
 use std::io;
 use std::io::Read;
-
-/// At most as many reads are made.
-pub const MOST_READS: u32 = 100_000;
 
 /// A reader whose reads are counted. It remembers a failed one.
 #[derive(Drop)]
@@ -15,7 +14,7 @@ pub struct Reading<R> {
     inner: R,
     count: u32,
     failed: bool,
-    ghost within: { count ≤ 100000 },
+    ghost within: { count ≤ most_reads },
     ghost fresh: { count ≡ 0 → failed ≡ false },
 }
 

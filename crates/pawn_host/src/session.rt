@@ -2,12 +2,14 @@
 ghost use Rattle.std.specs.Prelude.{◌≡◌, ◌+◌, ◌≤◌, [], drop, IfSome, IfOk, IfErr, vec_len, ◌*◌, ◌^◌, false};
 ghost use Rattle.std.specs.Io.KnownBytes.{Keeps, prepend_known};
 ghost use Rattle.pawn_view.specs.Ends.{write_failed, written_of};
+ghost use Rattle.pawn_host.specs.Limits.{most_request_bytes};
 ghost use Rattle.pawn_host.specs.Ends.{reads, read_failed, left_of};
 ghost use Rattle.pawn_host.specs.Finding.{IsFilled, Finds, FindsRest, HasHead, StopsBy, FilledBy, IsFetched};
 ghost use Rattle.pawn_host.specs.Session.{IsFinished, IsOver, IsConversation};
 ghost use Rattle.pawn_host.specs.Keeps.{answer_bytes};
 
-use crate::reading::{MOST_READS, Reading};
+use crate::limits::{MOST_READS, MOST_REQUESTS};
+use crate::reading::Reading;
 use crate::service::{Answer, Service};
 use pawn_book::{Keep, Stamp};
 use pawn_view::{Writing, send};
@@ -103,7 +105,7 @@ fn fill<R: Read>(reader: &mut Reading<R>, buffer: &mut Vec<u8>) -> Filled
 // Reads until a whole head is in the buffer.
 fn await_head<R: Read>(reader: &mut Reading<R>, buffer: &mut Vec<u8>) -> Result<HeadFacts, Rest>
     ensures head { IfOk result (HasHead buffer.new.items) }
-    ensures small { IfOk result (λ h. h.len + h.body ≤ 1056768) }
+    ensures small { IfOk result (λ h. h.len + h.body ≤ most_request_bytes) }
     ensures kept { IfOk result (λ _. Keeps (prepend_known buffer.old.items (left_of R.remaining reader.old)) (prepend_known buffer.new.items (left_of R.remaining reader.new))) }
     ensures rest { IfSome (prepend_known buffer.old.items (left_of R.remaining reader.old)) (λ s. IfErr result (FindsRest s)) }
     ensures stops { StopsBy result (read_failed reader.old) (read_failed reader.new) (reads reader.new) }
@@ -133,7 +135,7 @@ fn await_head<R: Read>(reader: &mut Reading<R>, buffer: &mut Vec<u8>) -> Result<
 
 // The length of a request with this head.
 fn request_len(head: &HeadFacts) -> usize
-    requires small { head.now.len + head.now.body ≤ 1056768 }
+    requires small { head.now.len + head.now.body ≤ most_request_bytes }
     ensures answer { result ≡ head.now.len + head.now.body }
 {
     head.len + head.body
@@ -146,9 +148,9 @@ fn await_body<R: Read>(
     head: HeadFacts,
 ) -> Result<HeadFacts, Rest>
     requires head { HasHead buffer.old.items head }
-    requires small { head.len + head.body ≤ 1056768 }
+    requires small { head.len + head.body ≤ most_request_bytes }
     ensures head { IfOk result (HasHead buffer.new.items) }
-    ensures small { IfOk result (λ h. h.len + h.body ≤ 1056768) }
+    ensures small { IfOk result (λ h. h.len + h.body ≤ most_request_bytes) }
     ensures buffered { IfOk result (λ h. h.len + h.body ≤ vec_len buffer.new) }
     ensures kept { IfOk result (λ _. Keeps (prepend_known buffer.old.items (left_of R.remaining reader.old)) (prepend_known buffer.new.items (left_of R.remaining reader.new))) }
     ensures found { IfSome (prepend_known buffer.old.items (left_of R.remaining reader.old)) (λ s. Finds s result) }
@@ -171,7 +173,7 @@ fn await_body<R: Read>(
 // Reads until the next request is in the buffer.
 fn next_request<R: Read>(reader: &mut Reading<R>, buffer: &mut Vec<u8>) -> Result<HeadFacts, Rest>
     ensures head { IfOk result (HasHead buffer.new.items) }
-    ensures small { IfOk result (λ h. h.len + h.body ≤ 1056768) }
+    ensures small { IfOk result (λ h. h.len + h.body ≤ most_request_bytes) }
     ensures buffered { IfOk result (λ h. h.len + h.body ≤ vec_len buffer.new) }
     ensures kept { IfOk result (λ _. Keeps (prepend_known buffer.old.items (left_of R.remaining reader.old)) (prepend_known buffer.new.items (left_of R.remaining reader.new))) }
     ensures found { IfSome (prepend_known buffer.old.items (left_of R.remaining reader.old)) (λ s. Finds s result) }
@@ -191,9 +193,6 @@ fn drop_front(buffer: &mut Vec<u8>, n: usize)
 {
     drop(buffer.drain(..n));
 }
-
-/// At most so many requests are answered.
-pub const MOST_REQUESTS: u32 = 1000;
 
 // What is written for an answer.
 fn answer_slice(answer: &Answer) -> &[u8]

@@ -5,6 +5,14 @@ use Rattle.std.specs.Prelude.{ℕ}
 abbrev pub most_number : ℕ
 most_number = 999999999
 
+-- the bytes of a broker's reference
+abbrev pub most_reference_bytes : ℕ
+most_reference_bytes = 40
+
+-- the bytes of an article
+abbrev pub most_article_bytes : ℕ
+most_article_bytes = 80
+
 -- up to 75 pounds
 abbrev pub small_credit : ℕ
 small_credit = 7500

@@ -22,7 +22,7 @@ use Rattle.pawn_pledge.specs.declared.record.Opening.{Opening}
 use Rattle.pawn_pledge.specs.Number.{IsNumber}
 use Rattle.pawn_pledge.specs.Text.{IsText}
 use Rattle.pawn_pledge.specs.Pledge.{PledgeValue, end_with, end_of, total_on, debt_of, open_status, is_passed}
-use Rattle.pawn_pledge.specs.Limits.{small_credit, most_secrets, most_extensions, last_window}
+use Rattle.pawn_pledge.specs.Limits.{small_credit, most_secrets, most_extensions, last_window, most_article_bytes, most_reference_bytes}
 
 -- each element of a list
 abbrev pub Each : {A : Type 0} → (A → Type 0) → List A → Type 0
@@ -123,8 +123,8 @@ pub record IsReplayable (p : PledgeValue) : Type 0 where
 
 -- an opening that a request can give
 pub record IsOpening (o : Opening) : Type 0 where
-  pub reference : IsText 40 o.reference
-  pub article : IsText 80 o.article
+  pub reference : IsText most_reference_bytes o.reference
+  pub article : IsText most_article_bytes o.article
   pub agreed : IfSome o.agreed IsStampDay
 
 -- the limits of a record: of its number, texts and days, and as many of each list as it may have

@@ -1,3 +1,4 @@
+use crate::limits::{MOST_ARTICLE_BYTES, MOST_REFERENCE_BYTES};
 use crate::number::Number;
 use crate::secret::Secret;
 use crate::text::Text;
@@ -6,10 +7,10 @@ use pawn_terms::{RequestDay, last_day};
 use std::alloc::AllocError;
 
 /// The broker's reference of a pledge, of 1 to 40 bytes.
-pub type Reference = Text<40>;
+pub type Reference = Text<MOST_REFERENCE_BYTES>;
 
 /// What was pawned, in 1 to 80 bytes.
-pub type Article = Text<80>;
+pub type Article = Text<MOST_ARTICLE_BYTES>;
 
 /// What is agreed when a pledge is taken.
 #[derive(Debug, Drop)]

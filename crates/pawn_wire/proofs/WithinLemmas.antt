@@ -15,7 +15,7 @@ use Rattle.pawn_pledge.specs.declared.receipt.Receipt.{Receipt}
 use Rattle.pawn_terms.specs.Refusals.{first_of}
 use Rattle.pawn_pledge.specs.declared.command.Command.{Command}
 use Rattle.pawn_pledge.specs.Commands.{is_brokers, is_bearers}
-use Rattle.pawn_book.specs.Limits.{IsCapacity, AreFew}
+use Rattle.pawn_book.specs.Limits.{IsCapacity, AreFew, most_name_bytes}
 use Rattle.pawn_book.specs.declared.request.NewBook.{NewBook}
 use Rattle.pawn_book.specs.declared.request.Request.{Request}
 use Rattle.pawn_book.specs.declared.request.Caller.{Caller}
@@ -110,14 +110,14 @@ agreed_within (Some member) agreed e = some_day member agreed e
 
 -- ---- bodies
 
-new_book_within : (d : Data) (new : NewBook) → new_book_of d ≡ Some new → IsText 60 new.name × IsCapacity new.capacity
+new_book_within : (d : Data) (new : NewBook) → new_book_of d ≡ Some new → IsText most_name_bytes new.name × IsCapacity new.capacity
 new_book_within d new e =
     let capacity = given_some (and_then (number_at (codes "capacity") d) (in_range 1 1000)) _ new e in
     let bookings = given_some (number_at (codes "capacity") d) (in_range 1 1000) capacity.0 capacity.1 in
     let key = given_some (key_at (codes "key") d) _ new capacity.2 in
     let name = given_some (text_at 60 (codes "name") d) _ new key.2 in
     let same : ◌≡◌ {A = NewBook} (record { key = key.0; name = name.0; capacity = capacity.0 }) new = cc (name.2) in
-    subst (λ (b : NewBook). IsText 60 b.name × IsCapacity b.capacity) same
+    subst (λ (b : NewBook). IsText most_name_bytes b.name × IsCapacity b.capacity) same
     (text_within 60 (codes "name") d name.0 name.1, ranged 1 1000 bookings.0 capacity.0 bookings.2)
 
 opening_within : (d : Data) (opening : Opening) → opening_of d ≡ Some opening → IsOpening opening
@@ -229,7 +229,7 @@ caller_within : (endpoint : Endpoint) (item : Option ℕ) (fields : List Pair) (
 caller_within Create item fields body caller numbered e =
     let key = after_ok (key_given fields) _ caller e in
     mapped IsCallerWithin (Operator key.0) (body_said new_book_of body) caller (or_fault_ok BadBody _ caller key.2)
-    (λ new is. of_body (λ (b : NewBook). IsText 60 b.name × IsCapacity b.capacity) new_book_of body new is (λ d. new_book_within d new))
+    (λ new is. of_body (λ (b : NewBook). IsText most_name_bytes b.name × IsCapacity b.capacity) new_book_of body new is (λ d. new_book_within d new))
 caller_within PutTerms item fields body caller numbered e =
     let key = after_ok (key_given fields) _ caller e in
     mapped IsCallerWithin (λ terms. Broker key.0 (broker.PutTerms terms)) (body_said new_terms_of body) caller (or_fault_ok BadBody _ caller key.2) (λ terms is. tt)

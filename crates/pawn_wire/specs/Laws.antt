@@ -10,7 +10,7 @@ use Rattle.pawn_pledge.specs.declared.command.Command.{Command}
 use Rattle.pawn_pledge.specs.declared.record.Booking.{Booking}
 use Rattle.pawn_pledge.specs.Text.{IsText}
 use Rattle.pawn_pledge.specs.Replayable.{IsOpening, Each}
-use Rattle.pawn_book.specs.Limits.{IsCapacity, AreFew}
+use Rattle.pawn_book.specs.Limits.{IsCapacity, AreFew, most_name_bytes}
 use Rattle.pawn_book.specs.declared.request.Request.{Request}
 use Rattle.pawn_book.specs.declared.request.Caller.{Caller}
 use Rattle.pawn_book.specs.declared.request.Caller.TheVariants.{Operator, Broker, Bearer}
@@ -101,7 +101,7 @@ IsCommandWithin (Command.Extend until) = IsStampDay until
 
 -- what a caller asks is within the limits of its parts
 abbrev pub IsCallerWithin : Caller → Type 0
-IsCallerWithin (Operator key new_book) = IsText 60 new_book.name × IsCapacity new_book.capacity
+IsCallerWithin (Operator key new_book) = IsText most_name_bytes new_book.name × IsCapacity new_book.capacity
 IsCallerWithin (Broker key (PutTerms terms)) = Unit {0}
 IsCallerWithin (Broker key (TakePledge opening)) = IsOpening opening
 IsCallerWithin (Broker key (broker.OnPledge n command)) = IsNumber n × IsCommandWithin command
