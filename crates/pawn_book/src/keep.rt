@@ -15,7 +15,7 @@ use pawn_pledge::{Brief, Day, Entry, Extension, Number, Pledge, Reference, Terms
 /// What keeps a host, however it is kept. Only `save` changes the host.
 pub trait Keep {
     /// What is known of it: the hosts that it stands for; whether its store has returned what was
-    /// written, still answers, and never fails.
+    /// written, still answers, and never fails; the hosts that a crash now may leave.
     ghost keeping: { Keeping Self };
 
     /// The head of a book, if the book stands.
