@@ -19,7 +19,7 @@ use Rattle.pawn_book.specs.declared.refusal.Refusal.{Refusal}
 use Rattle.pawn_book.specs.declared.refusal.Refusal.TheVariants.{NoSuchReceipt, WindowFull}
 use Rattle.pawn_book.specs.declared.reply.Reply.TheVariants.{TermsPut, Opened}
 use Rattle.pawn_book.specs.declared.change.Change.TheVariants.{AddTerms, PutPledge}
-use Rattle.pawn_book.specs.BookStep.{BookValue, Shown, Outcome, Refuses, Says, Makes, are_same_rates, are_unknown, bearer_commands, book_after, broker_commands, confirmed_booking, is_window_full, judged_outcome, show_pledge, within_window, book_step, first_receipt, book_head, present_receipts, is_same_book, is_same_opening, make_or_refuse, newest, next_terms, pledge_from, put_from, put_terms, take_pledge, taken_under, terms_at, with_reference, live_at, pledge_in}
+use Rattle.pawn_book.specs.BookStep.{BookValue, Shown, Outcome, Refuses, Says, Makes, are_same_rates, are_unknown, bearer_commands, book_after, broker_commands, confirmed_booking, is_window_full, judged_outcome, show_pledge, within_window, book_step, first_receipt, book_head, present_receipts, is_same_book, is_same_opening, make_or_refuse, newest, next_terms, pledge_from, put_from, put_terms, take_pledge, next_pledge, terms_at, with_reference, live_at, pledge_in}
 use Rattle.pawn_book.specs.Laws.{book_run}
 use Rattle.pawn_book.proofs.Sounds.{put_next}
 use Rattle.pawn_book.proofs.KeptLemmas.{AreKept, are_kept_on, are_kept_push, are_kept_put, are_kept_same, kept_moved}
@@ -69,7 +69,7 @@ put_terms_grows book b new None = from (next_terms (length book.terms) new)
     )
 
 -- the list after the next pledge
-pub next_pledges : (book : BookValue) (opening : Opening) (stamp : Stamp) (p : PledgeValue) → taken_under (book_head book) opening stamp (newest book.terms) ≡ Ok p
+pub next_pledges : (book : BookValue) (opening : Opening) (stamp : Stamp) (p : PledgeValue) → next_pledge (book_head book) opening stamp (newest book.terms) ≡ Ok p
     → put_from 1 book.pledges p.agreement.number p ≡ book.pledges ++ p ∷ []
 next_pledges book opening stamp p is =
     let number = (taken_is (book_head book) opening stamp (newest book.terms) p is).number in
@@ -77,9 +77,9 @@ next_pledges book opening stamp p is =
 
 take_pledge_grows : (book : BookValue) (b : ℕ) (opening : Opening) (stamp : Stamp) (o : Option PledgeValue) → GrowsTo book (book_after (Some book) (take_pledge book b opening stamp o))
 take_pledge_grows book b opening stamp (Some p) = grows_by book (is_same_opening p.agreement.opening opening) _ _ (stays book) (stays book)
-take_pledge_grows book b opening stamp None = from (taken_under (book_head book) opening stamp (newest book.terms)) refl
+take_pledge_grows book b opening stamp None = from (next_pledge (book_head book) opening stamp (newest book.terms)) refl
   where
-    from : (r : Result PledgeValue Refusal) → taken_under (book_head book) opening stamp (newest book.terms) ≡ r
+    from : (r : Result PledgeValue Refusal) → next_pledge (book_head book) opening stamp (newest book.terms) ≡ r
         → GrowsTo book (book_after (Some book) (make_or_refuse r (λ p. Makes (PutPledge b p.agreement.number p) (Opened (first_receipt p)))))
     from (Err why) is = stays book
     from (Ok p) is = (

@@ -21,7 +21,7 @@ use Rattle.pawn_book.specs.declared.reply.Reply.{Reply}
 use Rattle.pawn_book.specs.declared.reply.Reply.TheVariants.{BookMade, TermsPut, Opened, Commanded}
 use Rattle.pawn_book.specs.declared.change.Change.{Change}
 use Rattle.pawn_book.specs.declared.change.Change.TheVariants.{MakeBook, AddTerms, PutPledge}
-use Rattle.pawn_book.specs.BookStep.{BookValue, Out, Shown, Outcome, Refuses, Says, Makes, are_same_rates, are_unknown, bearer_commands, broker_commands, confirmed_booking, is_window_full, judged_outcome, show_pledge, within_window, book_step, first_receipt, book_head, present_receipts, is_same_book, is_same_opening, make_or_refuse, newest, next_terms, pledge_from, put_terms, take_pledge, taken_under, terms_at, with_reference, live_at, pledge_in}
+use Rattle.pawn_book.specs.BookStep.{BookValue, Out, Shown, Outcome, Refuses, Says, Makes, are_same_rates, are_unknown, bearer_commands, broker_commands, confirmed_booking, is_window_full, judged_outcome, show_pledge, within_window, book_step, first_receipt, book_head, present_receipts, is_same_book, is_same_opening, make_or_refuse, newest, next_terms, pledge_from, put_terms, take_pledge, next_pledge, terms_at, with_reference, live_at, pledge_in}
 use Rattle.pawn_book.specs.Laws.{Asks}
 use Rattle.pawn_book.proofs.CommandPlans.{live_is}
 
@@ -54,7 +54,7 @@ pub data MadeBy (before : Option BookValue) (operator b : ℕ) (stamp : Stamp) (
       → terms_at book.terms new.version ≡ None → next_terms (length book.terms) new ≡ Ok terms
       → change ≡ AddTerms b new.version terms → reply ≡ TermsPut new.version → MadeBy before operator b stamp caller change reply
   PledgeIs : (key : ℕ) (opening : Opening) (book : BookValue) (p : PledgeValue) → caller ≡ Broker key (TakePledge opening) → before ≡ Some book → (book.key == key) ≡ true
-      → with_reference book.pledges opening.reference ≡ None → taken_under (book_head book) opening stamp (newest book.terms) ≡ Ok p
+      → with_reference book.pledges opening.reference ≡ None → next_pledge (book_head book) opening stamp (newest book.terms) ≡ Ok p
       → change ≡ PutPledge b p.agreement.number p → reply ≡ Opened (first_receipt p) → MadeBy before operator b stamp caller change reply
   CommandIs : (book : BookValue) (n : ℕ) (command : Command) → before ≡ Some book → Asks caller n command → DidOn book b n stamp command change reply
       → MadeBy before operator b stamp caller change reply
@@ -142,7 +142,7 @@ made_by (Some book) operator b stamp (Broker key (TakePledge opening)) change re
         → MadeBy (Some book) operator b stamp (Broker key (TakePledge opening)) change reply
     from (Some p) at is = told_again (is_same_opening p.agreement.opening opening) _ _ change reply is
     from None at made_is =
-        let ok = made_ok (taken_under (book_head book) opening stamp (newest book.terms)) _ change reply made_is in
+        let ok = made_ok (next_pledge (book_head book) opening stamp (newest book.terms)) _ change reply made_is in
         PledgeIs key opening book ok.0 refl refl (if_makes (book.key == key) _ _ change reply is).0 at ok.1 (same_change _ change _ reply ok.2) (same_reply _ change _ reply ok.2)
 made_by (Some book) operator b stamp (Broker key (OnPledge n command)) change reply is =
     let passed = if_makes (book.key == key) _ _ change reply is in

@@ -26,7 +26,7 @@ use Rattle.pawn_book.specs.declared.refusal.Refusal.TheVariants.{PledgesFull, Te
 use Rattle.pawn_book.specs.declared.change.Change.{Change}
 use Rattle.pawn_book.specs.declared.change.Change.TheVariants.{MakeBook, AddTerms, PutPledge}
 use Rattle.pawn_book.specs.declared.change.BookHead.{BookHead}
-use Rattle.pawn_book.specs.BookStep.{BookValue, Makes, make_book, make_or_refuse, made_book, next_terms, put_terms, take_pledge, taken_under, under_pledge, with_room, terms_at, newest, with_reference, book_head, first_receipt, changed_book, pledge_from, pledge_in, put_from, is_same_text}
+use Rattle.pawn_book.specs.BookStep.{BookValue, Makes, make_book, make_or_refuse, made_book, next_terms, put_terms, take_pledge, next_pledge, under_pledge, with_room, terms_at, newest, with_reference, book_head, first_receipt, changed_book, pledge_from, pledge_in, put_from, is_same_text}
 use Rattle.pawn_book.specs.HostStep.{Host, with_book}
 use Rattle.pawn_book.specs.Limits.{IsCapacity, most_name_bytes, most_pledges, most_terms}
 use Rattle.pawn_book.specs.Sound.{AreNumberedFrom, AreSound, AreWords, HasTextsAndWords, IsSound, IsWord}
@@ -70,7 +70,7 @@ terms_plans h b at new terms sound is none answer version few checked =
 
 -- the next pledge is taken
 pub pledge_plans : (h : Host) (b : ℕ) (at : BookValue) (opening : Opening) (stamp : Stamp) (p : PledgeValue) → IsSound h → get h.books b ≡ Some at
-    → with_reference at.pledges opening.reference ≡ None → taken_under (book_head at) opening stamp (newest at.terms) ≡ Ok p
+    → with_reference at.pledges opening.reference ≡ None → next_pledge (book_head at) opening stamp (newest at.terms) ≡ Ok p
     → IsNext at p → IsStanding p → HasTextsAndWords p
     → Plans h b (take_pledge at b opening stamp (with_reference at.pledges opening.reference)) (Ok (record { change = Some (PutPledge b p.agreement.number p); reply = Opened (first_receipt p) }))
 pledge_plans h b at opening stamp p sound is none answer next standing written =
@@ -172,7 +172,7 @@ pub record IsTakenAs (head : BookHead) (opening : Opening) (stamp : Stamp) (newe
   pub first : (issued : Issued) × (p.secrets ≡ issued ∷ []) × (issued.secret ≡ stamp.word)
   pub few : head.pledges < most_pledges
 
-pub taken_is : (head : BookHead) (opening : Opening) (stamp : Stamp) (newest : Option Rates) (p : PledgeValue) → taken_under head opening stamp newest ≡ Ok p → IsTakenAs head opening stamp newest p
+pub taken_is : (head : BookHead) (opening : Opening) (stamp : Stamp) (newest : Option Rates) (p : PledgeValue) → next_pledge head opening stamp newest ≡ Ok p → IsTakenAs head opening stamp newest p
 taken_is head opening stamp None p is = cc is
 taken_is head opening stamp (Some terms) p is = from (pledge_start (head.pledges + 1) opening head.terms terms stamp) refl is
   where
@@ -189,12 +189,12 @@ taken_is head opening stamp (Some terms) p is = from (pledge_start (head.pledges
 
 -- the next pledge, as a keeper tells of the book
 pub taken_plans : (h : Host) (b : ℕ) (at : BookValue) (head : BookHead) (opening : Opening) (stamp : Stamp) (p : PledgeValue) → IsSound h → get h.books b ≡ Some at → head ≡ book_head at
-    → None ≡ with_reference (pledges_of (get h.books b)) opening.reference → taken_under head opening stamp (newest at.terms) ≡ Ok p → IsStanding p
+    → None ≡ with_reference (pledges_of (get h.books b)) opening.reference → next_pledge head opening stamp (newest at.terms) ≡ Ok p → IsStanding p
     → IsUtf8 opening.reference → IsUtf8 opening.article → IsWord stamp.word
     → Plans h b (take_pledge at b opening stamp (with_reference at.pledges opening.reference)) (Ok (record { change = Some (PutPledge b p.agreement.number p); reply = Opened (first_receipt p) }))
 taken_plans h b at head opening stamp p sound is heads none answer standing reference article word =
     let absent : with_reference at.pledges opening.reference ≡ None = sym (none ∙ ap (λ o. with_reference (pledges_of o) opening.reference) is) in
-    let next : taken_under (book_head at) opening stamp (newest at.terms) ≡ Ok p = ap (λ (q : BookHead). taken_under q opening stamp (newest at.terms)) (sym heads) ∙ answer in
+    let next : next_pledge (book_head at) opening stamp (newest at.terms) ≡ Ok p = ap (λ (q : BookHead). next_pledge q opening stamp (newest at.terms)) (sym heads) ∙ answer in
     let taken = taken_is (book_head at) opening stamp (newest at.terms) p next in
     let is_next : IsNext at p = record {
       number = taken.number;

@@ -15,8 +15,8 @@ use Rattle.pawn_book.specs.declared.request.Caller.{Caller}
 use Rattle.pawn_book.specs.BookStep.{BookValue, Outcome, Refuses, Says, Makes, book_step, changed_book, book_head, pledge_from}
 use Rattle.pawn_book.specs.HostStep.{Host, host_step, within_limit, rows, with_book}
 use Rattle.pawn_book.specs.Keeping.{pledges_of}
-use Rattle.pawn_book.specs.Runs.{Mark, read_as, no_memory, no_store, Event, event_after}
-use Rattle.pawn_book.specs.Traces.{SlotEvent, Entered, Did, does, enters, is_live_in, event_slot, numbered_from, run_slot, slot_events, slot_of, within_slot}
+use Rattle.pawn_book.specs.Runs.{Mark, read_as, no_memory, no_store, Event, host_after_event}
+use Rattle.pawn_book.specs.Traces.{SlotEvent, Entered, Did, does, enters, is_live_in, event_slot, numbered_pledges, run_slot, slot_events, slot_of, within_slot}
 use Rattle.pawn_book.specs.Machines.{no_pledge, solo_from, solo_step}
 use Rattle.pawn_book.specs.Slots.{AreAccepted, IsAccepted, TracesAreAccepted}
 use Rattle.pawn_book.proofs.MadeLemmas.{BookIs, CommandIs, MadeBy, PledgeIs, TermsAre, made_by}
@@ -33,10 +33,10 @@ accepted-append slot m (Did n stamp command ∷ es) fs h k = (h.0, accepted-appe
 accepted_entering : (slot : List Receipt) (m : ℕ → Option PledgeValue) (n : ℕ) (p : PledgeValue) → AreAccepted slot m (enters slot (n, p))
 accepted_entering slot m n p = elim (is_live_in slot n p) as (λ v. AreAccepted slot m (if v then Entered n p ∷ [] else [])) [ true ↦ tt | false ↦ tt ]
 
-accepted_all : (slot : List Receipt) (m : ℕ → Option PledgeValue) (k : ℕ) (ps : List PledgeValue) → AreAccepted slot m (flat_map (enters slot) (numbered_from k ps))
+accepted_all : (slot : List Receipt) (m : ℕ → Option PledgeValue) (k : ℕ) (ps : List PledgeValue) → AreAccepted slot m (flat_map (enters slot) (numbered_pledges k ps))
 accepted_all slot m k [] = tt
 accepted_all slot m k (p ∷ ps) =
-    accepted-append slot m (enters slot (k, p)) (flat_map (enters slot) (numbered_from (k + 1) ps)) (accepted_entering slot m k p)
+    accepted-append slot m (enters slot (k, p)) (flat_map (enters slot) (numbered_pledges (k + 1) ps)) (accepted_entering slot m k p)
     (accepted_all slot (solo_from slot m (enters slot (k, p))) (k + 1) ps)
 
 accepted_put : (slot : List Receipt) (m : ℕ → Option PledgeValue) (n : ℕ) (p : PledgeValue) (old : Option PledgeValue) (did : List SlotEvent)
@@ -108,13 +108,13 @@ marked_accepted b slot h operator stamp no_store = tt
 run_accepted : {F : Type 0} (b : ℕ) (slot : List Receipt) (h : Host) (operator : ℕ) (events : List (Event F)) → AreAccepted slot (slot_of slot (get h.books b)) (run_slot b slot h operator events)
 run_accepted b slot h operator [] = tt
 run_accepted b slot h operator (event ∷ events) =
-    accepted-append slot (slot_of slot (get h.books b)) (event_slot b slot h operator event.stamp event.mark) (run_slot b slot (event_after h operator event) operator events)
+    accepted-append slot (slot_of slot (get h.books b)) (event_slot b slot h operator event.stamp event.mark) (run_slot b slot (host_after_event h operator event) operator events)
     (marked_accepted b slot h operator event.stamp event.mark)
-    (subst (λ m. AreAccepted slot m (run_slot b slot (event_after h operator event) operator events)) (sym (event_follows b slot h operator event))
-    (run_accepted b slot (event_after h operator event) operator events))
+    (subst (λ m. AreAccepted slot m (run_slot b slot (host_after_event h operator event) operator events)) (sym (event_follows b slot h operator event))
+    (run_accepted b slot (host_after_event h operator event) operator events))
 
 pub traces_are_accepted : {F : Type 0} → TracesAreAccepted F
 traces_are_accepted h operator b slot events =
-    accepted-append slot no_pledge (flat_map (enters slot) (numbered_from 1 (pledges_of (get h.books b)))) (run_slot b slot h operator events)
+    accepted-append slot no_pledge (flat_map (enters slot) (numbered_pledges 1 (pledges_of (get h.books b)))) (run_slot b slot h operator events)
     (accepted_all slot no_pledge 1 (pledges_of (get h.books b)))
     (subst (λ m. AreAccepted slot m (run_slot b slot h operator events)) (sym (entered_start slot (get h.books b))) (run_accepted b slot h operator events))

@@ -16,7 +16,7 @@ use Rattle.pawn_book.specs.declared.request.Caller.{Caller}
 use Rattle.pawn_book.specs.declared.request.Caller.TheVariants.{Operator, Broker, Bearer}
 use Rattle.pawn_book.specs.BookStep.{BookValue, Outcome, Refuses, Says, Makes, book_after, book_step, book_head, pledge_from}
 use Rattle.pawn_book.specs.Laws.{Asks}
-use Rattle.pawn_book.specs.Traces.{SlotEvent, Entered, Did, does, enters, is_live_in, numbered_from, slot_events, slot_of, touches, within_slot}
+use Rattle.pawn_book.specs.Traces.{SlotEvent, Entered, Did, does, enters, is_live_in, numbered_pledges, slot_events, slot_of, touches, within_slot}
 use Rattle.pawn_book.specs.Machines.{after_command, after_judgement, with_pledge, solo_from, solo_step}
 use Rattle.pawn_book.proofs.MadeLemmas.{BookIs, CommandIs, MadeBy, PledgeIs, TermsAre, made_by}
 use Rattle.pawn_book.proofs.Places.{pledge_below, pledge_from-put, pledge_past, pledge_within}
@@ -50,12 +50,12 @@ put_one slot m n p (Some o) did q at step =
 
 -- a whole list enters, where none of it stood
 enter_all : (slot : List Receipt) (k : ℕ) (ps : List PledgeValue) (m : ℕ → Option PledgeValue) (q : ℕ) → ((n : ℕ) → k ≤ n → m n ≡ None)
-    → solo_from slot m (flat_map (enters slot) (numbered_from k ps)) q ≡ (if nat_lt q k then m q else within_slot slot q (pledge_from k ps q))
+    → solo_from slot m (flat_map (enters slot) (numbered_pledges k ps)) q ≡ (if nat_lt q k then m q else within_slot slot q (pledge_from k ps q))
 enter_all slot k [] m q none = grind (arith, nat_tests, none q)
 enter_all slot k (p ∷ ps) m q none =
     let first : (n : ℕ) → solo_from slot m (enters slot (k, p)) n ≡ (if n == k then within_slot slot k (Some p) else m n) = λ n. enter_one slot m k p n (none k (omega arith)) in
     let later : (n : ℕ) → k + 1 ≤ n → solo_from slot m (enters slot (k, p)) n ≡ None = λ n le. let less : k ≤ n = omega arith in grind (arith, nat_tests, first n, none n less) in
-    ap (λ f. f q) (solo_from-append slot m (enters slot (k, p)) (flat_map (enters slot) (numbered_from (k + 1) ps)))
+    ap (λ f. f q) (solo_from-append slot m (enters slot (k, p)) (flat_map (enters slot) (numbered_pledges (k + 1) ps)))
     ∙ enter_all slot (k + 1) ps (solo_from slot m (enters slot (k, p))) q later
     ∙ enter_end (solo_from slot m (enters slot (k, p)) q) (first q)
   where
@@ -65,7 +65,7 @@ enter_all slot k (p ∷ ps) m q none =
 
 -- from an empty machine
 pub enter_book : (slot : List Receipt) (ps : List PledgeValue) (m : ℕ → Option PledgeValue) (q : ℕ) → ((n : ℕ) → m n ≡ None)
-    → solo_from slot m (flat_map (enters slot) (numbered_from 1 ps)) q ≡ within_slot slot q (pledge_from 1 ps q)
+    → solo_from slot m (flat_map (enters slot) (numbered_pledges 1 ps)) q ≡ within_slot slot q (pledge_from 1 ps q)
 enter_book slot ps m q none = enter_all slot 1 ps m q (λ n le. none n) ∙ first
   where
     first : (if nat_lt q 1 then m q else within_slot slot q (pledge_from 1 ps q)) ≡ within_slot slot q (pledge_from 1 ps q)

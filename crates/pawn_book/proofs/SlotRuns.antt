@@ -21,8 +21,8 @@ use Rattle.pawn_book.specs.BookStep.{BookValue, Outcome, Refuses, Says, Makes, b
 use Rattle.pawn_book.specs.HostStep.{Host, host_after, host_step, within_limit, rows, with_book}
 use Rattle.pawn_book.specs.Keeping.{pledges_of}
 use Rattle.pawn_book.specs.Laws.{book_run}
-use Rattle.pawn_book.specs.Runs.{Mark, read_as, no_memory, no_store, Event, event_after, marked_after, run_host}
-use Rattle.pawn_book.specs.Traces.{book_trace, enters, is_live_in, is_settled, event_slot, event_request, request_on, numbered_from, run_slot, slot_events, slot_of, slot_trace, within_slot}
+use Rattle.pawn_book.specs.Runs.{Mark, read_as, no_memory, no_store, Event, host_after_event, host_after_mark, run_host}
+use Rattle.pawn_book.specs.Traces.{book_trace, enters, is_live_in, is_settled, event_slot, event_request, request_on, numbered_pledges, run_slot, slot_events, slot_of, slot_trace, within_slot}
 use Rattle.pawn_book.specs.Machines.{is_in, is_slots, no_pledge, solo, solo_from, solo_reply}
 use Rattle.pawn_book.specs.Slots.{BearersJoin, BooksAnswerAlone, EqualTracesAnswerAlike, OtherBooksStay, SlotsAnswerAlone, SlotsAreHeld, joins}
 use Rattle.pawn_book.proofs.Sounds.{get-with_book}
@@ -84,35 +84,35 @@ seen slot h b stamp request o q follows = from (request.book == b) refl
     from false is = ap (λ x. slot_of slot x q) (after false is)
 
 marked_follows : {F : Type 0} (b : ℕ) (slot : List Receipt) (h : Host) (operator : ℕ) (stamp : Stamp) (mark : Mark F) (q : ℕ)
-    → solo_from slot (slot_of slot (get h.books b)) (event_slot b slot h operator stamp mark) q ≡ slot_of slot (get (marked_after h operator stamp mark).books b) q
+    → solo_from slot (slot_of slot (get h.books b)) (event_slot b slot h operator stamp mark) q ≡ slot_of slot (get (host_after_mark h operator stamp mark).books b) q
 marked_follows b slot h operator stamp (read_as (Ok request)) q = seen slot h b stamp request (host_step h operator stamp request) q (host_follows slot h operator stamp request)
 marked_follows b slot h operator stamp (read_as (Err fault)) q = refl
 marked_follows b slot h operator stamp no_memory q = refl
 marked_follows b slot h operator stamp no_store q = refl
 
 pub event_follows : {F : Type 0} (b : ℕ) (slot : List Receipt) (h : Host) (operator : ℕ) (event : Event F)
-    → solo_from slot (slot_of slot (get h.books b)) (event_slot b slot h operator event.stamp event.mark) ≡ slot_of slot (get (event_after h operator event).books b)
+    → solo_from slot (slot_of slot (get h.books b)) (event_slot b slot h operator event.stamp event.mark) ≡ slot_of slot (get (host_after_event h operator event).books b)
 event_follows b slot h operator event = λ i q. marked_follows b slot h operator event.stamp event.mark q i
 
 run_follows : {F : Type 0} (b : ℕ) (slot : List Receipt) (h : Host) (operator : ℕ) (events : List (Event F))
     → solo_from slot (slot_of slot (get h.books b)) (run_slot b slot h operator events) ≡ slot_of slot (get (run_host h operator events).books b)
 run_follows b slot h operator [] = refl
 run_follows b slot h operator (event ∷ events) =
-    solo_from-append slot (slot_of slot (get h.books b)) (event_slot b slot h operator event.stamp event.mark) (run_slot b slot (event_after h operator event) operator events)
-    ∙ ap (λ m. solo_from slot m (run_slot b slot (event_after h operator event) operator events)) (event_follows b slot h operator event)
-    ∙ run_follows b slot (event_after h operator event) operator events
+    solo_from-append slot (slot_of slot (get h.books b)) (event_slot b slot h operator event.stamp event.mark) (run_slot b slot (host_after_event h operator event) operator events)
+    ∙ ap (λ m. solo_from slot m (run_slot b slot (host_after_event h operator event) operator events)) (event_follows b slot h operator event)
+    ∙ run_follows b slot (host_after_event h operator event) operator events
 
-enter_start : (slot : List Receipt) (book : Option BookValue) (q : ℕ) → solo_from slot no_pledge (flat_map (enters slot) (numbered_from 1 (pledges_of book))) q ≡ slot_of slot book q
+enter_start : (slot : List Receipt) (book : Option BookValue) (q : ℕ) → solo_from slot no_pledge (flat_map (enters slot) (numbered_pledges 1 (pledges_of book))) q ≡ slot_of slot book q
 enter_start slot None q = refl
 enter_start slot (Some book) q = enter_book slot book.pledges no_pledge q (λ n. refl)
 
-pub entered_start : (slot : List Receipt) (book : Option BookValue) → solo_from slot no_pledge (flat_map (enters slot) (numbered_from 1 (pledges_of book))) ≡ slot_of slot book
+pub entered_start : (slot : List Receipt) (book : Option BookValue) → solo_from slot no_pledge (flat_map (enters slot) (numbered_pledges 1 (pledges_of book))) ≡ slot_of slot book
 entered_start slot book = λ i q. enter_start slot book q i
 
 -- a slot's machine holds what is in the slot
 pub slot_is_held : {F : Type 0} (h : Host) (operator b : ℕ) (slot : List Receipt) (events : List (Event F)) → solo slot (slot_trace b slot h operator events) ≡ slot_of slot (get (run_host h operator events).books b)
 slot_is_held h operator b slot events =
-    solo_from-append slot no_pledge (flat_map (enters slot) (numbered_from 1 (pledges_of (get h.books b)))) (run_slot b slot h operator events)
+    solo_from-append slot no_pledge (flat_map (enters slot) (numbered_pledges 1 (pledges_of (get h.books b)))) (run_slot b slot h operator events)
     ∙ ap (λ m. solo_from slot m (run_slot b slot h operator events)) (entered_start slot (get h.books b))
     ∙ run_follows b slot h operator events
 
@@ -231,7 +231,7 @@ request_alone h operator b stamp request o settled = from (request.book == b) re
         ∙ ap (λ (c : ℕ). book_after (get h.books c) (book_step (get h.books c) operator c stamp request.caller)) here)
 
 marked_alone : {F : Type 0} (h : Host) (operator b : ℕ) (stamp : Stamp) (mark : Mark F)
-    → book_run (get h.books b) operator b (event_request b h operator stamp mark) ≡ get (marked_after h operator stamp mark).books b
+    → book_run (get h.books b) operator b (event_request b h operator stamp mark) ≡ get (host_after_mark h operator stamp mark).books b
 marked_alone h operator b stamp (read_as (Ok request)) = request_alone h operator b stamp request (host_step h operator stamp request) (settled_step h operator stamp request)
 marked_alone h operator b stamp (read_as (Err fault)) = refl
 marked_alone h operator b stamp no_memory = refl
@@ -244,9 +244,9 @@ book_run-append book operator b (x ∷ xs) ys = book_run-append (book_after book
 book_is_alone : {F : Type 0} (h : Host) (operator b : ℕ) (events : List (Event F)) → book_run (get h.books b) operator b (book_trace b h operator events) ≡ get (run_host h operator events).books b
 book_is_alone h operator b [] = refl
 book_is_alone h operator b (event ∷ events) =
-    book_run-append (get h.books b) operator b (event_request b h operator event.stamp event.mark) (book_trace b (event_after h operator event) operator events)
-    ∙ ap (λ x. book_run x operator b (book_trace b (event_after h operator event) operator events)) (marked_alone h operator b event.stamp event.mark)
-    ∙ book_is_alone (event_after h operator event) operator b events
+    book_run-append (get h.books b) operator b (event_request b h operator event.stamp event.mark) (book_trace b (host_after_event h operator event) operator events)
+    ∙ ap (λ x. book_run x operator b (book_trace b (host_after_event h operator event) operator events)) (marked_alone h operator b event.stamp event.mark)
+    ∙ book_is_alone (host_after_event h operator event) operator b events
 
 pub books_answer_alone : {F : Type 0} → BooksAnswerAlone F
 books_answer_alone h operator before stamp request settled =

@@ -18,7 +18,7 @@ use Rattle.pawn_book.specs.declared.request.BearerRequest.TheVariants.{Present, 
 use Rattle.pawn_book.specs.declared.request.Caller.{Caller}
 use Rattle.pawn_book.specs.BookStep.{BookValue, Outcome, Refuses, Says, Makes, are_unknown, bearer_commands, bearer_step, book_after, book_step, changed_book, book_head, is_secret, live_at, only_live, out_of, pledge_from, pledge_in, put_from, Shown}
 use Rattle.pawn_book.specs.HostStep.{Host, host_after, host_step, within_limit, rows, with_book}
-use Rattle.pawn_book.specs.Runs.{Mark, read_as, no_memory, no_store, event_after, marked_after}
+use Rattle.pawn_book.specs.Runs.{Mark, read_as, no_memory, no_store, host_after_event, host_after_mark}
 use Rattle.pawn_book.specs.Traces.{is_settled}
 use Rattle.pawn_book.specs.Slots.{EarlierReceiptsAreSpent, IsSpentReceipt, PresentsSpent, SpentIsUnknown, SpentReceiptsStaySpent}
 use Rattle.pawn_book.proofs.KeptLemmas.{put_there}
@@ -85,7 +85,7 @@ spent_step before operator b stamp caller r spent = from (book_step before opera
     from (Says out) is = spent
     from (Makes change reply) is = spent_made before operator b stamp caller change reply r (made_by before operator b stamp caller change reply is) spent
 
-spent_marked : {F : Type 0} (h : Host) (operator b : ℕ) (stamp : Stamp) (mark : Mark F) (r : Receipt) → IsSpentReceipt (get h.books b) r → IsSpentReceipt (get (marked_after h operator stamp mark).books b) r
+spent_marked : {F : Type 0} (h : Host) (operator b : ℕ) (stamp : Stamp) (mark : Mark F) (r : Receipt) → IsSpentReceipt (get h.books b) r → IsSpentReceipt (get (host_after_mark h operator stamp mark).books b) r
 spent_marked h operator b stamp (read_as (Ok request)) r spent = from (request.book == b) refl
   where
     from : (v : Bool) → (request.book == b) ≡ v → IsSpentReceipt (get (host_after h request.book (host_step h operator stamp request)).books b) r
@@ -105,7 +105,7 @@ spent_marked h operator b stamp no_store r spent = spent
 pub spent_receipts_stay : {F : Type 0} → SpentReceiptsStaySpent F
 spent_receipts_stay h operator b [] r spent = spent
 spent_receipts_stay h operator b (event ∷ events) r spent =
-    spent_receipts_stay (event_after h operator event) operator b events r (spent_marked h operator b event.stamp event.mark r spent)
+    spent_receipts_stay (host_after_event h operator event) operator b events r (spent_marked h operator b event.stamp event.mark r spent)
 
 pub earlier_receipts_are_spent : EarlierReceiptsAreSpent
 earlier_receipts_are_spent h operator stamp request command r p change reply asks replaces stands issued is =

@@ -206,16 +206,16 @@ with_room standing (Ok p) = first_of ((nat_le most_pledges standing, PledgesFull
 with_room standing (Err why) = Err why
 
 -- a pledge under the newest terms, one past the book's last
-abbrev pub taken_under : BookHead → Opening → Stamp → Option Rates → Result PledgeValue Refusal
-taken_under head opening stamp None = Err NoTerms
-taken_under head opening stamp (Some terms) =
+abbrev pub next_pledge : BookHead → Opening → Stamp → Option Rates → Result PledgeValue Refusal
+next_pledge head opening stamp None = Err NoTerms
+next_pledge head opening stamp (Some terms) =
     with_room head.pledges (under_pledge (pledge_start (head.pledges + 1) opening head.terms terms stamp))
 
 -- TakePledge: an equal opening is answered as the first time
 abbrev pub take_pledge : BookValue → ℕ → Opening → Stamp → Option PledgeValue → Outcome
 take_pledge book b opening stamp (Some p) = if is_same_opening p.agreement.opening opening then Says (Told (Opened (first_receipt p))) else Refuses RefTaken
 take_pledge book b opening stamp None =
-    make_or_refuse (taken_under (book_head book) opening stamp (newest book.terms)) (λ p. Makes (PutPledge b p.agreement.number p) (Opened (first_receipt p)))
+    make_or_refuse (next_pledge (book_head book) opening stamp (newest book.terms)) (λ p. Makes (PutPledge b p.agreement.number p) (Opened (first_receipt p)))
 
 -- bookings
 

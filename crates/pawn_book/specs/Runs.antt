@@ -23,31 +23,31 @@ pub data Said (F : Type 0) : Type 0 where
   Faulted : (fault : F) → Said F
 
 -- the host after an item
-abbrev pub marked_after : {F : Type 0} → Host → ℕ → Stamp → Mark F → Host
-marked_after h operator stamp (read_as (Ok request)) = host_after h request.book (host_step h operator stamp request)
-marked_after h operator stamp (read_as (Err fault)) = h
-marked_after h operator stamp no_memory = h
-marked_after h operator stamp no_store = h
+abbrev pub host_after_mark : {F : Type 0} → Host → ℕ → Stamp → Mark F → Host
+host_after_mark h operator stamp (read_as (Ok request)) = host_after h request.book (host_step h operator stamp request)
+host_after_mark h operator stamp (read_as (Err fault)) = h
+host_after_mark h operator stamp no_memory = h
+host_after_mark h operator stamp no_store = h
 
 -- what it is told
-abbrev pub marked_said : {F : Type 0} → Host → ℕ → Stamp → Mark F → Said F
-marked_said h operator stamp (read_as (Ok request)) = Answered (out_of (host_step h operator stamp request))
-marked_said h operator stamp (read_as (Err fault)) = Faulted fault
-marked_said h operator stamp no_memory = Answered (Denied Memory)
-marked_said h operator stamp no_store = Answered (Denied Store)
+abbrev pub mark_reply : {F : Type 0} → Host → ℕ → Stamp → Mark F → Said F
+mark_reply h operator stamp (read_as (Ok request)) = Answered (out_of (host_step h operator stamp request))
+mark_reply h operator stamp (read_as (Err fault)) = Faulted fault
+mark_reply h operator stamp no_memory = Answered (Denied Memory)
+mark_reply h operator stamp no_store = Answered (Denied Store)
 
-abbrev pub event_after : {F : Type 0} → Host → ℕ → Event F → Host
-event_after h operator event = marked_after h operator event.stamp event.mark
+abbrev pub host_after_event : {F : Type 0} → Host → ℕ → Event F → Host
+host_after_event h operator event = host_after_mark h operator event.stamp event.mark
 
-abbrev pub event_said : {F : Type 0} → Host → ℕ → Event F → Said F
-event_said h operator event = marked_said h operator event.stamp event.mark
+abbrev pub event_reply : {F : Type 0} → Host → ℕ → Event F → Said F
+event_reply h operator event = mark_reply h operator event.stamp event.mark
 
 -- the host after a run
 abbrev pub run_host : {F : Type 0} → Host → ℕ → List (Event F) → Host
 run_host h operator [] = h
-run_host h operator (event ∷ events) = run_host (event_after h operator event) operator events
+run_host h operator (event ∷ events) = run_host (host_after_event h operator event) operator events
 
 -- what is told in a run, in order
-abbrev pub run_said : {F : Type 0} → Host → ℕ → List (Event F) → List (Said F)
-run_said h operator [] = []
-run_said h operator (event ∷ events) = event_said h operator event ∷ run_said (event_after h operator event) operator events
+abbrev pub run_replies : {F : Type 0} → Host → ℕ → List (Event F) → List (Said F)
+run_replies h operator [] = []
+run_replies h operator (event ∷ events) = event_reply h operator event ∷ run_replies (host_after_event h operator event) operator events

@@ -20,7 +20,7 @@ use Rattle.pawn_book.specs.declared.refusal.Refusal.TheVariants.{Full, Memory, S
 use Rattle.pawn_book.specs.BookStep.{BookValue, Out, Told, Denied, Shown, Outcome, Refuses, Says, Makes, out_of, is_live, pledge_in}
 use Rattle.pawn_book.specs.HostStep.{Host, host_step}
 use Rattle.pawn_book.specs.Keeping.{pledges_of}
-use Rattle.pawn_book.specs.Runs.{Mark, read_as, no_memory, no_store, Event, event_after}
+use Rattle.pawn_book.specs.Runs.{Mark, read_as, no_memory, no_store, Event, host_after_event}
 
 -- settled replies
 
@@ -52,7 +52,7 @@ event_request b h operator stamp no_store = []
 abbrev pub book_trace : {F : Type 0} → ℕ → Host → ℕ → List (Event F) → List (Stamp × Caller)
 book_trace b h operator [] = []
 book_trace b h operator (event ∷ events) =
-    event_request b h operator event.stamp event.mark ++ book_trace b (event_after h operator event) operator events
+    event_request b h operator event.stamp event.mark ++ book_trace b (host_after_event h operator event) operator events
 
 -- a slot's trace
 
@@ -122,13 +122,13 @@ event_slot b slot h operator stamp no_store = []
 abbrev pub run_slot : {F : Type 0} → ℕ → List Receipt → Host → ℕ → List (Event F) → List SlotEvent
 run_slot b slot h operator [] = []
 run_slot b slot h operator (event ∷ events) =
-    event_slot b slot h operator event.stamp event.mark ++ run_slot b slot (event_after h operator event) operator events
+    event_slot b slot h operator event.stamp event.mark ++ run_slot b slot (host_after_event h operator event) operator events
 
-abbrev pub numbered_from : ℕ → List PledgeValue → List (ℕ × PledgeValue)
-numbered_from k [] = []
-numbered_from k (p ∷ ps) = (k, p) ∷ numbered_from (k + 1) ps
+abbrev pub numbered_pledges : ℕ → List PledgeValue → List (ℕ × PledgeValue)
+numbered_pledges k [] = []
+numbered_pledges k (p ∷ ps) = (k, p) ∷ numbered_pledges (k + 1) ps
 
 -- first what is in the slot when the run begins, by number
 abbrev pub slot_trace : {F : Type 0} → ℕ → List Receipt → Host → ℕ → List (Event F) → List SlotEvent
 slot_trace b slot h operator events =
-    flat_map (enters slot) (numbered_from 1 (pledges_of (get h.books b))) ++ run_slot b slot h operator events
+    flat_map (enters slot) (numbered_pledges 1 (pledges_of (get h.books b))) ++ run_slot b slot h operator events

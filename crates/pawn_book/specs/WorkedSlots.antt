@@ -10,7 +10,7 @@ use Rattle.pawn_pledge.specs.declared.receipt.Receipt.{Receipt}
 use Rattle.pawn_pledge.specs.declared.record.Issue.{Issue}
 use Rattle.pawn_pledge.specs.declared.record.Issued.{Issued}
 use Rattle.pawn_pledge.specs.Pledge.{PledgeValue}
-use Rattle.pawn_pledge.specs.Worked.{agreed_on, ring}
+use Rattle.pawn_pledge.specs.Worked.{ring_opening, ring}
 use Rattle.pawn_book.specs.declared.refusal.Refusal.TheVariants.{NoSuchReceipt}
 use Rattle.pawn_book.specs.declared.request.BearerRequest.TheVariants.{OnPledge as OnReceipt}
 use Rattle.pawn_book.specs.declared.request.BrokerRequest.TheVariants.{TakePledge, OnPledge}
@@ -45,7 +45,7 @@ declare = Command.Declare Paper.Sworn
 -- a ring is pawned with word 1, declared lost with word 2, held, and declared lost with word 3
 abbrev pub lost_twice : List (Stamp × Caller)
 lost_twice =
-    (at 1, Broker 5 (TakePledge (agreed_on (Fixed 10000) false None)))
+    (at 1, Broker 5 (TakePledge (ring_opening (Fixed 10000) false None)))
     ∷ (at 2, Broker 5 (OnPledge 1 declare))
     ∷ (at 9, Broker 5 (OnPledge 1 Command.Hold))
     ∷ (at 3, Broker 5 (OnPledge 1 declare))
@@ -59,11 +59,11 @@ abbrev pub issued : Issue → ℕ → Issued
 issued sort word = record { day = date 2024 1 31; sort = sort; secret = word }
 
 -- the ring after the first declaration, and held after the second
-abbrev pub once_declared : PledgeValue
-once_declared = record (ring 10000) { secrets = issued Issue.Opening 1 ∷ issued Issue.Sworn 2 ∷ [] }
+abbrev pub declared_ring : PledgeValue
+declared_ring = record (ring 10000) { secrets = issued Issue.Opening 1 ∷ issued Issue.Sworn 2 ∷ [] }
 
-abbrev pub twice_declared : PledgeValue
-twice_declared = record (ring 10000) {
+abbrev pub held_ring : PledgeValue
+held_ring = record (ring 10000) {
   secrets = issued Issue.Opening 1 ∷ issued Issue.Sworn 2 ∷ issued Issue.Sworn 3 ∷ [];
   standing = record (ring 10000).standing { held = true };
 }
@@ -71,12 +71,12 @@ twice_declared = record (ring 10000) {
 -- a slot has what is done while its receipt is live: the pledge as it comes in, and the commands to the one that takes it out
 pub record WorkedSlots : Type 0 where
   pub first : trace_of (receipt 1 ∷ []) ≡ Entered 1 (ring 10000) ∷ Did 1 (at 2) declare ∷ []
-  pub second : trace_of (receipt 2 ∷ []) ≡ Entered 1 once_declared ∷ Did 1 (at 9) Command.Hold ∷ Did 1 (at 3) declare ∷ []
-  pub first_and_third : trace_of (receipt 1 ∷ receipt 3 ∷ []) ≡ Entered 1 (ring 10000) ∷ Did 1 (at 2) declare ∷ Entered 1 twice_declared ∷ []
+  pub second : trace_of (receipt 2 ∷ []) ≡ Entered 1 declared_ring ∷ Did 1 (at 9) Command.Hold ∷ Did 1 (at 3) declare ∷ []
+  pub first_and_third : trace_of (receipt 1 ∷ receipt 3 ∷ []) ≡ Entered 1 (ring 10000) ∷ Did 1 (at 2) declare ∷ Entered 1 held_ring ∷ []
   pub first_and_second : trace_of (receipt 1 ∷ receipt 2 ∷ []) ≡ Entered 1 (ring 10000) ∷ Did 1 (at 2) declare ∷ Did 1 (at 9) Command.Hold ∷ Did 1 (at 3) declare ∷ []
   -- the machines of the first two are empty at the end, that of the first and third has the pledge
   pub first_left : solo (receipt 1 ∷ []) (trace_of (receipt 1 ∷ [])) 1 ≡ None
   pub both_left : solo (receipt 1 ∷ receipt 2 ∷ []) (trace_of (receipt 1 ∷ receipt 2 ∷ [])) 1 ≡ None
-  pub third_is_in : solo (receipt 1 ∷ receipt 3 ∷ []) (trace_of (receipt 1 ∷ receipt 3 ∷ [])) 1 ≡ Some twice_declared
+  pub third_is_in : solo (receipt 1 ∷ receipt 3 ∷ []) (trace_of (receipt 1 ∷ receipt 3 ∷ [])) 1 ≡ Some held_ring
   -- a repayment by the first receipt is then refused as by a receipt that never was, whatever its day
   pub first_unknown : solo_reply (receipt 1 ∷ []) (trace_of (receipt 1 ∷ [])) 7 (record { day = 0; word = 0 }) (OnReceipt (receipt 1) (Command.Repay 1 100)) ≡ Denied NoSuchReceipt

@@ -4,7 +4,7 @@ ghost use Rattle.std.specs.FinMap.{get};
 ghost use Rattle.std.specs.Str.{IsUtf8};
 ghost use Rattle.pawn_terms.specs.Refusals.{IsSaid};
 ghost use Rattle.pawn_pledge.specs.Replayable.{IsStanding};
-ghost use Rattle.pawn_book.specs.BookStep.{BookValue, first_receipt, book_head, is_same_opening, newest, take_pledge, taken_under, with_reference};
+ghost use Rattle.pawn_book.specs.BookStep.{BookValue, first_receipt, book_head, is_same_opening, newest, take_pledge, next_pledge, with_reference};
 ghost use Rattle.pawn_book.specs.Sound.{IsSound, IsWord};
 ghost use Rattle.pawn_book.specs.Keeping.{IsQuiet, IsSteady, Reads, pledges_of};
 ghost use Rattle.pawn_book.specs.Plans.{IsUnwell, Plans};
@@ -102,7 +102,7 @@ fn take<K: Keep>(
     stamp: &Stamp,
 ) -> Result<Pledge, Refusal>
     ensures reads { Reads K.keeping keep.old keep.new (λ h. (at : BookValue) → get h.books book ≡ Some at → head.now ≡ book_head at →
-        IsSaid IsUnwell (taken_under head.now opening.now stamp.now (newest at.terms)) result) }
+        IsSaid IsUnwell (next_pledge head.now opening.now stamp.now (newest at.terms)) result) }
     ensures standing { IfOk result IsStanding }
     ensures steady { IsQuiet K.keeping keep.old result }
 {
@@ -121,7 +121,7 @@ fn start(
     terms: Terms,
     stamp: &Stamp,
 ) -> Result<Pledge, Refusal>
-    ensures taken { IsSaid IsUnwell (taken_under head.now opening.now stamp.now (Some terms)) result }
+    ensures taken { IsSaid IsUnwell (next_pledge head.now opening.now stamp.now (Some terms)) result }
     ensures standing { IfOk result IsStanding }
     ensures store { result ≡ Err Refusal.Store → ⊥ }
 {

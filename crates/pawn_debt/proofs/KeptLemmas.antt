@@ -6,13 +6,13 @@ use Rattle.pawn_debt.specs.declared.entry.Entry.{Entry}
 use Rattle.pawn_debt.specs.declared.owing.Totals.{Totals}
 use Rattle.pawn_debt.specs.declared.entry.Sort.{Sort}
 use Rattle.pawn_debt.specs.Due.{Due, DebtValue, due, after_days, last_of, after_sort, due_after, first_principal, credit_of}
-use Rattle.pawn_debt.specs.Kept.{IsKept, owed_of}
+use Rattle.pawn_debt.specs.Kept.{IsKept, sums_of}
 use Rattle.pawn_debt.specs.Answers.{with_entry}
 use Rattle.pawn_debt.proofs.EntryLemmas.{due-from-last, due-pushed, due-start, due-extended}
 use Rattle.pawn_debt.specs.Limits.{most_pence, most_entries, most_a_day}
 
 -- what is owed on a later day; v is the value that a contract sees, and p what the fields hold
-pub owed-later : (p v : DebtValue) (t : Totals) (x : ℕ) → IsKept p t → p ≡ v → last_of v.taken v.entries ≤ x → after_days p.terms p.ends t.day (x - t.day) (owed_of t) ≡ due v x
+pub owed-later : (p v : DebtValue) (t : Totals) (x : ℕ) → IsKept p t → p ≡ v → last_of v.taken v.entries ≤ x → after_days p.terms p.ends t.day (x - t.day) (sums_of t) ≡ due v x
 owed-later p v t x h is late =
     let P : DebtValue → Type 0 = λ q. last_of q.taken q.entries ≤ x in
     let held : last_of p.taken p.entries ≤ x = subst P (sym is) late in
@@ -32,7 +32,7 @@ millionths-later p v t x charges h is late small =
 
 -- one more entry keeps all of it
 pub IsKept-entry : (p : DebtValue) (t after : Totals) (sort : Sort) (pence : ℕ) → IsKept p t → last_of p.taken p.entries ≤ after.day → length p.entries < most_entries
-    → owed_of after ≡ after_sort sort pence (due p after.day) → after.principal ≤ most_pence → after.millionths ≤ (after.day - p.taken) * most_a_day → IsDayNumber after.day
+    → sums_of after ≡ after_sort sort pence (due p after.day) → after.principal ≤ most_pence → after.millionths ≤ (after.day - p.taken) * most_a_day → IsDayNumber after.day
     → IsKept (with_entry p after.day sort pence) after
 IsKept-entry p t after sort pence h late few owed principal charges day =
     let e : Entry = record { seq = length p.entries + 1; day = after.day; sort = sort; pence = pence } in
@@ -53,7 +53,7 @@ IsKept-entry p t after sort pence h late few owed principal charges day =
 pub record CanEnter (v : DebtValue) (after : Totals) (sort : Sort) (pence : ℕ) : Type 0 where
   pub later : last_of v.taken v.entries ≤ after.day
   pub few : length v.entries < most_entries
-  pub owed : owed_of after ≡ after_sort sort pence (due v after.day)
+  pub owed : sums_of after ≡ after_sort sort pence (due v after.day)
   pub principal_in : after.principal ≤ 100000000
   pub millionths_in : after.millionths ≤ (after.day - v.taken) * most_a_day
   pub in_range : IsDayNumber after.day
@@ -107,7 +107,7 @@ IsKept-extended p v t ends h is later inside =
 
 -- one more entry, as it stands
 pub IsKept-next : (p : DebtValue) (t after : Totals) (e : Entry) (s : Sort) → IsKept p t → t.day ≤ e.day → length p.entries < most_entries → e.sort ≡ s → after.day ≡ e.day
-    → owed_of after ≡ after_sort s e.pence (due p e.day) → after.principal ≤ most_pence → after.millionths ≤ (e.day - p.taken) * most_a_day → IsDayNumber e.day
+    → sums_of after ≡ after_sort s e.pence (due p e.day) → after.principal ≤ most_pence → after.millionths ≤ (e.day - p.taken) * most_a_day → IsDayNumber e.day
     → IsKept (record p { entries = p.entries ++ e ∷ [] }) after
 IsKept-next p t after e s h late few sort same owed principal charges day =
     let low = last_by-le (λ (e : Entry). e.day) p.taken p.entries h.ordered in

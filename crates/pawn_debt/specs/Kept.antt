@@ -6,8 +6,8 @@ use Rattle.pawn_debt.specs.Due.{Due, DebtValue, due, last_of, AreOrdered, credit
 use Rattle.pawn_debt.specs.Limits.{most_pence, most_entries, most_a_day}
 
 -- the two numbers of totals
-abbrev pub owed_of : Totals → Due
-owed_of t = record { principal = t.principal; millionths = t.millionths }
+abbrev pub sums_of : Totals → Due
+sums_of t = record { principal = t.principal; millionths = t.millionths }
 
 -- what is owed on the day of the last entry
 abbrev pub totals_of : DebtValue → Totals
@@ -21,7 +21,7 @@ totals_of p = record {
 pub record IsKept (p : DebtValue) (t : Totals) : Type 0 where
   pub ordered : AreOrdered p.taken p.entries
   pub day : t.day ≡ last_of p.taken p.entries
-  pub owed : owed_of t ≡ due p t.day
+  pub owed : sums_of t ≡ due p t.day
   pub credit : credit_of p.kind ≤ most_pence
   pub principal_in : t.principal ≤ most_pence
   pub millionths_in : t.millionths ≤ (t.day - p.taken) * most_a_day

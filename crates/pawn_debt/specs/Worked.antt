@@ -20,8 +20,8 @@ abbrev pub free : Rates
 free = rates_of 0 0 0
 
 -- a debt as it is taken, for six months
-abbrev pub taken_for_six : Kind → Rates → ℕ → DebtValue
-taken_for_six kind terms taken = record { kind = kind; terms = terms; taken = taken; ends = six_months taken; entries = [] }
+abbrev pub six_month_debt : Kind → Rates → ℕ → DebtValue
+six_month_debt kind terms taken = record { kind = kind; terms = terms; taken = taken; ends = six_months taken; entries = [] }
 
 -- pence and millionths of a penny
 abbrev pub pence_and_millionths : ℕ → ℕ → Due
@@ -33,7 +33,7 @@ owed principal charges total = record { principal = principal; charges = charges
 
 -- 100 pounds at 2,667 millionths a day
 abbrev pub at_interest : DebtValue
-at_interest = taken_for_six (Fixed 10000) (rates_of 2667 0 0) (date 2024 1 1)
+at_interest = six_month_debt (Fixed 10000) (rates_of 2667 0 0) (date 2024 1 1)
 
 -- interest from the day after the day taken on, rounded down to whole pence once, where it is told
 abbrev pub WorkedInterest : Type 0
@@ -45,59 +45,59 @@ WorkedInterest =
     × (owing_of (due at_interest (date 2024 1 31)) ≡ owed 10000 800 10800)
 
 -- the same, once ten pounds were repaid
-abbrev pub repaid_in_part : DebtValue
-repaid_in_part = with_entry at_interest (date 2024 1 31) Repay 1000
+abbrev pub part_repayment : DebtValue
+part_repayment = with_entry at_interest (date 2024 1 31) Repay 1000
 
 -- a repayment pays whole pence of charges first, and the fraction of a penny stays
 abbrev pub WorkedRepayments : Type 0
 WorkedRepayments =
-    (repay_answer at_interest (date 2024 1 31) 1000 ≡ Ok repaid_in_part)
-    × (due repaid_in_part (date 2024 1 31) ≡ pence_and_millionths 9800 100000)
-    × (owing_of (due repaid_in_part (date 2024 3 1)) ≡ owed 9800 784 10584)
+    (repay_answer at_interest (date 2024 1 31) 1000 ≡ Ok part_repayment)
+    × (due part_repayment (date 2024 1 31) ≡ pence_and_millionths 9800 100000)
+    × (owing_of (due part_repayment (date 2024 3 1)) ≡ owed 9800 784 10584)
     × (due (with_entry at_interest (date 2024 1 31) Repay 10800) (date 2024 2 29) ≡ pence_and_millionths 0 100000)
     × (repay_answer at_interest (date 2024 1 31) 10801 ≡ Err (OverOwing 10800))
     × (repay_answer at_interest (date 2024 1 31) 0 ≡ Err BadAmount)
     × (repay_answer at_interest (date 2024 1 31) 100000001 ≡ Err BadAmount)
-    × (repay_answer repaid_in_part (date 2024 1 30) 0 ≡ Err EarlierDay)
+    × (repay_answer part_repayment (date 2024 1 30) 0 ≡ Err EarlierDay)
 
 -- what is kept on the day of the last entry, and carried on from there
 abbrev pub WorkedTotals : Type 0
 WorkedTotals =
     (totals_of at_interest ≡ record { day = date 2024 1 1; principal = 10000; millionths = 0 })
-    × (totals_of repaid_in_part ≡ record { day = date 2024 1 31; principal = 9800; millionths = 100000 })
+    × (totals_of part_repayment ≡ record { day = date 2024 1 31; principal = 9800; millionths = 100000 })
     × (owing_of (after_days (rates_of 2667 0 0) (date 2024 7 1) (date 2024 1 31) (date 2024 3 1 - date 2024 1 31) (pence_and_millionths 9800 100000)) ≡ owed 9800 784 10584)
 
 -- a penny a day for safe keeping up to the end, and half a penny after it
 abbrev pub in_safe_keeping : DebtValue
-in_safe_keeping = taken_for_six (Fixed 10000) (rates_of 0 1000000 500000) (date 2024 1 31)
+in_safe_keeping = six_month_debt (Fixed 10000) (rates_of 0 1000000 500000) (date 2024 1 31)
 
 -- the same, where the period was extended by two months
-abbrev pub kept_for_longer : DebtValue
-kept_for_longer = record in_safe_keeping { ends = date 2024 9 30 }
+abbrev pub longer_keeping : DebtValue
+longer_keeping = record in_safe_keeping { ends = date 2024 9 30 }
 
 abbrev pub WorkedSafeKeeping : Type 0
 WorkedSafeKeeping =
     (owing_of (due in_safe_keeping (date 2024 7 31)) ≡ owed 10000 182 10182)
     × (owing_of (due in_safe_keeping (date 2024 8 10)) ≡ owed 10000 187 10187)
     × (repay_answer in_safe_keeping (date 2024 8 10) 10188 ≡ Err (OverOwing 10187))
-    × (owing_of (due kept_for_longer (date 2024 8 10)) ≡ owed 10000 192 10192)
+    × (owing_of (due longer_keeping (date 2024 8 10)) ≡ owed 10000 192 10192)
 
 -- a running account with a limit of 50 pounds, and one on which 30 were drawn
 abbrev pub account : DebtValue
-account = taken_for_six (Running 5000) free (date 2024 1 31)
+account = six_month_debt (Running 5000) free (date 2024 1 31)
 
 abbrev pub drawn_in_part : DebtValue
 drawn_in_part = with_entry account (date 2024 1 31) Draw 3000
 
 -- the account with as many entries as there may be
-abbrev pub entered_in_full : DebtValue
-entered_in_full = record account { entries = repeat 9999 (record { seq = 1; day = date 2024 1 31; sort = Draw; pence = 1 } ∷ []) }
+abbrev pub full_account : DebtValue
+full_account = record account { entries = repeat 9999 (record { seq = 1; day = date 2024 1 31; sort = Draw; pence = 1 } ∷ []) }
 
 -- with them neither a drawing nor a repayment is entered any more
 abbrev pub WorkedFullness : Type 0
 WorkedFullness =
-    (draw_answer entered_in_full (date 2024 1 31) 1 ≡ Err EntriesFull)
-    × (repay_answer entered_in_full (date 2024 1 31) 1 ≡ Err EntriesFull)
+    (draw_answer full_account (date 2024 1 31) 1 ≡ Err EntriesFull)
+    × (repay_answer full_account (date 2024 1 31) 1 ≡ Err EntriesFull)
 
 -- drawings up to the limit, on a running account alone
 abbrev pub WorkedDrawings : Type 0
@@ -115,4 +115,4 @@ abbrev pub WorkedStarts : Type 0
 WorkedStarts =
     (start_answer (Fixed 0) free (date 2024 1 31) (date 2024 7 31) ≡ Err BadAmount)
     × (start_answer (Running 100000001) free (date 2024 1 31) (date 2024 7 31) ≡ Err BadAmount)
-    × (start_answer (Fixed 100000000) free (date 2024 1 31) (date 2024 7 31) ≡ Ok (taken_for_six (Fixed 100000000) free (date 2024 1 31)))
+    × (start_answer (Fixed 100000000) free (date 2024 1 31) (date 2024 7 31) ≡ Ok (six_month_debt (Fixed 100000000) free (date 2024 1 31)))

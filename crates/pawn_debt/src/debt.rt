@@ -3,7 +3,7 @@ ghost use Rattle.pawn_terms.specs.Calendar.{IsDayNumber};
 ghost use Rattle.pawn_debt.specs.Due.{due, last_of, credit_of, after_sort};
 ghost use Rattle.pawn_debt.specs.Owing.{owing_of};
 ghost use Rattle.pawn_debt.specs.Answers.{start_answer, draw_answer, repay_answer, with_entry, IsAnswer};
-ghost use Rattle.pawn_debt.specs.Kept.{IsKept, owed_of, totals_of};
+ghost use Rattle.pawn_debt.specs.Kept.{IsKept, sums_of, totals_of};
 ghost use Rattle.pawn_debt.specs.Replay.{CanStand};
 ghost use Rattle.pawn_debt.specs.Limits.{most_pence, most_entries, most_a_day, most_millionths};
 
@@ -121,7 +121,7 @@ impl Debt {
     fn owed_on(&self, day: Day) -> Totals
         requires later { last_of self.now.taken self.now.entries ≤ day }
         ensures day { result.day ≡ day }
-        ensures owed { owed_of result ≡ due self.now day }
+        ensures owed { sums_of result ≡ due self.now day }
         ensures principal_in { result.principal ≤ most_pence }
         ensures millionths_in { result.millionths ≤ (day - self.now.taken) * most_a_day }
         ensures in_range { IsDayNumber day }
@@ -282,7 +282,7 @@ impl Debt {
     fn enter(&mut self, sort: Sort, pence: u64, after: Totals) -> Result<(), DebtFault>
         requires later { last_of self.old.taken self.old.entries ≤ after.day }
         requires few { length self.old.entries < most_entries }
-        requires owed { owed_of after ≡ after_sort sort pence (due self.old after.day) }
+        requires owed { sums_of after ≡ after_sort sort pence (due self.old after.day) }
         requires principal_in { after.principal ≤ most_pence }
         requires millionths_in { after.millionths ≤ (after.day - self.old.taken) * most_a_day }
         requires in_range { IsDayNumber after.day }

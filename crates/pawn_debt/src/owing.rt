@@ -3,7 +3,7 @@ ghost use Rattle.pawn_terms.specs.Calendar.{IsDayNumber};
 ghost use Rattle.pawn_debt.specs.declared.entry.Sort.TheVariants.{Draw, Repay};
 ghost use Rattle.pawn_debt.specs.Due.{after_days, after_sort};
 ghost use Rattle.pawn_debt.specs.Owing.{total_of, owing_of};
-ghost use Rattle.pawn_debt.specs.Kept.{owed_of};
+ghost use Rattle.pawn_debt.specs.Kept.{sums_of};
 ghost use Rattle.pawn_debt.specs.Limits.{most_pence, most_a_day, most_millionths};
 
 use crate::limits::PENNY;
@@ -33,7 +33,7 @@ pub(crate) fn after_days(totals: &Totals, terms: Terms, ends: Day, day: Day) -> 
     requires principal_in { totals.now.principal ≤ most_pence }
     requires millionths_in { totals.now.millionths ≤ most_millionths }
     ensures day { result.day ≡ day }
-    ensures owed { owed_of result ≡ after_days terms ends totals.now.day (day - totals.now.day) (owed_of totals.now) }
+    ensures owed { sums_of result ≡ after_days terms ends totals.now.day (day - totals.now.day) (sums_of totals.now) }
     ensures principal { result.principal ≡ totals.now.principal }
     ensures small { result.millionths ≤ totals.now.millionths + (day - totals.now.day) * most_a_day }
     ensures in_range { IsDayNumber result.day }
@@ -56,7 +56,7 @@ pub fn owing_from(totals: &Totals, terms: &Terms, ends: Day, day: Day) -> Owing
     requires later { totals.now.day ≤ day }
     requires principal_in { totals.now.principal ≤ most_pence }
     requires millionths_in { totals.now.millionths ≤ most_millionths }
-    ensures value { result ≡ owing_of (after_days terms.now ends totals.now.day (day - totals.now.day) (owed_of totals.now)) }
+    ensures value { result ≡ owing_of (after_days terms.now ends totals.now.day (day - totals.now.day) (sums_of totals.now)) }
 {
     owing_after(&after_days(totals, *terms, ends, day))
 }
@@ -64,7 +64,7 @@ pub fn owing_from(totals: &Totals, terms: &Terms, ends: Day, day: Day) -> Owing
 // The pence that are owed.
 pub(crate) fn owing_after(totals: &Totals) -> Owing
     requires within { totals.now.principal ≤ most_pence }
-    ensures value { result ≡ owing_of (owed_of totals.now) }
+    ensures value { result ≡ owing_of (sums_of totals.now) }
 {
     let charges = totals.millionths / PENNY;
     Owing {
@@ -78,7 +78,7 @@ pub(crate) fn owing_after(totals: &Totals) -> Owing
 pub(crate) fn after_draw(owed: Totals, pence: u64) -> Totals
     requires within { owed.principal + pence ≤ most_pence }
     ensures day { result.day ≡ owed.day }
-    ensures owed { owed_of result ≡ after_sort Draw pence (owed_of owed) }
+    ensures owed { sums_of result ≡ after_sort Draw pence (sums_of owed) }
     ensures principal_in { result.principal ≤ most_pence }
     ensures millionths_in { result.millionths ≤ owed.millionths }
 {
@@ -91,10 +91,10 @@ pub(crate) fn after_draw(owed: Totals, pence: u64) -> Totals
 
 // What is owed after a repayment.
 pub(crate) fn after_repay(owed: Totals, pence: u64) -> Totals
-    requires total { pence ≤ total_of (owed_of owed) }
+    requires total { pence ≤ total_of (sums_of owed) }
     requires principal_in { owed.principal ≤ most_pence }
     ensures day { result.day ≡ owed.day }
-    ensures owed { owed_of result ≡ after_sort Repay pence (owed_of owed) }
+    ensures owed { sums_of result ≡ after_sort Repay pence (sums_of owed) }
     ensures principal_in { result.principal ≤ most_pence }
     ensures millionths_in { result.millionths ≤ owed.millionths }
 {

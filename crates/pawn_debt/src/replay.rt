@@ -2,7 +2,7 @@ ghost use Rattle.std.specs.Prelude.{◌≡◌, ◌-◌, ◌*◌, ◌≤◌, [], 
 ghost use Rattle.pawn_terms.specs.Calendar.{IsDayNumber};
 ghost use Rattle.pawn_debt.specs.Due.{credit_of, due};
 ghost use Rattle.pawn_debt.specs.Owing.{owing_of};
-ghost use Rattle.pawn_debt.specs.Kept.{IsKept, owed_of};
+ghost use Rattle.pawn_debt.specs.Kept.{IsKept, sums_of};
 ghost use Rattle.pawn_debt.specs.Replay.{IsAccepted, AreAccepted};
 ghost use Rattle.pawn_debt.specs.Limits.{most_pence, most_a_day};
 
@@ -24,7 +24,7 @@ fn owed_at(
     requires kept { IsKept (record { kind = kind; terms = terms; taken = taken; ends = ends; entries = prior.now }) totals.now }
     requires later { totals.now.day ≤ day }
     ensures day { result.day ≡ day }
-    ensures owed { owed_of result ≡ due (record { kind = kind; terms = terms; taken = taken; ends = ends; entries = prior.now }) day }
+    ensures owed { sums_of result ≡ due (record { kind = kind; terms = terms; taken = taken; ends = ends; entries = prior.now }) day }
     ensures principal_in { result.principal ≤ most_pence }
     ensures millionths_in { result.millionths ≤ (day - taken) * most_a_day }
     ensures in_range { IsDayNumber day }

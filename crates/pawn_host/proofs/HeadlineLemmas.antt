@@ -8,7 +8,7 @@ use Rattle.pawn_book.specs.declared.refusal.Refusal.TheVariants as no
 use Rattle.pawn_book.specs.declared.request.Request.{Request}
 use Rattle.pawn_book.specs.BookStep.{Out, Told, Denied, Shown, out_of}
 use Rattle.pawn_book.specs.HostStep.{Host, host_step}
-use Rattle.pawn_book.specs.Runs.{Mark, read_as, no_memory, no_store, event_after, marked_said}
+use Rattle.pawn_book.specs.Runs.{Mark, read_as, no_memory, no_store, host_after_event, mark_reply}
 use Rattle.pawn_book.specs.Traces.{is_settled, slot_trace}
 use Rattle.pawn_book.specs.Machines.{solo_reply}
 use Rattle.pawn_book.proofs.Sounds.{absurd_none, some_is}
@@ -23,11 +23,11 @@ use Rattle.pawn_host.proofs.RunMore.{marked_all}
 
 -- the answer at a place is what its item was told
 answer_at : (h : Host) (operator : ℕ) (items : List Item) (i : ℕ) (item : Item) (answer : List ℕ) → slice_get items i ≡ Some item → slice_get (replies h operator items) i ≡ Some answer
-    → answer ≡ said_text (marked_said (host_after h operator (take i items)) operator item.stamp item.mark)
+    → answer ≡ said_text (mark_reply (host_after h operator (take i items)) operator item.stamp item.mark)
 answer_at h operator [] i item answer is told = absurd_none is
 answer_at h operator (x ∷ items) zero item answer is told =
-    sym (some_is _ answer told) ∙ ap (λ (y : Item). said_text (marked_said h operator y.stamp y.mark)) (some_is x item is)
-answer_at h operator (x ∷ items) (suc i) item answer is told = answer_at (event_after h operator (event_of x)) operator items i item answer is told
+    sym (some_is _ answer told) ∙ ap (λ (y : Item). said_text (mark_reply h operator y.stamp y.mark)) (some_is x item is)
+answer_at h operator (x ∷ items) (suc i) item answer is told = answer_at (host_after_event h operator (event_of x)) operator items i item answer is told
 
 -- and the item there has its mark
 marked_at : (Steady : Type 0) (items : List Item) (i : ℕ) (item : Item) → All (IsMarked Steady) items → slice_get items i ≡ Some item → IsMarked Steady item
@@ -69,10 +69,10 @@ pub record IsHostsReply (h : Host) (operator : ℕ) (stamp : Stamp) (request : R
   pub settled : is_settled (out_of (host_step h operator stamp request)) ≡ true
 
 hosts_reply : (Steady : Type 0) (h : Host) (operator : ℕ) (stamp : Stamp) (bytes : List ℕ) (mark : Mark WireFault) (request : Request) (answer : List ℕ)
-    → IsMarkOf Steady bytes mark → answer ≡ said_text (marked_said h operator stamp mark) → Reads bytes (Ok request) → IsSettled answer → IsHostsReply h operator stamp request answer
+    → IsMarkOf Steady bytes mark → answer ≡ said_text (mark_reply h operator stamp mark) → Reads bytes (Ok request) → IsSettled answer → IsHostsReply h operator stamp request answer
 hosts_reply Steady h operator stamp bytes (read_as said) request answer marked told asked settled =
     let text : answer ≡ reply_bytes (out_of (host_step h operator stamp request)) =
-    told ∙ ap (λ (r : Result Request WireFault). said_text (marked_said h operator stamp (read_as r))) (request_read bytes request said asked marked.0) in
+    told ∙ ap (λ (r : Result Request WireFault). said_text (mark_reply h operator stamp (read_as r))) (request_read bytes request said asked marked.0) in
     record { text = text; settled = settled_out (out_of (host_step h operator stamp request)) (subst IsSettled text settled) }
 hosts_reply Steady h operator stamp bytes no_memory request answer marked told asked settled = absurd (settled.1 told)
 hosts_reply Steady h operator stamp bytes no_store request answer marked told asked settled = absurd (settled.2 told)

@@ -4,8 +4,8 @@ use Rattle.std.specs.Prelude.{All}
 use Rattle.httparse.specs.Grammar.{EndsInTarget}
 use Rattle.pawn_pledge.specs.declared.command.Stamp.{Stamp}
 use Rattle.pawn_book.specs.HostStep.{Host}
-use Rattle.pawn_book.specs.Runs.{Mark, read_as, no_memory, no_store, Event, run_host, run_said}
-use Rattle.pawn_host.specs.Run.{Item, IsMarked, IsMarkOf, handed_in, events, said_text, host_after, replies}
+use Rattle.pawn_book.specs.Runs.{Mark, read_as, no_memory, no_store, Event, run_host, run_replies}
+use Rattle.pawn_host.specs.Run.{Item, IsMarked, IsMarkOf, input_of, events, said_text, host_after, replies}
 use Rattle.pawn_host.specs.Laws.{refusal_of, refusals, MayGoOn}
 use Rattle.std.specs.Prelude.{nat_le}
 use Rattle.std.proofs.lemmas.Bool.Decides.{nat_tests}
@@ -279,20 +279,20 @@ cons_head x y xs ys e = cc
 cons_tail : {A : Type 0} (x y : A) (xs ys : List A) → x ∷ xs ≡ y ∷ ys → xs ≡ ys
 cons_tail x y xs ys e = cc
 
-pub items_unique : (a b : List Item) → All (IsMarked ⊥) a → All (IsMarked ⊥) b → map handed_in a ≡ map handed_in b → refusals a ≡ refusals b → a ≡ b
+pub items_unique : (a b : List Item) → All (IsMarked ⊥) a → All (IsMarked ⊥) b → map input_of a ≡ map input_of b → refusals a ≡ refusals b → a ≡ b
 items_unique [] [] p q e f = refl
 items_unique [] (y ∷ b) p q e f = absurd cc
 items_unique (x ∷ a) [] p q e f = absurd cc
 items_unique (x ∷ a) (y ∷ b) p q e f =
-    let given : handed_in x ≡ handed_in y = cons_head (handed_in x) (handed_in y) (map handed_in a) (map handed_in b) e in
+    let given : input_of x ≡ input_of y = cons_head (input_of x) (input_of y) (map input_of a) (map input_of b) e in
     let bytes : x.bytes ≡ y.bytes = ap (λ (g : Stamp × List ℕ). g.1) given in
     let mark : x.mark ≡ y.mark = marks_same y.bytes x.mark y.mark (subst (λ (l : List ℕ). IsMarkOf ⊥ l x.mark) bytes (All-head (IsMarked ⊥) x a p)) (All-head (IsMarked ⊥) y b q) (cons_head (refusal_of x.mark) (refusal_of y.mark) (refusals a) (refusals b) f) in
-    let rest : a ≡ b = items_unique a b (All-tail (IsMarked ⊥) x a p) (All-tail (IsMarked ⊥) y b q) (cons_tail (handed_in x) (handed_in y) (map handed_in a) (map handed_in b) e) (cons_tail (refusal_of x.mark) (refusal_of y.mark) (refusals a) (refusals b) f) in
+    let rest : a ≡ b = items_unique a b (All-tail (IsMarked ⊥) x a p) (All-tail (IsMarked ⊥) y b q) (cons_tail (input_of x) (input_of y) (map input_of a) (map input_of b) e) (cons_tail (refusal_of x.mark) (refusal_of y.mark) (refusals a) (refusals b) f) in
     (λ i. record { stamp = (given i).0; bytes = bytes i; mark = mark i } ∷ rest i)
 
 pub run_events : (h : Host) (operator : ℕ) (a b : List Item) → events a ≡ events b → (host_after h operator a ≡ host_after h operator b) × (replies h operator a ≡ replies h operator b)
 run_events h operator a b e =
-    (ap (λ (es : List (Event WireFault)). run_host h operator es) e, ap (λ (es : List (Event WireFault)). map said_text (run_said h operator es)) e)
+    (ap (λ (es : List (Event WireFault)). run_host h operator es) e, ap (λ (es : List (Event WireFault)). map said_text (run_replies h operator es)) e)
 
 pub fault_is_exact : (rest : List ℕ) → (MayGoOn rest → HasNoRequest rest → (f : HeadFault) → HasFault rest f → ⊥) × ((MayGoOn rest → ⊥) → (length rest < max_head) → HasFault rest BadHead)
 fault_is_exact rest = (never, bad)

@@ -23,7 +23,7 @@ use Rattle.pawn_book.specs.Sound.{IsSound}
 use Rattle.pawn_book.specs.Runs.{read_as, no_memory, no_store, Answered}
 use Rattle.pawn_book.specs.Plans.{Acts, Gates, IsUnwell, next_host}
 use Rattle.pawn_view.specs.Text.{presented_text, statement_text}
-use Rattle.pawn_view.specs.Shown.{live_pledges, presented_of, pledge_at, statement_of}
+use Rattle.pawn_view.specs.Shown.{live_pledges, presentation_of, pledge_at, statement_of}
 use Rattle.pawn_wire.specs.Request.{Reads}
 use Rattle.pawn_wire.specs.Reply.{out_text, reply_text, fault_text, memory_text}
 use Rattle.pawn_wire.specs.declared.reply.Out.TheVariants as wire
@@ -139,14 +139,14 @@ text_unknown true shown is = refl
 text_unknown false shown is = cc
 
 -- nothing was to show
-pub nothing_shown : (h : Host) (operator : ℕ) (stamp : Stamp) (book day : ℕ) (receipts : List Receipt) → presented_of h book receipts day ≡ None
+pub nothing_shown : (h : Host) (operator : ℕ) (stamp : Stamp) (book day : ℕ) (receipts : List Receipt) → presentation_of h book receipts day ≡ None
     → host_step h operator stamp (present_request book receipts) ≡ Refuses No.NoSuchReceipt
 nothing_shown h operator stamp book day receipts is =
     step_unknown h operator stamp book receipts (text_unknown (are_unknown (live_pledges h book receipts)) (presented_text day (live_pledges h book receipts)) is)
 
 -- the text of the receipts was told
 pub acted_shown : (start : Start) (stamp : Stamp) (bytes : List ℕ) (answer : Answer) (at : Host → Type 0) (book day : ℕ) (receipts : List Receipt) (text out : List ℕ)
-    → Reads bytes (Ok (present_request book receipts)) → day ≡ stamp.day → presented_of start.host book receipts day ≡ Some text → text ≡ out
+    → Reads bytes (Ok (present_request book receipts)) → day ≡ stamp.day → presentation_of start.host book receipts day ≡ Some text → text ≡ out
     → Tells answer (reply_text 200 (codes "text/plain; charset=utf-8") out) → at start.host → IsSound start.host
     → IsActed start stamp bytes (answer_bytes answer) at
 acted_shown start stamp bytes Memory at book day receipts text out read day_is is all tells stands sound = acted_memory start stamp bytes memory_text at refl stands sound

@@ -6,24 +6,24 @@ use Rattle.std.proofs.lemmas.List.Elements.{All-append, All-cons, All-nil, All-h
 use Rattle.pawn_pledge.specs.declared.command.Stamp.{Stamp}
 use Rattle.pawn_book.specs.HostStep.{Host}
 use Rattle.pawn_book.specs.Sound.{IsSound}
-use Rattle.pawn_book.specs.Runs.{marked_said, event_after, event_said}
+use Rattle.pawn_book.specs.Runs.{mark_reply, host_after_event, event_reply}
 use Rattle.pawn_host.specs.declared.service.Answer.{Answer}
-use Rattle.pawn_host.specs.Run.{Item, IsMarked, handed_in, event_of, said_text, host_after, replies}
+use Rattle.pawn_host.specs.Run.{Item, IsMarked, input_of, event_of, said_text, host_after, replies}
 use Rattle.pawn_host.specs.Keeps.{Start, from_host, host_by, replies_by, IsActed, IsRun, answer_bytes}
 use Rattle.pawn_host.proofs.SessionLemmas.{host_after-snoc, map-snoc, marked_since}
 
-replies-snoc : (h : Host) (operator : ℕ) (items : List Item) (i : Item) → replies h operator (items ++ i ∷ []) ≡ replies h operator items ++ said_text (marked_said (host_after h operator items) operator i.stamp i.mark) ∷ []
+replies-snoc : (h : Host) (operator : ℕ) (items : List Item) (i : Item) → replies h operator (items ++ i ∷ []) ≡ replies h operator items ++ said_text (mark_reply (host_after h operator items) operator i.stamp i.mark) ∷ []
 replies-snoc h operator [] i = refl
-replies-snoc h operator (x ∷ items) i = ap (λ (l : List (List ℕ)). said_text (event_said h operator (event_of x)) ∷ l) (replies-snoc (event_after h operator (event_of x)) operator items i)
+replies-snoc h operator (x ∷ items) i = ap (λ (l : List (List ℕ)). said_text (event_reply h operator (event_of x)) ∷ l) (replies-snoc (host_after_event h operator (event_of x)) operator items i)
 
 -- two runs in turn
 pub host_after-append : (h : Host) (operator : ℕ) (a b : List Item) → host_after h operator (a ++ b) ≡ host_after (host_after h operator a) operator b
 host_after-append h operator [] b = refl
-host_after-append h operator (x ∷ a) b = host_after-append (event_after h operator (event_of x)) operator a b
+host_after-append h operator (x ∷ a) b = host_after-append (host_after_event h operator (event_of x)) operator a b
 
 pub replies-append : (h : Host) (operator : ℕ) (a b : List Item) → replies h operator (a ++ b) ≡ replies h operator a ++ replies (host_after h operator a) operator b
 replies-append h operator [] b = refl
-replies-append h operator (x ∷ a) b = ap (λ (l : List (List ℕ)). said_text (event_said h operator (event_of x)) ∷ l) (replies-append (event_after h operator (event_of x)) operator a b)
+replies-append h operator (x ∷ a) b = ap (λ (l : List (List ℕ)). said_text (event_reply h operator (event_of x)) ∷ l) (replies-append (host_after_event h operator (event_of x)) operator a b)
 
 -- marks over a keeper are marks over one that was steady before
 pub marked_all : (Now Before : Type 0) (items : List Item) → (Before → Now) → All (IsMarked Now) items → All (IsMarked Before) items
@@ -39,7 +39,7 @@ run_more start given answers at at' stamp bytes reply r a =
     record {
       items = r.items ++ item ∷ [];
       marked = All-append (IsMarked start.Steady) r.items (item ∷ []) r.marked (All-cons (IsMarked start.Steady) item [] a.marked (All-nil (IsMarked start.Steady)));
-      given_is = map-snoc handed_in r.items item ∙ ap (λ (l : List (Stamp × List ℕ)). l ++ (stamp, bytes) ∷ []) r.given_is;
+      given_is = map-snoc input_of r.items item ∙ ap (λ (l : List (Stamp × List ℕ)). l ++ (stamp, bytes) ∷ []) r.given_is;
       answers_are = ap (λ (l : List (List ℕ)). l ++ reply ∷ []) r.answers_are ∙ ap (λ (t : List ℕ). replies_by start r.items ++ t ∷ []) a.text ∙ sym (replies-snoc start.host start.operator r.items item);
       stands_for = subst at' (sym (host_after-snoc start.host start.operator r.items item)) a.stands_for;
       sound = subst IsSound (sym (host_after-snoc start.host start.operator r.items item)) a.sound;

@@ -11,7 +11,7 @@ use Rattle.pawn_host.specs.Split.{Ending, at_end, cut, faulted, at_limit, closed
 use Rattle.pawn_pledge.specs.declared.command.Stamp.{Stamp}
 use Rattle.pawn_book.specs.HostStep.{Host}
 use Rattle.pawn_book.specs.Sound.{IsSound}
-use Rattle.pawn_book.specs.Runs.{read_as, no_memory, no_store, Mark, marked_after, marked_said, event_after, event_said}
+use Rattle.pawn_book.specs.Runs.{read_as, no_memory, no_store, Mark, host_after_mark, mark_reply, host_after_event, event_reply}
 use Rattle.pawn_wire.specs.Fault.{wire_fault}
 use Rattle.pawn_wire.specs.Reply.{memory_text, fault_text}
 use Rattle.pawn_host.specs.Run.{Item, IsMarked, IsMarkOf, event_of, said_text, host_after}
@@ -21,7 +21,7 @@ use Rattle.pawn_host.specs.declared.service.Service.{Service}
 use Rattle.pawn_host.specs.Keeps.{Start, from_host, host_by, StaysOpen, IsActed}
 use Rattle.pawn_host.specs.Finding.{Finds, FindsRest, StopsBy, IsCausedBy}
 use Rattle.pawn_host.proofs.FindLemmas.{not_by_writer}
-use Rattle.pawn_host.specs.Session.{Given, IsServed, IsSession, HasRoom, HadRoom, IsWithinMost, EndsAs, DueAfter, IsFinished, IsLeftBy, IsLeft, IsOver, AreTaken, acted_of, answer_text, requests_of, stamps_of}
+use Rattle.pawn_host.specs.Session.{Given, IsServed, IsSession, HasRoom, HadRoom, IsWithinMost, EndsAs, DueAfter, IsFinished, IsLeftBy, IsLeft, IsOver, AreTaken, acted_count, answer_text, requests_of, stamps_of}
 use Rattle.pawn_wire.specs.declared.fault.WireFault.{WireFault}
 use Rattle.pawn_wire.specs.declared.head.HeadFacts.{HeadFacts}
 use Rattle.pawn_host.specs.declared.session.How.{How}
@@ -36,18 +36,18 @@ use Rattle.pawn_host.proofs.SplitLemmas.{SplitsOn, splits_start, splits_more, sp
 
 -- ---- one more item
 
-pub host_after-snoc : (h : Host) (operator : ℕ) (items : List Item) (i : Item) → host_after h operator (items ++ i ∷ []) ≡ marked_after (host_after h operator items) operator i.stamp i.mark
+pub host_after-snoc : (h : Host) (operator : ℕ) (items : List Item) (i : Item) → host_after h operator (items ++ i ∷ []) ≡ host_after_mark (host_after h operator items) operator i.stamp i.mark
 host_after-snoc h operator [] i = refl
-host_after-snoc h operator (x ∷ items) i = host_after-snoc (event_after h operator (event_of x)) operator items i
+host_after-snoc h operator (x ∷ items) i = host_after-snoc (host_after_event h operator (event_of x)) operator items i
 
 pub answer_text-snoc : (start : Start) (items : List Item) (i : Item)
-    → answer_text start (items ++ i ∷ []) ≡ answer_text start items ++ said_text (marked_said (host_by start items) start.operator i.stamp i.mark)
-answer_text-snoc start [] i = append-nil (said_text (marked_said start.host start.operator i.stamp i.mark))
+    → answer_text start (items ++ i ∷ []) ≡ answer_text start items ++ said_text (mark_reply (host_by start items) start.operator i.stamp i.mark)
+answer_text-snoc start [] i = append-nil (said_text (mark_reply start.host start.operator i.stamp i.mark))
 answer_text-snoc start (x ∷ items) i =
-    let one : List ℕ = said_text (event_said start.host start.operator (event_of x)) in
-    let next : Start = from_host start (event_after start.host start.operator (event_of x)) in
+    let one : List ℕ = said_text (event_reply start.host start.operator (event_of x)) in
+    let next : Start = from_host start (host_after_event start.host start.operator (event_of x)) in
     ap (λ (l : List ℕ). one ++ l) (answer_text-snoc next items i)
-    ∙ sym (append_assoc one (answer_text next items) (said_text (marked_said (host_by next items) start.operator i.stamp i.mark)))
+    ∙ sym (append_assoc one (answer_text next items) (said_text (mark_reply (host_by next items) start.operator i.stamp i.mark)))
 
 Yields-snoc : {S A : Type 0} (steps : S → Option A → S → Type 0) (s : S) (xs : List A) (t u : S) (x : A) → Yields steps s xs t → steps t (Some x) u → Yields steps s (xs ++ x ∷ []) u
 Yields-snoc steps s [] t u x y step = (u, subst (λ (v : _). steps v (Some x) u) (sym y) step, refl)
@@ -70,12 +70,12 @@ taken_more {steps = steps} {from = from} {to = to} to' x so step = record {
 }
 
 -- the stamps that were taken, and where that left the iterator
-pub are_taken : {S : Type 0} {steps : S → Option Stamp → S → Type 0} {from to : S} {acted : ℕ} (last : S) (result : Result Ended IoFault) → TakenSoFar steps from to acted → acted ≡ acted_of result → IsLeft steps result to last → AreTaken steps from last result
+pub are_taken : {S : Type 0} {steps : S → Option Stamp → S → Type 0} {from to : S} {acted : ℕ} (last : S) (result : Result Ended IoFault) → TakenSoFar steps from to acted → acted ≡ acted_count result → IsLeft steps result to last → AreTaken steps from last result
 are_taken {to = to} last result so count left = record { stamps = so.stamps; to = to; count = so.count ∙ count; taken = so.taken; left = left }
 
 -- what a session that is over left, told by its answer
 pub record Leaves {S : Type 0} (steps : S → Option Stamp → S → Type 0) (to : S) (acted reads : ℕ) (read_failed failed : Bool) (result : Result Ended IoFault) : Type 0 where
-  pub count : acted ≡ acted_of result
+  pub count : acted ≡ acted_count result
   pub left : IsLeft steps result to to
   pub room : IsWithinMost result
   pub whole : OnOk result ((read_failed ≡ false) × (failed ≡ false))
@@ -181,9 +181,9 @@ pub acted_at : (now before : Start) (stamp : Stamp) (bytes bytes' reply text : L
 acted_at now before stamp bytes bytes' reply text at a stays same e f = record {
   mark = a.mark;
   marked = marked_since now.Steady before.Steady bytes' a.mark stays (subst (λ (b : List ℕ). IsMarkOf now.Steady b a.mark) e a.marked);
-  text = f ∙ a.text ∙ ap (λ (o : ℕ). said_text (marked_said now.host o stamp a.mark)) same;
-  stands_for = subst (λ (o : ℕ). at (marked_after now.host o stamp a.mark)) same a.stands_for;
-  sound = subst (λ (o : ℕ). IsSound (marked_after now.host o stamp a.mark)) same a.sound;
+  text = f ∙ a.text ∙ ap (λ (o : ℕ). said_text (mark_reply now.host o stamp a.mark)) same;
+  stands_for = subst (λ (o : ℕ). at (host_after_mark now.host o stamp a.mark)) same a.stands_for;
+  sound = subst (λ (o : ℕ). IsSound (host_after_mark now.host o stamp a.mark)) same a.sound;
 }
 
 -- one call of a service after another
@@ -392,7 +392,7 @@ module _ {S : Type 0} {steps : S → Option Stamp → S → Type 0} {given : Giv
       }
 
 -- no more requests than the limit were acted on
-pub within_most : (result : Result Ended IoFault) → IsWithinMost result → acted_of result ≤ most_requests
+pub within_most : (result : Result Ended IoFault) → IsWithinMost result → acted_count result ≤ most_requests
 within_most (Ok ended) room = by_how ended.how ended.acted room
   where
     by_how : (how : How) (acted : ℕ) → HasRoom how acted → acted ≤ most_requests

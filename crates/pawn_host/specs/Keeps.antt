@@ -7,14 +7,14 @@ use Rattle.pawn_book.specs.HostStep.{Host}
 use Rattle.pawn_book.specs.Keeping.{Keeping, GoesOn, Of}
 use Rattle.pawn_book.specs.Sound.{IsSound}
 use Rattle.pawn_book.specs.declared.request.Request.{Request}
-use Rattle.pawn_book.specs.Runs.{Mark, marked_after, marked_said}
+use Rattle.pawn_book.specs.Runs.{Mark, host_after_mark, mark_reply}
 use Rattle.pawn_wire.specs.Reply.{memory_text}
 use Rattle.pawn_wire.specs.Request.{Reads}
 use Rattle.pawn_wire.specs.declared.fault.WireFault.{WireFault}
 use Rattle.pawn_host.specs.declared.service.Service.{Service}
 use Rattle.pawn_host.specs.declared.service.Answer.{Answer}
 use Rattle.pawn_host.specs.declared.service.Answer.TheVariants.{Bytes, Memory}
-use Rattle.pawn_host.specs.Run.{Item, IsMarkOf, IsMarked, handed_in, said_text, host_after, replies}
+use Rattle.pawn_host.specs.Run.{Item, IsMarkOf, IsMarked, input_of, said_text, host_after, replies}
 
 abbrev pub service_keep : {K : Type 0} → Service K → K
 service_keep s = s.keep
@@ -64,9 +64,9 @@ Serves k old new P = Of k (service_keep old) (service_keep new) (λ h. P (start_
 pub record IsActed (start : Start) (stamp : Stamp) (bytes reply : List ℕ) (stands : Host → Type 0) : Type 0 where
   pub mark : Mark WireFault
   pub marked : IsMarkOf start.Steady bytes mark
-  pub text : reply ≡ said_text (marked_said start.host start.operator stamp mark)
-  pub stands_for : stands (marked_after start.host start.operator stamp mark)
-  pub sound : IsSound (marked_after start.host start.operator stamp mark)
+  pub text : reply ≡ said_text (mark_reply start.host start.operator stamp mark)
+  pub stands_for : stands (host_after_mark start.host start.operator stamp mark)
+  pub sound : IsSound (host_after_mark start.host start.operator stamp mark)
 
 -- the same of whatever bytes say the request
 abbrev pub Answers : Start → Stamp → Request → List ℕ → (Host → Type 0) → Type 0
@@ -83,7 +83,7 @@ replies_by start items = replies start.host start.operator items
 pub record IsRun (start : Start) (given : List (Stamp × List ℕ)) (answers : List (List ℕ)) (stands : Host → Type 0) : Type 0 where
   pub items : List Item
   pub marked : All (IsMarked start.Steady) items
-  pub given_is : map handed_in items ≡ given
+  pub given_is : map input_of items ≡ given
   pub answers_are : answers ≡ replies_by start items
   pub stands_for : stands (host_by start items)
   pub sound : IsSound (host_by start items)

@@ -10,7 +10,7 @@ use Rattle.pawn_wire.specs.declared.fault.WireFault.{WireFault}
 use Rattle.pawn_host.specs.Split.{Ending, cut, faulted, most_requests, IsCutHead, IsRequest, HasFault, Passes, ClosesAfter, StopsAt, Splits, Begins, BeginsAndGoesOn, IsWanting}
 use Rattle.pawn_book.specs.HostStep.{Host}
 use Rattle.pawn_book.specs.Runs.{Mark, read_as, no_memory, no_store}
-use Rattle.pawn_host.specs.Run.{Item, IsMarked, handed_in, events, host_after, replies}
+use Rattle.pawn_host.specs.Run.{Item, IsMarked, input_of, events, host_after, replies}
 
 -- the rest has begun with a head that may go on, and no head of so few fields can come of it
 abbrev pub IsOpen : List ℕ → Type 0
@@ -72,7 +72,7 @@ refusals items = map (λ i. refusal_of i.mark) items
 -- what was handed in, and which items were refused, decide the items
 abbrev pub ItemsAreUnique : Type 0
 ItemsAreUnique =
-    (a b : List Item) → All (IsMarked ⊥) a → All (IsMarked ⊥) b → map handed_in a ≡ map handed_in b → refusals a ≡ refusals b → a ≡ b
+    (a b : List Item) → All (IsMarked ⊥) a → All (IsMarked ⊥) b → map input_of a ≡ map input_of b → refusals a ≡ refusals b → a ≡ b
 
 -- items that say the same lead to the same host and the same replies, whatever their bytes
 abbrev pub RunReadsEvents : Type 0

@@ -3,7 +3,7 @@ use Rattle.std.specs.Prelude.{◌≢◌, ℕ, List, map, codes, Err}
 use Rattle.pawn_pledge.specs.declared.command.Stamp.{Stamp}
 use Rattle.pawn_book.specs.BookStep.{Told, Denied, Shown}
 use Rattle.pawn_book.specs.HostStep.{Host}
-use Rattle.pawn_book.specs.Runs.{Mark, read_as, no_memory, no_store, Event, Said, Answered, Faulted, run_host, run_said}
+use Rattle.pawn_book.specs.Runs.{Mark, read_as, no_memory, no_store, Event, Said, Answered, Faulted, run_host, run_replies}
 use Rattle.pawn_view.specs.Text.{presented_text}
 use Rattle.pawn_wire.specs.Request.{Reads}
 use Rattle.pawn_wire.specs.Reply.{out_text, reply_text, fault_text}
@@ -28,8 +28,8 @@ abbrev pub IsMarked : Type 0 → Item → Type 0
 IsMarked Steady item = IsMarkOf Steady item.bytes item.mark
 
 -- what was handed in with an item
-abbrev pub handed_in : Item → Stamp × List ℕ
-handed_in item = (item.stamp, item.bytes)
+abbrev pub input_of : Item → Stamp × List ℕ
+input_of item = (item.stamp, item.bytes)
 
 -- what an item is to the books: its bytes no longer count
 abbrev pub event_of : Item → Event WireFault
@@ -51,4 +51,4 @@ host_after h operator items = run_host h operator (events items)
 
 -- the replies of a run, in order
 abbrev pub replies : Host → ℕ → List Item → List (List ℕ)
-replies h operator items = map said_text (run_said h operator (events items))
+replies h operator items = map said_text (run_replies h operator (events items))

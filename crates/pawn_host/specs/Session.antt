@@ -10,7 +10,7 @@ use Rattle.pawn_book.specs.Sound.{IsSound}
 use Rattle.pawn_wire.specs.Fault.{wire_fault}
 use Rattle.pawn_wire.specs.Reply.{memory_text, fault_text}
 use Rattle.pawn_wire.specs.declared.fault.HeadFault.{HeadFault}
-use Rattle.pawn_view.specs.Ends.{write_failed, written_of}
+use Rattle.pawn_view.specs.Ends.{write_failed, written_bytes}
 use Rattle.pawn_view.specs.declared.writing.Writing.{Writing}
 use Rattle.pawn_book.specs.Keeping.{Keeping}
 use Rattle.pawn_host.specs.Ends.{reads, read_failed, left_of}
@@ -62,9 +62,9 @@ DueAfter Write left requests last = ((last ≡ []) × IfSome left (λ s. Begins 
     ⊎ ((f : HeadFault) × (last ≡ fault_text (wire_fault f)) × IfSome left (λ s. Splits s requests (faulted f)))
 
 -- the requests that a session acted on, however it ended
-abbrev pub acted_of : Result Ended IoFault → ℕ
-acted_of (Ok ended) = ended.acted
-acted_of (Err fault) = fault.acted
+abbrev pub acted_count : Result Ended IoFault → ℕ
+acted_count (Ok ended) = ended.acted
+acted_count (Err fault) = fault.acted
 
 -- Fewer requests than the limit were acted on where a further one was looked for; a session ends by its limit with just as
 -- many, and one that was closed, or broke off over a reply, may have acted on the last of them.
@@ -112,7 +112,7 @@ module _ {S : Type 0} (steps : S → Option Stamp → S → Type 0) where
   pub record AreTaken (from new : S) (result : Result Ended IoFault) : Type 0 where
     pub stamps : List Stamp
     pub to : S
-    pub count : length stamps ≡ acted_of result
+    pub count : length stamps ≡ acted_count result
     pub taken : Yields steps from stamps to
     pub left : IsLeft result to new
 
@@ -188,8 +188,8 @@ pub record IsConversation {K R W S : Type 0} (k : Keeping K) (left : R → Optio
     (old new : Parties K R W S) (result : Result Ended IoFault) : Type 0 where
   pub stays : StaysOpen k old.service new.service
   pub session : Serves k old.service new.service (λ start stands. IsSession steps
-      (record { start = start; stamps = old.stamps; stream = left_of left old.reader; written = written_of written old.writer })
-      new.stamps stands (written_of written new.writer) result)
+      (record { start = start; stamps = old.stamps; stream = left_of left old.reader; written = written_bytes written old.writer })
+      new.stamps stands (written_bytes written new.writer) result)
   pub stamps : AreTaken steps old.stamps new.stamps result
   pub room : IsWithinMost result
   pub whole : OnOk result ((read_failed new.reader ≡ false) × (write_failed new.writer ≡ false))

@@ -1,7 +1,7 @@
 //! One connection: requests are read, answered and their replies written, one after the other.
 ghost use Rattle.std.specs.Prelude.{◌≡◌, ◌+◌, ◌≤◌, [], drop, IfSome, IfOk, IfErr, vec_len, ◌*◌, ◌^◌, false};
 ghost use Rattle.std.specs.Io.KnownBytes.{Keeps, prepend_known};
-ghost use Rattle.pawn_view.specs.Ends.{write_failed, written_of};
+ghost use Rattle.pawn_view.specs.Ends.{write_failed, written_bytes};
 ghost use Rattle.pawn_host.specs.Limits.{most_request_bytes};
 ghost use Rattle.pawn_host.specs.Ends.{reads, read_failed, left_of};
 ghost use Rattle.pawn_host.specs.Finding.{IsFilled, Finds, FindsRest, HasHead, StopsBy, FilledBy, IsFetched};
@@ -214,7 +214,7 @@ fn write_last<W: Write>(
 ) -> Result<Ended, IoFault>
     requires fine { write_failed writer.old ≡ false }
     requires room { sent ≤ acted * 2 ^ 64 }
-    ensures finished { IsFinished how acted sent text.now (written_of W.contents writer.old) (written_of W.contents writer.new) (write_failed writer.new) result }
+    ensures finished { IsFinished how acted sent text.now (written_bytes W.contents writer.old) (written_bytes W.contents writer.new) (write_failed writer.new) result }
 {
     let count = send(writer, text);
     if count < text.len() {
@@ -236,7 +236,7 @@ fn finish<W: Write>(
 ) -> Result<Ended, IoFault>
     requires fine { write_failed writer.old ≡ false }
     requires room { sent ≤ acted * 2 ^ 64 }
-    ensures over { IsOver rest acted sent (written_of W.contents writer.old) (written_of W.contents writer.new) (write_failed writer.new) result }
+    ensures over { IsOver rest acted sent (written_bytes W.contents writer.old) (written_bytes W.contents writer.new) (write_failed writer.new) result }
 {
     match rest {
         Rest::AtEnd => write_last(writer, &[], How::End, acted, sent),

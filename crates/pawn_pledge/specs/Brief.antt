@@ -6,7 +6,7 @@ use Rattle.pawn_debt.specs.declared.owing.Totals.{Totals}
 use Rattle.pawn_debt.specs.declared.owing.Owing.{Owing}
 use Rattle.pawn_debt.specs.Due.{credit_of, after_days}
 use Rattle.pawn_debt.specs.Owing.{owing_of}
-use Rattle.pawn_debt.specs.Kept.{owed_of, totals_of}
+use Rattle.pawn_debt.specs.Kept.{sums_of, totals_of}
 use Rattle.pawn_debt.specs.Limits.{most_pence, most_entries, most_millionths}
 use Rattle.pawn_pledge.specs.declared.record.Booking.{Booking}
 use Rattle.pawn_pledge.specs.declared.record.Closing.{Closing}
@@ -31,7 +31,7 @@ brief_status b x = status_under b.standing.closing (status_by b.agreement b.ends
 
 -- what is owed on a day that is not before the last entry's
 abbrev pub brief_owing : BriefFields → ℕ → Owing
-brief_owing b x = owing_of (after_days b.agreement.terms b.ends b.totals.day (x - b.totals.day) (owed_of b.totals))
+brief_owing b x = owing_of (after_days b.agreement.terms b.ends b.totals.day (x - b.totals.day) (sums_of b.totals))
 
 -- a booking for one of a day's windows, on a day that a request may name
 abbrev pub IsBookingWithin : Booking → Type 0

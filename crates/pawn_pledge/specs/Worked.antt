@@ -26,16 +26,16 @@ use Rattle.pawn_pledge.specs.Pledge.{PledgeValue, end_of, status_of, live_of}
 use Rattle.pawn_pledge.specs.Step.{Answered, pledge_start, pledge_step, pledge_after, reply_of}
 
 -- what is agreed on a ring
-abbrev pub agreed_on : Kind → Bool → Option ℕ → Opening
-agreed_on kind five_days agreed =
+abbrev pub ring_opening : Kind → Bool → Option ℕ → Opening
+ring_opening kind five_days agreed =
     record { reference = codes "A1"; article = codes "Gold ring"; kind = kind; agreed = agreed; five_days = five_days }
 
 -- the ring as it was pawned on 2024-01-31, with the secret 1
-abbrev pub pawned : Kind → Bool → Option ℕ → Rates → PledgeValue
-pawned kind five_days agreed terms = record {
+abbrev pub ring_pledge : Kind → Bool → Option ℕ → Rates → PledgeValue
+ring_pledge kind five_days agreed terms = record {
   agreement = record {
     number = 1;
-    opening = agreed_on kind five_days agreed;
+    opening = ring_opening kind five_days agreed;
     taken = date 2024 1 31;
     version = 1;
     terms = terms;
@@ -48,15 +48,15 @@ pawned kind five_days agreed terms = record {
 
 -- for a sum without charges, an agreed end or the five days
 abbrev pub ring : ℕ → PledgeValue
-ring pence = pawned (Fixed pence) false None free
+ring pence = ring_pledge (Fixed pence) false None free
 
 -- the same with the five days
 abbrev pub ring_with_grace : ℕ → PledgeValue
-ring_with_grace pence = pawned (Fixed pence) true None free
+ring_with_grace pence = ring_pledge (Fixed pence) true None free
 
 -- on a running account
 abbrev pub ring_on_account : ℕ → PledgeValue
-ring_on_account limit = pawned (Running limit) false None free
+ring_on_account limit = ring_pledge (Running limit) false None free
 
 -- a day with the word 9
 abbrev pub on : ℕ → Stamp
@@ -70,16 +70,16 @@ abbrev pub after : PledgeValue → ℕ → Command → PledgeValue
 after p day command = pledge_after p (pledge_step p (on day) command)
 
 -- an entry is told
-abbrev pub entry_told : ℕ → ℕ → Sort → ℕ → Done
-entry_told seq day sort pence = Done.Entered (record { seq = seq; day = day; sort = sort; pence = pence })
+abbrev pub entry_answer : ℕ → ℕ → Sort → ℕ → Done
+entry_answer seq day sort pence = Done.Entered (record { seq = seq; day = day; sort = sort; pence = pence })
 
 -- a pledge begins with a sum or a limit within the limits, and with its first secret live
 abbrev pub WorkedStarts : Type 0
 WorkedStarts =
-    (pledge_start 1 (agreed_on (Fixed 10000) false None) 1 free (record { day = date 2024 1 31; word = 1 }) ≡ Ok (ring 10000))
+    (pledge_start 1 (ring_opening (Fixed 10000) false None) 1 free (record { day = date 2024 1 31; word = 1 }) ≡ Ok (ring 10000))
     × (live_of (ring 10000) ≡ Some 1)
-    × (pledge_start 1 (agreed_on (Fixed 0) false None) 1 free (on (date 2024 1 31)) ≡ Err (Refusal.Debt BadAmount))
-    × (pledge_start 1 (agreed_on (Running 100000001) false None) 1 free (on (date 2024 1 31)) ≡ Err (Refusal.Debt BadAmount))
+    × (pledge_start 1 (ring_opening (Fixed 0) false None) 1 free (on (date 2024 1 31)) ≡ Err (Refusal.Debt BadAmount))
+    × (pledge_start 1 (ring_opening (Running 100000001) false None) 1 free (on (date 2024 1 31)) ≡ Err (Refusal.Debt BadAmount))
 
 -- a small credit for six months passes after the end, or after the five days where these apply
 abbrev pub WorkedStatuses : Type 0
@@ -90,16 +90,16 @@ WorkedStatuses =
     × (status_of (ring_with_grace 7500) (date 2024 8 5) ≡ Status.Grace)
     × (status_of (ring_with_grace 7500) (date 2024 8 6) ≡ Status.Passed)
     × (status_of (ring_with_grace 7501) (date 2024 8 6) ≡ Status.Realisable)
-    × (status_of (pawned (Fixed 7500) false (Some (date 2024 8 1)) free) (date 2024 8 1) ≡ Status.Inside)
-    × (status_of (pawned (Fixed 7500) false (Some (date 2024 8 1)) free) (date 2024 8 2) ≡ Status.Realisable)
+    × (status_of (ring_pledge (Fixed 7500) false (Some (date 2024 8 1)) free) (date 2024 8 1) ≡ Status.Inside)
+    × (status_of (ring_pledge (Fixed 7500) false (Some (date 2024 8 1)) free) (date 2024 8 2) ≡ Status.Realisable)
 
 -- drawings in the period, on a running account up to its limit
 abbrev pub WorkedDrawings : Type 0
 WorkedDrawings =
     let drawn = after (ring_on_account 5000) (date 2024 1 31) (Command.Draw 1 3000) in
-    (told (ring_on_account 5000) (date 2024 1 31) (Command.Draw 1 3000) ≡ Ok (entry_told 1 (date 2024 1 31) Draw 3000))
+    (told (ring_on_account 5000) (date 2024 1 31) (Command.Draw 1 3000) ≡ Ok (entry_answer 1 (date 2024 1 31) Draw 3000))
     × (told drawn (date 2024 1 31) (Command.Draw 2 2001) ≡ Err (Refusal.Debt OverLimit))
-    × (told drawn (date 2024 7 31) (Command.Draw 2 2000) ≡ Ok (entry_told 2 (date 2024 7 31) Draw 2000))
+    × (told drawn (date 2024 7 31) (Command.Draw 2 2000) ≡ Ok (entry_answer 2 (date 2024 7 31) Draw 2000))
     × (told drawn (date 2024 8 1) (Command.Draw 2 2000) ≡ Err Refusal.Passed)
     × (told (ring_on_account 7501) (date 2024 8 1) (Command.Draw 1 1) ≡ Err Refusal.PeriodOver)
     × (told (ring 10000) (date 2024 1 31) (Command.Draw 1 1) ≡ Err (Refusal.Debt FixedSum))
@@ -109,7 +109,7 @@ WorkedDrawings =
 abbrev pub WorkedRepayments : Type 0
 WorkedRepayments =
     let repaid = after (ring 10000) (date 2024 2 29) (Command.Repay 1 1000) in
-    let first = entry_told 1 (date 2024 2 29) Repay 1000 in
+    let first = entry_answer 1 (date 2024 2 29) Repay 1000 in
     (told (ring 10000) (date 2024 2 29) (Command.Repay 1 1000) ≡ Ok first)
     × (pledge_step repaid (on (date 2024 2 1)) (Command.Repay 1 1000) ≡ Answered first)
     × (pledge_step (after repaid (date 2024 3 1) (Command.Redeem 9000)) (on (date 2025 1 1)) (Command.Repay 1 1000) ≡ Answered first)
@@ -149,8 +149,8 @@ WorkedDeclarations =
     × (told (after (after (ring 7500) (date 2024 2 1) Command.Hold) (date 2024 2 1) (Command.Declare Paper.Sworn)) (date 2024 2 1) (Command.Redeem 7500) ≡ Err Refusal.Held)
 
 -- a booking is told
-abbrev pub booking_told : ℕ → ℕ → BookingState → Done
-booking_told day window state = Done.Booked (record { day = day; window = window; state = state })
+abbrev pub booking_answer : ℕ → ℕ → BookingState → Done
+booking_answer day window state = Done.Booked (record { day = day; window = window; state = state })
 
 -- the ring once a booking for 2024-03-04 was asked for, and once it was confirmed
 abbrev pub ring_asked_for : PledgeValue
@@ -162,15 +162,15 @@ ring_confirmed = after ring_asked_for (date 2024 3 1) (Command.DecideBooking Con
 -- a booking is asked for a window of a day that is not past, and on which the property will not have passed
 abbrev pub WorkedAskings : Type 0
 WorkedAskings =
-    (told (ring 10000) (date 2024 3 1) (Command.AskBooking (date 2024 3 4) 3) ≡ Ok (booking_told (date 2024 3 4) 3 Asked))
-    × (told (ring 10000) (date 2024 3 1) (Command.AskBooking (date 2024 3 1) 15) ≡ Ok (booking_told (date 2024 3 1) 15 Asked))
+    (told (ring 10000) (date 2024 3 1) (Command.AskBooking (date 2024 3 4) 3) ≡ Ok (booking_answer (date 2024 3 4) 3 Asked))
+    × (told (ring 10000) (date 2024 3 1) (Command.AskBooking (date 2024 3 1) 15) ≡ Ok (booking_answer (date 2024 3 1) 15 Asked))
     × (told (ring 10000) (date 2024 3 1) (Command.AskBooking (date 2024 2 29) 16) ≡ Err Refusal.BadWindow)
     × (told (ring 10000) (date 2024 3 1) (Command.AskBooking (date 2024 2 29) 15) ≡ Err Refusal.BookingDay)
-    × (told (ring 7500) (date 2024 3 1) (Command.AskBooking (date 2024 7 31) 0) ≡ Ok (booking_told (date 2024 7 31) 0 Asked))
+    × (told (ring 7500) (date 2024 3 1) (Command.AskBooking (date 2024 7 31) 0) ≡ Ok (booking_answer (date 2024 7 31) 0 Asked))
     × (told (ring 7500) (date 2024 3 1) (Command.AskBooking (date 2024 8 1) 0) ≡ Err Refusal.BookingDay)
-    × (pledge_step ring_asked_for (on (date 2024 3 4)) (Command.AskBooking (date 2024 3 4) 3) ≡ Answered (booking_told (date 2024 3 4) 3 Asked))
-    × (pledge_step ring_confirmed (on (date 2024 3 2)) (Command.AskBooking (date 2024 3 4) 3) ≡ Answered (booking_told (date 2024 3 4) 3 Confirmed))
-    × (told ring_confirmed (date 2024 3 2) (Command.AskBooking (date 2024 3 4) 4) ≡ Ok (booking_told (date 2024 3 4) 4 Asked))
+    × (pledge_step ring_asked_for (on (date 2024 3 4)) (Command.AskBooking (date 2024 3 4) 3) ≡ Answered (booking_answer (date 2024 3 4) 3 Asked))
+    × (pledge_step ring_confirmed (on (date 2024 3 2)) (Command.AskBooking (date 2024 3 4) 3) ≡ Answered (booking_answer (date 2024 3 4) 3 Confirmed))
+    × (told ring_confirmed (date 2024 3 2) (Command.AskBooking (date 2024 3 4) 4) ≡ Ok (booking_answer (date 2024 3 4) 4 Asked))
     × (told ring_asked_for (date 2024 3 5) (Command.AskBooking (date 2024 3 4) 3) ≡ Err Refusal.BookingDay)
 
 -- a booking that stands is given up
@@ -179,9 +179,9 @@ WorkedCancellings =
     let cancelled = after ring_confirmed (date 2024 3 5) Command.CancelBooking in
     let refused = after ring_confirmed (date 2024 3 2) (Command.DecideBooking Refuse) in
     (told (ring 10000) (date 2024 3 1) Command.CancelBooking ≡ Err Refusal.NoBooking)
-    × (told ring_asked_for (date 2024 3 1) Command.CancelBooking ≡ Ok (booking_told (date 2024 3 4) 3 Cancelled))
-    × (told ring_confirmed (date 2024 3 5) Command.CancelBooking ≡ Ok (booking_told (date 2024 3 4) 3 Cancelled))
-    × (pledge_step cancelled (on (date 2024 3 6)) Command.CancelBooking ≡ Answered (booking_told (date 2024 3 4) 3 Cancelled))
+    × (told ring_asked_for (date 2024 3 1) Command.CancelBooking ≡ Ok (booking_answer (date 2024 3 4) 3 Cancelled))
+    × (told ring_confirmed (date 2024 3 5) Command.CancelBooking ≡ Ok (booking_answer (date 2024 3 4) 3 Cancelled))
+    × (pledge_step cancelled (on (date 2024 3 6)) Command.CancelBooking ≡ Answered (booking_answer (date 2024 3 4) 3 Cancelled))
     × (told refused (date 2024 3 2) Command.CancelBooking ≡ Err Refusal.NoBooking)
 
 -- a booking that was asked for is confirmed up to its day, or refused on any
@@ -191,11 +191,11 @@ WorkedDecisions =
     let refused = after ring_asked_for (date 2024 3 1) (Command.DecideBooking Refuse) in
     (told (ring 10000) (date 2024 3 1) (Command.DecideBooking Confirm) ≡ Err Refusal.NoBooking)
     × (told (ring 10000) (date 2024 3 1) (Command.DecideBooking Refuse) ≡ Err Refusal.NoBooking)
-    × (told ring_asked_for (date 2024 3 4) (Command.DecideBooking Confirm) ≡ Ok (booking_told (date 2024 3 4) 3 Confirmed))
+    × (told ring_asked_for (date 2024 3 4) (Command.DecideBooking Confirm) ≡ Ok (booking_answer (date 2024 3 4) 3 Confirmed))
     × (told ring_asked_for (date 2024 3 5) (Command.DecideBooking Confirm) ≡ Err Refusal.BookingDay)
-    × (pledge_step ring_confirmed (on (date 2024 3 5)) (Command.DecideBooking Confirm) ≡ Answered (booking_told (date 2024 3 4) 3 Confirmed))
-    × (told ring_confirmed (date 2024 3 5) (Command.DecideBooking Refuse) ≡ Ok (booking_told (date 2024 3 4) 3 Refused))
-    × (pledge_step refused (on (date 2024 3 2)) (Command.DecideBooking Refuse) ≡ Answered (booking_told (date 2024 3 4) 3 Refused))
+    × (pledge_step ring_confirmed (on (date 2024 3 5)) (Command.DecideBooking Confirm) ≡ Answered (booking_answer (date 2024 3 4) 3 Confirmed))
+    × (told ring_confirmed (date 2024 3 5) (Command.DecideBooking Refuse) ≡ Ok (booking_answer (date 2024 3 4) 3 Refused))
+    × (pledge_step refused (on (date 2024 3 2)) (Command.DecideBooking Refuse) ≡ Answered (booking_answer (date 2024 3 4) 3 Refused))
     × (told refused (date 2024 3 2) (Command.DecideBooking Confirm) ≡ Err Refusal.NoBooking)
     × (told cancelled (date 2024 3 2) (Command.DecideBooking Confirm) ≡ Err Refusal.NoBooking)
     × (told cancelled (date 2024 3 2) (Command.DecideBooking Refuse) ≡ Err Refusal.NoBooking)
@@ -210,7 +210,7 @@ WorkedRedemptions =
     × (told (ring 7501) (date 2024 8 1) (Command.Redeem 7501) ≡ Ok (Done.Redeemed (date 2024 8 1) 7501))
     × (told (ring_with_grace 7500) (date 2024 8 5) (Command.Redeem 7500) ≡ Ok (Done.Redeemed (date 2024 8 5) 7500))
     × (told (ring_with_grace 7500) (date 2024 8 6) (Command.Redeem 7500) ≡ Err Refusal.Passed)
-    × (told (pawned (Fixed 7500) false (Some (date 2024 8 1)) free) (date 2024 8 2) (Command.Redeem 7500) ≡ Ok (Done.Redeemed (date 2024 8 2) 7500))
+    × (told (ring_pledge (Fixed 7500) false (Some (date 2024 8 1)) free) (date 2024 8 2) (Command.Redeem 7500) ≡ Ok (Done.Redeemed (date 2024 8 2) 7500))
     × (live_of redeemed ≡ None)
     × (status_of redeemed (date 2024 8 1) ≡ Status.Redeemed)
     × (redeemed.standing.booking ≡ Some (record { day = date 2024 3 4; window = 3; state = Cancelled }))
@@ -235,7 +235,7 @@ WorkedSales =
 
 -- the ring at a penny a day for safe keeping in the period, and once that was extended
 abbrev pub ring_in_safe_keeping : PledgeValue
-ring_in_safe_keeping = pawned (Fixed 7500) false None (rates_of 0 1000000 0)
+ring_in_safe_keeping = ring_pledge (Fixed 7500) false None (rates_of 0 1000000 0)
 
 abbrev pub ring_extended : PledgeValue
 ring_extended = after ring_in_safe_keeping (date 2024 7 31) (Command.Extend (date 2024 9 30))

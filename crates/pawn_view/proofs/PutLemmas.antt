@@ -8,12 +8,12 @@ use Rattle.std.proofs.Common.{◌<◌, ◌≤◌, ◌+◌, nat_eq, length, take,
 use Rattle.std.proofs.KnownBytes.{Appends-trans, Appends-nil}
 use Rattle.std.specs.Io.KnownBytes.{Appends}
 use Rattle.pawn_book.specs.Visits.{End, Front, Whole}
-use Rattle.pawn_view.specs.Ends.{write_failed, written_of, end_by, PutFront, Written, Puts}
+use Rattle.pawn_view.specs.Ends.{write_failed, written_bytes, end_by, PutFront, Written, Puts}
 use Rattle.pawn_view.specs.declared.writing.Writing.{Writing}
 
 -- a whole text, and then as much of another
 put-then : {W : Type 0} (contents : W → Option (List ℕ)) (a b c : Writing W) (s t : List ℕ) (end : End)
-    → Appends (written_of contents a) (written_of contents b) s → Written contents b t end c → Written contents a (s ++ t) end c
+    → Appends (written_bytes contents a) (written_bytes contents b) s → Written contents b t end c → Written contents a (s ++ t) end c
 put-then contents a b c s t Whole first second = (Appends-trans _ _ _ s t first second.0, second.1)
 put-then contents a b c s t Front first ((out, rest, whole, appends), failed) =
     ((s ++ out, rest, append_assoc s out rest ∙ ap (λ x. s ++ x) whole, Appends-trans _ _ _ s out first appends), failed)
@@ -38,7 +38,7 @@ now_by contents a b text failed is written = subst (λ (v : Bool). Written conte
 
 -- `send` to a writer that has not failed
 pub puts_sent : {W : Type 0} (contents : W → Option (List ℕ)) (a b : Writing W) (bs : List ℕ) (n : ℕ) → write_failed a ≡ false → n ≤ length bs
-    → Appends (written_of contents a) (written_of contents b) (take n bs) → (n ≡ length bs → write_failed b ≡ false) → (n < length bs → write_failed b ≡ true)
+    → Appends (written_bytes contents a) (written_bytes contents b) (take n bs) → (n ≡ length bs → write_failed b ≡ false) → (n < length bs → write_failed b ≡ true)
     → Puts contents a bs b
 puts_sent contents a b bs n fine bound bytes done failed = record {
   failed = λ f. cc;

@@ -13,8 +13,8 @@ abbrev pub write_failed : {W : Type 0} → Writing W → Bool
 write_failed w = w.failed
 
 -- the bytes that were written, where the writer tells them
-abbrev pub written_of : {W : Type 0} → (W → Option (List ℕ)) → Writing W → Option (List ℕ)
-written_of contents w = contents w.inner
+abbrev pub written_bytes : {W : Type 0} → (W → Option (List ℕ)) → Writing W → Option (List ℕ)
+written_bytes contents w = contents w.inner
 
 -- an error, or none of some bytes taken
 abbrev pub is_write_failure : {E : Type 0} → Result ℕ E → List ℕ → Bool
@@ -24,11 +24,11 @@ is_write_failure (Ok n) (b ∷ bytes) = n == 0
 
 -- a front of the text went out
 abbrev pub PutFront : {W : Type 0} → (W → Option (List ℕ)) → Writing W → List ℕ → Writing W → Type 0
-PutFront contents old text new = (out : List ℕ) × (rest : List ℕ) × (out ++ rest ≡ text) × Appends (written_of contents old) (written_of contents new) out
+PutFront contents old text new = (out : List ℕ) × (rest : List ℕ) × (out ++ rest ≡ text) × Appends (written_bytes contents old) (written_bytes contents new) out
 
 -- the text went out, or a front of it where the writer failed
 abbrev pub Written : {W : Type 0} → (W → Option (List ℕ)) → Writing W → List ℕ → End → Writing W → Type 0
-Written contents old text Whole new = Appends (written_of contents old) (written_of contents new) text × (write_failed new ≡ false)
+Written contents old text Whole new = Appends (written_bytes contents old) (written_bytes contents new) text × (write_failed new ≡ false)
 Written contents old text Front new = PutFront contents old text new × (write_failed new ≡ true)
 
 -- a writer that fails puts a front

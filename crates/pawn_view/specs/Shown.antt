@@ -45,8 +45,8 @@ abbrev pub statement_of : Host → ℕ → ℕ → ℕ → Option (List ℕ)
 statement_of h book number day = option_map (statement_text day) (pledge_at h book number)
 
 -- what is shown for receipts, if one of them is live
-abbrev pub presented_of : Host → ℕ → List Receipt → ℕ → Option (List ℕ)
-presented_of h book receipts day =
+abbrev pub presentation_of : Host → ℕ → List Receipt → ℕ → Option (List ℕ)
+presentation_of h book receipts day =
     if are_unknown (live_pledges h book receipts) then None else Some (presented_text day (live_pledges h book receipts))
 
 -- the text went out, or why not all of it. A refusal writes nothing, and comes just where there is nothing to show;

@@ -8,7 +8,7 @@ use Rattle.pawn_pledge.specs.declared.command.Command.{Command}
 use Rattle.pawn_pledge.specs.declared.record.BookingState.TheVariants as state
 use Rattle.pawn_pledge.specs.declared.record.Closing.TheVariants.{Open, Redeemed, Sold}
 use Rattle.pawn_pledge.specs.Pledge.{PledgeValue}
-use Rattle.pawn_pledge.specs.Worked.{after, pawned, ring}
+use Rattle.pawn_pledge.specs.Worked.{after, ring_pledge, ring}
 use Rattle.pawn_view.specs.Text.{money, date_text, kind_line, extended_line, held_line, booking_line, closing_line, entry_line, statement_text, presented_text}
 
 -- pounds, and two digits of pence
@@ -57,7 +57,7 @@ WorkedClosings =
 
 -- the ring for 100 pounds, at 2,667 millionths a day
 abbrev pub ring_at_interest : PledgeValue
-ring_at_interest = pawned (Fixed 10000) false None (rates_of 2667 0 0)
+ring_at_interest = ring_pledge (Fixed 10000) false None (rates_of 2667 0 0)
 
 -- a statement, from the day taken on; without amounts once the ring passed
 abbrev pub WorkedStatements : Type 0

@@ -8,7 +8,7 @@ ghost use Rattle.pawn_book.specs.Keeping.{Reads, IsSteady};
 ghost use Rattle.pawn_book.specs.Visits.{call_end};
 ghost use Rattle.pawn_view.specs.Ends.{Puts, write_failed};
 ghost use Rattle.pawn_view.specs.Text.{shown_text, further_texts, presented_text};
-ghost use Rattle.pawn_view.specs.Shown.{PutsShare, Shows, IsQuietView, live_pledges, presented_of};
+ghost use Rattle.pawn_view.specs.Shown.{PutsShare, Shows, IsQuietView, live_pledges, presentation_of};
 
 use crate::fault::{ViewFault, view_fault};
 use crate::statements::{ending, put_statement};
@@ -123,7 +123,7 @@ pub fn show_presented<K: Keep, W: Write>(
     writer: &mut Writing<W>,
 ) -> Result<(), ViewFault>
     requires fine { write_failed writer.old ≡ false }
-    ensures shows { Reads K.keeping keep.old keep.new (λ h. IsSound h → Shows W.contents writer.old (presented_of h book receipts.now day) result writer.new) }
+    ensures shows { Reads K.keeping keep.old keep.new (λ h. IsSound h → Shows W.contents writer.old (presentation_of h book receipts.now day) result writer.new) }
     ensures write { IsErrOf result ViewFault.Write → write_failed writer.new ≡ true }
     ensures steady { IsQuietView K.keeping keep.old result }
 {

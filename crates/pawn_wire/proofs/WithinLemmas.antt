@@ -34,7 +34,7 @@ use Rattle.pawn_wire.specs.Member.{json_of, in_range, number_at, string_at, flag
 use Rattle.pawn_wire.specs.Named.{number_said, day_said}
 use Rattle.pawn_wire.specs.Receipts.{is_hyphen, receipt_said, all_said, receipt_values, receipt_faults, receipts_said, one_said}
 use Rattle.pawn_wire.specs.Request.{framing_faults, place_of, place_asked, item_said, is_ascii_text, key_given, if_sent_by, caller_said, request_by, Reads}
-use Rattle.pawn_wire.specs.Route.{AskedFor, asked_of, method_of}
+use Rattle.pawn_wire.specs.Route.{AskedFor, route_of, method_of}
 use Rattle.pawn_wire.specs.declared.commands.NewEntry.{NewEntry}
 use Rattle.pawn_wire.specs.declared.fault.WireFault.{WireFault}
 use Rattle.pawn_wire.specs.declared.fault.WireFault.TheVariants.{NoRoute, WrongMethod, BadBody, BadReceipt, TooManyReceipts, NoReceipt}
@@ -289,8 +289,8 @@ asked_within asked place e =
 place_within : (target : List ℕ) (place : Place) → place_of target ≡ Some place → IsPlaceWithin place
 place_within target place e = by_test (is_ascii_text target) e
   where
-    by_test : (b : Bool) → (if b then and_then (asked_of target) place_asked else None) ≡ Some place → IsPlaceWithin place
-    by_test true same = (let asked = given_some (asked_of target) place_asked place same in asked_within asked.0 place asked.2)
+    by_test : (b : Bool) → (if b then and_then (route_of target) place_asked else None) ≡ Some place → IsPlaceWithin place
+    by_test true same = (let asked = given_some (route_of target) place_asked place same in asked_within asked.0 place asked.2)
     by_test false same = absurd cc
 
 request_within : (method target : List ℕ) (fields : List Pair) (body : List ℕ) (request : Request)

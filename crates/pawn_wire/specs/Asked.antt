@@ -4,5 +4,5 @@ use Rattle.pawn_wire.specs.declared.router.Asked.{Asked}
 use Rattle.pawn_wire.specs.Route.{AskedFor}
 
 -- an answer's endpoint and its texts
-abbrev pub asked_for : Asked → AskedFor
-asked_for a = record { endpoint = a.endpoint; book = option_copied a.book; item = option_copied a.item }
+abbrev pub endpoint_and_texts : Asked → AskedFor
+endpoint_and_texts a = record { endpoint = a.endpoint; book = option_copied a.book; item = option_copied a.item }

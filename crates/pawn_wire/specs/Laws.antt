@@ -23,7 +23,7 @@ use Rattle.pawn_wire.specs.Done.{sort_text, state_text, entered_text, held_text,
 use Rattle.pawn_wire.specs.Limits.{max_number}
 use Rattle.pawn_wire.specs.Named.{number_said}
 use Rattle.pawn_wire.specs.Request.{Reads}
-use Rattle.pawn_wire.specs.Route.{table, asked_of}
+use Rattle.pawn_wire.specs.Route.{table, route_of}
 use Rattle.pawn_wire.specs.declared.fault.WireFault.{WireFault}
 use Rattle.pawn_wire.specs.declared.route.Endpoint.{Endpoint}
 use Rattle.pawn_wire.specs.declared.route.Endpoint.TheVariants as e
@@ -144,7 +144,7 @@ pledge_for (e.OnReceipt action) = None
 -- the target of a row of the table is found, with its endpoint and its numbers
 abbrev pub IsTargetFound : List ℕ × Endpoint → Type 0
 IsTargetFound row =
-    asked_of (fill false row.0) ≡ Some (record { endpoint = row.1; book = Some (codes "7"); item = pledge_for row.1 })
+    route_of (fill false row.0) ≡ Some (record { endpoint = row.1; book = Some (codes "7"); item = pledge_for row.1 })
 
 abbrev pub TargetsAreFound : Type 0
 TargetsAreFound = Each IsTargetFound table

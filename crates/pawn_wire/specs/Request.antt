@@ -20,7 +20,7 @@ use Rattle.pawn_wire.specs.Head.{ReadsHead, fields_of, length_by, field_faults}
 use Rattle.pawn_wire.specs.Member.{body_said}
 use Rattle.pawn_wire.specs.Named.{number_said}
 use Rattle.pawn_wire.specs.Receipts.{receipt_values, receipts_said, one_said}
-use Rattle.pawn_wire.specs.Route.{AskedFor, asked_of, method_of}
+use Rattle.pawn_wire.specs.Route.{AskedFor, route_of, method_of}
 use Rattle.pawn_wire.specs.declared.fault.WireFault.{WireFault}
 use Rattle.pawn_wire.specs.declared.fault.WireFault.TheVariants.{BadHead, BadLength, NoRoute, WrongMethod, BadBody, BadKey, Memory}
 use Rattle.pawn_wire.specs.declared.request.Place.{Place}
@@ -50,7 +50,7 @@ place_asked asked =
 
 -- what a target asks for; one beyond ASCII asks for nothing
 abbrev pub place_of : List ℕ → Option Place
-place_of target = if is_ascii_text target then and_then (asked_of target) place_asked else None
+place_of target = if is_ascii_text target then and_then (route_of target) place_asked else None
 
 -- the one key of these values
 abbrev pub key_said : List (List ℕ) → Option ℕ

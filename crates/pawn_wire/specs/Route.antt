@@ -73,8 +73,8 @@ pub record AskedFor : Type 0 where
   pub item : Option (List ℕ)
 
 -- what a target asks for
-abbrev pub asked_of : List ℕ → Option AskedFor
-asked_of target =
+abbrev pub route_of : List ℕ → Option AskedFor
+route_of target =
     option_map
     (λ r. record { endpoint = r.value; book = slice_get (captures r target) 0; item = slice_get (captures r target) 1 })
     (first table_rows target)

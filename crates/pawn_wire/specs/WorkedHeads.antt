@@ -39,8 +39,8 @@ abbrev pub tells_length : List ℕ → Pair
 tells_length value = (codes "Content-Length", value)
 
 -- a field that tells another coding of the body
-abbrev pub chunked : Pair
-chunked = (codes "Transfer-Encoding", codes "chunked")
+abbrev pub chunked_coding : Pair
+chunked_coding = (codes "Transfer-Encoding", codes "chunked")
 
 -- a length of 1 to 19 digits, up to 1,048,576 bytes; one that is malformed or stands twice; and a body in another coding
 abbrev pub WorkedLengths : Type 0
@@ -56,8 +56,8 @@ WorkedLengths =
     × (body_length (tells_length [] ∷ []) ≡ Err BadLength)
     × (body_length (tells_length (codes "+5") ∷ []) ≡ Err BadLength)
     × (body_length (tells_length (codes "5") ∷ tells_length (codes "5") ∷ []) ≡ Err BadLength)
-    × (body_length (chunked ∷ []) ≡ Err Transfer)
-    × (body_length (tells_length (codes "+5") ∷ chunked ∷ []) ≡ Err Transfer)
+    × (body_length (chunked_coding ∷ []) ≡ Err Transfer)
+    × (body_length (tells_length (codes "+5") ∷ chunked_coding ∷ []) ≡ Err Transfer)
 
 -- a field that tells whether the connection closes
 abbrev pub tells_connection : List ℕ → Pair

@@ -15,7 +15,7 @@ use Rattle.pawn_wire.specs.Member.{body_said}
 use Rattle.pawn_wire.specs.Named.{number_said, day_said}
 use Rattle.pawn_wire.specs.Receipts.{receipt_values, receipt_said, receipts_said, one_said}
 use Rattle.pawn_wire.specs.Request.{place_of, key_given, request_by}
-use Rattle.pawn_wire.specs.WorkedHeads.{chunked, tells_length}
+use Rattle.pawn_wire.specs.WorkedHeads.{chunked_coding, tells_length}
 use Rattle.pawn_wire.specs.declared.fault.WireFault.TheVariants.{Transfer, BadLength, BodyTooLong, NoRoute, WrongMethod, BadBody, BadKey, BadReceipt, TooManyReceipts, NoReceipt}
 use Rattle.pawn_wire.specs.declared.request.Place.{Place}
 use Rattle.pawn_wire.specs.declared.route.Endpoint.{Endpoint}
@@ -162,7 +162,7 @@ WorkedCommands =
 -- each fault is told before those that come after it
 abbrev pub WorkedOrder : Type 0
 WorkedOrder =
-    (request_by (codes "PUT") (codes "/nowhere") (tells_length (codes "x") ∷ chunked ∷ []) (codes "{}") ≡ Err Transfer)
+    (request_by (codes "PUT") (codes "/nowhere") (tells_length (codes "x") ∷ chunked_coding ∷ []) (codes "{}") ≡ Err Transfer)
     × (request_by (codes "PUT") (codes "/nowhere") (tells_length (codes "x") ∷ []) (codes "{}") ≡ Err BadLength)
     × (request_by (codes "PUT") (codes "/nowhere") (tells_length (codes "1048577") ∷ []) (codes "{}") ≡ Err BodyTooLong)
     × (request_by (codes "PUT") (codes "/nowhere") (tells_length (codes "3") ∷ []) (codes "{}") ≡ Err BadLength)

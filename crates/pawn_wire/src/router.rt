@@ -37,8 +37,8 @@ impl Model for Router {
 
 impl Router {
     ghost use Rattle.std.specs.Prelude.{◌≡◌, IfOk, option_map};
-    ghost use Rattle.pawn_wire.specs.Route.{table_rows, asked_of};
-    ghost use Rattle.pawn_wire.specs.Asked.{asked_for};
+    ghost use Rattle.pawn_wire.specs.Route.{table_rows, route_of};
+    ghost use Rattle.pawn_wire.specs.Asked.{endpoint_and_texts};
 
     /// The routes of the service's table. It refuses only where memory is wanting.
     pub fn new(alloc: Global) -> Result<Router, AllocError>
@@ -54,7 +54,7 @@ impl Router {
     // What a target asks for.
     pub(crate) fn find<'p>(&self, target: &'p str) -> Option<Asked<'p>>
         requires ascii { IsAscii target.now }
-        ensures value { option_map asked_for result ≡ asked_of target.now }
+        ensures value { option_map endpoint_and_texts result ≡ route_of target.now }
     {
         match self.routes.at(target) {
             Ok(found) => {

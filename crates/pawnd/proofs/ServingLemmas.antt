@@ -10,7 +10,7 @@ use Rattle.pawn_host.specs.Keeps.{Start, host_by}
 use Rattle.pawn_host.specs.Run.{Item, IsMarked, host_after}
 use Rattle.pawn_host.specs.Split.{most_requests}
 use Rattle.pawn_host.specs.Session as session
-use Rattle.pawn_host.specs.Session.{Given, stamps_of, IsLeftBy, acted_of}
+use Rattle.pawn_host.specs.Session.{Given, stamps_of, IsLeftBy, acted_count}
 use Rattle.pawn_host.specs.declared.session.How.{How}
 use Rattle.pawn_host.specs.declared.session.How.TheVariants.{End, Cut, Closed, Faulted, Limit, NoStamp, Memory}
 use Rattle.pawn_host.specs.declared.session.Ended.{Ended}
@@ -81,7 +81,7 @@ given_by steps from to last items Memory taken left = none_more steps from to la
 given_by steps from to last items NoStamp taken left = dry steps from to last items taken left
 
 sat : {S : Type 0} (steps : S → Option Stamp → S → Type 0) (given : Given S) (stamps : S) (stands : Host → Type 0) (written : Option (List ℕ)) (result : Result Ended IoFault)
-    → session.IsSession steps given stamps stands written result → Sat steps given.stamps stamps given.start (acted_of result) stands
+    → session.IsSession steps given stamps stands written result → Sat steps given.stamps stamps given.start (acted_count result) stands
 sat steps given stamps stands written (Ok ended) s =
     let answers = given_by steps given.stamps s.to stamps s.items ended.how s.served.taken s.left in
     record { items = s.items; count = s.count; marked = s.served.marked; given = answers.0; gives = answers.1; taken = answers.2; stands_for = s.served.stands_for; sound = s.served.sound }
@@ -97,7 +97,7 @@ served_none at sound = record { sessions = []; count = refl; each = All-nil IsSe
 -- one connection more, whose session began where the one before it left the service and the stamps
 pub served_more : {S : Type 0} (steps : S → Option Stamp → S → Type 0) (from : S) (start : Start) (answered : ℕ) (given : Given S) (to : S) (at stands : Host → Type 0) (written : Option (List ℕ)) (result : Result Ended IoFault)
     → (so : AreServed steps from given.stamps start answered at) → (start.Steady → given.start.Steady) → given.start.operator ≡ start.operator → given.start.host ≡ host_by start (items_of so.sessions)
-    → acted_of result ≤ most_requests → session.IsSession steps given to stands written result → AreServed steps from to start (answered + 1) stands
+    → acted_count result ≤ most_requests → session.IsSession steps given to stands written result → AreServed steps from to start (answered + 1) stands
 served_more steps from start answered given to at stands written result so stays same there most here =
     let one = sat steps given to stands written result here in
     let items : items_of (so.sessions ++ one.items ∷ []) ≡ items_of so.sessions ++ one.items = items_of-snoc so.sessions one.items in

@@ -3,7 +3,7 @@ use Rattle.pawn_terms.specs.Refusals.{IsSaid}
 use Rattle.pawn_pledge.specs.declared.record.Agreement.{Agreement}
 use Rattle.pawn_book.specs.declared.change.Change.TheVariants.{PutPledge}
 use Rattle.pawn_book.specs.declared.reply.Reply.TheVariants.{Opened}
-use Rattle.pawn_book.specs.BookStep.{newest, take_pledge, taken_under, with_reference}
+use Rattle.pawn_book.specs.BookStep.{newest, take_pledge, next_pledge, with_reference}
 use Rattle.pawn_book.specs.Plans.{IsUnwell, Plans}
 use Rattle.pawn_book.proofs.Plans.{taken_plans}
 use Rattle.pawn_book.proofs.Reading.{ok_is, reads_then}
@@ -11,7 +11,7 @@ use Rattle.pawn_book.proofs.openings.plan_pledge.Goals as goal
 
 pub returns-in-Ok-clause-reads : goal.returns-in-Ok-clause-reads
 returns-in-Ok-clause-reads g c = reads_then c.find_reference.ensures.reads c.take.ensures.reads (λ h found taken sound at is heads.
-    let answer = subst (IsSaid IsUnwell (taken_under c.args.head.now c.args.opening.now c.args.stamp.now (newest at.terms))) c.in-Ok.is (taken at is heads) in
+    let answer = subst (IsSaid IsUnwell (next_pledge c.args.head.now c.args.opening.now c.args.stamp.now (newest at.terms))) c.in-Ok.is (taken at is heads) in
     subst (λ n. Plans h c.args.book (take_pledge at c.args.book c.args.opening.now c.args.stamp.now (with_reference at.pledges c.args.opening.now.reference))
     (Ok (record { change = Some (PutPledge c.args.book n c.in-Ok.pledge); reply = Opened c.first_receipt-in-Ok.result })))
     (sym (ap (λ (a : Agreement). a.number) c.agreement-in-Ok.ensures.value))

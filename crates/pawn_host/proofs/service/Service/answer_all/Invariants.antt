@@ -1,6 +1,6 @@
 use Rattle.std.proofs.Common.{◌≡◌, ◌≤◌, ◌*◌, ◌^◌, false}
 use Rattle.std.specs.Io.KnownBytes.{prepend_known}
-use Rattle.pawn_view.specs.Ends.{write_failed, written_of}
+use Rattle.pawn_view.specs.Ends.{write_failed, written_bytes}
 use Rattle.pawn_host.specs.Ends.{reads, read_failed, left_of}
 use Rattle.pawn_host.specs.Keeps.{StaysOpen, Serves}
 use Rattle.pawn_host.proofs.ReadLemmas.{ReadSoFar}
@@ -17,6 +17,6 @@ invariant-loop-acted g l = record {
   room : l.sent ≤ l.acted * 2 ^ 64;
   stays : StaysOpen g.K.Keep.keeping l.fn.self l.self;
   so_far : Serves g.K.Keep.keeping l.fn.self l.self (λ start stands. SoFar g.I.Iterator.next_gives
-      (record { start = start; stamps = l.fn.stamps; stream = left_of g.R.Read.remaining l.fn.reader; written = written_of g.W.Write.contents l.fn.writer })
-      l.stamps stands (prepend_known l.buffer.items (left_of g.R.Read.remaining l.reader)) (written_of g.W.Write.contents l.writer) l.acted l.sent);
+      (record { start = start; stamps = l.fn.stamps; stream = left_of g.R.Read.remaining l.fn.reader; written = written_bytes g.W.Write.contents l.fn.writer })
+      l.stamps stands (prepend_known l.buffer.items (left_of g.R.Read.remaining l.reader)) (written_bytes g.W.Write.contents l.writer) l.acted l.sent);
 }
