@@ -31,7 +31,7 @@ use Rattle.pawn_book.specs.declared.change.Change.{Change}
 use Rattle.pawn_book.specs.declared.change.Change.TheVariants.{AddTerms, PutPledge}
 use Rattle.pawn_book.specs.BookStep.{BookValue, Told, Refuses, Says, are_same_rates, first_secret, is_live, only_live, book_step, changed_book, make_book, first_receipt, book_head, is_same_end, is_same_book, is_same_flag, is_same_kind, is_same_opening, is_same_text, made_book, newest, next_terms, pledge_from, put_from, put_terms, take_pledge, terms_at, with_reference, under_terms}
 use Rattle.pawn_book.specs.declared.request.Caller.TheVariants.{Operator, Broker, Bearer}
-use Rattle.pawn_book.specs.declared.request.BrokerRequest.TheVariants.{PutTerms, TakePledge, OnPledge, Show}
+use Rattle.pawn_book.specs.declared.request.BrokerRequest.TheVariants.{PutTerms, TakePledge, OnPledge, Show, SheetOf}
 use Rattle.pawn_book.specs.Laws.{Asks, ChangesDiffer, IsMaking, RepeatsActOnce, book_run}
 use Rattle.pawn_book.proofs.Sounds.{absurd_none, each_at, some_is}
 use Rattle.pawn_book.specs.Changes.{Continues}
@@ -155,6 +155,7 @@ asks_not_making (Broker key (PutTerms new)) n command asks making = asks
 asks_not_making (Broker key (TakePledge opening)) n command asks making = asks
 asks_not_making (Broker key (OnPledge m own)) n command asks making = making
 asks_not_making (Broker key (Show m)) n command asks making = asks
+asks_not_making (Broker key (SheetOf day)) n command asks making = asks
 asks_not_making (Bearer asked) n command asks making = making
 
 -- a request that made a change is told the same again, and makes none

@@ -1,6 +1,7 @@
 pub mod RowSums
 pub mod Places
 pub mod VisitLemmas
+pub mod SheetLemmas
 pub mod Reading
 pub mod SoundLists
 pub mod Sounds

@@ -13,7 +13,7 @@ use Rattle.pawn_book.specs.declared.change.Change.{Change}
 use Rattle.pawn_book.specs.declared.refusal.Refusal.TheVariants.{NoSuchBook}
 use Rattle.pawn_book.specs.declared.reply.Reply.{Reply}
 use Rattle.pawn_book.specs.declared.reply.Reply.TheVariants.{Commanded}
-use Rattle.pawn_book.specs.declared.request.BrokerRequest.TheVariants.{PutTerms, TakePledge, OnPledge, Show}
+use Rattle.pawn_book.specs.declared.request.BrokerRequest.TheVariants.{PutTerms, TakePledge, OnPledge, Show, SheetOf}
 use Rattle.pawn_book.specs.declared.request.BearerRequest.TheVariants.{Present, OnPledge as OnReceipt}
 use Rattle.pawn_book.specs.declared.request.Caller.{Caller}
 use Rattle.pawn_book.specs.declared.request.Caller.TheVariants.{Operator, Broker, Bearer}
@@ -30,6 +30,7 @@ did_on book operator b stamp (Operator key new) n command change reply asks is =
 did_on book operator b stamp (Broker key (PutTerms new)) n command change reply asks is = absurd asks
 did_on book operator b stamp (Broker key (TakePledge opening)) n command change reply asks is = absurd asks
 did_on book operator b stamp (Broker key (Show m)) n command change reply asks is = absurd asks
+did_on book operator b stamp (Broker key (SheetOf day)) n command change reply asks is = absurd asks
 did_on book operator b stamp (Broker key (OnPledge m own)) n command change reply asks is =
     let passed = if_makes (book.key == key) _ _ change reply is in
     let did = number_made book b m stamp own (pledge_from 1 book.pledges m) change reply refl passed.1 in
@@ -47,6 +48,7 @@ told_to book operator b stamp (Operator key new) n command p done asks passes at
 told_to book operator b stamp (Broker key (PutTerms new)) n command p done asks passes at step = absurd asks
 told_to book operator b stamp (Broker key (TakePledge opening)) n command p done asks passes at step = absurd asks
 told_to book operator b stamp (Broker key (Show m)) n command p done asks passes at step = absurd asks
+told_to book operator b stamp (Broker key (SheetOf day)) n command p done asks passes at step = absurd asks
 told_to book operator b stamp (Broker key (OnPledge m own)) n command p done asks passes at step =
     let holds : book.key ≡ key = ap (λ (k : BookValue). k.key) (some_is book passes.0 passes.1) ∙ passes.2 in
     let opens : (book.key == key) ≡ true = grind (arith, nat_tests, holds) in

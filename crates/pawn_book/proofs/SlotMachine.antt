@@ -11,7 +11,7 @@ use Rattle.pawn_book.specs.declared.change.Change.{Change}
 use Rattle.pawn_book.specs.declared.change.Change.TheVariants.{PutPledge}
 use Rattle.pawn_book.specs.declared.reply.Reply.{Reply}
 use Rattle.pawn_book.specs.declared.request.BearerRequest.TheVariants.{Present, OnPledge as OnReceipt}
-use Rattle.pawn_book.specs.declared.request.BrokerRequest.TheVariants.{PutTerms, TakePledge, OnPledge, Show}
+use Rattle.pawn_book.specs.declared.request.BrokerRequest.TheVariants.{PutTerms, TakePledge, OnPledge, Show, SheetOf}
 use Rattle.pawn_book.specs.declared.request.Caller.{Caller}
 use Rattle.pawn_book.specs.declared.request.Caller.TheVariants.{Operator, Broker, Bearer}
 use Rattle.pawn_book.specs.BookStep.{BookValue, Outcome, Refuses, Says, Makes, book_after, book_step, book_head, pledge_from}
@@ -97,6 +97,7 @@ does_asked (Broker key (PutTerms new)) n stamp command asks = absurd asks
 does_asked (Broker key (TakePledge opening)) n stamp command asks = absurd asks
 does_asked (Broker key (OnPledge m own)) n stamp command asks = ap (λ (c : Command). Did n stamp c ∷ []) asks.1
 does_asked (Broker key (Show m)) n stamp command asks = absurd asks
+does_asked (Broker key (SheetOf day)) n stamp command asks = absurd asks
 does_asked (Bearer (Present receipts)) n stamp command asks = absurd asks
 does_asked (Bearer (OnReceipt r own)) n stamp command asks = ap (λ (c : Command). Did n stamp c ∷ []) asks.1
 

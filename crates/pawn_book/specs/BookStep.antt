@@ -1,5 +1,5 @@
 -- One step of a book: what comes of a request.
-use Rattle.std.specs.Prelude.{ℕ, zero, suc, ◌+◌, List, [], ◌∷◌, ◌++◌, Bool, true, false, ◌&&◌, Option, Some, None, Result, Ok, Err, if◌then◌else◌, ◌==◌, nat_eq, nat_le, nat_lt, length, map, find, count_by, slice_get}
+use Rattle.std.specs.Prelude.{ℕ, zero, suc, ◌+◌, List, [], ◌∷◌, ◌++◌, Bool, true, false, ◌&&◌, Option, Some, None, Result, Ok, Err, if◌then◌else◌, ◌==◌, nat_eq, nat_le, nat_lt, length, map, find, slice_get}
 use Rattle.std.specs.Cmp.Lexicographic.{pointwise}
 use Rattle.pawn_terms.specs.Refusals.{first_of}
 use Rattle.pawn_terms.specs.declared.terms.Rates.{Rates}
@@ -27,14 +27,17 @@ use Rattle.pawn_book.specs.declared.request.NewTerms.{NewTerms}
 use Rattle.pawn_book.specs.declared.request.Caller.{Caller}
 use Rattle.pawn_book.specs.declared.request.Caller.TheVariants.{Operator, Broker, Bearer}
 use Rattle.pawn_book.specs.declared.request.BrokerRequest.{BrokerRequest}
-use Rattle.pawn_book.specs.declared.request.BrokerRequest.TheVariants.{PutTerms, TakePledge, OnPledge, Show}
+use Rattle.pawn_book.specs.declared.request.BrokerRequest.TheVariants.{PutTerms, TakePledge, OnPledge, Show, SheetOf}
 use Rattle.pawn_book.specs.declared.request.BearerRequest.{BearerRequest}
 use Rattle.pawn_book.specs.declared.request.BearerRequest.TheVariants.{Present, OnPledge as OnReceipt}
 use Rattle.pawn_book.specs.declared.change.Imported.{Imported}
 use Rattle.pawn_book.specs.declared.change.BookHead.{BookHead}
 use Rattle.pawn_book.specs.declared.change.Change.{Change}
 use Rattle.pawn_book.specs.declared.change.Change.TheVariants.{MakeBook, AddTerms, PutPledge}
+use Rattle.pawn_book.specs.declared.sheet.SheetItem.{SheetItem}
+use Rattle.pawn_book.specs.Bookings.{confirmed_count, is_confirmed}
 use Rattle.pawn_book.specs.Limits.{most_terms, most_pledges}
+use Rattle.pawn_book.specs.Sheet.{day_sheet}
 
 -- a book
 pub record BookValue : Type 0 where
@@ -54,6 +57,8 @@ pub data Out : Type 0 where
   Denied : (why : Refusal) → Out
   -- on a day, a statement or the unknown line for each receipt
   Shown : (day : ℕ) (pledges : List (Option PledgeValue)) → Out
+  -- the sheet of a day, in a book that confirms so many bookings of a window
+  Listed : (day : ℕ) (capacity : ℕ) (items : List SheetItem) → Out
 
 -- what comes of a request
 pub data Outcome : Type 0 where
@@ -217,22 +222,7 @@ take_pledge book b opening stamp (Some p) = if is_same_opening p.agreement.openi
 take_pledge book b opening stamp None =
     make_or_refuse (next_pledge (book_head book) opening stamp (newest book.terms)) (λ p. Makes (PutPledge b p.agreement.number p) (Opened (first_receipt p)))
 
--- bookings
-
-abbrev pub is_confirmed : BookingState → Bool
-is_confirmed BookingState.Asked = false
-is_confirmed BookingState.Confirmed = true
-is_confirmed BookingState.Refused = false
-is_confirmed BookingState.Cancelled = false
-
--- a booking for a day and a window that is confirmed
-abbrev pub is_confirmed_for : ℕ → ℕ → Option Booking → Bool
-is_confirmed_for day window None = false
-is_confirmed_for day window (Some booking) = (booking.day == day) && (booking.window == window) && is_confirmed booking.state
-
--- how many pledges have one
-abbrev pub confirmed_count : List PledgeValue → ℕ → ℕ → ℕ
-confirmed_count pledges day window = count_by (λ p. is_confirmed_for day window p.standing.booking) pledges
+-- confirmed bookings
 
 -- the booking that a command confirmed
 abbrev pub confirmed_by : Done → Option Booking
@@ -285,12 +275,17 @@ abbrev pub show_pledge : Stamp → Option PledgeValue → Outcome
 show_pledge stamp None = Refuses NoSuchPledge
 show_pledge stamp (Some p) = Says (Shown stamp.day (Some p ∷ []))
 
+-- SheetOf: the sheet of a day
+abbrev pub show_sheet : BookValue → ℕ → Outcome
+show_sheet book day = Says (Listed day book.capacity (day_sheet book.pledges day))
+
 -- what a broker asks of the book
 abbrev pub broker_step : BookValue → ℕ → Stamp → BrokerRequest → Outcome
 broker_step book b stamp (PutTerms new) = put_terms book b new (terms_at book.terms new.version)
 broker_step book b stamp (TakePledge opening) = take_pledge book b opening stamp (with_reference book.pledges opening.reference)
 broker_step book b stamp (OnPledge n command) = broker_commands book b n stamp command (pledge_from 1 book.pledges n)
 broker_step book b stamp (Show n) = show_pledge stamp (pledge_from 1 book.pledges n)
+broker_step book b stamp (SheetOf day) = show_sheet book day
 
 -- for a caller with the book's key
 abbrev pub gate_step : Option BookValue → ℕ → (BookValue → Outcome) → Outcome

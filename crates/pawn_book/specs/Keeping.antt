@@ -4,6 +4,7 @@ use Rattle.std.specs.FinMap.{get}
 use Rattle.pawn_terms.specs.declared.terms.Rates.{Rates}
 use Rattle.pawn_debt.specs.declared.entry.Entry.{Entry}
 use Rattle.pawn_pledge.specs.declared.record.Extension.{Extension}
+use Rattle.pawn_pledge.specs.declared.record.Issued.{Issued}
 use Rattle.pawn_pledge.specs.Pledge.{PledgeValue}
 use Rattle.pawn_book.specs.declared.refusal.Refusal.{Refusal}
 use Rattle.pawn_book.specs.declared.refusal.Refusal.TheVariants as No
@@ -107,6 +108,10 @@ number_of book reference = option_map (λ p. p.agreement.number) (with_reference
 abbrev pub entries_of : Option PledgeValue → List Entry
 entries_of None = []
 entries_of (Some p) = p.entries
+
+abbrev pub secrets_of : Option PledgeValue → List Issued
+secrets_of None = []
+secrets_of (Some p) = p.secrets
 
 abbrev pub extensions_of : Option PledgeValue → List Extension
 extensions_of None = []

@@ -36,6 +36,7 @@ IsSetUp (asked.PutTerms new) = Unit {0}
 IsSetUp (asked.TakePledge opening) = Unit {0}
 IsSetUp (asked.OnPledge n command) = ⊥
 IsSetUp (asked.Show n) = ⊥
+IsSetUp (asked.SheetOf day) = ⊥
 
 abbrev pub IsMaking : Caller → Type 0
 IsMaking (Operator key new) = Unit {0}
@@ -55,6 +56,7 @@ BrokerAsks (asked.PutTerms new) n command = ⊥
 BrokerAsks (asked.TakePledge opening) n command = ⊥
 BrokerAsks (asked.OnPledge m own) n command = (m ≡ n) × (own ≡ command)
 BrokerAsks (asked.Show m) n command = ⊥
+BrokerAsks (asked.SheetOf day) n command = ⊥
 
 abbrev pub BearerAsks : BearerRequest → ℕ → Command → Type 0
 BearerAsks (presented.Present receipts) n command = ⊥

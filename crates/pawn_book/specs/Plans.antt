@@ -91,6 +91,7 @@ IsBrokerWrite (broker.PutTerms new) = Unit {0}
 IsBrokerWrite (broker.TakePledge opening) = Unit {0}
 IsBrokerWrite (broker.OnPledge number command) = Unit {0}
 IsBrokerWrite (broker.Show number) = ⊥
+IsBrokerWrite (broker.SheetOf day) = ⊥
 
 abbrev pub IsBearerWrite : BearerRequest → Type 0
 IsBearerWrite (bearer.Present receipts) = ⊥

@@ -10,14 +10,14 @@ use Rattle.pawn_book.specs.declared.request.Request.{Request}
 use Rattle.pawn_book.specs.declared.request.Caller.{Caller}
 use Rattle.pawn_book.specs.declared.request.Caller.TheVariants.{Operator, Broker, Bearer}
 use Rattle.pawn_book.specs.declared.request.BrokerRequest.{BrokerRequest}
-use Rattle.pawn_book.specs.declared.request.BrokerRequest.TheVariants.{PutTerms, TakePledge, OnPledge, Show}
+use Rattle.pawn_book.specs.declared.request.BrokerRequest.TheVariants.{PutTerms, TakePledge, OnPledge, Show, SheetOf}
 use Rattle.pawn_book.specs.declared.request.BearerRequest.{BearerRequest}
 use Rattle.pawn_book.specs.declared.request.BearerRequest.TheVariants.{Present, OnPledge as OnReceipt}
 use Rattle.pawn_book.specs.declared.change.Change.{Change}
 use Rattle.pawn_book.specs.declared.change.Change.TheVariants.{MakeBook, AddTerms, PutPledge}
 use Rattle.pawn_book.specs.declared.refusal.Refusal.{Refusal}
 use Rattle.pawn_book.specs.declared.refusal.Refusal.TheVariants.{Full, Memory, Store}
-use Rattle.pawn_book.specs.BookStep.{BookValue, Out, Told, Denied, Shown, Outcome, Refuses, Says, Makes, out_of, is_live, pledge_in}
+use Rattle.pawn_book.specs.BookStep.{BookValue, Out, Told, Denied, Shown, Listed, Outcome, Refuses, Says, Makes, out_of, is_live, pledge_in}
 use Rattle.pawn_book.specs.HostStep.{Host, host_step}
 use Rattle.pawn_book.specs.Keeping.{pledges_of}
 use Rattle.pawn_book.specs.Runs.{Mark, read_as, no_memory, no_store, Event, host_after_event}
@@ -35,6 +35,7 @@ abbrev pub is_settled : Out → Bool
 is_settled (Told reply) = true
 is_settled (Denied why) = is_by_rules why
 is_settled (Shown day pledges) = true
+is_settled (Listed day capacity items) = true
 
 -- a book's trace
 
@@ -85,6 +86,7 @@ broker_does n stamp (PutTerms new) = []
 broker_does n stamp (TakePledge opening) = []
 broker_does n stamp (OnPledge number command) = Did n stamp command ∷ []
 broker_does n stamp (Show number) = []
+broker_does n stamp (SheetOf day) = []
 
 abbrev pub bearer_does : ℕ → Stamp → BearerRequest → List SlotEvent
 bearer_does n stamp (Present receipts) = []

@@ -23,6 +23,10 @@ call_end (Err e) = Front
 abbrev pub IsShare : {T : Type 0} → List T → Flow → End → List T → Type 0
 IsShare {T = T} given flow end items = (left : List T) × (given ++ left ≡ items) × (flow ≡ Go → end ≡ Whole → left ≡ [])
 
+-- the items were handed over, up to where the visitor stopped
+abbrev pub HandsOver : {V T : Type 0} → (V → T → Flow → V → Type 0) → V → List T → Flow → V → Type 0
+HandsOver {T = T} step old items flow new = (given : List T) × Handed step old given flow new × IsShare given flow Whole items
+
 -- the visitor was handed some items, of which a fact holds
 abbrev pub Visits : {V T : Type 0} → (V → T → Flow → V → Type 0) → V → V → (List T → Flow → Type 0) → Type 0
 Visits {T = T} step old new P = (given : List T) × (flow : Flow) × Handed step old given flow new × P given flow

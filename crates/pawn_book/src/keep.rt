@@ -1,16 +1,19 @@
 ghost use Rattle.std.specs.Prelude.{◌≡◌, IfOk, option_map, unwrap_or};
 ghost use Rattle.std.specs.FinMap.{get};
 ghost use Rattle.pawn_pledge.specs.Brief.{brief_of};
-ghost use Rattle.pawn_book.specs.BookStep.{confirmed_count, book_head, pledge_in, terms_at};
-ghost use Rattle.pawn_book.specs.HostStep.{Host};
+ghost use Rattle.pawn_book.specs.Bookings.{confirmed_count};
+ghost use Rattle.pawn_book.specs.BookStep.{book_head, pledge_in, terms_at};
+ghost use Rattle.pawn_book.specs.HostStep.{Host, rows};
 ghost use Rattle.pawn_book.specs.Changes.{CanSave};
-ghost use Rattle.pawn_book.specs.Keeping.{Errs, IsNextBook, Keeping, Of, Reads, Saves, entries_of, extensions_of, number_of, pledges_of, terms_of};
+ghost use Rattle.pawn_book.specs.Keeping.{Errs, IsNextBook, Keeping, Of, Reads, Saves, entries_of, extensions_of, number_of, pledges_of, secrets_of, terms_of};
+ghost use Rattle.pawn_book.specs.Sheet.{day_sheet};
 ghost use Rattle.pawn_book.specs.Visits.{IsShare, Visits, call_end};
 
 use crate::change::{BookHead, Change};
 use crate::fault::{KeepError, SaveError};
+use crate::sheet::SheetItem;
 use crate::visit::Visitor;
-use pawn_pledge::{Brief, Day, Entry, Extension, Number, Pledge, Reference, Terms};
+use pawn_pledge::{Brief, Day, Entry, Extension, Issued, Number, Pledge, Reference, Terms};
 
 /// What keeps a host, however it is kept. Only `save` changes the host.
 pub trait Keep {
@@ -70,6 +73,17 @@ pub trait Keep {
             Reads keeping self.old self.new (λ h. IsShare given flow (call_end result) (entries_of (pledge_in (get h.books book) number)))) }
         ensures errs { Errs keeping self.old self.new result };
 
+    /// Hands the visitor the secrets of a pledge in order, until it wants no more.
+    fn secrets<V: Visitor<Issued>>(
+        &mut self,
+        book: Number,
+        number: Number,
+        visitor: &mut V,
+    ) -> Result<(), KeepError>
+        ensures reads { Visits V.step visitor.old visitor.new (λ given flow.
+            Reads keeping self.old self.new (λ h. IsShare given flow (call_end result) (secrets_of (pledge_in (get h.books book) number)))) }
+        ensures errs { Errs keeping self.old self.new result };
+
     /// Hands the visitor the extensions of a pledge in order, until it wants no more.
     fn extensions<V: Visitor<Extension>>(
         &mut self,
@@ -79,6 +93,22 @@ pub trait Keep {
     ) -> Result<(), KeepError>
         ensures reads { Visits V.step visitor.old visitor.new (λ given flow.
             Reads keeping self.old self.new (λ h. IsShare given flow (call_end result) (extensions_of (pledge_in (get h.books book) number)))) }
+        ensures errs { Errs keeping self.old self.new result };
+
+    /// Hands the visitor the items of a day's sheet in order, until it wants no more.
+    fn sheet_each<V: Visitor<SheetItem>>(
+        &mut self,
+        book: Number,
+        day: Day,
+        visitor: &mut V,
+    ) -> Result<(), KeepError>
+        ensures reads { Visits V.step visitor.old visitor.new (λ given flow.
+            Reads keeping self.old self.new (λ h. IsShare given flow (call_end result) (day_sheet (pledges_of (get h.books book)) day))) }
+        ensures errs { Errs keeping self.old self.new result };
+
+    /// The rows of all books.
+    fn rows(&mut self) -> Result<u64, KeepError>
+        ensures reads { Reads keeping self.old self.new (λ h. IfOk result (λ count. count ≡ rows h)) }
         ensures errs { Errs keeping self.old self.new result };
 
     /// Makes a change, unless the rows would be above the limit.

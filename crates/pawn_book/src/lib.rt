@@ -18,6 +18,7 @@ mod refusal;
 mod reply;
 mod request;
 mod set_up;
+mod sheet;
 mod visit;
 mod worked;
 
@@ -45,6 +46,7 @@ pub use receipts::Receipts;
 pub use refusal::Refusal;
 pub use reply::Reply;
 pub use request::{BearerRequest, BrokerRequest, Caller, Name, NewBook, NewTerms, Request};
+pub use sheet::SheetItem;
 pub use visit::{Flow, Visitor};
 pub use worked::worked_slots;
 

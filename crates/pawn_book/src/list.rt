@@ -1,9 +1,10 @@
 ghost use Rattle.std.specs.Prelude.{[], ◌≡◌, ◌<◌, ◌≤◌, ◌+◌, ◌&&◌, if◌then◌else◌, IfNone, IfOk, IfSome, MatchOption, None, OnErr, OnOk, Some, length, map, nat_lt, option_map, unwrap_or};
 ghost use Rattle.pawn_pledge.specs.Brief.{brief_of};
-ghost use Rattle.pawn_book.specs.BookStep.{BookValue, confirmed_count, book_head, is_confirmed_for, pledge_from, pledge_in, put_from, terms_at, with_reference};
+ghost use Rattle.pawn_book.specs.Bookings.{confirmed_count, is_confirmed_for};
+ghost use Rattle.pawn_book.specs.BookStep.{BookValue, book_head, pledge_from, pledge_in, put_from, terms_at, with_reference};
 ghost use Rattle.pawn_book.specs.HostStep.{pledge_rows};
 ghost use Rattle.pawn_book.specs.Changes.{CanSave};
-ghost use Rattle.pawn_book.specs.Keeping.{entries_of, extensions_of, number_of, pledges_of, terms_of};
+ghost use Rattle.pawn_book.specs.Keeping.{entries_of, extensions_of, number_of, pledges_of, secrets_of, terms_of};
 ghost use Rattle.pawn_book.specs.Listed.{Fits, HasChange, IsLeastAbove, IsPlace, Saves, added_rows, book_at, entry_of, host_of, replaced_rows};
 ghost use Rattle.pawn_book.specs.Visits.{IsShare, Visits, Whole};
 
@@ -12,9 +13,10 @@ use crate::fault::{KeepError, SaveError};
 use crate::keep::Keep;
 use crate::limits::MOST_ROWS;
 use crate::request::NewBook;
+use crate::sheet::{SheetItem, hand_sheet, is_confirmed_for};
 use crate::visit::{Flow, Visitor};
 use pawn_pledge::{
-    Booking, BookingState, Brief, Day, Entry, Extension, Number, Pledge, Reference, Terms,
+    Booking, BookingState, Brief, Day, Entry, Extension, Issued, Number, Pledge, Reference, Terms,
 };
 use std::alloc::{AllocError, Global};
 use std::marker::Model;
@@ -158,6 +160,30 @@ impl Keep for ListKeep {
     ) -> Result<(), KeepError> {
         hand(extensions_in(&self.books, book, number), visitor);
         Ok(())
+    }
+
+    fn secrets<V: Visitor<Issued>>(
+        &mut self,
+        book: Number,
+        number: Number,
+        visitor: &mut V,
+    ) -> Result<(), KeepError> {
+        hand(secrets_in(&self.books, book, number), visitor);
+        Ok(())
+    }
+
+    fn sheet_each<V: Visitor<SheetItem>>(
+        &mut self,
+        book: Number,
+        day: Day,
+        visitor: &mut V,
+    ) -> Result<(), KeepError> {
+        hand_sheet(day, pledges_in(&self.books, book), visitor);
+        Ok(())
+    }
+
+    fn rows(&mut self) -> Result<u64, KeepError> {
+        Ok(self.rows)
     }
 
     fn save(&mut self, change: &Change) -> Result<(), SaveError> {
@@ -305,20 +331,6 @@ fn pledges_in(books: &[Kept], book: Number) -> &[Pledge]
     }
 }
 
-// Whether a booking for a day and a window is confirmed.
-fn is_confirmed_for(booking: Option<Booking>, day: Day, window: u64) -> bool
-    ensures value { result ≡ is_confirmed_for day window booking }
-{
-    match booking {
-        None => false,
-        Some(booking) => {
-            booking.day == day
-                && booking.window == window
-                && booking.state == BookingState::Confirmed
-        }
-    }
-}
-
 // How many pledges have a confirmed booking for a day and a window.
 fn confirmed_count(pledges: &[Pledge], day: Day, window: u64) -> usize
     ensures value { result ≡ confirmed_count pledges.now day window }
@@ -371,6 +383,16 @@ fn entries_in(books: &[Kept], book: Number, number: Number) -> &[Entry]
     match standing_pledge(books, book, number) {
         None => &[],
         Some(pledge) => pledge.entries(),
+    }
+}
+
+// The secrets of a pledge in a book.
+fn secrets_in(books: &[Kept], book: Number, number: Number) -> &[Issued]
+    ensures value { result.now ≡ secrets_of (pledge_in (book_at (map entry_of books.now) book) number) }
+{
+    match standing_pledge(books, book, number) {
+        None => &[],
+        Some(pledge) => pledge.secrets(),
     }
 }
 

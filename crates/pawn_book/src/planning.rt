@@ -51,7 +51,7 @@ pub fn plan<K: Keep>(
                     let command = command.command();
                     plan_number(keep, request.book, &head, *number, stamp, &command)
                 }
-                BrokerRequest::Show(_) => unreachable!(),
+                BrokerRequest::Show(_) | BrokerRequest::SheetOf(_) => unreachable!(),
             }
         }
         Caller::Bearer(asked) => match asked {

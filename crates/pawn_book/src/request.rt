@@ -8,7 +8,9 @@ ghost use Rattle.pawn_book.specs.Plans.{IsBearerWrite, IsBrokerWrite, IsWritten}
 use crate::capacity::Capacity;
 use crate::limits::MOST_NAME_BYTES;
 use crate::receipts::Receipts;
-use pawn_pledge::{BearerCommand, BrokerCommand, Number, Opening, Rates, Receipt, Secret, Text};
+use pawn_pledge::{
+    BearerCommand, BrokerCommand, Number, Opening, Rates, Receipt, RequestDay, Secret, Text,
+};
 use std::alloc::AllocError;
 
 /// A book's name: 1 to 60 bytes of text without control characters.
@@ -88,6 +90,8 @@ pub enum BrokerRequest {
     },
     /// To see the pledge of this number.
     Show(Number),
+    /// To see the sheet of this day.
+    SheetOf(RequestDay),
 }
 
 impl BrokerRequest {
@@ -100,6 +104,7 @@ impl BrokerRequest {
             BrokerRequest::TakePledge(_) => true,
             BrokerRequest::OnPledge { .. } => true,
             BrokerRequest::Show(_) => false,
+            BrokerRequest::SheetOf(_) => false,
         }
     }
 }

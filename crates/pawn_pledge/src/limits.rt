@@ -18,5 +18,5 @@ pub(crate) const MOST_SECRETS: usize = 101;
 // As many extensions a pledge has at most.
 pub(crate) const MOST_EXTENSIONS: usize = 99;
 
-// The last of a day's windows, from 0.
-pub(crate) const LAST_WINDOW: u64 = 15;
+/// The last of a day's windows, from 0.
+pub const LAST_WINDOW: u64 = 15;

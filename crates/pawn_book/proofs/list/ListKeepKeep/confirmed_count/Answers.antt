@@ -1,5 +1,5 @@
 use Rattle.std.proofs.Common.{◌∙◌, ap, map}
-use Rattle.pawn_book.specs.BookStep.{confirmed_count}
+use Rattle.pawn_book.specs.Bookings.{confirmed_count}
 use Rattle.pawn_book.specs.Keeping.{pledges_of}
 use Rattle.pawn_book.specs.Listed.{book_at, entry_of}
 use Rattle.pawn_book.proofs.ListKeeping.{book_read, list_reads}
