@@ -1,8 +1,11 @@
 -- What a visitor was handed, item by item.
-use Rattle.std.proofs.Common.{◌≡◌, ◌∙◌, ℕ, List, [], ◌∷◌, ◌++◌, refl, sym, ap, subst, inl, inr, ◌<◌, ◌+◌, length, take, drop, get_or, append_assoc}
+use Rattle.std.proofs.Common.{◌≡◌, ◌∙◌, ℕ, List, [], ◌∷◌, ◌++◌, refl, sym, ap, subst, inl, inr, ◌<◌, ◌+◌, length, take, drop, get_or, append_assoc, append-nil}
 use Rattle.std.proofs.lemmas.List.{take_more, drop_more, take-append-drop}
 use Rattle.pawn_book.specs.declared.visit.Flow.{Flow}
 use Rattle.pawn_book.specs.declared.visit.Flow.TheVariants.{Go, Stop}
+use Rattle.std.specs.Prelude.{false}
+use Rattle.pawn_book.specs.declared.gather.Gathering.{Gathering}
+use Rattle.pawn_book.specs.Gathering.{Gathers}
 use Rattle.pawn_book.specs.Visits.{Handed, IsShare, Visits, Whole}
 
 -- a list, cut at a place
@@ -34,3 +37,14 @@ pub visits_more : {V T : Type 0} (step : V → T → Flow → V → Type 0) (v u
     → Handed step v (take i xs) Go u → step u x Go w → Handed step v (take (i + 1) xs) Go w
 visits_more step v u w xs i x lt is before here =
     subst (λ ys. Handed step v ys Go w) (ap (λ y. take i xs ++ y ∷ []) is ∙ sym (take_more xs i x lt)) (handed-snoc step v u w (take i xs) x Go before here)
+
+-- what gathered all it was handed
+pub gathered : {T : Type 0} (v w : Gathering T) (given : List T) (flow : Flow) → Handed Gathers v given flow w → w.is_full ≡ false
+    → (w.items.items ≡ v.items.items ++ given) × (flow ≡ Go)
+gathered v w [] flow handed room = (ap (λ (g : Gathering _). g.items.items) (sym handed.1) ∙ sym (append-nil v.items.items), handed.0)
+gathered v w (x ∷ xs) flow handed room = elim handed [
+  | inl going ↦
+      let rest = gathered going.0 w xs flow going.2 room in
+      (rest.0 ∙ ap (λ t. t ++ xs) going.1.0 ∙ append_assoc v.items.items (x ∷ []) xs, rest.1)
+  | inr stopped ↦ cc
+]

@@ -6,6 +6,7 @@ pub mod BookStep
 pub mod HostStep
 pub mod Runs
 pub mod Visits
+pub mod Gathering
 pub mod Changes
 pub mod Keeping
 pub mod Plans

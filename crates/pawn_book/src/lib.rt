@@ -7,6 +7,7 @@ mod change;
 mod commands;
 mod fault;
 mod gates;
+mod gather;
 mod keep;
 mod laws;
 mod limits;
@@ -26,6 +27,7 @@ pub use acting::{act, commit};
 pub use capacity::Capacity;
 pub use change::{BookHead, Change, Imported, Planned};
 pub use fault::{KeepError, SaveError, StoreFault};
+pub use gather::{Gathering, day_sheet};
 pub use gates::{find_live, gate};
 pub use keep::Keep;
 pub use laws::{

@@ -1,0 +1,58 @@
+//! What a keeper hands out one at a time, gathered.
+ghost use Rattle.std.specs.Prelude.{◌≡◌, IfOk};
+ghost use Rattle.std.specs.FinMap.{get};
+ghost use Rattle.pawn_book.specs.Gathering.{Gathers};
+ghost use Rattle.pawn_book.specs.Keeping.{Errs, Reads, pledges_of};
+ghost use Rattle.pawn_book.specs.Sheet.{day_sheet};
+
+use crate::fault::KeepError;
+use crate::keep::Keep;
+use crate::sheet::SheetItem;
+use crate::visit::{Flow, Visitor};
+use pawn_pledge::{Day, Number};
+use std::alloc::Global;
+
+/// Gathers what it is handed, and wants no more once memory was wanting.
+#[derive(Drop)]
+pub struct Gathering<T> {
+    items: Vec<T>,
+    is_full: bool,
+}
+
+impl<T: Copy> Visitor<T> for Gathering<T> {
+    ghost step = { λ v item flow w. Gathers v item flow w };
+
+    fn visit(&mut self, item: &T) -> Flow {
+        match self.items.push(*item) {
+            Ok(()) => Flow::Go,
+            Err(_) => {
+                self.is_full = true;
+                Flow::Stop
+            }
+        }
+    }
+}
+
+/// The items of a day's sheet in a book, in order; none where the book does not stand.
+pub fn day_sheet<K: Keep>(
+    alloc: Global,
+    keep: &mut K,
+    book: Number,
+    day: Day,
+) -> Result<Vec<SheetItem>, KeepError>
+    ensures reads { Reads K.keeping keep.old keep.new (λ h. IfOk result (λ items. items.items ≡ day_sheet (pledges_of (get h.books book)) day)) }
+    ensures errs { Errs K.keeping keep.old keep.new result }
+{
+    let mut gathering = Gathering {
+        items: Vec::new(alloc),
+        is_full: false,
+    };
+    match keep.sheet_each(book, day, &mut gathering) {
+        Ok(()) => {}
+        Err(error) => return Err(error),
+    }
+    if gathering.is_full {
+        return Err(KeepError::Memory);
+    }
+    Ok(gathering.items)
+}
