@@ -7,6 +7,8 @@ pub mod Visits
 pub mod Changes
 pub mod Keeping
 pub mod Plans
+pub mod Written
+pub mod Rows
 pub mod Sound
 pub mod Books
 pub mod Listed
