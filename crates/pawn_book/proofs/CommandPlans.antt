@@ -21,13 +21,14 @@ use Rattle.pawn_book.specs.declared.refusal.Refusal.{Refusal}
 use Rattle.pawn_book.specs.declared.reply.Reply.{Reply}
 use Rattle.pawn_book.specs.BookStep.{BookValue, Makes, Outcome, Refuses, Says, bearer_commands, broker_commands, changed_book, is_live, judged_outcome, live_at, only_live, pledge_from, pledge_in, put_from, terms_at, within_window}
 use Rattle.pawn_book.specs.HostStep.{Host, with_book}
-use Rattle.pawn_book.specs.Sound.{AreDistinct, AreSound, AreWords, DoNotFall, HasTextsAndWords, IsSound, IsSoundBook, IsUnder, IsWord}
+use Rattle.pawn_book.specs.Rows.{AreDistinct, IsUnder}
+use Rattle.pawn_book.specs.Sound.{AreSound, AreWords, HasTextsAndWords, IsSound, IsSoundBook, IsWord}
 use Rattle.pawn_book.specs.Changes.{CanSave, Continues, book_number, with_change}
 use Rattle.pawn_book.specs.Plans.{IsOutcome, Plans, outcome_of}
 use Rattle.pawn_book.proofs.KeptLemmas.{kept_moved}
 use Rattle.pawn_book.proofs.Places.{pledge_within}
 use Rattle.pawn_book.proofs.Words.{words_moved}
-use Rattle.pawn_book.proofs.SoundLists.{map-put}
+use Rattle.pawn_book.proofs.SoundLists.{map-put, versions_put}
 use Rattle.pawn_book.proofs.Plans.{changed_is}
 use Rattle.pawn_book.proofs.Sounds.{absurd_none, each_at, each_put, length-put, numbered_at, numbered_put, sound_with}
 
@@ -38,9 +39,9 @@ sound_put book n p q sound is kept standing words =
     let within = pledge_within 1 book.pledges n p is in
     let low = within.0 in
     let high = within.1 in
-    let number : q.agreement.number ≡ n = ap (λ (a : Agreement). a.number) kept.agreement ∙ numbered_at 1 book.pledges n p sound.numbered is in
+    let number : q.agreement.number ≡ n = ap (λ (a : Agreement). a.number) kept.agreement ∙ numbered_at 1 book.pledges n p sound.rows.numbered is in
     let long = length-put 1 book.pledges n q low high in
-    let few = sound.pledges in
+    let few = sound.rows.few_pledges in
     let before = each_at HasTextsAndWords 1 book.pledges n p sound.written is in
     record {
       key = sound.key;
@@ -48,16 +49,18 @@ sound_put book n p q sound is kept standing words =
       utf8 = sound.utf8;
       name = sound.name;
       capacity = sound.capacity;
-      numbered = numbered_put 1 book.pledges n q sound.numbered number low (omega (arith, high));
-      standing = each_put IsStanding 1 book.pledges n q sound.standing standing;
+      rows = record {
+        numbered = numbered_put 1 book.pledges n q sound.rows.numbered number low (omega (arith, high));
+        standing = each_put IsStanding 1 book.pledges n q sound.rows.standing standing;
+        references = subst AreDistinct (sym (map-put (λ p. p.agreement.opening.reference) 1 book.pledges n p q is (ap (λ (a : Agreement). a.opening.reference) kept.agreement))) sound.rows.references;
+        under = each_put (IsUnder book.terms) 1 book.pledges n q sound.rows.under
+            (subst (λ (a : Agreement). terms_at book.terms a.version ≡ Some a.terms) (sym kept.agreement) (each_at (IsUnder book.terms) 1 book.pledges n p sound.rows.under is));
+        versions = versions_put 1 0 book.pledges n p q is (ap (λ (a : Agreement). a.version) kept.agreement) sound.rows.versions;
+        checked = sound.rows.checked;
+        few_terms = sound.rows.few_terms;
+        few_pledges = omega (arith, long, few);
+      };
       written = each_put HasTextsAndWords 1 book.pledges n q sound.written (record { reference = subst (λ (a : Agreement). IsUtf8 a.opening.reference) (sym kept.agreement) before.reference; article = subst (λ (a : Agreement). IsUtf8 a.opening.article) (sym kept.agreement) before.article; secrets = words });
-      references = subst AreDistinct (sym (map-put (λ p. p.agreement.opening.reference) 1 book.pledges n p q is (ap (λ (a : Agreement). a.opening.reference) kept.agreement))) sound.references;
-      under = each_put (IsUnder book.terms) 1 book.pledges n q sound.under
-          (subst (λ (a : Agreement). terms_at book.terms a.version ≡ Some a.terms) (sym kept.agreement) (each_at (IsUnder book.terms) 1 book.pledges n p sound.under is));
-      versions = subst (DoNotFall 0) (sym (map-put (λ p. p.agreement.version) 1 book.pledges n p q is (ap (λ (a : Agreement). a.version) kept.agreement))) sound.versions;
-      checked = sound.checked;
-      terms = sound.terms;
-      pledges = omega (arith, long, few);
     }
 
 -- the change that a command makes may be saved
@@ -66,7 +69,7 @@ put_saves : (h : Host) (b n : ℕ) (at : BookValue) (p q : PledgeValue) (stamp :
 put_saves h b n at p q stamp command done sound is stands day word given step =
     let one = (sound.books b at is).1 in
     let kept = kept_moved p q stamp command done step in
-    let standing = stays_standing p q stamp command done day given (each_at IsStanding 1 at.pledges n p one.standing stands) step in
+    let standing = stays_standing p q stamp command done day given (each_at IsStanding 1 at.pledges n p one.rows.standing stands) step in
     let words = words_moved p q stamp command done word (each_at HasTextsAndWords 1 at.pledges n p one.written stands).secrets step in
     let book : BookValue = record at { pledges = put_from 1 at.pledges n q } in
     let same : with_change h (PutPledge b n q) ≡ with_book h b (Some book) =

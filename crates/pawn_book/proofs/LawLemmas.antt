@@ -223,7 +223,7 @@ stands_after book operator b n stamp command change reply later did =
 
 -- the entries of a sound book's pledges are numbered
 pub numbered_in : (book : BookValue) (n : ℕ) (p : PledgeValue) → IsSoundBook book → pledge_from 1 book.pledges n ≡ Some p → AreNumbered 1 p.entries
-numbered_in book n p sound at = (each_at IsStanding 1 book.pledges n p sound.standing at).replayable.entered.numbered
+numbered_in book n p sound at = (each_at IsStanding 1 book.pledges n p sound.rows.standing at).replayable.entered.numbered
 
 -- a live receipt's pledge is the one at its number
 pub live_found : (s : ℕ) (q : PledgeValue) → is_some (only_live s (Some q)) ≡ true → only_live s (Some q) ≡ Some q

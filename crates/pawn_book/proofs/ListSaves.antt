@@ -11,10 +11,12 @@ use Rattle.pawn_pledge.specs.Pledge.{PledgeValue}
 use Rattle.pawn_book.specs.declared.request.NewBook.{NewBook}
 use Rattle.pawn_book.specs.declared.change.Change.{Change}
 use Rattle.pawn_book.specs.declared.list.Kept.{Kept}
-use Rattle.pawn_book.specs.declared.change.Change.TheVariants.{MakeBook, AddTerms, PutPledge}
-use Rattle.pawn_book.specs.BookStep.{BookValue, changed_book, made_book, pledge_from, pledge_in, put_from}
+use Rattle.pawn_book.specs.declared.change.Change.TheVariants.{MakeBook, AddTerms, PutPledge, ImportBook}
+use Rattle.pawn_terms.specs.declared.terms.Rates.{Rates}
+use Rattle.pawn_book.specs.BookStep.{BookValue, changed_book, filled_book, made_book, pledge_from, pledge_in, put_from}
 use Rattle.pawn_book.specs.HostStep.{Host, rows, book_rows, pledge_rows, with_book}
-use Rattle.pawn_book.specs.Sound.{AreSound}
+use Rattle.pawn_book.specs.declared.rows.BookRows.{BookRows}
+use Rattle.pawn_book.specs.Sound.{AreSound, IsSoundBook}
 use Rattle.pawn_book.specs.Changes.{CanSave, Continues, Follows, book_number, with_change}
 use Rattle.pawn_book.specs.Books.{Books}
 use Rattle.pawn_book.specs.declared.fault.SaveError.TheVariants.{Full}
@@ -81,6 +83,7 @@ changes_to h (AddTerms b version terms) follows =
     (record follows.0 { terms = follows.0.terms ++ terms ∷ [] }, ap (λ o. changed_book o (AddTerms b version terms)) follows.1)
 changes_to h (PutPledge b n p) follows =
     (record follows.0 { pledges = put_from 1 follows.0.pledges n p }, ap (λ o. changed_book o (PutPledge b n p)) follows.1)
+changes_to h (ImportBook b key rows) follows = (filled_book follows.0 key rows, ap (λ o. changed_book o (ImportBook b key rows)) follows.1)
 
 -- a change's rows, in place of those that it replaces
 change_rows : (k : Books) (change : Change) → Follows (host_of k) change → rows (with_change (host_of k) change) + replaced_rows k.books change ≡ rows (host_of k) + added_rows change
@@ -109,6 +112,16 @@ change_rows k (PutPledge b n p) follows =
     let stood : standing_rows (pledge_in (book_at k.books b) n) ≡ standing_rows (pledge_from 1 at.pledges n) =
     ap (λ o. standing_rows (pledge_in o n)) (sym (get-book_at k.books b) ∙ follows.1) in
     omega (arith, all, sums, before, pledges, stood)
+change_rows k (ImportBook b key imported) follows =
+    let at : BookValue = follows.0 in
+    let book : BookValue = filled_book at key imported in
+    let all : rows (with_change (host_of k) (ImportBook b key imported)) ≡ rows (with_book (host_of k) b (Some book)) =
+    ap (λ o. rows (with_book (host_of k) b (changed_book o (ImportBook b key imported)))) follows.1 in
+    let sums = rows-with_book (host_of k) b book in
+    let before : part book_rows (get (host_of k).books b) ≡ book_rows at = ap (part book_rows) follows.1 in
+    let no_terms : length at.terms ≡ 0 = ap length follows.2.terms in
+    let no_pledges : sum_by pledge_rows at.pledges ≡ 0 = ap (sum_by pledge_rows) follows.2.pledges in
+    omega (arith, all, sums, before, no_terms, no_pledges)
 
 -- books with a change are those of the host with it
 change_host : (k next : Books) (change : Change) (book : BookValue) → changed_book (get (host_of k).books (book_number change)) change ≡ Some book
@@ -151,14 +164,25 @@ change_counted k old count change kept is can =
     let P : Books → Type 0 = λ old. CanSave (host_of old) change → replaced_rows k.books change ≤ count + added_rows change in
     subst P is (λ can. let more = change_rows k change can.follows in let counted = kept.counted in omega (arith, more, counted)) can
 
+-- the book of a change is sound where the changed host is
+sound_after : (h : Host) (change : Change) (book : BookValue) → changed_book (get h.books (book_number change)) change ≡ Some book → AreSound (with_change h change) → IsSoundBook book
+sound_after h change book made sound =
+    let b = book_number change in
+    let here : (b == b) ≡ true = grind (arith, nat_tests) in
+    (sound b book
+    (ap (λ o. get (with_book h b o).books b) made ∙ get-with_book h b book b ∙ ap (λ v. if v then Some book else get h.books b) here)).1
+
 -- the books have the place of a change that may be saved
 pub change_fits : (k old : Books) (change : Change) → k ≡ old → CanSave (host_of old) change → Fits k.books change
-change_fits k old change is can = from change (subst (λ (o : Books). Follows (host_of o) change) (sym is) can.follows)
+change_fits k old change is can =
+    from change (subst (λ (o : Books). Follows (host_of o) change) (sym is) can.follows) (subst (λ (o : Books). AreSound (with_change (host_of o) change)) (sym is) can.sound)
   where
-    from : (change : Change) → Follows (host_of k) change → Fits k.books change
-    from (MakeBook b new) none = sym (get-book_at k.books b) ∙ none
-    from (AddTerms b version terms) follows = (follows.0, sym (get-book_at k.books b) ∙ follows.1)
-    from (PutPledge b n p) follows = (follows.0, sym (get-book_at k.books b) ∙ follows.1, (follows_at follows.0 n p follows.2).1)
+    from : (change : Change) → Follows (host_of k) change → AreSound (with_change (host_of k) change) → Fits k.books change
+    from (MakeBook b new) none sound = sym (get-book_at k.books b) ∙ none
+    from (AddTerms b version terms) follows sound = (follows.0, sym (get-book_at k.books b) ∙ follows.1)
+    from (PutPledge b n p) follows sound = (follows.0, sym (get-book_at k.books b) ∙ follows.1, (follows_at follows.0 n p follows.2).1)
+    from (ImportBook b key imported) follows sound =
+        (follows.0, sym (get-book_at k.books b) ∙ follows.1, (sound_after (host_of k) (ImportBook b key imported) (filled_book follows.0 key imported) (ap (λ o. changed_book o (ImportBook b key imported)) follows.1) sound).rows)
 
 -- a new book, pushed
 pub push_changes : (es next : List (ℕ × BookValue)) (b : ℕ) (new : NewBook) → book_at es b ≡ None → next ≡ es ++ (b, made_book new) ∷ [] → HasChange es (MakeBook b new) next
@@ -186,3 +210,11 @@ kept_at_place qs ks b i kept at same less place is stands =
     let within : i < length ks = subst (λ (xs : List Kept). i < length xs) same less in
     let here : IsPlace (map entry_of ks) b i = subst (λ (xs : List Kept). IsPlace (map entry_of xs) b i) same place in
     some_is at (entry_of kept).1 (sym stands ∙ kept_is ks b i kept within is here)
+
+-- a book with the rows of an import is the filled one
+pub filled_is : (at : BookValue) (key : ℕ) (rows : BookRows) (ts : List Rates) (ps : List PledgeValue) (count : ℕ) → ts ≡ rows.terms → ps ≡ rows.pledges → count ≡ length ps
+    → (let book : BookValue = record at { terms = ts; pledges = ps; imported = Some (record { key = key; pledges = count }) } in book ≡ filled_book at key rows)
+filled_is at key rows ts ps count terms pledges counted =
+    ap (λ (n : ℕ). let book : BookValue = record at { terms = ts; pledges = ps; imported = Some (record { key = key; pledges = n }) } in book) counted
+    ∙ ap (λ (ts : List Rates). filled_book at key (record { terms = ts; pledges = ps })) terms
+    ∙ ap (λ (ps : List PledgeValue). filled_book at key (record { terms = rows.terms; pledges = ps })) pledges

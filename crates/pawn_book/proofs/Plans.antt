@@ -29,7 +29,8 @@ use Rattle.pawn_book.specs.declared.change.BookHead.{BookHead}
 use Rattle.pawn_book.specs.BookStep.{BookValue, Makes, make_book, make_or_refuse, made_book, next_terms, put_terms, take_pledge, next_pledge, under_pledge, with_room, terms_at, newest, with_reference, book_head, first_receipt, changed_book, pledge_from, pledge_in, put_from, is_same_text}
 use Rattle.pawn_book.specs.HostStep.{Host, with_book}
 use Rattle.pawn_book.specs.Limits.{IsCapacity, most_name_bytes, most_pledges, most_terms}
-use Rattle.pawn_book.specs.Sound.{AreNumberedFrom, AreSound, AreWords, HasTextsAndWords, IsSound, IsWord}
+use Rattle.pawn_book.specs.Rows.{AreNumberedFrom}
+use Rattle.pawn_book.specs.Sound.{AreSound, AreWords, HasTextsAndWords, IsSound, IsWord}
 use Rattle.pawn_book.specs.Changes.{book_number, with_change}
 use Rattle.pawn_book.specs.Keeping.{number_of, pledges_of, terms_of}
 use Rattle.pawn_book.specs.Plans.{Plans}
@@ -120,7 +121,7 @@ found_by_number h b n reference sound is = from (get h.books b) refl is
 
     from : (o : Option BookValue) → get h.books b ≡ o → Some n ≡ number_of o reference → pledge_in o n ≡ with_reference (pledges_of o) reference
     from None e is = refl
-    from (Some book) e is = at book (sound.books b book e).1.numbered (with_reference book.pledges reference) refl is ∙ refl
+    from (Some book) e is = at book (sound.books b book e).1.rows.numbered (with_reference book.pledges reference) refl is ∙ refl
 
 -- a reference that no number has
 pub no_number : (h : Host) (b : ℕ) (reference : List ℕ) → None ≡ number_of (get h.books b) reference → with_reference (pledges_of (get h.books b)) reference ≡ None

@@ -10,7 +10,7 @@ use Rattle.pawn_pledge.specs.declared.receipt.Receipt.{Receipt}
 use Rattle.pawn_pledge.specs.Pledge.{PledgeValue}
 use Rattle.pawn_pledge.specs.Step.{Answered, Changed, Judged, Refused, pledge_step}
 use Rattle.pawn_book.specs.declared.change.Change.{Change}
-use Rattle.pawn_book.specs.declared.change.Change.TheVariants.{MakeBook, AddTerms, PutPledge}
+use Rattle.pawn_book.specs.declared.change.Change.TheVariants.{MakeBook, AddTerms, PutPledge, ImportBook}
 use Rattle.pawn_book.specs.declared.refusal.Refusal.TheVariants.{Full}
 use Rattle.pawn_book.specs.declared.request.BearerRequest.{BearerRequest}
 use Rattle.pawn_book.specs.declared.request.BearerRequest.TheVariants.{Present, OnPledge as OnReceipt}
@@ -38,6 +38,7 @@ none_before None change is = refl
 none_before (Some book) (MakeBook b new) is = cc is
 none_before (Some book) (AddTerms b version terms) is = cc is
 none_before (Some book) (PutPledge b n p) is = cc is
+none_before (Some book) (ImportBook b key rows) is = cc is
 
 -- each book after an outcome of book c
 pub host_get : (h : Host) (c b : ℕ) (o : Outcome) → get (host_after h c o).books b ≡ (if c == b then book_after (get h.books c) o else get h.books b)

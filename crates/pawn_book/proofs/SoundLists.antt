@@ -6,7 +6,8 @@ use Rattle.std.proofs.lemmas.List.Folds.{list_any-append}
 use Rattle.pawn_terms.specs.declared.terms.Rates.{Rates}
 use Rattle.pawn_pledge.specs.Pledge.{PledgeValue}
 use Rattle.pawn_book.specs.BookStep.{is_same_text, pledge_from, put_from, terms_at, with_reference}
-use Rattle.pawn_book.specs.Sound.{AreDistinct, DoNotFall, IsUnder}
+use Rattle.pawn_terms.specs.Order.{DoNotFall}
+use Rattle.pawn_book.specs.Rows.{AreDistinct, IsUnder, references_of, version_of}
 use Rattle.pawn_pledge.specs.Replayable.{Each}
 
 pub some_is : {A : Type 0} (x y : A) → Some x ≡ Some y → x ≡ y
@@ -51,7 +52,7 @@ map_push : {A : Type 0} (f : PledgeValue → A) (ps : List PledgeValue) (p : Ple
 map_push f [] p = refl
 map_push f (q ∷ ps) p = ap (λ xs. f q ∷ xs) (map_push f ps p)
 
-pub references_push : (ps : List PledgeValue) (p : PledgeValue) → AreDistinct (map (λ p. p.agreement.opening.reference) ps) → with_reference ps p.agreement.opening.reference ≡ None → AreDistinct (map (λ p. p.agreement.opening.reference) (ps ++ p ∷ []))
+pub references_push : (ps : List PledgeValue) (p : PledgeValue) → AreDistinct (references_of ps) → with_reference ps p.agreement.opening.reference ≡ None → AreDistinct (references_of (ps ++ p ∷ []))
 references_push ps p all none = subst AreDistinct (sym (map_push (λ p. p.agreement.opening.reference) ps p)) (distinct_push (map (λ p. p.agreement.opening.reference) ps) p.agreement.opening.reference all (new_reference ps p.agreement.opening.reference none))
 
 -- terms that stand are among the first
@@ -73,7 +74,17 @@ each_under_more terms u [] all = tt
 each_under_more terms u (p ∷ ps) all = (under_more terms u p.agreement.version p.agreement.terms all.0, each_under_more terms u ps all.1)
 
 -- versions don't fall with a pledge under the newest terms
-pub versions_push : (n : ℕ) (terms : List Rates) (ps : List PledgeValue) (p : PledgeValue) → Each (IsUnder terms) ps → DoNotFall n (map (λ p. p.agreement.version) ps) → n ≤ length terms → p.agreement.version ≡ length terms
-    → DoNotFall n (map (λ p. p.agreement.version) (ps ++ p ∷ []))
+pub versions_push : (n : ℕ) (terms : List Rates) (ps : List PledgeValue) (p : PledgeValue) → Each (IsUnder terms) ps → DoNotFall version_of n ps → n ≤ length terms → p.agreement.version ≡ length terms
+    → DoNotFall version_of n (ps ++ p ∷ [])
 versions_push n terms [] p under rise low newest = (omega (arith, low, newest), tt)
 versions_push n terms (q ∷ ps) p under rise low newest = (rise.0, versions_push q.agreement.version terms ps p under.1 rise.1 (under_length terms q.agreement.version q.agreement.terms under.0) newest)
+
+-- .. nor with one in place of another of the same version
+pub versions_put : (k m : ℕ) (ps : List PledgeValue) (n : ℕ) (p q : PledgeValue) → pledge_from k ps n ≡ Some p → version_of q ≡ version_of p → DoNotFall version_of m ps
+    → DoNotFall version_of m (put_from k ps n q)
+versions_put k m [] n p q is same rise = absurd_none is
+versions_put k m (r ∷ ps) n p q is same rise =
+    elim (n == k) as (λ v. (if v then Some r else pledge_from (k + 1) ps n) ≡ Some p → DoNotFall version_of m (if v then q ∷ ps else r ∷ put_from (k + 1) ps n q)) [
+      | true ↦ λ here. subst (λ (v : ℕ). (m ≤ v) × DoNotFall version_of v ps) (ap version_of (some_is r p here) ∙ sym same) rise
+      | false ↦ λ there. (rise.0, versions_put (k + 1) (version_of r) ps n p q there same rise.1)
+    ] is

@@ -1,5 +1,5 @@
 -- A host stays sound with a book that is.
-use Rattle.std.proofs.Common.{◌≡◌, ◌≢◌, ℕ, ◌+◌, ◌<◌, ◌≤◌, List, [], ◌∷◌, ◌++◌, length, map, Some, None, suc, refl, ◌∙◌, ap, sym, subst, arith, length-append}
+use Rattle.std.proofs.Common.{◌≡◌, ◌≢◌, ℕ, ◌+◌, ◌<◌, ◌≤◌, List, [], ◌∷◌, ◌++◌, length, Some, None, suc, refl, ◌∙◌, ap, sym, subst, arith, length-append}
 use Rattle.std.specs.Prelude.{if◌then◌else◌, Option, Bool, true, false, ◌==◌}
 use Rattle.std.specs.Cmp.{unsigned_tied}
 use Rattle.std.specs.FinMap.{get, get-insert}
@@ -7,16 +7,19 @@ use Rattle.std.specs.Str.{IsUtf8}
 use Rattle.std.proofs.lemmas.Cmp.{nat_cmp_total}
 use Rattle.std.proofs.lemmas.Bool.Decides.{nat_tests}
 use Rattle.pawn_terms.specs.declared.terms.Rates.{Rates}
+use Rattle.pawn_terms.specs.Order.{DoNotFall}
 use Rattle.pawn_terms.specs.Terms.{IsChecked}
 use Rattle.pawn_pledge.specs.Number.{IsNumber}
 use Rattle.pawn_pledge.specs.Pledge.{PledgeValue}
 use Rattle.pawn_pledge.specs.Replayable.{Each, IsStanding}
 use Rattle.pawn_pledge.specs.Text.{IsText}
 use Rattle.pawn_book.specs.declared.request.NewBook.{NewBook}
-use Rattle.pawn_book.specs.BookStep.{BookValue, made_book, pledge_from, pledge_in, put_from, with_reference}
+use Rattle.pawn_book.specs.BookStep.{BookValue, filled_book, made_book, pledge_from, pledge_in, put_from, with_reference}
 use Rattle.pawn_book.specs.HostStep.{Host, with_book}
 use Rattle.pawn_book.specs.Limits.{IsCapacity, most_name_bytes, most_pledges, most_terms}
-use Rattle.pawn_book.specs.Sound.{AreDistinct, AreNumberedFrom, AreSound, DoNotFall, HasTextsAndWords, IsSound, IsSoundAt, IsSoundBook, IsUnder, IsWord}
+use Rattle.pawn_book.specs.declared.rows.BookRows.{BookRows}
+use Rattle.pawn_book.specs.Rows.{AreDistinct, AreNumberedFrom, AreReplayable, IsUnder, references_of, version_of}
+use Rattle.pawn_book.specs.Sound.{AreSound, HasTextsAndWords, IsSound, IsSoundAt, IsSoundBook, IsWord}
 pub use Rattle.pawn_book.proofs.SoundLists.{absurd_none, some_is}
 use Rattle.pawn_book.proofs.SoundLists.{each_under_more, references_push, versions_push}
 
@@ -40,15 +43,30 @@ sound_made new key utf8 name capacity = record {
   utf8 = utf8;
   name = name;
   capacity = capacity;
-  numbered = tt;
-  standing = tt;
+  rows = record {
+    numbered = tt;
+    standing = tt;
+    references = tt;
+    under = tt;
+    versions = tt;
+    checked = tt;
+    few_terms = omega arith;
+    few_pledges = omega arith;
+  };
   written = tt;
-  references = tt;
-  under = tt;
-  versions = tt;
-  checked = tt;
-  terms = omega arith;
-  pledges = omega arith;
+}
+
+-- .. and so is one that is filled with rows that can have come about
+pub sound_filled : (book : BookValue) (key : ℕ) (rows : BookRows) → IsSoundBook book → IsWord key → Each HasTextsAndWords rows.pledges → AreReplayable rows.terms rows.pledges
+    → IsSoundBook (filled_book book key rows)
+sound_filled book key rows sound word written replayable = record {
+  key = sound.key;
+  imported = word;
+  utf8 = sound.utf8;
+  name = sound.name;
+  capacity = sound.capacity;
+  rows = replayable;
+  written = written;
 }
 
 pub each_push : {A : Type 0} (P : A → Type 0) (xs : List A) (x : A) → Each P xs → P x → Each P (xs ++ x ∷ [])
@@ -63,15 +81,17 @@ sound_terms book terms sound checked few = record {
   utf8 = sound.utf8;
   name = sound.name;
   capacity = sound.capacity;
-  numbered = sound.numbered;
-  standing = sound.standing;
+  rows = record {
+    numbered = sound.rows.numbered;
+    standing = sound.rows.standing;
+    references = sound.rows.references;
+    under = each_under_more book.terms terms book.pledges sound.rows.under;
+    versions = sound.rows.versions;
+    checked = each_push IsChecked book.terms terms sound.rows.checked checked;
+    few_terms = omega (arith, few, length-append book.terms (terms ∷ []));
+    few_pledges = sound.rows.few_pledges;
+  };
   written = sound.written;
-  references = sound.references;
-  under = each_under_more book.terms terms book.pledges sound.under;
-  versions = sound.versions;
-  checked = each_push IsChecked book.terms terms sound.checked checked;
-  terms = omega (arith, few, length-append book.terms (terms ∷ []));
-  pledges = sound.pledges;
 }
 
 pub numbered_put : (k : ℕ) (ps : List PledgeValue) (n : ℕ) (p : PledgeValue) → AreNumberedFrom k ps → p.agreement.number ≡ n → k ≤ n → n ≤ k + length ps → AreNumberedFrom k (put_from k ps n p)
@@ -129,16 +149,18 @@ sound_next book p sound is_next standing written =
       utf8 = sound.utf8;
       name = sound.name;
       capacity = sound.capacity;
-      numbered = numbered_put 1 book.pledges p.agreement.number p sound.numbered refl low high;
-      standing = each_put IsStanding 1 book.pledges p.agreement.number p sound.standing standing;
+      rows = record {
+        numbered = numbered_put 1 book.pledges p.agreement.number p sound.rows.numbered refl low high;
+        standing = each_put IsStanding 1 book.pledges p.agreement.number p sound.rows.standing standing;
+        references = subst (λ ps. AreDistinct (references_of ps)) (sym pushed) (references_push book.pledges p sound.rows.references is_next.reference);
+        under = each_put (IsUnder book.terms) 1 book.pledges p.agreement.number p sound.rows.under is_next.under;
+        versions = subst (λ ps. DoNotFall version_of 0 ps) (sym pushed)
+            (versions_push 0 book.terms book.pledges p sound.rows.under sound.rows.versions (omega arith) is_next.version);
+        checked = sound.rows.checked;
+        few_terms = sound.rows.few_terms;
+        few_pledges = omega (arith, few, ap length pushed, length-append book.pledges (p ∷ []));
+      };
       written = each_put HasTextsAndWords 1 book.pledges p.agreement.number p sound.written written;
-      references = subst (λ ps. AreDistinct (map (λ p. p.agreement.opening.reference) ps)) (sym pushed) (references_push book.pledges p sound.references is_next.reference);
-      under = each_put (IsUnder book.terms) 1 book.pledges p.agreement.number p sound.under is_next.under;
-      versions = subst (λ ps. DoNotFall 0 (map (λ p. p.agreement.version) ps)) (sym pushed)
-          (versions_push 0 book.terms book.pledges p sound.under sound.versions (omega arith) is_next.version);
-      checked = sound.checked;
-      terms = sound.terms;
-      pledges = omega (arith, few, ap length pushed, length-append book.pledges (p ∷ []));
     }
 
 pub each_at : (P : PledgeValue → Type 0) (k : ℕ) (ps : List PledgeValue) (n : ℕ) (p : PledgeValue) → Each P ps → pledge_from k ps n ≡ Some p → P p
@@ -165,4 +187,4 @@ standing_at h b n p sound is = from (get h.books b) refl is
     from None e is = absurd_none is
     from (Some book) e is =
         let one = (sound.books b book e).1 in
-        (each_at IsStanding 1 book.pledges n p one.standing is, numbered_at 1 book.pledges n p one.numbered is)
+        (each_at IsStanding 1 book.pledges n p one.rows.standing is, numbered_at 1 book.pledges n p one.rows.numbered is)

@@ -33,7 +33,8 @@ use Rattle.pawn_book.specs.declared.request.BearerRequest.TheVariants.{Present, 
 use Rattle.pawn_book.specs.declared.change.Imported.{Imported}
 use Rattle.pawn_book.specs.declared.change.BookHead.{BookHead}
 use Rattle.pawn_book.specs.declared.change.Change.{Change}
-use Rattle.pawn_book.specs.declared.change.Change.TheVariants.{MakeBook, AddTerms, PutPledge}
+use Rattle.pawn_book.specs.declared.change.Change.TheVariants.{MakeBook, AddTerms, PutPledge, ImportBook}
+use Rattle.pawn_book.specs.declared.rows.BookRows.{BookRows}
 use Rattle.pawn_book.specs.declared.sheet.SheetItem.{SheetItem}
 use Rattle.pawn_book.specs.Bookings.{confirmed_count, is_confirmed}
 use Rattle.pawn_book.specs.Limits.{most_terms, most_pledges}
@@ -107,12 +108,19 @@ with_reference pledges reference = find (λ p. is_same_text p.agreement.opening.
 abbrev pub made_book : NewBook → BookValue
 made_book new = record { key = new.key; name = new.name; capacity = new.capacity; terms = []; pledges = []; imported = None }
 
+-- the book that an import makes of one without terms and pledges
+abbrev pub filled_book : BookValue → ℕ → BookRows → BookValue
+filled_book book key rows =
+    record book { terms = rows.terms; pledges = rows.pledges; imported = Some (record { key = key; pledges = length rows.pledges }) }
+
 abbrev pub changed_book : Option BookValue → Change → Option BookValue
 changed_book before (MakeBook b new) = Some (made_book new)
 changed_book None (AddTerms b version terms) = None
 changed_book (Some book) (AddTerms b version terms) = Some (record book { terms = book.terms ++ terms ∷ [] })
 changed_book None (PutPledge b n p) = None
 changed_book (Some book) (PutPledge b n p) = Some (record book { pledges = put_from 1 book.pledges n p })
+changed_book None (ImportBook b key rows) = None
+changed_book (Some book) (ImportBook b key rows) = Some (filled_book book key rows)
 
 -- the book after an outcome
 abbrev pub book_after : Option BookValue → Outcome → Option BookValue

@@ -1,10 +1,10 @@
 -- What a change makes of a host, and which may be saved.
-use Rattle.std.specs.Prelude.{◌≡◌, ◌⊎◌, ℕ, ◌+◌, None, Some, length}
+use Rattle.std.specs.Prelude.{◌≡◌, ◌⊎◌, ℕ, ◌+◌, [], None, Some, length}
 use Rattle.std.specs.FinMap.{get}
 use Rattle.pawn_pledge.specs.Pledge.{PledgeValue}
 use Rattle.pawn_pledge.specs.Growth.{Grows}
 use Rattle.pawn_book.specs.declared.change.Change.{Change}
-use Rattle.pawn_book.specs.declared.change.Change.TheVariants.{MakeBook, AddTerms, PutPledge}
+use Rattle.pawn_book.specs.declared.change.Change.TheVariants.{MakeBook, AddTerms, PutPledge, ImportBook}
 use Rattle.pawn_book.specs.BookStep.{BookValue, changed_book, pledge_from}
 use Rattle.pawn_book.specs.HostStep.{Host, with_book}
 use Rattle.pawn_book.specs.Sound.{AreSound}
@@ -14,6 +14,7 @@ abbrev pub book_number : Change → ℕ
 book_number (MakeBook book new) = book
 book_number (AddTerms book version terms) = book
 book_number (PutPledge book number pledge) = book
+book_number (ImportBook book key rows) = book
 
 -- the host with a change
 abbrev pub with_change : Host → Change → Host
@@ -24,13 +25,20 @@ pub record Continues (old new : PledgeValue) : Type 0 where
   pub agreement : new.agreement ≡ old.agreement
   pub lists : Grows old new
 
--- a new book; the next version of terms; the next pledge, or one that stands and continues
+-- a book that nothing was put into yet
+pub record IsUnfilled (book : BookValue) : Type 0 where
+  pub terms : book.terms ≡ []
+  pub pledges : book.pledges ≡ []
+  pub imported : book.imported ≡ None
+
+-- a new book; the next version of terms; the next pledge, or one that stands and continues; the rows of a book that has none
 abbrev pub Follows : Host → Change → Type 0
 Follows h (MakeBook book new) = get h.books book ≡ None
 Follows h (AddTerms book version terms) = (at : BookValue) × (get h.books book ≡ Some at) × (version ≡ length at.terms + 1)
 Follows h (PutPledge book number pledge) =
     (at : BookValue) × (get h.books book ≡ Some at)
     × ((number ≡ length at.pledges + 1) ⊎ ((old : PledgeValue) × (pledge_from 1 at.pledges number ≡ Some old) × Continues old pledge))
+Follows h (ImportBook book key rows) = (at : BookValue) × (get h.books book ≡ Some at) × IsUnfilled at
 
 -- a change that may be saved: it follows, and the changed host is sound, but for the limit on its rows
 pub record CanSave (h : Host) (change : Change) : Type 0 where

@@ -10,6 +10,8 @@ pub mod Gathering
 pub mod Changes
 pub mod Keeping
 pub mod Plans
+pub mod Written
+pub mod Rows
 pub mod Sound
 pub mod Books
 pub mod Listed

@@ -1,15 +1,16 @@
 -- The host of books in a list.
-use Rattle.std.specs.Prelude.{◌≡◌, ◌≢◌, ℕ, zero, suc, ◌+◌, ◌≤◌, ◌<◌, List, [], ◌∷◌, Option, Some, None, Result, Ok, Err, length, ◌==◌, if◌then◌else◌, ⊤}
+use Rattle.std.specs.Prelude.{◌≡◌, ◌≢◌, ℕ, zero, suc, ◌+◌, ◌≤◌, ◌<◌, List, [], ◌∷◌, Option, Some, None, Result, Ok, Err, length, sum_by, ◌==◌, if◌then◌else◌, ⊤}
 use Rattle.std.specs.FinMap.{from_entries}
 use Rattle.pawn_book.specs.declared.list.Kept.{Kept}
 use Rattle.pawn_book.specs.declared.change.Change.{Change}
-use Rattle.pawn_book.specs.declared.change.Change.TheVariants.{MakeBook, AddTerms, PutPledge}
+use Rattle.pawn_book.specs.declared.change.Change.TheVariants.{MakeBook, AddTerms, PutPledge, ImportBook}
 use Rattle.pawn_book.specs.declared.fault.SaveError.{SaveError}
 use Rattle.pawn_book.specs.declared.fault.SaveError.TheVariants.{Full, Memory, Store}
 use Rattle.pawn_book.specs.BookStep.{BookValue, changed_book, pledge_in}
 use Rattle.pawn_pledge.specs.Pledge.{PledgeValue}
 use Rattle.pawn_book.specs.HostStep.{Host, rows, pledge_rows}
 use Rattle.pawn_book.specs.Limits.{most_rows}
+use Rattle.pawn_book.specs.Rows.{AreReplayable}
 use Rattle.pawn_book.specs.Sound.{IsSound}
 use Rattle.pawn_book.specs.Changes.{book_number, with_change}
 use Rattle.pawn_book.specs.Keeping.{Keeping}
@@ -57,17 +58,21 @@ abbrev pub added_rows : Change → ℕ
 added_rows (MakeBook b new) = 1
 added_rows (AddTerms b version terms) = 1
 added_rows (PutPledge b n p) = pledge_rows p
+added_rows (ImportBook b key rows) = length rows.terms + sum_by pledge_rows rows.pledges
 
 abbrev pub replaced_rows : List (ℕ × BookValue) → Change → ℕ
 replaced_rows books (MakeBook b new) = 0
 replaced_rows books (AddTerms b version terms) = 0
 replaced_rows books (PutPledge b n p) = standing_rows (pledge_in (book_at books b) n)
+replaced_rows books (ImportBook b key rows) = 0
 
--- the books of the list have a change's place: none yet of a new book's number, else the book, and a place for the pledge
+-- the books of the list have a change's place: none yet of a new book's number, else the book, and a place for the pledge;
+-- imported rows are ones that a book can have
 abbrev pub Fits : List (ℕ × BookValue) → Change → Type 0
 Fits books (MakeBook b new) = book_at books b ≡ None
 Fits books (AddTerms b version terms) = (at : BookValue) × (book_at books b ≡ Some at)
 Fits books (PutPledge b n p) = (at : BookValue) × (book_at books b ≡ Some at) × (n ≤ 1 + length at.pledges)
+Fits books (ImportBook b key rows) = (at : BookValue) × (book_at books b ≡ Some at) × AreReplayable rows.terms rows.pledges
 
 -- the book of a change's number is the changed one, and the others are as they were
 abbrev pub HasChange : List (ℕ × BookValue) → Change → List (ℕ × BookValue) → Type 0

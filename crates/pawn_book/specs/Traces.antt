@@ -14,7 +14,7 @@ use Rattle.pawn_book.specs.declared.request.BrokerRequest.TheVariants.{PutTerms,
 use Rattle.pawn_book.specs.declared.request.BearerRequest.{BearerRequest}
 use Rattle.pawn_book.specs.declared.request.BearerRequest.TheVariants.{Present, OnPledge as OnReceipt}
 use Rattle.pawn_book.specs.declared.change.Change.{Change}
-use Rattle.pawn_book.specs.declared.change.Change.TheVariants.{MakeBook, AddTerms, PutPledge}
+use Rattle.pawn_book.specs.declared.change.Change.TheVariants.{MakeBook, AddTerms, PutPledge, ImportBook}
 use Rattle.pawn_book.specs.declared.refusal.Refusal.{Refusal}
 use Rattle.pawn_book.specs.declared.refusal.Refusal.TheVariants.{Full, Memory, Store}
 use Rattle.pawn_book.specs.BookStep.{BookValue, Out, Told, Denied, Shown, Listed, Outcome, Refuses, Says, Makes, out_of, is_live, pledge_in}
@@ -97,11 +97,17 @@ does n stamp (Operator key new) = []
 does n stamp (Broker key asked) = broker_does n stamp asked
 does n stamp (Bearer asked) = bearer_does n stamp asked
 
+-- pledges with their numbers, from one on
+abbrev pub numbered_pledges : ℕ → List PledgeValue → List (ℕ × PledgeValue)
+numbered_pledges k [] = []
+numbered_pledges k (p ∷ ps) = (k, p) ∷ numbered_pledges (k + 1) ps
+
 -- the pledges that a change makes or changes, as they are after it
 abbrev pub touched_pledges : Change → List (ℕ × PledgeValue)
 touched_pledges (MakeBook b new) = []
 touched_pledges (AddTerms b version terms) = []
 touched_pledges (PutPledge b n p) = (n, p) ∷ []
+touched_pledges (ImportBook b key rows) = numbered_pledges 1 rows.pledges
 
 -- what a changed pledge is to the slot: if it was in, the command happened to it; else it may come in
 abbrev pub touches : List Receipt → Option BookValue → Stamp → Caller → ℕ × PledgeValue → List SlotEvent
@@ -125,10 +131,6 @@ abbrev pub run_slot : {F : Type 0} → ℕ → List Receipt → Host → ℕ →
 run_slot b slot h operator [] = []
 run_slot b slot h operator (event ∷ events) =
     event_slot b slot h operator event.stamp event.mark ++ run_slot b slot (host_after_event h operator event) operator events
-
-abbrev pub numbered_pledges : ℕ → List PledgeValue → List (ℕ × PledgeValue)
-numbered_pledges k [] = []
-numbered_pledges k (p ∷ ps) = (k, p) ∷ numbered_pledges (k + 1) ps
 
 -- first what is in the slot when the run begins, by number
 abbrev pub slot_trace : {F : Type 0} → ℕ → List Receipt → Host → ℕ → List (Event F) → List SlotEvent

@@ -1,6 +1,7 @@
 use crate::capacity::Capacity;
 use crate::reply::Reply;
 use crate::request::{Name, NewBook};
+use crate::rows::BookRows;
 use pawn_pledge::{Number, Pledge, Secret, Terms};
 
 /// The key of the import that filled a book, and how many pledges came with it.
@@ -40,6 +41,12 @@ pub enum Change {
         book: Number,
         number: Number,
         pledge: Pledge,
+    },
+    /// The rows of a book without terms and pledges, under the key of their import.
+    ImportBook {
+        book: Number,
+        key: Secret,
+        rows: BookRows,
     },
 }
 

@@ -16,8 +16,10 @@ mod openings;
 mod planning;
 mod receipts;
 mod refusal;
+mod replaying;
 mod reply;
 mod request;
+mod rows;
 mod set_up;
 mod sheet;
 mod visit;
@@ -38,16 +40,19 @@ pub use limits::{MOST_BOOKINGS, MOST_NAME_BYTES, MOST_RECEIPTS, MOST_ROWS};
 pub use list::ListKeep;
 pub use pawn_pledge::{
     Agreement, Applied, Article, BadDay, BadReceipt, BearerCommand, Booking, BookingState, Brief,
-    BriefFields, BrokerCommand, Closing, Command, Day, Decision, Done, Entry, Extension, Issue,
-    Issued, Kind, Number, Opening, Owing, Paper, Pledge, Rates, Receipt, Reference,
-    Refusal as PledgeRefusal, RequestDay, Secret, Sort, Stamp, Standing, Status, Terms, Text,
+    BriefFields, BrokerCommand, Closing, Command, Day, Decision, Done, Entries, Entry, Extension,
+    Extensions, Issue, Issued, Kind, Number, Opening, Owing, Paper, Parts, Pledge, Rates, Receipt,
+    Reference, Refusal as PledgeRefusal, RequestDay, Rows, Secret, Secrets, Sort, Stamp, Standing,
+    Status, Terms, Text,
 };
 pub use pawn_terms::TermsFault;
 pub use planning::plan;
 pub use receipts::Receipts;
 pub use refusal::Refusal;
+pub use replaying::replayable;
 pub use reply::Reply;
 pub use request::{BearerRequest, BrokerRequest, Caller, Name, NewBook, NewTerms, Request};
+pub use rows::{BookRows, PledgeRows};
 pub use sheet::SheetItem;
 pub use visit::{Flow, Visitor};
 pub use worked::worked_slots;

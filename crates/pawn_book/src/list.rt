@@ -8,6 +8,8 @@ ghost use Rattle.pawn_book.specs.Keeping.{entries_of, extensions_of, number_of, 
 ghost use Rattle.pawn_book.specs.Listed.{Fits, HasChange, IsLeastAbove, IsPlace, Saves, added_rows, book_at, entry_of, host_of, replaced_rows};
 ghost use Rattle.pawn_book.specs.Visits.{IsShare, Visits, Whole};
 
+mod filling;
+
 use crate::change::{BookHead, Change, Imported};
 use crate::fault::{KeepError, SaveError};
 use crate::keep::Keep;
@@ -15,6 +17,7 @@ use crate::limits::MOST_ROWS;
 use crate::request::NewBook;
 use crate::sheet::{SheetItem, hand_sheet, is_confirmed_for};
 use crate::visit::{Flow, Visitor};
+use filling::{count_rows, fill_book};
 use pawn_pledge::{
     Booking, BookingState, Brief, Day, Entry, Extension, Issued, Number, Pledge, Reference, Terms,
 };
@@ -432,6 +435,7 @@ fn rows_of(pledge: &Pledge) -> u64
 // The rows once a change is made, where so many are counted.
 fn rows_with(books: &[Kept], rows: u64, change: &Change) -> u128
     requires counted { replaced_rows (map entry_of books.now) change.now ≤ rows + added_rows change.now }
+    requires fits { Fits (map entry_of books.now) change.now }
     ensures rows { result + replaced_rows (map entry_of books.now) change.now ≡ rows + added_rows change.now }
 {
     match change {
@@ -447,6 +451,9 @@ fn rows_with(books: &[Kept], rows: u64, change: &Change) -> u128
                 Some(standing) => rows_of(standing),
             };
             u128::from(rows) + u128::from(rows_of(pledge)) - u128::from(standing)
+        }
+        Change::ImportBook { rows: imported, .. } => {
+            u128::from(rows) + u128::from(count_rows(imported))
         }
     }
 }
@@ -469,6 +476,7 @@ fn make_change(alloc: Global, books: &mut Vec<Kept>, change: &Change) -> Result<
             number,
             pledge,
         } => put_pledge(books, *book, *number, pledge),
+        Change::ImportBook { book, key, rows } => fill_book(alloc, books, *book, *key, rows),
     }
 }
 

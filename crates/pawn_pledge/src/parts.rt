@@ -1,4 +1,4 @@
-ghost use Rattle.std.specs.Prelude.{◌≡◌, ◌≤◌, ◌↔◌, IsTrue, IfSome, IfNone};
+ghost use Rattle.std.specs.Prelude.{◌≡◌, ◌≤◌, ◌↔◌, IsTrue, IfSome, IfNone, IfOk};
 ghost use Rattle.pawn_terms.specs.Limits.{last_stamp_day};
 ghost use Rattle.pawn_terms.specs.Order.{DoNotFall, last_by};
 ghost use Rattle.pawn_debt.specs.Kept.{IsKept as IsOwed};
@@ -14,6 +14,7 @@ use crate::record::{
 use crate::status::{is_small, status_by};
 use pawn_debt::{Day, Entries, Entry, MOST_PENCE, Sort, Terms, Totals, owing_at, replay_entries};
 use pawn_terms::LAST_STAMP_DAY;
+use std::alloc::AllocError;
 
 /// The record of a pledge as plain fields, be it one that a pledge can have or not.
 #[derive(Drop)]
@@ -23,6 +24,33 @@ pub struct Parts {
     pub secrets: Secrets,
     pub extensions: Extensions,
     pub standing: Standing,
+}
+
+impl Parts {
+    /// Whether a pledge can have these parts: whether they could have come about by commands, and
+    /// keep the limits.
+    pub fn can_stand(&self) -> bool
+        ensures answer { IsTrue result ↔ IsStanding self.now }
+    {
+        judge(self).is_some()
+    }
+
+    /// The same again.
+    pub fn copy(&self) -> Result<Parts, AllocError>
+        ensures same { IfOk result (λ parts. parts ≡ self.now) }
+    {
+        let agreement = self.agreement.copy()?;
+        let entries = self.entries.copy()?;
+        let secrets = self.secrets.copy()?;
+        let extensions = self.extensions.copy()?;
+        Ok(Parts {
+            agreement,
+            entries,
+            secrets,
+            extensions,
+            standing: self.standing,
+        })
+    }
 }
 
 // Whether each extension was agreed in the period as it then was, for a later end, and none after the last change.

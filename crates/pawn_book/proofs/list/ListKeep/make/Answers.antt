@@ -1,6 +1,6 @@
 use Rattle.std.proofs.Common.{◌≡◌, ◌+◌, ◌≤◌, List, arith, map, refl, subst, sym}
 use Rattle.pawn_book.specs.declared.list.Kept.{Kept}
-use Rattle.pawn_book.specs.Listed.{added_rows, entry_of, replaced_rows}
+use Rattle.pawn_book.specs.Listed.{Fits, added_rows, entry_of, replaced_rows}
 use Rattle.pawn_book.proofs.ListSaves.{change_counted, change_fits, change_full, change_saved}
 use Rattle.pawn_book.proofs.list.ListKeep.make.Goals as goal
 
@@ -8,6 +8,7 @@ pub rows_with-rows-requires : goal.rows_with-rows-requires
 rows_with-rows-requires c = record {
   counted = subst (λ (ks : List Kept). replaced_rows (map entry_of ks) c.args.change.now ≤ c.self.inside.rows + added_rows c.args.change.now) (sym c.deref.ensures.value)
       (change_counted _ c.args.self.now _ c.args.change.now c.self.invariant c.self.view_is c.requires.can_save);
+  fits = subst (λ (ks : List Kept). Fits (map entry_of ks) c.args.change.now) (sym c.deref.ensures.value) (change_fits _ c.args.self.now c.args.change.now c.self.view_is c.requires.can_save);
 }
 
 pub returns-then-rows-from : goal.returns-then-rows-from

@@ -1,0 +1,42 @@
+-- Which rows make a book.
+use Rattle.std.specs.Prelude.{◌≡◌, ℕ, ◌+◌, ◌≤◌, List, [], ◌∷◌, false, Some, length, map}
+use Rattle.std.specs.List.{list_any}
+use Rattle.pawn_terms.specs.declared.terms.Rates.{Rates}
+use Rattle.pawn_terms.specs.Order.{DoNotFall}
+use Rattle.pawn_terms.specs.Terms.{IsChecked}
+use Rattle.pawn_pledge.specs.Pledge.{PledgeValue}
+use Rattle.pawn_pledge.specs.Replayable.{Each, IsStanding}
+use Rattle.pawn_book.specs.BookStep.{is_same_text, terms_at}
+use Rattle.pawn_book.specs.Limits.{most_pledges, most_terms}
+
+-- pledges are numbered k, k + 1, ..
+abbrev pub AreNumberedFrom : ℕ → List PledgeValue → Type 0
+AreNumberedFrom k [] = Unit {0}
+AreNumberedFrom k (p ∷ ps) = (p.agreement.number ≡ k) × AreNumberedFrom (k + 1) ps
+
+-- no text stands twice
+abbrev pub AreDistinct : List (List ℕ) → Type 0
+AreDistinct [] = Unit {0}
+AreDistinct (t ∷ ts) = (list_any (is_same_text t) ts ≡ false) × AreDistinct ts
+
+abbrev pub references_of : List PledgeValue → List (List ℕ)
+references_of pledges = map (λ p. p.agreement.opening.reference) pledges
+
+-- the terms of a pledge stand under its version
+abbrev pub IsUnder : List Rates → PledgeValue → Type 0
+IsUnder terms p = terms_at terms p.agreement.version ≡ Some p.agreement.terms
+
+abbrev pub version_of : PledgeValue → ℕ
+version_of p = p.agreement.version
+
+-- the rows of a book that can have come about: its pledges numbered from 1, each of which can have come about, with references
+-- that differ, under terms that stand, the later ones under no earlier terms; no more of them than a book may have
+pub record AreReplayable (terms : List Rates) (pledges : List PledgeValue) : Type 0 where
+  pub numbered : AreNumberedFrom 1 pledges
+  pub standing : Each IsStanding pledges
+  pub references : AreDistinct (references_of pledges)
+  pub under : Each (IsUnder terms) pledges
+  pub versions : DoNotFall version_of 0 pledges
+  pub checked : Each IsChecked terms
+  pub few_terms : length terms ≤ most_terms
+  pub few_pledges : length pledges ≤ most_pledges

@@ -1,0 +1,19 @@
+-- What the types of a record's texts and secrets keep.
+use Rattle.std.specs.Prelude.{ℕ, ◌^◌, ◌<◌, List}
+use Rattle.std.specs.Str.{IsUtf8}
+use Rattle.pawn_pledge.specs.declared.record.Issued.{Issued}
+use Rattle.pawn_pledge.specs.Pledge.{PledgeValue}
+use Rattle.pawn_pledge.specs.Replayable.{Each}
+
+-- a key or a secret: a word of 128 bits
+abbrev pub IsWord : ℕ → Type 0
+IsWord n = n < 2 ^ 128
+
+abbrev pub AreWords : List Issued → Type 0
+AreWords issued = Each (λ i. IsWord i.secret) issued
+
+-- the texts of a pledge are UTF-8, and its secrets are words
+pub record HasTextsAndWords (p : PledgeValue) : Type 0 where
+  pub reference : IsUtf8 p.agreement.opening.reference
+  pub article : IsUtf8 p.agreement.opening.article
+  pub secrets : AreWords p.secrets

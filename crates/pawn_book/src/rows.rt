@@ -1,0 +1,96 @@
+//! The rows of a book.
+ghost use Rattle.std.specs.Prelude.{◌≡◌, IfOk};
+ghost use Rattle.pawn_pledge.specs.Replayable.{Each};
+ghost use Rattle.pawn_book.specs.Written.{HasTextsAndWords};
+
+use pawn_pledge::{Parts, Rates, Rows};
+use std::alloc::AllocError;
+use std::marker::Model;
+
+/// The records of a book's pledges, by number, be they ones that pledges can have or not. A clause
+/// sees their list.
+#[derive(Drop)]
+pub struct PledgeRows {
+    items: Vec<Parts>,
+}
+
+impl Model for PledgeRows {
+    ghost use Rattle.std.specs.Prelude.{List};
+    ghost use Rattle.pawn_pledge.specs.Pledge.{PledgeValue};
+    ghost use Rattle.pawn_pledge.specs.Replayable.{Each};
+    ghost use Rattle.pawn_book.specs.Written.{HasTextsAndWords};
+
+    ghost Value = { List PledgeValue };
+
+    ghost view = { λ rows. rows.items.items };
+
+    ghost invariant = { λ rows. Each HasTextsAndWords rows.items.items };
+}
+
+impl PledgeRows {
+    /// The records of a list.
+    pub fn from_vec(items: Vec<Parts>) -> PledgeRows
+        ensures value { result ≡ items.items }
+    {
+        know_records(&items);
+        PledgeRows { items }
+    }
+
+    /// The records as a slice.
+    pub fn as_slice(&self) -> &[Parts]
+        ensures value { result.now ≡ self.now }
+        ensures written { Each HasTextsAndWords self.now }
+    {
+        self.items.as_slice()
+    }
+
+    /// The same records again.
+    pub fn copy(&self) -> Result<PledgeRows, AllocError>
+        ensures same { IfOk result (λ rows. rows ≡ self.now) }
+    {
+        let mut items = Vec::new(*self.items.allocator());
+        for parts in &self.items {
+            let copy = parts.copy()?;
+            items.push(copy)?;
+        }
+        Ok(PledgeRows { items })
+    }
+}
+
+// The texts of records are UTF-8, and their secrets words: whoever reads them knows.
+fn know_records(records: &[Parts])
+    ensures written { Each HasTextsAndWords records.now }
+{
+    for parts in records {
+        know_record(parts);
+    }
+}
+
+fn know_record(parts: &Parts)
+    ensures written { HasTextsAndWords parts.now }
+{
+    let _ = parts.agreement.opening.reference.as_str();
+    let _ = parts.agreement.opening.article.as_str();
+    for issued in parts.secrets.as_slice() {
+        let _word = issued.secret.word();
+    }
+}
+
+/// The rows of a book, be they ones that a book can have or not: the three numbers of each version
+/// of its terms, version 1 first, and its pledges.
+#[derive(Drop)]
+pub struct BookRows {
+    pub terms: Rows<Rates>,
+    pub pledges: PledgeRows,
+}
+
+impl BookRows {
+    /// The same rows again.
+    pub fn copy(&self) -> Result<BookRows, AllocError>
+        ensures same { IfOk result (λ rows. rows ≡ self.now) }
+    {
+        let terms = self.terms.copy()?;
+        let pledges = self.pledges.copy()?;
+        Ok(BookRows { terms, pledges })
+    }
+}
