@@ -19,9 +19,9 @@ use Rattle.pawn_book.specs.declared.change.Change.TheVariants.{PutPledge}
 use Rattle.pawn_book.specs.declared.change.Planned.{Planned}
 use Rattle.pawn_book.specs.declared.refusal.Refusal.{Refusal}
 use Rattle.pawn_book.specs.declared.reply.Reply.{Reply}
-use Rattle.pawn_book.specs.BookStep.{BookValue, Makes, Outcome, Refuses, Says, bearer_commands, broker_commands, changed_book, is_live, judged_outcome, live_at, only_live, pledge_from, pledge_in, put_from, terms_at, within_window}
+use Rattle.pawn_book.specs.BookStep.{BookValue, Makes, Outcome, Refuses, Says, bearer_commands, broker_commands, changed_book, is_live, judged_outcome, live_at, only_live, pledge_from, pledge_in, put_from, within_window}
 use Rattle.pawn_book.specs.HostStep.{Host, with_book}
-use Rattle.pawn_book.specs.Rows.{AreDistinct, IsUnder}
+use Rattle.pawn_book.specs.Rows.{AreDistinct, IsUnder, terms_at}
 use Rattle.pawn_book.specs.Sound.{AreSound, AreWords, HasTextsAndWords, IsSound, IsSoundBook, IsWord}
 use Rattle.pawn_book.specs.Changes.{CanSave, Continues, book_number, with_change}
 use Rattle.pawn_book.specs.Plans.{IsOutcome, Plans, outcome_of}

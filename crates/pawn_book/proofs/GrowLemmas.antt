@@ -12,19 +12,22 @@ use Rattle.pawn_pledge.specs.declared.command.Done.{Done}
 use Rattle.pawn_pledge.specs.declared.receipt.Receipt.{Receipt}
 use Rattle.pawn_book.specs.declared.request.Caller.{Caller}
 use Rattle.pawn_book.specs.declared.request.Caller.TheVariants.{Operator, Broker, Bearer}
-use Rattle.pawn_book.specs.declared.request.BrokerRequest.TheVariants.{PutTerms, TakePledge, OnPledge, Show, SheetOf}
+use Rattle.pawn_book.specs.declared.request.BrokerRequest.TheVariants.{PutTerms, TakePledge, OnPledge, Import, Show, SheetOf}
 use Rattle.pawn_book.specs.declared.request.BearerRequest.TheVariants.{Present, OnPledge as OnReceipt}
 use Rattle.pawn_book.specs.declared.request.NewTerms.{NewTerms}
 use Rattle.pawn_book.specs.declared.refusal.Refusal.{Refusal}
-use Rattle.pawn_book.specs.declared.refusal.Refusal.TheVariants.{NoSuchReceipt, WindowFull}
-use Rattle.pawn_book.specs.declared.reply.Reply.TheVariants.{TermsPut, Opened}
-use Rattle.pawn_book.specs.declared.change.Change.TheVariants.{AddTerms, PutPledge}
-use Rattle.pawn_book.specs.BookStep.{BookValue, Shown, Outcome, Refuses, Says, Makes, are_same_rates, are_unknown, bearer_commands, book_after, broker_commands, confirmed_booking, is_window_full, judged_outcome, show_pledge, within_window, book_step, first_receipt, book_head, present_receipts, is_same_book, is_same_opening, make_or_refuse, newest, next_terms, pledge_from, put_from, put_terms, take_pledge, next_pledge, terms_at, with_reference, live_at, pledge_in}
+use Rattle.pawn_book.specs.declared.refusal.Refusal.TheVariants.{BookNotEmpty, NoSuchReceipt, WindowFull}
+use Rattle.pawn_book.specs.declared.reply.Reply.TheVariants.{TermsPut, BookFilled, Opened}
+use Rattle.pawn_book.specs.declared.change.Change.TheVariants.{AddTerms, PutPledge, ImportBook}
+use Rattle.pawn_book.specs.declared.change.Imported.{Imported}
+use Rattle.pawn_book.specs.declared.rows.BookRows.{BookRows}
+use Rattle.pawn_book.specs.BookStep.{BookValue, Shown, Outcome, Refuses, Says, Makes, are_same_rates, are_unknown, bearer_commands, book_after, broker_commands, confirmed_booking, filled_book, import_rows, is_empty, is_window_full, judged_outcome, show_pledge, within_window, book_step, first_receipt, book_head, present_receipts, is_same_book, is_same_opening, make_or_refuse, newest, next_terms, pledge_from, put_from, put_terms, take_pledge, next_pledge, with_reference, live_at, pledge_in}
+use Rattle.pawn_book.specs.Rows.{terms_at}
 use Rattle.pawn_book.specs.Laws.{book_run}
-use Rattle.pawn_book.proofs.Sounds.{put_next}
+use Rattle.pawn_book.proofs.Sounds.{absurd_none, put_next}
 use Rattle.pawn_book.proofs.KeptLemmas.{AreKept, are_kept_on, are_kept_push, are_kept_put, are_kept_same, kept_moved}
 use Rattle.pawn_book.proofs.CommandPlans.{live_is}
-use Rattle.pawn_book.proofs.Plans.{taken_is}
+use Rattle.pawn_book.proofs.Plans.{empty_lists, taken_is, without_lists}
 
 -- what stays and what grows in a book
 pub record Grown (old new : BookValue) : Type 0 where
@@ -33,9 +36,10 @@ pub record Grown (old new : BookValue) : Type 0 where
   pub capacity : new.capacity ≡ old.capacity
   pub terms : (more : List Rates) × (new.terms ≡ old.terms ++ more)
   pub pledges : AreKept old.pledges new.pledges
+  pub imported : (imported : Imported) → old.imported ≡ Some imported → new.imported ≡ Some imported
 
 pub grown_same : (book : BookValue) → Grown book book
-grown_same book = record { key = refl; name = refl; capacity = refl; terms = ([], sym (append-nil book.terms)); pledges = are_kept_same book.pledges }
+grown_same book = record { key = refl; name = refl; capacity = refl; terms = ([], sym (append-nil book.terms)); pledges = are_kept_same book.pledges; imported = λ imported is. is }
 
 grown_on : (a b c : BookValue) → Grown a b → Grown b c → Grown a c
 grown_on a b c f s = record {
@@ -44,6 +48,7 @@ grown_on a b c f s = record {
   capacity = s.capacity ∙ f.capacity;
   terms = (f.terms.0 ++ s.terms.0, s.terms.1 ∙ ap (λ ts. ts ++ s.terms.0) f.terms.1 ∙ append_assoc a.terms f.terms.0 s.terms.0);
   pledges = are_kept_on a.pledges b.pledges c.pledges f.pledges s.pledges;
+  imported = λ imported is. s.imported imported (f.imported imported is);
 }
 
 abbrev pub GrowsTo : BookValue → Option BookValue → Type 0
@@ -65,7 +70,7 @@ put_terms_grows book b new None = from (next_terms (length book.terms) new)
     from (Ok terms) = (
       record book { terms = book.terms ++ terms ∷ [] },
       refl,
-      record { key = refl; name = refl; capacity = refl; terms = (terms ∷ [], refl); pledges = are_kept_same book.pledges },
+      record { key = refl; name = refl; capacity = refl; terms = (terms ∷ [], refl); pledges = are_kept_same book.pledges; imported = λ imported is. is },
     )
 
 -- the list after the next pledge
@@ -85,7 +90,7 @@ take_pledge_grows book b opening stamp None = from (next_pledge (book_head book)
     from (Ok p) is = (
       record book { pledges = put_from 1 book.pledges p.agreement.number p },
       refl,
-      record { key = refl; name = refl; capacity = refl; terms = ([], sym (append-nil book.terms)); pledges = subst (AreKept book.pledges) (sym (next_pledges book opening stamp p is)) (are_kept_push book.pledges (p ∷ [])) },
+      record { key = refl; name = refl; capacity = refl; terms = ([], sym (append-nil book.terms)); pledges = subst (AreKept book.pledges) (sym (next_pledges book opening stamp p is)) (are_kept_push book.pledges (p ∷ [])); imported = λ imported is. is },
     )
 
 present_stays : (book : BookValue) (stamp : Stamp) (shown : List (Option PledgeValue)) → GrowsTo book (book_after (Some book) (present_receipts stamp shown))
@@ -100,6 +105,7 @@ put_grows book n p q stamp command done at step = record {
   capacity = refl;
   terms = ([], sym (append-nil book.terms));
   pledges = are_kept_put 1 book.pledges n p q at (kept_moved p q stamp command done step);
+  imported = λ imported is. is;
 }
 
 judged_grows : (book : BookValue) (b n : ℕ) (p : PledgeValue) (stamp : Stamp) (command : Command) → pledge_from 1 book.pledges n ≡ Some p
@@ -131,6 +137,32 @@ shown_stays : (book : BookValue) (stamp : Stamp) (o : Option PledgeValue) → Gr
 shown_stays book stamp None = stays book
 shown_stays book stamp (Some p) = stays book
 
+-- a book that an import fills
+filled_grows : (book : BookValue) (key : ℕ) (rows : BookRows) → book.imported ≡ None → Grown (record book { terms = []; pledges = [] }) (filled_book book key rows)
+filled_grows book key rows none = record {
+  key = refl;
+  name = refl;
+  capacity = refl;
+  terms = (rows.terms, refl);
+  pledges = are_kept_push [] rows.pledges;
+  imported = λ imported is. absurd_none (sym none ∙ is);
+}
+
+import_grows : (book : BookValue) (b key : ℕ) (rows : BookRows) (o : Option Imported) → book.imported ≡ o
+    → GrowsTo book (book_after (Some book) (import_rows (book_head book) b key rows o))
+import_grows book b key rows (Some imported) is = grows_by book (imported.key == key) _ _ (stays book) (stays book)
+import_grows book b key rows None none = from (is_empty (book_head book)) refl
+  where
+    from : (v : Bool) → is_empty (book_head book) ≡ v
+        → GrowsTo book (book_after (Some book) (if v then Makes (ImportBook b key rows) (BookFilled (length rows.pledges)) else Refuses BookNotEmpty))
+    from false is = stays book
+    from true is =
+        let empty = empty_lists book is in (
+          filled_book book key rows,
+          refl,
+          subst (λ (old : BookValue). Grown old (filled_book book key rows)) (sym (without_lists book empty.0 empty.1)) (filled_grows book key rows none),
+        )
+
 -- a book grows with each request
 step_grows : (book : BookValue) (operator b : ℕ) (stamp : Stamp) (caller : Caller) → GrowsTo book (book_after (Some book) (book_step (Some book) operator b stamp caller))
 step_grows book operator b stamp (Operator key new) =
@@ -141,6 +173,8 @@ step_grows book operator b stamp (Broker key (TakePledge opening)) =
     grows_by book (book.key == key) _ _ (take_pledge_grows book b opening stamp (with_reference book.pledges opening.reference)) (stays book)
 step_grows book operator b stamp (Broker key (OnPledge n command)) =
     grows_by book (book.key == key) _ _ (number_grows book b n stamp command (pledge_from 1 book.pledges n) refl) (stays book)
+step_grows book operator b stamp (Broker key (Import importing rows)) =
+    grows_by book (book.key == key) _ _ (import_grows book b importing rows book.imported refl) (stays book)
 step_grows book operator b stamp (Broker key (Show n)) = grows_by book (book.key == key) _ _ (shown_stays book stamp (pledge_from 1 book.pledges n)) (stays book)
 step_grows book operator b stamp (Broker key (SheetOf day)) = grows_by book (book.key == key) _ _ (stays book) (stays book)
 step_grows book operator b stamp (Bearer (Present receipts)) = present_stays book stamp (map (live_at (pledge_in (Some book))) receipts)

@@ -9,7 +9,8 @@ use Rattle.pawn_pledge.specs.Pledge.{PledgeValue}
 use Rattle.pawn_pledge.specs.Step.{Changed, pledge_step}
 use Rattle.pawn_pledge.proofs.Growth.{grows-moved, grows-same, grows-then}
 use Rattle.pawn_pledge.proofs.Steps.{agreement_stays, lists_of_step}
-use Rattle.pawn_book.specs.BookStep.{is_same_text, pledge_from, put_from, with_reference}
+use Rattle.pawn_book.specs.BookStep.{pledge_from, put_from, with_reference}
+use Rattle.pawn_book.specs.Rows.{is_same_text}
 use Rattle.pawn_book.specs.Changes.{Continues}
 use Rattle.pawn_book.proofs.Sounds.{absurd_none, some_is}
 

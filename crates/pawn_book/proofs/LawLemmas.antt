@@ -24,21 +24,22 @@ use Rattle.pawn_pledge.proofs.Steps.{changes_differ}
 use Rattle.pawn_book.specs.declared.request.Caller.{Caller}
 use Rattle.pawn_book.specs.declared.request.NewTerms.{NewTerms}
 use Rattle.pawn_book.specs.declared.refusal.Refusal.{Refusal}
-use Rattle.pawn_book.specs.declared.refusal.Refusal.TheVariants.{BookTaken, NoSuchBook, NotOperator, RefTaken, TermsFull, TermsSeq}
+use Rattle.pawn_book.specs.declared.refusal.Refusal.TheVariants.{BookNotEmpty, BookTaken, NoSuchBook, NotOperator, RefTaken, TermsFull, TermsSeq}
 use Rattle.pawn_book.specs.declared.reply.Reply.{Reply}
-use Rattle.pawn_book.specs.declared.reply.Reply.TheVariants.{BookMade, TermsPut, Opened}
+use Rattle.pawn_book.specs.declared.reply.Reply.TheVariants.{BookMade, TermsPut, BookFilled, Opened}
 use Rattle.pawn_book.specs.declared.change.Change.{Change}
-use Rattle.pawn_book.specs.declared.change.Change.TheVariants.{AddTerms, PutPledge}
-use Rattle.pawn_book.specs.BookStep.{BookValue, Told, Refuses, Says, are_same_rates, first_secret, is_live, only_live, book_step, changed_book, make_book, first_receipt, book_head, is_same_end, is_same_book, is_same_flag, is_same_kind, is_same_opening, is_same_text, made_book, newest, next_terms, pledge_from, put_from, put_terms, take_pledge, terms_at, with_reference, under_terms}
+use Rattle.pawn_book.specs.declared.change.Change.TheVariants.{AddTerms, PutPledge, ImportBook}
+use Rattle.pawn_book.specs.BookStep.{BookValue, Told, Refuses, Says, are_same_rates, first_secret, is_live, only_live, book_step, changed_book, filled_book, import_rows, make_book, first_receipt, book_head, is_same_end, is_same_book, is_same_flag, is_same_kind, is_same_opening, made_book, newest, next_terms, pledge_from, put_from, put_terms, take_pledge, with_reference, under_terms}
+use Rattle.pawn_book.specs.Rows.{is_same_text, terms_at}
 use Rattle.pawn_book.specs.declared.request.Caller.TheVariants.{Operator, Broker, Bearer}
-use Rattle.pawn_book.specs.declared.request.BrokerRequest.TheVariants.{PutTerms, TakePledge, OnPledge, Show, SheetOf}
+use Rattle.pawn_book.specs.declared.request.BrokerRequest.TheVariants.{PutTerms, TakePledge, OnPledge, Import, Show, SheetOf}
 use Rattle.pawn_book.specs.Laws.{Asks, ChangesDiffer, IsMaking, RepeatsActOnce, book_run}
 use Rattle.pawn_book.proofs.Sounds.{absurd_none, each_at, some_is}
 use Rattle.pawn_book.specs.Changes.{Continues}
 use Rattle.pawn_book.proofs.KeptLemmas.{number_kept, put_there, reference_kept}
 use Rattle.pawn_book.proofs.Plans.{next_is, not_standing, past_row, taken_is}
 use Rattle.pawn_book.proofs.GrowLemmas.{Grown, grown_same, next_pledges, run_grows}
-use Rattle.pawn_book.proofs.MadeLemmas.{BookIs, CommandIs, DidOn, MadeBy, PledgeIs, TermsAre, made_by}
+use Rattle.pawn_book.proofs.MadeLemmas.{BookIs, CommandIs, DidOn, MadeBy, PledgeIs, RowsAre, TermsAre, made_by}
 
 -- a text is itself
 text_same : (xs : List ℕ) → is_same_text xs xs ≡ true
@@ -69,6 +70,10 @@ change_differs before operator b stamp caller change reply is same = from (made_
         let after : Some (record book { pledges = put_from 1 book.pledges p.agreement.number p }) ≡ Some book =
         ap (λ o. changed_book o (PutPledge b p.agreement.number p)) (sym stands) ∙ ap (changed_book before) (sym makes) ∙ same ∙ stands in
         longer book.pledges p (sym (next_pledges book opening stamp p answer) ∙ ap (λ (o : Option BookValue). (unwrap_or o book).pledges) after)
+    from (RowsAre key importing rows book asks stands passes unfilled makes says) =
+        let after : Some (filled_book book importing rows) ≡ Some book =
+        ap (λ o. changed_book o (ImportBook b importing rows)) (sym stands) ∙ ap (changed_book before) (sym makes) ∙ same ∙ stands in
+        absurd_none (sym unfilled.imported ∙ sym (ap (λ (o : Option BookValue). (unwrap_or o book).imported) after))
     from (CommandIs book n command stands asks did) =
         let after : Some (record book { pledges = put_from 1 book.pledges n did.next }) ≡ Some book =
         ap (λ o. changed_book o (PutPledge b n did.next)) (sym stands) ∙ ap (changed_book before) (sym did.makes) ∙ same ∙ stands in
@@ -154,6 +159,7 @@ asks_not_making (Operator key new) n command asks making = asks
 asks_not_making (Broker key (PutTerms new)) n command asks making = asks
 asks_not_making (Broker key (TakePledge opening)) n command asks making = asks
 asks_not_making (Broker key (OnPledge m own)) n command asks making = making
+asks_not_making (Broker key (Import importing rows)) n command asks making = asks
 asks_not_making (Broker key (Show m)) n command asks making = asks
 asks_not_making (Broker key (SheetOf day)) n command asks making = asks
 asks_not_making (Bearer asked) n command asks making = making
@@ -206,6 +212,14 @@ repeat_told before operator b stamp again caller change reply later making is = 
         ∙ ap (take_pledge next b opening again) found.1
         ∙ ap (λ v. if v then Says (Told (Opened (first_receipt q))) else Refuses RefTaken) (opening_kept p q opening found.2 ∙ same)
         ∙ ap (λ r. Says (Told (Opened r))) (first_kept p q taken.first.0 taken.first.1 found.2)
+        ∙ ap (λ r. Says (Told r)) (sym says))
+    from (RowsAre key importing rows book asks stands passes unfilled makes says) =
+        told (filled_book book importing rows) (ap (changed_book before) makes ∙ ap (λ o. changed_book o (ImportBook b importing rows)) stands) (λ next grown.
+        let own = grown.imported (record { key = importing; pledges = length rows.pledges }) refl in
+        ap (book_step (Some next) operator b again) asks
+        ∙ ap (λ v. if v then import_rows (book_head next) b importing rows next.imported else Refuses NoSuchBook) (opens book next key grown.key passes)
+        ∙ ap (import_rows (book_head next) b importing rows) own
+        ∙ ap (λ v. if v then Says (Told (BookFilled (length rows.pledges))) else Refuses BookNotEmpty) (number_same importing)
         ∙ ap (λ r. Says (Told r)) (sym says))
     from (CommandIs book n command stands asks did) = absurd (asks_not_making caller n command asks making)
 

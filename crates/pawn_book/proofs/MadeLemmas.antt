@@ -11,19 +11,24 @@ use Rattle.pawn_pledge.specs.declared.command.Done.{Done}
 use Rattle.pawn_pledge.specs.declared.receipt.Receipt.{Receipt}
 use Rattle.pawn_book.specs.declared.request.Caller.{Caller}
 use Rattle.pawn_book.specs.declared.request.Caller.TheVariants.{Operator, Broker, Bearer}
-use Rattle.pawn_book.specs.declared.request.BrokerRequest.TheVariants.{PutTerms, TakePledge, OnPledge, Show, SheetOf}
+use Rattle.pawn_book.specs.declared.request.BrokerRequest.TheVariants.{PutTerms, TakePledge, OnPledge, Import, Show, SheetOf}
 use Rattle.pawn_book.specs.declared.request.BearerRequest.TheVariants.{Present, OnPledge as OnReceipt}
 use Rattle.pawn_book.specs.declared.request.NewBook.{NewBook}
 use Rattle.pawn_book.specs.declared.request.NewTerms.{NewTerms}
 use Rattle.pawn_book.specs.declared.refusal.Refusal.{Refusal}
 use Rattle.pawn_book.specs.declared.refusal.Refusal.TheVariants.{NoSuchReceipt, WindowFull}
 use Rattle.pawn_book.specs.declared.reply.Reply.{Reply}
-use Rattle.pawn_book.specs.declared.reply.Reply.TheVariants.{BookMade, TermsPut, Opened, Commanded}
+use Rattle.pawn_book.specs.declared.reply.Reply.TheVariants.{BookMade, TermsPut, BookFilled, Opened, Commanded}
 use Rattle.pawn_book.specs.declared.change.Change.{Change}
-use Rattle.pawn_book.specs.declared.change.Change.TheVariants.{MakeBook, AddTerms, PutPledge}
-use Rattle.pawn_book.specs.BookStep.{BookValue, Out, Shown, Outcome, Refuses, Says, Makes, are_same_rates, are_unknown, bearer_commands, broker_commands, confirmed_booking, is_window_full, judged_outcome, show_pledge, within_window, book_step, first_receipt, book_head, present_receipts, is_same_book, is_same_opening, make_or_refuse, newest, next_terms, pledge_from, put_terms, take_pledge, next_pledge, terms_at, with_reference, live_at, pledge_in}
+use Rattle.pawn_book.specs.declared.change.Change.TheVariants.{MakeBook, AddTerms, PutPledge, ImportBook}
+use Rattle.pawn_book.specs.declared.change.Imported.{Imported}
+use Rattle.pawn_book.specs.declared.rows.BookRows.{BookRows}
+use Rattle.pawn_book.specs.BookStep.{BookValue, Out, Shown, Outcome, Refuses, Says, Makes, are_same_rates, are_unknown, bearer_commands, broker_commands, confirmed_booking, import_rows, is_empty, is_window_full, judged_outcome, show_pledge, within_window, book_step, first_receipt, book_head, present_receipts, is_same_book, is_same_opening, make_or_refuse, newest, next_terms, pledge_from, put_terms, take_pledge, next_pledge, with_reference, live_at, pledge_in}
+use Rattle.pawn_book.specs.Rows.{terms_at}
+use Rattle.pawn_book.specs.Changes.{IsUnfilled}
 use Rattle.pawn_book.specs.Laws.{Asks}
 use Rattle.pawn_book.proofs.CommandPlans.{live_is}
+use Rattle.pawn_book.proofs.Plans.{empty_lists}
 
 -- what an outcome makes
 abbrev pub change_in : Outcome → Change → Change
@@ -56,6 +61,8 @@ pub data MadeBy (before : Option BookValue) (operator b : ℕ) (stamp : Stamp) (
   PledgeIs : (key : ℕ) (opening : Opening) (book : BookValue) (p : PledgeValue) → caller ≡ Broker key (TakePledge opening) → before ≡ Some book → (book.key == key) ≡ true
       → with_reference book.pledges opening.reference ≡ None → next_pledge (book_head book) opening stamp (newest book.terms) ≡ Ok p
       → change ≡ PutPledge b p.agreement.number p → reply ≡ Opened (first_receipt p) → MadeBy before operator b stamp caller change reply
+  RowsAre : (key importing : ℕ) (rows : BookRows) (book : BookValue) → caller ≡ Broker key (Import importing rows) → before ≡ Some book → (book.key == key) ≡ true
+      → IsUnfilled book → change ≡ ImportBook b importing rows → reply ≡ BookFilled (length rows.pledges) → MadeBy before operator b stamp caller change reply
   CommandIs : (book : BookValue) (n : ℕ) (command : Command) → before ≡ Some book → Asks caller n command → DidOn book b n stamp command change reply
       → MadeBy before operator b stamp caller change reply
 
@@ -148,6 +155,17 @@ made_by (Some book) operator b stamp (Broker key (OnPledge n command)) change re
     let passed = if_makes (book.key == key) _ _ change reply is in
     CommandIs book n command refl (refl, refl)
     (number_made book b n stamp command (pledge_from 1 book.pledges n) change reply refl passed.1)
+made_by (Some book) operator b stamp (Broker key (Import importing rows)) change reply is =
+    let passed = if_makes (book.key == key) _ _ change reply is in from book.imported refl passed.1
+  where
+    from : (o : Option Imported) → book.imported ≡ o → import_rows (book_head book) b importing rows o ≡ Makes change reply
+        → MadeBy (Some book) operator b stamp (Broker key (Import importing rows)) change reply
+    from (Some imported) at made_is = told_again (imported.key == importing) _ _ change reply made_is
+    from None at made_is =
+        let filled = if_makes (is_empty (book_head book)) _ _ change reply made_is in
+        let empty = empty_lists book filled.0 in
+        RowsAre key importing rows book refl refl (if_makes (book.key == key) _ _ change reply is).0
+        (record { terms = empty.0; pledges = empty.1; imported = at }) (same_change _ change _ reply filled.1) (same_reply _ change _ reply filled.1)
 made_by (Some book) operator b stamp (Broker key (Show n)) change reply is =
     let passed = if_makes (book.key == key) _ _ change reply is in shown_makes stamp (pledge_from 1 book.pledges n) change reply passed.1
 made_by (Some book) operator b stamp (Broker key (SheetOf day)) change reply is =

@@ -4,7 +4,8 @@ use Rattle.std.specs.Prelude.{if◌then◌else◌, ◌==◌, true, false}
 use Rattle.std.proofs.lemmas.Bool.Decides.{nat_tests}
 use Rattle.pawn_pledge.specs.Pledge.{PledgeValue}
 use Rattle.std.proofs.lemmas.List.{drop_more, drop_all}
-use Rattle.pawn_book.specs.BookStep.{is_same_text, pledge_from, put_from, with_reference}
+use Rattle.pawn_book.specs.BookStep.{pledge_from, put_from, with_reference}
+use Rattle.pawn_book.specs.Rows.{is_same_text}
 
 pub pledge_below : (k : ℕ) (ps : List PledgeValue) (n : ℕ) → n < k → pledge_from k ps n ≡ None
 pledge_below k [] n lt = refl

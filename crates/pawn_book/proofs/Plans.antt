@@ -1,6 +1,6 @@
 -- A plan by a keeper's answers is the book's step.
 use Rattle.std.proofs.Common.{◌≡◌, ◌≢◌, ℕ, ◌+◌, ◌<◌, ◌≤◌, zero, suc, List, [], ◌∷◌, ◌++◌, length, Some, None, Ok, Err, refl, ◌∙◌, ap, sym, subst, arith, inl}
-use Rattle.std.specs.Prelude.{if◌then◌else◌, Option, Result, ◌==◌, Bool, true, false, nat_lt, nat_le, option_map}
+use Rattle.std.specs.Prelude.{if◌then◌else◌, Option, Result, ◌==◌, Bool, true, false, nat_lt, nat_le, option_map, ◌&&◌, IfErr, IfOk}
 use Rattle.std.specs.FinMap.{get}
 use Rattle.std.specs.Str.{IsUtf8}
 use Rattle.std.proofs.lemmas.Bool.Decides.{nat_tests}
@@ -12,7 +12,7 @@ use Rattle.pawn_pledge.specs.Pledge.{PledgeValue}
 use Rattle.pawn_debt.specs.Answers.{is_bad_amount}
 use Rattle.pawn_debt.specs.Due.{credit_of}
 use Rattle.pawn_pledge.specs.declared.refusal.Refusal.{Refusal as PledgeRefusal}
-use Rattle.pawn_pledge.specs.Replayable.{IsStanding}
+use Rattle.pawn_pledge.specs.Replayable.{Each, IsStanding}
 use Rattle.pawn_pledge.specs.Text.{IsText}
 use Rattle.pawn_pledge.specs.Step.{pledge_start}
 use Rattle.std.specs.Result.{result_unwrap_or}
@@ -20,21 +20,23 @@ use Rattle.pawn_pledge.specs.declared.record.Opening.{Opening}
 use Rattle.pawn_pledge.specs.declared.command.Stamp.{Stamp}
 use Rattle.pawn_book.specs.declared.request.NewBook.{NewBook}
 use Rattle.pawn_book.specs.declared.request.NewTerms.{NewTerms}
-use Rattle.pawn_book.specs.declared.reply.Reply.TheVariants.{BookMade, TermsPut, Opened}
+use Rattle.pawn_book.specs.declared.reply.Reply.TheVariants.{BookMade, TermsPut, BookFilled, Opened}
 use Rattle.pawn_book.specs.declared.refusal.Refusal.{Refusal}
-use Rattle.pawn_book.specs.declared.refusal.Refusal.TheVariants.{PledgesFull, TermsFull, TermsSeq}
+use Rattle.pawn_book.specs.declared.refusal.Refusal.TheVariants.{BookNotEmpty, Memory, PledgesFull, TermsFull, TermsSeq}
 use Rattle.pawn_book.specs.declared.change.Change.{Change}
-use Rattle.pawn_book.specs.declared.change.Change.TheVariants.{MakeBook, AddTerms, PutPledge}
+use Rattle.pawn_book.specs.declared.change.Change.TheVariants.{MakeBook, AddTerms, PutPledge, ImportBook}
+use Rattle.pawn_book.specs.declared.rows.BookRows.{BookRows}
 use Rattle.pawn_book.specs.declared.change.BookHead.{BookHead}
-use Rattle.pawn_book.specs.BookStep.{BookValue, Makes, make_book, make_or_refuse, made_book, next_terms, put_terms, take_pledge, next_pledge, under_pledge, with_room, terms_at, newest, with_reference, book_head, first_receipt, changed_book, pledge_from, pledge_in, put_from, is_same_text}
+use Rattle.pawn_book.specs.declared.change.Planned.{Planned}
+use Rattle.pawn_book.specs.BookStep.{BookValue, Outcome, Makes, Refuses, import_rows, is_empty, make_book, make_or_refuse, made_book, next_terms, put_terms, take_pledge, next_pledge, under_pledge, with_room, newest, with_reference, book_head, first_receipt, changed_book, filled_book, pledge_from, pledge_in, put_from}
 use Rattle.pawn_book.specs.HostStep.{Host, with_book}
 use Rattle.pawn_book.specs.Limits.{IsCapacity, most_name_bytes, most_pledges, most_terms}
-use Rattle.pawn_book.specs.Rows.{AreNumberedFrom}
+use Rattle.pawn_book.specs.Rows.{AreNumberedFrom, AreReplayable, terms_at, is_same_text}
 use Rattle.pawn_book.specs.Sound.{AreSound, AreWords, HasTextsAndWords, IsSound, IsWord}
-use Rattle.pawn_book.specs.Changes.{book_number, with_change}
+use Rattle.pawn_book.specs.Changes.{CanSave, IsUnfilled, book_number, with_change}
 use Rattle.pawn_book.specs.Keeping.{number_of, pledges_of, terms_of}
 use Rattle.pawn_book.specs.Plans.{Plans}
-use Rattle.pawn_book.proofs.Sounds.{IsNext, absurd_none, some_is, sound_made, sound_next, sound_terms, sound_with}
+use Rattle.pawn_book.proofs.Sounds.{IsNext, absurd_none, some_is, sound_filled, sound_made, sound_next, sound_terms, sound_with}
 
 -- the book of a change, set in the host
 pub changed_is : (h : Host) (b : ℕ) (change : Change) (book : BookValue) → book_number change ≡ b → changed_book (get h.books b) change ≡ Some book → with_change h change ≡ with_book h b (Some book)
@@ -50,6 +52,52 @@ pub book_plans : (h : Host) (b : ℕ) (new : NewBook) → IsNumber b → IsWord 
     → Plans h b (make_book (get h.books b) b new) (Ok (record { change = Some (MakeBook b new); reply = BookMade b }))
 book_plans h b new number key utf8 name capacity sound none =
     (ap (λ o. make_book o b new) none, (refl, record { follows = none; sound = sound_with h b (made_book new) sound.books (number, sound_made new key utf8 name capacity) }))
+
+-- a list of no length
+no_elements : {A : Type 0} (xs : List A) → (length xs == 0) ≡ true → xs ≡ []
+no_elements [] is = refl
+no_elements (x ∷ xs) is = let none : length (x ∷ xs) ≡ 0 = grind (arith, nat_tests, is) in absurd (omega (arith, none))
+
+both_are : (a b : Bool) → (a && b) ≡ true → (a ≡ true) × (b ≡ true)
+both_are true true is = (refl, refl)
+both_are true false is = cc is
+both_are false b is = cc is
+
+-- the lists of an empty book
+pub empty_lists : (book : BookValue) → is_empty (book_head book) ≡ true → (book.terms ≡ []) × (book.pledges ≡ [])
+empty_lists book is = let each = both_are (length book.terms == 0) (length book.pledges == 0) is in (no_elements book.terms each.0, no_elements book.pledges each.1)
+
+pub without_lists : (book : BookValue) → book.terms ≡ [] → book.pledges ≡ [] → book ≡ record book { terms = []; pledges = [] }
+without_lists book no_terms no_pledges = ap (λ ts. record book { terms = ts }) no_terms ∙ ap (λ ps. record book { terms = []; pledges = ps }) no_pledges
+
+-- a book is filled
+pub rows_plans : (h : Host) (b key : ℕ) (at : BookValue) (rows : BookRows) → IsSound h → get h.books b ≡ Some at → IsUnfilled at → IsWord key
+    → AreReplayable rows.terms rows.pledges → Each HasTextsAndWords rows.pledges → CanSave h (ImportBook b key rows)
+rows_plans h b key at rows sound is unfilled word replayable written =
+    let book = filled_book at key rows in
+    let same : with_change h (ImportBook b key rows) ≡ with_book h b (Some book) =
+    changed_is h b (ImportBook b key rows) book refl (ap (λ o. changed_book o (ImportBook b key rows)) is) in
+    record {
+      follows = (at, is, unfilled);
+      sound = subst AreSound (sym same) (sound_with h b book sound.books ((sound.books b at is).0, sound_filled at key rows (sound.books b at is).1 word written replayable));
+    }
+
+pub import_plans : (h : Host) (b key : ℕ) (at : BookValue) (head : BookHead) (rows : BookRows) → IsSound h → get h.books b ≡ Some at → head ≡ book_head at
+    → head.imported ≡ None → is_empty head ≡ true → IsWord key → AreReplayable rows.terms rows.pledges → Each HasTextsAndWords rows.pledges
+    → Plans h b (import_rows (book_head at) b key rows at.imported) (Ok (record { change = Some (ImportBook b key rows); reply = BookFilled (length rows.pledges) }))
+import_plans h b key at head rows sound is heads none empty word replayable written =
+    let imported : at.imported ≡ None = sym (ap (λ (d : BookHead). d.imported) heads) ∙ none in
+    let empties : is_empty (book_head at) ≡ true = sym (ap is_empty heads) ∙ empty in
+    let lists = empty_lists at empties in (
+      ap (import_rows (book_head at) b key rows) imported ∙ ap (λ v. if v then Makes (ImportBook b key rows) (BookFilled (length rows.pledges)) else Refuses BookNotEmpty) empties,
+      (refl, rows_plans h b key at rows sound is (record { terms = lists.0; pledges = lists.1; imported = imported }) word replayable written),
+    )
+
+-- what is planned unless memory is wanting
+pub planned_so : (h : Host) (b : ℕ) (o : Outcome) (planned : Planned) (r : Result Planned Refusal) → IfOk r (λ p. p ≡ planned) → IfErr r (λ why. why ≡ Memory)
+    → Plans h b o (Ok planned) → Plans h b o r
+planned_so h b o planned (Ok p) ok err plans = subst (λ q. Plans h b o (Ok q)) (sym ok) plans
+planned_so h b o planned (Err why) ok err plans = inl (inl err)
 
 -- the next version of terms is added
 pub terms_plans : (h : Host) (b : ℕ) (at : BookValue) (new : NewTerms) (terms : Rates) → IsSound h → get h.books b ≡ Some at

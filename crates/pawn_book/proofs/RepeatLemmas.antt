@@ -13,7 +13,7 @@ use Rattle.pawn_book.specs.declared.change.Change.{Change}
 use Rattle.pawn_book.specs.declared.refusal.Refusal.TheVariants.{NoSuchBook}
 use Rattle.pawn_book.specs.declared.reply.Reply.{Reply}
 use Rattle.pawn_book.specs.declared.reply.Reply.TheVariants.{Commanded}
-use Rattle.pawn_book.specs.declared.request.BrokerRequest.TheVariants.{PutTerms, TakePledge, OnPledge, Show, SheetOf}
+use Rattle.pawn_book.specs.declared.request.BrokerRequest.TheVariants.{PutTerms, TakePledge, OnPledge, Import, Show, SheetOf}
 use Rattle.pawn_book.specs.declared.request.BearerRequest.TheVariants.{Present, OnPledge as OnReceipt}
 use Rattle.pawn_book.specs.declared.request.Caller.{Caller}
 use Rattle.pawn_book.specs.declared.request.Caller.TheVariants.{Operator, Broker, Bearer}
@@ -29,6 +29,7 @@ pub did_on : (book : BookValue) (operator b : ℕ) (stamp : Stamp) (caller : Cal
 did_on book operator b stamp (Operator key new) n command change reply asks is = absurd asks
 did_on book operator b stamp (Broker key (PutTerms new)) n command change reply asks is = absurd asks
 did_on book operator b stamp (Broker key (TakePledge opening)) n command change reply asks is = absurd asks
+did_on book operator b stamp (Broker key (Import importing rows)) n command change reply asks is = absurd asks
 did_on book operator b stamp (Broker key (Show m)) n command change reply asks is = absurd asks
 did_on book operator b stamp (Broker key (SheetOf day)) n command change reply asks is = absurd asks
 did_on book operator b stamp (Broker key (OnPledge m own)) n command change reply asks is =
@@ -47,6 +48,7 @@ told_to : (book : BookValue) (operator b : ℕ) (stamp : Stamp) (caller : Caller
 told_to book operator b stamp (Operator key new) n command p done asks passes at step = absurd asks
 told_to book operator b stamp (Broker key (PutTerms new)) n command p done asks passes at step = absurd asks
 told_to book operator b stamp (Broker key (TakePledge opening)) n command p done asks passes at step = absurd asks
+told_to book operator b stamp (Broker key (Import importing rows)) n command p done asks passes at step = absurd asks
 told_to book operator b stamp (Broker key (Show m)) n command p done asks passes at step = absurd asks
 told_to book operator b stamp (Broker key (SheetOf day)) n command p done asks passes at step = absurd asks
 told_to book operator b stamp (Broker key (OnPledge m own)) n command p done asks passes at step =

@@ -8,7 +8,7 @@ use Rattle.pawn_pledge.specs.declared.command.Stamp.{Stamp}
 use Rattle.pawn_pledge.specs.declared.receipt.Receipt.{Receipt}
 use Rattle.pawn_pledge.specs.Pledge.{PledgeValue}
 use Rattle.pawn_book.specs.declared.change.Change.{Change}
-use Rattle.pawn_book.specs.declared.change.Change.TheVariants.{PutPledge}
+use Rattle.pawn_book.specs.declared.change.Change.TheVariants.{PutPledge, ImportBook}
 use Rattle.pawn_book.specs.declared.refusal.Refusal.TheVariants.{Full}
 use Rattle.pawn_book.specs.declared.reply.Reply.{Reply}
 use Rattle.pawn_book.specs.declared.request.Caller.{Caller}
@@ -19,9 +19,9 @@ use Rattle.pawn_book.specs.Runs.{Mark, read_as, no_memory, no_store, Event, host
 use Rattle.pawn_book.specs.Traces.{SlotEvent, Entered, Did, does, enters, is_live_in, event_slot, numbered_pledges, run_slot, slot_events, slot_of, within_slot}
 use Rattle.pawn_book.specs.Machines.{no_pledge, solo_from, solo_step}
 use Rattle.pawn_book.specs.Slots.{AreAccepted, IsAccepted, TracesAreAccepted}
-use Rattle.pawn_book.proofs.MadeLemmas.{BookIs, CommandIs, MadeBy, PledgeIs, TermsAre, made_by}
+use Rattle.pawn_book.proofs.MadeLemmas.{BookIs, CommandIs, MadeBy, PledgeIs, RowsAre, TermsAre, made_by}
 use Rattle.pawn_book.proofs.Places.{pledge_past}
-use Rattle.pawn_book.proofs.Plans.{taken_is}
+use Rattle.pawn_book.proofs.Plans.{taken_is, without_lists}
 use Rattle.pawn_book.proofs.SlotMachine.{does_asked}
 use Rattle.pawn_book.proofs.SlotRuns.{entered_start, event_follows}
 
@@ -70,6 +70,11 @@ made_accepted slot before operator b stamp caller change reply (PledgeIs key ope
     subst (λ o. Accepts slot o stamp caller (Makes change reply)) (sym stands)
     (subst (λ (c : Change). Accepts slot (Some book) stamp caller (Makes c reply)) (sym makes)
     (accepts_put slot book b p.agreement.number p stamp caller reply None (pledge_past 1 book.pledges p.agreement.number (omega (arith, number))) (λ o e at. cc e)))
+made_accepted slot before operator b stamp caller change reply (RowsAre key importing rows book asks stands passes unfilled makes says) =
+    subst (λ o. Accepts slot o stamp caller (Makes change reply)) (sym stands)
+    (subst (λ (c : Change). Accepts slot (Some book) stamp caller (Makes c reply)) (sym makes)
+    (subst (λ (at : BookValue). Accepts slot (Some at) stamp caller (Makes (ImportBook b importing rows) reply)) (sym (without_lists book unfilled.terms unfilled.pledges))
+    (accepted_all slot no_pledge 1 rows.pledges)))
 made_accepted slot before operator b stamp caller change reply (CommandIs book n command stands asks did) =
     subst (λ o. Accepts slot o stamp caller (Makes change reply)) (sym stands)
     (subst (λ (c : Change). Accepts slot (Some book) stamp caller (Makes c reply)) (sym did.makes)

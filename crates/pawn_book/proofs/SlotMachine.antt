@@ -8,19 +8,19 @@ use Rattle.pawn_pledge.specs.declared.command.Stamp.{Stamp}
 use Rattle.pawn_pledge.specs.declared.receipt.Receipt.{Receipt}
 use Rattle.pawn_pledge.specs.Pledge.{PledgeValue}
 use Rattle.pawn_book.specs.declared.change.Change.{Change}
-use Rattle.pawn_book.specs.declared.change.Change.TheVariants.{PutPledge}
+use Rattle.pawn_book.specs.declared.change.Change.TheVariants.{PutPledge, ImportBook}
 use Rattle.pawn_book.specs.declared.reply.Reply.{Reply}
 use Rattle.pawn_book.specs.declared.request.BearerRequest.TheVariants.{Present, OnPledge as OnReceipt}
-use Rattle.pawn_book.specs.declared.request.BrokerRequest.TheVariants.{PutTerms, TakePledge, OnPledge, Show, SheetOf}
+use Rattle.pawn_book.specs.declared.request.BrokerRequest.TheVariants.{PutTerms, TakePledge, OnPledge, Import, Show, SheetOf}
 use Rattle.pawn_book.specs.declared.request.Caller.{Caller}
 use Rattle.pawn_book.specs.declared.request.Caller.TheVariants.{Operator, Broker, Bearer}
 use Rattle.pawn_book.specs.BookStep.{BookValue, Outcome, Refuses, Says, Makes, book_after, book_step, book_head, pledge_from}
 use Rattle.pawn_book.specs.Laws.{Asks}
 use Rattle.pawn_book.specs.Traces.{SlotEvent, Entered, Did, does, enters, is_live_in, numbered_pledges, slot_events, slot_of, touches, within_slot}
-use Rattle.pawn_book.specs.Machines.{after_command, after_judgement, with_pledge, solo_from, solo_step}
-use Rattle.pawn_book.proofs.MadeLemmas.{BookIs, CommandIs, MadeBy, PledgeIs, TermsAre, made_by}
+use Rattle.pawn_book.specs.Machines.{after_command, after_judgement, no_pledge, with_pledge, solo_from, solo_step}
+use Rattle.pawn_book.proofs.MadeLemmas.{BookIs, CommandIs, MadeBy, PledgeIs, RowsAre, TermsAre, made_by}
 use Rattle.pawn_book.proofs.Places.{pledge_below, pledge_from-put, pledge_past, pledge_within}
-use Rattle.pawn_book.proofs.Plans.{taken_is}
+use Rattle.pawn_book.proofs.Plans.{taken_is, without_lists}
 
 pub solo_from-append : (slot : List Receipt) (m : ℕ → Option PledgeValue) (es fs : List SlotEvent) → solo_from slot m (es ++ fs) ≡ solo_from slot (solo_from slot m es) fs
 solo_from-append slot m [] fs = refl
@@ -96,6 +96,7 @@ does_asked (Operator key new) n stamp command asks = absurd asks
 does_asked (Broker key (PutTerms new)) n stamp command asks = absurd asks
 does_asked (Broker key (TakePledge opening)) n stamp command asks = absurd asks
 does_asked (Broker key (OnPledge m own)) n stamp command asks = ap (λ (c : Command). Did n stamp c ∷ []) asks.1
+does_asked (Broker key (Import importing rows)) n stamp command asks = absurd asks
 does_asked (Broker key (Show m)) n stamp command asks = absurd asks
 does_asked (Broker key (SheetOf day)) n stamp command asks = absurd asks
 does_asked (Bearer (Present receipts)) n stamp command asks = absurd asks
@@ -117,6 +118,11 @@ made_follows slot before operator b stamp caller change reply (PledgeIs key open
     subst (λ o. Follows slot o stamp caller (Makes change reply)) (sym stands)
     (subst (λ (c : Change). Follows slot (Some book) stamp caller (Makes c reply)) (sym makes)
     (put_follows slot book b p.agreement.number p stamp caller reply None (pledge_past 1 book.pledges p.agreement.number (omega (arith, number))) low high (λ o e at. cc e)))
+made_follows slot before operator b stamp caller change reply (RowsAre key importing rows book asks stands passes unfilled makes says) =
+    subst (λ o. Follows slot o stamp caller (Makes change reply)) (sym stands)
+    (subst (λ (c : Change). Follows slot (Some book) stamp caller (Makes c reply)) (sym makes)
+    (subst (λ (at : BookValue). Follows slot (Some at) stamp caller (Makes (ImportBook b importing rows) reply)) (sym (without_lists book unfilled.terms unfilled.pledges))
+    (λ q. enter_book slot rows.pledges no_pledge q (λ n. refl))))
 made_follows slot before operator b stamp caller change reply (CommandIs book n command stands asks did) =
     let within = pledge_within 1 book.pledges n did.old did.stands in
     let high : n ≤ 1 + length book.pledges = omega (arith, within) in

@@ -22,7 +22,7 @@ use Rattle.pawn_book.specs.Runs.{Mark, read_as, no_memory, no_store, host_after_
 use Rattle.pawn_book.specs.Traces.{is_settled}
 use Rattle.pawn_book.specs.Slots.{EarlierReceiptsAreSpent, IsSpentReceipt, PresentsSpent, SpentIsUnknown, SpentReceiptsStaySpent}
 use Rattle.pawn_book.proofs.KeptLemmas.{put_there}
-use Rattle.pawn_book.proofs.MadeLemmas.{BookIs, CommandIs, MadeBy, PledgeIs, TermsAre, made_by}
+use Rattle.pawn_book.proofs.MadeLemmas.{BookIs, CommandIs, MadeBy, PledgeIs, RowsAre, TermsAre, made_by}
 use Rattle.pawn_book.proofs.Places.{pledge_from-put, pledge_within}
 use Rattle.pawn_book.proofs.Plans.{taken_is}
 use Rattle.pawn_book.proofs.RepeatLemmas.{did_on}
@@ -58,6 +58,8 @@ spent_made before operator b stamp caller change reply r (PledgeIs key opening b
     subst (λ o. IsSpentReceipt (changed_book o change) r) (sym stands)
     (subst (λ (c : Change). IsSpentReceipt (changed_book (Some book) c) r) (sym makes)
     (spent_put book b p.agreement.number p r low high (λ same. absurd (omega (arith, within, same, number))) here))
+spent_made before operator b stamp caller change reply r (RowsAre key importing rows book asks stands passes unfilled makes says) spent =
+    absurd_none (sym (ap (λ ps. pledge_from 1 ps r.number) unfilled.pledges) ∙ ap (λ o. pledge_in o r.number) (sym stands) ∙ spent.stands)
 spent_made before operator b stamp caller change reply r (CommandIs book n command stands asks did) spent =
     let within = pledge_within 1 book.pledges n did.old did.stands in
     let high : n ≤ 1 + length book.pledges = omega (arith, within) in

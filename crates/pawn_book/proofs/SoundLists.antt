@@ -5,9 +5,9 @@ use Rattle.std.specs.List.{list_any}
 use Rattle.std.proofs.lemmas.List.Folds.{list_any-append}
 use Rattle.pawn_terms.specs.declared.terms.Rates.{Rates}
 use Rattle.pawn_pledge.specs.Pledge.{PledgeValue}
-use Rattle.pawn_book.specs.BookStep.{is_same_text, pledge_from, put_from, terms_at, with_reference}
+use Rattle.pawn_book.specs.BookStep.{pledge_from, put_from, with_reference}
 use Rattle.pawn_terms.specs.Order.{DoNotFall}
-use Rattle.pawn_book.specs.Rows.{AreDistinct, IsUnder, references_of, version_of}
+use Rattle.pawn_book.specs.Rows.{AreDistinct, IsUnder, references_of, version_of, is_same_text, terms_at}
 use Rattle.pawn_pledge.specs.Replayable.{Each}
 
 pub some_is : {A : Type 0} (x y : A) → Some x ≡ Some y → x ≡ y

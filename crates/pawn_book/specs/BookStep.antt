@@ -1,6 +1,5 @@
 -- One step of a book: what comes of a request.
-use Rattle.std.specs.Prelude.{ℕ, zero, suc, ◌+◌, List, [], ◌∷◌, ◌++◌, Bool, true, false, ◌&&◌, Option, Some, None, Result, Ok, Err, if◌then◌else◌, ◌==◌, nat_eq, nat_le, nat_lt, length, map, find, slice_get}
-use Rattle.std.specs.Cmp.Lexicographic.{pointwise}
+use Rattle.std.specs.Prelude.{ℕ, ◌+◌, List, [], ◌∷◌, ◌++◌, Bool, true, false, ◌&&◌, Option, Some, None, Result, Ok, Err, if◌then◌else◌, ◌==◌, nat_le, nat_lt, length, map, find}
 use Rattle.pawn_terms.specs.Refusals.{first_of}
 use Rattle.pawn_terms.specs.declared.terms.Rates.{Rates}
 use Rattle.pawn_terms.specs.TermsFault.{terms_answer}
@@ -11,7 +10,6 @@ use Rattle.pawn_pledge.specs.declared.command.Stamp.{Stamp}
 use Rattle.pawn_pledge.specs.declared.command.Command.{Command}
 use Rattle.pawn_pledge.specs.declared.command.Done.{Done}
 use Rattle.pawn_pledge.specs.declared.record.Booking.{Booking}
-use Rattle.pawn_pledge.specs.declared.record.BookingState.{BookingState}
 use Rattle.pawn_pledge.specs.declared.record.Opening.{Opening}
 use Rattle.pawn_pledge.specs.declared.receipt.Receipt.{Receipt}
 use Rattle.pawn_pledge.specs.declared.record.Issued.{Issued}
@@ -19,15 +17,15 @@ use Rattle.pawn_pledge.specs.Pledge.{PledgeValue, live_of}
 use Rattle.pawn_pledge.specs.Step.{Judged, Refused, Answered, Changed, pledge_start, pledge_step}
 use Rattle.pawn_pledge.specs.declared.refusal.Refusal.{Refusal as PledgeRefusal}
 use Rattle.pawn_book.specs.declared.refusal.Refusal.{Refusal}
-use Rattle.pawn_book.specs.declared.refusal.Refusal.TheVariants.{Pledge, Terms, NoSuchBook, NoSuchReceipt, NoSuchPledge, BookTaken, NoTerms, TermsSeq, RefTaken, WindowFull, NotOperator, TermsFull, PledgesFull}
+use Rattle.pawn_book.specs.declared.refusal.Refusal.TheVariants.{Pledge, Terms, NoSuchBook, NoSuchReceipt, NoSuchPledge, BookTaken, NoTerms, TermsSeq, RefTaken, WindowFull, BookNotEmpty, NotOperator, TermsFull, PledgesFull}
 use Rattle.pawn_book.specs.declared.reply.Reply.{Reply}
-use Rattle.pawn_book.specs.declared.reply.Reply.TheVariants.{BookMade, TermsPut, Opened, Commanded}
+use Rattle.pawn_book.specs.declared.reply.Reply.TheVariants.{BookMade, TermsPut, BookFilled, Opened, Commanded}
 use Rattle.pawn_book.specs.declared.request.NewBook.{NewBook}
 use Rattle.pawn_book.specs.declared.request.NewTerms.{NewTerms}
 use Rattle.pawn_book.specs.declared.request.Caller.{Caller}
 use Rattle.pawn_book.specs.declared.request.Caller.TheVariants.{Operator, Broker, Bearer}
 use Rattle.pawn_book.specs.declared.request.BrokerRequest.{BrokerRequest}
-use Rattle.pawn_book.specs.declared.request.BrokerRequest.TheVariants.{PutTerms, TakePledge, OnPledge, Show, SheetOf}
+use Rattle.pawn_book.specs.declared.request.BrokerRequest.TheVariants.{PutTerms, TakePledge, OnPledge, Import, Show, SheetOf}
 use Rattle.pawn_book.specs.declared.request.BearerRequest.{BearerRequest}
 use Rattle.pawn_book.specs.declared.request.BearerRequest.TheVariants.{Present, OnPledge as OnReceipt}
 use Rattle.pawn_book.specs.declared.change.Imported.{Imported}
@@ -38,6 +36,7 @@ use Rattle.pawn_book.specs.declared.rows.BookRows.{BookRows}
 use Rattle.pawn_book.specs.declared.sheet.SheetItem.{SheetItem}
 use Rattle.pawn_book.specs.Bookings.{confirmed_count, is_confirmed}
 use Rattle.pawn_book.specs.Limits.{most_terms, most_pledges}
+use Rattle.pawn_book.specs.Rows.{is_same_text, terms_at}
 use Rattle.pawn_book.specs.Sheet.{day_sheet}
 
 -- a book
@@ -72,15 +71,6 @@ abbrev pub out_of : Outcome → Out
 out_of (Refuses why) = Denied why
 out_of (Says out) = out
 out_of (Makes change reply) = Told reply
-
--- a text is the same
-abbrev pub is_same_text : List ℕ → List ℕ → Bool
-is_same_text a b = pointwise nat_eq a b
-
--- the terms that stand under a version; none under 0
-abbrev pub terms_at : List Rates → ℕ → Option Rates
-terms_at terms zero = None
-terms_at terms (suc n) = slice_get terms n
 
 -- the newest terms
 abbrev pub newest : List Rates → Option Rates
@@ -246,6 +236,7 @@ confirmed_by (Done.Extended until) = None
 abbrev pub confirmed_booking : Reply → Option Booking
 confirmed_booking (BookMade b) = None
 confirmed_booking (TermsPut version) = None
+confirmed_booking (BookFilled pledges) = None
 confirmed_booking (Opened receipt) = None
 confirmed_booking (Commanded n done) = confirmed_by done
 
@@ -283,6 +274,15 @@ abbrev pub show_pledge : Stamp → Option PledgeValue → Outcome
 show_pledge stamp None = Refuses NoSuchPledge
 show_pledge stamp (Some p) = Says (Shown stamp.day (Some p ∷ []))
 
+-- neither terms nor pledges stand
+abbrev pub is_empty : BookHead → Bool
+is_empty head = (head.terms == 0) && (head.pledges == 0)
+
+-- Import: the rows become an empty book's, once; the book's own import is told again, whatever rows come
+abbrev pub import_rows : BookHead → ℕ → ℕ → BookRows → Option Imported → Outcome
+import_rows head b key rows None = if is_empty head then Makes (ImportBook b key rows) (BookFilled (length rows.pledges)) else Refuses BookNotEmpty
+import_rows head b key rows (Some imported) = if imported.key == key then Says (Told (BookFilled imported.pledges)) else Refuses BookNotEmpty
+
 -- SheetOf: the sheet of a day
 abbrev pub show_sheet : BookValue → ℕ → Outcome
 show_sheet book day = Says (Listed day book.capacity (day_sheet book.pledges day))
@@ -292,6 +292,7 @@ abbrev pub broker_step : BookValue → ℕ → Stamp → BrokerRequest → Outco
 broker_step book b stamp (PutTerms new) = put_terms book b new (terms_at book.terms new.version)
 broker_step book b stamp (TakePledge opening) = take_pledge book b opening stamp (with_reference book.pledges opening.reference)
 broker_step book b stamp (OnPledge n command) = broker_commands book b n stamp command (pledge_from 1 book.pledges n)
+broker_step book b stamp (Import key rows) = import_rows (book_head book) b key rows book.imported
 broker_step book b stamp (Show n) = show_pledge stamp (pledge_from 1 book.pledges n)
 broker_step book b stamp (SheetOf day) = show_sheet book day
 

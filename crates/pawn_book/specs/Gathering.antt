@@ -1,5 +1,5 @@
 -- What is gathered of what is handed out.
-use Rattle.std.specs.Prelude.{◌≡◌, ◌++◌, ◌∷◌, [], ◌⊎◌, true}
+use Rattle.std.specs.Prelude.{◌≡◌, ◌++◌, ◌∷◌, [], true}
 use Rattle.pawn_book.specs.declared.gather.Gathering.{Gathering}
 use Rattle.pawn_book.specs.declared.visit.Flow.{Flow}
 use Rattle.pawn_book.specs.declared.visit.Flow.TheVariants.{Go, Stop}

@@ -30,11 +30,12 @@ ChangesDiffer =
     (before : Option BookValue) (operator b : ℕ) (stamp : Stamp) (caller : Caller) (change : Change) (reply : Reply)
     → book_step before operator b stamp caller ≡ Makes change reply → changed_book before change ≡ before → ⊥
 
--- a book, terms or a pledge are asked for
+-- a book, terms, a pledge or an import are asked for
 abbrev pub IsSetUp : BrokerRequest → Type 0
 IsSetUp (asked.PutTerms new) = Unit {0}
 IsSetUp (asked.TakePledge opening) = Unit {0}
 IsSetUp (asked.OnPledge n command) = ⊥
+IsSetUp (asked.Import key rows) = Unit {0}
 IsSetUp (asked.Show n) = ⊥
 IsSetUp (asked.SheetOf day) = ⊥
 
@@ -55,6 +56,7 @@ abbrev pub BrokerAsks : BrokerRequest → ℕ → Command → Type 0
 BrokerAsks (asked.PutTerms new) n command = ⊥
 BrokerAsks (asked.TakePledge opening) n command = ⊥
 BrokerAsks (asked.OnPledge m own) n command = (m ≡ n) × (own ≡ command)
+BrokerAsks (asked.Import key rows) n command = ⊥
 BrokerAsks (asked.Show m) n command = ⊥
 BrokerAsks (asked.SheetOf day) n command = ⊥
 

@@ -90,6 +90,7 @@ abbrev pub IsBrokerWrite : BrokerRequest → Type 0
 IsBrokerWrite (broker.PutTerms new) = Unit {0}
 IsBrokerWrite (broker.TakePledge opening) = Unit {0}
 IsBrokerWrite (broker.OnPledge number command) = Unit {0}
+IsBrokerWrite (broker.Import key rows) = Unit {0}
 IsBrokerWrite (broker.Show number) = ⊥
 IsBrokerWrite (broker.SheetOf day) = ⊥
 

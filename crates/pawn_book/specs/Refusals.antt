@@ -3,7 +3,7 @@ use Rattle.std.specs.Prelude.{ℕ, List, Option, None, codes}
 use Rattle.pawn_terms.specs.TermsFault as terms
 use Rattle.pawn_pledge.specs.Refusal as pledge
 use Rattle.pawn_book.specs.declared.refusal.Refusal.{Refusal}
-use Rattle.pawn_book.specs.declared.refusal.Refusal.TheVariants.{Pledge, Terms, NoSuchBook, NoSuchReceipt, NoSuchPledge, BookTaken, NoTerms, TermsSeq, RefTaken, WindowFull, NotOperator, TermsFull, PledgesFull, Full, Memory, Store}
+use Rattle.pawn_book.specs.declared.refusal.Refusal.TheVariants.{Pledge, Terms, NoSuchBook, NoSuchReceipt, NoSuchPledge, BookTaken, NoTerms, TermsSeq, RefTaken, WindowFull, BookNotEmpty, NotOperator, TermsFull, PledgesFull, Full, Memory, Store}
 
 -- the refusal's number
 abbrev pub code_of : Refusal → ℕ
@@ -17,6 +17,7 @@ code_of NoTerms = 405
 code_of TermsSeq = 406
 code_of RefTaken = 407
 code_of WindowFull = 408
+code_of BookNotEmpty = 409
 code_of NotOperator = 410
 code_of TermsFull = 411
 code_of PledgesFull = 412
@@ -36,6 +37,7 @@ name_of NoTerms = codes "NoTerms"
 name_of TermsSeq = codes "TermsSeq"
 name_of RefTaken = codes "RefTaken"
 name_of WindowFull = codes "WindowFull"
+name_of BookNotEmpty = codes "BookNotEmpty"
 name_of NotOperator = codes "NotOperator"
 name_of TermsFull = codes "TermsFull"
 name_of PledgesFull = codes "PledgesFull"
@@ -55,6 +57,7 @@ total_of NoTerms = None
 total_of TermsSeq = None
 total_of RefTaken = None
 total_of WindowFull = None
+total_of BookNotEmpty = None
 total_of NotOperator = None
 total_of TermsFull = None
 total_of PledgesFull = None

@@ -1,13 +1,22 @@
 -- Which rows make a book.
-use Rattle.std.specs.Prelude.{◌≡◌, ℕ, ◌+◌, ◌≤◌, List, [], ◌∷◌, false, Some, length, map}
+use Rattle.std.specs.Prelude.{◌≡◌, ℕ, zero, suc, ◌+◌, ◌≤◌, Bool, false, List, [], ◌∷◌, Option, None, Some, length, map, nat_eq, slice_get}
+use Rattle.std.specs.Cmp.Lexicographic.{pointwise}
 use Rattle.std.specs.List.{list_any}
 use Rattle.pawn_terms.specs.declared.terms.Rates.{Rates}
 use Rattle.pawn_terms.specs.Order.{DoNotFall}
 use Rattle.pawn_terms.specs.Terms.{IsChecked}
 use Rattle.pawn_pledge.specs.Pledge.{PledgeValue}
 use Rattle.pawn_pledge.specs.Replayable.{Each, IsStanding}
-use Rattle.pawn_book.specs.BookStep.{is_same_text, terms_at}
 use Rattle.pawn_book.specs.Limits.{most_pledges, most_terms}
+
+-- a text is the same
+abbrev pub is_same_text : List ℕ → List ℕ → Bool
+is_same_text a b = pointwise nat_eq a b
+
+-- the terms that stand under a version; none under 0
+abbrev pub terms_at : List Rates → ℕ → Option Rates
+terms_at terms zero = None
+terms_at terms (suc n) = slice_get terms n
 
 -- pledges are numbered k, k + 1, ..
 abbrev pub AreNumberedFrom : ℕ → List PledgeValue → Type 0

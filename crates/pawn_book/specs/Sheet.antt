@@ -2,7 +2,6 @@
 use Rattle.std.specs.Prelude.{ℕ, zero, suc, ◌+◌, List, [], ◌∷◌, ◌++◌, Bool, true, false, ◌&&◌, Option, Some, None, if◌then◌else◌, ◌==◌, length, filter_map}
 use Rattle.std.specs.List.{flat_map}
 use Rattle.pawn_pledge.specs.declared.record.Booking.{Booking}
-use Rattle.pawn_pledge.specs.declared.record.BookingState.{BookingState}
 use Rattle.pawn_pledge.specs.declared.record.Closing.{Closing}
 use Rattle.pawn_pledge.specs.Pledge.{PledgeValue, end_of}
 use Rattle.pawn_pledge.specs.Limits.{last_window}

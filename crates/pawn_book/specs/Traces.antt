@@ -10,7 +10,7 @@ use Rattle.pawn_book.specs.declared.request.Request.{Request}
 use Rattle.pawn_book.specs.declared.request.Caller.{Caller}
 use Rattle.pawn_book.specs.declared.request.Caller.TheVariants.{Operator, Broker, Bearer}
 use Rattle.pawn_book.specs.declared.request.BrokerRequest.{BrokerRequest}
-use Rattle.pawn_book.specs.declared.request.BrokerRequest.TheVariants.{PutTerms, TakePledge, OnPledge, Show, SheetOf}
+use Rattle.pawn_book.specs.declared.request.BrokerRequest.TheVariants.{PutTerms, TakePledge, OnPledge, Import, Show, SheetOf}
 use Rattle.pawn_book.specs.declared.request.BearerRequest.{BearerRequest}
 use Rattle.pawn_book.specs.declared.request.BearerRequest.TheVariants.{Present, OnPledge as OnReceipt}
 use Rattle.pawn_book.specs.declared.change.Change.{Change}
@@ -85,6 +85,7 @@ abbrev pub broker_does : ℕ → Stamp → BrokerRequest → List SlotEvent
 broker_does n stamp (PutTerms new) = []
 broker_does n stamp (TakePledge opening) = []
 broker_does n stamp (OnPledge number command) = Did n stamp command ∷ []
+broker_does n stamp (Import key rows) = []
 broker_does n stamp (Show number) = []
 broker_does n stamp (SheetOf day) = []
 

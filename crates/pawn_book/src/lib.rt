@@ -8,6 +8,7 @@ mod commands;
 mod fault;
 mod gates;
 mod gather;
+mod importing;
 mod keep;
 mod laws;
 mod limits;
@@ -29,8 +30,9 @@ pub use acting::{act, commit};
 pub use capacity::Capacity;
 pub use change::{BookHead, Change, Imported, Planned};
 pub use fault::{KeepError, SaveError, StoreFault};
-pub use gather::{Gathering, day_sheet};
 pub use gates::{find_live, gate};
+pub use gather::{Gathering, day_sheet};
+pub use importing::ReplayableRows;
 pub use keep::Keep;
 pub use laws::{
     books_answer_alone, changes_differ, entries_act_once, extensions_act_once, repeats_act_once,

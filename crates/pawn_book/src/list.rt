@@ -1,7 +1,8 @@
 ghost use Rattle.std.specs.Prelude.{[], ◌≡◌, ◌<◌, ◌≤◌, ◌+◌, ◌&&◌, if◌then◌else◌, IfNone, IfOk, IfSome, MatchOption, None, OnErr, OnOk, Some, length, map, nat_lt, option_map, unwrap_or};
 ghost use Rattle.pawn_pledge.specs.Brief.{brief_of};
 ghost use Rattle.pawn_book.specs.Bookings.{confirmed_count, is_confirmed_for};
-ghost use Rattle.pawn_book.specs.BookStep.{BookValue, book_head, pledge_from, pledge_in, put_from, terms_at, with_reference};
+ghost use Rattle.pawn_book.specs.BookStep.{BookValue, book_head, pledge_from, pledge_in, put_from, with_reference};
+ghost use Rattle.pawn_book.specs.Rows.{terms_at};
 ghost use Rattle.pawn_book.specs.HostStep.{pledge_rows};
 ghost use Rattle.pawn_book.specs.Changes.{CanSave};
 ghost use Rattle.pawn_book.specs.Keeping.{entries_of, extensions_of, number_of, pledges_of, secrets_of, terms_of};

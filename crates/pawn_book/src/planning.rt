@@ -9,6 +9,7 @@ ghost use Rattle.pawn_book.specs.Plans.{IsWritten, Plans};
 use crate::change::Planned;
 use crate::commands::{plan_number, plan_receipt};
 use crate::gates::gate;
+use crate::importing::plan_import;
 use crate::keep::Keep;
 use crate::openings::plan_pledge;
 use crate::refusal::Refusal;
@@ -51,6 +52,7 @@ pub fn plan<K: Keep>(
                     let command = command.command();
                     plan_number(keep, request.book, &head, *number, stamp, &command)
                 }
+                BrokerRequest::Import { key, rows } => plan_import(request.book, &head, *key, rows),
                 BrokerRequest::Show(_) | BrokerRequest::SheetOf(_) => unreachable!(),
             }
         }

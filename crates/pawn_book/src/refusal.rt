@@ -27,6 +27,8 @@ pub enum Refusal {
     RefTaken,
     /// As many bookings of the window are confirmed as the book confirms.
     WindowFull,
+    /// The book has terms, pledges, or another import's key.
+    BookNotEmpty,
     /// The key is not the operator's.
     NotOperator,
     /// The book has 99 versions of terms.
@@ -57,6 +59,7 @@ impl Refusal {
             Refusal::TermsSeq => 406,
             Refusal::RefTaken => 407,
             Refusal::WindowFull => 408,
+            Refusal::BookNotEmpty => 409,
             Refusal::NotOperator => 410,
             Refusal::TermsFull => 411,
             Refusal::PledgesFull => 412,
@@ -81,6 +84,7 @@ impl Refusal {
             Refusal::TermsSeq => "TermsSeq",
             Refusal::RefTaken => "RefTaken",
             Refusal::WindowFull => "WindowFull",
+            Refusal::BookNotEmpty => "BookNotEmpty",
             Refusal::NotOperator => "NotOperator",
             Refusal::TermsFull => "TermsFull",
             Refusal::PledgesFull => "PledgesFull",

@@ -7,6 +7,8 @@ pub enum Reply {
     BookMade(Number),
     /// The terms stand under this version.
     TermsPut(u64),
+    /// The book was filled by its import, with so many pledges.
+    BookFilled(u64),
     /// The pledge stands, and this is its first receipt.
     Opened(Receipt),
     /// What a command on the pledge of this number did.

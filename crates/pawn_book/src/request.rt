@@ -6,6 +6,7 @@ ghost use Rattle.pawn_book.specs.Sound.{IsWord};
 ghost use Rattle.pawn_book.specs.Plans.{IsBearerWrite, IsBrokerWrite, IsWritten};
 
 use crate::capacity::Capacity;
+use crate::importing::ReplayableRows;
 use crate::limits::MOST_NAME_BYTES;
 use crate::receipts::Receipts;
 use pawn_pledge::{
@@ -88,6 +89,11 @@ pub enum BrokerRequest {
         number: Number,
         command: BrokerCommand,
     },
+    /// To make these rows the terms and pledges of the book, under a key of their own.
+    Import {
+        key: Secret,
+        rows: ReplayableRows,
+    },
     /// To see the pledge of this number.
     Show(Number),
     /// To see the sheet of this day.
@@ -103,6 +109,7 @@ impl BrokerRequest {
             BrokerRequest::PutTerms(_) => true,
             BrokerRequest::TakePledge(_) => true,
             BrokerRequest::OnPledge { .. } => true,
+            BrokerRequest::Import { .. } => true,
             BrokerRequest::Show(_) => false,
             BrokerRequest::SheetOf(_) => false,
         }

@@ -2,7 +2,8 @@
 ghost use Rattle.std.specs.Prelude.{◌≡◌, IfOk};
 ghost use Rattle.std.specs.FinMap.{get};
 ghost use Rattle.pawn_terms.specs.Terms.{IsChecked};
-ghost use Rattle.pawn_book.specs.BookStep.{BookValue, are_same_rates, make_book, book_head, is_same_book, next_terms, put_terms, terms_at};
+ghost use Rattle.pawn_book.specs.BookStep.{BookValue, are_same_rates, make_book, book_head, is_same_book, next_terms, put_terms};
+ghost use Rattle.pawn_book.specs.Rows.{terms_at};
 ghost use Rattle.pawn_book.specs.Sound.{IsSound};
 ghost use Rattle.pawn_book.specs.Keeping.{IsQuiet, Reads};
 ghost use Rattle.pawn_book.specs.Plans.{Plans};

@@ -1,7 +1,6 @@
 use Rattle.std.proofs.Common.{◌≡◌, drop}
 use Rattle.std.specs.List.{list_any}
-use Rattle.pawn_book.specs.BookStep.{is_same_text}
-use Rattle.pawn_book.specs.Rows.{references_of}
+use Rattle.pawn_book.specs.Rows.{references_of, is_same_text}
 use Rattle.pawn_book.proofs.replaying.has_reference.Given as goal
 
 abbrev pub invariant-loop-parts : goal.invariant-loop-parts

@@ -1,4 +1,4 @@
-use Rattle.std.proofs.Common.{◌≡◌, ◌∙◌, ◌+◌, sym, subst, take}
+use Rattle.std.proofs.Common.{◌∙◌, ◌+◌, sym, subst, take}
 use Rattle.pawn_book.specs.declared.visit.Flow.TheVariants.{Go}
 use Rattle.pawn_book.specs.Sheet.{part_item, part_items}
 use Rattle.pawn_book.specs.Visits.{HandsOver}

@@ -1,8 +1,7 @@
-use Rattle.std.proofs.Common.{subst, ◌++◌}
-use Rattle.pawn_book.specs.declared.visit.Flow.TheVariants.{Go, Stop}
+use Rattle.std.proofs.Common.{◌++◌}
+use Rattle.pawn_book.specs.declared.visit.Flow.TheVariants.{Stop}
 use Rattle.pawn_book.specs.declared.sheet.Part.TheVariants as part
 use Rattle.pawn_book.specs.Sheet.{part_items, windows_sheet, with_head}
-use Rattle.pawn_book.specs.Visits.{HandsOver}
 use Rattle.pawn_book.proofs.SheetLemmas.{hands_then, hands_stop}
 use Rattle.pawn_book.proofs.sheet.hand_sheet.Goals as goal
 

@@ -1,5 +1,5 @@
 use Rattle.std.proofs.Common.{◌∙◌, ap, map}
-use Rattle.pawn_book.specs.BookStep.{terms_at}
+use Rattle.pawn_book.specs.Rows.{terms_at}
 use Rattle.pawn_book.specs.Keeping.{terms_of}
 use Rattle.pawn_book.specs.Listed.{book_at, entry_of}
 use Rattle.pawn_book.proofs.ListKeeping.{book_read, list_reads}
