@@ -19,4 +19,5 @@ pub mod Laws
 pub mod Traces
 pub mod Machines
 pub mod Slots
+pub mod Passes
 pub mod WorkedSlots

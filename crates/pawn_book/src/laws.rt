@@ -1,4 +1,5 @@
 ghost use Rattle.pawn_book.specs.Laws.{ChangesDiffer, EntriesActOnce, EntriesActOnceForAll, ExtensionsActOnce, RepeatsActOnce, StandingEndIsTold};
+ghost use Rattle.pawn_book.specs.Passes.{IsOne, KeepsReceipts, Pass, ReplacesNone};
 ghost use Rattle.pawn_book.specs.Slots.{BearersJoin, BooksAnswerAlone, EarlierReceiptsAreSpent, EqualTracesAnswerAlike, OtherBooksStay, SlotsAnswerAlone, SlotsAreHeld, SpentIsUnknown, SpentReceiptsStaySpent, TracesAreAccepted};
 
 /// What a plan calls a change is one.
@@ -51,4 +52,13 @@ pub fn spent_receipts_are_unknown<F>()
     ensures earlier { EarlierReceiptsAreSpent }
     ensures stay { SpentReceiptsStaySpent F }
     ensures unknown { SpentIsUnknown }
+{}
+
+/// The laws of slots in four passes: of one receipt, under requests that keep every receipt as it is; under openings and
+/// imports, too; under declarations and redemptions, too; and of several receipts.
+pub fn slots_in_passes<F>()
+    ensures keeping { Pass F KeepsReceipts IsOne }
+    ensures bringing { Pass F ReplacesNone IsOne }
+    ensures replacing { Pass F (λ caller. Unit {0}) IsOne }
+    ensures several { Pass F (λ caller. Unit {0}) (λ slot. Unit {0}) }
 {}

@@ -1,0 +1,49 @@
+-- The laws of slots pass by pass: first of slots of one receipt, and of runs that have some requests alone.
+use Rattle.std.specs.Prelude.{◌≡◌, ℕ, List, [], ◌∷◌, true, Ok}
+use Rattle.std.specs.FinMap.{get}
+use Rattle.pawn_pledge.specs.declared.command.Stamp.{Stamp}
+use Rattle.pawn_pledge.specs.declared.command.Command.{Command}
+use Rattle.pawn_pledge.specs.declared.receipt.Receipt.{Receipt}
+use Rattle.pawn_pledge.specs.Laws.{IsReplacing}
+use Rattle.pawn_book.specs.declared.request.Request.{Request}
+use Rattle.pawn_book.specs.declared.request.Caller.{Caller}
+use Rattle.pawn_book.specs.declared.request.Caller.TheVariants.{Broker, Bearer}
+use Rattle.pawn_book.specs.declared.request.BrokerRequest.TheVariants.{TakePledge, Import}
+use Rattle.pawn_book.specs.declared.request.BearerRequest.{BearerRequest}
+use Rattle.pawn_book.specs.HostStep.{Host}
+use Rattle.pawn_book.specs.Laws.{Asks}
+use Rattle.pawn_book.specs.Machines.{is_slots, solo, solo_reply}
+use Rattle.pawn_book.specs.Runs.{Event, read_as, run_host}
+use Rattle.pawn_book.specs.Slots.{reply_after}
+use Rattle.pawn_book.specs.Traces.{is_settled, slot_of, slot_trace}
+
+-- the request opens no pledge and imports none
+abbrev pub BringsNone : Caller → Type 0
+BringsNone (Broker key (TakePledge opening)) = ⊥
+BringsNone (Broker key (Import importing rows)) = ⊥
+BringsNone other = Unit {0}
+
+-- it neither declares nor redeems
+abbrev pub ReplacesNone : Caller → Type 0
+ReplacesNone caller = (n : ℕ) (command : Command) → Asks caller n command → IsReplacing command → ⊥
+
+abbrev pub KeepsReceipts : Caller → Type 0
+KeepsReceipts caller = BringsNone caller × ReplacesNone caller
+
+-- each request of a run is of a sort
+abbrev pub AreAll : {F : Type 0} → (Caller → Type 0) → List (Event F) → Type 0
+AreAll Is [] = Unit {0}
+AreAll Is (event ∷ events) = ((request : Request) → event.mark ≡ read_as (Ok request) → Is request.caller) × AreAll Is events
+
+-- a slot of one receipt
+abbrev pub IsOne : List Receipt → Type 0
+IsOne slot = (r : Receipt) × (slot ≡ r ∷ [])
+
+-- of slots of a sort, and runs whose requests are of a sort: a slot's machine holds the pledges of the book that are in the
+-- slot, and each settled reply to a slot's request is that of the slot alone
+pub record Pass (F : Type 0) (Of : Caller → Type 0) (Is : List Receipt → Type 0) : Type 0 where
+  pub held : (h : Host) (operator b : ℕ) (slot : List Receipt) (events : List (Event F)) (n : ℕ) → Is slot → AreAll Of events
+      → solo slot (slot_trace b slot h operator events) n ≡ slot_of slot (get (run_host h operator events).books b) n
+  pub alone : (h : Host) (operator b : ℕ) (slot : List Receipt) (before : List (Event F)) (stamp : Stamp) (asked : BearerRequest) → Is slot → AreAll Of before
+      → is_slots slot asked ≡ true → is_settled (reply_after h operator before stamp (record { book = b; caller = Bearer asked })) ≡ true
+      → reply_after h operator before stamp (record { book = b; caller = Bearer asked }) ≡ solo_reply slot (slot_trace b slot h operator before) b stamp asked
