@@ -21,3 +21,4 @@ pub mod Machines
 pub mod Slots
 pub mod Passes
 pub mod WorkedSlots
+pub mod WorkedImports

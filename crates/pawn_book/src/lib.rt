@@ -57,7 +57,7 @@ pub use request::{BearerRequest, BrokerRequest, Caller, Name, NewBook, NewTerms,
 pub use rows::{BookRows, PledgeRows};
 pub use sheet::SheetItem;
 pub use visit::{Flow, Visitor};
-pub use worked::worked_slots;
+pub use worked::{worked_imports, worked_slots};
 
 #[cfg(test)]
 mod tests;

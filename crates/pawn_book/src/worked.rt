@@ -1,6 +1,12 @@
+ghost use Rattle.pawn_book.specs.WorkedImports.{WorkedImports};
 ghost use Rattle.pawn_book.specs.WorkedSlots.{WorkedSlots};
 
 /// A pledge whose receipt changes hands twice: what each slot's trace is.
 pub fn worked_slots()
     ensures slots { WorkedSlots }
+{}
+
+/// A book that is filled by an import, and what is told to further ones.
+pub fn worked_imports()
+    ensures imports { WorkedImports }
 {}
