@@ -46,7 +46,7 @@ returns-clause-acted g c = λ honest h sound at bytes read.
     let acts = unmade_acts h operator c.args.stamp.now c.args.request.now stands change reply why plans commits in
     let start = start_of g.K.Keep.keeping c.args.self.now h in
     let goes = goes_unmade start c.args.stamp.now c.args.request.now _ change why sound commits acts
-        (λ left by. unmade_left h operator c.args.stamp.now c.args.request.now change reply why (leaves c.args.self.now.keep) (leaves c.plan.new.keep) left plans (c.plan.ensures.reads.crash before)
-        (rw c.in-Err-commit.is at (c.commit.ensures.crash honest h sound stood left by))) in
+    (λ left by. unmade_left h operator c.args.stamp.now c.args.request.now change reply why (leaves c.args.self.now.keep) (leaves c.plan.new.keep) left plans (c.plan.ensures.reads.crash before)
+    (rw c.in-Err-commit.is at (c.commit.ensures.crash honest h sound stood left by))) in
     acted_unmade start c.args.stamp.now bytes c.tell-in-Err-commit.result _ c.args.request.now why read c.tell-in-Err-commit.ensures.tells goes
     (λ steady store. c.commit.ensures.steady (c.plan.ensures.reads.on.stays steady) (err_is c.commit.result why c.in-Err-commit.is store))
