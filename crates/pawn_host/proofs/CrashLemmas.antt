@@ -20,7 +20,7 @@ step_wider h b (Refuses why) these those wider left by = wider left by
 step_wider h b (Says out) these those wider left by = wider left by
 step_wider h b (Makes change reply) these those wider left by = by
 
-pub mark_wider : (h : Host) (operator : ℕ) (stamp : Stamp) (bytes : List ℕ) (mark : Mark WireFault) (these those : Host → Type 0) → ((g : Host) → these g → those g) → (left : Host)
+mark_wider : (h : Host) (operator : ℕ) (stamp : Stamp) (bytes : List ℕ) (mark : Mark WireFault) (these those : Host → Type 0) → ((g : Host) → these g → those g) → (left : Host)
     → IsLeftByMark h operator stamp bytes mark these left → IsLeftByMark h operator stamp bytes mark those left
 mark_wider h operator stamp bytes (read_as (Ok request)) these those wider left by = step_wider h request.book (host_step h operator stamp request) these those wider left by
 mark_wider h operator stamp bytes (read_as (Err fault)) these those wider left by = wider left by
@@ -29,8 +29,25 @@ mark_wider h operator stamp bytes no_memory these those wider left (inr done) = 
 mark_wider h operator stamp bytes no_store these those wider left (inl by) = inl (wider left by)
 mark_wider h operator stamp bytes no_store these those wider left (inr done) = inr done
 
+pub run_wider : (h : Host) (operator : ℕ) (items : List Item) (these those : Host → Type 0) → ((g : Host) → these g → those g) → (left : Host)
+    → IsLeftByRun h operator items these left → IsLeftByRun h operator items those left
+run_wider h operator [] these those wider left by = wider left by
+run_wider h operator (x ∷ items) these those wider left by =
+    run_wider (host_after_event h operator (event_of x)) operator items (IsLeftByMark h operator x.stamp x.bytes x.mark these) (IsLeftByMark h operator x.stamp x.bytes x.mark those)
+    (mark_wider h operator x.stamp x.bytes x.mark these those wider) left by
+
 pub goes_wider : {kept : Kept} {h : Host} {these those : Host → Type 0} → GoesTo kept h these → ((left : Host) → these left → those left) → GoesTo kept h those
 goes_wider goes wider = record { stands_for = goes.stands_for; sound = goes.sound; crash = λ left by. wider left (goes.crash left by) }
+
+-- the same start, seen from an earlier one
+abbrev pub seen_from : Start → Start → Start
+seen_from before now = record { Steady = before.Steady; operator = before.operator; host = now.host; leaves = before.leaves }
+
+pub goes_from : (before now : Start) (items : List Item) (kept : Kept) → now.operator ≡ before.operator → ((left : Host) → now.leaves left → before.leaves left)
+    → GoesBy now items kept → GoesBy (seen_from before now) items kept
+goes_from before now items kept same wider goes =
+    goes_wider (subst (λ (o : ℕ). GoesTo kept (host_after now.host o items) (IsLeftByRun now.host o items now.leaves)) same goes)
+    (run_wider now.host before.operator items now.leaves before.leaves wider)
 
 -- ---- a call that changes nothing
 

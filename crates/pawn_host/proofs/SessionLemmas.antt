@@ -17,9 +17,8 @@ use Rattle.pawn_host.specs.Run.{Item, IsMarked, IsMarkOf, event_of, said_text}
 use Rattle.pawn_book.proofs.Reading.{on_then}
 use Rattle.pawn_book.specs.Keeping.{Keeping}
 use Rattle.pawn_host.specs.declared.service.Service.{Service}
-use Rattle.pawn_host.specs.Crashes.{IsLeftByMark}
 use Rattle.pawn_host.specs.Keeps.{Start, Kept, GoesTo, start_after, host_by, StaysOpen, IsActed}
-use Rattle.pawn_host.proofs.CrashLemmas.{mark_wider, goes_wider, goes-append}
+use Rattle.pawn_host.proofs.CrashLemmas.{seen_from, goes_from, goes-append}
 use Rattle.pawn_host.specs.Finding.{Finds, FindsRest, StopsBy, IsCausedBy}
 use Rattle.pawn_host.proofs.FindLemmas.{not_by_writer}
 use Rattle.pawn_host.specs.Session.{Given, IsServed, IsSession, HasRoom, HadRoom, IsWithinMost, EndsAs, DueAfter, IsFinished, IsLeftBy, IsLeft, IsOver, AreTaken, acted_count, answer_text, requests_of, stamps_of}
@@ -171,20 +170,18 @@ marked_since Now Before bytes (read_as said) stays marked = marked
 marked_since Now Before bytes no_memory stays marked = marked
 marked_since Now Before bytes no_store stays marked = λ before. marked (stays before)
 
--- the same item, by equal bytes, an equal text and the same operator, and seen from an earlier keeper and from all that a crash
--- might have left then
+-- the same item, by equal bytes, an equal text and the same operator, and seen from an earlier start
 pub acted_at : (now before : Start) (stamp : Stamp) (bytes bytes' reply text : List ℕ) (kept : Kept)
     → IsActed now stamp bytes reply kept → (before.Steady → now.Steady) → now.operator ≡ before.operator → ((left : Host) → now.leaves left → before.leaves left) → bytes ≡ bytes' → text ≡ reply
-    → IsActed (record { Steady = before.Steady; operator = before.operator; host = now.host; leaves = before.leaves }) stamp bytes' text kept
-acted_at now before stamp bytes bytes' reply text kept a stays same wider e f = record {
-  mark = a.mark;
-  marked = marked_since now.Steady before.Steady bytes' a.mark stays (subst (λ (b : List ℕ). IsMarkOf now.Steady b a.mark) e a.marked);
-  text = f ∙ a.text ∙ ap (λ (o : ℕ). said_text (mark_reply now.host o stamp a.mark)) same;
-  goes = goes_wider
-      (subst (λ (o : ℕ). GoesTo kept (host_after_mark now.host o stamp a.mark) (IsLeftByMark now.host o stamp bytes' a.mark now.leaves)) same
-      (subst (λ (b : List ℕ). GoesTo kept (host_after_mark now.host now.operator stamp a.mark) (IsLeftByMark now.host now.operator stamp b a.mark now.leaves)) e a.goes))
-      (mark_wider now.host before.operator stamp bytes' a.mark now.leaves before.leaves wider);
-}
+    → IsActed (seen_from before now) stamp bytes' text kept
+acted_at now before stamp bytes bytes' reply text kept acted stays same wider e f =
+    let a = subst (λ (b : List ℕ). IsActed now stamp b reply kept) e acted in
+    record {
+      mark = a.mark;
+      marked = marked_since now.Steady before.Steady bytes' a.mark stays a.marked;
+      text = f ∙ a.text ∙ ap (λ (o : ℕ). said_text (mark_reply now.host o stamp a.mark)) same;
+      goes = goes_from before now (record { stamp = stamp; bytes = bytes'; mark = a.mark } ∷ []) kept same wider a.goes;
+    }
 
 -- one call of a service after another
 pub open_then : {K : Type 0} {k : Keeping K} {a b c : Service K} → StaysOpen k a b → StaysOpen k b c → StaysOpen k a c
