@@ -10,7 +10,7 @@ use Rattle.std.proofs.lemmas.List.Elements.{All-append, All-cons, All-nil}
 use Rattle.pawn_host.specs.Split.{Ending, at_end, cut, faulted, at_limit, closed, Splits, StopsAt, Begins, IsUnderWay, most_requests}
 use Rattle.pawn_pledge.specs.declared.command.Stamp.{Stamp}
 use Rattle.pawn_book.specs.HostStep.{Host}
-use Rattle.pawn_book.specs.Runs.{read_as, no_memory, no_store, Mark, host_after_mark, mark_reply, event_reply}
+use Rattle.pawn_book.specs.Runs.{read_as, no_memory, no_store, Mark, mark_reply, event_reply}
 use Rattle.pawn_wire.specs.Fault.{wire_fault}
 use Rattle.pawn_wire.specs.Reply.{memory_text, fault_text}
 use Rattle.pawn_host.specs.Run.{Item, IsMarked, IsMarkOf, event_of, said_text}
