@@ -17,7 +17,7 @@ use Rattle.pawn_wire.specs.Request.{Reads}
 use Rattle.pawn_wire.specs.declared.fault.WireFault.{WireFault}
 use Rattle.pawn_wire.proofs.RequestLemmas.{reads_unique}
 use Rattle.pawn_host.specs.Run.{Item, IsMarkOf, IsMarked, event_of, events, host_after, replies, said_text}
-use Rattle.pawn_host.specs.Keeps.{Start, IsRun}
+use Rattle.pawn_host.specs.Keeps.{Start, Kept, IsRun}
 use Rattle.pawn_host.specs.Headline.{AnswerAlone, EqualTracesAnswerAlike, IsRunOfSlots, IsSettled, RunsAnswerAlone, by_bearer, reply_bytes}
 use Rattle.pawn_host.proofs.RunMore.{marked_all}
 
@@ -100,8 +100,8 @@ equal_traces_answer_alike h g operator items others marked also i j item twin an
     ∙ ap (λ (stamp : Stamp). reply_bytes (solo_reply slot (slot_trace b slot g operator (events (take j others))) b stamp asked)) stamps
     ∙ sym ((runs_answer_alone g operator others also).slots j twin other twin_is twin_told b slot asked twin_read mine twin_settled)
 
-pub run_of_slots : (start : Start) (given : List (Stamp × List ℕ)) (answers : List (List ℕ)) (stands : Host → Type 0) → IsRun start given answers stands → IsRunOfSlots start given answers stands
-run_of_slots start given answers stands run =
+pub run_of_slots : (start : Start) (given : List (Stamp × List ℕ)) (answers : List (List ℕ)) (kept : Kept) → IsRun start given answers kept → IsRunOfSlots start given answers kept
+run_of_slots start given answers kept run =
     let marked : All (IsMarked ⊥) run.items = marked_all start.Steady ⊥ run.items (λ (never : ⊥). absurd never) run.marked in
     record {
       run = run;

@@ -2,6 +2,7 @@ pub mod SplitLemmas
 pub mod FindLemmas
 pub mod ReadLemmas
 pub mod SessionLemmas
+pub mod CrashLemmas
 pub mod RunLemmas
 pub mod RunMore
 pub mod LawLemmas

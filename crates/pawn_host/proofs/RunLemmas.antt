@@ -1,5 +1,5 @@
 -- Lemmas on one item of a run.
-use Rattle.std.proofs.Common.{◌≡◌, ◌∙◌, ℕ, Bool, true, false, List, [], ◌∷◌, ◌++◌, ◌⊎◌, arith, inl, inr, refl, ap, sym, subst, Option, Some, None, Result, Ok, Err, codes, if◌then◌else◌}
+use Rattle.std.proofs.Common.{◌≡◌, ◌∙◌, ℕ, Bool, true, false, List, [], ◌∷◌, ◌++◌, ◌⊎◌, ◌<◌, arith, inl, inr, refl, ap, sym, subst, Option, Some, None, Result, Ok, Err, codes, if◌then◌else◌}
 use Rattle.std.specs.Prelude.{unwrap_or, option_map, ◌==◌}
 use Rattle.std.specs.FinMap.{get}
 use Rattle.std.proofs.lemmas.Bool.Decides.{nat_tests}
@@ -18,10 +18,12 @@ use Rattle.pawn_book.specs.declared.reply.Reply.{Reply}
 use Rattle.pawn_book.specs.declared.refusal.Refusal.{Refusal}
 use Rattle.pawn_book.specs.declared.refusal.Refusal.TheVariants as No
 use Rattle.pawn_book.specs.BookStep.{BookValue, Out, Told, Denied, Shown, Outcome, Refuses, Says, out_of, are_unknown, gate_step, pledge_from, pledge_in, show_pledge}
-use Rattle.pawn_book.specs.HostStep.{Host, within_limit, host_step, host_after}
+use Rattle.pawn_book.specs.HostStep.{Host, rows, within_limit, host_step, host_after}
 use Rattle.pawn_book.specs.Sound.{IsSound}
 use Rattle.pawn_book.specs.Runs.{read_as, no_memory, no_store, Answered}
-use Rattle.pawn_book.specs.Plans.{Acts, Gates, IsUnwell, next_host}
+use Rattle.pawn_book.specs.Plans.{Acts, Commits, Gates, IsLeftByAct, IsLeftByStep, IsRefused, IsUnwell, next_host}
+use Rattle.pawn_book.specs.Changes.{with_change}
+use Rattle.pawn_book.specs.declared.change.Change.{Change}
 use Rattle.pawn_view.specs.Text.{presented_text, statement_text}
 use Rattle.pawn_view.specs.Shown.{live_pledges, presentation_of, pledge_at, statement_of}
 use Rattle.pawn_wire.specs.Request.{Reads}
@@ -32,17 +34,14 @@ use Rattle.pawn_wire.specs.declared.fault.WireFault.TheVariants as f
 use Rattle.pawn_host.specs.declared.service.Answer.{Answer}
 use Rattle.pawn_host.specs.declared.service.Answer.TheVariants.{Bytes, Memory}
 use Rattle.pawn_host.specs.Run.{said_text}
-use Rattle.pawn_host.specs.Keeps.{Start, answer_bytes, IsKeyOf, Tells, IsActed}
+use Rattle.pawn_host.specs.Crashes.{IsDone}
+use Rattle.pawn_host.specs.Keeps.{Start, Kept, GoesTo, answer_bytes, IsKeyOf, Tells, IsActed}
+use Rattle.pawn_host.proofs.CrashLemmas.{goes_wider}
 
 -- memory was wanting, and nothing changed
-pub acted_memory : (start : Start) (stamp : Stamp) (bytes reply : List ℕ) (at : Host → Type 0) → reply ≡ memory_text → at start.host → IsSound start.host
-    → IsActed start stamp bytes reply at
-acted_memory start stamp bytes reply at is stands sound = record { mark = no_memory; marked = tt; text = is; stands_for = stands; sound = sound }
-
--- the store failed, and nothing changed
-acted_store : (start : Start) (stamp : Stamp) (bytes reply : List ℕ) (at : Host → Type 0) → reply ≡ out_text (wire.Refused No.Store) → at start.host → IsSound start.host → (start.Steady → ⊥)
-    → IsActed start stamp bytes reply at
-acted_store start stamp bytes reply at is stands sound unsteady = record { mark = no_store; marked = unsteady; text = is; stands_for = stands; sound = sound }
+pub acted_memory : (start : Start) (stamp : Stamp) (bytes reply : List ℕ) (kept : Kept) → reply ≡ memory_text → GoesTo kept start.host start.leaves → IsActed start stamp bytes reply kept
+acted_memory start stamp bytes reply kept is goes =
+    record { mark = no_memory; marked = tt; text = is; goes = goes_wider goes (λ left by. inl by) }
 
 -- ---- bytes that are no request
 
@@ -60,53 +59,113 @@ is_memory f.BadReceipt = inr (λ m. cc)
 is_memory f.BadBody = inr (λ m. cc)
 is_memory f.Memory = inl refl
 
+not_memory : No.Full ≡ No.Memory → ⊥
+not_memory e = cc
+
+not_store : No.Full ≡ No.Store → ⊥
+not_store e = cc
+
 err_same : (a b : WireFault) → ◌≡◌ {A = Result Request WireFault} (Err a) (Err b) → a ≡ b
 err_same a b e = cc
 
-faulted_bytes : (start : Start) (stamp : Stamp) (bytes reply : List ℕ) (at : Host → Type 0) (e : WireFault)
-    → (e ≡ f.Memory) ⊎ Reads bytes (Err e) → reply ≡ fault_text e → at start.host → IsSound start.host → IsActed start stamp bytes reply at
-faulted_bytes start stamp bytes reply at e (inl m) is stands sound = acted_memory start stamp bytes reply at (is ∙ ap fault_text m) stands sound
-faulted_bytes start stamp bytes reply at e (inr x) is stands sound = elim (is_memory e) [
-  | inl m ↦ acted_memory start stamp bytes reply at (is ∙ ap fault_text m) stands sound
-  | inr other ↦ record { mark = read_as (Err e); marked = (x, λ m. other (err_same e f.Memory m)); text = is; stands_for = stands; sound = sound }
+faulted_bytes : (start : Start) (stamp : Stamp) (bytes reply : List ℕ) (kept : Kept) (e : WireFault)
+    → (e ≡ f.Memory) ⊎ Reads bytes (Err e) → reply ≡ fault_text e → GoesTo kept start.host start.leaves → IsActed start stamp bytes reply kept
+faulted_bytes start stamp bytes reply kept e (inl m) is goes = acted_memory start stamp bytes reply kept (is ∙ ap fault_text m) goes
+faulted_bytes start stamp bytes reply kept e (inr x) is goes = elim (is_memory e) [
+  | inl m ↦ acted_memory start stamp bytes reply kept (is ∙ ap fault_text m) goes
+  | inr other ↦ record { mark = read_as (Err e); marked = (x, λ m. other (err_same e f.Memory m)); text = is; goes = goes }
 ]
 
-pub acted_fault : (start : Start) (stamp : Stamp) (bytes : List ℕ) (answer : Answer) (at : Host → Type 0) (e : WireFault)
-    → (e ≡ f.Memory) ⊎ Reads bytes (Err e) → Tells answer (out_text (wire.Fault e)) → at start.host → IsSound start.host → IsActed start stamp bytes (answer_bytes answer) at
-acted_fault start stamp bytes (Bytes v) at e read is stands sound = faulted_bytes start stamp bytes v.items at e read is stands sound
-acted_fault start stamp bytes Memory at e read is stands sound = acted_memory start stamp bytes memory_text at refl stands sound
+pub acted_fault : (start : Start) (stamp : Stamp) (bytes : List ℕ) (answer : Answer) (kept : Kept) (e : WireFault)
+    → (e ≡ f.Memory) ⊎ Reads bytes (Err e) → Tells answer (out_text (wire.Fault e)) → GoesTo kept start.host start.leaves → IsActed start stamp bytes (answer_bytes answer) kept
+acted_fault start stamp bytes (Bytes v) kept e read is goes = faulted_bytes start stamp bytes v.items kept e read is goes
+acted_fault start stamp bytes Memory kept e read is goes = acted_memory start stamp bytes memory_text kept refl goes
 
 -- ---- requests
 
+-- where the keeper goes on after a request's step
+abbrev pub GoesByStep : Start → Stamp → Request → Kept → Type 0
+GoesByStep start stamp request kept =
+    GoesTo kept (next_host start.host start.operator stamp request) (IsLeftByStep start.host request.book (host_step start.host start.operator stamp request) start.leaves)
+
+-- the outcome is the step's
+goes_by : (start : Start) (stamp : Stamp) (request : Request) (kept : Kept) (o : Outcome) → host_step start.host start.operator stamp request ≡ o
+    → GoesTo kept (host_after start.host request.book o) (IsLeftByStep start.host request.book o start.leaves) → GoesByStep start stamp request kept
+goes_by start stamp request kept o is goes =
+    subst (λ (o : Outcome). GoesTo kept (host_after start.host request.book o) (IsLeftByStep start.host request.book o start.leaves)) (sym is) goes
+
 -- the step of the host was told
-acted_said : (start : Start) (stamp : Stamp) (bytes reply : List ℕ) (at : Host → Type 0) (request : Request) (out : Out)
+acted_said : (start : Start) (stamp : Stamp) (bytes reply : List ℕ) (kept : Kept) (request : Request) (out : Out)
     → Reads bytes (Ok request) → out_of (host_step start.host start.operator stamp request) ≡ out → reply ≡ said_text (Answered out)
-    → at (next_host start.host start.operator stamp request) → IsSound (next_host start.host start.operator stamp request) → IsActed start stamp bytes reply at
-acted_said start stamp bytes reply at request out read is text stands sound = record {
+    → GoesByStep start stamp request kept → IsActed start stamp bytes reply kept
+acted_said start stamp bytes reply kept request out read is text goes = record {
   mark = read_as (Ok request);
   marked = (read, λ m. cc);
   text = text ∙ ap (λ (o : Out). said_text (Answered o)) (sym is);
-  stands_for = stands;
-  sound = sound;
+  goes = goes;
 }
 
+-- nothing changed, but for a request that the keeper did not answer, which a crash may leave done all the same
+abbrev pub GoesUnmade : Start → Stamp → Request → Refusal → Kept → Type 0
+GoesUnmade start stamp request why kept =
+    (IsUnwell why × GoesTo kept start.host (IsLeftByAct start.host start.operator stamp request start.leaves (Err why)))
+    ⊎ ((host_step start.host start.operator stamp request ≡ Refuses why) × GoesTo kept start.host start.leaves)
+
+-- it was not answered
+goes_unwell : (start : Start) (stamp : Stamp) (bytes : List ℕ) (request : Request) (why : Refusal) (kept : Kept) → Reads bytes (Ok request)
+    → GoesTo kept start.host (IsLeftByAct start.host start.operator stamp request start.leaves (Err why))
+    → GoesTo kept start.host (λ left. start.leaves left ⊎ IsDone start.host start.operator stamp bytes left)
+goes_unwell start stamp bytes request why kept read goes = goes_wider goes from
+  where
+    from : (left : Host) → IsLeftByAct start.host start.operator stamp request start.leaves (Err why) left → start.leaves left ⊎ IsDone start.host start.operator stamp bytes left
+    from left (inl same) = inl same
+    from left (inr done) = inr (request, read, done.1)
+
 -- it was refused, and that was told
-pub acted_refused : (start : Start) (stamp : Stamp) (bytes : List ℕ) (answer : Answer) (at : Host → Type 0) (request : Request) (why : Refusal)
-    → Reads bytes (Ok request) → Tells answer (out_text (wire.Refused why)) → at start.host → IsSound start.host → IsUnwell why ⊎ (host_step start.host start.operator stamp request ≡ Refuses why) → (start.Steady → why ≡ No.Store → ⊥)
-    → IsActed start stamp bytes (answer_bytes answer) at
-acted_refused start stamp bytes Memory at request why read is stands sound refused calm = acted_memory start stamp bytes memory_text at refl stands sound
-acted_refused start stamp bytes (Bytes v) at request why read is stands sound (inl (inl memory)) calm =
-    acted_memory start stamp bytes v.items at (is ∙ ap (λ (w : Refusal). out_text (wire.Refused w)) memory) stands sound
-acted_refused start stamp bytes (Bytes v) at request why read is stands sound (inl (inr store)) calm =
-    acted_store start stamp bytes v.items at (is ∙ ap (λ (w : Refusal). out_text (wire.Refused w)) store) stands sound (λ steady. calm steady store)
-acted_refused start stamp bytes (Bytes v) at request why read is stands sound (inr step) calm =
-    let after : next_host start.host start.operator stamp request ≡ start.host = ap (λ (o : Outcome). host_after start.host request.book o) step in
-    acted_said start stamp bytes v.items at request (Denied why) read (ap out_of step) is (subst at (sym after) stands) (subst IsSound (sym after) sound)
+pub acted_unmade : (start : Start) (stamp : Stamp) (bytes : List ℕ) (answer : Answer) (kept : Kept) (request : Request) (why : Refusal)
+    → Reads bytes (Ok request) → Tells answer (out_text (wire.Refused why)) → GoesUnmade start stamp request why kept → (start.Steady → why ≡ No.Store → ⊥)
+    → IsActed start stamp bytes (answer_bytes answer) kept
+acted_unmade start stamp bytes Memory kept request why read is (inl unwell) calm =
+    record { mark = no_memory; marked = tt; text = refl; goes = goes_unwell start stamp bytes request why kept read unwell.1 }
+acted_unmade start stamp bytes Memory kept request why read is (inr refused) calm = acted_memory start stamp bytes memory_text kept refl refused.1
+acted_unmade start stamp bytes (Bytes v) kept request why read is (inl (inl memory, goes)) calm =
+    record { mark = no_memory; marked = tt; text = is ∙ ap (λ (w : Refusal). out_text (wire.Refused w)) memory; goes = goes_unwell start stamp bytes request why kept read goes }
+acted_unmade start stamp bytes (Bytes v) kept request why read is (inl (inr store, goes)) calm =
+    record { mark = no_store; marked = λ steady. calm steady store; text = is ∙ ap (λ (w : Refusal). out_text (wire.Refused w)) store; goes = goes_unwell start stamp bytes request why kept read goes }
+acted_unmade start stamp bytes (Bytes v) kept request why read is (inr refused) calm =
+    acted_said start stamp bytes v.items kept request (Denied why) read (ap out_of refused.0) is (goes_by start stamp request kept (Refuses why) refused.0 refused.1)
+
+-- the same, where the keeper was read alone
+pub acted_refused : (start : Start) (stamp : Stamp) (bytes : List ℕ) (answer : Answer) (kept : Kept) (request : Request) (why : Refusal)
+    → Reads bytes (Ok request) → Tells answer (out_text (wire.Refused why)) → GoesTo kept start.host start.leaves → IsRefused (host_step start.host start.operator stamp request) why → (start.Steady → why ≡ No.Store → ⊥)
+    → IsActed start stamp bytes (answer_bytes answer) kept
+acted_refused start stamp bytes answer kept request why read is goes (inl unwell) calm =
+    acted_unmade start stamp bytes answer kept request why read is (inl (unwell, goes_wider goes (λ left by. inl by))) calm
+acted_refused start stamp bytes answer kept request why read is goes (inr step) calm = acted_unmade start stamp bytes answer kept request why read is (inr (step, goes)) calm
 
 -- it was acted on, and that was told
-pub acted_done : (start : Start) (stamp : Stamp) (bytes text : List ℕ) (at : Host → Type 0) (request : Request) (reply : Reply)
-    → Reads bytes (Ok request) → text ≡ out_text (wire.Done reply) → Acts start.host start.operator stamp request (Ok reply) at → IsActed start stamp bytes text at
-acted_done start stamp bytes text at request reply read is acts = acted_said start stamp bytes text at request (Told reply) read acts.0 is acts.1 acts.2
+pub acted_done : (start : Start) (stamp : Stamp) (bytes text : List ℕ) (kept : Kept) (request : Request) (reply : Reply)
+    → Reads bytes (Ok request) → text ≡ out_text (wire.Done reply) → Acts start.host start.operator stamp request (Ok reply) kept.stands
+    → ((left : Host) → kept.leaves left → IsLeftByAct start.host start.operator stamp request start.leaves (Ok reply) left) → IsActed start stamp bytes text kept
+acted_done start stamp bytes text kept request reply read is acts crash =
+    acted_said start stamp bytes text kept request (Told reply) read acts.0 is (record { stands_for = acts.1; sound = acts.2; crash = crash })
+
+-- a change was not made: where there was no room for it a crash does not leave it either
+pub goes_unmade : (start : Start) (stamp : Stamp) (request : Request) (kept : Kept) (change : Option Change) (why : Refusal) → IsSound start.host
+    → Commits start.host change (Err why) kept.stands → Acts start.host start.operator stamp request (Err why) kept.stands
+    → ((left : Host) → kept.leaves left → IsLeftByAct start.host start.operator stamp request start.leaves (Err why) left) → GoesUnmade start stamp request why kept
+goes_unmade start stamp request kept change why sound made (at, inl unwell) crash = inl (unwell, record { stands_for = at; sound = sound; crash = crash })
+goes_unmade start stamp request kept None why sound made (at, inr step) crash = absurd made
+goes_unmade start stamp request kept (Some change) why sound made (at, inr step) crash = from made.1
+  where
+    still : (left : Host) → why ≡ No.Full → IsLeftByAct start.host start.operator stamp request start.leaves (Err why) left → start.leaves left
+    still left full (inl same) = same
+    still left full (inr (inl memory, done)) = absurd (not_memory (sym full ∙ memory))
+    still left full (inr (inr store, done)) = absurd (not_store (sym full ∙ store))
+
+    from : IsUnwell why ⊎ ((why ≡ No.Full) × (start.host.limit < rows (with_change start.host change))) → GoesUnmade start stamp request why kept
+    from (inl unwell) = inl (unwell, record { stands_for = at; sound = sound; crash = crash })
+    from (inr full) = inr (step, record { stands_for = at; sound = sound; crash = λ left by. still left full.0 (crash left by) })
 
 pub err_is : {V : Type 0} (r : Result V Refusal) (why : Refusal) → r ≡ Err why → why ≡ No.Store → r ≡ Err No.Store
 err_is r why is store = is ∙ ap (λ (w : Refusal). Err w) store
@@ -145,20 +204,20 @@ nothing_shown h operator stamp book day receipts is =
     step_unknown h operator stamp book receipts (text_unknown (are_unknown (live_pledges h book receipts)) (presented_text day (live_pledges h book receipts)) is)
 
 -- the text of the receipts was told
-pub acted_shown : (start : Start) (stamp : Stamp) (bytes : List ℕ) (answer : Answer) (at : Host → Type 0) (book day : ℕ) (receipts : List Receipt) (text out : List ℕ)
+pub acted_shown : (start : Start) (stamp : Stamp) (bytes : List ℕ) (answer : Answer) (kept : Kept) (book day : ℕ) (receipts : List Receipt) (text out : List ℕ)
     → Reads bytes (Ok (present_request book receipts)) → day ≡ stamp.day → presentation_of start.host book receipts day ≡ Some text → text ≡ out
-    → Tells answer (reply_text 200 (codes "text/plain; charset=utf-8") out) → at start.host → IsSound start.host
-    → IsActed start stamp bytes (answer_bytes answer) at
-acted_shown start stamp bytes Memory at book day receipts text out read day_is is all tells stands sound = acted_memory start stamp bytes memory_text at refl stands sound
-acted_shown start stamp bytes (Bytes v) at book day receipts text out read day_is is all tells stands sound =
+    → Tells answer (reply_text 200 (codes "text/plain; charset=utf-8") out) → GoesTo kept start.host start.leaves
+    → IsActed start stamp bytes (answer_bytes answer) kept
+acted_shown start stamp bytes Memory kept book day receipts text out read day_is is all tells goes = acted_memory start stamp bytes memory_text kept refl goes
+acted_shown start stamp bytes (Bytes v) kept book day receipts text out read day_is is all tells goes =
     let shown = live_pledges start.host book receipts in
     let known = text_known (are_unknown shown) (presented_text day shown) text is in
     let step = step_known start.host start.operator stamp book receipts known.0 in
     let request : Request = present_request book receipts in
-    let after : next_host start.host start.operator stamp request ≡ start.host = ap (λ (o : Outcome). host_after start.host book o) step in
+    let said : Out = Shown stamp.day shown in
     let same : out ≡ presented_text stamp.day shown = sym all ∙ known.1 ∙ ap (λ (x : ℕ). presented_text x shown) day_is in
-    acted_said start stamp bytes v.items at request (Shown stamp.day shown) read (ap out_of step) (tells ∙ ap (reply_text 200 (codes "text/plain; charset=utf-8")) same)
-    (subst at (sym after) stands) (subst IsSound (sym after) sound)
+    acted_said start stamp bytes v.items kept request said read (ap out_of step) (tells ∙ ap (reply_text 200 (codes "text/plain; charset=utf-8")) same)
+    (goes_by start stamp request kept (Says said) step goes)
 
 -- ---- a pledge
 
@@ -186,26 +245,26 @@ no_pledge h operator stamp book key number day with_key none = step_key h operat
     from (Some p) none = cc none
 
 -- the statement of a pledge was told
-pub acted_statement : (start : Start) (stamp : Stamp) (bytes : List ℕ) (answer : Answer) (at : Host → Type 0) (book key number day : ℕ) (text out : List ℕ)
+pub acted_statement : (start : Start) (stamp : Stamp) (bytes : List ℕ) (answer : Answer) (kept : Kept) (book key number day : ℕ) (text out : List ℕ)
     → Reads bytes (Ok (show_request book key number)) → IsKeyOf start.host book key → day ≡ stamp.day → statement_of start.host book number day ≡ Some text → text ≡ out
-    → Tells answer (reply_text 200 (codes "text/plain; charset=utf-8") out) → at start.host → IsSound start.host
-    → IsActed start stamp bytes (answer_bytes answer) at
-acted_statement start stamp bytes Memory at book key number day text out read with_key day_is is all tells stands sound =
-    acted_memory start stamp bytes memory_text at refl stands sound
-acted_statement start stamp bytes (Bytes v) at book key number day text out read with_key day_is is all tells stands sound =
+    → Tells answer (reply_text 200 (codes "text/plain; charset=utf-8") out) → GoesTo kept start.host start.leaves
+    → IsActed start stamp bytes (answer_bytes answer) kept
+acted_statement start stamp bytes Memory kept book key number day text out read with_key day_is is all tells goes =
+    acted_memory start stamp bytes memory_text kept refl goes
+acted_statement start stamp bytes (Bytes v) kept book key number day text out read with_key day_is is all tells goes =
     from (pledge_at start.host book number) refl is
   where
-    from : (o : Option PledgeValue) → pledge_at start.host book number ≡ o → option_map (statement_text day) o ≡ Some text → IsActed start stamp bytes v.items at
+    from : (o : Option PledgeValue) → pledge_at start.host book number ≡ o → option_map (statement_text day) o ≡ Some text → IsActed start stamp bytes v.items kept
     from None there is = cc is
     from (Some p) there is =
         let request : Request = show_request book key number in
-        let step : host_step start.host start.operator stamp request ≡ Says (Shown stamp.day (Some p ∷ [])) =
+        let said : Out = Shown stamp.day (Some p ∷ []) in
+        let step : host_step start.host start.operator stamp request ≡ Says said =
         step_key start.host start.operator stamp book key number with_key ∙ ap (λ o. within_limit start.host book (show_pledge stamp o)) there in
-        let after : next_host start.host start.operator stamp request ≡ start.host = ap (λ (o : Outcome). host_after start.host book o) step in
         let same : out ≡ presented_text stamp.day (Some p ∷ []) =
         sym all ∙ sym (some_same is) ∙ ap (λ (x : ℕ). statement_text x p) day_is ∙ sym (append-nil (statement_text stamp.day p)) in
-        acted_said start stamp bytes v.items at request (Shown stamp.day (Some p ∷ [])) read (ap out_of step)
-        (tells ∙ ap (reply_text 200 (codes "text/plain; charset=utf-8")) same) (subst at (sym after) stands) (subst IsSound (sym after) sound)
+        acted_said start stamp bytes v.items kept request said read (ap out_of step)
+        (tells ∙ ap (reply_text 200 (codes "text/plain; charset=utf-8")) same) (goes_by start stamp request kept (Says said) step goes)
 
 -- the key was another's, or the keeper did not answer
 pub gate_refused : (h : Host) (operator : ℕ) (stamp : Stamp) (book key number : ℕ) (why : Refusal) → Gates (get h.books book) key (Err why)

@@ -5,22 +5,14 @@ use Rattle.std.proofs.lemmas.List.{map_more}
 use Rattle.std.proofs.lemmas.List.Elements.{All-append, All-cons, All-nil, All-head, All-tail}
 use Rattle.pawn_pledge.specs.declared.command.Stamp.{Stamp}
 use Rattle.pawn_book.specs.HostStep.{Host}
-use Rattle.pawn_book.specs.Sound.{IsSound}
-use Rattle.pawn_book.specs.Runs.{mark_reply, host_after_event, event_reply}
+use Rattle.pawn_book.specs.Runs.{host_after_event, event_reply}
 use Rattle.pawn_host.specs.declared.service.Answer.{Answer}
 use Rattle.pawn_host.specs.Run.{Item, IsMarked, input_of, event_of, said_text, host_after, replies}
-use Rattle.pawn_host.specs.Keeps.{Start, from_host, host_by, replies_by, IsActed, IsRun, answer_bytes}
-use Rattle.pawn_host.proofs.SessionLemmas.{host_after-snoc, map-snoc, marked_since}
-
-replies-snoc : (h : Host) (operator : ℕ) (items : List Item) (i : Item) → replies h operator (items ++ i ∷ []) ≡ replies h operator items ++ said_text (mark_reply (host_after h operator items) operator i.stamp i.mark) ∷ []
-replies-snoc h operator [] i = refl
-replies-snoc h operator (x ∷ items) i = ap (λ (l : List (List ℕ)). said_text (event_reply h operator (event_of x)) ∷ l) (replies-snoc (host_after_event h operator (event_of x)) operator items i)
+use Rattle.pawn_host.specs.Keeps.{Start, Kept, start_after, replies_by, IsActed, IsRun, answer_bytes}
+use Rattle.pawn_host.proofs.CrashLemmas.{goes-append}
+use Rattle.pawn_host.proofs.SessionLemmas.{map-snoc, marked_since}
 
 -- two runs in turn
-pub host_after-append : (h : Host) (operator : ℕ) (a b : List Item) → host_after h operator (a ++ b) ≡ host_after (host_after h operator a) operator b
-host_after-append h operator [] b = refl
-host_after-append h operator (x ∷ a) b = host_after-append (host_after_event h operator (event_of x)) operator a b
-
 pub replies-append : (h : Host) (operator : ℕ) (a b : List Item) → replies h operator (a ++ b) ≡ replies h operator a ++ replies (host_after h operator a) operator b
 replies-append h operator [] b = refl
 replies-append h operator (x ∷ a) b = ap (λ (l : List (List ℕ)). said_text (event_reply h operator (event_of x)) ∷ l) (replies-append (host_after_event h operator (event_of x)) operator a b)
@@ -31,29 +23,28 @@ marked_all Now Before [] stays marked = All-nil (IsMarked Before)
 marked_all Now Before (i ∷ items) stays marked =
     All-cons (IsMarked Before) i items (marked_since Now Before i.bytes i.mark stays (All-head (IsMarked Now) i items marked)) (marked_all Now Before items stays (All-tail (IsMarked Now) i items marked))
 
-run_more : (start : Start) (given : List (Stamp × List ℕ)) (answers : List (List ℕ)) (at at' : Host → Type 0) (stamp : Stamp) (bytes reply : List ℕ)
-    → (r : IsRun start given answers at) → IsActed (from_host start (host_by start r.items)) stamp bytes reply at'
-    → IsRun start (given ++ (stamp, bytes) ∷ []) (answers ++ reply ∷ []) at'
-run_more start given answers at at' stamp bytes reply r a =
+run_more : (start : Start) (given : List (Stamp × List ℕ)) (answers : List (List ℕ)) (kept kept' : Kept) (stamp : Stamp) (bytes reply : List ℕ)
+    → (r : IsRun start given answers kept) → IsActed (start_after start r.items) stamp bytes reply kept'
+    → IsRun start (given ++ (stamp, bytes) ∷ []) (answers ++ reply ∷ []) kept'
+run_more start given answers kept kept' stamp bytes reply r a =
     let item : Item = record { stamp = stamp; bytes = bytes; mark = a.mark } in
     record {
       items = r.items ++ item ∷ [];
       marked = All-append (IsMarked start.Steady) r.items (item ∷ []) r.marked (All-cons (IsMarked start.Steady) item [] a.marked (All-nil (IsMarked start.Steady)));
       given_is = map-snoc input_of r.items item ∙ ap (λ (l : List (Stamp × List ℕ)). l ++ (stamp, bytes) ∷ []) r.given_is;
-      answers_are = ap (λ (l : List (List ℕ)). l ++ reply ∷ []) r.answers_are ∙ ap (λ (t : List ℕ). replies_by start r.items ++ t ∷ []) a.text ∙ sym (replies-snoc start.host start.operator r.items item);
-      stands_for = subst at' (sym (host_after-snoc start.host start.operator r.items item)) a.stands_for;
-      sound = subst IsSound (sym (host_after-snoc start.host start.operator r.items item)) a.sound;
+      answers_are = ap (λ (l : List (List ℕ)). l ++ reply ∷ []) r.answers_are ∙ ap (λ (t : List ℕ). replies_by start r.items ++ t ∷ []) a.text ∙ sym (replies-append start.host start.operator r.items (item ∷ []));
+      goes = goes-append start kept' r.items (item ∷ []) a.goes;
     }
 
 -- a turn of the loop over the items
-pub run_turn : (start : Start) (at at' : Host → Type 0) (i : ℕ) (items : List (Stamp × Vec ℕ Global)) (item : Stamp × Vec ℕ Global) (answers answers' : List Answer) (answer : Answer)
+pub run_turn : (start : Start) (kept kept' : Kept) (i : ℕ) (items : List (Stamp × Vec ℕ Global)) (item : Stamp × Vec ℕ Global) (answers answers' : List Answer) (answer : Answer)
     → i < length items → item ≡ get_or items i item → answers' ≡ answers ++ answer ∷ []
-    → (r : IsRun start (map (λ p. (p.0, p.1.items)) (take i items)) (map answer_bytes answers) at)
-    → IsActed (from_host start (host_by start r.items)) item.0 item.1.items (answer_bytes answer) at'
-    → IsRun start (map (λ p. (p.0, p.1.items)) (take (i + 1) items)) (map answer_bytes answers') at'
-run_turn start at at' i items item answers answers' answer lt is grown r a =
+    → (r : IsRun start (map (λ p. (p.0, p.1.items)) (take i items)) (map answer_bytes answers) kept)
+    → IsActed (start_after start r.items) item.0 item.1.items (answer_bytes answer) kept'
+    → IsRun start (map (λ p. (p.0, p.1.items)) (take (i + 1) items)) (map answer_bytes answers') kept'
+run_turn start kept kept' i items item answers answers' answer lt is grown r a =
     let F : Stamp × Vec ℕ Global → Stamp × List ℕ = λ p. (p.0, p.1.items) in
-    let more = run_more start (map F (take i items)) (map answer_bytes answers) at at' item.0 item.1.items (answer_bytes answer) r a in
+    let more = run_more start (map F (take i items)) (map answer_bytes answers) kept kept' item.0 item.1.items (answer_bytes answer) r a in
     let given : map F (take i items) ++ (item.0, item.1.items) ∷ [] ≡ map F (take (i + 1) items) = ap (λ (p : Stamp × Vec ℕ Global). map F (take i items) ++ F p ∷ []) is ∙ sym (map_more F items i item lt) in
     let told : map answer_bytes answers ++ answer_bytes answer ∷ [] ≡ map answer_bytes answers' = sym (map-snoc answer_bytes answers answer) ∙ ap (map answer_bytes) (sym grown) in
-    subst (λ (t : List (List ℕ)). IsRun start (map F (take (i + 1) items)) t at') told (subst (λ (l : List (Stamp × List ℕ)). IsRun start l (map answer_bytes answers ++ answer_bytes answer ∷ []) at') given more)
+    subst (λ (t : List (List ℕ)). IsRun start (map F (take (i + 1) items)) t kept') told (subst (λ (l : List (Stamp × List ℕ)). IsRun start l (map answer_bytes answers ++ answer_bytes answer ∷ []) kept') given more)

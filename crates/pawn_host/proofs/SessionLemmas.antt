@@ -10,15 +10,15 @@ use Rattle.std.proofs.lemmas.List.Elements.{All-append, All-cons, All-nil}
 use Rattle.pawn_host.specs.Split.{Ending, at_end, cut, faulted, at_limit, closed, Splits, StopsAt, Begins, IsUnderWay, most_requests}
 use Rattle.pawn_pledge.specs.declared.command.Stamp.{Stamp}
 use Rattle.pawn_book.specs.HostStep.{Host}
-use Rattle.pawn_book.specs.Sound.{IsSound}
-use Rattle.pawn_book.specs.Runs.{read_as, no_memory, no_store, Mark, host_after_mark, mark_reply, host_after_event, event_reply}
+use Rattle.pawn_book.specs.Runs.{read_as, no_memory, no_store, Mark, mark_reply, event_reply}
 use Rattle.pawn_wire.specs.Fault.{wire_fault}
 use Rattle.pawn_wire.specs.Reply.{memory_text, fault_text}
-use Rattle.pawn_host.specs.Run.{Item, IsMarked, IsMarkOf, event_of, said_text, host_after}
+use Rattle.pawn_host.specs.Run.{Item, IsMarked, IsMarkOf, event_of, said_text}
 use Rattle.pawn_book.proofs.Reading.{on_then}
 use Rattle.pawn_book.specs.Keeping.{Keeping}
 use Rattle.pawn_host.specs.declared.service.Service.{Service}
-use Rattle.pawn_host.specs.Keeps.{Start, from_host, host_by, StaysOpen, IsActed}
+use Rattle.pawn_host.specs.Keeps.{Start, Kept, GoesTo, start_after, host_by, StaysOpen, IsActed}
+use Rattle.pawn_host.proofs.CrashLemmas.{seen_from, goes_from, goes-append}
 use Rattle.pawn_host.specs.Finding.{Finds, FindsRest, StopsBy, IsCausedBy}
 use Rattle.pawn_host.proofs.FindLemmas.{not_by_writer}
 use Rattle.pawn_host.specs.Session.{Given, IsServed, IsSession, HasRoom, HadRoom, IsWithinMost, EndsAs, DueAfter, IsFinished, IsLeftBy, IsLeft, IsOver, AreTaken, acted_count, answer_text, requests_of, stamps_of}
@@ -36,16 +36,12 @@ use Rattle.pawn_host.proofs.SplitLemmas.{SplitsOn, splits_start, splits_more, sp
 
 -- ---- one more item
 
-pub host_after-snoc : (h : Host) (operator : ℕ) (items : List Item) (i : Item) → host_after h operator (items ++ i ∷ []) ≡ host_after_mark (host_after h operator items) operator i.stamp i.mark
-host_after-snoc h operator [] i = refl
-host_after-snoc h operator (x ∷ items) i = host_after-snoc (host_after_event h operator (event_of x)) operator items i
-
 pub answer_text-snoc : (start : Start) (items : List Item) (i : Item)
     → answer_text start (items ++ i ∷ []) ≡ answer_text start items ++ said_text (mark_reply (host_by start items) start.operator i.stamp i.mark)
 answer_text-snoc start [] i = append-nil (said_text (mark_reply start.host start.operator i.stamp i.mark))
 answer_text-snoc start (x ∷ items) i =
     let one : List ℕ = said_text (event_reply start.host start.operator (event_of x)) in
-    let next : Start = from_host start (host_after_event start.host start.operator (event_of x)) in
+    let next : Start = start_after start (x ∷ []) in
     ap (λ (l : List ℕ). one ++ l) (answer_text-snoc next items i)
     ∙ sym (append_assoc one (answer_text next items) (said_text (mark_reply (host_by next items) start.operator i.stamp i.mark)))
 
@@ -130,20 +126,20 @@ length-map f (a ∷ xs) = ap (λ (n : ℕ). suc n) (length-map f xs)
 
 module _ {S : Type 0} (steps : S → Option Stamp → S → Type 0) (given : Given S) where
   -- these requests were acted on and answered, and the rest of the stream is left
-  pub record SoFar (to : S) (at : Host → Type 0) (rest new : Option (List ℕ)) (acted sent : ℕ) : Type 0 where
+  pub record SoFar (to : S) (kept : Kept) (rest new : Option (List ℕ)) (acted sent : ℕ) : Type 0 where
     pub items : List Item
-    pub served : IsServed steps given items to at
+    pub served : IsServed steps given items to kept
     pub count : length items ≡ acted
     pub sent_is : sent ≡ length (answer_text given.start items)
     pub wrote : Appends given.written new (answer_text given.start items)
     pub splits : SplitsOn given.stream rest (requests_of items)
 
 -- no request was acted on yet
-pub starts : {S : Type 0} {steps : S → Option Stamp → S → Type 0} {given : Given S} {at : Host → Type 0} (buffer : List ℕ) → at given.start.host → IsSound given.start.host → buffer ≡ []
-    → SoFar steps given given.stamps at (prepend_known buffer given.stream) given.written 0 0
-starts {given = given} buffer at sound empty = record {
+pub starts : {S : Type 0} {steps : S → Option Stamp → S → Type 0} {given : Given S} {kept : Kept} (buffer : List ℕ) → GoesTo kept given.start.host given.start.leaves → buffer ≡ []
+    → SoFar steps given given.stamps kept (prepend_known buffer given.stream) given.written 0 0
+starts {given = given} buffer goes empty = record {
   items = [];
-  served = record { marked = All-nil (IsMarked _); taken = refl; stands_for = at; sound = sound };
+  served = record { marked = All-nil (IsMarked _); taken = refl; goes = goes };
   count = refl;
   sent_is = refl;
   wrote = Appends-nil given.written;
@@ -152,9 +148,9 @@ starts {given = given} buffer at sound empty = record {
 
 module _ {S : Type 0} (steps : S → Option Stamp → S → Type 0) (given : Given S) where
   -- one more request was acted on
-  record Stepped (to : S) (at : Host → Type 0) (acted : ℕ) (before : List ℕ) (requests : List (List ℕ)) (text bytes : List ℕ) : Type 0 where
+  record Stepped (to : S) (kept : Kept) (acted : ℕ) (before : List ℕ) (requests : List (List ℕ)) (text bytes : List ℕ) : Type 0 where
     pub items : List Item
-    pub served : IsServed steps given items to at
+    pub served : IsServed steps given items to kept
     pub count : length items ≡ acted + 1
     pub text_is : answer_text given.start items ≡ before ++ text
     pub requests_is : requests_of items ≡ requests ++ bytes ∷ []
@@ -174,17 +170,18 @@ marked_since Now Before bytes (read_as said) stays marked = marked
 marked_since Now Before bytes no_memory stays marked = marked
 marked_since Now Before bytes no_store stays marked = λ before. marked (stays before)
 
--- the same item, by equal bytes, an equal text and the same operator, and seen from an earlier keeper
-pub acted_at : (now before : Start) (stamp : Stamp) (bytes bytes' reply text : List ℕ) (at : Host → Type 0)
-    → IsActed now stamp bytes reply at → (before.Steady → now.Steady) → now.operator ≡ before.operator → bytes ≡ bytes' → text ≡ reply
-    → IsActed (from_host before now.host) stamp bytes' text at
-acted_at now before stamp bytes bytes' reply text at a stays same e f = record {
-  mark = a.mark;
-  marked = marked_since now.Steady before.Steady bytes' a.mark stays (subst (λ (b : List ℕ). IsMarkOf now.Steady b a.mark) e a.marked);
-  text = f ∙ a.text ∙ ap (λ (o : ℕ). said_text (mark_reply now.host o stamp a.mark)) same;
-  stands_for = subst (λ (o : ℕ). at (host_after_mark now.host o stamp a.mark)) same a.stands_for;
-  sound = subst (λ (o : ℕ). IsSound (host_after_mark now.host o stamp a.mark)) same a.sound;
-}
+-- the same item, by equal bytes, an equal text and the same operator, and seen from an earlier start
+pub acted_at : (now before : Start) (stamp : Stamp) (bytes bytes' reply text : List ℕ) (kept : Kept)
+    → IsActed now stamp bytes reply kept → (before.Steady → now.Steady) → now.operator ≡ before.operator → ((left : Host) → now.leaves left → before.leaves left) → bytes ≡ bytes' → text ≡ reply
+    → IsActed (seen_from before now) stamp bytes' text kept
+acted_at now before stamp bytes bytes' reply text kept acted stays same wider e f =
+    let a = subst (λ (b : List ℕ). IsActed now stamp b reply kept) e acted in
+    record {
+      mark = a.mark;
+      marked = marked_since now.Steady before.Steady bytes' a.mark stays a.marked;
+      text = f ∙ a.text ∙ ap (λ (o : ℕ). said_text (mark_reply now.host o stamp a.mark)) same;
+      goes = goes_from before now (record { stamp = stamp; bytes = bytes'; mark = a.mark } ∷ []) kept same wider a.goes;
+    }
 
 -- one call of a service after another
 pub open_then : {K : Type 0} {k : Keeping K} {a b c : Service K} → StaysOpen k a b → StaysOpen k b c → StaysOpen k a c
@@ -198,9 +195,9 @@ wrote_more old new new' before text after count is wrote send =
 
 module _ {S : Type 0} {steps : S → Option Stamp → S → Type 0} {given : Given S} where
   -- an end without a last text
-  pub ended : {to : S} {at : Host → Type 0} {rest new : Option (List ℕ)} {acted sent : ℕ} (how : How) (so : SoFar steps given to at rest new acted sent)
-      → (last : S) → IsLeftBy steps how to last → EndsAs how given.stream (requests_of so.items) [] → IsSession steps given last at new (Ok (record { how = how; acted = acted }))
-  ended {to} {at} {rest} {new} {acted} {sent} how so last stamps ends = record {
+  pub ended : {to : S} {kept : Kept} {rest new : Option (List ℕ)} {acted sent : ℕ} (how : How) (so : SoFar steps given to kept rest new acted sent)
+      → (last : S) → IsLeftBy steps how to last → EndsAs how given.stream (requests_of so.items) [] → IsSession steps given last new (Ok (record { how = how; acted = acted })) kept
+  ended {to} {kept} {rest} {new} {acted} {sent} how so last stamps ends = record {
     items = so.items;
     to = to;
     last = [];
@@ -211,21 +208,21 @@ module _ {S : Type 0} {steps : S → Option Stamp → S → Type 0} {given : Giv
     ends = ends;
   }
 
-  pub ended_limit : {to : S} {at : Host → Type 0} {rest new : Option (List ℕ)} {acted sent : ℕ} (so : SoFar steps given to at rest new acted sent)
-      → acted ≡ 1000 → IsSession steps given to at new (Ok (record { how = Limit; acted = 1000 }))
-  ended_limit {to} {at} {rest} {new} {acted} {sent} so many =
-      subst (λ (k : ℕ). IsSession steps given to at new (Ok (record { how = Limit; acted = k }))) many
+  pub ended_limit : {to : S} {kept : Kept} {rest new : Option (List ℕ)} {acted sent : ℕ} (so : SoFar steps given to kept rest new acted sent)
+      → acted ≡ 1000 → IsSession steps given to new (Ok (record { how = Limit; acted = 1000 })) kept
+  ended_limit {to} {kept} {rest} {new} {acted} {sent} so many =
+      subst (λ (k : ℕ). IsSession steps given to new (Ok (record { how = Limit; acted = k })) kept) many
       (ended Limit so to refl (refl, splits_ending given.stream rest (requests_of so.items) at_limit so.splits (stops_limit rest (length (requests_of so.items)) (omega (arith, so.count, length-map (λ (i : Item). i.bytes) so.items)))))
 
-  pub ended_dry : {to u : S} {at : Host → Type 0} {rest new : Option (List ℕ)} {acted sent : ℕ} (head : HeadFacts) (so : SoFar steps given to at rest new acted sent)
-      → acted < 1000 → steps to None u → IfSome rest (λ r. Finds r (Ok head)) → IsSession steps given u at new (Ok (record { how = NoStamp; acted = acted }))
+  pub ended_dry : {to u : S} {kept : Kept} {rest new : Option (List ℕ)} {acted sent : ℕ} (head : HeadFacts) (so : SoFar steps given to kept rest new acted sent)
+      → acted < 1000 → steps to None u → IfSome rest (λ r. Finds r (Ok head)) → IsSession steps given u new (Ok (record { how = NoStamp; acted = acted })) kept
   ended_dry {u = u} {rest = rest} {acted = acted} head so few dry first =
       ended NoStamp so u dry (refl, splits_goes_on given.stream rest (requests_of so.items) head so.splits first (few_requests so.items acted so.count few))
 
   -- broken off by the reader
-  broken_off : {to : S} {at : Host → Type 0} {rest new : Option (List ℕ)} {acted sent : ℕ} (cause : Cause) (so : SoFar steps given to at rest new acted sent)
-      → acted < 1000 → cause ≢ Write → IsSession steps given to at new (Err (record { cause = cause; acted = acted; sent = sent }))
-  broken_off {to} {at} {rest} {new} {acted} {sent} cause so few by_reader =
+  broken_off : {to : S} {kept : Kept} {rest new : Option (List ℕ)} {acted sent : ℕ} (cause : Cause) (so : SoFar steps given to kept rest new acted sent)
+      → acted < 1000 → cause ≢ Write → IsSession steps given to new (Err (record { cause = cause; acted = acted; sent = sent })) kept
+  broken_off {to} {kept} {rest} {new} {acted} {sent} cause so few by_reader =
       let all : length (answer_text given.start so.items ++ []) ≡ sent = ap length (append-nil (answer_text given.start so.items)) ∙ sym so.sent_is in
       let whole_text : answer_text given.start so.items ≡ take sent (answer_text given.start so.items ++ []) = sym (append-nil (answer_text given.start so.items)) ∙ sym (take_all sent (answer_text given.start so.items ++ []) (omega arith)) in
       record {
@@ -248,9 +245,9 @@ module _ {S : Type 0} {steps : S → Option Stamp → S → Type 0} {given : Giv
       due Write by_reader = absurd (by_reader refl)
 
   -- a last text was written, or a part of it
-  finished : {to : S} {at : Host → Type 0} {rest new : Option (List ℕ)} {acted sent : ℕ} (new' : Option (List ℕ)) (failed : Bool) (how : How) (text : List ℕ) (result : Result Ended IoFault) (so : SoFar steps given to at rest new acted sent)
-      → IsLeftBy steps how to to → EndsAs how given.stream (requests_of so.items) text → DueAfter Write given.stream (requests_of so.items) text → IsFinished how acted sent text new new' failed result → IsSession steps given to at new' result
-  finished {to} {at} {rest} {new} {acted} {sent} new' failed how text (Ok ended) so stamps ends due fin = record {
+  finished : {to : S} {kept : Kept} {rest new : Option (List ℕ)} {acted sent : ℕ} (new' : Option (List ℕ)) (failed : Bool) (how : How) (text : List ℕ) (result : Result Ended IoFault) (so : SoFar steps given to kept rest new acted sent)
+      → IsLeftBy steps how to to → EndsAs how given.stream (requests_of so.items) text → DueAfter Write given.stream (requests_of so.items) text → IsFinished how acted sent text new new' failed result → IsSession steps given to new' result kept
+  finished {to} {kept} {rest} {new} {acted} {sent} new' failed how text (Ok ended) so stamps ends due fin = record {
     items = so.items;
     to = to;
     last = text;
@@ -260,7 +257,7 @@ module _ {S : Type 0} {steps : S → Option Stamp → S → Type 0} {given : Giv
     wrote = Appends-trans given.written new new' (answer_text given.start so.items) text so.wrote fin.2;
     ends = subst (λ (h : How). EndsAs h given.stream (requests_of so.items) text) (sym fin.0) ends;
   }
-  finished {to} {at} {rest} {new} {acted} {sent} new' failed how text (Err fault) so stamps ends due fin =
+  finished {to} {kept} {rest} {new} {acted} {sent} new' failed how text (Err fault) so stamps ends due fin =
       let n : ℕ = fin.0 in
       let sum : fault.sent ≡ length (answer_text given.start so.items) + n = fin.4 ∙ ap (λ (k : ℕ). k + n) so.sent_is in
       let front : take fault.sent (answer_text given.start so.items ++ text) ≡ answer_text given.start so.items ++ take n text = ap (λ (k : ℕ). take k (answer_text given.start so.items ++ text)) sum ∙ take-append-add (answer_text given.start so.items) text n in
@@ -276,9 +273,9 @@ module _ {S : Type 0} {steps : S → Option Stamp → S → Type 0} {given : Giv
       }
 
   -- no further request came
-  pub over : {to : S} {at : Host → Type 0} {rest new : Option (List ℕ)} {acted sent : ℕ} (new' : Option (List ℕ)) (was read_failed failed : Bool) (reads : ℕ) (last : Rest) (result : Result Ended IoFault) (so : SoFar steps given to at rest new acted sent)
-      → acted < 1000 → IfSome rest (λ r. FindsRest r last) → StopsBy (Err last) was read_failed reads → IsOver last acted sent new new' failed result → IsSession steps given to at new' result
-  over {to} {at} {rest} {new} {acted} {sent} new' was read_failed failed reads last result so few first stops is = by last first stops is
+  pub over : {to : S} {kept : Kept} {rest new : Option (List ℕ)} {acted sent : ℕ} (new' : Option (List ℕ)) (was read_failed failed : Bool) (reads : ℕ) (last : Rest) (result : Result Ended IoFault) (so : SoFar steps given to kept rest new acted sent)
+      → acted < 1000 → IfSome rest (λ r. FindsRest r last) → StopsBy (Err last) was read_failed reads → IsOver last acted sent new new' failed result → IsSession steps given to new' result kept
+  over {to} {kept} {rest} {new} {acted} {sent} new' was read_failed failed reads last result so few first stops is = by last first stops is
     where
       requests : List (List ℕ)
       requests = requests_of so.items
@@ -296,7 +293,7 @@ module _ {S : Type 0} {steps : S → Option Stamp → S → Type 0} {given : Giv
       ends : (e : Ending) → IfSome rest (λ r. StopsAt e (length requests) r) → IfSome given.stream (λ x. Splits x requests e)
       ends e stops = splits_ending given.stream rest requests e so.splits stops
 
-      by : (last : Rest) → IfSome rest (λ r. FindsRest r last) → StopsBy (Err last) was read_failed reads → IsOver last acted sent new new' failed result → IsSession steps given to at new' result
+      by : (last : Rest) → IfSome rest (λ r. FindsRest r last) → StopsBy (Err last) was read_failed reads → IsOver last acted sent new new' failed result → IsSession steps given to new' result kept
       by AtEnd first stops is = finished new' failed End [] result so refl (refl, ends at_end (stops_end rest (length requests) fewer first)) (inl (refl, begins given.stream under_way)) is
       by CutOff first stops is = finished new' failed Cut [] result so refl (refl, ends cut (stops_cut rest (length requests) fewer first)) (inl (refl, begins given.stream under_way)) is
       by (Faulty f) first stops is =
@@ -304,20 +301,19 @@ module _ {S : Type 0} {steps : S → Option Stamp → S → Type 0} {given : Giv
           finished new' failed Faulted (fault_text (wire_fault f)) result so refl (f, refl, split) (inr (inr (f, refl, split))) is
       by NoMemory first stops is = finished new' failed Memory memory_text result so refl (refl, under_way) (inr (inl (refl, under_way))) is
       by (Stopped cause) first stops is =
-          subst (λ (r : Result Ended IoFault). IsSession steps given to at new' r) (sym is.0)
-          (subst (λ (n : Option (List ℕ)). IsSession steps given to at n (Err (record { cause = cause; acted = acted; sent = sent }))) (sym is.1) (broken_off cause so few (not_by_writer cause read_failed reads stops)))
+          subst (λ (r : Result Ended IoFault). IsSession steps given to new' r kept) (sym is.0)
+          (subst (λ (n : Option (List ℕ)). IsSession steps given to n (Err (record { cause = cause; acted = acted; sent = sent })) kept) (sym is.1) (broken_off cause so few (not_by_writer cause read_failed reads stops)))
 
-  stepped : {to : S} {at : Host → Type 0} {rest new : Option (List ℕ)} {acted sent : ℕ} (to' : S) (at' : Host → Type 0) (stamp : Stamp) (text bytes : List ℕ) (so : SoFar steps given to at rest new acted sent)
-      → steps to (Some stamp) to' → IsActed (from_host given.start (host_by given.start so.items)) stamp bytes text at' → Stepped steps given to' at' acted (answer_text given.start so.items) (requests_of so.items) text bytes
-  stepped {to} {at} {rest} {new} {acted} {sent} to' at' stamp text bytes so step a =
+  stepped : {to : S} {kept : Kept} {rest new : Option (List ℕ)} {acted sent : ℕ} (to' : S) (kept' : Kept) (stamp : Stamp) (text bytes : List ℕ) (so : SoFar steps given to kept rest new acted sent)
+      → steps to (Some stamp) to' → IsActed (start_after given.start so.items) stamp bytes text kept' → Stepped steps given to' kept' acted (answer_text given.start so.items) (requests_of so.items) text bytes
+  stepped {to} {kept} {rest} {new} {acted} {sent} to' kept' stamp text bytes so step a =
       let item : Item = record { stamp = stamp; bytes = bytes; mark = a.mark } in
       record {
         items = so.items ++ item ∷ [];
         served = record {
           marked = All-append (IsMarked given.start.Steady) so.items (item ∷ []) so.served.marked (All-cons (IsMarked given.start.Steady) item [] a.marked (All-nil (IsMarked given.start.Steady)));
           taken = subst (λ (xs : List Stamp). Yields steps given.stamps xs to') (sym (map-snoc (λ (i : Item). i.stamp) so.items item)) (Yields-snoc steps given.stamps (stamps_of so.items) to to' stamp so.served.taken step);
-          stands_for = subst at' (sym (host_after-snoc given.start.host given.start.operator so.items item)) a.stands_for;
-          sound = subst IsSound (sym (host_after-snoc given.start.host given.start.operator so.items item)) a.sound;
+          goes = goes-append given.start kept' so.items (item ∷ []) a.goes;
         };
         count = length-append so.items (item ∷ []) ∙ ap (λ (n : ℕ). n + 1) so.count;
         text_is = answer_text-snoc given.start so.items item ∙ ap (λ (l : List ℕ). answer_text given.start so.items ++ l) (sym a.text);
@@ -325,13 +321,13 @@ module _ {S : Type 0} {steps : S → Option Stamp → S → Type 0} {given : Giv
       }
 
   -- the reply could not be written whole
-  pub broken_write : {to : S} {at : Host → Type 0} {rest new : Option (List ℕ)} {acted sent : ℕ} (to' : S) (at' : Host → Type 0) (new' left : Option (List ℕ)) (stamp : Stamp) (head : HeadFacts) (count : ℕ) (text buffer : List ℕ) (so : SoFar steps given to at rest new acted sent)
-      → acted < 1000 → steps to (Some stamp) to' → IsActed (from_host given.start (host_by given.start so.items)) stamp (take (head.len + head.body) buffer) text at'
+  pub broken_write : {to : S} {kept : Kept} {rest new : Option (List ℕ)} {acted sent : ℕ} (to' : S) (kept' : Kept) (new' left : Option (List ℕ)) (stamp : Stamp) (head : HeadFacts) (count : ℕ) (text buffer : List ℕ) (so : SoFar steps given to kept rest new acted sent)
+      → acted < 1000 → steps to (Some stamp) to' → IsActed (start_after given.start so.items) stamp (take (head.len + head.body) buffer) text kept'
       → IfSome rest (λ r. Finds r (Ok head)) → Keeps rest (prepend_known buffer left) → head.len + head.body ≤ length buffer
       → count < length text → Appends new new' (take count text)
-      → IsSession steps given to' at' new' (Err (record { cause = Write; acted = acted + 1; sent = sent + count }))
-  broken_write {rest = rest} {new = new} {acted = acted} {sent = sent} to' at' new' left stamp head count text buffer so few step a first kept fits short send =
-      let st = stepped to' at' stamp text (take (head.len + head.body) buffer) so step a in
+      → IsSession steps given to' new' (Err (record { cause = Write; acted = acted + 1; sent = sent + count })) kept'
+  broken_write {rest = rest} {new = new} {acted = acted} {sent = sent} to' kept' new' left stamp head count text buffer so few step a first kept fits short send =
+      let st = stepped to' kept' stamp text (take (head.len + head.body) buffer) so step a in
       let begun = splits_begun given.stream rest left (requests_of so.items) buffer head so.splits first kept fits (few_requests so.items acted so.count few) in
       let all : sent + count ≤ length (answer_text given.start st.items ++ []) = omega (arith, ap length (append-nil (answer_text given.start st.items)), ap length st.text_is, length-append (answer_text given.start so.items) text, so.sent_is, short) in
       let front : take (length (answer_text given.start so.items) + count) (answer_text given.start st.items) ≡ take (sent + count) (answer_text given.start st.items ++ []) =
@@ -348,13 +344,13 @@ module _ {S : Type 0} {steps : S → Option Stamp → S → Type 0} {given : Giv
       }
 
   -- the reply was written, and the stream is closed
-  pub ended_closed : {to : S} {at : Host → Type 0} {rest new : Option (List ℕ)} {acted sent : ℕ} (to' : S) (at' : Host → Type 0) (new' left : Option (List ℕ)) (stamp : Stamp) (head : HeadFacts) (count : ℕ) (text buffer : List ℕ) (so : SoFar steps given to at rest new acted sent)
-      → acted < 1000 → steps to (Some stamp) to' → IsActed (from_host given.start (host_by given.start so.items)) stamp (take (head.len + head.body) buffer) text at'
+  pub ended_closed : {to : S} {kept : Kept} {rest new : Option (List ℕ)} {acted sent : ℕ} (to' : S) (kept' : Kept) (new' left : Option (List ℕ)) (stamp : Stamp) (head : HeadFacts) (count : ℕ) (text buffer : List ℕ) (so : SoFar steps given to kept rest new acted sent)
+      → acted < 1000 → steps to (Some stamp) to' → IsActed (start_after given.start so.items) stamp (take (head.len + head.body) buffer) text kept'
       → IfSome rest (λ r. Finds r (Ok head)) → Keeps rest (prepend_known buffer left) → head.len + head.body ≤ length buffer
       → count ≡ length text → Appends new new' (take count text) → head.closes ≡ true
-      → IsSession steps given to' at' new' (Ok (record { how = Closed; acted = acted + 1 }))
-  ended_closed {rest = rest} {new = new} {acted = acted} {sent = sent} to' at' new' left stamp head count text buffer so few step a first kept fits full send closes =
-      let st = stepped to' at' stamp text (take (head.len + head.body) buffer) so step a in
+      → IsSession steps given to' new' (Ok (record { how = Closed; acted = acted + 1 })) kept'
+  ended_closed {rest = rest} {new = new} {acted = acted} {sent = sent} to' kept' new' left stamp head count text buffer so few step a first kept fits full send closes =
+      let st = stepped to' kept' stamp text (take (head.len + head.body) buffer) so step a in
       let split = splits_closed given.stream rest left (requests_of so.items) buffer head so.splits first closes kept fits (few_requests so.items acted so.count few) in
       let size : length (answer_text given.start st.items) ≡ length (answer_text given.start so.items) + count = omega (arith, ap length st.text_is, length-append (answer_text given.start so.items) text, full) in
       let front : take (length (answer_text given.start so.items) + count) (answer_text given.start st.items) ≡ answer_text given.start st.items ++ [] =
@@ -371,13 +367,13 @@ module _ {S : Type 0} {steps : S → Option Stamp → S → Type 0} {given : Giv
       }
 
   -- the reply was written, and the session goes on
-  pub goes_on : {to : S} {at : Host → Type 0} {rest new : Option (List ℕ)} {acted sent : ℕ} (to' : S) (at' : Host → Type 0) (new' left : Option (List ℕ)) (stamp : Stamp) (head : HeadFacts) (count : ℕ) (text buffer buffer' : List ℕ) (so : SoFar steps given to at rest new acted sent)
-      → acted < 1000 → steps to (Some stamp) to' → IsActed (from_host given.start (host_by given.start so.items)) stamp (take (head.len + head.body) buffer) text at'
+  pub goes_on : {to : S} {kept : Kept} {rest new : Option (List ℕ)} {acted sent : ℕ} (to' : S) (kept' : Kept) (new' left : Option (List ℕ)) (stamp : Stamp) (head : HeadFacts) (count : ℕ) (text buffer buffer' : List ℕ) (so : SoFar steps given to kept rest new acted sent)
+      → acted < 1000 → steps to (Some stamp) to' → IsActed (start_after given.start so.items) stamp (take (head.len + head.body) buffer) text kept'
       → IfSome rest (λ r. Finds r (Ok head)) → Keeps rest (prepend_known buffer left) → head.len + head.body ≤ length buffer
       → count ≡ length text → Appends new new' (take count text) → head.closes ≡ false → buffer' ≡ drop (head.len + head.body) buffer
-      → SoFar steps given to' at' (prepend_known buffer' left) new' (acted + 1) (sent + count)
-  goes_on {rest = rest} {new = new} {acted = acted} {sent = sent} to' at' new' left stamp head count text buffer buffer' so few step a first kept fits full send closes dropped =
-      let st = stepped to' at' stamp text (take (head.len + head.body) buffer) so step a in
+      → SoFar steps given to' kept' (prepend_known buffer' left) new' (acted + 1) (sent + count)
+  goes_on {rest = rest} {new = new} {acted = acted} {sent = sent} to' kept' new' left stamp head count text buffer buffer' so few step a first kept fits full send closes dropped =
+      let st = stepped to' kept' stamp text (take (head.len + head.body) buffer) so step a in
       let split = splits_more given.stream rest left (requests_of so.items) buffer head so.splits first closes kept fits in
       let size : length (answer_text given.start st.items) ≡ length (answer_text given.start so.items) + count = omega (arith, ap length st.text_is, length-append (answer_text given.start so.items) text, full) in
       let front : take (length (answer_text given.start so.items) + count) (answer_text given.start st.items) ≡ answer_text given.start st.items =

@@ -14,7 +14,7 @@ use Rattle.pawn_book.specs.Traces.{book_trace, slot_trace}
 use Rattle.pawn_book.specs.Machines.{is_slots, reply_alone, solo_reply}
 use Rattle.pawn_wire.specs.Request.{Reads}
 use Rattle.pawn_host.specs.Run.{Item, IsMarked, events, replies, said_text}
-use Rattle.pawn_host.specs.Keeps.{Start, IsRun}
+use Rattle.pawn_host.specs.Keeps.{Start, Kept, IsRun}
 
 -- the bytes of a reply
 abbrev pub reply_bytes : Out → List ℕ
@@ -50,8 +50,8 @@ pub record AnswerAlone (h : Host) (operator : ℕ) (items : List Item) (answers 
       → slice_get items i ≡ Some item → slice_get answers i ≡ Some answer → SlotAnswersAlone h operator (take i items) item answer
 
 -- a run of these items led to these answers, and each of them is so
-pub record IsRunOfSlots (start : Start) (given : List (Stamp × List ℕ)) (answers : List (List ℕ)) (stands : Host → Type 0) : Type 0 where
-  pub run : IsRun start given answers stands
+pub record IsRunOfSlots (start : Start) (given : List (Stamp × List ℕ)) (answers : List (List ℕ)) (kept : Kept) : Type 0 where
+  pub run : IsRun start given answers kept
   pub alone : AnswerAlone start.host start.operator run.items answers
 
 -- so it is of the items of any run, and of those of one conversation

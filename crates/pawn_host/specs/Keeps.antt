@@ -15,6 +15,7 @@ use Rattle.pawn_host.specs.declared.service.Service.{Service}
 use Rattle.pawn_host.specs.declared.service.Answer.{Answer}
 use Rattle.pawn_host.specs.declared.service.Answer.TheVariants.{Bytes, Memory}
 use Rattle.pawn_host.specs.Run.{Item, IsMarkOf, IsMarked, input_of, said_text, host_after, replies}
+use Rattle.pawn_host.specs.Crashes.{IsLeftByMark, IsLeftByRun}
 
 abbrev pub service_keep : {K : Type 0} → Service K → K
 service_keep s = s.keep
@@ -37,40 +38,50 @@ abbrev pub Tells : Answer → List ℕ → Type 0
 Tells (Bytes v) text = v.items ≡ text
 Tells Memory text = Unit {0}
 
--- where a call of the service starts: over a keeper that was steady or was not, for an operator, and from a host
+-- where a call of the service starts: over a keeper that was steady or was not, for an operator, from a host, and where a crash
+-- might have left these hosts
 pub record Start : Type 1 where
   pub Steady : Type 0
   pub operator : ℕ
   pub host : Host
+  pub leaves : Host → Type 0
 
 abbrev pub start_of : {K : Type 0} → Keeping K → Service K → Host → Start
-start_of k s h = record { Steady = k.steady (service_keep s); operator = service_operator s; host = h }
+start_of k s h = record { Steady = k.steady (service_keep s); operator = service_operator s; host = h; leaves = k.leaves (service_keep s) }
 
--- the same, from another host
-abbrev pub from_host : Start → Host → Start
-from_host start h = record { Steady = start.Steady; operator = start.operator; host = h }
+-- where it ends: the hosts that the keeper stands for, and those that a crash may leave
+pub record Kept : Type 1 where
+  pub stands : Host → Type 0
+  pub leaves : Host → Type 0
+
+abbrev pub kept_by : {K : Type 0} → Keeping K → Service K → Kept
+kept_by k s = record { stands = k.stands (service_keep s); leaves = k.leaves (service_keep s) }
+
+-- the keeper goes on to a host, which is sound, and a crash leaves no other host than these
+pub record GoesTo (kept : Kept) (h : Host) (these : Host → Type 0) : Type 0 where
+  pub stands_for : kept.stands h
+  pub sound : IsSound h
+  pub crash : (left : Host) → kept.leaves left → these left
 
 -- a service goes on after a call: its keeper does, and its operator stays
 pub record StaysOpen {K : Type 0} (k : Keeping K) (old new : Service K) : Type 0 where
   pub on : GoesOn k (service_keep old) (service_keep new)
   pub operator : service_operator new ≡ service_operator old
 
--- P of each sound host that the service's keeper stood for, if it is honest now: of where the call started, and of what the
--- keeper stands for after it
-abbrev pub Serves : {K : Type 0} → Keeping K → Service K → Service K → (Start → (Host → Type 0) → Type 0) → Type 0
-Serves k old new P = Of k (service_keep old) (service_keep new) (λ h. P (start_of k old h) (k.stands (service_keep new)))
+-- P of each sound host that the service's keeper stood for, if it is honest now: of where the call started and where it ends
+abbrev pub Serves : {K : Type 0} → Keeping K → Service K → Service K → (Start → Kept → Type 0) → Type 0
+Serves k old new P = Of k (service_keep old) (service_keep new) (λ h. P (start_of k old h) (kept_by k new))
 
--- one item of a run led to the reply and to a sound host that the keeper stands for, for some mark
-pub record IsActed (start : Start) (stamp : Stamp) (bytes reply : List ℕ) (stands : Host → Type 0) : Type 0 where
+-- one item of a run led to the reply, to a host that the keeper goes on to, and to what a crash may leave, for some mark
+pub record IsActed (start : Start) (stamp : Stamp) (bytes reply : List ℕ) (kept : Kept) : Type 0 where
   pub mark : Mark WireFault
   pub marked : IsMarkOf start.Steady bytes mark
   pub text : reply ≡ said_text (mark_reply start.host start.operator stamp mark)
-  pub stands_for : stands (host_after_mark start.host start.operator stamp mark)
-  pub sound : IsSound (host_after_mark start.host start.operator stamp mark)
+  pub goes : GoesTo kept (host_after_mark start.host start.operator stamp mark) (IsLeftByMark start.host start.operator stamp bytes mark start.leaves)
 
 -- the same of whatever bytes say the request
-abbrev pub Answers : Start → Stamp → Request → List ℕ → (Host → Type 0) → Type 0
-Answers start stamp request reply stands = (bytes : List ℕ) → Reads bytes (Ok request) → IsActed start stamp bytes reply stands
+abbrev pub Answers : Start → Stamp → Request → List ℕ → Kept → Type 0
+Answers start stamp request reply kept = (bytes : List ℕ) → Reads bytes (Ok request) → IsActed start stamp bytes reply kept
 
 -- the host after these items, and their replies
 abbrev pub host_by : Start → List Item → Host
@@ -79,11 +90,19 @@ host_by start items = host_after start.host start.operator items
 abbrev pub replies_by : Start → List Item → List (List ℕ)
 replies_by start items = replies start.host start.operator items
 
--- the run of these items, with some marks, led to these answers and to a sound host that the keeper stands for
-pub record IsRun (start : Start) (given : List (Stamp × List ℕ)) (answers : List (List ℕ)) (stands : Host → Type 0) : Type 0 where
+-- where a call starts after these items
+abbrev pub start_after : Start → List Item → Start
+start_after start items =
+    record { Steady = start.Steady; operator = start.operator; host = host_by start items; leaves = IsLeftByRun start.host start.operator items start.leaves }
+
+-- the keeper goes on to the host after these items
+abbrev pub GoesBy : Start → List Item → Kept → Type 0
+GoesBy start items kept = GoesTo kept (host_by start items) (IsLeftByRun start.host start.operator items start.leaves)
+
+-- the run of these items, with some marks, led to these answers, and to where the keeper goes on
+pub record IsRun (start : Start) (given : List (Stamp × List ℕ)) (answers : List (List ℕ)) (kept : Kept) : Type 0 where
   pub items : List Item
   pub marked : All (IsMarked start.Steady) items
   pub given_is : map input_of items ≡ given
   pub answers_are : answers ≡ replies_by start items
-  pub stands_for : stands (host_by start items)
-  pub sound : IsSound (host_by start items)
+  pub goes : GoesBy start items kept

@@ -1,23 +1,14 @@
 -- What a session over a reader and a writer did.
-use Rattle.std.specs.Prelude.{◌≡◌, ◌≢◌, ℕ, ◌+◌, ◌<◌, ◌≤◌, ◌⊎◌, All, Bool, true, false, IfErr, OnOk, List, [], ◌++◌, length, take, map, Option, None, IfSome, Result, Ok, Err}
+use Rattle.std.specs.Prelude.{◌≡◌, ◌≢◌, ℕ, ◌+◌, ◌<◌, ◌≤◌, ◌⊎◌, All, Bool, true, false, List, [], ◌++◌, length, take, map, Option, None, IfSome, Result, Ok, Err}
 use Rattle.std.specs.List.{concat}
 use Rattle.std.specs.Iterator.{Yields}
 use Rattle.std.specs.Io.KnownBytes.{Appends, Consumes}
 use Rattle.pawn_host.specs.Split.{at_end, cut, closed, faulted, at_limit, Splits, Begins, BeginsAndGoesOn, IsUnderWay, AreWanted, most_requests}
 use Rattle.pawn_pledge.specs.declared.command.Stamp.{Stamp}
-use Rattle.pawn_book.specs.HostStep.{Host}
-use Rattle.pawn_book.specs.Sound.{IsSound}
 use Rattle.pawn_wire.specs.Fault.{wire_fault}
 use Rattle.pawn_wire.specs.Reply.{memory_text, fault_text}
 use Rattle.pawn_wire.specs.declared.fault.HeadFault.{HeadFault}
-use Rattle.pawn_view.specs.Ends.{write_failed, written_bytes}
-use Rattle.pawn_view.specs.declared.writing.Writing.{Writing}
-use Rattle.pawn_book.specs.Keeping.{Keeping}
-use Rattle.pawn_host.specs.Ends.{reads, read_failed, left_of}
-use Rattle.pawn_host.specs.Finding.{IsCausedBy}
-use Rattle.pawn_host.specs.Keeps.{Start, host_by, replies_by, StaysOpen, Serves}
-use Rattle.pawn_host.specs.declared.reading.Reading.{Reading}
-use Rattle.pawn_host.specs.declared.service.Service.{Service}
+use Rattle.pawn_host.specs.Keeps.{Start, Kept, GoesBy, replies_by}
 use Rattle.pawn_host.specs.declared.session.Rest.{Rest}
 use Rattle.pawn_host.specs.declared.session.Rest.TheVariants.{AtEnd, CutOff, Faulty, NoMemory, Stopped}
 use Rattle.pawn_host.specs.Run.{Item, IsMarked}
@@ -125,39 +116,38 @@ pub record Given (S : Type 0) : Type 1 where
   pub written : Option (List ℕ)
 
 module _ {S : Type 0} (steps : S → Option Stamp → S → Type 0) (given : Given S) where
-  -- items with the stamps that the iterator gave; the keeper stands for the host after them, which is sound
-  pub record IsServed (items : List Item) (to : S) (stands : Host → Type 0) : Type 0 where
+  -- items with the stamps that the iterator gave; the keeper goes on to the host after them
+  pub record IsServed (items : List Item) (to : S) (kept : Kept) : Type 0 where
     pub marked : All (IsMarked given.start.Steady) items
     pub taken : Yields steps given.stamps (stamps_of items) to
-    pub stands_for : stands (host_by given.start items)
-    pub sound : IsSound (host_by given.start items)
+    pub goes : GoesBy given.start items kept
 
   -- the session ended, having acted on its stream's first requests and written their replies
-  pub record HasEnded (stamps : S) (stands : Host → Type 0) (written : Option (List ℕ)) (ended : Ended) : Type 0 where
+  pub record HasEnded (stamps : S) (written : Option (List ℕ)) (ended : Ended) (kept : Kept) : Type 0 where
     pub items : List Item
     pub to : S
     pub last : List ℕ
-    pub served : IsServed items to stands
+    pub served : IsServed items to kept
     pub left : IsLeftBy steps ended.how to stamps
     pub count : length items ≡ ended.acted
     pub wrote : Appends given.written written (due_text given.start items last)
     pub ends : EndsAs ended.how given.stream (requests_of items) last
 
   -- the session was broken off
-  pub record IsBrokenOff (stamps : S) (stands : Host → Type 0) (written : Option (List ℕ)) (fault : IoFault) : Type 0 where
+  pub record IsBrokenOff (stamps : S) (written : Option (List ℕ)) (fault : IoFault) (kept : Kept) : Type 0 where
     pub items : List Item
     pub last : List ℕ
-    pub served : IsServed items stamps stands
+    pub served : IsServed items stamps kept
     pub count : length items ≡ fault.acted
     pub sent : fault.sent ≤ length (due_text given.start items last)
     pub all_sent : fault.cause ≢ Write → fault.sent ≡ length (due_text given.start items last)
     pub wrote : Appends given.written written (take fault.sent (due_text given.start items last))
     pub due : DueAfter fault.cause given.stream (requests_of items) last
 
-  -- what a session did, by the stamps that are left, the hosts that the keeper stands for, and what is written now
-  abbrev pub IsSession : S → (Host → Type 0) → Option (List ℕ) → Result Ended IoFault → Type 0
-  IsSession stamps stands written (Ok ended) = HasEnded stamps stands written ended
-  IsSession stamps stands written (Err fault) = IsBrokenOff stamps stands written fault
+  -- what a session did, by the stamps that are left, what is written now, its answer, and where the keeper goes on
+  abbrev pub IsSession : S → Option (List ℕ) → Result Ended IoFault → Kept → Type 0
+  IsSession stamps written (Ok ended) kept = HasEnded stamps written ended kept
+  IsSession stamps written (Err fault) kept = IsBrokenOff stamps written fault kept
 
 -- the last text was written, or a part of it
 abbrev pub IsFinished : How → ℕ → ℕ → List ℕ → Option (List ℕ) → Option (List ℕ) → Bool → Result Ended IoFault → Type 0
@@ -174,24 +164,3 @@ IsOver (Faulty f) acted sent old new failed result = IsFinished Faulted acted se
 IsOver NoMemory acted sent old new failed result = IsFinished Memory acted sent memory_text old new failed result
 IsOver (Stopped cause) acted sent old new failed result =
     (result ≡ Err (record { cause = cause; acted = acted; sent = sent })) × (new ≡ old) × (failed ≡ false)
-
--- a service, the two ends of a stream, and where stamps come from
-pub record Parties (K R W S : Type 0) : Type 0 where
-  pub service : Service K
-  pub reader : Reading R
-  pub writer : Writing W
-  pub stamps : S
-
--- what a session is to its parties, by what the keeper says of itself, the bytes that are left to read and that were written,
--- and what the iterator gives
-pub record IsConversation {K R W S : Type 0} (k : Keeping K) (left : R → Option (List ℕ)) (written : W → Option (List ℕ)) (steps : S → Option Stamp → S → Type 0)
-    (old new : Parties K R W S) (result : Result Ended IoFault) : Type 0 where
-  pub stays : StaysOpen k old.service new.service
-  pub session : Serves k old.service new.service (λ start stands. IsSession steps
-      (record { start = start; stamps = old.stamps; stream = left_of left old.reader; written = written_bytes written old.writer })
-      new.stamps stands (written_bytes written new.writer) result)
-  pub stamps : AreTaken steps old.stamps new.stamps result
-  pub room : IsWithinMost result
-  pub whole : OnOk result ((read_failed new.reader ≡ false) × (write_failed new.writer ≡ false))
-  pub cause : IfErr result (λ fault. IsCausedBy fault.cause (read_failed new.reader) (reads new.reader) (write_failed new.writer))
-  pub reads : IsRead (reads new.reader) (left_of left old.reader) (left_of left new.reader)

@@ -1,4 +1,5 @@
 //! Laws of the definitions.
+ghost use Rattle.pawn_host.specs.Crashes.{CrashLeavesWhole};
 ghost use Rattle.pawn_host.specs.Headline.{EqualTracesAnswerAlike, RunsAnswerAlone};
 ghost use Rattle.pawn_host.specs.Laws.{SplitIsUnique, OpenEnds, SplitEndsEarly, SplitBegins, SplitIsFront, ItemsAreUnique, RunReadsEvents, RunsJoin, FaultIsExact, NothingIsWanted};
 
@@ -56,4 +57,9 @@ pub fn fault_is_exact()
 pub fn runs_answer_alone()
     ensures alone { RunsAnswerAlone }
     ensures alike { EqualTracesAnswerAlike }
+{}
+
+/// What a crash may leave is the host after all items, with or without one request that want of memory or the store refused.
+pub fn crash_leaves_whole()
+    ensures law { CrashLeavesWhole }
 {}

@@ -18,8 +18,9 @@ mod service;
 mod session;
 
 pub use laws::{
-    fault_is_exact, items_are_unique, nothing_is_wanted, open_ends, run_reads_events,
-    runs_answer_alone, runs_join, split_begins, split_ends_early, split_is_front, split_is_unique,
+    crash_leaves_whole, fault_is_exact, items_are_unique, nothing_is_wanted, open_ends,
+    run_reads_events, runs_answer_alone, runs_join, split_begins, split_ends_early, split_is_front,
+    split_is_unique,
 };
 pub use limits::{MOST_READS, MOST_REQUESTS};
 pub use pawn_book::{Day, Keep, ListKeep, Number, RequestDay, Secret, Stamp};

@@ -95,8 +95,8 @@ impl<K: Keep> Service<K> {
     // Shows a pledge of a book whose key was given.
     fn show_number(&mut self, stamp: &Stamp, book: Number, key: Secret, number: Number) -> Answer
         ensures stays { StaysOpen K.keeping self.old self.new }
-        ensures acted { Serves K.keeping self.old self.new (λ start stands. IsKeyOf start.host book key
-            → Answers start stamp.now (record { book = book; caller = Broker key (Show number) }) (answer_bytes result) stands) }
+        ensures acted { Serves K.keeping self.old self.new (λ start kept. IsKeyOf start.host book key
+            → Answers start stamp.now (record { book = book; caller = Broker key (Show number) }) (answer_bytes result) kept) }
     {
         let mut writer = Writing::new(Vec::new(self.alloc));
         let day = stamp.day.day();

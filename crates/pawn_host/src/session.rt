@@ -1,12 +1,12 @@
 //! One connection: requests are read, answered and their replies written, one after the other.
-ghost use Rattle.std.specs.Prelude.{◌≡◌, ◌+◌, ◌≤◌, [], drop, IfSome, IfOk, IfErr, vec_len, ◌*◌, ◌^◌, false};
+ghost use Rattle.std.specs.Prelude.{◌≡◌, ◌+◌, ◌≤◌, [], drop, IfSome, IfOk, IfErr, OnOk, vec_len, ◌*◌, ◌^◌, false};
 ghost use Rattle.std.specs.Io.KnownBytes.{Keeps, prepend_known};
 ghost use Rattle.pawn_view.specs.Ends.{write_failed, written_bytes};
 ghost use Rattle.pawn_host.specs.Limits.{most_request_bytes};
 ghost use Rattle.pawn_host.specs.Ends.{reads, read_failed, left_of};
-ghost use Rattle.pawn_host.specs.Finding.{IsFilled, Finds, FindsRest, HasHead, StopsBy, FilledBy, IsFetched};
-ghost use Rattle.pawn_host.specs.Session.{IsFinished, IsOver, IsConversation};
-ghost use Rattle.pawn_host.specs.Keeps.{answer_bytes};
+ghost use Rattle.pawn_host.specs.Finding.{IsFilled, Finds, FindsRest, HasHead, IsCausedBy, StopsBy, FilledBy, IsFetched};
+ghost use Rattle.pawn_host.specs.Session.{AreTaken, IsFinished, IsOver, IsRead, IsSession, IsWithinMost};
+ghost use Rattle.pawn_host.specs.Keeps.{StaysOpen, Serves, answer_bytes};
 
 use crate::limits::{MOST_READS, MOST_REQUESTS};
 use crate::reading::Reading;
@@ -263,9 +263,15 @@ impl<K: Keep> Service<K> {
         requires fresh { reads reader.old ≡ 0 }
         requires fine { write_failed writer.old ≡ false }
         requires can { I.can_next stamps.old }
-        ensures conversation { IsConversation K.keeping R.remaining W.contents I.next_gives
-            (record { service = self.old; reader = reader.old; writer = writer.old; stamps = stamps.old })
-            (record { service = self.new; reader = reader.new; writer = writer.new; stamps = stamps.new }) result }
+        ensures stays { StaysOpen K.keeping self.old self.new }
+        ensures session { Serves K.keeping self.old self.new (λ start. IsSession I.next_gives
+            (record { start = start; stamps = stamps.old; stream = left_of R.remaining reader.old; written = written_bytes W.contents writer.old })
+            stamps.new (written_bytes W.contents writer.new) result) }
+        ensures stamps { AreTaken I.next_gives stamps.old stamps.new result }
+        ensures room { IsWithinMost result }
+        ensures whole { OnOk result ((read_failed reader.new ≡ false) × (write_failed writer.new ≡ false)) }
+        ensures cause { IfErr result (λ fault. IsCausedBy fault.cause (read_failed reader.new) (reads reader.new) (write_failed writer.new)) }
+        ensures reads { IsRead (reads reader.new) (left_of R.remaining reader.old) (left_of R.remaining reader.new) }
     {
         let mut buffer = Vec::new(self.alloc);
         let mut sent = 0u128;

@@ -2,9 +2,7 @@
 use Rattle.std.specs.Prelude.{◌≡◌, ℕ, ◌≤◌, All, List, [], ◌∷◌, length, Option}
 use Rattle.std.specs.List.{filter_map, flat_map}
 use Rattle.pawn_pledge.specs.declared.command.Stamp.{Stamp}
-use Rattle.pawn_book.specs.HostStep.{Host}
-use Rattle.pawn_book.specs.Sound.{IsSound}
-use Rattle.pawn_host.specs.Keeps.{Start, host_by}
+use Rattle.pawn_host.specs.Keeps.{Start, Kept, GoesBy}
 use Rattle.pawn_host.specs.Run.{Item, IsMarked}
 use Rattle.pawn_host.specs.Session.{stamps_of}
 use Rattle.pawn_host.specs.Split.{most_requests}
@@ -27,8 +25,8 @@ abbrev pub IsSession : List Item → Type 0
 IsSession items = length items ≤ most_requests
 
 -- So many connections were answered, each where the one before it left the service and the stamps. Their requests are one
--- run: the stamps that it took are those of its items, and the keeper stands for the host after all of them, which is sound.
-pub record AreServed {S : Type 0} (steps : S → Option Stamp → S → Type 0) (from to : S) (start : Start) (answered : ℕ) (stands : Host → Type 0) : Type 0 where
+-- run: the stamps that it took are those of its items, and the keeper goes on to the host after all of them.
+pub record AreServed {S : Type 0} (steps : S → Option Stamp → S → Type 0) (from to : S) (start : Start) (answered : ℕ) (kept : Kept) : Type 0 where
   pub sessions : List (List Item)
   pub count : length sessions ≡ answered
   pub each : All IsSession sessions
@@ -36,5 +34,4 @@ pub record AreServed {S : Type 0} (steps : S → Option Stamp → S → Type 0) 
   pub given : List (Option Stamp)
   pub gives : Gives steps from given to
   pub taken : stamps_among given ≡ stamps_of (items_of sessions)
-  pub stands_for : stands (host_by start (items_of sessions))
-  pub sound : IsSound (host_by start (items_of sessions))
+  pub goes : GoesBy start (items_of sessions) kept

@@ -1,9 +1,9 @@
 //! Connections, answered one after the other.
 ghost use Rattle.std.specs.Prelude.{◌≡◌, ◌+◌, false};
-ghost use Rattle.pawn_host.specs.Ends.{reads};
+ghost use Rattle.pawn_host.specs.Ends.{reads, left_of};
 ghost use Rattle.pawn_host.specs.Keeps.{StaysOpen, Serves};
-ghost use Rattle.pawn_host.specs.Session.{IsConversation};
-ghost use Rattle.pawn_view.specs.Ends.{write_failed};
+ghost use Rattle.pawn_host.specs.Session.{IsSession, IsWithinMost};
+ghost use Rattle.pawn_view.specs.Ends.{write_failed, written_bytes};
 ghost use Rattle.pawnd.specs.Clock.{GivesDated};
 ghost use Rattle.pawnd.specs.Serving.{AreServed};
 
@@ -75,9 +75,11 @@ fn converse<K: Keep, R: Read, W: Write, I: Iterator<Item = Stamp>>(
     requires fresh { reads reader.old ≡ 0 }
     requires fine { write_failed writer.old ≡ false }
     requires can { I.can_next stamps.old }
-    ensures conversation { IsConversation K.keeping R.remaining W.contents I.next_gives
-        (record { service = service.old; reader = reader.old; writer = writer.old; stamps = stamps.old })
-        (record { service = service.new; reader = reader.new; writer = writer.new; stamps = stamps.new }) result }
+    ensures stays { StaysOpen K.keeping service.old service.new }
+    ensures session { Serves K.keeping service.old service.new (λ start. IsSession I.next_gives
+        (record { start = start; stamps = stamps.old; stream = left_of R.remaining reader.old; written = written_bytes W.contents writer.old })
+        stamps.new (written_bytes W.contents writer.new) result) }
+    ensures room { IsWithinMost result }
 {
     service.answer_all(reader, writer, stamps)
 }

@@ -58,14 +58,11 @@ impl Read for Source<'_> {
     }
 }
 
-/// A writer that takes one byte a write where it is slow, but for one write, of which it takes nothing or which fails.
+/// A writer that takes one byte a write where it is slow.
 #[derive(Drop)]
 pub struct Sink<'a> {
     pub taken: Vec<u8>,
     pub slow: bool,
-    pub fails_at: u32,
-    pub takes_nothing: bool,
-    pub calls: u32,
     pub log: &'a Log,
 }
 
@@ -74,13 +71,6 @@ impl Write for Sink<'_> {
 
     fn write(&mut self, buf: &[u8]) -> io::Result<usize> {
         self.log.note(3);
-        self.calls = self.calls.saturating_add(1);
-        if self.calls == self.fails_at {
-            if self.takes_nothing {
-                return Ok(0);
-            }
-            return Err(io::Error::from(ErrorKind::Interrupted));
-        }
         let n = if self.slow {
             buf.len().min(1)
         } else {

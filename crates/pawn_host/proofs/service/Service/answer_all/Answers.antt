@@ -4,7 +4,8 @@ use Rattle.pawn_host.specs.Ends.{reads, read_failed}
 use Rattle.pawn_host.specs.Finding.{StopsBy}
 use Rattle.pawn_host.proofs.SessionLemmas.{over, over_leaves, ended_limit, ended_dry, broken_write, ended_closed, goes_on, acted_at, starts, taken_none, taken_more, are_taken, open_then}
 use Rattle.pawn_host.proofs.ReadLemmas.{read_none, read_then, read_more, read_all}
-use Rattle.pawn_host.specs.Keeps.{start_of, host_by}
+use Rattle.pawn_host.specs.Keeps.{service_keep, start_of, start_after, host_by}
+use Rattle.pawn_host.proofs.CrashLemmas.{goes_none}
 use Rattle.pawn_host.proofs.service.Service.answer_all.Goals as goal
 
 pub loop-acted-init : goal.loop-acted-init
@@ -16,7 +17,7 @@ loop-acted-init g c = record {
   fetched = read_none _ _ _ c.requires.fresh c.new-buffer.ensures.items;
   room = omega arith;
   stays = record { on = record { past = λ honest. honest; served = λ honest serves. serves; stays = λ steady. steady }; operator = refl };
-  so_far = λ honest h sound at. starts _ at sound c.new-buffer.ensures.items;
+  so_far = λ honest h sound at. starts _ (goes_none g.K.Keep.keeping (service_keep c.args.self.now) h at sound) c.new-buffer.ensures.items;
 }
 
 pub returns-in-Err : goal.returns-in-Err
@@ -24,64 +25,56 @@ returns-in-Err g c =
     let readable = subst (λ (b : Bool). StopsBy (Err c.in-Err.rest) b (read_failed c.next_request.new.reader) (reads c.next_request.new.reader)) c.loop-acted.invariant.readable c.in-Err.ensures.stops in
     let leaves = over_leaves g.I.Iterator.next_gives c.loop-acted.stamps c.loop-acted.acted c.loop-acted.sent (reads c.next_request.new.reader) _ _ (read_failed c.next_request.new.reader) (write_failed c.finish.new.writer) c.in-Err.rest c.finish.result c.loop-acted-test.true readable c.finish.ensures.over in
     record {
-      conversation = record {
-        stays = c.loop-acted.invariant.stays;
-        session = λ honest h sound at. over _ _ _ _ _ c.in-Err.rest _ (c.loop-acted.invariant.so_far honest h sound at) c.loop-acted-test.true c.in-Err.ensures.found c.in-Err.ensures.stops c.finish.ensures.over;
-        stamps = are_taken _ _ c.loop-acted.invariant.taken leaves.count leaves.left;
-        reads = read_then (Err c.in-Err.rest) _ _ _ _ _ c.loop-acted.acted _ _ c.loop-acted.invariant.fetched c.loop-acted-test.true c.in-Err.ensures.fetched;
-        room = leaves.room;
-        whole = leaves.whole;
-        cause = leaves.cause;
-      };
+      stays = c.loop-acted.invariant.stays;
+      session = λ honest h sound at. over _ _ _ _ _ c.in-Err.rest _ (c.loop-acted.invariant.so_far honest h sound at) c.loop-acted-test.true c.in-Err.ensures.found c.in-Err.ensures.stops c.finish.ensures.over;
+      stamps = are_taken _ _ c.loop-acted.invariant.taken leaves.count leaves.left;
+      reads = read_then (Err c.in-Err.rest) _ _ _ _ _ c.loop-acted.acted _ _ c.loop-acted.invariant.fetched c.loop-acted-test.true c.in-Err.ensures.fetched;
+      room = leaves.room;
+      whole = leaves.whole;
+      cause = leaves.cause;
     }
 
 pub returns-in_default : goal.returns-in_default
 returns-in_default g c = record {
-  conversation = record {
-    stays = c.loop-acted.invariant.stays;
-    session = λ honest h sound at. ended_dry c.in-Ok.head (c.loop-acted.invariant.so_far honest h sound at) c.loop-acted-test.true c.in_default.ensures.steps c.in-Ok.ensures.found;
-    stamps = are_taken _ _ c.loop-acted.invariant.taken refl c.in_default.ensures.steps;
-    reads = read_then (Ok c.in-Ok.head) _ _ _ _ _ c.loop-acted.acted _ _ c.loop-acted.invariant.fetched c.loop-acted-test.true c.in-Ok.ensures.fetched;
-    room = c.loop-acted-test.true;
-    whole = (c.in-Ok.ensures.stops ∙ c.loop-acted.invariant.readable, c.loop-acted.invariant.fine);
-    cause = tt;
-  };
+  stays = c.loop-acted.invariant.stays;
+  session = λ honest h sound at. ended_dry c.in-Ok.head (c.loop-acted.invariant.so_far honest h sound at) c.loop-acted-test.true c.in_default.ensures.steps c.in-Ok.ensures.found;
+  stamps = are_taken _ _ c.loop-acted.invariant.taken refl c.in_default.ensures.steps;
+  reads = read_then (Ok c.in-Ok.head) _ _ _ _ _ c.loop-acted.acted _ _ c.loop-acted.invariant.fetched c.loop-acted-test.true c.in-Ok.ensures.fetched;
+  room = c.loop-acted-test.true;
+  whole = (c.in-Ok.ensures.stops ∙ c.loop-acted.invariant.readable, c.loop-acted.invariant.fine);
+  cause = tt;
 }
 
 pub returns-then-count-text : goal.returns-then-count-text
 returns-then-count-text g c = record {
-  conversation = record {
-    stays = open_then c.loop-acted.invariant.stays c.answer_one-answer.ensures.stays;
-    session = λ honest h sound at.
-        let so = c.loop-acted.invariant.so_far (c.answer_one-answer.ensures.stays.on.past honest) h sound at in
-        let start = start_of g.K.Keep.keeping c.args.self.now h in
-        let mid = host_by start so.items in
-        let acted = acted_at _ start c.in-Some.stamp _ (take (c.in-Ok.head.len + c.in-Ok.head.body) c.next_request.new.buffer.items) _ c.answer_slice-text.result.now _ (c.answer_one-answer.ensures.acted honest mid so.served.sound so.served.stands_for) c.loop-acted.invariant.stays.on.stays c.loop-acted.invariant.stays.operator (ap (take c.request_len-needed.result) c.deref.ensures.value ∙ ap (λ (k : ℕ). take k c.next_request.new.buffer.items) c.request_len-needed.ensures.answer) c.answer_slice-text.ensures.bytes in
-        broken_write _ _ _ _ c.in-Some.stamp c.in-Ok.head c.send-count.result c.answer_slice-text.result.now c.next_request.new.buffer.items so c.loop-acted-test.true c.in-Some.ensures.steps acted c.in-Ok.ensures.found c.in-Ok.ensures.kept (omega (arith, c.in-Ok.ensures.buffered, c.next_request.new.buffer.ok.0)) c.if-count-text.true c.send-count.ensures.bytes;
-    stamps = are_taken _ _ (taken_more _ c.in-Some.stamp c.loop-acted.invariant.taken c.in-Some.ensures.steps) refl refl;
-    reads = read_then (Ok c.in-Ok.head) _ _ _ _ _ c.loop-acted.acted _ _ c.loop-acted.invariant.fetched c.loop-acted-test.true c.in-Ok.ensures.fetched;
-    room = omega (arith, c.loop-acted-test.true);
-    whole = tt;
-    cause = c.send-count.ensures.failed c.if-count-text.true;
-  };
+  stays = open_then c.loop-acted.invariant.stays c.answer_one-answer.ensures.stays;
+  session = λ honest h sound at.
+      let so = c.loop-acted.invariant.so_far (c.answer_one-answer.ensures.stays.on.past honest) h sound at in
+      let start = start_of g.K.Keep.keeping c.args.self.now h in
+      let mid = host_by start so.items in
+      let acted = acted_at _ (start_after start so.items) c.in-Some.stamp _ (take (c.in-Ok.head.len + c.in-Ok.head.body) c.next_request.new.buffer.items) _ c.answer_slice-text.result.now _ (c.answer_one-answer.ensures.acted honest mid so.served.goes.sound so.served.goes.stands_for) c.loop-acted.invariant.stays.on.stays c.loop-acted.invariant.stays.operator so.served.goes.crash (ap (take c.request_len-needed.result) c.deref.ensures.value ∙ ap (λ (k : ℕ). take k c.next_request.new.buffer.items) c.request_len-needed.ensures.answer) c.answer_slice-text.ensures.bytes in
+      broken_write _ _ _ _ c.in-Some.stamp c.in-Ok.head c.send-count.result c.answer_slice-text.result.now c.next_request.new.buffer.items so c.loop-acted-test.true c.in-Some.ensures.steps acted c.in-Ok.ensures.found c.in-Ok.ensures.kept (omega (arith, c.in-Ok.ensures.buffered, c.next_request.new.buffer.ok.0)) c.if-count-text.true c.send-count.ensures.bytes;
+  stamps = are_taken _ _ (taken_more _ c.in-Some.stamp c.loop-acted.invariant.taken c.in-Some.ensures.steps) refl refl;
+  reads = read_then (Ok c.in-Ok.head) _ _ _ _ _ c.loop-acted.acted _ _ c.loop-acted.invariant.fetched c.loop-acted-test.true c.in-Ok.ensures.fetched;
+  room = omega (arith, c.loop-acted-test.true);
+  whole = tt;
+  cause = c.send-count.ensures.failed c.if-count-text.true;
 }
 
 pub returns-then-head : goal.returns-then-head
 returns-then-head g c = record {
-  conversation = record {
-    stays = open_then c.loop-acted.invariant.stays c.answer_one-answer.ensures.stays;
-    session = λ honest h sound at.
-        let so = c.loop-acted.invariant.so_far (c.answer_one-answer.ensures.stays.on.past honest) h sound at in
-        let start = start_of g.K.Keep.keeping c.args.self.now h in
-        let mid = host_by start so.items in
-        let acted = acted_at _ start c.in-Some.stamp _ (take (c.in-Ok.head.len + c.in-Ok.head.body) c.next_request.new.buffer.items) _ c.answer_slice-text.result.now _ (c.answer_one-answer.ensures.acted honest mid so.served.sound so.served.stands_for) c.loop-acted.invariant.stays.on.stays c.loop-acted.invariant.stays.operator (ap (take c.request_len-needed.result) c.deref.ensures.value ∙ ap (λ (k : ℕ). take k c.next_request.new.buffer.items) c.request_len-needed.ensures.answer) c.answer_slice-text.ensures.bytes in
-        ended_closed _ _ _ _ c.in-Some.stamp c.in-Ok.head c.send-count.result c.answer_slice-text.result.now c.next_request.new.buffer.items so c.loop-acted-test.true c.in-Some.ensures.steps acted c.in-Ok.ensures.found c.in-Ok.ensures.kept (omega (arith, c.in-Ok.ensures.buffered, c.next_request.new.buffer.ok.0)) (omega (arith, c.send-count.ensures.bound, c.if-count-text.false)) c.send-count.ensures.bytes c.if-head.true;
-    stamps = are_taken _ _ (taken_more _ c.in-Some.stamp c.loop-acted.invariant.taken c.in-Some.ensures.steps) refl refl;
-    reads = read_then (Ok c.in-Ok.head) _ _ _ _ _ c.loop-acted.acted _ _ c.loop-acted.invariant.fetched c.loop-acted-test.true c.in-Ok.ensures.fetched;
-    room = omega (arith, c.loop-acted-test.true);
-    whole = (c.in-Ok.ensures.stops ∙ c.loop-acted.invariant.readable, c.send-count.ensures.done (omega (arith, c.send-count.ensures.bound, c.if-count-text.false)));
-    cause = tt;
-  };
+  stays = open_then c.loop-acted.invariant.stays c.answer_one-answer.ensures.stays;
+  session = λ honest h sound at.
+      let so = c.loop-acted.invariant.so_far (c.answer_one-answer.ensures.stays.on.past honest) h sound at in
+      let start = start_of g.K.Keep.keeping c.args.self.now h in
+      let mid = host_by start so.items in
+      let acted = acted_at _ (start_after start so.items) c.in-Some.stamp _ (take (c.in-Ok.head.len + c.in-Ok.head.body) c.next_request.new.buffer.items) _ c.answer_slice-text.result.now _ (c.answer_one-answer.ensures.acted honest mid so.served.goes.sound so.served.goes.stands_for) c.loop-acted.invariant.stays.on.stays c.loop-acted.invariant.stays.operator so.served.goes.crash (ap (take c.request_len-needed.result) c.deref.ensures.value ∙ ap (λ (k : ℕ). take k c.next_request.new.buffer.items) c.request_len-needed.ensures.answer) c.answer_slice-text.ensures.bytes in
+      ended_closed _ _ _ _ c.in-Some.stamp c.in-Ok.head c.send-count.result c.answer_slice-text.result.now c.next_request.new.buffer.items so c.loop-acted-test.true c.in-Some.ensures.steps acted c.in-Ok.ensures.found c.in-Ok.ensures.kept (omega (arith, c.in-Ok.ensures.buffered, c.next_request.new.buffer.ok.0)) (omega (arith, c.send-count.ensures.bound, c.if-count-text.false)) c.send-count.ensures.bytes c.if-head.true;
+  stamps = are_taken _ _ (taken_more _ c.in-Some.stamp c.loop-acted.invariant.taken c.in-Some.ensures.steps) refl refl;
+  reads = read_then (Ok c.in-Ok.head) _ _ _ _ _ c.loop-acted.acted _ _ c.loop-acted.invariant.fetched c.loop-acted-test.true c.in-Ok.ensures.fetched;
+  room = omega (arith, c.loop-acted-test.true);
+  whole = (c.in-Ok.ensures.stops ∙ c.loop-acted.invariant.readable, c.send-count.ensures.done (omega (arith, c.send-count.ensures.bound, c.if-count-text.false)));
+  cause = tt;
 }
 
 pub loop-acted-preserved : goal.loop-acted-preserved
@@ -98,19 +91,17 @@ loop-acted-preserved g c = record {
       let so = c.loop-acted.invariant.so_far (c.answer_one-answer.ensures.stays.on.past honest) h sound at in
       let start = start_of g.K.Keep.keeping c.args.self.now h in
       let mid = host_by start so.items in
-      let acted = acted_at _ start c.in-Some.stamp _ (take (c.in-Ok.head.len + c.in-Ok.head.body) c.next_request.new.buffer.items) _ c.answer_slice-text.result.now _ (c.answer_one-answer.ensures.acted honest mid so.served.sound so.served.stands_for) c.loop-acted.invariant.stays.on.stays c.loop-acted.invariant.stays.operator (ap (take c.request_len-needed.result) c.deref.ensures.value ∙ ap (λ (k : ℕ). take k c.next_request.new.buffer.items) c.request_len-needed.ensures.answer) c.answer_slice-text.ensures.bytes in
+      let acted = acted_at _ (start_after start so.items) c.in-Some.stamp _ (take (c.in-Ok.head.len + c.in-Ok.head.body) c.next_request.new.buffer.items) _ c.answer_slice-text.result.now _ (c.answer_one-answer.ensures.acted honest mid so.served.goes.sound so.served.goes.stands_for) c.loop-acted.invariant.stays.on.stays c.loop-acted.invariant.stays.operator so.served.goes.crash (ap (take c.request_len-needed.result) c.deref.ensures.value ∙ ap (λ (k : ℕ). take k c.next_request.new.buffer.items) c.request_len-needed.ensures.answer) c.answer_slice-text.ensures.bytes in
       goes_on _ _ _ _ c.in-Some.stamp c.in-Ok.head c.send-count.result c.answer_slice-text.result.now c.next_request.new.buffer.items _ so c.loop-acted-test.true c.in-Some.ensures.steps acted c.in-Ok.ensures.found c.in-Ok.ensures.kept (omega (arith, c.in-Ok.ensures.buffered, c.next_request.new.buffer.ok.0)) (omega (arith, c.send-count.ensures.bound, c.if-count-text.false)) c.send-count.ensures.bytes c.if-head.false (c.drop_front.ensures.rest ∙ ap (λ (k : ℕ). drop k c.next_request.new.buffer.items) c.request_len-needed.ensures.answer);
 }
 
 pub returns : goal.returns
 returns g c = record {
-  conversation = record {
-    stays = c.loop-acted.invariant.stays;
-    session = λ honest h sound at. ended_limit (c.loop-acted.invariant.so_far honest h sound at) (omega arith);
-    stamps = are_taken _ _ c.loop-acted.invariant.taken (omega arith) refl;
-    reads = read_all _ _ _ _ _ c.loop-acted.invariant.fetched;
-    room = refl;
-    whole = (c.loop-acted.invariant.readable, c.loop-acted.invariant.fine);
-    cause = tt;
-  };
+  stays = c.loop-acted.invariant.stays;
+  session = λ honest h sound at. ended_limit (c.loop-acted.invariant.so_far honest h sound at) (omega arith);
+  stamps = are_taken _ _ c.loop-acted.invariant.taken (omega arith) refl;
+  reads = read_all _ _ _ _ _ c.loop-acted.invariant.fetched;
+  room = refl;
+  whole = (c.loop-acted.invariant.readable, c.loop-acted.invariant.fine);
+  cause = tt;
 }

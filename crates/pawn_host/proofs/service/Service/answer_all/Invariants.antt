@@ -16,7 +16,7 @@ invariant-loop-acted g l = record {
   fetched : ReadSoFar (left_of g.R.Read.remaining l.fn.reader) (left_of g.R.Read.remaining l.reader) (reads l.reader) l.acted l.buffer.items;
   room : l.sent ≤ l.acted * 2 ^ 64;
   stays : StaysOpen g.K.Keep.keeping l.fn.self l.self;
-  so_far : Serves g.K.Keep.keeping l.fn.self l.self (λ start stands. SoFar g.I.Iterator.next_gives
+  so_far : Serves g.K.Keep.keeping l.fn.self l.self (λ start kept. SoFar g.I.Iterator.next_gives
       (record { start = start; stamps = l.fn.stamps; stream = left_of g.R.Read.remaining l.fn.reader; written = written_bytes g.W.Write.contents l.fn.writer })
-      l.stamps stands (prepend_known l.buffer.items (left_of g.R.Read.remaining l.reader)) (written_bytes g.W.Write.contents l.writer) l.acted l.sent);
+      l.stamps kept (prepend_known l.buffer.items (left_of g.R.Read.remaining l.reader)) (written_bytes g.W.Write.contents l.writer) l.acted l.sent);
 }

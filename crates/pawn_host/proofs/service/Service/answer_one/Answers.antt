@@ -1,11 +1,12 @@
 use Rattle.pawn_host.specs.Keeps.{service_keep, start_of}
+use Rattle.pawn_host.proofs.CrashLemmas.{goes_none}
 use Rattle.pawn_host.proofs.RunLemmas.{acted_fault}
 use Rattle.pawn_host.proofs.service.Service.answer_one.Goals as goal
 
 pub returns-in-Err-clause-acted : goal.returns-in-Err-clause-acted
 returns-in-Err-clause-acted g c = λ honest h sound at.
-    acted_fault (start_of g.K.Keep.keeping c.args.self.now h) c.args.stamp.now c.args.bytes.now c.tell.result (g.K.Keep.keeping.stands (service_keep c.args.self.now)) c.in-Err.fault
-    (rw c.in-Err.is at c.read_request.ensures.read) c.tell.ensures.tells at sound
+    acted_fault (start_of g.K.Keep.keeping c.args.self.now h) c.args.stamp.now c.args.bytes.now c.tell.result _ c.in-Err.fault
+    (rw c.in-Err.is at c.read_request.ensures.read) c.tell.ensures.tells (goes_none g.K.Keep.keeping (service_keep c.args.self.now) h at sound)
 
 pub returns-in-Operator-clause-acted : goal.returns-in-Operator-clause-acted
 returns-in-Operator-clause-acted g c = λ honest h sound at.

@@ -1,0 +1,43 @@
+-- What a crash may leave after a run.
+use Rattle.std.specs.Prelude.{◌≡◌, ◌⊎◌, ℕ, List, [], ◌∷◌, slice_get, Some, Ok, Err}
+use Rattle.pawn_pledge.specs.declared.command.Stamp.{Stamp}
+use Rattle.pawn_book.specs.declared.request.Request.{Request}
+use Rattle.pawn_book.specs.HostStep.{Host, host_step}
+use Rattle.pawn_book.specs.Plans.{IsLeftByStep, next_host}
+use Rattle.pawn_book.specs.Runs.{Mark, read_as, no_memory, no_store, host_after_event}
+use Rattle.pawn_wire.specs.Request.{Reads}
+use Rattle.pawn_wire.specs.declared.fault.WireFault.{WireFault}
+use Rattle.pawn_host.specs.Run.{Item, event_of, host_after}
+
+-- the host with the request done that the bytes say
+abbrev pub IsDone : Host → ℕ → Stamp → List ℕ → Host → Type 0
+IsDone h operator stamp bytes left = (request : Request) × Reads bytes (Ok request) × (left ≡ next_host h operator stamp request)
+
+-- a host that a crash may leave after an item, where it might have left these before: the changed host alone, once a change was
+-- made; these, where nothing was to change; else, where memory was wanting or the store failed, these or the host with the
+-- request done
+abbrev pub IsLeftByMark : Host → ℕ → Stamp → List ℕ → Mark WireFault → (Host → Type 0) → Host → Type 0
+IsLeftByMark h operator stamp bytes (read_as (Ok request)) before left = IsLeftByStep h request.book (host_step h operator stamp request) before left
+IsLeftByMark h operator stamp bytes (read_as (Err fault)) before left = before left
+IsLeftByMark h operator stamp bytes no_memory before left = before left ⊎ IsDone h operator stamp bytes left
+IsLeftByMark h operator stamp bytes no_store before left = before left ⊎ IsDone h operator stamp bytes left
+
+-- .. after the items of a run
+abbrev pub IsLeftByRun : Host → ℕ → List Item → (Host → Type 0) → Host → Type 0
+IsLeftByRun h operator [] before left = before left
+IsLeftByRun h operator (item ∷ items) before left =
+    IsLeftByRun (host_after_event h operator (event_of item)) operator items (IsLeftByMark h operator item.stamp item.bytes item.mark before) left
+
+-- the host with the request done of one of these items, which was answered by want of memory or by a fault of the store
+pub record IsOneMore (h : Host) (operator : ℕ) (items : List Item) (left : Host) : Type 0 where
+  pub place : ℕ
+  pub item : Item
+  pub there : slice_get items place ≡ Some item
+  pub unwell : (item.mark ≡ no_memory) ⊎ (item.mark ≡ no_store)
+  pub done : IsDone h operator item.stamp item.bytes left
+
+-- where a crash could have left the host alone before a run, it leaves the host after it, or that one with one request more
+abbrev pub CrashLeavesWhole : Type 0
+CrashLeavesWhole =
+    (h : Host) (operator : ℕ) (items : List Item) (left : Host) → IsLeftByRun h operator items (λ g. g ≡ h) left
+    → (left ≡ host_after h operator items) ⊎ IsOneMore (host_after h operator items) operator items left
