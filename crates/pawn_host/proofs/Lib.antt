@@ -7,3 +7,4 @@ pub mod RunLemmas
 pub mod RunMore
 pub mod LawLemmas
 pub mod HeadlineLemmas
+pub mod SheetLemmas

@@ -17,7 +17,7 @@ use Rattle.pawn_book.specs.declared.request.BrokerRequest.TheVariants.{Show}
 use Rattle.pawn_book.specs.declared.reply.Reply.{Reply}
 use Rattle.pawn_book.specs.declared.refusal.Refusal.{Refusal}
 use Rattle.pawn_book.specs.declared.refusal.Refusal.TheVariants as No
-use Rattle.pawn_book.specs.BookStep.{BookValue, Out, Told, Denied, Shown, Outcome, Refuses, Says, out_of, are_unknown, gate_step, pledge_from, pledge_in, show_pledge}
+use Rattle.pawn_book.specs.BookStep.{BookValue, Out, Told, Denied, Shown, Outcome, Refuses, Says, out_of, are_unknown, broker_step, gate_step, pledge_from, pledge_in, show_pledge}
 use Rattle.pawn_book.specs.HostStep.{Host, rows, within_limit, host_step, host_after}
 use Rattle.pawn_book.specs.Sound.{IsSound}
 use Rattle.pawn_book.specs.Runs.{read_as, no_memory, no_store, Answered}
@@ -89,13 +89,13 @@ GoesByStep start stamp request kept =
     GoesTo kept (next_host start.host start.operator stamp request) (IsLeftByStep start.host request.book (host_step start.host start.operator stamp request) start.leaves)
 
 -- the outcome is the step's
-goes_by : (start : Start) (stamp : Stamp) (request : Request) (kept : Kept) (o : Outcome) → host_step start.host start.operator stamp request ≡ o
+pub goes_by : (start : Start) (stamp : Stamp) (request : Request) (kept : Kept) (o : Outcome) → host_step start.host start.operator stamp request ≡ o
     → GoesTo kept (host_after start.host request.book o) (IsLeftByStep start.host request.book o start.leaves) → GoesByStep start stamp request kept
 goes_by start stamp request kept o is goes =
     subst (λ (o : Outcome). GoesTo kept (host_after start.host request.book o) (IsLeftByStep start.host request.book o start.leaves)) (sym is) goes
 
 -- the step of the host was told
-acted_said : (start : Start) (stamp : Stamp) (bytes reply : List ℕ) (kept : Kept) (request : Request) (out : Out)
+pub acted_said : (start : Start) (stamp : Stamp) (bytes reply : List ℕ) (kept : Kept) (request : Request) (out : Out)
     → Reads bytes (Ok request) → out_of (host_step start.host start.operator stamp request) ≡ out → reply ≡ said_text (Answered out)
     → GoesByStep start stamp request kept → IsActed start stamp bytes reply kept
 acted_said start stamp bytes reply kept request out read is text goes = record {
@@ -186,7 +186,7 @@ step_known : (h : Host) (operator : ℕ) (stamp : Stamp) (book : ℕ) (receipts 
 step_known h operator stamp book receipts is =
     ap (λ (b : Bool). within_limit h book (if b then Refuses No.NoSuchReceipt else Says (Shown stamp.day (live_pledges h book receipts)))) is
 
-some_same : {A : Type 0} {a b : A} → Some a ≡ Some b → a ≡ b
+pub some_same : {A : Type 0} {a b : A} → Some a ≡ Some b → a ≡ b
 some_same {a = a} e = ap (λ (o : Option _). unwrap_or o a) e
 
 text_known : (u : Bool) (shown text : List ℕ) → (if u then None else Some shown) ≡ Some text → (u ≡ false) × (text ≡ shown)
@@ -221,8 +221,11 @@ acted_shown start stamp bytes (Bytes v) kept book day receipts text out read day
 
 -- ---- a pledge
 
+abbrev pub broker_request : ℕ → ℕ → BrokerRequest → Request
+broker_request book key asked = record { book = book; caller = Broker key asked }
+
 abbrev pub show_request : ℕ → ℕ → ℕ → Request
-show_request book key number = record { book = book; caller = Broker key (Show number) }
+show_request book key number = broker_request book key (Show number)
 
 -- what comes of a pledge that is asked for with the book's key
 step_key : (h : Host) (operator : ℕ) (stamp : Stamp) (book key number : ℕ) → IsKeyOf h book key
@@ -267,10 +270,10 @@ acted_statement start stamp bytes (Bytes v) kept book key number day text out re
         (tells ∙ ap (reply_text 200 (codes "text/plain; charset=utf-8")) same) (goes_by start stamp request kept (Says said) step goes)
 
 -- the key was another's, or the keeper did not answer
-pub gate_refused : (h : Host) (operator : ℕ) (stamp : Stamp) (book key number : ℕ) (why : Refusal) → Gates (get h.books book) key (Err why)
-    → IsUnwell why ⊎ (host_step h operator stamp (show_request book key number) ≡ Refuses why)
-gate_refused h operator stamp book key number why refused =
-    elim (refused (λ (k : BookValue). show_pledge stamp (pledge_from 1 k.pledges number))) [
+pub gate_refused : (h : Host) (operator : ℕ) (stamp : Stamp) (book key : ℕ) (asked : BrokerRequest) (why : Refusal) → Gates (get h.books book) key (Err why)
+    → IsUnwell why ⊎ (host_step h operator stamp (broker_request book key asked) ≡ Refuses why)
+gate_refused h operator stamp book key asked why refused =
+    elim (refused (λ (k : BookValue). broker_step k book stamp asked)) [
       | inl unwell ↦ inl unwell
       | inr is ↦ inr (ap (within_limit h book) is)
     ]
@@ -285,7 +288,7 @@ pub read_present : (bytes : List ℕ) (request : Request) (asked : BearerRequest
 read_present bytes request asked receipts called is read =
     subst (λ (caller : Caller). Reads bytes (Ok (record { book = request.book; caller = caller }))) (called ∙ ap Bearer is) read
 
-pub read_show : (bytes : List ℕ) (request : Request) (key : ℕ) (asked : BrokerRequest) (number : ℕ) → request.caller ≡ Broker key asked → asked ≡ Show number → Reads bytes (Ok request)
-    → Reads bytes (Ok (show_request request.book key number))
-read_show bytes request key asked number called is read =
+pub read_broker : (bytes : List ℕ) (request : Request) (key : ℕ) (asked this : BrokerRequest) → request.caller ≡ Broker key asked → asked ≡ this → Reads bytes (Ok request)
+    → Reads bytes (Ok (broker_request request.book key this))
+read_broker bytes request key asked this called is read =
     subst (λ (caller : Caller). Reads bytes (Ok (record { book = request.book; caller = caller }))) (called ∙ ap (Broker key) is) read

@@ -2,17 +2,17 @@
 ghost use Rattle.std.specs.Prelude.{◌≡◌, IfOk, OnErr, map};
 ghost use Rattle.pawn_book.specs.declared.request.Caller.TheVariants.{Bearer, Broker};
 ghost use Rattle.pawn_book.specs.declared.request.BearerRequest.TheVariants.{Present};
-ghost use Rattle.pawn_book.specs.declared.request.BrokerRequest.TheVariants.{Show};
+ghost use Rattle.pawn_book.specs.declared.request.BrokerRequest.TheVariants.{SheetOf, Show};
 ghost use Rattle.pawn_book.specs.Plans.{IsWritten};
 ghost use Rattle.pawn_wire.specs.Reply.{out_text};
 ghost use Rattle.pawn_host.specs.Headline.{IsRunOfSlots};
 ghost use Rattle.pawn_host.specs.Keeps.{service_keep, service_operator, answer_bytes, IsKeyOf, Tells, StaysOpen, Serves, Answers, IsActed, IsRun};
 
 use pawn_book::{
-    BearerRequest, BrokerRequest, Caller, Keep, Number, Receipts, Refusal, Request, Secret, Stamp,
-    commit, gate, plan,
+    BearerRequest, BrokerRequest, Caller, Keep, Number, Receipts, Refusal, Request, RequestDay,
+    Secret, Stamp, commit, gate, plan,
 };
-use pawn_view::{ViewFault, Writing, show_presented, show_statement};
+use pawn_view::{ViewFault, Writing, show_day_sheet, show_presented, show_statement};
 use pawn_wire::{Out, Router, read_request, write_reply};
 use std::alloc::{AllocError, Global};
 
@@ -110,6 +110,36 @@ impl<K: Keep> Service<K> {
         }
     }
 
+    // Shows the sheet of a day to the holder of its book's key.
+    fn show_sheet(&mut self, stamp: &Stamp, book: Number, key: Secret, day: RequestDay) -> Answer
+        ensures stays { StaysOpen K.keeping self.old self.new }
+        ensures acted { Serves K.keeping self.old self.new
+            (λ start. Answers start stamp.now (record { book = book; caller = Broker key (SheetOf day) }) (answer_bytes result)) }
+    {
+        match gate(&mut self.keep, book, key) {
+            Err(refusal) => return tell(self.alloc, &Out::Refused(refusal)),
+            Ok(_) => {}
+        }
+        self.show_day(stamp, book, key, day)
+    }
+
+    // Shows the sheet of a day of a book whose key was given.
+    fn show_day(&mut self, stamp: &Stamp, book: Number, key: Secret, day: RequestDay) -> Answer
+        ensures stays { StaysOpen K.keeping self.old self.new }
+        ensures acted { Serves K.keeping self.old self.new (λ start kept. IsKeyOf start.host book key
+            → Answers start stamp.now (record { book = book; caller = Broker key (SheetOf day) }) (answer_bytes result) kept) }
+    {
+        let mut writer = Writing::new(Vec::new(self.alloc));
+        match show_day_sheet(&mut self.keep, book, day.day(), &mut writer) {
+            Ok(()) => tell(self.alloc, &Out::Plain(writer.into_inner())),
+            Err(ViewFault::Unknown) => tell(self.alloc, &Out::Refused(Refusal::NoSuchBook)),
+            Err(ViewFault::Store) => tell(self.alloc, &Out::Refused(Refusal::Store)),
+            // The text is built in memory, so a failed write is want of it.
+            Err(ViewFault::Memory) => Answer::Memory,
+            Err(ViewFault::Write) => Answer::Memory,
+        }
+    }
+
     // Answers what a broker asks.
     fn answer_broker(
         &mut self,
@@ -127,6 +157,7 @@ impl<K: Keep> Service<K> {
             BrokerRequest::TakePledge(_) => self.act(stamp, request),
             BrokerRequest::OnPledge { .. } => self.act(stamp, request),
             BrokerRequest::Show(number) => self.show_pledge(stamp, request.book, key, *number),
+            BrokerRequest::SheetOf(day) => self.show_sheet(stamp, request.book, key, *day),
         }
     }
 

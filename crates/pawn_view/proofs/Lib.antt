@@ -4,3 +4,4 @@ pub mod ShareLemmas
 pub mod SoundLemmas
 pub mod StatementLemmas
 pub mod PresentedLemmas
+pub mod SheetLemmas

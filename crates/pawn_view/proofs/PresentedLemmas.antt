@@ -1,6 +1,7 @@
 -- What is shown for receipts, one after the other.
 use Rattle.std.proofs.Common.{◌≡◌, ◌∙◌, ℕ, zero, suc, ◌+◌, ◌-◌, ◌<◌, ◌≤◌, arith, Bool, true, false, List, [], ◌∷◌, ◌++◌, length, take, drop, get_or, map, Option, Some, None, codes, refl, sym, ap, subst, if◌then◌else◌, Result}
 use Rattle.std.specs.Prelude.{option_map, not}
+use Rattle.std.proofs.lemmas.Grind.{flat_map-append}
 use Rattle.std.proofs.lemmas.List.{take_more, take_rest, append-nil, map-append}
 use Rattle.pawn_pledge.specs.declared.receipt.Receipt.{Receipt}
 use Rattle.pawn_pledge.specs.Pledge.{PledgeValue}
@@ -16,7 +17,6 @@ use Rattle.pawn_view.specs.Ends.{write_failed, Puts}
 use Rattle.pawn_view.specs.Fault.{ending_of}
 use Rattle.pawn_view.specs.Text.{statement_text, shown_text, further_texts, presented_text}
 use Rattle.pawn_view.specs.Shown.{PutsShare, Shows}
-use Rattle.pawn_view.proofs.PutLemmas.{flat_map-append}
 use Rattle.pawn_view.proofs.ShareLemmas.{share_puts, share_more, share_then}
 use Rattle.pawn_view.proofs.StatementLemmas.{some_same, shows_ended}
 

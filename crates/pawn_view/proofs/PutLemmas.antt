@@ -1,6 +1,6 @@
 -- Texts put one after the other.
 use Rattle.std.specs.List.{flat_map}
-use Rattle.std.proofs.lemmas.Grind.{common_steps}
+use Rattle.std.proofs.lemmas.Grind.{common_steps, flat_map-append}
 use Rattle.std.proofs.lemmas.List.{append-nil, take-append-drop, take_more}
 use Rattle.std.proofs.lemmas.Bool.{cases_Bool, eqb-true}
 use Rattle.std.proofs.lemmas.Bool.Decides.{nat_tests}
@@ -21,11 +21,6 @@ put-then contents a b c s t Front first ((out, rest, whole, appends), failed) =
 -- a front of a text is a front of a longer one
 pub front-more : {W : Type 0} (contents : W → Option (List ℕ)) (a b : Writing W) (s t : List ℕ) → PutFront contents a s b → PutFront contents a (s ++ t) b
 front-more contents a b s t (out, rest, whole, appends) = (out, rest ++ t, sym (append_assoc out rest t) ∙ ap (λ x. x ++ t) whole, appends)
-
--- the pieces of one list and then of another
-pub flat_map-append : {X A : Type 0} (f : X → List A) (xs ys : List X) → flat_map f (xs ++ ys) ≡ flat_map f xs ++ flat_map f ys
-flat_map-append f [] ys = refl
-flat_map-append f (x ∷ xs) ys = ap (λ t. f x ++ t) (flat_map-append f xs ys) ∙ sym (append_assoc (f x) (flat_map f xs) (flat_map f ys))
 
 -- whether it failed now says how much of the text went out
 pub by_now : {W : Type 0} (contents : W → Option (List ℕ)) (a b : Writing W) (text : List ℕ) (failed : Bool) → write_failed b ≡ failed

@@ -2,6 +2,7 @@
 use Rattle.std.proofs.Common.{◌≡◌, ◌∙◌, ℕ, Bool, false, List, [], ◌∷◌, ◌++◌, Option, refl, sym, ap, subst, inl, inr, append_assoc}
 use Rattle.std.specs.List.{flat_map}
 use Rattle.std.specs.Prelude.{if◌then◌else◌}
+use Rattle.std.proofs.lemmas.Grind.{flat_map-append}
 use Rattle.std.proofs.lemmas.List.{append-nil}
 use Rattle.std.proofs.lemmas.Bool.{cases_Bool}
 use Rattle.pawn_book.specs.declared.visit.Flow.{Flow}
@@ -10,7 +11,7 @@ use Rattle.pawn_book.specs.Visits.{End, Front, Handed, IsShare, Whole}
 use Rattle.pawn_view.specs.declared.writing.Writing.{Writing}
 use Rattle.pawn_view.specs.Ends.{write_failed, Puts}
 use Rattle.pawn_view.specs.Shown.{PutsLine, PutsShare}
-use Rattle.pawn_view.proofs.PutLemmas.{puts_nil, puts_then, flat_map-append}
+use Rattle.pawn_view.proofs.PutLemmas.{puts_nil, puts_then}
 
 -- the lines of what was handed were put
 lines_put : {W T : Type 0} (contents : W → Option (List ℕ)) (line : T → List ℕ) (v w : Writing W) (xs : List T) (flow : Flow)

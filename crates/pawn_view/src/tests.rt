@@ -11,6 +11,7 @@ use std::alloc::Global;
 use std::test::Fail;
 
 mod failing_writers;
+mod sheets;
 
 const KEY: u128 = 2;
 
@@ -41,11 +42,8 @@ fn receipt(word: u128) -> Result<Receipt, Fail> {
     })
 }
 
-fn acts(alloc: Global, keep: &mut ListKeep, caller: Caller) -> Result<(), Fail> {
-    let stamp = Stamp {
-        day: taken()?,
-        word: WORD,
-    };
+fn acts(alloc: Global, keep: &mut ListKeep, day: RequestDay, caller: Caller) -> Result<(), Fail> {
+    let stamp = Stamp { day, word: WORD };
     let book = number(7)?;
     let request = Request { book, caller };
     if !request.caller.writes() {
@@ -57,14 +55,33 @@ fn acts(alloc: Global, keep: &mut ListKeep, caller: Caller) -> Result<(), Fail> 
     }
 }
 
-// Book 7 with one pledge of 100 pounds, taken under terms of no charge.
-fn one_pledge(alloc: Global) -> Result<ListKeep, Fail> {
+// What the broker of the book asks, by its key.
+fn broker(asked: BrokerRequest) -> Caller {
+    Caller::Broker {
+        key: Secret::of_word(KEY),
+        asked,
+    }
+}
+
+// An opening under this reference, for a sum of this many pence.
+fn opening(alloc: Global, reference: &str, pence: u64) -> Result<BrokerRequest, Fail> {
+    Ok(BrokerRequest::TakePledge(Opening {
+        reference: Reference::of_str(alloc, reference)?.ok_or("no reference")?,
+        article: Article::of_str(alloc, "Gold ring")?.ok_or("no article")?,
+        kind: Kind::Fixed(pence),
+        agreed: None,
+        five_days: false,
+    }))
+}
+
+// Book 7, of a capacity, under terms of no charge.
+fn book(alloc: Global, capacity: u64) -> Result<ListKeep, Fail> {
     let mut keep = ListKeep::new(alloc, 100);
     let key = Secret::of_word(KEY);
     let new_book = NewBook {
         key,
         name: Name::of_str(alloc, "High Street")?.ok_or("no name")?,
-        capacity: Capacity::new(2).ok_or("no capacity")?,
+        capacity: Capacity::new(capacity).ok_or("no capacity")?,
     };
     let rates = Rates {
         rate: 0,
@@ -72,23 +89,17 @@ fn one_pledge(alloc: Global) -> Result<ListKeep, Fail> {
         keep_after: 0,
     };
     let terms = BrokerRequest::PutTerms(NewTerms { version: 1, rates });
-    let opening = BrokerRequest::TakePledge(Opening {
-        reference: Reference::of_str(alloc, "A1")?.ok_or("no reference")?,
-        article: Article::of_str(alloc, "Gold ring")?.ok_or("no article")?,
-        kind: Kind::Fixed(10_000),
-        agreed: None,
-        five_days: false,
-    });
-    acts(alloc, &mut keep, Caller::Operator { key, new_book })?;
-    acts(alloc, &mut keep, Caller::Broker { key, asked: terms })?;
-    acts(
-        alloc,
-        &mut keep,
-        Caller::Broker {
-            key,
-            asked: opening,
-        },
-    )?;
+    let made = taken()?;
+    acts(alloc, &mut keep, made, Caller::Operator { key, new_book })?;
+    acts(alloc, &mut keep, made, broker(terms))?;
+    Ok(keep)
+}
+
+// The same with one pledge of 100 pounds.
+fn one_pledge(alloc: Global) -> Result<ListKeep, Fail> {
+    let mut keep = book(alloc, 2)?;
+    let asked = opening(alloc, "A1", 10_000)?;
+    acts(alloc, &mut keep, taken()?, broker(asked))?;
     Ok(keep)
 }
 

@@ -1,4 +1,5 @@
 ghost use Rattle.pawn_view.specs.Worked.{WorkedAmounts, WorkedDays, WorkedLines, WorkedBookings, WorkedClosings, WorkedStatements, WorkedCharges, WorkedEndings, WorkedReceipts};
+ghost use Rattle.pawn_view.specs.WorkedSheets.{WorkedSheetLines, WorkedSheets, WorkedWindows, WorkedEnds};
 
 /// Amounts and days as they are written.
 pub fn worked_words()
@@ -19,4 +20,12 @@ pub fn worked_statements()
     ensures charges { WorkedCharges }
     ensures endings { WorkedEndings }
     ensures receipts { WorkedReceipts }
+{}
+
+/// Sheets of days, and which pledges they name.
+pub fn worked_sheets()
+    ensures lines { WorkedSheetLines }
+    ensures sheets { WorkedSheets }
+    ensures windows { WorkedWindows }
+    ensures ends { WorkedEnds }
 {}

@@ -33,14 +33,16 @@ use Rattle.pawn_book.specs.Limits.{most_receipts}
 use Rattle.pawn_wire.specs.Member.{json_of, in_range, number_at, string_at, flag_at, if_text, text_at, key_at, day_at, body_said}
 use Rattle.pawn_wire.specs.Named.{number_said, day_said}
 use Rattle.pawn_wire.specs.Receipts.{is_hyphen, receipt_said, all_said, receipt_values, receipt_faults, receipts_said, one_said}
-use Rattle.pawn_wire.specs.Request.{framing_faults, place_of, place_asked, item_said, is_ascii_text, key_given, if_sent_by, caller_said, request_by, Reads}
+use Rattle.pawn_wire.specs.Request.{framing_faults, place_of, place_asked, item_said, number_in, day_in, is_ascii_text, key_given, if_sent_by, caller_said, request_by, Reads}
 use Rattle.pawn_wire.specs.Route.{AskedFor, route_of, method_of}
 use Rattle.pawn_wire.specs.declared.commands.NewEntry.{NewEntry}
 use Rattle.pawn_wire.specs.declared.fault.WireFault.{WireFault}
 use Rattle.pawn_wire.specs.declared.fault.WireFault.TheVariants.{NoRoute, WrongMethod, BadBody, BadReceipt, TooManyReceipts, NoReceipt}
+use Rattle.pawn_wire.specs.declared.request.Item.{Item}
+use Rattle.pawn_wire.specs.declared.request.Item.TheVariants.{Nothing, Pledge, Day}
 use Rattle.pawn_wire.specs.declared.request.Place.{Place}
 use Rattle.pawn_wire.specs.declared.route.Endpoint.{Endpoint}
-use Rattle.pawn_wire.specs.declared.route.Endpoint.TheVariants.{Create, PutTerms, TakePledge, Show, OnPledge, Present, OnReceipt}
+use Rattle.pawn_wire.specs.declared.route.Endpoint.TheVariants.{Create, PutTerms, TakePledge, Show, OnPledge, ShowDay, Present, OnReceipt}
 use Rattle.pawn_wire.specs.declared.route.Action.{Action}
 use Rattle.pawn_wire.specs.declared.route.Action.TheVariants.{Draw, Repay, Hold, Release, Declare, Ask, Cancel, Decide, Redeem, Sell, Extend}
 use Rattle.pawn_wire.proofs.NamedLemmas.{number_said-is, day_said-is}
@@ -224,67 +226,91 @@ sent_is may command sent e = by_test (may command) e
     by_test true same = cc
     by_test false same = absurd cc
 
-caller_within : (endpoint : Endpoint) (item : Option ℕ) (fields : List Pair) (body : List ℕ) (caller : Caller) → IfSome item IsNumber
+-- an item is a number or a day
+abbrev IsItemWithin : Item → Type 0
+IsItemWithin Nothing = Unit {0}
+IsItemWithin (Pledge number) = IsNumber number
+IsItemWithin (Day day) = IsStampDay day
+
+number_in_within : (item : Item) (number : ℕ) → IsItemWithin item → number_in item ≡ Some number → IsNumber number
+number_in_within Nothing number within e = absurd cc
+number_in_within (Pledge n) number within e = (let same : n ≡ number = cc in subst IsNumber same within)
+number_in_within (Day day) number within e = absurd cc
+
+day_in_within : (item : Item) (day : ℕ) → IsItemWithin item → day_in item ≡ Some day → IsStampDay day
+day_in_within Nothing day within e = absurd cc
+day_in_within (Pledge n) day within e = absurd cc
+day_in_within (Day x) day within e = (let same : x ≡ day = cc in subst IsStampDay same within)
+
+caller_within : (endpoint : Endpoint) (item : Item) (fields : List Pair) (body : List ℕ) (caller : Caller) → IsItemWithin item
     → caller_said endpoint item fields body ≡ Ok caller → IsCallerWithin caller
-caller_within Create item fields body caller numbered e =
+caller_within Create item fields body caller within e =
     let key = after_ok (key_given fields) _ caller e in
     mapped IsCallerWithin (Operator key.0) (body_said new_book_of body) caller (or_fault_ok BadBody _ caller key.2)
     (λ new is. of_body (λ (b : NewBook). IsText most_name_bytes b.name × IsCapacity b.capacity) new_book_of body new is (λ d. new_book_within d new))
-caller_within PutTerms item fields body caller numbered e =
+caller_within PutTerms item fields body caller within e =
     let key = after_ok (key_given fields) _ caller e in
     mapped IsCallerWithin (λ terms. Broker key.0 (broker.PutTerms terms)) (body_said new_terms_of body) caller (or_fault_ok BadBody _ caller key.2) (λ terms is. tt)
-caller_within TakePledge item fields body caller numbered e =
+caller_within TakePledge item fields body caller within e =
     let key = after_ok (key_given fields) _ caller e in
     mapped IsCallerWithin (λ opening. Broker key.0 (broker.TakePledge opening)) (body_said opening_of body) caller (or_fault_ok BadBody _ caller key.2)
     (λ opening is. of_body IsOpening opening_of body opening is (λ d. opening_within d opening))
-caller_within Show item fields body caller numbered e =
+caller_within Show item fields body caller within e =
     let key = after_ok (key_given fields) _ caller e in
-    mapped IsCallerWithin (λ number. Broker key.0 (broker.Show number)) item caller (or_fault_ok BadBody _ caller key.2)
-    (λ number is. subst (λ (o : Option ℕ). IfSome o IsNumber) is numbered)
-caller_within (OnPledge action) item fields body caller numbered e =
+    mapped IsCallerWithin (λ number. Broker key.0 (broker.Show number)) (number_in item) caller (or_fault_ok BadBody _ caller key.2)
+    (λ number is. number_in_within item number within is)
+caller_within (OnPledge action) item fields body caller within e =
     let key = after_ok (key_given fields) _ caller e in
-    let number = given_some item _ caller (or_fault_ok BadBody _ caller key.2) in
+    let number = given_some (number_in item) _ caller (or_fault_ok BadBody _ caller key.2) in
     mapped IsCallerWithin (λ command. Broker key.0 (broker.OnPledge number.0 command)) (and_then (command_said action body) (if_sent_by is_brokers)) caller number.2
     (λ command is.
     let said = given_some (command_said action body) (if_sent_by is_brokers) command is in
-    (subst (λ (o : Option ℕ). IfSome o IsNumber) number.1 numbered, subst IsCommandWithin (sent_is is_brokers said.0 command said.2) (command_within action body said.0 said.1)))
-caller_within Present item fields body caller numbered e =
+    (number_in_within item number.0 within number.1, subst IsCommandWithin (sent_is is_brokers said.0 command said.2) (command_within action body said.0 said.1)))
+caller_within ShowDay item fields body caller within e =
+    let key = after_ok (key_given fields) _ caller e in
+    mapped IsCallerWithin (λ day. Broker key.0 (broker.SheetOf day)) (day_in item) caller (or_fault_ok BadBody _ caller key.2)
+    (λ day is. day_in_within item day within is)
+caller_within Present item fields body caller within e =
     let receipts = after_ok (receipts_said (receipt_values fields)) _ caller e in
     let same : Bearer (bearer.Present receipts.0) ≡ caller = cc (receipts.2) in
     subst IsCallerWithin same (few_within (receipt_values fields) receipts.0 receipts.1)
-caller_within (OnReceipt action) item fields body caller numbered e =
+caller_within (OnReceipt action) item fields body caller within e =
     let receipt = after_ok (one_said (receipt_values fields)) _ caller e in
     mapped IsCallerWithin (λ command. Bearer (bearer.OnPledge receipt.0 command)) (and_then (command_said action body) (if_sent_by is_bearers)) caller (or_fault_ok BadBody _ caller receipt.2)
     (λ command is.
     let said = given_some (command_said action body) (if_sent_by is_bearers) command is in
     (one_within (receipt_values fields) receipt.0 receipt.1, subst IsCommandWithin (sent_is is_bearers said.0 command said.2) (command_within action body said.0 said.1)))
 
--- a place names numbers
+-- a place names a number, and what it may beside
 abbrev IsPlaceWithin : Place → Type 0
-IsPlaceWithin place = IsNumber place.book × IfSome place.item IsNumber
+IsPlaceWithin place = IsNumber place.book × IsItemWithin place.item
 
-item_within : (text : Option (List ℕ)) (item : Option ℕ) → item_said text ≡ Some item → IfSome item IsNumber
-item_within None item e = (let k : None ≡ item = cc in subst (λ (o : Option ℕ). IfSome o IsNumber) k tt)
-item_within (Some text) item e = by_said (number_said text) refl e
-  where
-    by_said : (said : Option ℕ) → number_said text ≡ said → option_map Some said ≡ Some item → IfSome item IsNumber
-    by_said None is same = absurd cc
-    by_said (Some n) is same =
-        let k : Some n ≡ item = cc in
-        subst (λ (o : Option ℕ). IfSome o IsNumber) k (number_said-is n text is).0
+named : (text : List ℕ) (item : Item) → option_map Pledge (number_said text) ≡ Some item → IsItemWithin item
+named text item e = mapped IsItemWithin Pledge (number_said text) item e (λ n is. (number_said-is n text is).0)
+
+item_within : (endpoint : Endpoint) (text : Option (List ℕ)) (item : Item) → item_said endpoint text ≡ Some item → IsItemWithin item
+item_within endpoint None item e = (let same : Nothing ≡ item = cc in subst IsItemWithin same tt)
+item_within ShowDay (Some text) item e = mapped IsItemWithin Day (day_said text) item e (λ day is. day_within text day is)
+item_within Create (Some text) item e = named text item e
+item_within PutTerms (Some text) item e = named text item e
+item_within TakePledge (Some text) item e = named text item e
+item_within Show (Some text) item e = named text item e
+item_within (OnPledge action) (Some text) item e = named text item e
+item_within Present (Some text) item e = named text item e
+item_within (OnReceipt action) (Some text) item e = named text item e
 
 asked_within : (asked : AskedFor) (place : Place) → place_asked asked ≡ Some place → IsPlaceWithin place
 asked_within asked place e =
     let book = given_some (and_then asked.book number_said) _ place e in
     let text = given_some asked.book number_said book.0 book.1 in
-    by_item book.0 (item_said asked.item) (number_said-is book.0 text.0 text.2).0 refl book.2
+    by_item book.0 (item_said asked.endpoint asked.item) (number_said-is book.0 text.0 text.2).0 refl book.2
   where
-    by_item : (book : ℕ) (said : Option (Option ℕ)) → IsNumber book → item_said asked.item ≡ said
+    by_item : (book : ℕ) (said : Option Item) → IsNumber book → item_said asked.endpoint asked.item ≡ said
         → option_map (λ item. record { endpoint = asked.endpoint; book = book; item = item }) said ≡ Some place → IsPlaceWithin place
     by_item book None range is same = absurd cc
     by_item book (Some item) range is same =
         let k : ◌≡◌ {A = Place} (record { endpoint = asked.endpoint; book = book; item = item }) place = cc in
-        subst (λ (p : Place). IsPlaceWithin p) k (range, item_within asked.item item is)
+        subst (λ (p : Place). IsPlaceWithin p) k (range, item_within asked.endpoint asked.item item is)
 
 place_within : (target : List ℕ) (place : Place) → place_of target ≡ Some place → IsPlaceWithin place
 place_within target place e = by_test (is_ascii_text target) e

@@ -14,14 +14,14 @@ use Rattle.pawn_book.specs.Limits.{IsCapacity, AreFew, most_name_bytes}
 use Rattle.pawn_book.specs.declared.request.Request.{Request}
 use Rattle.pawn_book.specs.declared.request.Caller.{Caller}
 use Rattle.pawn_book.specs.declared.request.Caller.TheVariants.{Operator, Broker, Bearer}
-use Rattle.pawn_book.specs.declared.request.BrokerRequest.TheVariants.{PutTerms, TakePledge, Show}
+use Rattle.pawn_book.specs.declared.request.BrokerRequest.TheVariants.{PutTerms, TakePledge, Show, SheetOf}
 use Rattle.pawn_book.specs.declared.request.BrokerRequest.TheVariants as broker
 use Rattle.pawn_book.specs.declared.request.BearerRequest.TheVariants.{Present}
 use Rattle.pawn_book.specs.declared.request.BearerRequest.TheVariants as bearer
 use Rattle.pawn_wire.specs.Bodies.{book_text, version_text, opened_text, refusal_text}
 use Rattle.pawn_wire.specs.Done.{sort_text, state_text, entered_text, held_text, declared_text, booked_text, redeemed_text, sold_text, extended_text}
 use Rattle.pawn_wire.specs.Limits.{max_number}
-use Rattle.pawn_wire.specs.Named.{number_said}
+use Rattle.pawn_wire.specs.Named.{number_said, day_said}
 use Rattle.pawn_wire.specs.Request.{Reads}
 use Rattle.pawn_wire.specs.Route.{table, route_of}
 use Rattle.pawn_wire.specs.declared.fault.WireFault.{WireFault}
@@ -106,6 +106,7 @@ IsCallerWithin (Broker key (PutTerms terms)) = Unit {0}
 IsCallerWithin (Broker key (TakePledge opening)) = IsOpening opening
 IsCallerWithin (Broker key (broker.OnPledge n command)) = IsNumber n × IsCommandWithin command
 IsCallerWithin (Broker key (Show n)) = IsNumber n
+IsCallerWithin (Broker key (SheetOf day)) = IsStampDay day
 IsCallerWithin (Bearer (Present receipts)) = AreFew receipts
 IsCallerWithin (Bearer (bearer.OnPledge receipt command)) = IsNumber receipt.number × IsCommandWithin command
 
@@ -125,26 +126,36 @@ pub record NumbersAreSaid : Type 0 where
   pub is : (n : ℕ) (text : List ℕ) → number_said text ≡ Some n → IsNumber n × (text ≡ decimal n)
   pub leading_zero : (rest : List ℕ) → number_said (48 ∷ rest) ≡ None
 
--- the form of a target, with 7 for the book and 12 for the pledge that it names in braces
+-- and days by theirs
+pub record DaysAreSaid : Type 0 where
+  pub said : (day : ℕ) → IsStampDay day → day_said (day_text day) ≡ Some day
+  pub is : (day : ℕ) (text : List ℕ) → day_said text ≡ Some day → IsStampDay day × (text ≡ day_text day)
+
+-- what stands for a name in braces: 7 for the book, 12 for a pledge, 2024-03-04 for a day
+abbrev pub filling : ℕ → List ℕ
+filling name = if name == 98 then codes "7" else (if name == 100 then codes "2024-03-04" else codes "12")
+
+-- the form of a target, filled
 abbrev pub fill : Bool → List ℕ → List ℕ
 fill in_braces [] = []
-fill true (c ∷ form) = if c == 125 then fill false form else (if c == 98 then codes "7" else codes "12") ++ fill true form
+fill true (c ∷ form) = if c == 125 then fill false form else filling c ++ fill true form
 fill false (c ∷ form) = if c == 123 then fill true form else c ∷ fill false form
 
--- the number that a target for the endpoint names beside its book
-abbrev pub pledge_for : Endpoint → Option (List ℕ)
-pledge_for e.Create = None
-pledge_for e.PutTerms = None
-pledge_for e.TakePledge = None
-pledge_for e.Show = Some (codes "12")
-pledge_for (e.OnPledge action) = Some (codes "12")
-pledge_for e.Present = None
-pledge_for (e.OnReceipt action) = None
+-- what a target for the endpoint names beside its book
+abbrev pub item_for : Endpoint → Option (List ℕ)
+item_for e.Create = None
+item_for e.PutTerms = None
+item_for e.TakePledge = None
+item_for e.Show = Some (codes "12")
+item_for (e.OnPledge action) = Some (codes "12")
+item_for e.ShowDay = Some (codes "2024-03-04")
+item_for e.Present = None
+item_for (e.OnReceipt action) = None
 
--- the target of a row of the table is found, with its endpoint and its numbers
+-- the target of a row of the table is found, with its endpoint and what it names
 abbrev pub IsTargetFound : List ℕ × Endpoint → Type 0
 IsTargetFound row =
-    route_of (fill false row.0) ≡ Some (record { endpoint = row.1; book = Some (codes "7"); item = pledge_for row.1 })
+    route_of (fill false row.0) ≡ Some (record { endpoint = row.1; book = Some (codes "7"); item = item_for row.1 })
 
 abbrev pub TargetsAreFound : Type 0
 TargetsAreFound = Each IsTargetFound table

@@ -18,14 +18,16 @@ use Rattle.pawn_wire.specs.Fault.{wire_fault}
 use Rattle.pawn_wire.specs.Fields.{Pair, values_of}
 use Rattle.pawn_wire.specs.Head.{ReadsHead, fields_of, length_by, field_faults}
 use Rattle.pawn_wire.specs.Member.{body_said}
-use Rattle.pawn_wire.specs.Named.{number_said}
+use Rattle.pawn_wire.specs.Named.{number_said, day_said}
 use Rattle.pawn_wire.specs.Receipts.{receipt_values, receipts_said, one_said}
 use Rattle.pawn_wire.specs.Route.{AskedFor, route_of, method_of}
 use Rattle.pawn_wire.specs.declared.fault.WireFault.{WireFault}
 use Rattle.pawn_wire.specs.declared.fault.WireFault.TheVariants.{BadHead, BadLength, NoRoute, WrongMethod, BadBody, BadKey, Memory}
+use Rattle.pawn_wire.specs.declared.request.Item.{Item}
+use Rattle.pawn_wire.specs.declared.request.Item.TheVariants.{Nothing, Pledge, Day}
 use Rattle.pawn_wire.specs.declared.request.Place.{Place}
 use Rattle.pawn_wire.specs.declared.route.Endpoint.{Endpoint}
-use Rattle.pawn_wire.specs.declared.route.Endpoint.TheVariants.{Create, PutTerms, TakePledge, Show, OnPledge, Present, OnReceipt}
+use Rattle.pawn_wire.specs.declared.route.Endpoint.TheVariants.{Create, PutTerms, TakePledge, Show, OnPledge, ShowDay, Present, OnReceipt}
 
 -- the faults by which a head and its body can't be parted from what follows, in their order
 abbrev pub framing_faults : List Pair → List ℕ → List (Bool × WireFault)
@@ -37,16 +39,27 @@ framing_faults fields body =
 abbrev pub is_ascii_text : List ℕ → Bool
 is_ascii_text text = list_all (λ b. nat_lt b 128) text
 
--- the number of a pledge, where a target has a part for it
-abbrev pub item_said : Option (List ℕ) → Option (Option ℕ)
-item_said None = Some None
-item_said (Some text) = option_map Some (number_said text)
+-- the day or the number of a pledge, where a target for the endpoint has a part for it
+abbrev pub item_said : Endpoint → Option (List ℕ) → Option Item
+item_said endpoint None = Some Nothing
+item_said ShowDay (Some text) = option_map Day (day_said text)
+item_said _ (Some text) = option_map Pledge (number_said text)
 
--- the book that was asked for, its pledge, and what was asked of them
+abbrev pub number_in : Item → Option ℕ
+number_in Nothing = None
+number_in (Pledge number) = Some number
+number_in (Day day) = None
+
+abbrev pub day_in : Item → Option ℕ
+day_in Nothing = None
+day_in (Pledge number) = None
+day_in (Day day) = Some day
+
+-- the book that was asked for, its pledge or day, and what was asked of them
 abbrev pub place_asked : AskedFor → Option Place
 place_asked asked =
     and_then (and_then asked.book number_said)
-    (λ book. option_map (λ item. record { endpoint = asked.endpoint; book = book; item = item }) (item_said asked.item))
+    (λ book. option_map (λ item. record { endpoint = asked.endpoint; book = book; item = item }) (item_said asked.endpoint asked.item))
 
 -- what a target asks for; one beyond ASCII asks for nothing
 abbrev pub place_of : List ℕ → Option Place
@@ -67,7 +80,7 @@ abbrev pub if_sent_by : (Command → Bool) → Command → Option Command
 if_sent_by may command = if may command then Some command else None
 
 -- Who asks at an endpoint, and what for: by its key or its receipts, and then by what its body says.
-abbrev pub caller_said : Endpoint → Option ℕ → List Pair → List ℕ → Result Caller WireFault
+abbrev pub caller_said : Endpoint → Item → List Pair → List ℕ → Result Caller WireFault
 caller_said Create item fields body =
     after (key_given fields) (λ key. or_fault BadBody (option_map (Operator key) (body_said new_book_of body)))
 caller_said PutTerms item fields body =
@@ -75,10 +88,12 @@ caller_said PutTerms item fields body =
 caller_said TakePledge item fields body =
     after (key_given fields) (λ key. or_fault BadBody (option_map (λ opening. Broker key (broker.TakePledge opening)) (body_said opening_of body)))
 caller_said Show item fields body =
-    after (key_given fields) (λ key. or_fault BadBody (option_map (λ number. Broker key (broker.Show number)) item))
+    after (key_given fields) (λ key. or_fault BadBody (option_map (λ number. Broker key (broker.Show number)) (number_in item)))
 caller_said (OnPledge action) item fields body =
-    after (key_given fields) (λ key. or_fault BadBody (and_then item
+    after (key_given fields) (λ key. or_fault BadBody (and_then (number_in item)
     (λ number. option_map (λ command. Broker key (broker.OnPledge number command)) (and_then (command_said action body) (if_sent_by is_brokers)))))
+caller_said ShowDay item fields body =
+    after (key_given fields) (λ key. or_fault BadBody (option_map (λ day. Broker key (broker.SheetOf day)) (day_in item)))
 caller_said Present item fields body =
     after (receipts_said (receipt_values fields)) (λ receipts. Ok (Bearer (bearer.Present receipts)))
 caller_said (OnReceipt action) item fields body =

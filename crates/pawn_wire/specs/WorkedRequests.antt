@@ -1,6 +1,7 @@
 -- Requests, worked out.
 use Rattle.std.specs.Prelude.{◌≡◌, ℕ, List, [], ◌∷◌, codes, replicate, false, true, Option, Some, None, Ok, Err}
 use Rattle.pawn_debt.specs.declared.entry.Kind.TheVariants.{Fixed, Running}
+use Rattle.pawn_terms.specs.Worked.{date}
 use Rattle.pawn_pledge.specs.declared.command.Command.{Command}
 use Rattle.pawn_pledge.specs.declared.command.Decision.TheVariants.{Confirm}
 use Rattle.pawn_pledge.specs.declared.command.Paper.TheVariants.{Sworn}
@@ -17,18 +18,23 @@ use Rattle.pawn_wire.specs.Receipts.{receipt_values, receipt_said, receipts_said
 use Rattle.pawn_wire.specs.Request.{place_of, key_given, request_by}
 use Rattle.pawn_wire.specs.WorkedHeads.{chunked_coding, tells_length}
 use Rattle.pawn_wire.specs.declared.fault.WireFault.TheVariants.{Transfer, BadLength, BodyTooLong, NoRoute, WrongMethod, BadBody, BadKey, BadReceipt, TooManyReceipts, NoReceipt}
+use Rattle.pawn_wire.specs.declared.request.Item.TheVariants.{Nothing, Pledge, Day}
 use Rattle.pawn_wire.specs.declared.request.Place.{Place}
 use Rattle.pawn_wire.specs.declared.route.Endpoint.{Endpoint}
-use Rattle.pawn_wire.specs.declared.route.Endpoint.TheVariants.{Create, PutTerms, TakePledge, Show, OnPledge, Present, OnReceipt}
+use Rattle.pawn_wire.specs.declared.route.Endpoint.TheVariants.{Create, PutTerms, TakePledge, Show, OnPledge, ShowDay, Present, OnReceipt}
 use Rattle.pawn_wire.specs.declared.route.Action.TheVariants.{Draw, Hold, Declare, Ask, Decide, Redeem, Extend}
 
 -- an endpoint of a book
 abbrev pub of_book : ℕ → Endpoint → Option Place
-of_book book endpoint = Some (record { endpoint = endpoint; book = book; item = None })
+of_book book endpoint = Some (record { endpoint = endpoint; book = book; item = Nothing })
 
 -- an endpoint of a pledge
 abbrev pub of_pledge : ℕ → ℕ → Endpoint → Option Place
-of_pledge book number endpoint = Some (record { endpoint = endpoint; book = book; item = Some number })
+of_pledge book number endpoint = Some (record { endpoint = endpoint; book = book; item = Pledge number })
+
+-- an endpoint of a day
+abbrev pub of_day : ℕ → ℕ → Endpoint → Option Place
+of_day book day endpoint = Some (record { endpoint = endpoint; book = book; item = Day day })
 
 -- what targets ask for
 abbrev pub WorkedTargets : Type 0
@@ -39,15 +45,24 @@ WorkedTargets =
     × (place_of (codes "/books/12/pledges/3") ≡ of_pledge 12 3 Show)
     × (place_of (codes "/books/7/pledges/12/draw") ≡ of_pledge 7 12 (OnPledge Draw))
     × (place_of (codes "/books/7/pledges/12/extend") ≡ of_pledge 7 12 (OnPledge Extend))
+    × (place_of (codes "/books/7/days/2024-02-29") ≡ of_day 7 (date 2024 2 29) ShowDay)
+    × (place_of (codes "/books/7/days/2199-12-31") ≡ of_day 7 (date 2199 12 31) ShowDay)
     × (place_of (codes "/books/7/held") ≡ of_book 7 Present)
     × (place_of (codes "/books/7/held/redeem") ≡ of_book 7 (OnReceipt Redeem))
 
--- what is no target: another number, one in another spelling, and anything more or less
+-- what is no target: another number or day, one in another spelling, and anything more or less
 abbrev pub WorkedNoTargets : Type 0
 WorkedNoTargets =
     (place_of (codes "/books/07/held") ≡ None)
     × (place_of (codes "/books/7/pledges/03") ≡ None)
     × (place_of (codes "/books/7/pledges/x/draw") ≡ None)
+    × (place_of (codes "/books/07/days/2024-02-29") ≡ None)
+    × (place_of (codes "/books/7/days/2024-02-30") ≡ None)
+    × (place_of (codes "/books/7/days/2024-2-29") ≡ None)
+    × (place_of (codes "/books/7/days/2200-01-01") ≡ None)
+    × (place_of (codes "/books/7/days/12") ≡ None)
+    × (place_of (codes "/books/7/days") ≡ None)
+    × (place_of (codes "/books/7/pledges/2024-02-29") ≡ None)
     × (place_of (codes "/books/7/held/") ≡ None)
     × (place_of (codes "/books/7/held?x=1") ≡ None)
     × (place_of (codes "/books/7/held/nope") ≡ None)
@@ -168,6 +183,9 @@ WorkedOrder =
     × (request_by (codes "PUT") (codes "/nowhere") (tells_length (codes "3") ∷ []) (codes "{}") ≡ Err BadLength)
     × (request_by (codes "PUT") (codes "/nowhere") (tells_length (codes "2") ∷ []) (codes "{}") ≡ Err NoRoute)
     × (request_by (codes "PUT") (codes "/books/7") (tells_length (codes "2") ∷ []) (codes "{}") ≡ Err WrongMethod)
+    × (request_by (codes "POST") (codes "/books/7/days/2024-02-30") [] [] ≡ Err NoRoute)
+    × (request_by (codes "POST") (codes "/books/7/days/2024-02-29") [] [] ≡ Err WrongMethod)
+    × (request_by (codes "GET") (codes "/books/7/days/2024-02-29") [] [] ≡ Err BadKey)
     × (request_by (codes "POST") (codes "/books/7") (tells_length (codes "2") ∷ []) (codes "{}") ≡ Err BadKey)
     × (request_by (codes "POST") (codes "/books/7") (tells_length (codes "2") ∷ gives_key operator_key ∷ []) (codes "{}") ≡ Err BadBody)
     × (request_by (codes "POST") (codes "/books/7/held/redeem") (tells_length (codes "2") ∷ []) (codes "{}") ≡ Err NoReceipt)
@@ -179,6 +197,8 @@ abbrev pub WorkedRequests : Type 0
 WorkedRequests =
     (request_by (codes "GET") (codes "/books/7/pledges/3") (gives_key operator_key ∷ []) []
     ≡ Ok (record { book = 7; caller = Broker 0x11111111_1111_1111_1111_111111111111 (broker.Show 3) }))
+    × (request_by (codes "GET") (codes "/books/7/days/2024-02-29") (gives_key operator_key ∷ []) []
+    ≡ Ok (record { book = 7; caller = Broker 0x11111111_1111_1111_1111_111111111111 (broker.SheetOf (date 2024 2 29)) }))
     × (request_by (codes "POST") (codes "/books/7/pledges/3/hold") (gives_key operator_key ∷ []) []
     ≡ Ok (record { book = 7; caller = Broker 0x11111111_1111_1111_1111_111111111111 (broker.OnPledge 3 Command.Hold) }))
     × (request_by (codes "GET") (codes "/books/7/held") (presents some_receipt_text ∷ []) []

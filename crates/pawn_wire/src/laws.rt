@@ -1,5 +1,5 @@
 //! Laws of the definitions.
-ghost use Rattle.pawn_wire.specs.Laws.{BodiesAreJson, RequestsAreWithin, ReadingIsUnique, NumbersAreSaid, TargetsAreFound};
+ghost use Rattle.pawn_wire.specs.Laws.{BodiesAreJson, RequestsAreWithin, ReadingIsUnique, NumbersAreSaid, DaysAreSaid, TargetsAreFound};
 
 /// The bodies of replies are compact JSON, with their members in the order of their names.
 pub fn bodies_are_json()
@@ -12,8 +12,9 @@ pub fn laws_of_readings()
     ensures within { RequestsAreWithin }
 {}
 
-/// A number in a target has one spelling, and what some targets ask for.
+/// A number or a day in a target has one spelling, and what some targets ask for.
 pub fn laws_of_targets()
     ensures numbers { NumbersAreSaid }
+    ensures days { DaysAreSaid }
     ensures targets { TargetsAreFound }
 {}

@@ -1,10 +1,11 @@
 //! Requests from bytes.
-ghost use Rattle.std.specs.Prelude.{◌≡◌, None, option_copied};
+ghost use Rattle.std.specs.Prelude.{◌≡◌, option_copied};
 ghost use Rattle.pawn_wire.specs.Chain.{Says};
 ghost use Rattle.pawn_wire.specs.Fields.{pairs_of};
 ghost use Rattle.pawn_wire.specs.Named.{number_said};
-ghost use Rattle.pawn_wire.specs.Request.{is_ascii_text, item_said, place_of, key_given, caller_said, request_by, IsRead};
-ghost use Rattle.pawn_wire.specs.declared.route.Endpoint.TheVariants.{Create, PutTerms, TakePledge, Show, OnPledge, Present, OnReceipt};
+ghost use Rattle.pawn_wire.specs.Request.{day_in, is_ascii_text, item_said, number_in, place_of, key_given, caller_said, request_by, IsRead};
+ghost use Rattle.pawn_wire.specs.declared.route.Endpoint.TheVariants.{Create, PutTerms, TakePledge, Show, OnPledge, ShowDay, Present, OnReceipt};
+ghost use Rattle.pawn_wire.specs.declared.request.Item.TheVariants.{Nothing};
 
 use crate::fault::WireFault;
 use crate::fields::{Fields, Found};
@@ -16,18 +17,48 @@ use crate::{body, commands, member, receipts};
 use httparse::Status;
 use httparse::spans::{EMPTY_HEADER_SPAN, parse_request};
 use pawn_book::{
-    BearerCommand, BearerRequest, BrokerCommand, BrokerRequest, Caller, Number, Request, Secret,
+    BearerCommand, BearerRequest, BrokerCommand, BrokerRequest, Caller, Number, Request,
+    RequestDay, Secret,
 };
 use std::alloc::Global;
 use std::str::from_utf8;
+
+/// What a target names beside its book.
+#[derive(Clone, Copy, Debug, PartialEq, Eq)]
+pub(crate) enum Item {
+    Nothing,
+    Pledge(Number),
+    Day(RequestDay),
+}
+
+impl Item {
+    // The number of the pledge that it is.
+    fn number(self) -> Option<Number>
+        ensures value { result ≡ number_in self }
+    {
+        match self {
+            Item::Pledge(number) => Some(number),
+            Item::Nothing | Item::Day(_) => None,
+        }
+    }
+
+    // The day that it is.
+    fn day(self) -> Option<RequestDay>
+        ensures value { result ≡ day_in self }
+    {
+        match self {
+            Item::Day(day) => Some(day),
+            Item::Nothing | Item::Pledge(_) => None,
+        }
+    }
+}
 
 /// What a target asks for.
 #[derive(Clone, Copy, Debug, PartialEq, Eq)]
 pub(crate) struct Place {
     pub endpoint: Endpoint,
     pub book: Number,
-    /// The number of a pledge, where the target has a part for it.
-    pub item: Option<Number>,
+    pub item: Item,
 }
 
 // What is sent beside a target.
@@ -50,16 +81,16 @@ fn number_said(text: &str) -> Option<Number>
     Number::of_text(text.as_bytes())
 }
 
-// The number of a pledge, where a target has a part for it.
-fn item_said(text: Option<&str>) -> Option<Option<Number>>
-    ensures value { result ≡ item_said (option_copied text.entry) }
+// What a target for the endpoint names beside its book.
+fn item_said(endpoint: Endpoint, text: Option<&str>) -> Option<Item>
+    ensures value { result ≡ item_said endpoint (option_copied text.entry) }
 {
-    match text {
-        None => Some(None),
-        Some(text) => match number_said(text) {
-            Some(number) => Some(Some(number)),
-            None => None,
-        },
+    let Some(text) = text else {
+        return Some(Item::Nothing);
+    };
+    match endpoint {
+        Endpoint::ShowDay => Some(Item::Day(member::day_said(text)?)),
+        _ => Some(Item::Pledge(number_said(text)?)),
     }
 }
 
@@ -75,7 +106,7 @@ fn place_of(router: &Router, target: &[u8]) -> Option<Place>
     };
     let asked = router.find(text)?;
     let book = number_said(asked.book?)?;
-    let item = item_said(asked.item)?;
+    let item = item_said(asked.endpoint, asked.item)?;
     Some(Place {
         endpoint: asked.endpoint,
         book,
@@ -96,7 +127,7 @@ fn key(fields: &Fields<'_>) -> Result<Secret, WireFault>
 
 // Who makes a book.
 fn create(alloc: Global, sent: &Sent<'_>) -> Result<Caller, WireFault>
-    ensures value { Says result (caller_said Create None (pairs_of sent.now.fields) sent.now.body.now) }
+    ensures value { Says result (caller_said Create Nothing (pairs_of sent.now.fields) sent.now.body.now) }
 {
     let key = key(&sent.fields)?;
     let value = member::json(alloc, sent.body)?;
@@ -106,7 +137,7 @@ fn create(alloc: Global, sent: &Sent<'_>) -> Result<Caller, WireFault>
 
 // Who puts terms.
 fn put_terms(alloc: Global, sent: &Sent<'_>) -> Result<Caller, WireFault>
-    ensures value { Says result (caller_said PutTerms None (pairs_of sent.now.fields) sent.now.body.now) }
+    ensures value { Says result (caller_said PutTerms Nothing (pairs_of sent.now.fields) sent.now.body.now) }
 {
     let key = key(&sent.fields)?;
     let value = member::json(alloc, sent.body)?;
@@ -119,7 +150,7 @@ fn put_terms(alloc: Global, sent: &Sent<'_>) -> Result<Caller, WireFault>
 
 // Who takes a pledge.
 fn take_pledge(alloc: Global, sent: &Sent<'_>) -> Result<Caller, WireFault>
-    ensures value { Says result (caller_said TakePledge None (pairs_of sent.now.fields) sent.now.body.now) }
+    ensures value { Says result (caller_said TakePledge Nothing (pairs_of sent.now.fields) sent.now.body.now) }
 {
     let key = key(&sent.fields)?;
     let value = member::json(alloc, sent.body)?;
@@ -131,11 +162,11 @@ fn take_pledge(alloc: Global, sent: &Sent<'_>) -> Result<Caller, WireFault>
 }
 
 // Who sees the pledge of a number.
-fn show(item: Option<Number>, sent: &Sent<'_>) -> Result<Caller, WireFault>
+fn show(item: Item, sent: &Sent<'_>) -> Result<Caller, WireFault>
     ensures value { Says result (caller_said Show item (pairs_of sent.now.fields) sent.now.body.now) }
 {
     let key = key(&sent.fields)?;
-    let number = item.ok_or(WireFault::BadBody)?;
+    let number = item.number().ok_or(WireFault::BadBody)?;
     Ok(Caller::Broker {
         key,
         asked: BrokerRequest::Show(number),
@@ -145,14 +176,14 @@ fn show(item: Option<Number>, sent: &Sent<'_>) -> Result<Caller, WireFault>
 // Who commands the pledge of a number.
 fn command_pledge(
     alloc: Global,
-    item: Option<Number>,
+    item: Item,
     action: Action,
     sent: &Sent<'_>,
 ) -> Result<Caller, WireFault>
     ensures value { Says result (caller_said (OnPledge action) item (pairs_of sent.now.fields) sent.now.body.now) }
 {
     let key = key(&sent.fields)?;
-    let number = item.ok_or(WireFault::BadBody)?;
+    let number = item.number().ok_or(WireFault::BadBody)?;
     let command = commands::command(alloc, action, sent.body)?;
     let command = BrokerCommand::try_from(command)
         .ok()
@@ -163,9 +194,21 @@ fn command_pledge(
     })
 }
 
+// Who sees the sheet of a day.
+fn show_day(item: Item, sent: &Sent<'_>) -> Result<Caller, WireFault>
+    ensures value { Says result (caller_said ShowDay item (pairs_of sent.now.fields) sent.now.body.now) }
+{
+    let key = key(&sent.fields)?;
+    let day = item.day().ok_or(WireFault::BadBody)?;
+    Ok(Caller::Broker {
+        key,
+        asked: BrokerRequest::SheetOf(day),
+    })
+}
+
 // Who sees what receipts stand for.
 fn present(alloc: Global, sent: &Sent<'_>) -> Result<Caller, WireFault>
-    ensures value { Says result (caller_said Present None (pairs_of sent.now.fields) sent.now.body.now) }
+    ensures value { Says result (caller_said Present Nothing (pairs_of sent.now.fields) sent.now.body.now) }
 {
     let receipts = receipts::receipts(alloc, &sent.fields)?;
     Ok(Caller::Bearer(BearerRequest::Present(receipts)))
@@ -173,7 +216,7 @@ fn present(alloc: Global, sent: &Sent<'_>) -> Result<Caller, WireFault>
 
 // Who commands the pledge of a receipt.
 fn command_receipt(alloc: Global, action: Action, sent: &Sent<'_>) -> Result<Caller, WireFault>
-    ensures value { Says result (caller_said (OnReceipt action) None (pairs_of sent.now.fields) sent.now.body.now) }
+    ensures value { Says result (caller_said (OnReceipt action) Nothing (pairs_of sent.now.fields) sent.now.body.now) }
 {
     let receipt = receipts::one(&sent.fields)?;
     let command = commands::command(alloc, action, sent.body)?;
@@ -193,6 +236,7 @@ fn caller(alloc: Global, place: Place, sent: &Sent<'_>) -> Result<Caller, WireFa
         Endpoint::TakePledge => take_pledge(alloc, sent),
         Endpoint::Show => show(place.item, sent),
         Endpoint::OnPledge(action) => command_pledge(alloc, place.item, action, sent),
+        Endpoint::ShowDay => show_day(place.item, sent),
         Endpoint::Present => present(alloc, sent),
         Endpoint::OnReceipt(action) => command_receipt(alloc, action, sent),
     }

@@ -17,6 +17,8 @@ pub enum Endpoint {
     Show,
     /// To command a pledge of a book.
     OnPledge(Action),
+    /// To show a day of a book.
+    ShowDay,
     /// To show what receipts stand for.
     Present,
     /// To command the pledge of a receipt.
@@ -39,9 +41,9 @@ pub enum Action {
     Extend,
 }
 
-/// The targets, each with its endpoint; a name in braces stands for a number. An action stands here
+/// The targets, each with its endpoint; a name in braces stands for a number, or for a day. An action stands here
 /// under those who may send its command, and under no other.
-pub(crate) const ROUTES: [(&str, Endpoint); 17] = [
+pub(crate) const ROUTES: [(&str, Endpoint); 18] = [
     ("/books/{b}", Endpoint::Create),
     ("/books/{b}/terms", Endpoint::PutTerms),
     ("/books/{b}/pledges", Endpoint::TakePledge),
@@ -78,6 +80,7 @@ pub(crate) const ROUTES: [(&str, Endpoint); 17] = [
         "/books/{b}/pledges/{n}/extend",
         Endpoint::OnPledge(Action::Extend),
     ),
+    ("/books/{b}/days/{d}", Endpoint::ShowDay),
     ("/books/{b}/held", Endpoint::Present),
     ("/books/{b}/held/repay", Endpoint::OnReceipt(Action::Repay)),
     ("/books/{b}/held/ask", Endpoint::OnReceipt(Action::Ask)),
@@ -99,6 +102,7 @@ impl Endpoint {
         match self {
             Endpoint::Present => Method::GET,
             Endpoint::Show => Method::GET,
+            Endpoint::ShowDay => Method::GET,
             Endpoint::Create => Method::POST,
             Endpoint::PutTerms => Method::POST,
             Endpoint::TakePledge => Method::POST,

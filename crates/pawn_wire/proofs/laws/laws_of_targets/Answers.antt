@@ -1,7 +1,8 @@
 use Rattle.std.proofs.Common.{refl, drop}
+use Rattle.pawn_terms.specs.Calendar.{day_text}
 use Rattle.pawn_wire.specs.Laws.{IsTargetFound}
 use Rattle.pawn_wire.specs.Route.{table}
-use Rattle.pawn_wire.proofs.NamedLemmas.{number_said-is, number_said-some, number_said-leading_zero}
+use Rattle.pawn_wire.proofs.NamedLemmas.{number_said-is, number_said-some, number_said-leading_zero, day_said-is, day_said-some}
 use Rattle.pawn_wire.proofs.TargetFacts.{each_part, first_targets, second_targets, third_targets, fourth_targets, last_targets}
 use Rattle.pawn_wire.proofs.laws.laws_of_targets.Goals as goal
 
@@ -10,6 +11,12 @@ returns-clause-numbers c = record {
   said = λ n range. number_said-some n _ range refl;
   is = number_said-is;
   leading_zero = number_said-leading_zero;
+}
+
+pub returns-clause-days : goal.returns-clause-days
+returns-clause-days c = record {
+  said = λ day range. day_said-some day (day_text day) range refl;
+  is = day_said-is;
 }
 
 pub returns-clause-targets : goal.returns-clause-targets

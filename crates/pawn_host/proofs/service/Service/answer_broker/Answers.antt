@@ -1,6 +1,11 @@
-use Rattle.pawn_host.proofs.RunLemmas.{read_show}
+use Rattle.pawn_book.specs.declared.request.BrokerRequest.TheVariants.{SheetOf, Show}
+use Rattle.pawn_host.proofs.RunLemmas.{read_broker}
 use Rattle.pawn_host.proofs.service.Service.answer_broker.Goals as goal
 
 pub returns-in-Show-clause-acted : goal.returns-in-Show-clause-acted
 returns-in-Show-clause-acted g c = λ honest h sound at bytes read.
-    c.show_pledge.ensures.acted honest h sound at bytes (read_show bytes c.args.request.now c.args.key c.args.asked.now c.in-Show.number c.requires.asks c.in-Show.is read)
+    c.show_pledge.ensures.acted honest h sound at bytes (read_broker bytes c.args.request.now c.args.key c.args.asked.now (Show c.in-Show.number) c.requires.asks c.in-Show.is read)
+
+pub returns-in-SheetOf-clause-acted : goal.returns-in-SheetOf-clause-acted
+returns-in-SheetOf-clause-acted g c = λ honest h sound at bytes read.
+    c.show_sheet.ensures.acted honest h sound at bytes (read_broker bytes c.args.request.now c.args.key c.args.asked.now (SheetOf c.in-SheetOf.day) c.requires.asks c.in-SheetOf.is read)

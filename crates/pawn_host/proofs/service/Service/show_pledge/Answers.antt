@@ -1,4 +1,5 @@
 use Rattle.std.proofs.Common.{refl}
+use Rattle.pawn_book.specs.declared.request.BrokerRequest.TheVariants.{Show}
 use Rattle.pawn_host.specs.Keeps.{service_operator, start_of}
 use Rattle.pawn_host.proofs.CrashLemmas.{goes_read}
 use Rattle.pawn_host.proofs.RunLemmas.{acted_refused, err_is, gate_refused, show_request}
@@ -18,5 +19,5 @@ returns-in-Err-clause-acted g c = λ honest h sound at bytes read.
     let why = c.in-Err.refusal in
     let gates = rw c.in-Err.is at (c.gate.ensures.reads.tells honest h at) in
     acted_refused (start_of g.K.Keep.keeping c.args.self.now h) c.args.stamp.now bytes c.tell.result _ (show_request c.args.book c.args.key c.args.number) why read c.tell.ensures.tells
-    (goes_read c.gate.ensures.reads honest h at sound) (gate_refused h operator c.args.stamp.now c.args.book c.args.key c.args.number why gates)
+    (goes_read c.gate.ensures.reads honest h at sound) (gate_refused h operator c.args.stamp.now c.args.book c.args.key (Show c.args.number) why gates)
     (λ steady store. c.gate.ensures.steady steady (err_is c.gate.result why c.in-Err.is store))

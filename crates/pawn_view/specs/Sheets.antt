@@ -1,0 +1,54 @@
+-- The text of a day's sheet, and what puts it.
+use Rattle.std.specs.Prelude.{ℕ, List, ◌++◌, Option, ◌≡◌, codes, decimal, option_map}
+use Rattle.std.specs.List.{flat_map}
+use Rattle.std.specs.FinMap.{get}
+use Rattle.pawn_pledge.specs.Pledge.{PledgeValue}
+use Rattle.pawn_book.specs.declared.sheet.SheetItem.{SheetItem}
+use Rattle.pawn_book.specs.declared.sheet.SheetItem.TheVariants.{Window, Confirmed, AskedHead, Asked, EndsHead, Ends}
+use Rattle.pawn_book.specs.declared.visit.Flow.{Flow}
+use Rattle.pawn_book.specs.BookStep.{BookValue}
+use Rattle.pawn_book.specs.HostStep.{Host}
+use Rattle.pawn_book.specs.Sheet.{day_sheet}
+use Rattle.pawn_view.specs.declared.sheets.SheetLines.{SheetLines}
+use Rattle.pawn_view.specs.Shown.{PutsLine}
+use Rattle.pawn_view.specs.Text.{day_line, number_line}
+
+-- a window's line: how many come, and how many may
+abbrev pub window_line : ℕ → ℕ → ℕ → List ℕ
+window_line capacity window count =
+    codes "Window " ++ (decimal window ++ (codes " confirmed " ++ (decimal count ++ (codes " of " ++ (decimal capacity ++ codes "\n")))))
+
+-- who asked to come, and in which window
+abbrev pub asked_line : ℕ → ℕ → List ℕ
+asked_line number window = codes "Pledge " ++ (decimal number ++ (codes " window " ++ (decimal window ++ codes "\n")))
+
+-- the line of an item
+abbrev pub sheet_line : ℕ → SheetItem → List ℕ
+sheet_line capacity (Window window count) = window_line capacity window count
+sheet_line capacity (Confirmed number) = number_line (codes "Pledge ") number
+sheet_line capacity (AskedHead count) = number_line (codes "Asked ") count
+sheet_line capacity (Asked number window) = asked_line number window
+sheet_line capacity (EndsHead count) = number_line (codes "Ends ") count
+sheet_line capacity (Ends number) = number_line (codes "Pledge ") number
+
+-- a day's sheet: its heading, then a line for each item
+abbrev pub sheet_text : ℕ → ℕ → List SheetItem → List ℕ
+sheet_text day capacity items = day_line (codes "Day sheet ") day ++ flat_map (sheet_line capacity) items
+
+-- the lines of a day below its heading
+abbrev pub day_lines : ℕ → ℕ → List PledgeValue → List ℕ
+day_lines capacity day pledges = flat_map (sheet_line capacity) (day_sheet pledges day)
+
+-- the sheet of a book's day
+abbrev pub book_sheet : ℕ → BookValue → List ℕ
+book_sheet day book = sheet_text day book.capacity (day_sheet book.pledges day)
+
+-- the same, if the book stands
+abbrev pub sheet_of : Host → ℕ → ℕ → Option (List ℕ)
+sheet_of h book day = option_map (book_sheet day) (get h.books book)
+
+-- a visitor that puts a line for each item to the writer that it holds, and holds it still
+pub record PutsItem {W : Type 0} (contents : W → Option (List ℕ)) (v : SheetLines W) (item : SheetItem) (flow : Flow) (w : SheetLines W) : Type 0 where
+  pub puts : PutsLine contents (sheet_line v.capacity) v.writer.now item flow w.writer.now
+  pub same_capacity : w.capacity ≡ v.capacity
+  pub same_writer : w.writer.ghost_name ≡ v.writer.ghost_name

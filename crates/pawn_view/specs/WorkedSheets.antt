@@ -1,0 +1,56 @@
+-- Sheets of days, worked out.
+use Rattle.std.specs.Prelude.{◌≡◌, ℕ, [], ◌∷◌, codes}
+use Rattle.pawn_terms.specs.Worked.{date}
+use Rattle.pawn_pledge.specs.declared.command.Command.{Command}
+use Rattle.pawn_pledge.specs.declared.command.Decision.TheVariants.{Confirm}
+use Rattle.pawn_pledge.specs.declared.record.Status.TheVariants.{Passed}
+use Rattle.pawn_pledge.specs.Pledge.{PledgeValue, status_of}
+use Rattle.pawn_pledge.specs.Worked.{after, ring, ring_extended}
+use Rattle.pawn_book.specs.declared.sheet.SheetItem.TheVariants.{Window, Confirmed, AskedHead, Asked, EndsHead, Ends}
+use Rattle.pawn_book.specs.Sheet.{day_sheet}
+use Rattle.pawn_view.specs.Sheets.{sheet_line, sheet_text}
+
+-- a pledge as it stands, under another number
+abbrev pub numbered : ℕ → PledgeValue → PledgeValue
+numbered number p = record p { agreement = record p.agreement { number = number } }
+
+-- a ring whose bearer asked to come on 2024-03-04 in a window, and the same once that is confirmed
+abbrev pub asked_for : ℕ → PledgeValue
+asked_for window = after (ring 10000) (date 2024 3 1) (Command.AskBooking (date 2024 3 4) window)
+
+abbrev pub confirmed_for : ℕ → PledgeValue
+confirmed_for window = after (asked_for window) (date 2024 3 1) (Command.DecideBooking Confirm)
+
+-- a line for each item
+abbrev pub WorkedSheetLines : Type 0
+WorkedSheetLines =
+    (sheet_line 1000 (Window 15 12) ≡ codes "Window 15 confirmed 12 of 1000\n")
+    × (sheet_line 2 (Confirmed 7) ≡ codes "Pledge 7\n")
+    × (sheet_line 2 (AskedHead 0) ≡ codes "Asked 0\n")
+    × (sheet_line 2 (Asked 12 0) ≡ codes "Pledge 12 window 0\n")
+    × (sheet_line 2 (EndsHead 3) ≡ codes "Ends 3\n")
+    × (sheet_line 2 (Ends 1000000) ≡ codes "Pledge 1000000\n")
+
+-- two bearers asked for a window of one, and the first was confirmed; another day's sheet has neither
+abbrev pub WorkedSheets : Type 0
+WorkedSheets =
+    let pledges = confirmed_for 3 ∷ numbered 2 (asked_for 3) ∷ [] in
+    (sheet_text (date 2024 3 4) 1 (day_sheet pledges (date 2024 3 4))
+    ≡ codes "Day sheet 2024-03-04\nWindow 3 confirmed 1 of 1\nPledge 1\nAsked 1\nPledge 2 window 3\nEnds 0\n")
+    × (sheet_text (date 2024 3 5) 1 (day_sheet pledges (date 2024 3 5)) ≡ codes "Day sheet 2024-03-05\nAsked 0\nEnds 0\n")
+
+-- windows in their order, and in each the pledges in theirs
+abbrev pub WorkedWindows : Type 0
+WorkedWindows =
+    day_sheet (confirmed_for 15 ∷ numbered 2 (confirmed_for 0) ∷ numbered 3 (confirmed_for 15) ∷ numbered 4 (asked_for 15) ∷ numbered 5 (asked_for 0) ∷ []) (date 2024 3 4)
+    ≡ Window 0 1 ∷ Confirmed 2 ∷ Window 15 2 ∷ Confirmed 1 ∷ Confirmed 3 ∷ AskedHead 2 ∷ Asked 4 15 ∷ Asked 5 0 ∷ EndsHead 0 ∷ []
+
+-- whose period ends: a ring that passes then, and one that was extended, by its later end alone; none that was redeemed or sold
+abbrev pub WorkedEnds : Type 0
+WorkedEnds =
+    let redeemed = after (ring 10000) (date 2024 7 31) (Command.Redeem 10000) in
+    let sold = after (ring 10000) (date 2024 8 1) (Command.Sell 9000) in
+    let pledges = ring 7500 ∷ numbered 2 ring_extended ∷ numbered 3 redeemed ∷ numbered 4 sold ∷ numbered 5 (ring 10000) ∷ [] in
+    (status_of (ring 7500) (date 2024 8 1) ≡ Passed)
+    × (day_sheet pledges (date 2024 7 31) ≡ AskedHead 0 ∷ EndsHead 2 ∷ Ends 1 ∷ Ends 5 ∷ [])
+    × (day_sheet pledges (date 2024 9 30) ≡ AskedHead 0 ∷ EndsHead 1 ∷ Ends 2 ∷ [])

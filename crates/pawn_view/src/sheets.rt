@@ -1,0 +1,133 @@
+//! The sheet of a book's day.
+ghost use Rattle.std.specs.Prelude.{◌≡◌, false, true, IsErrOf};
+ghost use Rattle.std.specs.FinMap.{get};
+ghost use Rattle.pawn_book.specs.Keeping.{Reads, IsSteady, pledges_of};
+ghost use Rattle.pawn_book.specs.Visits.{call_end};
+ghost use Rattle.pawn_view.specs.Ends.{Puts, write_failed};
+ghost use Rattle.pawn_view.specs.Sheets.{PutsItem, asked_line, day_lines, sheet_line, sheet_of, window_line};
+ghost use Rattle.pawn_view.specs.Shown.{PutsShare, Shows, IsQuietView};
+ghost use Rattle.pawn_view.specs.Text.{number_line};
+
+use crate::fault::{ViewFault, view_fault};
+use crate::lines::{put_day, put_number};
+use crate::statements::ending;
+use crate::writing::{Writing, put_all};
+use itoa::Buffer;
+use pawn_book::{Capacity, Day, Flow, Keep, KeepError, Number, SheetItem, Visitor};
+use std::io::Write;
+
+// What a line is of, and how many.
+fn put_count<W: Write>(writer: &mut Writing<W>, label: &[u8], count: u64)
+    ensures puts { Puts W.contents writer.old (number_line label.now count) writer.new }
+{
+    put_all(
+        writer,
+        &[label, Buffer::new().format(count).as_bytes(), b"\n"],
+    );
+}
+
+// `Window 3 confirmed 1 of 2`.
+fn put_window<W: Write>(writer: &mut Writing<W>, capacity: Capacity, window: u64, count: u64)
+    ensures puts { Puts W.contents writer.old (window_line capacity window count) writer.new }
+{
+    put_all(
+        writer,
+        &[
+            b"Window ",
+            Buffer::new().format(window).as_bytes(),
+            b" confirmed ",
+            Buffer::new().format(count).as_bytes(),
+            b" of ",
+            Buffer::new().format(capacity.get()).as_bytes(),
+            b"\n",
+        ],
+    );
+}
+
+// `Pledge 1 window 3`.
+fn put_asked<W: Write>(writer: &mut Writing<W>, number: Number, window: u64)
+    ensures puts { Puts W.contents writer.old (asked_line number window) writer.new }
+{
+    put_all(
+        writer,
+        &[
+            b"Pledge ",
+            Buffer::new().format(number.get()).as_bytes(),
+            b" window ",
+            Buffer::new().format(window).as_bytes(),
+            b"\n",
+        ],
+    );
+}
+
+// The line of an item.
+fn put_item<W: Write>(writer: &mut Writing<W>, capacity: Capacity, item: &SheetItem)
+    ensures puts { Puts W.contents writer.old (sheet_line capacity item.now) writer.new }
+{
+    match *item {
+        SheetItem::Window { window, count } => put_window(writer, capacity, window, count),
+        SheetItem::Confirmed(number) => put_number(writer, b"Pledge ", number.get()),
+        SheetItem::AskedHead(count) => put_count(writer, b"Asked ", count),
+        SheetItem::Asked { number, window } => put_asked(writer, number, window),
+        SheetItem::EndsHead(count) => put_count(writer, b"Ends ", count),
+        SheetItem::Ends(number) => put_number(writer, b"Pledge ", number.get()),
+    }
+}
+
+// What puts the lines of a sheet to the writer, in a book whose windows have this capacity.
+#[derive(Drop)]
+struct SheetLines<'a, W> {
+    writer: &'a mut Writing<W>,
+    capacity: Capacity,
+}
+
+impl<'a, W: Write> Visitor<SheetItem> for SheetLines<'a, W> {
+    ghost step = { λ v item flow w. PutsItem W.contents v item flow w };
+
+    fn visit(&mut self, item: &SheetItem) -> Flow {
+        put_item(self.writer, self.capacity, item);
+        if self.writer.has_failed() {
+            Flow::Stop
+        } else {
+            Flow::Go
+        }
+    }
+}
+
+impl<'a, W: Write> SheetLines<'a, W> {
+    // Puts the lines of a day below the heading.
+    fn put_day<K: Keep>(&mut self, keep: &mut K, book: Number, day: Day) -> Result<(), KeepError>
+        ensures shares { Reads K.keeping keep.old keep.new (λ h.
+            PutsShare W.contents self.old.writer.now (day_lines self.old.capacity day (pledges_of (get h.books book))) (call_end result) self.new.writer.now) }
+        ensures same_writer { self.new.writer.ghost_name ≡ self.old.writer.ghost_name }
+        ensures steady { IsSteady K.keeping keep.old result }
+    {
+        keep.sheet_each(book, day, self)
+    }
+}
+
+/// Writes the sheet of a book's day. The keeper's content stays as it is.
+///
+/// The caller's condition: the writer has not failed. Errors: `Unknown` where the book does not stand; `Memory` and `Store` where the
+/// keeper does not answer; `Write` only where the writer failed in the call.
+pub fn show_day_sheet<K: Keep, W: Write>(
+    keep: &mut K,
+    book: Number,
+    day: Day,
+    writer: &mut Writing<W>,
+) -> Result<(), ViewFault>
+    requires fine { write_failed writer.old ≡ false }
+    ensures shows { Reads K.keeping keep.old keep.new (λ h. Shows W.contents writer.old (sheet_of h book day) result writer.new) }
+    ensures write { IsErrOf result ViewFault.Write → write_failed writer.new ≡ true }
+    ensures steady { IsQuietView K.keeping keep.old result }
+{
+    let capacity = match keep.book_head(book) {
+        Ok(Some(head)) => head.capacity,
+        Ok(None) => return Err(ViewFault::Unknown),
+        Err(error) => return Err(view_fault(error)),
+    };
+    put_day(writer, b"Day sheet ", day);
+    let mut lines = SheetLines { writer, capacity };
+    let done = lines.put_day(keep, book, day);
+    ending(done, writer)
+}
