@@ -56,7 +56,7 @@ sound_made new key utf8 name capacity = record {
   written = tt;
 }
 
--- .. and so is one that is filled with rows that can have come about
+-- a sound book that is filled with rows that can have come about is sound
 pub sound_filled : (book : BookValue) (key : ℕ) (rows : BookRows) → IsSoundBook book → IsWord key → Each HasTextsAndWords rows.pledges → AreReplayable rows.terms rows.pledges
     → IsSoundBook (filled_book book key rows)
 sound_filled book key rows sound word written replayable = record {
