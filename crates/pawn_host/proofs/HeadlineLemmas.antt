@@ -47,6 +47,7 @@ settled_refusal no.NoTerms settled = refl
 settled_refusal no.TermsSeq settled = refl
 settled_refusal no.RefTaken settled = refl
 settled_refusal no.WindowFull settled = refl
+settled_refusal no.BookNotEmpty settled = refl
 settled_refusal no.NotOperator settled = refl
 settled_refusal no.TermsFull settled = refl
 settled_refusal no.PledgesFull settled = refl

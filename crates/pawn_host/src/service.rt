@@ -156,6 +156,7 @@ impl<K: Keep> Service<K> {
             BrokerRequest::PutTerms(_) => self.act(stamp, request),
             BrokerRequest::TakePledge(_) => self.act(stamp, request),
             BrokerRequest::OnPledge { .. } => self.act(stamp, request),
+            BrokerRequest::Import { .. } => self.act(stamp, request),
             BrokerRequest::Show(number) => self.show_pledge(stamp, request.book, key, *number),
             BrokerRequest::SheetOf(day) => self.show_sheet(stamp, request.book, key, *day),
         }

@@ -9,6 +9,10 @@ book_text book = codes "{\"book\":" ++ (decimal book ++ codes "}")
 abbrev pub version_text : ℕ → List ℕ
 version_text version = codes "{\"version\":" ++ (decimal version ++ codes "}")
 
+-- so many pledges were imported
+abbrev pub filled_text : ℕ → List ℕ
+filled_text pledges = codes "{\"imported\":" ++ (decimal pledges ++ codes "}")
+
 -- a pledge stands, with its first receipt
 abbrev pub opened_text : ℕ → List ℕ → List ℕ
 opened_text number receipt =

@@ -14,11 +14,12 @@ use Rattle.pawn_book.specs.Limits.{IsCapacity, AreFew, most_name_bytes}
 use Rattle.pawn_book.specs.declared.request.Request.{Request}
 use Rattle.pawn_book.specs.declared.request.Caller.{Caller}
 use Rattle.pawn_book.specs.declared.request.Caller.TheVariants.{Operator, Broker, Bearer}
-use Rattle.pawn_book.specs.declared.request.BrokerRequest.TheVariants.{PutTerms, TakePledge, Show, SheetOf}
+use Rattle.pawn_book.specs.declared.request.BrokerRequest.TheVariants.{PutTerms, TakePledge, Import, Show, SheetOf}
+use Rattle.pawn_book.specs.Rows.{AreReplayable}
 use Rattle.pawn_book.specs.declared.request.BrokerRequest.TheVariants as broker
 use Rattle.pawn_book.specs.declared.request.BearerRequest.TheVariants.{Present}
 use Rattle.pawn_book.specs.declared.request.BearerRequest.TheVariants as bearer
-use Rattle.pawn_wire.specs.Bodies.{book_text, version_text, opened_text, refusal_text}
+use Rattle.pawn_wire.specs.Bodies.{book_text, version_text, filled_text, opened_text, refusal_text}
 use Rattle.pawn_wire.specs.Done.{sort_text, state_text, entered_text, held_text, declared_text, booked_text, redeemed_text, sold_text, extended_text}
 use Rattle.pawn_wire.specs.Limits.{max_number}
 use Rattle.pawn_wire.specs.Named.{number_said, day_said}
@@ -62,6 +63,7 @@ booking_members booking =
 -- the bodies of replies are compact JSON, with their members in the order of their names
 pub record BodiesAreJson : Type 0 where
   pub book : (book : ℕ) → book_text book ≡ compact_text (object (number_member (codes "book") book no_members))
+  pub filled : (pledges : ℕ) → filled_text pledges ≡ compact_text (object (number_member (codes "imported") pledges no_members))
   pub version : (version : ℕ) → version_text version ≡ compact_text (object (number_member (codes "version") version no_members))
   pub opened : (number : ℕ) (receipt : List ℕ) → IsTrue (is_plain receipt)
       → opened_text number receipt ≡ compact_text (object (number_member (codes "number") number (text_member (codes "receipt") receipt no_members)))
@@ -106,6 +108,7 @@ IsCallerWithin (Broker key (PutTerms terms)) = Unit {0}
 IsCallerWithin (Broker key (TakePledge opening)) = IsOpening opening
 IsCallerWithin (Broker key (broker.OnPledge n command)) = IsNumber n × IsCommandWithin command
 IsCallerWithin (Broker key (Show n)) = IsNumber n
+IsCallerWithin (Broker key (Import importing rows)) = AreReplayable rows.terms rows.pledges
 IsCallerWithin (Broker key (SheetOf day)) = IsStampDay day
 IsCallerWithin (Bearer (Present receipts)) = AreFew receipts
 IsCallerWithin (Bearer (bearer.OnPledge receipt command)) = IsNumber receipt.number × IsCommandWithin command

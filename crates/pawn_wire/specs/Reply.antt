@@ -4,8 +4,8 @@ use Rattle.http.specs.StatusCode.{status_text}
 use Rattle.pawn_pledge.specs.Receipt.{receipt_text}
 use Rattle.pawn_book.specs.Refusals as book
 use Rattle.pawn_book.specs.declared.reply.Reply.{Reply}
-use Rattle.pawn_book.specs.declared.reply.Reply.TheVariants.{BookMade, TermsPut, Opened, Commanded}
-use Rattle.pawn_wire.specs.Bodies.{book_text, version_text, opened_text, refusal_text}
+use Rattle.pawn_book.specs.declared.reply.Reply.TheVariants.{BookMade, TermsPut, BookFilled, Opened, Commanded}
+use Rattle.pawn_wire.specs.Bodies.{book_text, version_text, filled_text, opened_text, refusal_text}
 use Rattle.pawn_wire.specs.Done.{commanded_text}
 use Rattle.pawn_wire.specs.Status.{status_of}
 use Rattle.pawn_wire.specs.Fault.{code_of, name_of}
@@ -44,6 +44,7 @@ memory_text = fault_text Memory
 abbrev pub done_text : Reply → List ℕ
 done_text (BookMade book) = book_text book
 done_text (TermsPut version) = version_text version
+done_text (BookFilled pledges) = filled_text pledges
 done_text (Opened receipt) = opened_text receipt.number (receipt_text receipt)
 done_text (Commanded number done) = commanded_text number done
 

@@ -2,7 +2,7 @@
 use Rattle.std.specs.Prelude.{◌≡◌, codes}
 use Rattle.pawn_pledge.specs.declared.receipt.Receipt.{Receipt}
 use Rattle.pawn_book.specs.declared.refusal.Refusal.TheVariants.{NoSuchReceipt, NotOperator, BookTaken, Full}
-use Rattle.pawn_book.specs.declared.reply.Reply.TheVariants.{BookMade, TermsPut, Opened}
+use Rattle.pawn_book.specs.declared.reply.Reply.TheVariants.{BookMade, TermsPut, BookFilled, Opened}
 use Rattle.pawn_wire.specs.Reply.{memory_text, out_text}
 use Rattle.pawn_wire.specs.Status.{status_of}
 use Rattle.pawn_wire.specs.declared.fault.WireFault.TheVariants.{BadHead, NoRoute, BadBody}
@@ -54,5 +54,7 @@ WorkedAnswers =
     ≡ codes "HTTP/1.1 200 OK\r\nContent-Length: 10\r\nContent-Type: application/json\r\n\r\n{\"book\":7}")
     × (out_text (Done (TermsPut 1))
     ≡ codes "HTTP/1.1 200 OK\r\nContent-Length: 13\r\nContent-Type: application/json\r\n\r\n{\"version\":1}")
+    × (out_text (Done (BookFilled 2))
+    ≡ codes "HTTP/1.1 200 OK\r\nContent-Length: 14\r\nContent-Type: application/json\r\n\r\n{\"imported\":2}")
     × (out_text (Done (Opened first_receipt))
     ≡ codes "HTTP/1.1 200 OK\r\nContent-Length: 63\r\nContent-Type: application/json\r\n\r\n{\"number\":1,\"receipt\":\"1-da41597c-5157-488d-7724-e03fb8d84a37\"}")

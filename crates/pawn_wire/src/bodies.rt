@@ -1,6 +1,6 @@
 //! The JSON bodies of replies.
 ghost use Rattle.std.specs.Prelude.{◌≡◌, IfOk, Some, string_bytes};
-ghost use Rattle.pawn_wire.specs.Bodies.{book_text, version_text, opened_text, refusal_text};
+ghost use Rattle.pawn_wire.specs.Bodies.{book_text, version_text, filled_text, opened_text, refusal_text};
 
 use std::alloc::{AllocError, Global};
 
@@ -16,6 +16,13 @@ pub(crate) fn version(alloc: Global, version: u64) -> Result<String, AllocError>
     ensures text { IfOk result (λ s. string_bytes s ≡ version_text version) }
 {
     format!(in alloc; "{{\"version\":{version}}}")
+}
+
+// So many pledges were imported.
+pub(crate) fn filled(alloc: Global, pledges: u64) -> Result<String, AllocError>
+    ensures text { IfOk result (λ s. string_bytes s ≡ filled_text pledges) }
+{
+    format!(in alloc; "{{\"imported\":{pledges}}}")
 }
 
 // A pledge stands, with its first receipt.

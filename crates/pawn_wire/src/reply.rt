@@ -1,7 +1,7 @@
 //! Replies to bytes.
 ghost use Rattle.std.specs.Prelude.{◌≡◌, IfOk, string_bytes};
 ghost use Rattle.pawn_pledge.specs.Receipt.{receipt_text};
-ghost use Rattle.pawn_wire.specs.Bodies.{book_text, version_text, opened_text};
+ghost use Rattle.pawn_wire.specs.Bodies.{book_text, version_text, filled_text, opened_text};
 ghost use Rattle.pawn_wire.specs.Done.{commanded_text};
 ghost use Rattle.pawn_wire.specs.Fault.{wire_fault};
 ghost use Rattle.pawn_wire.specs.Reply.{head_text, reply_text, json_text, refused_text, fault_text, memory_text, done_text, out_text};
@@ -110,6 +110,13 @@ fn version_reply(alloc: Global, version: u64) -> Result<Vec<u8>, AllocError>
     json_reply(alloc, StatusCode::OK, body.as_str())
 }
 
+fn filled_reply(alloc: Global, pledges: u64) -> Result<Vec<u8>, AllocError>
+    ensures text { IfOk result (λ v. v.items ≡ json_text 200 (filled_text pledges)) }
+{
+    let body = bodies::filled(alloc, pledges)?;
+    json_reply(alloc, StatusCode::OK, body.as_str())
+}
+
 fn opening_reply(alloc: Global, receipt: Receipt) -> Result<Vec<u8>, AllocError>
     ensures text { IfOk result (λ v. v.items ≡ json_text 200 (opened_text receipt.number (receipt_text receipt))) }
 {
@@ -132,6 +139,7 @@ fn done_reply(alloc: Global, reply: Reply) -> Result<Vec<u8>, AllocError>
     match reply {
         Reply::BookMade(book) => book_reply(alloc, book),
         Reply::TermsPut(version) => version_reply(alloc, version),
+        Reply::BookFilled(pledges) => filled_reply(alloc, pledges),
         Reply::Opened(receipt) => opening_reply(alloc, receipt),
         Reply::Commanded { number, done } => command_reply(alloc, number, done),
     }

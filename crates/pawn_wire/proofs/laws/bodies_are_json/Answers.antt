@@ -10,6 +10,7 @@ returns c = record {
   law = record {
     book = λ book. refl;
     version = λ version. refl;
+    filled = λ pledges. refl;
     opened = opened_text-json;
     refusal = refusal_text-json;
     entered = entered_text-json;

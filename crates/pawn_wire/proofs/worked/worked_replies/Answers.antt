@@ -16,4 +16,4 @@ returns-clause-faults c = (refl, refl, refl, refl)
 
 pub returns-clause-answers : goal.returns-clause-answers
 unfolding digits uuid_on_literals
-returns-clause-answers c = (refl, refl, refl)
+returns-clause-answers c = (refl, refl, refl, refl)
