@@ -1,11 +1,12 @@
 #!/usr/bin/env python3
-"""Prints requests a second and peak memory of openings, views and repayments through `pawnd answer :memory:`.
+"""Prints requests a second and peak memory of openings, views, day sheets and repayments through `pawnd answer :memory:`.
 
 usage: bench/requests.py [PROGRAM]     (default: the program that `rt run` built in crates/pawnd)
 
 A stream has at most 1,000 requests, so a run is one book, its terms, and up to 998 openings, views
 or repayments. What a view costs is the time of 499 openings and 499 views less that of 499 openings,
-and so for repayments of one penny on each of 499 pledges. Repayments on one pledge are timed as its
+and so for sheets of a day on which nobody comes and of one on which all 499 periods end, and for
+repayments of one penny on each of 499 pledges. Repayments on one pledge are timed as its
 entries grow, each span less the one before it. Start and the reading of the stream are included where
 nothing is taken off.
 """
@@ -36,6 +37,10 @@ def opening(n):
 
 def view(receipt):
     return request("GET", "/books/7/held", f"Pledge-Receipt: {receipt}")
+
+
+def sheet(day):
+    return request("GET", f"/books/7/days/{day}", f"Pledge-Key: {BROKER}")
 
 
 def repayment(receipt, seq):
@@ -76,6 +81,10 @@ def main():
     print(f"start, a book and its terms: {nothing * 1e3:.1f} ms")
     line("openings, start included", 998, openings)
     line("views in a book of 499 pledges", 499, viewed - half_time)
+    for name, day, ending in (("sheets of a day without any", "2024-03-04", 0), ("sheets of a day with all 499", "2024-07-31", 499)):
+        told, sheets = answer(program, half + sheet(day) * 499)
+        assert told.count(f"Ends {ending}\n".encode()) == 499
+        line(name, 499, sheets - half_time)
     repaid, repayments = answer(program, half + b"".join(repayment(r, 1) for r in receipts(replies)))
     assert repaid.count(b'"sort":"repay"') == 499
     line("repayments, one a pledge", 499, repayments - half_time)

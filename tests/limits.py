@@ -104,6 +104,27 @@ def more_than_a_thousand_pledges():
             status, said = session.bearer(receipts[number - 1], "GET", "/books/7/held")
             expect(f"pledge {number}", (status, said.splitlines()[0]), (200, f"Pledge {number}"))
         expect("one that is not there", session.broker("GET", "/books/7/pledges/1002"), (404, {"code": 403, "name": "NoSuchPledge"}))
+        ends = said.splitlines()[4].removeprefix("Ends ")
+        sheet = "".join(f"Pledge {number}\n" for number in range(1, 1002))
+        expect("the day on which they end", session.broker("GET", f"/books/7/days/{ends}"),
+               (200, f"Day sheet {ends}\nAsked 0\nEnds 1001\n{sheet}"))
+
+
+def every_window_of_a_day():
+    with Server() as server:
+        session, day = server.session(), str(today() + datetime.timedelta(days=1))
+        session.open_book(capacity=1)
+        receipts = [session.open_pledge(number) for number in range(1, 18)]
+        for number, receipt in enumerate(receipts, 1):
+            booking = {"booking": "asked", "day": day, "window": (17 - number) % 16}
+            asked = session.bearer(receipt, "POST", "/books/7/held/ask", {"day": day, "window": booking["window"]})
+            expect(f"pledge {number} asks", asked, (200, booking))
+            decided = session.broker("POST", f"/books/7/pledges/{number}/decide", {"yes": True})
+            wanted = (200, {**booking, "booking": "confirmed"}) if number < 17 else (409, {"code": 408, "name": "WindowFull"})
+            expect(f"pledge {number} is confirmed", decided, wanted)
+        windows = "".join(f"Window {window} confirmed 1 of 1\nPledge {(16 - window) % 16 + 1}\n" for window in range(16))
+        expect("the day's sheet", session.broker("GET", f"/books/7/days/{day}"),
+               (200, f"Day sheet {day}\n{windows}Asked 1\nPledge 17 window 0\nEnds 0\n"))
 
 
 def the_largest_numbers():
@@ -149,4 +170,4 @@ def heads_at_their_limits():
 
 
 main(ten_thousand_entries_less_one, a_hundred_declarations, ninety_nine_extensions, one_to_thirty_two_receipts, more_than_a_thousand_pledges,
-     the_largest_numbers, the_longest_body, heads_at_their_limits)
+     every_window_of_a_day, the_largest_numbers, the_longest_body, heads_at_their_limits)

@@ -117,7 +117,7 @@ impl<K: Keep> Service<K> {
             (λ start. Answers start stamp.now (record { book = book; caller = Broker key (SheetOf day) }) (answer_bytes result)) }
     {
         match gate(&mut self.keep, book, key) {
-            Err(refusal) => return tell(self.alloc, &Out::Refused(refusal)),
+            Err(why) => return tell(self.alloc, &Out::Refused(why)),
             Ok(_) => {}
         }
         self.show_day(stamp, book, key, day)

@@ -12,7 +12,7 @@ use pawn_view::Writing;
 use std::alloc::Global;
 use std::process::Abort;
 use std::test::Fail;
-use turns::{ROWS, turns};
+use turns::{ROWS, day_turns, turns};
 
 const ASKED: &[u8] = b"GET /books/7/held HTTP/1.1\r\nHost: x\r\n\r\n";
 
@@ -60,6 +60,17 @@ fn two_pledges_live_through_every_request(rt: HostRuntime) -> Result<(), Fail> {
     assert_eq!(rt; answers.len(), turns.len());
     for (answer, turn) in answers.iter().zip(turns.as_slice()) {
         tells(&rt, answer, turn.reply.as_slice());
+    }
+    Ok(())
+}
+
+#[test]
+fn a_day_is_shown(rt: HostRuntime) -> Result<(), Fail> {
+    let alloc = rt.alloc();
+    let mut service = service(&rt, alloc);
+    for turn in day_turns(&rt, alloc)?.iter() {
+        let answer = service.answer_one(&turn.stamp, turn.request.as_slice());
+        tells(&rt, &answer, turn.reply.as_slice());
     }
     Ok(())
 }

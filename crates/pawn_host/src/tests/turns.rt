@@ -1,4 +1,4 @@
-//! The life of two pledges: requests on days that rise and fall, each with the reply that it must get.
+//! The life of two pledges, and a day of a book: requests on days that rise and fall, each with the reply that it must get.
 
 use super::stamp;
 use pawn_book::Stamp;
@@ -69,6 +69,36 @@ const LIFE: &str = r#"
 503 Service Unavailable|{"code":490,"name":"Full"}
 "#;
 
+// A day of a book that confirms one booking of a window, and for which two bearers ask.
+const DAY: &str = r#"
+2000-01-01|0|operator|POST /books/7|{"capacity":1,"key":"22222222-2222-2222-2222-222222222222","name":"High Street"}
+200 OK|{"book":7}
+2000-01-01|0|broker|POST /books/7/terms|{"keep_after":0,"keep_before":0,"rate":0,"version":1}
+200 OK|{"version":1}
+2024-03-01|1|broker|POST /books/7/pledges|{"article":"Gold ring","five_days":false,"kind":"fixed","pence":10000,"ref":"A1"}
+200 OK|{"number":1,"receipt":"1-00000000-0000-0000-0000-000000000001"}
+2024-03-01|2|broker|POST /books/7/pledges|{"article":"Violin","five_days":false,"kind":"fixed","pence":7500,"ref":"A2"}
+200 OK|{"number":2,"receipt":"2-00000000-0000-0000-0000-000000000002"}
+2024-03-01|0|1-1|POST /books/7/held/ask|{"day":"2024-03-04","window":3}
+200 OK|{"booking":"asked","day":"2024-03-04","window":3}
+2024-03-01|0|2-2|POST /books/7/held/ask|{"day":"2024-03-04","window":3}
+200 OK|{"booking":"asked","day":"2024-03-04","window":3}
+2024-03-01|0|broker|POST /books/7/pledges/1/decide|{"yes":true}
+200 OK|{"booking":"confirmed","day":"2024-03-04","window":3}
+2024-03-01|0|broker|POST /books/7/pledges/2/decide|{"yes":true}
+409 Conflict|{"code":408,"name":"WindowFull"}
+2024-03-01|0|broker|GET /books/7/days/2024-03-04|
+200 OK|Day sheet 2024-03-04|Window 3 confirmed 1 of 1|Pledge 1|Asked 1|Pledge 2 window 3|Ends 0|
+2024-03-01|0|broker|GET /books/7/days/2024-09-01|
+200 OK|Day sheet 2024-09-01|Asked 0|Ends 2|Pledge 1|Pledge 2|
+2024-03-01|0|stranger|GET /books/7/days/2024-03-04|
+404 Not Found|{"code":401,"name":"NoSuchBook"}
+2024-03-01|0|broker|GET /books/8/days/2024-03-04|
+404 Not Found|{"code":401,"name":"NoSuchBook"}
+2024-03-01|0|broker|GET /books/7/days/2024-02-30|
+404 Not Found|{"code":706,"name":"NoRoute"}
+"#;
+
 /// A host has room for so many rows where the last request of all finds none.
 pub const ROWS: u64 = 12;
 
@@ -132,11 +162,21 @@ fn reply(rt: &impl Abort, alloc: Global, line: &str) -> Result<Vec<u8>, Fail> {
     Ok(text.into_bytes())
 }
 
-/// The turns, in order.
+/// The turns of two pledges' lives, in order.
 pub fn turns(rt: &impl Abort, alloc: Global) -> Result<Vec<Turn>, Fail> {
+    turns_of(rt, alloc, LIFE)
+}
+
+/// The turns about a day, in order.
+pub fn day_turns(rt: &impl Abort, alloc: Global) -> Result<Vec<Turn>, Fail> {
+    turns_of(rt, alloc, DAY)
+}
+
+// The turns of these lines.
+fn turns_of(rt: &impl Abort, alloc: Global, lines: &str) -> Result<Vec<Turn>, Fail> {
     let mut turns = Vec::new(alloc);
     let mut asked = None;
-    for line in LIFE.trim().lines() {
+    for line in lines.trim().lines() {
         match asked {
             None => asked = Some(request(rt, alloc, line)?),
             Some((stamp, request)) => {

@@ -17,7 +17,7 @@ returns-clause-acted g c = λ honest h sound at bytes read.
 pub returns-in-Err-clause-acted : goal.returns-in-Err-clause-acted
 returns-in-Err-clause-acted g c = λ honest h sound at bytes read.
     let operator = service_operator c.args.self.now in
-    let why = c.in-Err.refusal in
+    let why = c.in-Err.why in
     let gates = rw c.in-Err.is at (c.gate.ensures.reads.tells honest h at) in
     acted_refused (start_of g.K.Keep.keeping c.args.self.now h) c.args.stamp.now bytes c.tell.result _ (sheet_request c.args.book c.args.key c.args.day) why read c.tell.ensures.tells
     (goes_read c.gate.ensures.reads honest h at sound) (gate_refused h operator c.args.stamp.now c.args.book c.args.key (SheetOf c.args.day) why gates)
