@@ -9,6 +9,9 @@ use pawn_debt::DebtFault;
 use std::alloc::Global;
 use std::test::Fail;
 
+mod imports;
+mod saves;
+
 const OPERATOR: u128 = 11;
 
 const KEY: u128 = 22;
