@@ -7,7 +7,6 @@ pub mod SoundLists
 pub mod Sounds
 pub mod Words
 pub mod Plans
-pub mod Imports
 pub mod KeptLemmas
 pub mod CommandPlans
 pub mod ActLemmas

@@ -9,8 +9,8 @@ use pawn_debt::DebtFault;
 use std::alloc::Global;
 use std::test::Fail;
 
+mod filling;
 mod imports;
-mod saves;
 
 const OPERATOR: u128 = 11;
 
