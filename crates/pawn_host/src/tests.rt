@@ -1,6 +1,7 @@
 //! Whole requests and their replies: by `run`, one alone, and over streams whose ends are slow or fail.
 
 mod ends;
+mod slots;
 mod turns;
 
 use crate::reading::Reading;
@@ -26,8 +27,13 @@ const BAD_HEAD: &[u8] =
 const CLOSING: &[u8] = b"GET /books/7/held HTTP/1.0\r\n\r\n";
 
 fn service(rt: &impl Abort, alloc: Global) -> Service<ListKeep> {
+    service_of(rt, alloc, 1000)
+}
+
+// A service with room for so many rows.
+fn service_of(rt: &impl Abort, alloc: Global, rows: u64) -> Service<ListKeep> {
     let operator = Secret::of_word(0x11111111_1111_1111_1111_111111111111);
-    match Service::new(alloc, ListKeep::new(alloc, ROWS), operator) {
+    match Service::new(alloc, ListKeep::new(alloc, rows.min(1000)), operator) {
         Ok(service) => service,
         Err(_) => panic!(rt; "no memory"),
     }
@@ -56,7 +62,7 @@ fn two_pledges_live_through_every_request(rt: HostRuntime) -> Result<(), Fail> {
     for turn in turns.iter() {
         items.push((turn.stamp, turn.request.clone()?))?;
     }
-    let answers = service(&rt, alloc).run(items.as_slice())?;
+    let answers = service_of(&rt, alloc, ROWS).run(items.as_slice())?;
     assert_eq!(rt; answers.len(), turns.len());
     for (answer, turn) in answers.iter().zip(turns.as_slice()) {
         tells(&rt, answer, turn.reply.as_slice());
@@ -139,7 +145,7 @@ fn answered(
         log: &log,
     };
     let mut stamps = Stamps { stamps, log: &log };
-    let came = service(rt, alloc).answer_all(
+    let came = service_of(rt, alloc, ROWS).answer_all(
         &mut Reading::new(&mut source),
         &mut Writing::new(&mut sink),
         &mut stamps,

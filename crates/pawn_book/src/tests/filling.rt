@@ -182,6 +182,6 @@ fn an_import_may_bring_more_bookings_than_its_book_confirms(rt: HostRuntime) -> 
         SheetItem::AskedHead(0),
         SheetItem::EndsHead(0),
     ];
-    assert!(rt; items.as_slice() == &sheet);
+    assert!(rt; items.as_slice() == sheet.as_slice());
     Ok(())
 }

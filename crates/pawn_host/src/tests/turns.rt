@@ -1,7 +1,7 @@
 //! The life of two pledges, and a day of a book: requests on days that rise and fall, each with the reply that it must get.
 
 use super::stamp;
-use pawn_book::Stamp;
+use pawn_book::{Secret, Stamp};
 use std::alloc::Global;
 use std::process::Abort;
 use std::test::Fail;
@@ -110,17 +110,29 @@ pub struct Turn {
     pub reply: Vec<u8>,
 }
 
-// The field that makes a caller known: a key, or a receipt, named by its pledge and by the word that issued it.
-fn field(rt: &impl Abort, caller: &str) -> &'static str {
-    match caller {
-        "operator" => "Pledge-Key: 11111111-1111-1111-1111-111111111111",
-        "broker" => "Pledge-Key: 22222222-2222-2222-2222-222222222222",
-        "stranger" => "Pledge-Key: 33333333-3333-3333-3333-333333333333",
-        "1-1" => "Pledge-Receipt: 1-00000000-0000-0000-0000-000000000001",
-        "1-3" => "Pledge-Receipt: 1-00000000-0000-0000-0000-000000000003",
-        "2-2" => "Pledge-Receipt: 2-00000000-0000-0000-0000-000000000002",
-        _ => panic!(rt; "no caller: {caller}"),
+// The fields that make a caller known: a key, or receipts, each named by its pledge and by the word that issued it.
+fn fields(rt: &impl Abort, alloc: Global, caller: &str) -> Result<String, Fail> {
+    let key = match caller {
+        "operator" => "11111111-1111-1111-1111-111111111111",
+        "broker" => "22222222-2222-2222-2222-222222222222",
+        "stranger" => "33333333-3333-3333-3333-333333333333",
+        receipts => return receipt_fields(rt, alloc, receipts),
+    };
+    Ok(format!(in alloc; "Pledge-Key: {key}\r\n")?)
+}
+
+fn receipt_fields(rt: &impl Abort, alloc: Global, receipts: &str) -> Result<String, Fail> {
+    let mut fields = String::new(alloc);
+    for receipt in receipts.split('+') {
+        let Some((number, word)) = receipt.split_once('-') else {
+            panic!(rt; "no caller: {receipt}");
+        };
+        let word = word.parse::<u128>().ok().ok_or("no word")?;
+        let secret = Secret::of_word(word).text(alloc)?;
+        let secret = secret.as_str();
+        fields = format!(in alloc; "{fields}Pledge-Receipt: {number}-{secret}\r\n")?;
     }
+    Ok(fields)
 }
 
 // What comes before the first bar, and after it.
@@ -131,16 +143,16 @@ fn cut<'a>(rt: &impl Abort, line: &'a str) -> (&'a str, &'a str) {
     }
 }
 
-// The stamp and the bytes of a request's line.
-fn request(rt: &impl Abort, alloc: Global, line: &str) -> Result<(Stamp, Vec<u8>), Fail> {
+/// The stamp and the bytes of a request's line.
+pub fn request(rt: &impl Abort, alloc: Global, line: &str) -> Result<(Stamp, Vec<u8>), Fail> {
     let (day, rest) = cut(rt, line);
     let (word, rest) = cut(rt, rest);
     let (caller, rest) = cut(rt, rest);
     let (asked, body) = cut(rt, rest);
-    let field = field(rt, caller);
+    let fields = fields(rt, alloc, caller)?;
     let length = body.len();
     let text = format!(in alloc;
-        "{asked} HTTP/1.1\r\n{field}\r\nContent-Length: {length}\r\n\r\n{body}"
+        "{asked} HTTP/1.1\r\n{fields}Content-Length: {length}\r\n\r\n{body}"
     )?;
     let word = word.parse::<u128>().ok().ok_or("no word")?;
     Ok((stamp(rt, day, word), text.into_bytes()))
@@ -172,8 +184,8 @@ pub fn day_turns(rt: &impl Abort, alloc: Global) -> Result<Vec<Turn>, Fail> {
     turns_of(rt, alloc, DAY)
 }
 
-// The turns of these lines.
-fn turns_of(rt: &impl Abort, alloc: Global, lines: &str) -> Result<Vec<Turn>, Fail> {
+/// The turns of these lines.
+pub fn turns_of(rt: &impl Abort, alloc: Global, lines: &str) -> Result<Vec<Turn>, Fail> {
     let mut turns = Vec::new(alloc);
     let mut asked = None;
     for line in lines.trim().lines() {
