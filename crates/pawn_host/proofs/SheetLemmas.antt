@@ -1,7 +1,6 @@
 -- Lemmas on a request for the sheet of a day.
 use Rattle.std.proofs.Common.{◌≡◌, ◌∙◌, ℕ, Bool, true, List, arith, ap, sym, Option, Some, None, Ok, codes, refl, if◌then◌else◌}
 use Rattle.std.specs.Prelude.{option_map, ◌==◌}
-use Rattle.std.specs.FinMap.{get}
 use Rattle.std.proofs.lemmas.Bool.Decides.{nat_tests}
 use Rattle.pawn_pledge.specs.declared.command.Stamp.{Stamp}
 use Rattle.pawn_book.specs.declared.request.Request.{Request}
