@@ -1,6 +1,5 @@
 -- Imports worked out: a book is filled once.
-use Rattle.std.specs.Prelude.{◌≡◌, ℕ, List, [], ◌∷◌, Option, Some, None, codes}
-use Rattle.pawn_debt.specs.declared.entry.Kind.TheVariants.{Fixed}
+use Rattle.std.specs.Prelude.{◌≡◌, ℕ, [], ◌∷◌, Option, Some, None, codes}
 use Rattle.pawn_debt.specs.Worked.{free}
 use Rattle.pawn_pledge.specs.Worked.{ring}
 use Rattle.pawn_book.specs.declared.change.Change.TheVariants.{ImportBook}
