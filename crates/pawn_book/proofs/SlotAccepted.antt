@@ -15,8 +15,10 @@ use Rattle.pawn_book.specs.declared.request.Caller.{Caller}
 use Rattle.pawn_book.specs.BookStep.{BookValue, Outcome, Refuses, Says, Makes, book_step, changed_book, book_head, pledge_from}
 use Rattle.pawn_book.specs.HostStep.{Host, host_step, within_limit, rows, with_book}
 use Rattle.pawn_book.specs.Keeping.{pledges_of}
-use Rattle.pawn_book.specs.Runs.{Mark, read_as, no_memory, no_store, Event, host_after_event}
-use Rattle.pawn_book.specs.Traces.{SlotEvent, Entered, Did, does, enters, is_live_in, event_slot, numbered_pledges, run_slot, slot_events, slot_of, within_slot}
+use Rattle.pawn_book.specs.Runs.{Mark, read_as, no_memory, no_store, Event, host_after_event, request_in}
+use Rattle.pawn_book.specs.Traces.{SlotEvent, Entered, Did, did, enters, is_live_in, slot_on, run_slot, slot_events, slot_of, within_slot}
+use Rattle.pawn_book.specs.Changes.{numbered_pledges}
+use Rattle.pawn_book.specs.Laws.{command_of}
 use Rattle.pawn_book.specs.Machines.{no_pledge, solo_from, solo_step}
 use Rattle.pawn_book.specs.Slots.{AreAccepted, IsAccepted, TracesAreAccepted}
 use Rattle.pawn_book.proofs.MadeLemmas.{BookIs, CommandIs, MadeBy, PledgeIs, RowsAre, TermsAre, made_by}
@@ -53,11 +55,11 @@ abbrev pub Accepts : List Receipt → Option BookValue → Stamp → Caller → 
 Accepts slot before stamp caller o = AreAccepted slot (slot_of slot before) (slot_events slot before stamp caller o)
 
 accepts_put : (slot : List Receipt) (book : BookValue) (b n : ℕ) (p : PledgeValue) (stamp : Stamp) (caller : Caller) (reply : Reply) (old : Option PledgeValue) → pledge_from 1 book.pledges n ≡ old
-    → ((o : PledgeValue) → old ≡ Some o → slot_of slot (Some book) n ≡ Some o → AreAccepted slot (slot_of slot (Some book)) (does n stamp caller))
+    → ((o : PledgeValue) → old ≡ Some o → slot_of slot (Some book) n ≡ Some o → AreAccepted slot (slot_of slot (Some book)) (did n stamp (command_of caller)))
     → Accepts slot (Some book) stamp caller (Makes (PutPledge b n p) reply)
 accepts_put slot book b n p stamp caller reply old is step =
-    let Q : Option PledgeValue → Type 0 = λ x. AreAccepted slot (slot_of slot (Some book)) ((if is_some (within_slot slot n x) then does n stamp caller else enters slot (n, p)) ++ []) in
-    subst Q (sym is) (accepted_put slot (slot_of slot (Some book)) n p old (does n stamp caller) (ap (within_slot slot n) is) step)
+    let Q : Option PledgeValue → Type 0 = λ x. AreAccepted slot (slot_of slot (Some book)) ((if is_some (within_slot slot n x) then did n stamp (command_of caller) else enters slot (n, p)) ++ []) in
+    subst Q (sym is) (accepted_put slot (slot_of slot (Some book)) n p old (did n stamp (command_of caller)) (ap (within_slot slot n) is) step)
 
 made_accepted : (slot : List Receipt) (before : Option BookValue) (operator b : ℕ) (stamp : Stamp) (caller : Caller) (change : Change) (reply : Reply)
     → MadeBy before operator b stamp caller change reply → Accepts slot before stamp caller (Makes change reply)
@@ -96,7 +98,7 @@ limited_accepted slot h b stamp caller (Says out) k = k
 limited_accepted slot h b stamp caller (Makes change reply) k =
     elim (nat_lt h.limit (rows (with_book h b (changed_book (get h.books b) change)))) as (λ v. Accepts slot (get h.books b) stamp caller (if v then Refuses Full else Makes change reply)) [ true ↦ tt | false ↦ k ]
 
-marked_accepted : {F : Type 0} (b : ℕ) (slot : List Receipt) (h : Host) (operator : ℕ) (stamp : Stamp) (mark : Mark F) → AreAccepted slot (slot_of slot (get h.books b)) (event_slot b slot h operator stamp mark)
+marked_accepted : {F : Type 0} (b : ℕ) (slot : List Receipt) (h : Host) (operator : ℕ) (stamp : Stamp) (mark : Mark F) → AreAccepted slot (slot_of slot (get h.books b)) (slot_on b slot h operator stamp (request_in mark))
 marked_accepted b slot h operator stamp (read_as (Ok request)) = from (request.book == b) refl
   where
     from : (v : Bool) → request.book == b ≡ v
@@ -113,7 +115,7 @@ marked_accepted b slot h operator stamp no_store = tt
 run_accepted : {F : Type 0} (b : ℕ) (slot : List Receipt) (h : Host) (operator : ℕ) (events : List (Event F)) → AreAccepted slot (slot_of slot (get h.books b)) (run_slot b slot h operator events)
 run_accepted b slot h operator [] = tt
 run_accepted b slot h operator (event ∷ events) =
-    accepted-append slot (slot_of slot (get h.books b)) (event_slot b slot h operator event.stamp event.mark) (run_slot b slot (host_after_event h operator event) operator events)
+    accepted-append slot (slot_of slot (get h.books b)) (slot_on b slot h operator event.stamp (request_in event.mark)) (run_slot b slot (host_after_event h operator event) operator events)
     (marked_accepted b slot h operator event.stamp event.mark)
     (subst (λ m. AreAccepted slot m (run_slot b slot (host_after_event h operator event) operator events)) (sym (event_follows b slot h operator event))
     (run_accepted b slot (host_after_event h operator event) operator events))

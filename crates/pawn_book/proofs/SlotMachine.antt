@@ -15,8 +15,9 @@ use Rattle.pawn_book.specs.declared.request.BrokerRequest.TheVariants.{PutTerms,
 use Rattle.pawn_book.specs.declared.request.Caller.{Caller}
 use Rattle.pawn_book.specs.declared.request.Caller.TheVariants.{Operator, Broker, Bearer}
 use Rattle.pawn_book.specs.BookStep.{BookValue, Outcome, Refuses, Says, Makes, book_after, book_step, book_head, pledge_from}
-use Rattle.pawn_book.specs.Laws.{Asks}
-use Rattle.pawn_book.specs.Traces.{SlotEvent, Entered, Did, does, enters, is_live_in, numbered_pledges, slot_events, slot_of, touches, within_slot}
+use Rattle.pawn_book.specs.Laws.{Asks, command_of}
+use Rattle.pawn_book.specs.Traces.{SlotEvent, Entered, Did, did, enters, is_live_in, slot_events, slot_of, touches, within_slot}
+use Rattle.pawn_book.specs.Changes.{numbered_pledges}
 use Rattle.pawn_book.specs.Machines.{after_command, after_judgement, no_pledge, with_pledge, solo_from, solo_step}
 use Rattle.pawn_book.proofs.MadeLemmas.{BookIs, CommandIs, MadeBy, PledgeIs, RowsAre, TermsAre, made_by}
 use Rattle.pawn_book.proofs.Places.{pledge_below, pledge_from-put, pledge_past, pledge_within}
@@ -81,17 +82,17 @@ within_put slot n q p o = grind (arith, nat_tests)
 
 put_follows : (slot : List Receipt) (book : BookValue) (b n : ℕ) (p : PledgeValue) (stamp : Stamp) (caller : Caller) (reply : Reply) (old : Option PledgeValue)
     → pledge_from 1 book.pledges n ≡ old → 1 ≤ n → n ≤ 1 + length book.pledges
-    → ((o : PledgeValue) → old ≡ Some o → slot_of slot (Some book) n ≡ Some o → solo_from slot (slot_of slot (Some book)) (does n stamp caller) ≡ with_pledge slot n p (slot_of slot (Some book)))
+    → ((o : PledgeValue) → old ≡ Some o → slot_of slot (Some book) n ≡ Some o → solo_from slot (slot_of slot (Some book)) (did n stamp (command_of caller)) ≡ with_pledge slot n p (slot_of slot (Some book)))
     → Follows slot (Some book) stamp caller (Makes (PutPledge b n p) reply)
 put_follows slot book b n p stamp caller reply old is low high step q =
     ap (λ f. f q) (solo_from-append slot (slot_of slot (Some book)) (touches slot (Some book) stamp caller (n, p)) [])
-    ∙ ap (λ o. solo_from slot (slot_of slot (Some book)) (if is_some (within_slot slot n o) then does n stamp caller else enters slot (n, p)) q) is
-    ∙ put_one slot (slot_of slot (Some book)) n p old (does n stamp caller) q (ap (within_slot slot n) is) step
+    ∙ ap (λ o. solo_from slot (slot_of slot (Some book)) (if is_some (within_slot slot n o) then did n stamp (command_of caller) else enters slot (n, p)) q) is
+    ∙ put_one slot (slot_of slot (Some book)) n p old (did n stamp (command_of caller)) q (ap (within_slot slot n) is) step
     ∙ within_put slot n q p (pledge_from 1 book.pledges q)
     ∙ ap (within_slot slot q) (sym (pledge_from-put 1 book.pledges n p q low high))
 
 -- the command that a caller asks for is the one that is done
-pub does_asked : (caller : Caller) (n : ℕ) (stamp : Stamp) (command : Command) → Asks caller n command → does n stamp caller ≡ Did n stamp command ∷ []
+pub does_asked : (caller : Caller) (n : ℕ) (stamp : Stamp) (command : Command) → Asks caller n command → did n stamp (command_of caller) ≡ Did n stamp command ∷ []
 does_asked (Operator key new) n stamp command asks = absurd asks
 does_asked (Broker key (PutTerms new)) n stamp command asks = absurd asks
 does_asked (Broker key (TakePledge opening)) n stamp command asks = absurd asks

@@ -21,8 +21,9 @@ use Rattle.pawn_book.specs.BookStep.{BookValue, Outcome, Refuses, Says, Makes, b
 use Rattle.pawn_book.specs.HostStep.{Host, host_after, host_step, within_limit, rows, with_book}
 use Rattle.pawn_book.specs.Keeping.{pledges_of}
 use Rattle.pawn_book.specs.Laws.{book_run}
-use Rattle.pawn_book.specs.Runs.{Mark, read_as, no_memory, no_store, Event, host_after_event, host_after_mark, run_host}
-use Rattle.pawn_book.specs.Traces.{book_trace, enters, is_live_in, is_settled, event_slot, event_request, request_on, numbered_pledges, run_slot, slot_events, slot_of, slot_trace, within_slot}
+use Rattle.pawn_book.specs.Runs.{Mark, read_as, no_memory, no_store, Event, host_after_event, host_after_mark, run_host, is_settled, request_in}
+use Rattle.pawn_book.specs.Traces.{book_trace, enters, is_live_in, slot_on, request_on, run_slot, slot_events, slot_of, slot_trace, within_slot}
+use Rattle.pawn_book.specs.Changes.{numbered_pledges}
 use Rattle.pawn_book.specs.Machines.{is_in, is_slots, no_pledge, solo, solo_from, solo_reply}
 use Rattle.pawn_book.specs.Slots.{BearersJoin, BooksAnswerAlone, EqualTracesAnswerAlike, OtherBooksStay, SlotsAnswerAlone, SlotsAreHeld, joins}
 use Rattle.pawn_book.proofs.Sounds.{get-with_book}
@@ -85,21 +86,21 @@ seen slot h b stamp request o q follows = from (request.book == b) refl
     from false is = ap (λ x. slot_of slot x q) (after false is)
 
 marked_follows : {F : Type 0} (b : ℕ) (slot : List Receipt) (h : Host) (operator : ℕ) (stamp : Stamp) (mark : Mark F) (q : ℕ)
-    → solo_from slot (slot_of slot (get h.books b)) (event_slot b slot h operator stamp mark) q ≡ slot_of slot (get (host_after_mark h operator stamp mark).books b) q
+    → solo_from slot (slot_of slot (get h.books b)) (slot_on b slot h operator stamp (request_in mark)) q ≡ slot_of slot (get (host_after_mark h operator stamp mark).books b) q
 marked_follows b slot h operator stamp (read_as (Ok request)) q = seen slot h b stamp request (host_step h operator stamp request) q (host_follows slot h operator stamp request)
 marked_follows b slot h operator stamp (read_as (Err fault)) q = refl
 marked_follows b slot h operator stamp no_memory q = refl
 marked_follows b slot h operator stamp no_store q = refl
 
 pub event_follows : {F : Type 0} (b : ℕ) (slot : List Receipt) (h : Host) (operator : ℕ) (event : Event F)
-    → solo_from slot (slot_of slot (get h.books b)) (event_slot b slot h operator event.stamp event.mark) ≡ slot_of slot (get (host_after_event h operator event).books b)
+    → solo_from slot (slot_of slot (get h.books b)) (slot_on b slot h operator event.stamp (request_in event.mark)) ≡ slot_of slot (get (host_after_event h operator event).books b)
 event_follows b slot h operator event = λ i q. marked_follows b slot h operator event.stamp event.mark q i
 
 run_follows : {F : Type 0} (b : ℕ) (slot : List Receipt) (h : Host) (operator : ℕ) (events : List (Event F))
     → solo_from slot (slot_of slot (get h.books b)) (run_slot b slot h operator events) ≡ slot_of slot (get (run_host h operator events).books b)
 run_follows b slot h operator [] = refl
 run_follows b slot h operator (event ∷ events) =
-    solo_from-append slot (slot_of slot (get h.books b)) (event_slot b slot h operator event.stamp event.mark) (run_slot b slot (host_after_event h operator event) operator events)
+    solo_from-append slot (slot_of slot (get h.books b)) (slot_on b slot h operator event.stamp (request_in event.mark)) (run_slot b slot (host_after_event h operator event) operator events)
     ∙ ap (λ m. solo_from slot m (run_slot b slot (host_after_event h operator event) operator events)) (event_follows b slot h operator event)
     ∙ run_follows b slot (host_after_event h operator event) operator events
 
@@ -216,7 +217,7 @@ unsettled_same h b (Makes change reply) unsettled = cc unsettled
 
 request_alone : (h : Host) (operator b : ℕ) (stamp : Stamp) (request : Request) (o : Outcome)
     → (is_settled (out_of o) ≡ true → o ≡ book_step (get h.books request.book) operator request.book stamp request.caller)
-    → book_run (get h.books b) operator b (request_on b stamp request (out_of o)) ≡ get (host_after h request.book o).books b
+    → book_run (get h.books b) operator b (if (request.book == b) && is_settled (out_of o) then (stamp, request.caller) ∷ [] else []) ≡ get (host_after h request.book o).books b
 request_alone h operator b stamp request o settled = from (request.book == b) refl (is_settled (out_of o)) refl
   where
     after : (v : Bool) → request.book == b ≡ v → get (host_after h request.book o).books b ≡ (if v then book_after (get h.books request.book) o else get h.books b)
@@ -232,7 +233,7 @@ request_alone h operator b stamp request o settled = from (request.book == b) re
         ∙ ap (λ (c : ℕ). book_after (get h.books c) (book_step (get h.books c) operator c stamp request.caller)) here)
 
 marked_alone : {F : Type 0} (h : Host) (operator b : ℕ) (stamp : Stamp) (mark : Mark F)
-    → book_run (get h.books b) operator b (event_request b h operator stamp mark) ≡ get (host_after_mark h operator stamp mark).books b
+    → book_run (get h.books b) operator b (request_on b h operator stamp (request_in mark)) ≡ get (host_after_mark h operator stamp mark).books b
 marked_alone h operator b stamp (read_as (Ok request)) = request_alone h operator b stamp request (host_step h operator stamp request) (settled_step h operator stamp request)
 marked_alone h operator b stamp (read_as (Err fault)) = refl
 marked_alone h operator b stamp no_memory = refl
@@ -245,7 +246,7 @@ book_run-append book operator b (x ∷ xs) ys = book_run-append (book_after book
 book_is_alone : {F : Type 0} (h : Host) (operator b : ℕ) (events : List (Event F)) → book_run (get h.books b) operator b (book_trace b h operator events) ≡ get (run_host h operator events).books b
 book_is_alone h operator b [] = refl
 book_is_alone h operator b (event ∷ events) =
-    book_run-append (get h.books b) operator b (event_request b h operator event.stamp event.mark) (book_trace b (host_after_event h operator event) operator events)
+    book_run-append (get h.books b) operator b (request_on b h operator event.stamp (request_in event.mark)) (book_trace b (host_after_event h operator event) operator events)
     ∙ ap (λ x. book_run x operator b (book_trace b (host_after_event h operator event) operator events)) (marked_alone h operator b event.stamp event.mark)
     ∙ book_is_alone (host_after_event h operator event) operator b events
 

@@ -18,8 +18,7 @@ use Rattle.pawn_book.specs.declared.request.BearerRequest.TheVariants.{Present, 
 use Rattle.pawn_book.specs.declared.request.Caller.{Caller}
 use Rattle.pawn_book.specs.BookStep.{BookValue, Outcome, Refuses, Says, Makes, are_unknown, bearer_commands, bearer_step, book_after, book_step, changed_book, book_head, is_secret, live_at, only_live, out_of, pledge_from, pledge_in, put_from, Shown}
 use Rattle.pawn_book.specs.HostStep.{Host, host_after, host_step, within_limit, rows, with_book}
-use Rattle.pawn_book.specs.Runs.{Mark, read_as, no_memory, no_store, host_after_event, host_after_mark}
-use Rattle.pawn_book.specs.Traces.{is_settled}
+use Rattle.pawn_book.specs.Runs.{Mark, read_as, no_memory, no_store, host_after_event, host_after_mark, is_settled}
 use Rattle.pawn_book.specs.Slots.{EarlierReceiptsAreSpent, IsSpentReceipt, PresentsSpent, SpentIsUnknown, SpentReceiptsStaySpent}
 use Rattle.pawn_book.proofs.KeptLemmas.{put_there}
 use Rattle.pawn_book.proofs.MadeLemmas.{BookIs, CommandIs, MadeBy, PledgeIs, RowsAre, TermsAre, made_by}

@@ -1,5 +1,5 @@
 -- What a change makes of a host, and which may be saved.
-use Rattle.std.specs.Prelude.{◌≡◌, ◌⊎◌, ℕ, ◌+◌, [], None, Some, length}
+use Rattle.std.specs.Prelude.{◌≡◌, ◌⊎◌, ℕ, ◌+◌, [], None, Some, length, List, ◌∷◌}
 use Rattle.std.specs.FinMap.{get}
 use Rattle.pawn_pledge.specs.Pledge.{PledgeValue}
 use Rattle.pawn_pledge.specs.Growth.{Grows}
@@ -44,3 +44,15 @@ Follows h (ImportBook book key rows) = (at : BookValue) × (get h.books book ≡
 pub record CanSave (h : Host) (change : Change) : Type 0 where
   pub follows : Follows h change
   pub sound : AreSound (with_change h change)
+
+-- pledges with their numbers, from one on
+abbrev pub numbered_pledges : ℕ → List PledgeValue → List (ℕ × PledgeValue)
+numbered_pledges k [] = []
+numbered_pledges k (p ∷ ps) = (k, p) ∷ numbered_pledges (k + 1) ps
+
+-- the pledges that a change makes or changes, as they are after it
+abbrev pub touched_pledges : Change → List (ℕ × PledgeValue)
+touched_pledges (MakeBook b new) = []
+touched_pledges (AddTerms b version terms) = []
+touched_pledges (PutPledge b n p) = (n, p) ∷ []
+touched_pledges (ImportBook b key rows) = numbered_pledges 1 rows.pledges

@@ -1,5 +1,5 @@
 -- What holds of every book, whatever is asked.
-use Rattle.std.specs.Prelude.{◌≡◌, ℕ, List, [], ◌∷◌, Option, Some, is_some, true}
+use Rattle.std.specs.Prelude.{◌≡◌, ℕ, List, [], ◌∷◌, Option, None, Some, is_some, true}
 use Rattle.pawn_debt.specs.declared.entry.Sort.{Sort}
 use Rattle.pawn_pledge.specs.declared.command.Command.{Command}
 use Rattle.pawn_pledge.specs.declared.command.Done.{Done}
@@ -50,6 +50,24 @@ RepeatsActOnce =
     (before : Option BookValue) (operator b : ℕ) (stamp again : Stamp) (caller : Caller) (change : Change) (reply : Reply) (later : List (Stamp × Caller))
     → IsMaking caller → book_step before operator b stamp caller ≡ Makes change reply
     → book_step (book_run (changed_book before change) operator b later) operator b again caller ≡ Says (Told reply)
+
+-- the command that a caller asks for
+abbrev pub broker_command : BrokerRequest → Option Command
+broker_command (asked.PutTerms new) = None
+broker_command (asked.TakePledge opening) = None
+broker_command (asked.OnPledge n command) = Some command
+broker_command (asked.Import key rows) = None
+broker_command (asked.Show n) = None
+broker_command (asked.SheetOf day) = None
+
+abbrev pub bearer_command : BearerRequest → Option Command
+bearer_command (presented.Present receipts) = None
+bearer_command (presented.OnPledge receipt command) = Some command
+
+abbrev pub command_of : Caller → Option Command
+command_of (Operator key new) = None
+command_of (Broker key request) = broker_command request
+command_of (Bearer request) = bearer_command request
 
 -- a caller commands pledge n
 abbrev pub BrokerAsks : BrokerRequest → ℕ → Command → Type 0

@@ -13,9 +13,9 @@ use Rattle.pawn_book.specs.declared.request.BearerRequest.{BearerRequest}
 use Rattle.pawn_book.specs.HostStep.{Host}
 use Rattle.pawn_book.specs.Laws.{Asks}
 use Rattle.pawn_book.specs.Machines.{is_slots, solo, solo_reply}
-use Rattle.pawn_book.specs.Runs.{Event, read_as, run_host}
+use Rattle.pawn_book.specs.Runs.{Event, read_as, run_host, is_settled}
 use Rattle.pawn_book.specs.Slots.{reply_after}
-use Rattle.pawn_book.specs.Traces.{is_settled, slot_of, slot_trace}
+use Rattle.pawn_book.specs.Traces.{slot_of, slot_trace}
 
 -- the request opens no pledge and imports none
 abbrev pub BringsNone : Caller → Type 0

@@ -1,9 +1,10 @@
 -- Runs: requests one after the other, each with how it was answered.
-use Rattle.std.specs.Prelude.{ℕ, List, [], ◌∷◌, Result, Ok, Err}
+use Rattle.std.specs.Prelude.{ℕ, List, [], ◌∷◌, Bool, true, false, Option, None, Some, Result, Ok, Err}
 use Rattle.pawn_pledge.specs.declared.command.Stamp.{Stamp}
 use Rattle.pawn_book.specs.declared.request.Request.{Request}
-use Rattle.pawn_book.specs.declared.refusal.Refusal.TheVariants.{Memory, Store}
-use Rattle.pawn_book.specs.BookStep.{Out, Denied, out_of}
+use Rattle.pawn_book.specs.declared.refusal.Refusal.{Refusal}
+use Rattle.pawn_book.specs.declared.refusal.Refusal.TheVariants.{Full, Memory, Store}
+use Rattle.pawn_book.specs.BookStep.{Out, Told, Denied, Shown, Listed, out_of}
 use Rattle.pawn_book.specs.HostStep.{Host, host_step, host_after}
 
 -- how an item was answered: as what its bytes read as, a request or a fault; or by want of memory, or a fault of the store
@@ -21,6 +22,13 @@ pub record Event (F : Type 0) : Type 0 where
 pub data Said (F : Type 0) : Type 0 where
   Answered : (out : Out) → Said F
   Faulted : (fault : F) → Said F
+
+-- the request that an item was read as
+abbrev pub request_in : {F : Type 0} → Mark F → Option Request
+request_in (read_as (Ok request)) = Some request
+request_in (read_as (Err fault)) = None
+request_in no_memory = None
+request_in no_store = None
 
 -- the host after an item
 abbrev pub host_after_mark : {F : Type 0} → Host → ℕ → Stamp → Mark F → Host
@@ -51,3 +59,18 @@ run_host h operator (event ∷ events) = run_host (host_after_event h operator e
 abbrev pub run_replies : {F : Type 0} → Host → ℕ → List (Event F) → List (Said F)
 run_replies h operator [] = []
 run_replies h operator (event ∷ events) = event_reply h operator event ∷ run_replies (host_after_event h operator event) operator events
+
+-- settled replies
+
+-- what the rules refuse; the rest is want of rows, of memory or of a store
+abbrev pub is_by_rules : Refusal → Bool
+is_by_rules Full = false
+is_by_rules Memory = false
+is_by_rules Store = false
+is_by_rules why = true
+
+abbrev pub is_settled : Out → Bool
+is_settled (Told reply) = true
+is_settled (Denied why) = is_by_rules why
+is_settled (Shown day pledges) = true
+is_settled (Listed day capacity items) = true

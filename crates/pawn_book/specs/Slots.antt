@@ -21,8 +21,8 @@ use Rattle.pawn_book.specs.BookStep.{BookValue, Out, Outcome, Refuses, Says, Mak
 use Rattle.pawn_book.specs.HostStep.{Host, host_step}
 use Rattle.pawn_book.specs.Laws.{Asks}
 use Rattle.pawn_book.specs.Plans.{next_host}
-use Rattle.pawn_book.specs.Runs.{Event, run_host}
-use Rattle.pawn_book.specs.Traces.{SlotEvent, Entered, Did, is_settled, book_trace, slot_of, slot_trace, slot_events}
+use Rattle.pawn_book.specs.Runs.{Event, run_host, is_settled}
+use Rattle.pawn_book.specs.Traces.{SlotEvent, Entered, Did, book_trace, slot_of, slot_trace, slot_events}
 use Rattle.pawn_book.specs.Machines.{is_slots, no_pledge, reply_alone, solo, solo_reply, solo_step}
 
 -- the reply to a request after a run

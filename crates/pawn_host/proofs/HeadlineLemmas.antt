@@ -8,8 +8,8 @@ use Rattle.pawn_book.specs.declared.refusal.Refusal.TheVariants as no
 use Rattle.pawn_book.specs.declared.request.Request.{Request}
 use Rattle.pawn_book.specs.BookStep.{Out, Told, Denied, Shown, Listed, out_of}
 use Rattle.pawn_book.specs.HostStep.{Host, host_step}
-use Rattle.pawn_book.specs.Runs.{Mark, read_as, no_memory, no_store, host_after_event, mark_reply}
-use Rattle.pawn_book.specs.Traces.{is_settled, slot_trace}
+use Rattle.pawn_book.specs.Runs.{Mark, read_as, no_memory, no_store, host_after_event, mark_reply, is_settled}
+use Rattle.pawn_book.specs.Traces.{slot_trace}
 use Rattle.pawn_book.specs.Machines.{solo_reply}
 use Rattle.pawn_book.proofs.Sounds.{absurd_none, some_is}
 use Rattle.pawn_book.proofs.SlotRuns.{books_answer_alone, slots_answer_alone}
