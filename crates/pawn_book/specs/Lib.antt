@@ -8,6 +8,7 @@ pub mod Runs
 pub mod Visits
 pub mod Gathering
 pub mod Changes
+pub mod Common
 pub mod Keeping
 pub mod Plans
 pub mod Written

@@ -1,16 +1,7 @@
 -- The plain machines: a book that is fed its trace alone, and a slot that is fed its own.
-use Rattle.std.specs.Prelude.{ℕ, List, [], ◌∷◌, ◌==◌, Bool, ◌&&◌, Option, None, Some, if◌then◌else◌}
-use Rattle.std.specs.List.{list_any, list_all}
-use Rattle.pawn_pledge.specs.declared.command.Stamp.{Stamp}
-use Rattle.pawn_pledge.specs.declared.command.Command.{Command}
-use Rattle.pawn_pledge.specs.declared.receipt.Receipt.{Receipt}
-use Rattle.pawn_pledge.specs.Pledge.{PledgeValue}
-use Rattle.pawn_pledge.specs.Step.{Judged, Refused, Answered, Changed, pledge_step}
-use Rattle.pawn_book.specs.declared.request.Caller.{Caller}
-use Rattle.pawn_book.specs.declared.request.BearerRequest.{BearerRequest}
-use Rattle.pawn_book.specs.declared.request.BearerRequest.TheVariants.{Present, OnPledge as OnReceipt}
-use Rattle.pawn_book.specs.BookStep.{BookValue, Out, out_of, book_step, bearer_step}
-use Rattle.pawn_book.specs.Laws.{book_run}
+use Rattle.pawn_book.specs.Common.{ℕ, List, [], ◌∷◌, ◌==◌, Bool, ◌&&◌, Option, None, Some, if◌then◌else◌, list_any, list_all, Stamp, Command}
+use Rattle.pawn_book.specs.Common.{Receipt, PledgeValue, Judged, Changed, pledge_step, Caller, BearerRequest, Present, OnReceipt}
+use Rattle.pawn_book.specs.Common.{BookValue, Out, out_of, book_step, bearer_step, book_run}
 use Rattle.pawn_book.specs.Traces.{SlotEvent, Entered, Did, within_slot}
 
 -- book b's reply to a request after a trace, without a limit on rows
@@ -21,16 +12,17 @@ reply_alone book operator b trace stamp caller = out_of (book_step (book_run boo
 abbrev pub with_pledge : List Receipt → ℕ → PledgeValue → (ℕ → Option PledgeValue) → ℕ → Option PledgeValue
 with_pledge slot n p pledges m = if m == n then within_slot slot n (Some p) else pledges m
 
+-- a command that is refused, or answered without a change, leaves the map
 abbrev pub after_judgement : List Receipt → ℕ → Judged → (ℕ → Option PledgeValue) → ℕ → Option PledgeValue
 after_judgement slot n (Changed p done) pledges = with_pledge slot n p pledges
-after_judgement slot n (Answered done) pledges = pledges
-after_judgement slot n (Refused why) pledges = pledges
+after_judgement slot n other pledges = pledges
 
+-- a command is carried out by the pledge's own rules
 abbrev pub after_command : List Receipt → ℕ → Stamp → Command → Option PledgeValue → (ℕ → Option PledgeValue) → ℕ → Option PledgeValue
 after_command slot n stamp command None pledges = pledges
 after_command slot n stamp command (Some p) pledges = after_judgement slot n (pledge_step p stamp command) pledges
 
--- one event: a pledge is put in, or its command is carried out by a pledge's own rules
+-- one event: a pledge is put in, or its command is carried out
 abbrev pub solo_step : List Receipt → SlotEvent → (ℕ → Option PledgeValue) → ℕ → Option PledgeValue
 solo_step slot (Entered n p) pledges = with_pledge slot n p pledges
 solo_step slot (Did n stamp command) pledges = after_command slot n stamp command (pledges n) pledges
@@ -42,11 +34,11 @@ solo_from slot pledges (event ∷ trace) = solo_from slot (solo_step slot event 
 abbrev pub no_pledge : ℕ → Option PledgeValue
 no_pledge n = None
 
--- the slot after its trace
+-- the slot after its trace, from a machine that is empty
 abbrev pub solo : List Receipt → List SlotEvent → ℕ → Option PledgeValue
 solo slot trace = solo_from slot no_pledge trace
 
--- and its reply to a bearer, by the rules of a book that has these pledges and no others
+-- its reply to a bearer, by the rules of a book that has these pledges and no others
 abbrev pub solo_reply : List Receipt → List SlotEvent → ℕ → Stamp → BearerRequest → Out
 solo_reply slot trace b stamp asked = out_of (bearer_step (solo slot trace) b stamp asked)
 

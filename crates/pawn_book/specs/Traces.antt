@@ -1,19 +1,8 @@
 -- What a run of requests leaves of one book, and of a slot: a list of receipts of one book.
-use Rattle.std.specs.Prelude.{ℕ, List, [], ◌∷◌, ◌++◌, ◌==◌, Bool, ◌&&◌, Option, None, Some, is_some, if◌then◌else◌}
-use Rattle.std.specs.List.{list_any, flat_map}
-use Rattle.std.specs.FinMap.{get}
-use Rattle.pawn_pledge.specs.declared.command.Stamp.{Stamp}
-use Rattle.pawn_pledge.specs.declared.command.Command.{Command}
-use Rattle.pawn_pledge.specs.declared.receipt.Receipt.{Receipt}
-use Rattle.pawn_pledge.specs.Pledge.{PledgeValue}
-use Rattle.pawn_book.specs.declared.request.Request.{Request}
-use Rattle.pawn_book.specs.declared.request.Caller.{Caller}
-use Rattle.pawn_book.specs.BookStep.{BookValue, Outcome, Refuses, Says, Makes, out_of, is_live, pledge_in}
-use Rattle.pawn_book.specs.HostStep.{Host, host_step}
-use Rattle.pawn_book.specs.Changes.{numbered_pledges, touched_pledges}
-use Rattle.pawn_book.specs.Keeping.{pledges_of}
-use Rattle.pawn_book.specs.Laws.{command_of}
-use Rattle.pawn_book.specs.Runs.{Event, host_after_event, is_settled, request_in}
+use Rattle.pawn_book.specs.Common.{ℕ, List, [], ◌∷◌, ◌++◌, ◌==◌, Bool, ◌&&◌, Option, None, Some, is_some, if◌then◌else◌, list_any, flat_map}
+use Rattle.pawn_book.specs.Common.{get, Stamp, Command, Receipt, PledgeValue, Request, Caller, BookValue, Outcome, Makes, out_of}
+use Rattle.pawn_book.specs.Common.{is_live, pledge_in, Host, host_step, numbered_pledges, touched_pledges, pledges_of, command_of}
+use Rattle.pawn_book.specs.Common.{Event, host_after_event, is_settled, request_in}
 
 -- a request on book b whose reply is settled
 abbrev pub request_on : ℕ → Host → ℕ → Stamp → Option Request → List (Stamp × Caller)
@@ -21,17 +10,15 @@ request_on b h operator stamp None = []
 request_on b h operator stamp (Some request) =
     if (request.book == b) && is_settled (out_of (host_step h operator stamp request)) then (stamp, request.caller) ∷ [] else []
 
--- the requests of a run on book b whose replies are settled, in order
+-- a book's trace: the requests of a run on book b whose replies are settled, in order
 abbrev pub book_trace : {F : Type 0} → ℕ → Host → ℕ → List (Event F) → List (Stamp × Caller)
 book_trace b h operator [] = []
 book_trace b h operator (event ∷ events) =
     request_on b h operator event.stamp (request_in event.mark) ++ book_trace b (host_after_event h operator event) operator events
 
--- what happens to a slot
+-- what happens to a slot: a pledge comes in, as it is when a receipt of the slot becomes its live one; a command changes one that is in
 pub data SlotEvent : Type 0 where
-  -- a pledge comes in, as it is when a receipt of the slot becomes its live one
   Entered : (number : ℕ) (pledge : PledgeValue) → SlotEvent
-  -- a command changes a pledge that is in
   Did : (number : ℕ) (stamp : Stamp) (command : Command) → SlotEvent
 
 -- a receipt of the slot is the live one of pledge n
@@ -63,11 +50,10 @@ touches slot before stamp caller pledge =
 
 -- what an outcome is to the slot
 abbrev pub slot_events : List Receipt → Option BookValue → Stamp → Caller → Outcome → List SlotEvent
-slot_events slot before stamp caller (Refuses why) = []
-slot_events slot before stamp caller (Says out) = []
 slot_events slot before stamp caller (Makes change reply) = flat_map (touches slot before stamp caller) (touched_pledges change)
+slot_events slot before stamp caller other = []
 
--- what a request on book b leaves in the trace
+-- what a request on book b is to the slot
 abbrev pub slot_on : ℕ → List Receipt → Host → ℕ → Stamp → Option Request → List SlotEvent
 slot_on b slot h operator stamp None = []
 slot_on b slot h operator stamp (Some request) =
@@ -79,7 +65,7 @@ run_slot b slot h operator [] = []
 run_slot b slot h operator (event ∷ events) =
     slot_on b slot h operator event.stamp (request_in event.mark) ++ run_slot b slot (host_after_event h operator event) operator events
 
--- first what is in the slot when the run begins, by number
+-- a slot's trace: what is in it when the run begins, by number, and then what happens to it
 abbrev pub slot_trace : {F : Type 0} → ℕ → List Receipt → Host → ℕ → List (Event F) → List SlotEvent
 slot_trace b slot h operator events =
     flat_map (enters slot) (numbered_pledges 1 (pledges_of (get h.books b))) ++ run_slot b slot h operator events

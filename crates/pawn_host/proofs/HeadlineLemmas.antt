@@ -18,7 +18,8 @@ use Rattle.pawn_wire.specs.declared.fault.WireFault.{WireFault}
 use Rattle.pawn_wire.proofs.RequestLemmas.{reads_unique}
 use Rattle.pawn_host.specs.Run.{Item, IsMarkOf, IsMarked, event_of, events, host_after, replies, said_text}
 use Rattle.pawn_host.specs.Keeps.{Start, Kept, IsRun}
-use Rattle.pawn_host.specs.Headline.{AnswerAlone, EqualTracesAnswerAlike, IsRunOfSlots, IsSettled, RunsAnswerAlone, by_bearer, reply_bytes}
+use Rattle.pawn_host.specs.Headline.{AnswerAlone, IsRunOfSlots, IsSettled, by_bearer, reply_bytes}
+use Rattle.pawn_host.specs.Laws.{EqualTracesAnswerAlike, RunsAnswerAlone}
 use Rattle.pawn_host.proofs.RunMore.{marked_all}
 
 -- the answer at a place is what its item was told

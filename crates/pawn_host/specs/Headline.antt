@@ -1,19 +1,14 @@
 -- The headline: each answer is what a plain machine gives that is fed one slot's trace alone.
-use Rattle.std.specs.Prelude.{◌≡◌, ◌≢◌, ℕ, List, take, slice_get, true, Some, Ok, All}
-use Rattle.std.specs.FinMap.{get}
-use Rattle.pawn_pledge.specs.declared.command.Stamp.{Stamp}
-use Rattle.pawn_pledge.specs.declared.receipt.Receipt.{Receipt}
+use Rattle.pawn_book.specs.Common.{◌≡◌, ◌≢◌, ℕ, List, true, Some, Ok, slice_get, take, get, Stamp, Receipt, Denied, Out, Host}
 use Rattle.pawn_book.specs.declared.refusal.Refusal.TheVariants.{Full, Memory, Store}
 use Rattle.pawn_book.specs.declared.request.Request.{Request}
 use Rattle.pawn_book.specs.declared.request.Caller.TheVariants.{Bearer}
 use Rattle.pawn_book.specs.declared.request.BearerRequest.{BearerRequest}
-use Rattle.pawn_book.specs.BookStep.{Out, Denied}
-use Rattle.pawn_book.specs.HostStep.{Host}
 use Rattle.pawn_book.specs.Runs.{Answered}
 use Rattle.pawn_book.specs.Traces.{book_trace, slot_trace}
 use Rattle.pawn_book.specs.Machines.{is_slots, reply_alone, solo_reply}
 use Rattle.pawn_wire.specs.Request.{Reads}
-use Rattle.pawn_host.specs.Run.{Item, IsMarked, events, replies, said_text}
+use Rattle.pawn_host.specs.Run.{Item, events, said_text}
 use Rattle.pawn_host.specs.Keeps.{Start, Kept, IsRun}
 
 -- the bytes of a reply
@@ -53,20 +48,3 @@ pub record AnswerAlone (h : Host) (operator : ℕ) (items : List Item) (answers 
 pub record IsRunOfSlots (start : Start) (given : List (Stamp × List ℕ)) (answers : List (List ℕ)) (kept : Kept) : Type 0 where
   pub run : IsRun start given answers kept
   pub alone : AnswerAlone start.host start.operator run.items answers
-
--- so it is of the items of any run, and of those of one conversation
-abbrev pub RunsAnswerAlone : Type 0
-RunsAnswerAlone = (h : Host) (operator : ℕ) (items : List Item) → All (IsMarked ⊥) items → AnswerAlone h operator items (replies h operator items)
-
--- after runs from two hosts, under one operator's key, that left a slot one trace, its next request is answered alike
-abbrev pub EqualTracesAnswerAlike : Type 0
-EqualTracesAnswerAlike =
-    (h g : Host) (operator : ℕ) (items others : List Item) → All (IsMarked ⊥) items → All (IsMarked ⊥) others
-    → (i j : ℕ) (item twin : Item) (answer other : List ℕ)
-    → slice_get items i ≡ Some item → slice_get (replies h operator items) i ≡ Some answer
-    → slice_get others j ≡ Some twin → slice_get (replies g operator others) j ≡ Some other
-    → (b : ℕ) (slot : List Receipt) (asked : BearerRequest)
-    → Reads item.bytes (Ok (by_bearer b asked)) → Reads twin.bytes (Ok (by_bearer b asked)) → item.stamp ≡ twin.stamp
-    → is_slots slot asked ≡ true → IsSettled answer → IsSettled other
-    → slot_trace b slot h operator (events (take i items)) ≡ slot_trace b slot g operator (events (take j others))
-    → answer ≡ other

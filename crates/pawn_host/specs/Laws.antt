@@ -1,9 +1,14 @@
--- Laws of the split and of runs.
-use Rattle.std.specs.Prelude.{◌≡◌, ℕ, ◌<◌, ◌≤◌, ◌⊎◌, All, Bool, List, [], ◌∷◌, ◌++◌, length, map}
+-- Laws of the split, of runs, and of the slots in them.
+use Rattle.std.specs.Prelude.{◌≡◌, ℕ, ◌<◌, ◌≤◌, ◌⊎◌, All, Bool, true, List, [], ◌∷◌, ◌++◌, Some, Ok, length, map, slice_get, take}
 use Rattle.std.specs.List.{concat}
 use Rattle.httparse.specs.Grammar.{RequestHead, ReadsRequest, EndsInTarget, HasNoRequest}
 use Rattle.httparse.specs.Spans.{RequestOverflows}
+use Rattle.pawn_pledge.specs.declared.receipt.Receipt.{Receipt}
+use Rattle.pawn_book.specs.declared.request.BearerRequest.{BearerRequest}
+use Rattle.pawn_book.specs.Traces.{slot_trace}
+use Rattle.pawn_book.specs.Machines.{is_slots}
 use Rattle.pawn_wire.specs.Limits.{max_fields, max_head}
+use Rattle.pawn_wire.specs.Request.{Reads}
 use Rattle.pawn_wire.specs.declared.fault.HeadFault.{HeadFault}
 use Rattle.pawn_wire.specs.declared.fault.HeadFault.TheVariants.{BadHead}
 use Rattle.pawn_wire.specs.declared.fault.WireFault.{WireFault}
@@ -11,6 +16,7 @@ use Rattle.pawn_host.specs.Split.{Ending, cut, faulted, most_requests, IsCutHead
 use Rattle.pawn_book.specs.HostStep.{Host}
 use Rattle.pawn_book.specs.Runs.{Mark, read_as, no_memory, no_store}
 use Rattle.pawn_host.specs.Run.{Item, IsMarked, input_of, events, host_after, replies}
+use Rattle.pawn_host.specs.Headline.{AnswerAlone, IsSettled, by_bearer}
 
 -- the rest has begun with a head that may go on, and no head of so few fields can come of it
 abbrev pub IsOpen : List ℕ → Type 0
@@ -106,3 +112,20 @@ FaultIsExact =
     (rest : List ℕ)
     → (MayGoOn rest → HasNoRequest rest → (f : HeadFault) → HasFault rest f → ⊥)
     × ((MayGoOn rest → ⊥) → (length rest < max_head) → HasFault rest BadHead)
+
+-- each answer to the items of a run, and so of one conversation, is that of a machine alone
+abbrev pub RunsAnswerAlone : Type 0
+RunsAnswerAlone = (h : Host) (operator : ℕ) (items : List Item) → All (IsMarked ⊥) items → AnswerAlone h operator items (replies h operator items)
+
+-- after runs from two hosts, under one operator's key, that left a slot one trace, its next request is answered alike
+abbrev pub EqualTracesAnswerAlike : Type 0
+EqualTracesAnswerAlike =
+    (h g : Host) (operator : ℕ) (items others : List Item) → All (IsMarked ⊥) items → All (IsMarked ⊥) others
+    → (i j : ℕ) (item twin : Item) (answer other : List ℕ)
+    → slice_get items i ≡ Some item → slice_get (replies h operator items) i ≡ Some answer
+    → slice_get others j ≡ Some twin → slice_get (replies g operator others) j ≡ Some other
+    → (b : ℕ) (slot : List Receipt) (asked : BearerRequest)
+    → Reads item.bytes (Ok (by_bearer b asked)) → Reads twin.bytes (Ok (by_bearer b asked)) → item.stamp ≡ twin.stamp
+    → is_slots slot asked ≡ true → IsSettled answer → IsSettled other
+    → slot_trace b slot h operator (events (take i items)) ≡ slot_trace b slot g operator (events (take j others))
+    → answer ≡ other

@@ -1,7 +1,6 @@
 //! Laws of the definitions.
 ghost use Rattle.pawn_host.specs.Crashes.{CrashLeavesWhole};
-ghost use Rattle.pawn_host.specs.Headline.{EqualTracesAnswerAlike, RunsAnswerAlone};
-ghost use Rattle.pawn_host.specs.Laws.{SplitIsUnique, OpenEnds, SplitEndsEarly, SplitBegins, SplitIsFront, ItemsAreUnique, RunReadsEvents, RunsJoin, FaultIsExact, NothingIsWanted};
+ghost use Rattle.pawn_host.specs.Laws.{SplitIsUnique, EqualTracesAnswerAlike, OpenEnds, SplitEndsEarly, SplitBegins, SplitIsFront, ItemsAreUnique, RunReadsEvents, RunsAnswerAlone, RunsJoin, FaultIsExact, NothingIsWanted};
 
 /// A stream has one split, but for its ending in a head that can't be completed.
 pub fn split_is_unique()

@@ -1,13 +1,11 @@
-//! What takes memory, each once with its answer, and what may be no longer.
+//! What takes memory, each once with its answer, and bodies that are none.
 
-use crate::fault::{HeadFault, WireFault};
-use crate::head::{HeadFacts, HeadRead, read_head};
+use crate::fault::WireFault;
 use crate::reply::{Out, write_reply};
 use crate::request::read_request;
 use crate::router::Router;
 use pawn_book::{
-    BearerRequest, BrokerRequest, Caller, Kind, Number, PledgeRefusal, Receipt, Refusal, Reply,
-    Request, Secret,
+    BrokerRequest, Caller, Kind, Number, PledgeRefusal, Receipt, Refusal, Reply, Request, Secret,
 };
 use std::alloc::{AllocError, Global};
 use std::process::Abort;
@@ -83,15 +81,6 @@ fn replies_are_written(rt: HostRuntime) -> Result<(), Fail> {
     Ok(())
 }
 
-// A whole head of so many bytes, without a body, after which the connection stays.
-fn whole(len: usize) -> HeadRead {
-    HeadRead::Whole(HeadFacts {
-        len,
-        body: 0,
-        closes: false,
-    })
-}
-
 // These bytes, others so many times behind them, and a last few.
 fn repeated(
     alloc: Global,
@@ -109,57 +98,13 @@ fn repeated(
 }
 
 #[test]
-fn heads_have_64_fields_at_most(rt: HostRuntime) -> Result<(), Fail> {
-    for (fields, wanted) in [
-        (63, whole(333)),
-        (64, whole(338)),
-        (65, HeadRead::Fault(HeadFault::BadHead)),
-    ] {
-        let bytes = repeated(
-            rt.alloc(),
-            b"GET / HTTP/1.1\r\n",
-            b"a:b\r\n",
-            fields,
-            b"\r\n",
-        )?;
-        assert_eq!(rt; read_head(bytes.as_slice()), wanted, "with {fields} fields");
-    }
-    Ok(())
-}
-
-#[test]
-fn heads_have_8192_bytes_at_most(rt: HostRuntime) -> Result<(), Fail> {
-    let bad = HeadRead::Fault(HeadFault::BadHead);
-    for (filling, end, wanted) in [
-        (8169, b"\r\n\r\n".as_slice(), whole(8191)),
-        (8170, b"\r\n\r\n", whole(8192)),
-        (8171, b"\r\n\r\n", bad),
-        (8173, b"", HeadRead::Partial),
-        (8174, b"", bad),
-    ] {
-        let bytes = repeated(rt.alloc(), b"GET / HTTP/1.1\r\na:", b"b", filling, end)?;
-        assert_eq!(rt; read_head(bytes.as_slice()), wanted, "with {filling} bytes");
-    }
-    Ok(())
-}
-
-// Terms in a body of so many bytes.
-fn terms(alloc: Global, length: usize) -> Result<Vec<u8>, AllocError> {
-    let terms = b"{\"keep_after\":0,\"keep_before\":0,\"rate\":0,\"version\":7}";
-    repeated(alloc, terms, b" ", length.saturating_sub(terms.len()), b"")
-}
-
-#[test]
-fn bodies_have_1048576_bytes_at_most(rt: HostRuntime) -> Result<(), Fail> {
+fn a_body_is_as_long_as_its_head_tells(rt: HostRuntime) -> Result<(), Fail> {
     let alloc = rt.alloc();
-    for (told, length, wanted) in [
-        (1_048_576, 1_048_576, None),
-        (1_048_577, 1_048_577, Some(WireFault::BodyTooLong)),
-        (1_048_576, 1_048_577, Some(WireFault::BadLength)),
-    ] {
-        let body = terms(alloc, length)?;
-        let bytes = post(alloc, "terms", told, body.as_slice())?;
-        assert_eq!(rt; asked(&rt, alloc, bytes.as_slice()).err(), wanted);
+    let body = b"{\"keep_after\":0,\"keep_before\":0,\"rate\":0,\"version\":7}";
+    for told in [body.len() - 1, body.len() + 1] {
+        let bytes = post(alloc, "terms", told, body)?;
+        let said = asked(&rt, alloc, bytes.as_slice());
+        assert_eq!(rt; said.err(), Some(WireFault::BadLength));
     }
     Ok(())
 }
@@ -173,22 +118,5 @@ fn a_body_of_too_many_levels_is_none(rt: HostRuntime) -> Result<(), Fail> {
     let bytes = post(alloc, "terms", body.len(), body.as_slice())?;
     let said = asked(&rt, alloc, bytes.as_slice());
     assert_eq!(rt; said.err(), Some(WireFault::BadBody));
-    Ok(())
-}
-
-#[test]
-fn at_most_32_receipts_are_presented(rt: HostRuntime) -> Result<(), Fail> {
-    let head = b"GET /books/7/held HTTP/1.1\r\n";
-    let field = b"Pledge-Receipt: 1-da41597c-5157-488d-7724-e03fb8d84a37\r\n";
-    let thirty_two = repeated(rt.alloc(), head, field, 32, b"\r\n")?;
-    match asked(&rt, rt.alloc(), thirty_two.as_slice()).map(|request| request.caller) {
-        Ok(Caller::Bearer(BearerRequest::Present(receipts))) => {
-            assert_eq!(rt; receipts.as_slice().len(), 32);
-        }
-        _ => panic!(rt; "no receipts"),
-    }
-    let more = repeated(rt.alloc(), head, field, 33, b"\r\n")?;
-    let said = asked(&rt, rt.alloc(), more.as_slice());
-    assert_eq!(rt; said.err(), Some(WireFault::TooManyReceipts));
     Ok(())
 }

@@ -25,8 +25,6 @@ const LIFE: &str = r#"
 200 OK|{"booking":"asked","day":"2024-03-04","window":3}
 2024-02-11|0|broker|POST /books/7/pledges/1/decide|{"yes":true}
 200 OK|{"booking":"confirmed","day":"2024-03-04","window":3}
-2024-02-11|0|broker|POST /books/7/pledges/2/decide|{"yes":true}
-409 Conflict|{"code":408,"name":"WindowFull"}
 2024-02-12|0|2-2|POST /books/7/held/cancel|
 200 OK|{"booking":"cancelled","day":"2024-03-04","window":3}
 2024-02-20|0|1-1|POST /books/7/held/repay|{"pence":345,"seq":2}

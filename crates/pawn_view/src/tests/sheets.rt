@@ -81,54 +81,16 @@ fn confirms(alloc: Global, keep: &mut ListKeep, pledge: u64) -> Result<(), Fail>
     commands(alloc, keep, b"2024-03-01", pledge, confirm)
 }
 
-// What is written of a book's day, and how it ended.
+// What is written of the book's day, and how it ended.
 fn sheet(
     alloc: Global,
     keep: &mut ListKeep,
-    book: u64,
     day: &[u8],
 ) -> Result<(Result<(), ViewFault>, Vec<u8>), Fail> {
     let mut writer = Writing::new(Vec::new(alloc));
     let day = request_day(day)?.day();
-    let ended = show_day_sheet(keep, number(book)?, day, &mut writer);
+    let ended = show_day_sheet(keep, number(7)?, day, &mut writer);
     Ok((ended, writer.into_inner()))
-}
-
-// Two bearers asked for a window of one, and the first was confirmed.
-fn two_for_one(alloc: Global) -> Result<ListKeep, Fail> {
-    let mut keep = book(alloc, 1)?;
-    for reference in ["A1", "A2"] {
-        takes(alloc, &mut keep, b"2024-03-01", (reference, 10_000))?;
-    }
-    for pledge in [1, 2] {
-        asks(alloc, &mut keep, pledge, b"2024-03-04", 3)?;
-    }
-    confirms(alloc, &mut keep, 1)?;
-    Ok(keep)
-}
-
-const TWO_FOR_ONE: &[u8] =
-    b"Day sheet 2024-03-04\nWindow 3 confirmed 1 of 1\nPledge 1\nAsked 1\nPledge 2 window 3\nEnds 0\n";
-
-#[test]
-fn a_sheet_tells_who_comes_and_who_asked(rt: HostRuntime) -> Result<(), Fail> {
-    let alloc = rt.alloc();
-    let mut keep = two_for_one(alloc)?;
-    for (book, day, ended, text) in [
-        (7u64, b"2024-03-04".as_slice(), Ok(()), TWO_FOR_ONE),
-        (
-            7,
-            b"2024-03-05",
-            Ok(()),
-            b"Day sheet 2024-03-05\nAsked 0\nEnds 0\n",
-        ),
-        (8, b"2024-03-04", Err(ViewFault::Unknown), b""),
-    ] {
-        let (came, written) = sheet(alloc, &mut keep, book, day)?;
-        assert_eq!(rt; came, ended);
-        assert_eq!(rt; written.as_slice(), text);
-    }
-    Ok(())
 }
 
 // Six pledges whose period ends on 2024-07-31, or did at first: the second was extended, the third redeemed and the
@@ -185,7 +147,7 @@ fn a_sheet_tells_whose_period_ends(rt: HostRuntime) -> Result<(), Fail> {
         ),
         (b"2024-08-01", b"Day sheet 2024-08-01\nAsked 0\nEnds 0\n"),
     ] {
-        let (came, written) = sheet(alloc, &mut keep, 7, day)?;
+        let (came, written) = sheet(alloc, &mut keep, day)?;
         assert_eq!(rt; came, Ok(()));
         assert_eq!(rt; written.as_slice(), text);
     }
@@ -219,20 +181,20 @@ impl Write for Room {
 
 #[test]
 fn a_full_writer_has_a_front_of_the_sheet(rt: HostRuntime) -> Result<(), Fail> {
-    let mut keep = two_for_one(rt.alloc())?;
-    let (book, day) = (number(7)?, request_day(b"2024-03-04")?.day());
-    for room in 0..=TWO_FOR_ONE.len() {
+    let mut keep = one_of_each(rt.alloc())?;
+    let (book, day) = (number(7)?, request_day(b"2024-07-31")?.day());
+    for room in 0..=ONE_OF_EACH.len() {
         let mut writer = Writing::new(Room {
             taken: Vec::new(rt.alloc()),
             left: room,
         });
         let ended = show_day_sheet(&mut keep, book, day, &mut writer);
-        let wanted = match room < TWO_FOR_ONE.len() {
+        let wanted = match room < ONE_OF_EACH.len() {
             true => Err(ViewFault::Write),
             false => Ok(()),
         };
         assert_eq!(rt; ended, wanted);
-        assert_eq!(rt; writer.into_inner().taken.as_slice(), &TWO_FOR_ONE[..room]);
+        assert_eq!(rt; writer.into_inner().taken.as_slice(), &ONE_OF_EACH[..room]);
     }
     Ok(())
 }
