@@ -18,6 +18,7 @@ pub mod NextLemmas
 pub mod ListReads
 pub mod ListSaves
 pub mod ListKeeping
+pub mod SlotMoments
 pub mod SlotMachine
 pub mod SlotRuns
 pub mod SlotAccepted

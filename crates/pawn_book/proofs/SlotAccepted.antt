@@ -16,7 +16,8 @@ use Rattle.pawn_book.specs.BookStep.{BookValue, Outcome, Refuses, Says, Makes, b
 use Rattle.pawn_book.specs.HostStep.{Host, host_step, within_limit, rows, with_book}
 use Rattle.pawn_book.specs.Keeping.{pledges_of}
 use Rattle.pawn_book.specs.Runs.{Mark, read_as, no_memory, no_store, Event, host_after_event, request_in}
-use Rattle.pawn_book.specs.Traces.{SlotEvent, Entered, Did, did, enters, is_live_in, slot_on, run_slot, slot_events, slot_of, within_slot}
+use Rattle.pawn_book.specs.Traces.{SlotEvent, Entered, Did, did, enters, is_live_in, slot_events, slot_of, within_slot}
+use Rattle.pawn_book.proofs.SlotMoments.{run_slot, slot_on, slot_step}
 use Rattle.pawn_book.specs.Changes.{numbered_pledges}
 use Rattle.pawn_book.specs.Laws.{command_of}
 use Rattle.pawn_book.specs.Machines.{no_pledge, solo_from, solo_step}
@@ -115,10 +116,11 @@ marked_accepted b slot h operator stamp no_store = tt
 run_accepted : {F : Type 0} (b : ℕ) (slot : List Receipt) (h : Host) (operator : ℕ) (events : List (Event F)) → AreAccepted slot (slot_of slot (get h.books b)) (run_slot b slot h operator events)
 run_accepted b slot h operator [] = tt
 run_accepted b slot h operator (event ∷ events) =
-    accepted-append slot (slot_of slot (get h.books b)) (slot_on b slot h operator event.stamp (request_in event.mark)) (run_slot b slot (host_after_event h operator event) operator events)
+    subst (AreAccepted slot (slot_of slot (get h.books b))) (sym (slot_step b slot h operator event events))
+    (accepted-append slot (slot_of slot (get h.books b)) (slot_on b slot h operator event.stamp (request_in event.mark)) (run_slot b slot (host_after_event h operator event) operator events)
     (marked_accepted b slot h operator event.stamp event.mark)
     (subst (λ m. AreAccepted slot m (run_slot b slot (host_after_event h operator event) operator events)) (sym (event_follows b slot h operator event))
-    (run_accepted b slot (host_after_event h operator event) operator events))
+    (run_accepted b slot (host_after_event h operator event) operator events)))
 
 pub traces_are_accepted : {F : Type 0} → TracesAreAccepted F
 traces_are_accepted h operator b slot events =

@@ -22,7 +22,8 @@ use Rattle.pawn_book.specs.HostStep.{Host, host_after, host_step, within_limit, 
 use Rattle.pawn_book.specs.Keeping.{pledges_of}
 use Rattle.pawn_book.specs.Laws.{book_run}
 use Rattle.pawn_book.specs.Runs.{Mark, read_as, no_memory, no_store, Event, host_after_event, host_after_mark, run_host, is_settled, request_in}
-use Rattle.pawn_book.specs.Traces.{book_trace, enters, is_live_in, slot_on, request_on, run_slot, slot_events, slot_of, slot_trace, within_slot}
+use Rattle.pawn_book.specs.Traces.{book_trace, enters, is_live_in, slot_events, slot_of, slot_trace, within_slot}
+use Rattle.pawn_book.proofs.SlotMoments.{book_trace_step, request_on, run_slot, slot_on, slot_step}
 use Rattle.pawn_book.specs.Changes.{numbered_pledges}
 use Rattle.pawn_book.specs.Machines.{is_in, is_slots, no_pledge, solo, solo_from, solo_reply}
 use Rattle.pawn_book.specs.Slots.{BearersJoin, BooksAnswerAlone, EqualTracesAnswerAlike, OtherBooksStay, SlotsAnswerAlone, SlotsAreHeld, joins}
@@ -100,7 +101,8 @@ run_follows : {F : Type 0} (b : ℕ) (slot : List Receipt) (h : Host) (operator 
     → solo_from slot (slot_of slot (get h.books b)) (run_slot b slot h operator events) ≡ slot_of slot (get (run_host h operator events).books b)
 run_follows b slot h operator [] = refl
 run_follows b slot h operator (event ∷ events) =
-    solo_from-append slot (slot_of slot (get h.books b)) (slot_on b slot h operator event.stamp (request_in event.mark)) (run_slot b slot (host_after_event h operator event) operator events)
+    ap (solo_from slot (slot_of slot (get h.books b))) (slot_step b slot h operator event events)
+    ∙ solo_from-append slot (slot_of slot (get h.books b)) (slot_on b slot h operator event.stamp (request_in event.mark)) (run_slot b slot (host_after_event h operator event) operator events)
     ∙ ap (λ m. solo_from slot m (run_slot b slot (host_after_event h operator event) operator events)) (event_follows b slot h operator event)
     ∙ run_follows b slot (host_after_event h operator event) operator events
 
@@ -246,7 +248,8 @@ book_run-append book operator b (x ∷ xs) ys = book_run-append (book_after book
 book_is_alone : {F : Type 0} (h : Host) (operator b : ℕ) (events : List (Event F)) → book_run (get h.books b) operator b (book_trace b h operator events) ≡ get (run_host h operator events).books b
 book_is_alone h operator b [] = refl
 book_is_alone h operator b (event ∷ events) =
-    book_run-append (get h.books b) operator b (request_on b h operator event.stamp (request_in event.mark)) (book_trace b (host_after_event h operator event) operator events)
+    ap (book_run (get h.books b) operator b) (book_trace_step b h operator event events)
+    ∙ book_run-append (get h.books b) operator b (request_on b h operator event.stamp (request_in event.mark)) (book_trace b (host_after_event h operator event) operator events)
     ∙ ap (λ x. book_run x operator b (book_trace b (host_after_event h operator event) operator events)) (marked_alone h operator b event.stamp event.mark)
     ∙ book_is_alone (host_after_event h operator event) operator b events
 

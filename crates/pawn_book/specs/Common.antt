@@ -16,4 +16,4 @@ pub use Rattle.pawn_book.specs.HostStep.{Host, host_step}
 pub use Rattle.pawn_book.specs.Changes.{numbered_pledges, touched_pledges}
 pub use Rattle.pawn_book.specs.Keeping.{pledges_of}
 pub use Rattle.pawn_book.specs.Laws.{book_run, command_of}
-pub use Rattle.pawn_book.specs.Runs.{Event, host_after_event, is_settled, request_in}
+pub use Rattle.pawn_book.specs.Runs.{Event, Moment, is_settled, moments}

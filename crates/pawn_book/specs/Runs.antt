@@ -1,5 +1,5 @@
 -- Runs: requests one after the other, each with how it was answered.
-use Rattle.std.specs.Prelude.{ℕ, List, [], ◌∷◌, Bool, true, false, Option, None, Some, Result, Ok, Err}
+use Rattle.std.specs.Prelude.{ℕ, List, [], ◌∷◌, ◌++◌, Bool, true, false, Option, None, Some, Result, Ok, Err}
 use Rattle.pawn_pledge.specs.declared.command.Stamp.{Stamp}
 use Rattle.pawn_book.specs.declared.request.Request.{Request}
 use Rattle.pawn_book.specs.declared.refusal.Refusal.{Refusal}
@@ -59,6 +59,22 @@ run_host h operator (event ∷ events) = run_host (host_after_event h operator e
 abbrev pub run_replies : {F : Type 0} → Host → ℕ → List (Event F) → List (Said F)
 run_replies h operator [] = []
 run_replies h operator (event ∷ events) = event_reply h operator event ∷ run_replies (host_after_event h operator event) operator events
+
+-- a request of a run, with its stamp and the host before it
+pub record Moment : Type 0 where
+  pub host : Host
+  pub stamp : Stamp
+  pub request : Request
+
+abbrev pub moment_of : Host → Stamp → Option Request → List Moment
+moment_of h stamp None = []
+moment_of h stamp (Some request) = record { host = h; stamp = stamp; request = request } ∷ []
+
+-- the requests of a run, in order
+abbrev pub moments : {F : Type 0} → Host → ℕ → List (Event F) → List Moment
+moments h operator [] = []
+moments h operator (event ∷ events) =
+    moment_of h event.stamp (request_in event.mark) ++ moments (host_after_event h operator event) operator events
 
 -- settled replies
 

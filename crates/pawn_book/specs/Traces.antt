@@ -1,20 +1,19 @@
 -- What a run of requests leaves of one book, and of a slot: a list of receipts of one book.
-use Rattle.pawn_book.specs.Common.{ℕ, List, [], ◌∷◌, ◌++◌, ◌==◌, Bool, ◌&&◌, Option, None, Some, is_some, if◌then◌else◌, list_any, flat_map}
-use Rattle.pawn_book.specs.Common.{get, Stamp, Command, Receipt, PledgeValue, Request, Caller, BookValue, Outcome, Makes, out_of}
-use Rattle.pawn_book.specs.Common.{is_live, pledge_in, Host, host_step, numbered_pledges, touched_pledges, pledges_of, command_of}
-use Rattle.pawn_book.specs.Common.{Event, host_after_event, is_settled, request_in}
+use Rattle.pawn_book.specs.Common.{ℕ, List, [], ◌∷◌, ◌++◌, ◌==◌, Bool, ◌&&◌, Option, None, Some, is_some, if◌then◌else◌, list_any, flat_map, get}
+use Rattle.pawn_book.specs.Common.{Stamp, Command, Receipt, PledgeValue, Caller, BookValue, Outcome, Makes, out_of, is_live, pledge_in, Host, host_step}
+use Rattle.pawn_book.specs.Common.{numbered_pledges, touched_pledges, pledges_of, command_of, Event, Moment, is_settled, moments}
 
--- a request on book b whose reply is settled
-abbrev pub request_on : ℕ → Host → ℕ → Stamp → Option Request → List (Stamp × Caller)
-request_on b h operator stamp None = []
-request_on b h operator stamp (Some request) =
-    if (request.book == b) && is_settled (out_of (host_step h operator stamp request)) then (stamp, request.caller) ∷ [] else []
+-- what comes of a request on its own host
+abbrev pub outcome_of : ℕ → Moment → Outcome
+outcome_of operator m = host_step m.host operator m.stamp m.request
+
+-- a request on book b, if its reply is settled
+abbrev pub asked_of : ℕ → ℕ → Moment → List (Stamp × Caller)
+asked_of b operator m = if (m.request.book == b) && is_settled (out_of (outcome_of operator m)) then (m.stamp, m.request.caller) ∷ [] else []
 
 -- a book's trace: the requests of a run on book b whose replies are settled, in order
 abbrev pub book_trace : {F : Type 0} → ℕ → Host → ℕ → List (Event F) → List (Stamp × Caller)
-book_trace b h operator [] = []
-book_trace b h operator (event ∷ events) =
-    request_on b h operator event.stamp (request_in event.mark) ++ book_trace b (host_after_event h operator event) operator events
+book_trace b h operator events = flat_map (asked_of b operator) (moments h operator events)
 
 -- what happens to a slot: a pledge comes in, as it is when a receipt of the slot becomes its live one; a command changes one that is in
 pub data SlotEvent : Type 0 where
@@ -54,18 +53,10 @@ slot_events slot before stamp caller (Makes change reply) = flat_map (touches sl
 slot_events slot before stamp caller other = []
 
 -- what a request on book b is to the slot
-abbrev pub slot_on : ℕ → List Receipt → Host → ℕ → Stamp → Option Request → List SlotEvent
-slot_on b slot h operator stamp None = []
-slot_on b slot h operator stamp (Some request) =
-    if request.book == b then slot_events slot (get h.books b) stamp request.caller (host_step h operator stamp request) else []
-
--- what happens to the slot in a run
-abbrev pub run_slot : {F : Type 0} → ℕ → List Receipt → Host → ℕ → List (Event F) → List SlotEvent
-run_slot b slot h operator [] = []
-run_slot b slot h operator (event ∷ events) =
-    slot_on b slot h operator event.stamp (request_in event.mark) ++ run_slot b slot (host_after_event h operator event) operator events
+abbrev pub seen_by : ℕ → List Receipt → ℕ → Moment → List SlotEvent
+seen_by b slot operator m = if m.request.book == b then slot_events slot (get m.host.books b) m.stamp m.request.caller (outcome_of operator m) else []
 
 -- a slot's trace: what is in it when the run begins, by number, and then what happens to it
 abbrev pub slot_trace : {F : Type 0} → ℕ → List Receipt → Host → ℕ → List (Event F) → List SlotEvent
 slot_trace b slot h operator events =
-    flat_map (enters slot) (numbered_pledges 1 (pledges_of (get h.books b))) ++ run_slot b slot h operator events
+    flat_map (enters slot) (numbered_pledges 1 (pledges_of (get h.books b))) ++ flat_map (seen_by b slot operator) (moments h operator events)
