@@ -1,0 +1,5 @@
+pub mod Columns
+pub mod Fault
+pub mod Rows
+pub mod Order
+pub mod Reading
