@@ -5,6 +5,8 @@ mod fault;
 mod order;
 mod reading;
 mod row;
+mod words;
+mod writing;
 
 pub use fault::{Cause, CsvFault};
 pub use pawn_book::{
