@@ -4,3 +4,4 @@ pub mod Rows
 pub mod Order
 pub mod Reading
 pub mod Sent
+pub mod Exports

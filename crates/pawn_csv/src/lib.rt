@@ -1,6 +1,7 @@
 //! A book's text: its rows as records of comma-separated columns.
 #![tactic(auto)]
 
+mod exporting;
 mod fault;
 mod order;
 mod reading;
@@ -8,6 +9,7 @@ mod row;
 mod words;
 mod writing;
 
+pub use exporting::{ExportFault, RowWriter};
 pub use fault::{Cause, CsvFault};
 pub use pawn_book::{
     BookRows, Booking, Day, Entry, Extension, Issued, Opening, Rates, ReplayableRows,
