@@ -32,7 +32,7 @@ use Rattle.pawn_book.specs.declared.change.Change.TheVariants.{AddTerms, PutPled
 use Rattle.pawn_book.specs.BookStep.{BookValue, Told, Refuses, Says, are_same_rates, first_secret, is_live, only_live, book_step, changed_book, filled_book, import_rows, make_book, first_receipt, book_head, is_same_end, is_same_book, is_same_flag, is_same_kind, is_same_opening, made_book, newest, next_terms, pledge_from, put_from, put_terms, take_pledge, with_reference, under_terms}
 use Rattle.pawn_book.specs.Rows.{is_same_text, terms_at}
 use Rattle.pawn_book.specs.declared.request.Caller.TheVariants.{Operator, Broker, Bearer}
-use Rattle.pawn_book.specs.declared.request.BrokerRequest.TheVariants.{PutTerms, TakePledge, OnPledge, Import, Show, SheetOf}
+use Rattle.pawn_book.specs.declared.request.BrokerRequest.TheVariants.{PutTerms, TakePledge, OnPledge, Import, Show, SheetOf, Export}
 use Rattle.pawn_book.specs.Laws.{Asks, ChangesDiffer, IsMaking, RepeatsActOnce, book_run}
 use Rattle.pawn_book.proofs.Sounds.{absurd_none, each_at, some_is}
 use Rattle.pawn_book.specs.Changes.{Continues}
@@ -162,6 +162,7 @@ asks_not_making (Broker key (OnPledge m own)) n command asks making = making
 asks_not_making (Broker key (Import importing rows)) n command asks making = asks
 asks_not_making (Broker key (Show m)) n command asks making = asks
 asks_not_making (Broker key (SheetOf day)) n command asks making = asks
+asks_not_making (Broker key Export) n command asks making = asks
 asks_not_making (Bearer asked) n command asks making = making
 
 -- a request that made a change is told the same again, and makes none

@@ -11,7 +11,7 @@ use Rattle.pawn_pledge.specs.declared.command.Done.{Done}
 use Rattle.pawn_pledge.specs.declared.receipt.Receipt.{Receipt}
 use Rattle.pawn_book.specs.declared.request.Caller.{Caller}
 use Rattle.pawn_book.specs.declared.request.Caller.TheVariants.{Operator, Broker, Bearer}
-use Rattle.pawn_book.specs.declared.request.BrokerRequest.TheVariants.{PutTerms, TakePledge, OnPledge, Import, Show, SheetOf}
+use Rattle.pawn_book.specs.declared.request.BrokerRequest.TheVariants.{PutTerms, TakePledge, OnPledge, Import, Show, SheetOf, Export}
 use Rattle.pawn_book.specs.declared.request.BearerRequest.TheVariants.{Present, OnPledge as OnReceipt}
 use Rattle.pawn_book.specs.declared.request.NewBook.{NewBook}
 use Rattle.pawn_book.specs.declared.request.NewTerms.{NewTerms}
@@ -169,6 +169,8 @@ made_by (Some book) operator b stamp (Broker key (Import importing rows)) change
 made_by (Some book) operator b stamp (Broker key (Show n)) change reply is =
     let passed = if_makes (book.key == key) _ _ change reply is in shown_makes stamp (pledge_from 1 book.pledges n) change reply passed.1
 made_by (Some book) operator b stamp (Broker key (SheetOf day)) change reply is =
+    let passed = if_makes (book.key == key) _ _ change reply is in cc passed.1
+made_by (Some book) operator b stamp (Broker key Export) change reply is =
     let passed = if_makes (book.key == key) _ _ change reply is in cc passed.1
 made_by None operator b stamp (Bearer (OnReceipt r command)) change reply is = cc is
 made_by (Some book) operator b stamp (Bearer (OnReceipt r command)) change reply is =

@@ -13,7 +13,7 @@ use Rattle.pawn_book.specs.declared.change.Change.{Change}
 use Rattle.pawn_book.specs.declared.refusal.Refusal.TheVariants.{NoSuchBook}
 use Rattle.pawn_book.specs.declared.reply.Reply.{Reply}
 use Rattle.pawn_book.specs.declared.reply.Reply.TheVariants.{Commanded}
-use Rattle.pawn_book.specs.declared.request.BrokerRequest.TheVariants.{PutTerms, TakePledge, OnPledge, Import, Show, SheetOf}
+use Rattle.pawn_book.specs.declared.request.BrokerRequest.TheVariants.{PutTerms, TakePledge, OnPledge, Import, Show, SheetOf, Export}
 use Rattle.pawn_book.specs.declared.request.BearerRequest.TheVariants.{Present, OnPledge as OnReceipt}
 use Rattle.pawn_book.specs.declared.request.Caller.{Caller}
 use Rattle.pawn_book.specs.declared.request.Caller.TheVariants.{Operator, Broker, Bearer}
@@ -32,6 +32,7 @@ did_on book operator b stamp (Broker key (TakePledge opening)) n command change 
 did_on book operator b stamp (Broker key (Import importing rows)) n command change reply asks is = absurd asks
 did_on book operator b stamp (Broker key (Show m)) n command change reply asks is = absurd asks
 did_on book operator b stamp (Broker key (SheetOf day)) n command change reply asks is = absurd asks
+did_on book operator b stamp (Broker key Export) n command change reply asks is = absurd asks
 did_on book operator b stamp (Broker key (OnPledge m own)) n command change reply asks is =
     let passed = if_makes (book.key == key) _ _ change reply is in
     let did = number_made book b m stamp own (pledge_from 1 book.pledges m) change reply refl passed.1 in
@@ -51,6 +52,7 @@ told_to book operator b stamp (Broker key (TakePledge opening)) n command p done
 told_to book operator b stamp (Broker key (Import importing rows)) n command p done asks passes at step = absurd asks
 told_to book operator b stamp (Broker key (Show m)) n command p done asks passes at step = absurd asks
 told_to book operator b stamp (Broker key (SheetOf day)) n command p done asks passes at step = absurd asks
+told_to book operator b stamp (Broker key Export) n command p done asks passes at step = absurd asks
 told_to book operator b stamp (Broker key (OnPledge m own)) n command p done asks passes at step =
     let holds : book.key ≡ key = ap (λ (k : BookValue). k.key) (some_is book passes.0 passes.1) ∙ passes.2 in
     let opens : (book.key == key) ≡ true = grind (arith, nat_tests, holds) in

@@ -11,7 +11,7 @@ use Rattle.pawn_book.specs.declared.change.Change.{Change}
 use Rattle.pawn_book.specs.declared.change.Change.TheVariants.{PutPledge, ImportBook}
 use Rattle.pawn_book.specs.declared.reply.Reply.{Reply}
 use Rattle.pawn_book.specs.declared.request.BearerRequest.TheVariants.{Present, OnPledge as OnReceipt}
-use Rattle.pawn_book.specs.declared.request.BrokerRequest.TheVariants.{PutTerms, TakePledge, OnPledge, Import, Show, SheetOf}
+use Rattle.pawn_book.specs.declared.request.BrokerRequest.TheVariants.{PutTerms, TakePledge, OnPledge, Import, Show, SheetOf, Export}
 use Rattle.pawn_book.specs.declared.request.Caller.{Caller}
 use Rattle.pawn_book.specs.declared.request.Caller.TheVariants.{Operator, Broker, Bearer}
 use Rattle.pawn_book.specs.BookStep.{BookValue, Outcome, Refuses, Says, Makes, book_after, book_step, book_head, pledge_from}
@@ -100,6 +100,7 @@ does_asked (Broker key (OnPledge m own)) n stamp command asks = ap (λ (c : Comm
 does_asked (Broker key (Import importing rows)) n stamp command asks = absurd asks
 does_asked (Broker key (Show m)) n stamp command asks = absurd asks
 does_asked (Broker key (SheetOf day)) n stamp command asks = absurd asks
+does_asked (Broker key Export) n stamp command asks = absurd asks
 does_asked (Bearer (Present receipts)) n stamp command asks = absurd asks
 does_asked (Bearer (OnReceipt r own)) n stamp command asks = ap (λ (c : Command). Did n stamp c ∷ []) asks.1
 

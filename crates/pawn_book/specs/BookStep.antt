@@ -25,7 +25,7 @@ use Rattle.pawn_book.specs.declared.request.NewTerms.{NewTerms}
 use Rattle.pawn_book.specs.declared.request.Caller.{Caller}
 use Rattle.pawn_book.specs.declared.request.Caller.TheVariants.{Operator, Broker, Bearer}
 use Rattle.pawn_book.specs.declared.request.BrokerRequest.{BrokerRequest}
-use Rattle.pawn_book.specs.declared.request.BrokerRequest.TheVariants.{PutTerms, TakePledge, OnPledge, Import, Show, SheetOf}
+use Rattle.pawn_book.specs.declared.request.BrokerRequest.TheVariants.{PutTerms, TakePledge, OnPledge, Import, Show, SheetOf, Export}
 use Rattle.pawn_book.specs.declared.request.BearerRequest.{BearerRequest}
 use Rattle.pawn_book.specs.declared.request.BearerRequest.TheVariants.{Present, OnPledge as OnReceipt}
 use Rattle.pawn_book.specs.declared.change.Imported.{Imported}
@@ -59,6 +59,8 @@ pub data Out : Type 0 where
   Shown : (day : ℕ) (pledges : List (Option PledgeValue)) → Out
   -- the sheet of a day, in a book that confirms so many bookings of a window
   Listed : (day : ℕ) (capacity : ℕ) (items : List SheetItem) → Out
+  -- a book's terms and pledges
+  Exported : (rows : BookRows) → Out
 
 -- what comes of a request
 pub data Outcome : Type 0 where
@@ -287,6 +289,14 @@ import_rows head b key rows (Some imported) = if imported.key == key then Says (
 abbrev pub show_sheet : BookValue → ℕ → Outcome
 show_sheet book day = Says (Listed day book.capacity (day_sheet book.pledges day))
 
+-- a book's terms and pledges
+abbrev pub rows_of_book : BookValue → BookRows
+rows_of_book book = record { terms = book.terms; pledges = book.pledges }
+
+-- Export: the rows of the book
+abbrev pub export_rows : BookValue → Outcome
+export_rows book = Says (Exported (rows_of_book book))
+
 -- what a broker asks of the book
 abbrev pub broker_step : BookValue → ℕ → Stamp → BrokerRequest → Outcome
 broker_step book b stamp (PutTerms new) = put_terms book b new (terms_at book.terms new.version)
@@ -295,6 +305,7 @@ broker_step book b stamp (OnPledge n command) = broker_commands book b n stamp c
 broker_step book b stamp (Import key rows) = import_rows (book_head book) b key rows book.imported
 broker_step book b stamp (Show n) = show_pledge stamp (pledge_from 1 book.pledges n)
 broker_step book b stamp (SheetOf day) = show_sheet book day
+broker_step book b stamp Export = export_rows book
 
 -- for a caller with the book's key
 abbrev pub gate_step : Option BookValue → ℕ → (BookValue → Outcome) → Outcome

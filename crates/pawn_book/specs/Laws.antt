@@ -38,6 +38,7 @@ IsSetUp (asked.OnPledge n command) = ⊥
 IsSetUp (asked.Import key rows) = Unit {0}
 IsSetUp (asked.Show n) = ⊥
 IsSetUp (asked.SheetOf day) = ⊥
+IsSetUp asked.Export = ⊥
 
 abbrev pub IsMaking : Caller → Type 0
 IsMaking (Operator key new) = Unit {0}
@@ -59,6 +60,7 @@ broker_command (asked.OnPledge n command) = Some command
 broker_command (asked.Import key rows) = None
 broker_command (asked.Show n) = None
 broker_command (asked.SheetOf day) = None
+broker_command asked.Export = None
 
 abbrev pub bearer_command : BearerRequest → Option Command
 bearer_command (presented.Present receipts) = None
@@ -77,6 +79,7 @@ BrokerAsks (asked.OnPledge m own) n command = (m ≡ n) × (own ≡ command)
 BrokerAsks (asked.Import key rows) n command = ⊥
 BrokerAsks (asked.Show m) n command = ⊥
 BrokerAsks (asked.SheetOf day) n command = ⊥
+BrokerAsks asked.Export n command = ⊥
 
 abbrev pub BearerAsks : BearerRequest → ℕ → Command → Type 0
 BearerAsks (presented.Present receipts) n command = ⊥

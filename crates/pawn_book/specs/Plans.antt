@@ -93,6 +93,7 @@ IsBrokerWrite (broker.OnPledge number command) = Unit {0}
 IsBrokerWrite (broker.Import key rows) = Unit {0}
 IsBrokerWrite (broker.Show number) = ⊥
 IsBrokerWrite (broker.SheetOf day) = ⊥
+IsBrokerWrite broker.Export = ⊥
 
 abbrev pub IsBearerWrite : BearerRequest → Type 0
 IsBearerWrite (bearer.Present receipts) = ⊥

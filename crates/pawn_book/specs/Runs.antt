@@ -4,7 +4,7 @@ use Rattle.pawn_pledge.specs.declared.command.Stamp.{Stamp}
 use Rattle.pawn_book.specs.declared.request.Request.{Request}
 use Rattle.pawn_book.specs.declared.refusal.Refusal.{Refusal}
 use Rattle.pawn_book.specs.declared.refusal.Refusal.TheVariants.{Full, Memory, Store}
-use Rattle.pawn_book.specs.BookStep.{Out, Told, Denied, Shown, Listed, out_of}
+use Rattle.pawn_book.specs.BookStep.{Out, Told, Denied, Shown, Listed, Exported, out_of}
 use Rattle.pawn_book.specs.HostStep.{Host, host_step, host_after}
 
 -- how an item was answered: as what its bytes read as, a request or a fault; or by want of memory, or a fault of the store
@@ -90,3 +90,4 @@ is_settled (Told reply) = true
 is_settled (Denied why) = is_by_rules why
 is_settled (Shown day pledges) = true
 is_settled (Listed day capacity items) = true
+is_settled (Exported rows) = true

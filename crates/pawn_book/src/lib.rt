@@ -38,7 +38,9 @@ pub use laws::{
     books_answer_alone, changes_differ, entries_act_once, extensions_act_once, repeats_act_once,
     slots_answer_alone, slots_are_held, slots_in_passes, spent_receipts_are_unknown,
 };
-pub use limits::{MOST_BOOKINGS, MOST_NAME_BYTES, MOST_RECEIPTS, MOST_ROWS};
+pub use limits::{
+    MOST_BOOKINGS, MOST_NAME_BYTES, MOST_PLEDGES, MOST_RECEIPTS, MOST_ROWS, MOST_TERMS,
+};
 pub use list::ListKeep;
 pub use pawn_pledge::{
     Agreement, Applied, Article, BadDay, BadReceipt, BearerCommand, Booking, BookingState, Brief,

@@ -12,8 +12,8 @@ pub const MOST_RECEIPTS: usize = 32;
 /// At most as many rows are kept.
 pub const MOST_ROWS: u64 = 10_000_000;
 
-// As many versions of terms a book has at most.
-pub(crate) const MOST_TERMS: u64 = 99;
+/// As many versions of terms a book has at most.
+pub const MOST_TERMS: u64 = 99;
 
-// As many pledges a book has at most.
-pub(crate) const MOST_PLEDGES: u64 = 1_000_000;
+/// As many pledges a book has at most.
+pub const MOST_PLEDGES: u64 = 1_000_000;

@@ -53,7 +53,9 @@ pub fn plan<K: Keep>(
                     plan_number(keep, request.book, &head, *number, stamp, &command)
                 }
                 BrokerRequest::Import { key, rows } => plan_import(request.book, &head, *key, rows),
-                BrokerRequest::Show(_) | BrokerRequest::SheetOf(_) => unreachable!(),
+                BrokerRequest::Show(_) | BrokerRequest::SheetOf(_) | BrokerRequest::Export => {
+                    unreachable!()
+                }
             }
         }
         Caller::Bearer(asked) => match asked {

@@ -98,6 +98,8 @@ pub enum BrokerRequest {
     Show(Number),
     /// To see the sheet of this day.
     SheetOf(RequestDay),
+    /// To see the rows of the book: its terms and its pledges.
+    Export,
 }
 
 impl BrokerRequest {
@@ -112,6 +114,7 @@ impl BrokerRequest {
             BrokerRequest::Import { .. } => true,
             BrokerRequest::Show(_) => false,
             BrokerRequest::SheetOf(_) => false,
+            BrokerRequest::Export => false,
         }
     }
 }

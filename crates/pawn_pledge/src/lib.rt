@@ -21,7 +21,9 @@ pub use command::{Applied, BearerCommand, BrokerCommand, Command, Decision, Done
 pub use laws::{
     laws_of_briefs, laws_of_lists, laws_of_receipts, laws_of_repeats, laws_of_steps, laws_of_texts,
 };
-pub use limits::{LAST_WINDOW, MOST_ARTICLE_BYTES, MOST_REFERENCE_BYTES};
+pub use limits::{
+    LAST_WINDOW, MOST_ARTICLE_BYTES, MOST_EXTENSIONS, MOST_REFERENCE_BYTES, MOST_SECRETS,
+};
 pub use number::Number;
 pub use parts::Parts;
 pub use pawn_debt::{

@@ -12,11 +12,11 @@ pub const MOST_ARTICLE_BYTES: usize = 80;
 // A credit up to this is small, in pence.
 pub(crate) const SMALL_CREDIT: u64 = 7_500;
 
-// The opening's secret, and as many as may be declared.
-pub(crate) const MOST_SECRETS: usize = 101;
+/// As many secrets a pledge has at most: the opening's, and those that may be declared.
+pub const MOST_SECRETS: usize = 101;
 
-// As many extensions a pledge has at most.
-pub(crate) const MOST_EXTENSIONS: usize = 99;
+/// As many extensions a pledge has at most.
+pub const MOST_EXTENSIONS: usize = 99;
 
 /// The last of a day's windows, from 0.
 pub const LAST_WINDOW: u64 = 15;

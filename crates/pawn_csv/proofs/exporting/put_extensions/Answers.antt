@@ -1,0 +1,13 @@
+use Rattle.std.proofs.Common.{refl, rules}
+use Rattle.std.specs.FinMap.{get}
+use Rattle.pawn_book.specs.Visits.{call_end}
+use Rattle.pawn_book.proofs.Reading.{reads_as}
+use Rattle.pawn_csv.proofs.ListLemmas.{extensions_share}
+use Rattle.pawn_csv.proofs.exporting.put_extensions.Goals as goal
+
+pub returns-clause-shares : goal.returns-clause-shares
+returns-clause-shares g c =
+    let (given, flow, handed, reads) = c.extensions.ensures.reads in
+    reads_as reads (λ h share sound.
+    extensions_share g.W.Write.contents h c.args.book c.args.number _ c.extensions.new.visitor given flow (call_end c.extensions.result) sound
+    (search rules) refl handed share)

@@ -1,0 +1,161 @@
+-- The order of rows: what each row does to what was read so far.
+use Rattle.std.specs.Prelude.{ℕ, ◌+◌, nat_le, nat_lt, Bool, true, false, ◌==◌, ◌&&◌, ◌||◌, not, if◌then◌else◌, List, [], ◌∷◌, ◌++◌, length, Option, None, Some, Result, Ok, Err}
+use Rattle.pawn_terms.specs.declared.terms.Rates.{Rates}
+use Rattle.pawn_debt.specs.Limits.{most_entries}
+use Rattle.pawn_debt.specs.declared.entry.Entry.{Entry}
+use Rattle.pawn_pledge.specs.Limits.{most_extensions, most_secrets}
+use Rattle.pawn_pledge.specs.declared.record.Booking.{Booking}
+use Rattle.pawn_pledge.specs.declared.record.Extension.{Extension}
+use Rattle.pawn_pledge.specs.declared.record.Issued.{Issued}
+use Rattle.pawn_book.specs.Limits.{most_pledges, most_terms}
+use Rattle.pawn_csv.specs.declared.fault.Cause.{Cause}
+use Rattle.pawn_csv.specs.declared.fault.Cause.TheVariants as cause
+use Rattle.pawn_csv.specs.declared.order.RawPledge.{RawPledge}
+use Rattle.pawn_csv.specs.declared.row.PledgeColumns.{PledgeColumns}
+use Rattle.pawn_csv.specs.declared.row.Row.{Row}
+use Rattle.pawn_csv.specs.declared.row.Version.{Version}
+use Rattle.pawn_csv.specs.declared.row.Version.TheVariants as version
+
+-- a book of which some rows were read: what its first row says, its terms, the pledges whose rows are over, and the one at hand
+pub record Begun : Type 0 where
+  pub version : Version
+  pub terms_due : ℕ
+  pub pledges_due : ℕ
+  pub terms : List Rates
+  pub pledges : List RawPledge
+  pub at_hand : Option RawPledge
+
+-- an answer where a test holds, else a row where it can't stand
+abbrev pub in_order : {A : Type 0} → Bool → A → Result A Cause
+in_order test answer = if test then Ok answer else Err cause.Order
+
+-- a list that can't grow, before anything else of its row
+abbrev pub unless_full : {A : Type 0} → ℕ → ℕ → Result A Cause → Result A Cause
+unless_full count most answer = if nat_le most count then Err cause.TooMany else answer
+
+-- a pledge whose own row was read
+abbrev pub raw_pledge : PledgeColumns → RawPledge
+raw_pledge columns = record { columns = columns; secrets = []; entries = []; extensions = []; booking = None }
+
+-- the pledge at hand, as a list
+abbrev pub hand : Option RawPledge → List RawPledge
+hand None = []
+hand (Some p) = p ∷ []
+
+-- the pledges so far
+abbrev pub pledges_of : Begun → List RawPledge
+pledges_of b = b.pledges ++ hand b.at_hand
+
+abbrev pub is_none : {A : Type 0} → Option A → Bool
+is_none None = true
+is_none (Some x) = false
+
+abbrev pub is_nil : {A : Type 0} → List A → Bool
+is_nil [] = true
+is_nil (x ∷ xs) = false
+
+-- a pledge has the secret of its opening
+abbrev pub has_secret : RawPledge → Bool
+has_secret p = not (is_nil p.secrets)
+
+-- the rows of the pledge at hand may be over
+abbrev pub may_end : Option RawPledge → Bool
+may_end None = true
+may_end (Some p) = has_secret p
+
+-- the first row comes once
+abbrev pub place_first : Option Begun → Version → ℕ → ℕ → Result Begun Cause
+place_first None version terms pledges =
+    Ok (record { version = version; terms_due = terms; pledges_due = pledges; terms = []; pledges = []; at_hand = None })
+place_first (Some b) version terms pledges = Err cause.Order
+
+abbrev pub place_book : Option Begun → Version → ℕ → ℕ → Result Begun Cause
+place_book s version terms pledges =
+    if nat_lt most_terms terms || nat_lt most_pledges pledges then Err cause.TooMany else place_first s version terms pledges
+
+-- the next version of terms, as long as some are due; the pledges come after all of them
+abbrev pub place_terms : Begun → ℕ → Rates → Result Begun Cause
+place_terms b version rates =
+    in_order ((version == length b.terms + 1) && nat_le version b.terms_due && is_nil (pledges_of b))
+    (record b { terms = b.terms ++ rates ∷ [] })
+
+-- the next pledge, as long as some are due, where the one before it may end
+abbrev pub place_pledge : Begun → PledgeColumns → Result Begun Cause
+place_pledge b columns =
+    in_order ((length b.terms == b.terms_due) && may_end b.at_hand && (columns.number == length (pledges_of b) + 1) && nat_le columns.number b.pledges_due)
+    (record b { pledges = pledges_of b; at_hand = Some (raw_pledge columns) })
+
+-- the next secret, before the other lists
+abbrev pub place_secret : RawPledge → ℕ → Issued → Result RawPledge Cause
+place_secret p place issued =
+    unless_full (length p.secrets) most_secrets
+    (in_order ((place == length p.secrets + 1) && is_nil p.entries && is_nil p.extensions && is_none p.booking)
+    (record p { secrets = p.secrets ++ issued ∷ [] }))
+
+-- the next entry, after the secrets
+abbrev pub place_entry : RawPledge → Entry → Result RawPledge Cause
+place_entry p entry =
+    unless_full (length p.entries) most_entries
+    (in_order ((entry.seq == length p.entries + 1) && has_secret p && is_nil p.extensions && is_none p.booking)
+    (record p { entries = p.entries ++ entry ∷ [] }))
+
+-- the next extension, after the entries
+abbrev pub place_extension : RawPledge → ℕ → Extension → Result RawPledge Cause
+place_extension p place extension =
+    unless_full (length p.extensions) most_extensions
+    (in_order ((place == length p.extensions + 1) && has_secret p && is_none p.booking)
+    (record p { extensions = p.extensions ++ extension ∷ [] }))
+
+-- the booking, last
+abbrev pub place_booking : RawPledge → Booking → Result RawPledge Cause
+place_booking p booking = in_order (has_secret p && is_none p.booking) (record p { booking = Some booking })
+
+-- the pledge at hand, as it now is
+abbrev pub put_hand : Begun → Result RawPledge Cause → Result Begun Cause
+put_hand b (Ok p) = Ok (record b { at_hand = Some p })
+put_hand b (Err e) = Err e
+
+-- a row of the pledge at hand, and of no other
+abbrev pub on_hand : Begun → ℕ → Option RawPledge → (RawPledge → Result RawPledge Cause) → Result Begun Cause
+on_hand b number None place = Err cause.Order
+on_hand b number (Some p) place = if p.columns.number == number then put_hand b (place p) else Err cause.Order
+
+-- extensions, where the text's version knows them
+abbrev pub on_second : Version → Result Begun Cause → Result Begun Cause
+on_second version.One answer = Err cause.BadField
+on_second version.Two answer = answer
+
+-- a row after the first
+abbrev pub place_after : Begun → Row → Result Begun Cause
+place_after b (Row.Book version terms pledges) = place_book (Some b) version terms pledges
+place_after b (Row.Terms version rates) = place_terms b version rates
+place_after b (Row.Pledge columns) = place_pledge b columns
+place_after b (Row.Secret number place issued) = on_hand b number b.at_hand (λ p. place_secret p place issued)
+place_after b (Row.Entry number entry) = on_hand b number b.at_hand (λ p. place_entry p entry)
+place_after b (Row.Extension number place extension) =
+    on_second b.version (on_hand b number b.at_hand (λ p. place_extension p place extension))
+place_after b (Row.Booking number booking) = on_hand b number b.at_hand (λ p. place_booking p booking)
+
+-- a row where none was read
+abbrev pub place_before : Row → Result Begun Cause
+place_before (Row.Book version terms pledges) = place_book None version terms pledges
+place_before other = Err cause.Order
+
+-- what a row does
+abbrev pub place : Option Begun → Row → Result Begun Cause
+place None row = place_before row
+place (Some b) row = place_after b row
+
+-- rows in turn
+abbrev pub then_run : Result Begun Cause → (Option Begun → Result (Option Begun) Cause) → Result (Option Begun) Cause
+then_run (Ok b) more = more (Some b)
+then_run (Err e) more = Err e
+
+abbrev pub run : Option Begun → List Row → Result (Option Begun) Cause
+run s [] = Ok s
+run s (r ∷ rs) = then_run (place s r) (λ t. run t rs)
+
+-- all that the first row says is there, and the last pledge may end
+abbrev pub is_whole : Option Begun → Bool
+is_whole None = false
+is_whole (Some b) = (length b.terms == b.terms_due) && (length (pledges_of b) == b.pledges_due) && may_end b.at_hand

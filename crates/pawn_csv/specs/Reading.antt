@@ -1,0 +1,93 @@
+-- What a text holds, and why it holds no book.
+use Rattle.std.specs.Prelude.{◌≡◌, ◌≢◌, ◌⊎◌, ℕ, ◌+◌, nat_eq, Bool, true, false, List, [], ◌∷◌, length, map, Option, None, Some, Result, Ok, Err}
+use Rattle.csv.specs.Machine.{Read, next_record}
+use Rattle.csv.specs.Reading.{AreRecords, Reached, default_config}
+use Rattle.csv.specs.declared.parser.State.{State}
+use Rattle.csv.specs.declared.parser.State.TheVariants as st
+use Rattle.pawn_pledge.specs.Replayable.{Each}
+use Rattle.pawn_book.specs.Rows.{AreReplayable}
+use Rattle.pawn_book.specs.declared.rows.BookRows.{BookRows}
+use Rattle.pawn_csv.specs.declared.fault.Cause.{Cause}
+use Rattle.pawn_csv.specs.declared.fault.Cause.TheVariants as cause
+use Rattle.pawn_csv.specs.declared.row.Row.{Row}
+use Rattle.pawn_csv.specs.declared.row.Version.{Version}
+use Rattle.pawn_csv.specs.Order.{Begun, place, run, is_whole}
+use Rattle.pawn_csv.specs.Rows.{Fits, Knows, header, row_fields, rows_of, version_rows}
+
+-- a book that a text of this version can hold: it can have come about, and each column can be spelled
+abbrev pub IsHeldBy : Version → BookRows → Type 0
+IsHeldBy version k = AreReplayable k.terms k.pledges × Knows version k × Each Fits (rows_of version k)
+
+-- the records of this text are those of the book, in one of the versions
+abbrev pub IsTextOf : List ℕ → BookRows → Type 0
+IsTextOf text k =
+    (version : Version) × AreRecords default_config st.StartRecord text (version_rows version k) × IsHeldBy version k
+
+-- these columns spell this row
+abbrev pub IsSpelled : List (List ℕ) → Row → Type 0
+IsSpelled fields r = Fits r × (fields ≡ row_fields r)
+
+-- these columns spell no row
+abbrev pub IsNoRow : List (List ℕ) → Type 0
+IsNoRow fields = (r : Row) → IsSpelled fields r → ⊥
+
+-- the columns spell a row that is refused there
+abbrev pub IsRefused : List (List ℕ) → Option Begun → Cause → Type 0
+IsRefused fields old c = (r : Row) × IsSpelled fields r × (place old r ≡ Err c)
+
+-- why a record after the header is not taken
+abbrev pub RefusesRow : List (List ℕ) → Option Begun → Cause → Type 0
+RefusesRow fields old cause.Csv = length fields ≢ length header
+RefusesRow fields old cause.BadField = (length fields ≡ length header) × (IsNoRow fields ⊎ IsRefused fields old cause.BadField)
+RefusesRow fields old cause.TooMany = IsRefused fields old cause.TooMany
+RefusesRow fields old cause.Order = IsRefused fields old cause.Order
+RefusesRow fields old cause.Memory = Unit {0}
+RefusesRow fields old _ = ⊥
+
+-- what taking the next record does: the header is first, and then rows
+abbrev pub Taking : {U : Type 0} → Bool → List (List ℕ) → Option Begun → Result U Cause → Option Begun → Type 0
+Taking true fields old (Ok u) new = (fields ≡ header) × (new ≡ old)
+Taking true fields old (Err e) new = (fields ≢ header) × (e ≡ cause.Columns)
+Taking false fields old (Ok u) new = (r : Row) × (b : Begun) × IsSpelled fields r × (place old r ≡ Ok b) × (new ≡ Some b)
+Taking false fields old (Err e) new = RefusesRow fields old e
+
+-- these records were taken: the header, and these rows
+abbrev pub AreTaken : List (List (List ℕ)) → List Row → Option Begun → Type 0
+AreTaken [] rows s = (rows ≡ []) × (s ≡ None)
+AreTaken (h ∷ rs) rows s = (h ≡ header) × (rs ≡ map row_fields rows) × Each Fits rows × (run None rows ≡ Ok s)
+
+-- the rows are those of no book
+abbrev pub AreNoBook : List Row → Type 0
+AreNoBook rows = (version : Version) (k : BookRows) → IsHeldBy version k → rows ≡ rows_of version k → ⊥
+
+-- why the end of the records is refused: rows are wanting, or they make no book
+abbrev pub RefusesEnd : List Row → Option Begun → Cause → Type 0
+RefusesEnd rows s cause.Order = is_whole s ≡ false
+RefusesEnd rows s cause.NotReplayable = (is_whole s ≡ true) × AreNoBook rows
+RefusesEnd rows s cause.Memory = Unit {0}
+RefusesEnd rows s _ = ⊥
+
+-- a text without a record wants the header
+abbrev pub EndsAs : List (List (List ℕ)) → List Row → Option Begun → Cause → Type 0
+EndsAs [] rows s c = c ≡ cause.Columns
+EndsAs (h ∷ rs) rows s c = RefusesEnd rows s c
+
+-- each record before this one is taken, and this one, or the end, is refused for that cause
+pub record IsFirstFault (text : List ℕ) (c : Cause) (row : ℕ) : Type 0 where
+  pub before : List (List (List ℕ))
+  pub rows : List Row
+  pub state : State
+  pub rest : List ℕ
+  pub begun : Option Begun
+  pub reached : Reached default_config st.StartRecord text before state rest
+  pub taken : AreTaken before rows begun
+  pub place : length before + 1 ≡ row
+  pub why : ((p : Read) × (next_record default_config state [] [] rest ≡ Some p)
+      × Taking (nat_eq (length before) 0) p.0 begun (let r : Result (Unit {0}) Cause = Err c in r) begun)
+      ⊎ ((next_record default_config state [] [] rest ≡ None) × EndsAs before rows begun c)
+
+-- a fault of the memory or of the reader may come at any time; any other is the first of the text
+abbrev pub IsFaultOf : List ℕ → Cause → ℕ → Type 0
+IsFaultOf text cause.Memory row = Unit {0}
+IsFaultOf text cause.Read row = Unit {0}
+IsFaultOf text c row = IsFirstFault text c row

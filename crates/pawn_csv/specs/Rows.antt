@@ -1,0 +1,170 @@
+-- A book as rows of fifteen columns.
+use Rattle.std.specs.Prelude.{◌≡◌, ℕ, ◌+◌, ◌<◌, ◌^◌, List, [], ◌∷◌, ◌++◌, length, map, replicate, Option, Some, None, IfSome, codes, decimal}
+use Rattle.std.specs.List.{flat_map}
+use Rattle.std.specs.Str.{IsUtf8}
+use Rattle.csv.specs.Writing.{default_writer, row_text}
+use Rattle.pawn_terms.specs.Calendar.{day_text, IsStampDay}
+use Rattle.pawn_terms.specs.declared.terms.Rates.{Rates}
+use Rattle.pawn_debt.specs.Due.{credit_of}
+use Rattle.pawn_debt.specs.declared.entry.Entry.{Entry}
+use Rattle.pawn_pledge.specs.Pledge.{PledgeValue}
+use Rattle.pawn_pledge.specs.Replayable.{Each, IsOpening}
+use Rattle.pawn_pledge.specs.Secret.{secret_text}
+use Rattle.pawn_pledge.specs.declared.record.Booking.{Booking}
+use Rattle.pawn_pledge.specs.declared.record.Closing.{Closing}
+use Rattle.pawn_pledge.specs.declared.record.Closing.TheVariants as closed
+use Rattle.pawn_pledge.specs.declared.record.Extension.{Extension}
+use Rattle.pawn_pledge.specs.declared.record.Issued.{Issued}
+use Rattle.pawn_book.specs.Written.{IsWord}
+use Rattle.pawn_book.specs.declared.rows.BookRows.{BookRows}
+use Rattle.pawn_csv.specs.Columns.{version_text, yes_text, kind_text, closing_text, issue_text, sort_text, state_text, text_if_any}
+use Rattle.pawn_csv.specs.declared.row.ClosingWord.{ClosingWord}
+use Rattle.pawn_csv.specs.declared.row.ClosingWord.TheVariants as closing
+use Rattle.pawn_csv.specs.declared.row.PledgeColumns.{PledgeColumns}
+use Rattle.pawn_csv.specs.declared.row.Row.{Row}
+use Rattle.pawn_csv.specs.declared.row.Version.{Version}
+use Rattle.pawn_csv.specs.declared.row.Version.TheVariants as version
+
+-- the first row, of fifteen columns
+abbrev pub header : List (List ℕ)
+header =
+    codes "row" ∷ codes "c1" ∷ codes "c2" ∷ codes "c3" ∷ codes "c4" ∷ codes "c5" ∷ codes "c6" ∷ codes "c7" ∷ codes "c8"
+    ∷ codes "c9" ∷ codes "c10" ∷ codes "c11" ∷ codes "c12" ∷ codes "c13" ∷ codes "c14" ∷ []
+
+-- so many empty columns
+abbrev pub blank : ℕ → List (List ℕ)
+blank n = replicate n []
+
+abbrev pub pledge_fields : PledgeColumns → List (List ℕ)
+pledge_fields c =
+    codes "P" ∷ decimal c.number ∷ c.opening.reference ∷ c.opening.article
+    ∷ kind_text c.opening.kind ∷ decimal (credit_of c.opening.kind) ∷ day_text c.taken ∷ text_if_any day_text c.opening.agreed
+    ∷ yes_text c.opening.five_days ∷ decimal c.version ∷ yes_text c.held ∷ day_text c.last
+    ∷ closing_text c.closing ∷ text_if_any day_text c.closing_day ∷ text_if_any decimal c.amount ∷ []
+
+-- the columns of a row
+abbrev pub row_fields : Row → List (List ℕ)
+row_fields (Row.Book version terms pledges) = codes "B" ∷ version_text version ∷ decimal terms ∷ decimal pledges ∷ blank 11
+row_fields (Row.Terms version rates) =
+    codes "T" ∷ decimal version ∷ decimal rates.rate ∷ decimal rates.keep_before ∷ decimal rates.keep_after ∷ blank 10
+row_fields (Row.Pledge columns) = pledge_fields columns
+row_fields (Row.Secret number place i) =
+    codes "S" ∷ decimal number ∷ decimal place ∷ day_text i.day ∷ issue_text i.sort ∷ secret_text i.secret ∷ blank 9
+row_fields (Row.Entry number e) =
+    codes "E" ∷ decimal number ∷ decimal e.seq ∷ day_text e.day ∷ sort_text e.sort ∷ decimal e.pence ∷ blank 9
+row_fields (Row.Extension number place e) =
+    codes "X" ∷ decimal number ∷ decimal place ∷ day_text e.day ∷ day_text e.until ∷ blank 10
+row_fields (Row.Booking number b) =
+    codes "K" ∷ decimal number ∷ day_text b.day ∷ decimal b.window ∷ state_text b.state ∷ blank 10
+
+-- a number of at most twelve digits
+abbrev pub IsShort : ℕ → Type 0
+IsShort n = n < 10 ^ 12
+
+-- what the columns of a pledge's own row keep, each by itself
+pub record AreColumns (c : PledgeColumns) : Type 0 where
+  pub number : IsShort c.number
+  pub opening : IsOpening c.opening
+  pub reference : IsUtf8 c.opening.reference
+  pub article : IsUtf8 c.opening.article
+  pub credit : IsShort (credit_of c.opening.kind)
+  pub taken : IsStampDay c.taken
+  pub version : IsShort c.version
+  pub last : IsStampDay c.last
+  pub closing_day : IfSome c.closing_day IsStampDay
+  pub amount : IfSome c.amount IsShort
+
+-- what the columns of a row keep, each by itself
+abbrev pub Fits : Row → Type 0
+Fits (Row.Book version terms pledges) = IsShort terms × IsShort pledges
+Fits (Row.Terms version rates) = IsShort version × IsShort rates.rate × IsShort rates.keep_before × IsShort rates.keep_after
+Fits (Row.Pledge columns) = AreColumns columns
+Fits (Row.Secret number place i) = IsShort number × IsShort place × IsStampDay i.day × IsWord i.secret
+Fits (Row.Entry number e) = IsShort number × IsShort e.seq × IsStampDay e.day × IsShort e.pence
+Fits (Row.Extension number place e) = IsShort number × IsShort place × IsStampDay e.day × IsStampDay e.until
+Fits (Row.Booking number b) = IsShort number × IsStampDay b.day × IsShort b.window
+
+abbrev pub closing_word : Closing → ClosingWord
+closing_word closed.Open = closing.Open
+closing_word (closed.Redeemed day paid) = closing.Redeemed
+closing_word (closed.Sold day net) = closing.Sold
+
+abbrev pub closing_day : Closing → Option ℕ
+closing_day closed.Open = None
+closing_day (closed.Redeemed day paid) = Some day
+closing_day (closed.Sold day net) = Some day
+
+-- what was paid, or what a sale brought
+abbrev pub closing_amount : Closing → Option ℕ
+closing_amount closed.Open = None
+closing_amount (closed.Redeemed day paid) = Some paid
+closing_amount (closed.Sold day net) = Some net
+
+-- the columns of a pledge's own row
+abbrev pub columns_of : PledgeValue → PledgeColumns
+columns_of p = record {
+  number = p.agreement.number;
+  opening = p.agreement.opening;
+  taken = p.agreement.taken;
+  version = p.agreement.version;
+  held = p.standing.held;
+  last = p.standing.last;
+  closing = closing_word p.standing.closing;
+  closing_day = closing_day p.standing.closing;
+  amount = closing_amount p.standing.closing;
+}
+
+-- versions of terms from one on
+abbrev pub terms_rows : ℕ → List Rates → List Row
+terms_rows version [] = []
+terms_rows version (t ∷ ts) = Row.Terms version t ∷ terms_rows (version + 1) ts
+
+-- secrets of a pledge from a place on
+abbrev pub secret_rows : ℕ → ℕ → List Issued → List Row
+secret_rows number place [] = []
+secret_rows number place (i ∷ is) = Row.Secret number place i ∷ secret_rows number (place + 1) is
+
+abbrev pub entry_rows : ℕ → List Entry → List Row
+entry_rows number entries = map (Row.Entry number) entries
+
+-- extensions of a pledge from a place on
+abbrev pub extension_rows : ℕ → ℕ → List Extension → List Row
+extension_rows number place [] = []
+extension_rows number place (e ∷ es) = Row.Extension number place e ∷ extension_rows number (place + 1) es
+
+abbrev pub booking_rows : ℕ → Option Booking → List Row
+booking_rows number None = []
+booking_rows number (Some b) = Row.Booking number b ∷ []
+
+-- a pledge's row, then those of its secrets, its entries, its extensions and its booking
+abbrev pub pledge_rows : PledgeValue → List Row
+pledge_rows p =
+    let n = p.agreement.number in
+    Row.Pledge (columns_of p)
+    ∷ (secret_rows n 1 p.secrets ++ (entry_rows n p.entries ++ (extension_rows n 1 p.extensions ++ booking_rows n p.standing.booking)))
+
+-- a book's rows: its counts, its terms by version, and its pledges by number
+abbrev pub rows_of : Version → BookRows → List Row
+rows_of version k =
+    Row.Book version (length k.terms) (length k.pledges) ∷ (terms_rows 1 k.terms ++ flat_map pledge_rows k.pledges)
+
+-- the records of a book in a version of the form
+abbrev pub version_rows : Version → BookRows → List (List (List ℕ))
+version_rows version k = header ∷ map row_fields (rows_of version k)
+
+-- a book's records
+abbrev pub csv_rows : BookRows → List (List (List ℕ))
+csv_rows k = version_rows version.Two k
+
+-- the records of a book without extensions, as they once were
+abbrev pub csv1_rows : BookRows → List (List (List ℕ))
+csv1_rows k = version_rows version.One k
+
+-- a book's text
+abbrev pub csv_of : BookRows → List ℕ
+csv_of k = flat_map (row_text default_writer) (csv_rows k)
+
+-- only the second version has rows for extensions
+abbrev pub Knows : Version → BookRows → Type 0
+Knows version.One k = Each (λ p. p.extensions ≡ []) k.pledges
+Knows version.Two k = Unit {0}

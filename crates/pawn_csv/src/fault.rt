@@ -1,0 +1,82 @@
+//! Why a text is no book.
+ghost use Rattle.std.specs.Prelude.{◌≡◌};
+ghost use Rattle.pawn_csv.specs.Fault.{code_of, name_of};
+
+use std::error::Error;
+use std::fmt;
+
+/// Why a text is no book.
+#[derive(Clone, Copy, Debug, PartialEq, Eq)]
+pub enum Cause {
+    /// A record with another number of columns than the header's.
+    Csv,
+    /// The first record is not the header.
+    Columns,
+    /// A column is not what its kind of row asks for there.
+    BadField,
+    /// A row where it can't stand, or one that is wanting at the end.
+    Order,
+    /// The rows are in order, and no book can have come to them.
+    NotReplayable,
+    /// A count above its limit.
+    TooMany,
+    /// The reader failed.
+    Read,
+    /// Memory was wanting.
+    Memory,
+}
+
+/// Why a text is no book, and at which row; the header is row 1, and the end is one past the last
+/// row.
+#[derive(Clone, Copy, Debug, PartialEq, Eq)]
+pub struct CsvFault {
+    pub cause: Cause,
+    pub row: u64,
+}
+
+impl CsvFault {
+    /// The fault's number in replies.
+    pub fn code(self) -> u16
+        ensures value { result ≡ code_of self.cause }
+    {
+        match self.cause {
+            Cause::Csv => 601,
+            Cause::Columns => 602,
+            Cause::BadField => 603,
+            Cause::Order => 604,
+            Cause::NotReplayable => 605,
+            Cause::TooMany => 606,
+            Cause::Read => 607,
+            Cause::Memory => 491,
+        }
+    }
+
+    /// The fault's name in replies.
+    pub fn name(self) -> &'static str
+        ensures value { result.now ≡ name_of self.cause }
+    {
+        match self.cause {
+            Cause::Csv => "Csv",
+            Cause::Columns => "Columns",
+            Cause::BadField => "BadField",
+            Cause::Order => "Order",
+            Cause::NotReplayable => "NotReplayable",
+            Cause::TooMany => "TooMany",
+            Cause::Read => "Read",
+            Cause::Memory => "Memory",
+        }
+    }
+}
+
+impl fmt::Display for CsvFault {
+    ghost use Rattle.std.specs.Prelude.{Some};
+    ghost use Rattle.pawn_csv.specs.Fault.{name_of};
+
+    ghost output = { λ fault. Some (name_of fault.cause) };
+
+    fn fmt<W: fmt::Write>(&self, f: &mut fmt::Formatter<W>) -> fmt::Result {
+        f.write_str(self.name())
+    }
+}
+
+impl Error for CsvFault {}

@@ -1,0 +1,77 @@
+//! The rows of a book's text.
+
+use pawn_book::{Booking, Day, Entry, Extension, Issued, Opening, Rates};
+
+/// The version of a text's form: the first knows no extensions.
+#[derive(Clone, Copy, Debug, PartialEq, Eq)]
+pub enum Version {
+    One,
+    Two,
+}
+
+/// How a pledge's own row says that it was closed.
+#[derive(Clone, Copy, Debug, PartialEq, Eq)]
+pub enum ClosingWord {
+    Open,
+    Redeemed,
+    Sold,
+}
+
+/// The columns of a pledge's own row, whether or not they go together.
+#[derive(Debug, Drop)]
+pub struct PledgeColumns {
+    /// The pledge's number in its book.
+    pub number: u64,
+    pub opening: Opening,
+    /// The day on which the pledge was taken.
+    pub taken: Day,
+    /// The version of its terms in the book.
+    pub version: u64,
+    pub held: bool,
+    /// The day of the last change.
+    pub last: Day,
+    pub closing: ClosingWord,
+    pub closing_day: Option<Day>,
+    /// The pence that were paid or got at the closing.
+    pub amount: Option<u64>,
+}
+
+/// A row of a book's text, its columns read one by one.
+#[derive(Debug, Drop)]
+pub enum Row {
+    /// The first row: how many versions of terms and how many pledges follow.
+    Book {
+        version: Version,
+        terms: u64,
+        pledges: u64,
+    },
+    /// A version of the book's terms.
+    Terms {
+        version: u64,
+        rates: Rates,
+    },
+    /// A pledge; the rows of its lists follow.
+    Pledge(PledgeColumns),
+    /// A secret of the pledge of that number, and its place from 1.
+    Secret {
+        number: u64,
+        place: u64,
+        issued: Issued,
+    },
+    /// An entry of the pledge of that number.
+    Entry {
+        number: u64,
+        entry: Entry,
+    },
+    /// An extension of the pledge of that number, and its place from 1.
+    Extension {
+        number: u64,
+        place: u64,
+        extension: Extension,
+    },
+    /// The booking of the pledge of that number.
+    Booking {
+        number: u64,
+        booking: Booking,
+    },
+}

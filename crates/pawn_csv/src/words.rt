@@ -1,0 +1,129 @@
+//! The words of columns.
+ghost use Rattle.std.specs.Prelude.{◌≡◌, decimal};
+ghost use Rattle.pawn_terms.specs.Calendar.{day_text};
+ghost use Rattle.pawn_pledge.specs.Secret.{secret_text};
+ghost use Rattle.pawn_csv.specs.Columns.{yes_text, kind_text, closing_text, issue_text, sort_text, state_text, text_if_any};
+ghost use Rattle.pawn_csv.specs.Rows.{closing_word, closing_day, closing_amount};
+
+use itoa::Buffer;
+use pawn_book::{BookingState, Closing, Day, Issue, Kind, Secret, Sort};
+use uuid::Uuid;
+
+// `yes` or `no`.
+pub(crate) fn yes_word(flag: bool) -> &'static [u8]
+    ensures value { result.now ≡ yes_text flag }
+{
+    match flag {
+        true => b"yes",
+        false => b"no",
+    }
+}
+
+// `fixed` or `running`.
+pub(crate) fn kind_word(kind: Kind) -> &'static [u8]
+    ensures value { result.now ≡ kind_text kind }
+{
+    match kind {
+        Kind::Fixed(_) => b"fixed",
+        Kind::Running(_) => b"running",
+    }
+}
+
+// `open`, `redeemed` or `sold`.
+pub(crate) fn closing_word(closing: Closing) -> &'static [u8]
+    ensures value { result.now ≡ closing_text (closing_word closing) }
+{
+    match closing {
+        Closing::Open => b"open",
+        Closing::Redeemed { .. } => b"redeemed",
+        Closing::Sold { .. } => b"sold",
+    }
+}
+
+// The day of a closing, if there was one.
+pub(crate) fn closing_day(closing: Closing) -> Option<Day>
+    ensures value { result ≡ closing_day closing }
+{
+    match closing {
+        Closing::Open => None,
+        Closing::Redeemed { day, paid: _ } => Some(day),
+        Closing::Sold { day, net: _ } => Some(day),
+    }
+}
+
+// What was paid, or what a sale brought, if it was closed.
+pub(crate) fn closing_amount(closing: Closing) -> Option<u64>
+    ensures value { result ≡ closing_amount closing }
+{
+    match closing {
+        Closing::Open => None,
+        Closing::Redeemed { day: _, paid } => Some(paid),
+        Closing::Sold { day: _, net } => Some(net),
+    }
+}
+
+// `opening`, `sworn` or `written`.
+pub(crate) fn issue_word(issue: Issue) -> &'static [u8]
+    ensures value { result.now ≡ issue_text issue }
+{
+    match issue {
+        Issue::Opening => b"opening",
+        Issue::Sworn => b"sworn",
+        Issue::Written => b"written",
+    }
+}
+
+// `draw` or `repay`.
+pub(crate) fn sort_word(sort: Sort) -> &'static [u8]
+    ensures value { result.now ≡ sort_text sort }
+{
+    match sort {
+        Sort::Draw => b"draw",
+        Sort::Repay => b"repay",
+    }
+}
+
+// `asked`, `confirmed`, `refused` or `cancelled`.
+pub(crate) fn state_word(state: BookingState) -> &'static [u8]
+    ensures value { result.now ≡ state_text state }
+{
+    match state {
+        BookingState::Asked => b"asked",
+        BookingState::Confirmed => b"confirmed",
+        BookingState::Refused => b"refused",
+        BookingState::Cancelled => b"cancelled",
+    }
+}
+
+// A number, or nothing.
+pub(crate) fn number_if_any(number: Option<u64>, buffer: &mut Buffer) -> &[u8]
+    ensures value { result.now ≡ text_if_any decimal number }
+{
+    match number {
+        Some(number) => buffer.format(number).as_bytes(),
+        None => b"",
+    }
+}
+
+// A day, or nothing.
+pub(crate) fn day_if_any(day: Option<Day>, buffer: &mut [u8; 10]) -> &[u8]
+    ensures value { result.now ≡ text_if_any day_text day }
+{
+    match day {
+        Some(day) => {
+            *buffer = day.text();
+            buffer.as_slice()
+        }
+        None => b"",
+    }
+}
+
+// A secret, hyphenated with small letters.
+pub(crate) fn secret_text(secret: Secret, buffer: &mut [u8; 45]) -> &[u8]
+    ensures value { result.now ≡ secret_text secret }
+{
+    Uuid::from_u128(secret.word())
+        .hyphenated()
+        .encode_lower(buffer)
+        .as_bytes()
+}

@@ -1,0 +1,344 @@
+//! A writer of the rows of a book's text.
+ghost use Rattle.std.specs.Prelude.{◌≡◌, ◌∷◌, [], IfOk, true, false, codes, decimal, map};
+ghost use Rattle.pawn_terms.specs.Calendar.{day_text};
+ghost use Rattle.pawn_debt.specs.Due.{credit_of};
+ghost use Rattle.csv.specs.Writing.{default_writer, row_text};
+ghost use Rattle.pawn_view.specs.Ends.{writing_inner, write_failed};
+ghost use Rattle.pawn_csv.specs.Rows.{header};
+ghost use Rattle.pawn_csv.specs.Sent.{Puts, brief_columns, has_ended, line_of};
+ghost use Rattle.pawn_csv.specs.declared.row.Row.{Row};
+ghost use Rattle.pawn_csv.specs.declared.row.Version.TheVariants as version;
+
+use crate::words::{
+    closing_amount, closing_day, closing_word, day_if_any, issue_word, kind_word, number_if_any,
+    secret_text, sort_word, state_word, yes_word,
+};
+use csv::Writer;
+use itoa::Buffer;
+use pawn_book::{Booking, BriefFields, Day, Entry, Extension, Issued, Rates, RequestDay};
+use pawn_view::{Writing, put};
+use std::alloc::{AllocError, Global};
+use std::io::Write;
+use uuid::Uuid;
+
+/// Where rows go, and whether one of them was not written whole.
+#[derive(Drop)]
+pub(crate) struct Sink<W> {
+    alloc: Global,
+    writer: Writing<W>,
+    is_starved: bool,
+}
+
+impl<W> Sink<W> {
+    // One that took no row.
+    pub(crate) fn new(alloc: Global, inner: W) -> Sink<W>
+        ensures inner { writing_inner result.writer ≡ inner }
+        ensures ended { has_ended result ≡ false }
+    {
+        Sink {
+            alloc,
+            writer: Writing::new(inner),
+            is_starved: false,
+        }
+    }
+
+    // Whether a row was not written whole.
+    pub(crate) fn has_ended(&self) -> bool
+        ensures answer { result ≡ has_ended self.now }
+    {
+        self.writer.has_failed() || self.is_starved
+    }
+
+    // Whether the writer failed.
+    pub(crate) fn has_failed(&self) -> bool
+        ensures answer { result ≡ write_failed self.now.writer }
+    {
+        self.writer.has_failed()
+    }
+
+    // The writer inside.
+    pub(crate) fn into_inner(self) -> W
+        ensures answer { result ≡ writing_inner self.writer }
+    {
+        self.writer.into_inner()
+    }
+}
+
+// The text of a row of these columns.
+fn row_text(alloc: Global, columns: &[&[u8]]) -> Result<Vec<u8>, AllocError>
+    ensures value { IfOk result (λ text. text.items ≡ row_text default_writer (map (λ c. c.now) columns.now)) }
+{
+    let mut writer = Writer::from_writer(Vec::new(alloc));
+    match writer.write_fields(columns) {
+        Ok(()) => {}
+        Err(_) => return Err(AllocError),
+    }
+    match writer.into_inner() {
+        Ok(text) => Ok(text),
+        Err(_) => Err(AllocError),
+    }
+}
+
+/// Puts a row of these columns, unless one before it was not written whole.
+pub(crate) fn put_row<W: Write>(sink: &mut Sink<W>, columns: &[&[u8]])
+    ensures puts { Puts W.contents sink.old (row_text default_writer (map (λ c. c.now) columns.now)) sink.new }
+{
+    if sink.has_ended() {
+        return;
+    }
+    match row_text(sink.alloc, columns) {
+        Ok(text) => put(&mut sink.writer, text.as_slice()),
+        Err(_) => sink.is_starved = true,
+    }
+}
+
+/// The names of the columns.
+pub(crate) fn put_header<W: Write>(sink: &mut Sink<W>)
+    ensures puts { Puts W.contents sink.old (row_text default_writer header) sink.new }
+{
+    put_row(
+        sink,
+        &[
+            b"row", b"c1", b"c2", b"c3", b"c4", b"c5", b"c6", b"c7", b"c8", b"c9", b"c10", b"c11",
+            b"c12", b"c13", b"c14",
+        ],
+    );
+}
+
+/// `B,2,1,1`: a text of the second version, with so many versions of terms and so many pledges.
+pub(crate) fn put_book<W: Write>(sink: &mut Sink<W>, terms: u64, pledges: u64)
+    ensures puts { Puts W.contents sink.old (line_of (Row.Book version.Two terms pledges)) sink.new }
+{
+    put_row(
+        sink,
+        &[
+            b"B",
+            b"2",
+            Buffer::new().format(terms).as_bytes(),
+            Buffer::new().format(pledges).as_bytes(),
+            b"",
+            b"",
+            b"",
+            b"",
+            b"",
+            b"",
+            b"",
+            b"",
+            b"",
+            b"",
+            b"",
+        ],
+    );
+}
+
+/// `T,1,0,0,0`: a version of the terms.
+pub(crate) fn put_terms<W: Write>(sink: &mut Sink<W>, version: u64, rates: Rates)
+    ensures puts { Puts W.contents sink.old (line_of (Row.Terms version rates)) sink.new }
+{
+    put_row(
+        sink,
+        &[
+            b"T",
+            Buffer::new().format(version).as_bytes(),
+            Buffer::new().format(rates.rate).as_bytes(),
+            Buffer::new().format(rates.keep_before).as_bytes(),
+            Buffer::new().format(rates.keep_after).as_bytes(),
+            b"",
+            b"",
+            b"",
+            b"",
+            b"",
+            b"",
+            b"",
+            b"",
+            b"",
+            b"",
+        ],
+    );
+}
+
+/// `P,1,A1,Gold ring,fixed,10000,2024-01-31,,no,1,no,2024-02-01,open,,`: what was agreed when a
+/// pledge was taken, and how it stands.
+pub(crate) fn put_pledge<W: Write>(sink: &mut Sink<W>, brief: &BriefFields)
+    ensures puts { Puts W.contents sink.old (line_of (Row.Pledge (brief_columns brief.now))) sink.new }
+{
+    let opening = &brief.agreement.opening;
+    let standing = &brief.standing;
+    put_columns(
+        sink,
+        brief,
+        opening.reference.as_str().as_bytes(),
+        opening.article.as_str().as_bytes(),
+        kind_word(opening.kind),
+        day_if_any(agreed_end(opening.agreed), &mut [0; 10]),
+        yes_word(opening.five_days),
+        yes_word(standing.held),
+        closing_word(standing.closing),
+        day_if_any(closing_day(standing.closing), &mut [0; 10]),
+        number_if_any(closing_amount(standing.closing), &mut Buffer::new()),
+    );
+}
+
+// The row of a pledge with these columns beside its numbers and days.
+fn put_columns<'a, W: Write>(
+    sink: &mut Sink<W>,
+    brief: &BriefFields,
+    reference: &'a [u8],
+    article: &'a [u8],
+    kind: &'a [u8],
+    agreed: &'a [u8],
+    five_days: &'a [u8],
+    held: &'a [u8],
+    closing: &'a [u8],
+    closed: &'a [u8],
+    amount: &'a [u8],
+)
+    ensures puts { Puts W.contents sink.old (row_text default_writer (
+        codes "P" ∷ decimal brief.now.agreement.number ∷ reference.now ∷ article.now ∷ kind.now ∷ decimal (credit_of brief.now.agreement.opening.kind)
+        ∷ day_text brief.now.agreement.taken ∷ agreed.now ∷ five_days.now ∷ decimal brief.now.agreement.version ∷ held.now
+        ∷ day_text brief.now.standing.last ∷ closing.now ∷ closed.now ∷ amount.now ∷ [])) sink.new }
+{
+    put_row(
+        sink,
+        &[
+            b"P",
+            Buffer::new()
+                .format(brief.agreement.number.get())
+                .as_bytes(),
+            reference,
+            article,
+            kind,
+            Buffer::new()
+                .format(brief.agreement.opening.kind.credit())
+                .as_bytes(),
+            &brief.agreement.taken.text(),
+            agreed,
+            five_days,
+            Buffer::new().format(brief.agreement.version).as_bytes(),
+            held,
+            &brief.standing.last.text(),
+            closing,
+            closed,
+            amount,
+        ],
+    );
+}
+
+// The agreed end among all days.
+fn agreed_end(agreed: Option<RequestDay>) -> Option<Day>
+    ensures value { result ≡ agreed }
+{
+    match agreed {
+        Some(day) => Some(day.day()),
+        None => None,
+    }
+}
+
+/// `S,1,2,2024-02-01,sworn,00000000-0000-0000-0000-000000000004`: a secret, at its place from 1.
+pub(crate) fn put_secret<W: Write>(sink: &mut Sink<W>, number: u64, place: u64, issued: &Issued)
+    ensures puts { Puts W.contents sink.old (line_of (Row.Secret number place issued.now)) sink.new }
+{
+    put_row(
+        sink,
+        &[
+            b"S",
+            Buffer::new().format(number).as_bytes(),
+            Buffer::new().format(place).as_bytes(),
+            &issued.day.text(),
+            issue_word(issued.sort),
+            secret_text(issued.secret, &mut Uuid::encode_buffer()),
+            b"",
+            b"",
+            b"",
+            b"",
+            b"",
+            b"",
+            b"",
+            b"",
+            b"",
+        ],
+    );
+}
+
+/// `E,1,1,2024-02-01,repay,1000`: an entry.
+pub(crate) fn put_entry<W: Write>(sink: &mut Sink<W>, number: u64, entry: &Entry)
+    ensures puts { Puts W.contents sink.old (line_of (Row.Entry number entry.now)) sink.new }
+{
+    put_row(
+        sink,
+        &[
+            b"E",
+            Buffer::new().format(number).as_bytes(),
+            Buffer::new().format(entry.seq).as_bytes(),
+            &entry.day.text(),
+            sort_word(entry.sort),
+            Buffer::new().format(entry.pence).as_bytes(),
+            b"",
+            b"",
+            b"",
+            b"",
+            b"",
+            b"",
+            b"",
+            b"",
+            b"",
+        ],
+    );
+}
+
+/// `X,1,1,2024-02-01,2024-09-30`: an extension, at its place from 1.
+pub(crate) fn put_extension<W: Write>(
+    sink: &mut Sink<W>,
+    number: u64,
+    place: u64,
+    extension: &Extension,
+)
+    ensures puts { Puts W.contents sink.old (line_of (Row.Extension number place extension.now)) sink.new }
+{
+    put_row(
+        sink,
+        &[
+            b"X",
+            Buffer::new().format(number).as_bytes(),
+            Buffer::new().format(place).as_bytes(),
+            &extension.day.text(),
+            &extension.until.text(),
+            b"",
+            b"",
+            b"",
+            b"",
+            b"",
+            b"",
+            b"",
+            b"",
+            b"",
+            b"",
+        ],
+    );
+}
+
+/// `K,1,2024-02-10,3,asked`: a booking.
+pub(crate) fn put_booking<W: Write>(sink: &mut Sink<W>, number: u64, booking: Booking)
+    ensures puts { Puts W.contents sink.old (line_of (Row.Booking number booking)) sink.new }
+{
+    put_row(
+        sink,
+        &[
+            b"K",
+            Buffer::new().format(number).as_bytes(),
+            &booking.day.text(),
+            Buffer::new().format(booking.window).as_bytes(),
+            state_word(booking.state),
+            b"",
+            b"",
+            b"",
+            b"",
+            b"",
+            b"",
+            b"",
+            b"",
+            b"",
+            b"",
+        ],
+    );
+}
