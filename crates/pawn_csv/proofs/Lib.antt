@@ -1,2 +1,3 @@
+pub mod OneSpelling
 pub mod SentLemmas
 pub mod ListLemmas

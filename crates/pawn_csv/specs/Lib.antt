@@ -5,3 +5,4 @@ pub mod Order
 pub mod Reading
 pub mod Sent
 pub mod Exports
+pub mod OneRow

@@ -3,6 +3,7 @@
 
 mod exporting;
 mod fault;
+pub mod one;
 mod order;
 mod reading;
 mod row;

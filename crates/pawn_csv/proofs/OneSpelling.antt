@@ -1,0 +1,246 @@
+-- A row has one spelling: columns that two rows have are the columns of one row.
+use Rattle.std.proofs.Common.{◌≡◌, ◌∙◌, ◌^◌, ◌<◌, ◌-◌, ℕ, Bool, true, false, List, [], ◌∷◌, length, Option, None, Some, refl, sym, ap, arith, get_or}
+use Rattle.std.specs.Prelude.{IfSome, decimal}
+use Rattle.std.proofs.lemmas.Fmt.{decimal_injective, decimal_nonempty}
+use Rattle.pawn_terms.specs.Calendar.{IsStampDay, civil_of, day_text, first_day}
+use Rattle.pawn_terms.proofs.CalendarLemmas.{civil_after_is, count_of}
+use Rattle.pawn_terms.proofs.TextLemmas.{civil_of-stamp, civil_text-injective}
+use Rattle.pawn_terms.specs.declared.terms.Rates.{Rates}
+use Rattle.pawn_debt.specs.Due.{credit_of}
+use Rattle.pawn_debt.specs.declared.entry.Entry.{Entry}
+use Rattle.pawn_debt.specs.declared.entry.Kind.{Kind}
+use Rattle.pawn_debt.specs.declared.entry.Kind.TheVariants.{Fixed, Running}
+use Rattle.pawn_debt.specs.declared.entry.Sort.{Sort}
+use Rattle.pawn_debt.specs.declared.entry.Sort.TheVariants.{Draw, Repay}
+use Rattle.pawn_pledge.specs.Secret.{secret_of_text, secret_text}
+use Rattle.pawn_pledge.proofs.TextLemmas.{secret_texts_read_back}
+use Rattle.pawn_pledge.specs.declared.record.Booking.{Booking}
+use Rattle.pawn_pledge.specs.declared.record.BookingState.{BookingState}
+use Rattle.pawn_pledge.specs.declared.record.BookingState.TheVariants as state
+use Rattle.pawn_pledge.specs.declared.record.Extension.{Extension}
+use Rattle.pawn_pledge.specs.declared.record.Issue.{Issue}
+use Rattle.pawn_pledge.specs.declared.record.Issue.TheVariants as issue
+use Rattle.pawn_pledge.specs.declared.record.Issued.{Issued}
+use Rattle.pawn_pledge.specs.declared.record.Opening.{Opening}
+use Rattle.pawn_csv.specs.Columns.{closing_text, issue_text, kind_text, sort_text, state_text, text_if_any, version_text, yes_text}
+use Rattle.pawn_csv.specs.declared.row.ClosingWord.{ClosingWord}
+use Rattle.pawn_csv.specs.declared.row.ClosingWord.TheVariants as closing
+use Rattle.pawn_csv.specs.declared.row.PledgeColumns.{PledgeColumns}
+use Rattle.pawn_csv.specs.declared.row.Row.{Row}
+use Rattle.pawn_csv.specs.declared.row.Version.{Version}
+use Rattle.pawn_csv.specs.declared.row.Version.TheVariants as version
+use Rattle.pawn_csv.specs.Rows.{AreColumns, Fits, IsShort, pledge_fields, row_fields}
+
+-- columns
+
+column : (place : ℕ) (a b : List (List ℕ)) → a ≡ b → get_or a place [] ≡ get_or b place []
+column place a b e = ap (λ (fields : List (List ℕ)). get_or fields place []) e
+
+-- two words that begin alike
+letter : (place : ℕ) (a b : List ℕ) → a ≡ b → get_or a place 0 ≡ get_or b place 0
+letter place a b e = ap (λ (text : List ℕ). get_or text place 0) e
+
+number : (n m : ℕ) → IsShort n → IsShort m → decimal n ≡ decimal m → n ≡ m
+number n m hn hm e = decimal_injective n m (omega (arith, hn)) (omega (arith, hm)) e
+
+day : (n m : ℕ) → IsStampDay n → IsStampDay m → day_text n ≡ day_text m → n ≡ m
+day n m hn hm e =
+    let same = civil_text-injective (civil_of n) (civil_of m) (civil_of-stamp n hn).1 (civil_of-stamp m hm).1 e in
+    let counts : count_of (civil_of n) ≡ count_of (civil_of m) = ap count_of same in
+    omega (arith, hn, hm, counts, (civil_after_is (n - first_day)).1, (civil_after_is (m - first_day)).1)
+
+secret : (n m : ℕ) → n < 2 ^ 128 → m < 2 ^ 128 → secret_text n ≡ secret_text m → n ≡ m
+secret n m hn hm e = let same : Some n ≡ Some m = sym (secret_texts_read_back n hn) ∙ ap secret_of_text e ∙ secret_texts_read_back m hm in cc
+
+day_if_any : (a b : Option ℕ) → IfSome a IsStampDay → IfSome b IsStampDay → text_if_any day_text a ≡ text_if_any day_text b → a ≡ b
+day_if_any None None ha hb e = refl
+day_if_any None (Some m) ha hb e = absurd (omega (arith, ap length e))
+day_if_any (Some n) None ha hb e = absurd (omega (arith, ap length e))
+day_if_any (Some n) (Some m) ha hb e = ap (λ (d : ℕ). Some d) (day n m ha hb e)
+
+number_if_any : (a b : Option ℕ) → IfSome a IsShort → IfSome b IsShort → text_if_any decimal a ≡ text_if_any decimal b → a ≡ b
+number_if_any None None ha hb e = refl
+number_if_any None (Some m) ha hb e = absurd (omega (arith, ap length e, decimal_nonempty m (omega (arith, hb))))
+number_if_any (Some n) None ha hb e = absurd (omega (arith, ap length e, decimal_nonempty n (omega (arith, ha))))
+number_if_any (Some n) (Some m) ha hb e = ap (λ (d : ℕ). Some d) (number n m ha hb e)
+
+version_word : (a b : Version) → version_text a ≡ version_text b → a ≡ b
+version_word version.One version.One e = refl
+version_word version.One version.Two e = absurd (omega (arith, letter 0 (version_text version.One) (version_text version.Two) e))
+version_word version.Two version.One e = absurd (omega (arith, letter 0 (version_text version.Two) (version_text version.One) e))
+version_word version.Two version.Two e = refl
+
+yes_word : (a b : Bool) → yes_text a ≡ yes_text b → a ≡ b
+yes_word true true e = refl
+yes_word true false e = absurd (omega (arith, letter 0 (yes_text true) (yes_text false) e))
+yes_word false true e = absurd (omega (arith, letter 0 (yes_text false) (yes_text true) e))
+yes_word false false e = refl
+
+closing_word : (a b : ClosingWord) → closing_text a ≡ closing_text b → a ≡ b
+closing_word closing.Open closing.Open e = refl
+closing_word closing.Open closing.Redeemed e = absurd (omega (arith, letter 0 (closing_text closing.Open) (closing_text closing.Redeemed) e))
+closing_word closing.Open closing.Sold e = absurd (omega (arith, letter 0 (closing_text closing.Open) (closing_text closing.Sold) e))
+closing_word closing.Redeemed closing.Open e = absurd (omega (arith, letter 0 (closing_text closing.Redeemed) (closing_text closing.Open) e))
+closing_word closing.Redeemed closing.Redeemed e = refl
+closing_word closing.Redeemed closing.Sold e = absurd (omega (arith, letter 0 (closing_text closing.Redeemed) (closing_text closing.Sold) e))
+closing_word closing.Sold closing.Open e = absurd (omega (arith, letter 0 (closing_text closing.Sold) (closing_text closing.Open) e))
+closing_word closing.Sold closing.Redeemed e = absurd (omega (arith, letter 0 (closing_text closing.Sold) (closing_text closing.Redeemed) e))
+closing_word closing.Sold closing.Sold e = refl
+
+issue_word : (a b : Issue) → issue_text a ≡ issue_text b → a ≡ b
+issue_word issue.Opening issue.Opening e = refl
+issue_word issue.Opening issue.Sworn e = absurd (omega (arith, letter 0 (issue_text issue.Opening) (issue_text issue.Sworn) e))
+issue_word issue.Opening issue.Written e = absurd (omega (arith, letter 0 (issue_text issue.Opening) (issue_text issue.Written) e))
+issue_word issue.Sworn issue.Opening e = absurd (omega (arith, letter 0 (issue_text issue.Sworn) (issue_text issue.Opening) e))
+issue_word issue.Sworn issue.Sworn e = refl
+issue_word issue.Sworn issue.Written e = absurd (omega (arith, letter 0 (issue_text issue.Sworn) (issue_text issue.Written) e))
+issue_word issue.Written issue.Opening e = absurd (omega (arith, letter 0 (issue_text issue.Written) (issue_text issue.Opening) e))
+issue_word issue.Written issue.Sworn e = absurd (omega (arith, letter 0 (issue_text issue.Written) (issue_text issue.Sworn) e))
+issue_word issue.Written issue.Written e = refl
+
+sort_word : (a b : Sort) → sort_text a ≡ sort_text b → a ≡ b
+sort_word Draw Draw e = refl
+sort_word Draw Repay e = absurd (omega (arith, letter 0 (sort_text Draw) (sort_text Repay) e))
+sort_word Repay Draw e = absurd (omega (arith, letter 0 (sort_text Repay) (sort_text Draw) e))
+sort_word Repay Repay e = refl
+
+state_word : (a b : BookingState) → state_text a ≡ state_text b → a ≡ b
+state_word state.Asked state.Asked e = refl
+state_word state.Asked state.Confirmed e = absurd (omega (arith, letter 0 (state_text state.Asked) (state_text state.Confirmed) e))
+state_word state.Asked state.Refused e = absurd (omega (arith, letter 0 (state_text state.Asked) (state_text state.Refused) e))
+state_word state.Asked state.Cancelled e = absurd (omega (arith, letter 0 (state_text state.Asked) (state_text state.Cancelled) e))
+state_word state.Confirmed state.Asked e = absurd (omega (arith, letter 0 (state_text state.Confirmed) (state_text state.Asked) e))
+state_word state.Confirmed state.Confirmed e = refl
+state_word state.Confirmed state.Refused e = absurd (omega (arith, letter 0 (state_text state.Confirmed) (state_text state.Refused) e))
+state_word state.Confirmed state.Cancelled e = absurd (omega (arith, letter 1 (state_text state.Confirmed) (state_text state.Cancelled) e))
+state_word state.Refused state.Asked e = absurd (omega (arith, letter 0 (state_text state.Refused) (state_text state.Asked) e))
+state_word state.Refused state.Confirmed e = absurd (omega (arith, letter 0 (state_text state.Refused) (state_text state.Confirmed) e))
+state_word state.Refused state.Refused e = refl
+state_word state.Refused state.Cancelled e = absurd (omega (arith, letter 0 (state_text state.Refused) (state_text state.Cancelled) e))
+state_word state.Cancelled state.Asked e = absurd (omega (arith, letter 0 (state_text state.Cancelled) (state_text state.Asked) e))
+state_word state.Cancelled state.Confirmed e = absurd (omega (arith, letter 1 (state_text state.Cancelled) (state_text state.Confirmed) e))
+state_word state.Cancelled state.Refused e = absurd (omega (arith, letter 0 (state_text state.Cancelled) (state_text state.Refused) e))
+state_word state.Cancelled state.Cancelled e = refl
+
+kind : (a b : Kind) → kind_text a ≡ kind_text b → credit_of a ≡ credit_of b → a ≡ b
+kind (Fixed n) (Fixed m) e credit = ap Fixed credit
+kind (Fixed n) (Running m) e credit = absurd (omega (arith, letter 0 (kind_text (Fixed n)) (kind_text (Running m)) e))
+kind (Running n) (Fixed m) e credit = absurd (omega (arith, letter 0 (kind_text (Running n)) (kind_text (Fixed m)) e))
+kind (Running n) (Running m) e credit = ap Running credit
+
+-- rows of each kind
+
+same_rates : (a b : Rates) → a.rate ≡ b.rate → a.keep_before ≡ b.keep_before → a.keep_after ≡ b.keep_after → a ≡ b
+same_rates a b e f g = rw (e, f, g) refl
+
+same_issued : (a b : Issued) → a.day ≡ b.day → a.sort ≡ b.sort → a.secret ≡ b.secret → a ≡ b
+same_issued a b e f g = rw (e, f, g) refl
+
+same_entry : (a b : Entry) → a.seq ≡ b.seq → a.day ≡ b.day → a.sort ≡ b.sort → a.pence ≡ b.pence → a ≡ b
+same_entry a b e f g h = rw (e, f, g, h) refl
+
+same_extension : (a b : Extension) → a.day ≡ b.day → a.until ≡ b.until → a ≡ b
+same_extension a b e f = rw (e, f) refl
+
+same_booking : (a b : Booking) → a.day ≡ b.day → a.window ≡ b.window → a.state ≡ b.state → a ≡ b
+same_booking a b e f g = rw (e, f, g) refl
+
+same_opening : (a b : Opening) → a.reference ≡ b.reference → a.article ≡ b.article → a.kind ≡ b.kind → a.agreed ≡ b.agreed → a.five_days ≡ b.five_days → a ≡ b
+same_opening a b e f g h i = rw (e, f, g, h, i) refl
+
+same_columns : (a b : PledgeColumns) → a.number ≡ b.number → a.opening ≡ b.opening → a.taken ≡ b.taken → a.version ≡ b.version → a.held ≡ b.held → a.last ≡ b.last
+    → a.closing ≡ b.closing → a.closing_day ≡ b.closing_day → a.amount ≡ b.amount → a ≡ b
+same_columns a b e f g h i j k l m = rw (e, f, g, h, i, j, k, l, m) refl
+
+one_pledge : (a b : PledgeColumns) → AreColumns a → AreColumns b → pledge_fields a ≡ pledge_fields b → a ≡ b
+one_pledge a b ha hb e =
+    let at = λ (place : ℕ). column place (pledge_fields a) (pledge_fields b) e in
+    same_columns a b (number a.number b.number ha.number hb.number (at 1))
+    (same_opening a.opening b.opening (at 2) (at 3)
+    (kind a.opening.kind b.opening.kind (at 4) (number (credit_of a.opening.kind) (credit_of b.opening.kind) ha.credit hb.credit (at 5)))
+    (day_if_any a.opening.agreed b.opening.agreed ha.opening.agreed hb.opening.agreed (at 7))
+    (yes_word a.opening.five_days b.opening.five_days (at 8)))
+    (day a.taken b.taken ha.taken hb.taken (at 6)) (number a.version b.version ha.version hb.version (at 9)) (yes_word a.held b.held (at 10))
+    (day a.last b.last ha.last hb.last (at 11)) (closing_word a.closing b.closing (at 12))
+    (day_if_any a.closing_day b.closing_day ha.closing_day hb.closing_day (at 13)) (number_if_any a.amount b.amount ha.amount hb.amount (at 14))
+
+-- the letter of a row's kind
+first_letter : (r s : Row) → row_fields r ≡ row_fields s → get_or (get_or (row_fields r) 0 []) 0 0 ≡ get_or (get_or (row_fields s) 0 []) 0 0
+first_letter r s e = letter 0 (get_or (row_fields r) 0 []) (get_or (row_fields s) 0 []) (column 0 (row_fields r) (row_fields s) e)
+
+-- two rows with the same columns are one
+pub one_row : (r s : Row) → Fits r → Fits s → row_fields r ≡ row_fields s → r ≡ s
+one_row (Row.Book v t p) (Row.Book v2 t2 p2) hr hs same =
+    let col = λ (place : ℕ). column place (row_fields (Row.Book v t p)) (row_fields (Row.Book v2 t2 p2)) same in
+    let e = version_word v v2 (col 1) in let f = number t t2 hr.0 hs.0 (col 2) in let g = number p p2 hr.1 hs.1 (col 3) in
+    rw (e, f, g) refl
+one_row (Row.Book v t p) (Row.Terms v2 rates2) hr hs same = absurd (omega (arith, first_letter (Row.Book v t p) (Row.Terms v2 rates2) same))
+one_row (Row.Book v t p) (Row.Pledge c2) hr hs same = absurd (omega (arith, first_letter (Row.Book v t p) (Row.Pledge c2) same))
+one_row (Row.Book v t p) (Row.Secret n2 at2 i2) hr hs same = absurd (omega (arith, first_letter (Row.Book v t p) (Row.Secret n2 at2 i2) same))
+one_row (Row.Book v t p) (Row.Entry n2 entry2) hr hs same = absurd (omega (arith, first_letter (Row.Book v t p) (Row.Entry n2 entry2) same))
+one_row (Row.Book v t p) (Row.Extension n2 at2 x2) hr hs same = absurd (omega (arith, first_letter (Row.Book v t p) (Row.Extension n2 at2 x2) same))
+one_row (Row.Book v t p) (Row.Booking n2 b2) hr hs same = absurd (omega (arith, first_letter (Row.Book v t p) (Row.Booking n2 b2) same))
+one_row (Row.Terms v rates) (Row.Book v2 t2 p2) hr hs same = absurd (omega (arith, first_letter (Row.Terms v rates) (Row.Book v2 t2 p2) same))
+one_row (Row.Terms v rates) (Row.Terms v2 rates2) hr hs same =
+    let col = λ (place : ℕ). column place (row_fields (Row.Terms v rates)) (row_fields (Row.Terms v2 rates2)) same in
+    let e = number v v2 hr.0 hs.0 (col 1) in
+    let f = same_rates rates rates2 (number rates.rate rates2.rate hr.1 hs.1 (col 2)) (number rates.keep_before rates2.keep_before hr.2 hs.2 (col 3))
+            (number rates.keep_after rates2.keep_after hr.3 hs.3 (col 4)) in
+    rw (e, f) refl
+one_row (Row.Terms v rates) (Row.Pledge c2) hr hs same = absurd (omega (arith, first_letter (Row.Terms v rates) (Row.Pledge c2) same))
+one_row (Row.Terms v rates) (Row.Secret n2 at2 i2) hr hs same = absurd (omega (arith, first_letter (Row.Terms v rates) (Row.Secret n2 at2 i2) same))
+one_row (Row.Terms v rates) (Row.Entry n2 entry2) hr hs same = absurd (omega (arith, first_letter (Row.Terms v rates) (Row.Entry n2 entry2) same))
+one_row (Row.Terms v rates) (Row.Extension n2 at2 x2) hr hs same = absurd (omega (arith, first_letter (Row.Terms v rates) (Row.Extension n2 at2 x2) same))
+one_row (Row.Terms v rates) (Row.Booking n2 b2) hr hs same = absurd (omega (arith, first_letter (Row.Terms v rates) (Row.Booking n2 b2) same))
+one_row (Row.Pledge c) (Row.Book v2 t2 p2) hr hs same = absurd (omega (arith, first_letter (Row.Pledge c) (Row.Book v2 t2 p2) same))
+one_row (Row.Pledge c) (Row.Terms v2 rates2) hr hs same = absurd (omega (arith, first_letter (Row.Pledge c) (Row.Terms v2 rates2) same))
+one_row (Row.Pledge c) (Row.Pledge c2) hr hs same = ap Row.Pledge (one_pledge c c2 hr hs same)
+one_row (Row.Pledge c) (Row.Secret n2 at2 i2) hr hs same = absurd (omega (arith, first_letter (Row.Pledge c) (Row.Secret n2 at2 i2) same))
+one_row (Row.Pledge c) (Row.Entry n2 entry2) hr hs same = absurd (omega (arith, first_letter (Row.Pledge c) (Row.Entry n2 entry2) same))
+one_row (Row.Pledge c) (Row.Extension n2 at2 x2) hr hs same = absurd (omega (arith, first_letter (Row.Pledge c) (Row.Extension n2 at2 x2) same))
+one_row (Row.Pledge c) (Row.Booking n2 b2) hr hs same = absurd (omega (arith, first_letter (Row.Pledge c) (Row.Booking n2 b2) same))
+one_row (Row.Secret n at i) (Row.Book v2 t2 p2) hr hs same = absurd (omega (arith, first_letter (Row.Secret n at i) (Row.Book v2 t2 p2) same))
+one_row (Row.Secret n at i) (Row.Terms v2 rates2) hr hs same = absurd (omega (arith, first_letter (Row.Secret n at i) (Row.Terms v2 rates2) same))
+one_row (Row.Secret n at i) (Row.Pledge c2) hr hs same = absurd (omega (arith, first_letter (Row.Secret n at i) (Row.Pledge c2) same))
+one_row (Row.Secret n at i) (Row.Secret n2 at2 i2) hr hs same =
+    let col = λ (place : ℕ). column place (row_fields (Row.Secret n at i)) (row_fields (Row.Secret n2 at2 i2)) same in
+    let e = number n n2 hr.0 hs.0 (col 1) in let f = number at at2 hr.1 hs.1 (col 2) in
+    let g = same_issued i i2 (day i.day i2.day hr.2 hs.2 (col 3)) (issue_word i.sort i2.sort (col 4)) (secret i.secret i2.secret hr.3 hs.3 (col 5)) in
+    rw (e, f, g) refl
+one_row (Row.Secret n at i) (Row.Entry n2 entry2) hr hs same = absurd (omega (arith, first_letter (Row.Secret n at i) (Row.Entry n2 entry2) same))
+one_row (Row.Secret n at i) (Row.Extension n2 at2 x2) hr hs same = absurd (omega (arith, first_letter (Row.Secret n at i) (Row.Extension n2 at2 x2) same))
+one_row (Row.Secret n at i) (Row.Booking n2 b2) hr hs same = absurd (omega (arith, first_letter (Row.Secret n at i) (Row.Booking n2 b2) same))
+one_row (Row.Entry n entry) (Row.Book v2 t2 p2) hr hs same = absurd (omega (arith, first_letter (Row.Entry n entry) (Row.Book v2 t2 p2) same))
+one_row (Row.Entry n entry) (Row.Terms v2 rates2) hr hs same = absurd (omega (arith, first_letter (Row.Entry n entry) (Row.Terms v2 rates2) same))
+one_row (Row.Entry n entry) (Row.Pledge c2) hr hs same = absurd (omega (arith, first_letter (Row.Entry n entry) (Row.Pledge c2) same))
+one_row (Row.Entry n entry) (Row.Secret n2 at2 i2) hr hs same = absurd (omega (arith, first_letter (Row.Entry n entry) (Row.Secret n2 at2 i2) same))
+one_row (Row.Entry n entry) (Row.Entry n2 entry2) hr hs same =
+    let col = λ (place : ℕ). column place (row_fields (Row.Entry n entry)) (row_fields (Row.Entry n2 entry2)) same in
+    let e = number n n2 hr.0 hs.0 (col 1) in
+    let f = same_entry entry entry2 (number entry.seq entry2.seq hr.1 hs.1 (col 2)) (day entry.day entry2.day hr.2 hs.2 (col 3))
+            (sort_word entry.sort entry2.sort (col 4)) (number entry.pence entry2.pence hr.3 hs.3 (col 5)) in
+    rw (e, f) refl
+one_row (Row.Entry n entry) (Row.Extension n2 at2 x2) hr hs same = absurd (omega (arith, first_letter (Row.Entry n entry) (Row.Extension n2 at2 x2) same))
+one_row (Row.Entry n entry) (Row.Booking n2 b2) hr hs same = absurd (omega (arith, first_letter (Row.Entry n entry) (Row.Booking n2 b2) same))
+one_row (Row.Extension n at x) (Row.Book v2 t2 p2) hr hs same = absurd (omega (arith, first_letter (Row.Extension n at x) (Row.Book v2 t2 p2) same))
+one_row (Row.Extension n at x) (Row.Terms v2 rates2) hr hs same = absurd (omega (arith, first_letter (Row.Extension n at x) (Row.Terms v2 rates2) same))
+one_row (Row.Extension n at x) (Row.Pledge c2) hr hs same = absurd (omega (arith, first_letter (Row.Extension n at x) (Row.Pledge c2) same))
+one_row (Row.Extension n at x) (Row.Secret n2 at2 i2) hr hs same = absurd (omega (arith, first_letter (Row.Extension n at x) (Row.Secret n2 at2 i2) same))
+one_row (Row.Extension n at x) (Row.Entry n2 entry2) hr hs same = absurd (omega (arith, first_letter (Row.Extension n at x) (Row.Entry n2 entry2) same))
+one_row (Row.Extension n at x) (Row.Extension n2 at2 x2) hr hs same =
+    let col = λ (place : ℕ). column place (row_fields (Row.Extension n at x)) (row_fields (Row.Extension n2 at2 x2)) same in
+    let e = number n n2 hr.0 hs.0 (col 1) in let f = number at at2 hr.1 hs.1 (col 2) in
+    let g = same_extension x x2 (day x.day x2.day hr.2 hs.2 (col 3)) (day x.until x2.until hr.3 hs.3 (col 4)) in
+    rw (e, f, g) refl
+one_row (Row.Extension n at x) (Row.Booking n2 b2) hr hs same = absurd (omega (arith, first_letter (Row.Extension n at x) (Row.Booking n2 b2) same))
+one_row (Row.Booking n b) (Row.Book v2 t2 p2) hr hs same = absurd (omega (arith, first_letter (Row.Booking n b) (Row.Book v2 t2 p2) same))
+one_row (Row.Booking n b) (Row.Terms v2 rates2) hr hs same = absurd (omega (arith, first_letter (Row.Booking n b) (Row.Terms v2 rates2) same))
+one_row (Row.Booking n b) (Row.Pledge c2) hr hs same = absurd (omega (arith, first_letter (Row.Booking n b) (Row.Pledge c2) same))
+one_row (Row.Booking n b) (Row.Secret n2 at2 i2) hr hs same = absurd (omega (arith, first_letter (Row.Booking n b) (Row.Secret n2 at2 i2) same))
+one_row (Row.Booking n b) (Row.Entry n2 entry2) hr hs same = absurd (omega (arith, first_letter (Row.Booking n b) (Row.Entry n2 entry2) same))
+one_row (Row.Booking n b) (Row.Extension n2 at2 x2) hr hs same = absurd (omega (arith, first_letter (Row.Booking n b) (Row.Extension n2 at2 x2) same))
+one_row (Row.Booking n b) (Row.Booking n2 b2) hr hs same =
+    let col = λ (place : ℕ). column place (row_fields (Row.Booking n b)) (row_fields (Row.Booking n2 b2)) same in
+    let e = number n n2 hr.0 hs.0 (col 1) in
+    let f = same_booking b b2 (day b.day b2.day hr.1 hs.1 (col 2)) (number b.window b2.window hr.2 hs.2 (col 3)) (state_word b.state b2.state (col 4)) in
+    rw (e, f) refl
