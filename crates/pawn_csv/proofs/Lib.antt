@@ -1,3 +1,4 @@
 pub mod OneSpelling
+pub mod OneReading
 pub mod SentLemmas
 pub mod ListLemmas

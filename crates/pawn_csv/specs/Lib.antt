@@ -2,7 +2,9 @@ pub mod Columns
 pub mod Fault
 pub mod Rows
 pub mod Order
+pub mod Finishing
 pub mod Reading
 pub mod Sent
 pub mod Exports
 pub mod OneRow
+pub mod OneReading

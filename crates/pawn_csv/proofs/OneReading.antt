@@ -1,0 +1,319 @@
+-- A text has one reading.
+use Rattle.std.proofs.Common.{◌≡◌, ◌≢◌, ◌⊎◌, ◌∙◌, ◌++◌, ◌∷◌, ◌+◌, ◌<◌, ◌≤◌, [], ℕ, zero, suc, Bool, true, false, List, length, Option, Some, None, Result, Ok, Err, refl, sym, ap, subst, inl, inr, arith, nat_le}
+use Rattle.std.specs.Prelude.{map, nat_eq}
+use Rattle.std.proofs.lemmas.Bool.Decides.{nat_tests}
+use Rattle.std.proofs.lemmas.List.{append-nil}
+use Rattle.csv.specs.Machine.{Read, next_record}
+use Rattle.csv.specs.declared.parser.State.{State}
+use Rattle.csv.specs.declared.parser.State.TheVariants as st
+use Rattle.csv.specs.declared.parser.Config.{Config}
+use Rattle.csv.specs.Reading.{AreRecords, Reached, default_config}
+use Rattle.pawn_pledge.specs.Replayable.{Each}
+use Rattle.pawn_pledge.specs.Pledge.{PledgeValue}
+use Rattle.pawn_book.specs.declared.rows.BookRows.{BookRows}
+use Rattle.pawn_csv.specs.declared.fault.Cause.{Cause}
+use Rattle.pawn_csv.specs.declared.fault.Cause.TheVariants as cause
+use Rattle.pawn_csv.specs.declared.row.Row.{Row}
+use Rattle.pawn_csv.specs.Finishing.{IsBegunOf, IsFinishedAs, IsOfNoBook}
+use Rattle.pawn_csv.specs.OneReading.{FirstFaultsAreOne, FirstFaultsExcludeBooks}
+use Rattle.pawn_csv.specs.Order.{Begun, is_whole, place, run, then_run}
+use Rattle.pawn_csv.specs.Reading.{AreTaken, EndsAs, IsFirstFault, IsNoRow, IsReadAs, IsRefused, IsSpelled, RefusesEnd, RefusesRow, Taking}
+use Rattle.pawn_csv.specs.Rows.{Fits, header, row_fields}
+use Rattle.pawn_csv.proofs.OneSpelling.{one_row}
+
+-- records that were reached
+
+same_read : (p q : Read) (o : Option Read) → o ≡ Some p → o ≡ Some q → p ≡ q
+same_read p q o a b = let e = sym a ∙ b in cc
+
+no_read : (p : Read) (o : Option Read) → o ≡ None → o ≡ Some p → ⊥
+no_read p o a b = let e = sym a ∙ b in cc
+
+-- of two lists that were reached the longer goes on from the shorter
+reached_on : (cfg : Config) (fronts bs : List (List (List ℕ))) (s : State) (xs : List ℕ) (s2 : State) (ys : List ℕ) (s3 : State) (zs : List ℕ)
+    → Reached cfg s xs fronts s2 ys → Reached cfg s xs bs s3 zs → length fronts ≤ length bs
+    → (more : List (List (List ℕ))) × (fronts ++ more ≡ bs) × Reached cfg s2 ys more s3 zs
+unfolding Reached
+reached_on cfg [] bs s xs s2 ys s3 zs a b short = (bs, refl, rw (a.0, a.1) at b)
+reached_on cfg (f ∷ fronts) [] s xs s2 ys s3 zs a b short = absurd (omega (arith, short))
+reached_on cfg (f ∷ fronts) (r ∷ bs) s xs s2 ys s3 zs a b short =
+    let same = same_read a.0 b.0 _ a.1 b.1 in
+    let (more, whole, on) = reached_on cfg fronts bs a.0.1 a.0.2 s2 ys s3 zs a.3 (subst (λ (q : Read). Reached cfg q.1 q.2 bs s3 zs) (sym same) b.3) (omega (arith, short)) in
+    (more, ap (λ x. x ∷ (fronts ++ more)) (a.2 ∙ ap (λ (q : Read). q.0) same ∙ sym b.2) ∙ ap (λ xs. r ∷ xs) whole, on)
+
+-- the first of the records that go on
+next_of : (cfg : Config) (s : State) (xs : List ℕ) (x : List (List ℕ)) (more : List (List (List ℕ))) (s2 : State) (ys : List ℕ)
+    → Reached cfg s xs (x ∷ more) s2 ys → (p : Read) × (next_record cfg s [] [] xs ≡ Some p) × (x ≡ p.0)
+unfolding Reached
+next_of cfg s xs x more s2 ys a = (a.0, a.1, a.2)
+
+ended : (cfg : Config) (s : State) (xs : List ℕ) (s2 : State) (ys : List ℕ) → Reached cfg s xs [] s2 ys → (s ≡ s2) × (xs ≡ ys)
+unfolding Reached
+ended cfg s xs s2 ys a = a
+
+-- rows of records
+
+same_rows : (rs ss : List Row) → Each Fits rs → Each Fits ss → map row_fields rs ≡ map row_fields ss → rs ≡ ss
+same_rows [] [] hr hs e = refl
+same_rows [] (s ∷ ss) hr hs e = absurd (omega (arith, ap length e))
+same_rows (r ∷ rs) [] hr hs e = absurd (omega (arith, ap length e))
+same_rows (r ∷ rs) (s ∷ ss) hr hs e =
+    let parts = (let first : row_fields r ≡ row_fields s = cc in first) in
+    let rest : map row_fields rs ≡ map row_fields ss = cc in
+    ap (λ (x : Row). x ∷ rs) (one_row r s hr.0 hs.0 parts) ∙ ap (λ (xs : List Row). s ∷ xs) (same_rows rs ss hr.1 hs.1 rest)
+
+same_begun : (s t : Option Begun) (o : Result (Option Begun) Cause) → o ≡ Ok s → o ≡ Ok t → s ≡ t
+same_begun s t o a b = let e = sym a ∙ b in cc
+
+-- what the same records make is the same
+taken_same : (before : List (List (List ℕ))) (rows others : List Row) (s t : Option Begun) → AreTaken before rows s → AreTaken before others t → s ≡ t
+taken_same [] rows others s t a b = a.1 ∙ sym b.1
+taken_same (h ∷ rs) rows others s t a b =
+    let same = same_rows rows others a.2 b.2 (sym a.1 ∙ b.1) in
+    same_begun s t (run None rows) a.3 (subst (λ (xs : List Row). run None xs ≡ Ok t) (sym same) b.3)
+
+-- the columns of a row are fifteen
+fifteen : (r : Row) → length (row_fields r) ≡ length header
+fifteen (Row.Book version terms pledges) = refl
+fifteen (Row.Terms version rates) = refl
+fifteen (Row.Pledge columns) = refl
+fifteen (Row.Secret number place issued) = refl
+fifteen (Row.Entry number entry) = refl
+fifteen (Row.Extension number place extension) = refl
+fifteen (Row.Booking number booking) = refl
+
+same_answer : (o : Result Begun Cause) (c d : Cause) → o ≡ Err c → o ≡ Err d → c ≡ d
+same_answer o c d a b = let e = sym a ∙ b in cc
+
+no_answer : (o : Result Begun Cause) (b : Begun) (c : Cause) → o ≡ Ok b → o ≡ Err c → ⊥
+no_answer o b c a e = let x = sym a ∙ e in cc
+
+-- columns are refused for one cause
+one_refusal : (fields : List (List ℕ)) (s : Option Begun) (c d : Cause) → IsRefused fields s c → IsRefused fields s d → c ≡ d
+one_refusal fields s c d a b =
+    let same = one_row a.0 b.0 a.1.0 b.1.0 (sym a.1.1 ∙ b.1.1) in
+    same_answer (place s a.0) c d a.2 (subst (λ (r : Row). place s r ≡ Err d) (sym same) b.2)
+
+-- columns that were taken are refused for none
+no_refusal : (fields : List (List ℕ)) (s : Option Begun) (r : Row) (b : Begun) (c : Cause) → Fits r → fields ≡ row_fields r → place s r ≡ Ok b → IsRefused fields s c → ⊥
+no_refusal fields s r b c fits spelled placed a =
+    let same = one_row r a.0 fits a.1.0 (sym spelled ∙ a.1.1) in
+    no_answer (place s a.0) b c (subst (λ (x : Row). place s x ≡ Ok b) same placed) a.2
+
+-- columns that were taken are refused for no cause
+not_taken : (x : List (List ℕ)) (s : Option Begun) (r : Row) (u : Begun) → Fits r → x ≡ row_fields r → place s r ≡ Ok u → (e : Cause) → e ≢ cause.Memory → RefusesRow x s e → ⊥
+not_taken x s r u fits spelled placed cause.Csv other says = says (ap length spelled ∙ fifteen r)
+not_taken x s r u fits spelled placed cause.Columns other says = absurd says
+not_taken x s r u fits spelled placed cause.BadField other says = elim says.1 [ inl none ↦ none r fits spelled | inr refusal ↦ no_refusal x s r u cause.BadField fits spelled placed refusal ]
+not_taken x s r u fits spelled placed cause.Order other says = no_refusal x s r u cause.Order fits spelled placed says
+not_taken x s r u fits spelled placed cause.NotReplayable other says = absurd says
+not_taken x s r u fits spelled placed cause.TooMany other says = no_refusal x s r u cause.TooMany fits spelled placed says
+not_taken x s r u fits spelled placed cause.Read other says = absurd says
+not_taken x s r u fits spelled placed cause.Memory other says = absurd (other refl)
+
+-- of rows that ran the first was placed, and the others ran from there
+run_first : (from : Option Begun) (r : Row) (later : List Row) (t : Option Begun) (o : Result Begun Cause) → place from r ≡ o → then_run o (λ v. run v later) ≡ Ok t
+    → (u : Begun) × (place from r ≡ Ok u) × (run (Some u) later ≡ Ok t)
+run_first from r later t (Ok u) is ran = (u, is, ran)
+run_first from r later t (Err e) is ran = absurd cc
+
+head_is : (r : Row) (rs : List Row) (f : List (List ℕ)) (fs : List (List (List ℕ))) → map row_fields (r ∷ rs) ≡ f ∷ fs → row_fields r ≡ f
+head_is r rs f fs e = cc
+
+tail_is : (r : Row) (rs : List Row) (f : List (List ℕ)) (fs : List (List (List ℕ))) → map row_fields (r ∷ rs) ≡ f ∷ fs → map row_fields rs ≡ fs
+tail_is r rs f fs e = cc
+
+-- a record behind others that were taken, and taken with them, is not refused where they leave off
+taken_after : (x : List (List ℕ)) (more fs : List (List (List ℕ))) (front whole : List Row) (from s t : Option Begun) (c : Cause) → c ≢ cause.Memory
+    → map row_fields front ≡ fs → Each Fits front → run from front ≡ Ok s
+    → map row_fields whole ≡ fs ++ x ∷ more → Each Fits whole → run from whole ≡ Ok t → RefusesRow x s c → ⊥
+taken_after x more [] [] [] from s t c why e fits ran e2 fits2 ran2 refused = absurd (omega (arith, ap length e2))
+taken_after x more [] [] (w ∷ ws) from s t c why e fits ran e2 fits2 ran2 refused =
+    let here : from ≡ s = cc in
+    let (u, placed, on) = run_first from w ws t (place from w) refl ran2 in
+    not_taken x s w u fits2.0 (sym (head_is w ws x more e2)) (subst (λ (v : Option Begun). place v w ≡ Ok u) here placed) c why refused
+taken_after x more [] (g ∷ gs) whole from s t c why e fits ran e2 fits2 ran2 refused = absurd (omega (arith, ap length e))
+taken_after x more (f ∷ fs) [] whole from s t c why e fits ran e2 fits2 ran2 refused = absurd (omega (arith, ap length e))
+taken_after x more (f ∷ fs) (g ∷ gs) [] from s t c why e fits ran e2 fits2 ran2 refused = absurd (omega (arith, ap length e2))
+taken_after x more (f ∷ fs) (g ∷ gs) (w ∷ ws) from s t c why e fits ran e2 fits2 ran2 refused =
+    let same = one_row g w fits.0 fits2.0 (head_is g gs f fs e ∙ sym (head_is w ws f (fs ++ x ∷ more) e2)) in
+    let (u, placed, on) = run_first from g gs s (place from g) refl ran in
+    let (v, placed2, on2) = run_first from w ws t (place from w) refl ran2 in
+    let one : u ≡ v = (let a = subst (λ (r : Row). place from r ≡ Ok u) same placed in let b = sym a ∙ placed2 in cc) in
+    taken_after x more fs gs ws (Some u) s t c why (tail_is g gs f fs e) fits.1 on (tail_is w ws f (fs ++ x ∷ more) e2) fits2.1
+    (subst (λ (b : Begun). run (Some b) ws ≡ Ok t) (sym one) on2) refused
+
+taken_next : (before : List (List (List ℕ))) (x : List (List ℕ)) (more : List (List (List ℕ))) (rows others : List Row) (s t : Option Begun) (c : Cause)
+    → c ≢ cause.Memory → AreTaken before rows s → AreTaken (before ++ x ∷ more) others t
+    → Taking (nat_eq (length before) 0) x s (let r : Result (Unit {0}) Cause = Err c in r) s → ⊥
+taken_next [] x more rows others s t c why a b refused = refused.0 b.0
+taken_next (h ∷ rs) x more rows others s t c why a b refused =
+    let later : nat_eq (length (h ∷ rs)) 0 ≡ false = grind (arith, nat_tests) in
+    taken_after x more rs rows others None s t c why (sym a.1) a.2 a.3 (sym b.1) b.2 b.3
+    (subst (λ (v : Bool). Taking v x s (let r : Result (Unit {0}) Cause = Err c in r) s) later refused)
+
+-- why the records that were taken go on no further
+abbrev pub Stops : List (List (List ℕ)) → State → List ℕ → Option Begun → Cause → Type 0
+Stops before state rest s c =
+    ((p : Read) × (next_record default_config state [] [] rest ≡ Some p) × Taking (nat_eq (length before) 0) p.0 s (let r : Result (Unit {0}) Cause = Err c in r) s)
+    ⊎ ((next_record default_config state [] [] rest ≡ None) × EndsAs before s c)
+
+-- they stop where no other reading goes on
+goes_on : (before : List (List (List ℕ))) (x : List (List ℕ)) (more : List (List (List ℕ))) (rows others : List Row) (s t : Option Begun) (c : Cause) (state : State) (rest : List ℕ) (s2 : State) (ys : List ℕ)
+    → c ≢ cause.Memory → AreTaken before rows s → AreTaken (before ++ x ∷ more) others t → Reached default_config state rest (x ∷ more) s2 ys → Stops before state rest s c → ⊥
+goes_on before x more rows others s t c state rest s2 ys why taken taken2 on (inl w) =
+    let (p, next, is) = next_of default_config state rest x more s2 ys on in
+    let same = same_read w.0 p _ w.1 next in
+    taken_next before x more rows others s t c why taken taken2
+    (subst (λ (q : List (List ℕ)). Taking (nat_eq (length before) 0) q s (let r : Result (Unit {0}) Cause = Err c in r) s) (ap (λ (q : Read). q.0) same ∙ sym is) w.2)
+goes_on before x more rows others s t c state rest s2 ys why taken taken2 on (inr w) =
+    let (p, next, is) = next_of default_config state rest x more s2 ys on in no_read p _ w.0 next
+
+-- why columns are refused: they are too few or too many, they spell no row, or their row is refused
+abbrev pub Verdict : List (List ℕ) → Option Begun → Cause → Type 0
+Verdict x s e = ((e ≡ cause.Csv) × (length x ≢ length header)) ⊎ (((e ≡ cause.BadField) × (length x ≡ length header) × IsNoRow x) ⊎ IsRefused x s e)
+
+verdict_of : (x : List (List ℕ)) (s : Option Begun) (e : Cause) → e ≢ cause.Memory → RefusesRow x s e → Verdict x s e
+verdict_of x s cause.Csv other says = inl (refl, says)
+verdict_of x s cause.Columns other says = absurd says
+verdict_of x s cause.BadField other says = elim says.1 [ inl none ↦ inr (inl (refl, says.0, none)) | inr refusal ↦ inr (inr refusal) ]
+verdict_of x s cause.Order other says = inr (inr says)
+verdict_of x s cause.NotReplayable other says = absurd says
+verdict_of x s cause.TooMany other says = inr (inr says)
+verdict_of x s cause.Read other says = absurd says
+verdict_of x s cause.Memory other says = absurd (other refl)
+
+one_verdict : (x : List (List ℕ)) (s : Option Begun) (c d : Cause) → Verdict x s c → Verdict x s d → c ≡ d
+one_verdict x s c d (inl a) (inl b) = a.0 ∙ sym b.0
+one_verdict x s c d (inl a) (inr (inl b)) = absurd (a.1 b.1)
+one_verdict x s c d (inl a) (inr (inr b)) = absurd (a.1 (ap length b.1.1 ∙ fifteen b.0))
+one_verdict x s c d (inr (inl a)) (inl b) = absurd (b.1 a.1)
+one_verdict x s c d (inr (inl a)) (inr (inl b)) = a.0 ∙ sym b.0
+one_verdict x s c d (inr (inl a)) (inr (inr b)) = absurd (a.2 b.0 b.1.0 b.1.1)
+one_verdict x s c d (inr (inr a)) (inl b) = absurd (b.1 (ap length a.1.1 ∙ fifteen a.0))
+one_verdict x s c d (inr (inr a)) (inr (inl b)) = absurd (b.2 a.0 a.1.0 a.1.1)
+one_verdict x s c d (inr (inr a)) (inr (inr b)) = one_refusal x s c d a b
+
+one_taking : (first : Bool) (x : List (List ℕ)) (s : Option Begun) (c d : Cause) → c ≢ cause.Memory → d ≢ cause.Memory
+    → Taking first x s (let r : Result (Unit {0}) Cause = Err c in r) s → Taking first x s (let r : Result (Unit {0}) Cause = Err d in r) s → c ≡ d
+one_taking true x s c d hc hd a b = a.1 ∙ sym b.1
+one_taking false x s c d hc hd a b = one_verdict x s c d (verdict_of x s c hc a) (verdict_of x s d hd b)
+
+-- why the end is refused: rows are wanting, or they make no book
+end_of : (s : Option Begun) (e : Cause) → e ≢ cause.Memory → RefusesEnd s e → ((e ≡ cause.Order) × (is_whole s ≡ false)) ⊎ ((e ≡ cause.NotReplayable) × IsOfNoBook s)
+end_of s cause.Csv other says = absurd says
+end_of s cause.Columns other says = absurd says
+end_of s cause.BadField other says = absurd says
+end_of s cause.Order other says = inl (refl, says)
+end_of s cause.NotReplayable other says = inr (refl, says)
+end_of s cause.TooMany other says = absurd says
+end_of s cause.Read other says = absurd says
+end_of s cause.Memory other says = absurd (other refl)
+
+whole_or_not : (v : Bool) → v ≡ false → v ≡ true → ⊥
+whole_or_not v a b = let e = sym a ∙ b in cc
+
+one_end : (before : List (List (List ℕ))) (s : Option Begun) (c d : Cause) → c ≢ cause.Memory → d ≢ cause.Memory → EndsAs before s c → EndsAs before s d → c ≡ d
+one_end [] s c d hc hd a b = a ∙ sym b
+one_end (h ∷ rs) s c d hc hd a b = from (end_of s c hc a) (end_of s d hd b)
+  where
+    from : ((c ≡ cause.Order) × (is_whole s ≡ false)) ⊎ ((c ≡ cause.NotReplayable) × IsOfNoBook s)
+        → ((d ≡ cause.Order) × (is_whole s ≡ false)) ⊎ ((d ≡ cause.NotReplayable) × IsOfNoBook s) → c ≡ d
+    from (inl x) (inl y) = x.0 ∙ sym y.0
+    from (inl x) (inr y) = absurd (whole_or_not (is_whole s) x.1 y.1.2)
+    from (inr x) (inl y) = absurd (whole_or_not (is_whole s) y.1 x.1.2)
+    from (inr x) (inr y) = x.0 ∙ sym y.0
+
+-- they stop for one cause
+one_stop : (before : List (List (List ℕ))) (state : State) (rest : List ℕ) (s : Option Begun) (c d : Cause) → c ≢ cause.Memory → d ≢ cause.Memory
+    → Stops before state rest s c → Stops before state rest s d → c ≡ d
+one_stop before state rest s c d hc hd (inl a) (inl b) =
+    let same = same_read b.0 a.0 _ b.1 a.1 in
+    one_taking (nat_eq (length before) 0) a.0.0 s c d hc hd a.2
+    (subst (λ (q : Read). Taking (nat_eq (length before) 0) q.0 s (let r : Result (Unit {0}) Cause = Err d in r) s) same b.2)
+one_stop before state rest s c d hc hd (inl a) (inr b) = absurd (no_read a.0 _ b.0 a.1)
+one_stop before state rest s c d hc hd (inr a) (inl b) = absurd (no_read b.0 _ a.0 b.1)
+one_stop before state rest s c d hc hd (inr a) (inr b) = one_end before s c d hc hd a.1 b.1
+
+-- of two first faults one reading goes on from the other, and so nowhere
+no_longer : (text : List ℕ) (c d : Cause) (m n : ℕ) (f : IsFirstFault text c m) (g : IsFirstFault text d n) → c ≢ cause.Memory
+    → (more : List (List (List ℕ))) → f.before ++ more ≡ g.before → Reached default_config f.state f.rest more g.state g.rest → more ≡ []
+no_longer text c d m n f g why [] whole on = refl
+no_longer text c d m n f g why (x ∷ more) whole on =
+    absurd (goes_on f.before x more f.rows g.rows f.begun g.begun c f.state f.rest g.state g.rest why f.taken
+    (subst (λ (b : List (List (List ℕ))). AreTaken b g.rows g.begun) (sym whole) g.taken) on f.why)
+
+-- one that is no shorter has the same cause and the same row
+same_fault : (text : List ℕ) (c d : Cause) (m n : ℕ) (f : IsFirstFault text c m) (g : IsFirstFault text d n) → c ≢ cause.Memory → d ≢ cause.Memory
+    → length f.before ≤ length g.before → (c ≡ d) × (m ≡ n)
+same_fault text c d m n f g hc hd short =
+    let (more, whole, on) = reached_on default_config f.before g.before st.StartRecord text f.state f.rest g.state g.rest f.reached g.reached short in
+    let none = no_longer text c d m n f g hc more whole on in
+    let same : f.before ≡ g.before = sym (append-nil f.before) ∙ ap (λ (b : List (List (List ℕ))). f.before ++ b) (sym none) ∙ whole in
+    let (states, rests) = ended default_config f.state f.rest g.state g.rest (subst (λ (b : List (List (List ℕ))). Reached default_config f.state f.rest b g.state g.rest) none on) in
+    let taken = subst (λ (b : List (List (List ℕ))). AreTaken b g.rows g.begun) (sym same) g.taken in
+    let begun = taken_same f.before f.rows g.rows f.begun g.begun f.taken taken in
+    let there : Stops f.before f.state f.rest f.begun d = rw (same, states, rests, begun) g.why in
+    (one_stop f.before f.state f.rest f.begun c d hc hd f.why there, omega (arith, f.place, g.place, ap length same))
+
+pub first_faults_are_one : FirstFaultsAreOne
+first_faults_are_one text c d m n hc hd f g = from (nat_le (length f.before) (length g.before)) refl
+  where
+    from : (v : Bool) → nat_le (length f.before) (length g.before) ≡ v → (c ≡ d) × (m ≡ n)
+    from true is = same_fault text c d m n f g hc hd (grind (arith, nat_tests, is))
+    from false is = let same = same_fault text d c n m g f hd hc (grind (arith, nat_tests, is)) in (sym same.0, sym same.1)
+
+-- a text that is read to its end has no fault
+no_fault_in : (text : List ℕ) (c : Cause) (m : ℕ) (k : BookRows) (f : IsFirstFault text c m) (records : List (List (List ℕ))) (rows : List Row) (s : Option Begun) (s2 : State) (ys : List ℕ)
+    → c ≢ cause.Memory → Reached default_config st.StartRecord text records s2 ys → next_record default_config s2 [] [] ys ≡ None → AreTaken records rows s → IsFinishedAs s k
+    → (more : List (List (List ℕ))) → f.before ++ more ≡ records → Reached default_config f.state f.rest more s2 ys → ⊥
+no_fault_in text c m k f records rows s s2 ys hc all none taken finished (x ∷ more) whole on =
+    goes_on f.before x more f.rows rows f.begun s c f.state f.rest s2 ys hc f.taken (subst (λ (b : List (List (List ℕ))). AreTaken b rows s) (sym whole) taken) on f.why
+no_fault_in text c m k f records rows s s2 ys hc all none taken finished [] whole on = from f.why
+  where
+    same : f.before ≡ records
+    same = sym (append-nil f.before) ∙ whole
+
+    begun : f.begun ≡ s
+    begun = taken_same f.before f.rows rows f.begun s f.taken (subst (λ (b : List (List (List ℕ))). AreTaken b rows s) (sym same) taken)
+
+    ends : (e : Option Begun) → e ≡ s → ((c ≡ cause.Order) × (is_whole e ≡ false)) ⊎ ((c ≡ cause.NotReplayable) × IsOfNoBook e) → ⊥
+    ends e is (inl x) = whole_or_not (is_whole s) (subst (λ (o : Option Begun). is_whole o ≡ false) is x.1) finished.2
+    ends e is (inr x) =
+        let b : x.1.0 ≡ finished.0 = (let a = sym x.1.1 ∙ is ∙ finished.1 in cc) in
+        x.1.3 k (subst (λ (v : Begun). IsBegunOf v k) (sym b) finished.3) finished.4
+
+    at_end : (before : List (List (List ℕ))) → before ≡ records → EndsAs before f.begun c → ⊥
+    at_end [] is e = empty records is taken
+      where
+        empty : (rs : List (List (List ℕ))) → [] ≡ rs → AreTaken rs rows s → ⊥
+        empty [] is a = let e = sym a.1 ∙ finished.1 in cc
+        empty (r ∷ rs) is a = absurd (omega (arith, ap length is))
+    at_end (h ∷ rs) is e = ends f.begun begun (end_of f.begun c hc e)
+
+    from : Stops f.before f.state f.rest f.begun c → ⊥
+    from (inl w) =
+        let (states, rests) = ended default_config f.state f.rest s2 ys on in
+        no_read w.0 _ (rw (states, rests) none) w.1
+    from (inr w) = at_end f.before same w.1
+
+-- nothing goes on behind the end
+no_further : (state : State) (rest : List ℕ) (more : List (List (List ℕ))) (s2 : State) (ys : List ℕ)
+    → next_record default_config state [] [] rest ≡ None → Reached default_config state rest more s2 ys → more ≡ []
+no_further state rest [] s2 ys none on = refl
+no_further state rest (x ∷ more) s2 ys none on = let (p, next, is) = next_of default_config state rest x more s2 ys on in absurd (no_read p _ none next)
+
+pub first_faults_exclude_books : FirstFaultsExcludeBooks
+first_faults_exclude_books text c m k hc f read = from (nat_le (length f.before) (length read.0)) refl
+  where
+    from : (v : Bool) → nat_le (length f.before) (length read.0) ≡ v → ⊥
+    from true is =
+        let (more, whole, on) = reached_on default_config f.before read.0 st.StartRecord text f.state f.rest read.3.0 read.3.1 f.reached read.3.2 (grind (arith, nat_tests, is)) in
+        no_fault_in text c m k f read.0 read.1 read.2 read.3.0 read.3.1 hc read.3.2 read.3.3 read.4 read.5 more whole on
+    from false is =
+        let (more, whole, on) = reached_on default_config read.0 f.before st.StartRecord text read.3.0 read.3.1 f.state f.rest read.3.2 f.reached (grind (arith, nat_tests, is)) in
+        let none = no_further read.3.0 read.3.1 more f.state f.rest read.3.3 on in
+        let same : read.0 ≡ f.before = sym (append-nil read.0) ∙ ap (λ (b : List (List (List ℕ))). read.0 ++ b) (sym none) ∙ whole in
+        let longer : length f.before < length read.0 + 1 = omega (arith, ap length same) in
+        let short : length read.0 < length f.before = grind (arith, nat_tests, is) in
+        absurd (omega (arith, short, ap length same))
