@@ -1,4 +1,5 @@
 pub mod OneSpelling
 pub mod OneReading
+pub mod OneBook
 pub mod SentLemmas
 pub mod ListLemmas

@@ -1,5 +1,5 @@
 -- A text has one reading.
-use Rattle.std.proofs.Common.{◌≡◌, ◌≢◌, ◌⊎◌, ◌∙◌, ◌++◌, ◌∷◌, ◌+◌, ◌<◌, ◌≤◌, [], ℕ, zero, suc, Bool, true, false, List, length, Option, Some, None, Result, Ok, Err, refl, sym, ap, subst, inl, inr, arith, nat_le}
+use Rattle.std.proofs.Common.{◌≡◌, ◌≢◌, ◌⊎◌, ◌∙◌, ◌++◌, ◌∷◌, ◌+◌, ◌<◌, ◌≤◌, [], ℕ, Bool, true, false, List, length, Option, Some, None, Result, Ok, Err, refl, sym, ap, subst, inl, inr, arith, nat_le}
 use Rattle.std.specs.Prelude.{map, nat_eq}
 use Rattle.std.proofs.lemmas.Bool.Decides.{nat_tests}
 use Rattle.std.proofs.lemmas.List.{append-nil}
@@ -7,9 +7,8 @@ use Rattle.csv.specs.Machine.{Read, next_record}
 use Rattle.csv.specs.declared.parser.State.{State}
 use Rattle.csv.specs.declared.parser.State.TheVariants as st
 use Rattle.csv.specs.declared.parser.Config.{Config}
-use Rattle.csv.specs.Reading.{AreRecords, Reached, default_config}
+use Rattle.csv.specs.Reading.{Reached, default_config}
 use Rattle.pawn_pledge.specs.Replayable.{Each}
-use Rattle.pawn_pledge.specs.Pledge.{PledgeValue}
 use Rattle.pawn_book.specs.declared.rows.BookRows.{BookRows}
 use Rattle.pawn_csv.specs.declared.fault.Cause.{Cause}
 use Rattle.pawn_csv.specs.declared.fault.Cause.TheVariants as cause
@@ -17,7 +16,7 @@ use Rattle.pawn_csv.specs.declared.row.Row.{Row}
 use Rattle.pawn_csv.specs.Finishing.{IsBegunOf, IsFinishedAs, IsOfNoBook}
 use Rattle.pawn_csv.specs.OneReading.{FirstFaultsAreOne, FirstFaultsExcludeBooks}
 use Rattle.pawn_csv.specs.Order.{Begun, is_whole, place, run, then_run}
-use Rattle.pawn_csv.specs.Reading.{AreTaken, EndsAs, IsFirstFault, IsNoRow, IsReadAs, IsRefused, IsSpelled, RefusesEnd, RefusesRow, Taking}
+use Rattle.pawn_csv.specs.Reading.{AreTaken, EndsAs, IsFirstFault, IsNoRow, IsRefused, RefusesEnd, RefusesRow, Taking}
 use Rattle.pawn_csv.specs.Rows.{Fits, header, row_fields}
 use Rattle.pawn_csv.proofs.OneSpelling.{one_row}
 
@@ -30,7 +29,7 @@ no_read : (p : Read) (o : Option Read) → o ≡ None → o ≡ Some p → ⊥
 no_read p o a b = let e = sym a ∙ b in cc
 
 -- of two lists that were reached the longer goes on from the shorter
-reached_on : (cfg : Config) (fronts bs : List (List (List ℕ))) (s : State) (xs : List ℕ) (s2 : State) (ys : List ℕ) (s3 : State) (zs : List ℕ)
+pub reached_on : (cfg : Config) (fronts bs : List (List (List ℕ))) (s : State) (xs : List ℕ) (s2 : State) (ys : List ℕ) (s3 : State) (zs : List ℕ)
     → Reached cfg s xs fronts s2 ys → Reached cfg s xs bs s3 zs → length fronts ≤ length bs
     → (more : List (List (List ℕ))) × (fronts ++ more ≡ bs) × Reached cfg s2 ys more s3 zs
 unfolding Reached
@@ -66,7 +65,7 @@ same_begun : (s t : Option Begun) (o : Result (Option Begun) Cause) → o ≡ Ok
 same_begun s t o a b = let e = sym a ∙ b in cc
 
 -- what the same records make is the same
-taken_same : (before : List (List (List ℕ))) (rows others : List Row) (s t : Option Begun) → AreTaken before rows s → AreTaken before others t → s ≡ t
+pub taken_same : (before : List (List (List ℕ))) (rows others : List Row) (s t : Option Begun) → AreTaken before rows s → AreTaken before others t → s ≡ t
 taken_same [] rows others s t a b = a.1 ∙ sym b.1
 taken_same (h ∷ rs) rows others s t a b =
     let same = same_rows rows others a.2 b.2 (sym a.1 ∙ b.1) in
@@ -298,7 +297,7 @@ no_fault_in text c m k f records rows s s2 ys hc all none taken finished [] whol
     from (inr w) = at_end f.before same w.1
 
 -- nothing goes on behind the end
-no_further : (state : State) (rest : List ℕ) (more : List (List (List ℕ))) (s2 : State) (ys : List ℕ)
+pub no_further : (state : State) (rest : List ℕ) (more : List (List (List ℕ))) (s2 : State) (ys : List ℕ)
     → next_record default_config state [] [] rest ≡ None → Reached default_config state rest more s2 ys → more ≡ []
 no_further state rest [] s2 ys none on = refl
 no_further state rest (x ∷ more) s2 ys none on = let (p, next, is) = next_of default_config state rest x more s2 ys on in absurd (no_read p _ none next)

@@ -1,5 +1,5 @@
 -- A row has one spelling: columns that two rows have are the columns of one row.
-use Rattle.std.proofs.Common.{◌≡◌, ◌∙◌, ◌^◌, ◌<◌, ◌-◌, ℕ, Bool, true, false, List, [], ◌∷◌, length, Option, None, Some, refl, sym, ap, arith, get_or}
+use Rattle.std.proofs.Common.{◌≡◌, ◌∙◌, ◌^◌, ◌<◌, ◌-◌, ℕ, Bool, true, false, List, [], length, Option, None, Some, refl, sym, ap, arith, get_or}
 use Rattle.std.specs.Prelude.{IfSome, decimal}
 use Rattle.std.proofs.lemmas.Fmt.{decimal_injective, decimal_nonempty}
 use Rattle.pawn_terms.specs.Calendar.{IsStampDay, civil_of, day_text, first_day}
@@ -185,7 +185,7 @@ one_row (Row.Terms v rates) (Row.Terms v2 rates2) hr hs same =
     let col = λ (place : ℕ). column place (row_fields (Row.Terms v rates)) (row_fields (Row.Terms v2 rates2)) same in
     let e = number v v2 hr.0 hs.0 (col 1) in
     let f = same_rates rates rates2 (number rates.rate rates2.rate hr.1 hs.1 (col 2)) (number rates.keep_before rates2.keep_before hr.2 hs.2 (col 3))
-            (number rates.keep_after rates2.keep_after hr.3 hs.3 (col 4)) in
+    (number rates.keep_after rates2.keep_after hr.3 hs.3 (col 4)) in
     rw (e, f) refl
 one_row (Row.Terms v rates) (Row.Pledge c2) hr hs same = absurd (omega (arith, first_letter (Row.Terms v rates) (Row.Pledge c2) same))
 one_row (Row.Terms v rates) (Row.Secret n2 at2 i2) hr hs same = absurd (omega (arith, first_letter (Row.Terms v rates) (Row.Secret n2 at2 i2) same))
@@ -218,7 +218,7 @@ one_row (Row.Entry n entry) (Row.Entry n2 entry2) hr hs same =
     let col = λ (place : ℕ). column place (row_fields (Row.Entry n entry)) (row_fields (Row.Entry n2 entry2)) same in
     let e = number n n2 hr.0 hs.0 (col 1) in
     let f = same_entry entry entry2 (number entry.seq entry2.seq hr.1 hs.1 (col 2)) (day entry.day entry2.day hr.2 hs.2 (col 3))
-            (sort_word entry.sort entry2.sort (col 4)) (number entry.pence entry2.pence hr.3 hs.3 (col 5)) in
+    (sort_word entry.sort entry2.sort (col 4)) (number entry.pence entry2.pence hr.3 hs.3 (col 5)) in
     rw (e, f) refl
 one_row (Row.Entry n entry) (Row.Extension n2 at2 x2) hr hs same = absurd (omega (arith, first_letter (Row.Entry n entry) (Row.Extension n2 at2 x2) same))
 one_row (Row.Entry n entry) (Row.Booking n2 b2) hr hs same = absurd (omega (arith, first_letter (Row.Entry n entry) (Row.Booking n2 b2) same))

@@ -1,5 +1,5 @@
 -- The book that rows make once all of them are read.
-use Rattle.std.specs.Prelude.{◌≡◌, true, false, List, map, Option, None, Some, Result, Ok, Err}
+use Rattle.std.specs.Prelude.{◌≡◌, true, false, List, map, Option, Some, Result, Ok, Err}
 use Rattle.pawn_terms.specs.declared.terms.Rates.{Rates}
 use Rattle.pawn_pledge.specs.Number.{IsNumber}
 use Rattle.pawn_pledge.specs.Pledge.{PledgeValue}

@@ -1,6 +1,6 @@
 //! Laws of rows.
 ghost use Rattle.pawn_csv.specs.OneRow.{RowsHaveOneSpelling};
-ghost use Rattle.pawn_csv.specs.OneReading.{FirstFaultsAreOne, FirstFaultsExcludeBooks};
+ghost use Rattle.pawn_csv.specs.OneReading.{FirstFaultsAreOne, FirstFaultsExcludeBooks, TextsHoldOneBook};
 
 /// Two rows with the same columns are one.
 pub fn rows_have_one_spelling()
@@ -11,4 +11,5 @@ pub fn rows_have_one_spelling()
 pub fn texts_have_one_reading()
     ensures faults { FirstFaultsAreOne }
     ensures books { FirstFaultsExcludeBooks }
+    ensures one { TextsHoldOneBook }
 {}
