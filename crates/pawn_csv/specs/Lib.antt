@@ -3,3 +3,4 @@ pub mod Fault
 pub mod Rows
 pub mod Order
 pub mod Reading
+pub mod Spelling

@@ -29,7 +29,7 @@ IsSpelled fields r = Fits r × (fields ≡ row_fields r)
 
 -- these columns spell no row
 abbrev pub IsNoRow : List (List ℕ) → Type 0
-IsNoRow fields = (r : Row) → IsSpelled fields r → ⊥
+IsNoRow fields = (r : Row) → Fits r → fields ≡ row_fields r → ⊥
 
 -- the columns spell a row that is refused there
 abbrev pub IsRefused : List (List ℕ) → Option Begun → Cause → Type 0

@@ -1,10 +1,12 @@
 //! A book's text: its rows as records of comma-separated columns.
 #![tactic(auto)]
 
+mod columns;
 mod fault;
 mod order;
 mod reading;
 mod row;
+mod spelling;
 
 pub use fault::{Cause, CsvFault};
 pub use pawn_book::{
