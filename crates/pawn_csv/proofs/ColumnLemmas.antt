@@ -1,5 +1,5 @@
 -- One column.
-use Rattle.std.proofs.Common.{◌≡◌, ◌∙◌, ◌^◌, ◌<◌, ℕ, zero, suc, List, [], ◌∷◌, Option, None, Some, refl, sym, ap, get_or}
+use Rattle.std.proofs.Common.{◌≡◌, ◌∙◌, ◌^◌, ◌<◌, ℕ, zero, suc, List, [], ◌∷◌, None, Some, refl, ap, get_or}
 use Rattle.csv.specs.Records.{field_at}
 use Rattle.pawn_pledge.specs.Secret.{secret_of_text, secret_text}
 use Rattle.pawn_pledge.proofs.TextLemmas.{secret_texts_read_back}

@@ -1,2 +1,4 @@
 pub mod ColumnLemmas
 pub mod RowLemmas
+pub mod FinishLemmas
+pub mod ReadLemmas

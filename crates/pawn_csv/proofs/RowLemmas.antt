@@ -1,5 +1,5 @@
 -- Rows from their columns.
-use Rattle.std.proofs.Common.{◌≡◌, ◌∙◌, ◌≤◌, ℕ, zero, suc, List, [], ◌∷◌, ◌++◌, length, refl, sym, ap, arith, get_or}
+use Rattle.std.proofs.Common.{◌≡◌, ◌∙◌, ◌≤◌, ◌<◌, ℕ, zero, suc, List, [], ◌∷◌, ◌++◌, length, refl, sym, ap, arith, get_or}
 use Rattle.std.specs.Prelude.{codes, decimal, replicate}
 use Rattle.pawn_terms.specs.Calendar.{day_text}
 use Rattle.pawn_terms.specs.declared.terms.Rates.{Rates}
@@ -12,8 +12,8 @@ use Rattle.pawn_csv.specs.Columns.{version_text, issue_text, sort_text, state_te
 use Rattle.pawn_csv.specs.declared.row.PledgeColumns.{PledgeColumns}
 use Rattle.pawn_csv.specs.declared.row.Row.{Row}
 use Rattle.pawn_csv.specs.declared.row.Version.{Version}
-use Rattle.pawn_csv.specs.Reading.{IsNoRow, IsSpelled}
-use Rattle.pawn_csv.specs.Rows.{AreColumns, Fits, pledge_fields, row_fields}
+use Rattle.pawn_csv.specs.Reading.{IsNoRow}
+use Rattle.pawn_csv.specs.Rows.{AreColumns, Fits, header, pledge_fields, row_fields}
 use Rattle.pawn_csv.specs.Spelling.{AreBlankFrom, IsOpeningOf, column_at}
 
 -- fifteen columns, one by one
@@ -173,3 +173,7 @@ opening_is fs c fits is = record {
   c7 = ap (λ f. column_at f 7) is;
   c8 = ap (λ f. column_at f 8) is;
 }
+
+-- the header, column by column
+pub header_is : (fs : List (List ℕ)) → length fs ≡ 15 → ((place : ℕ) → place < 15 → column_at fs place ≡ column_at header place) → fs ≡ header
+header_is fs n same = fifteen_are fs _ _ _ _ _ _ _ _ _ _ _ _ _ _ _ n (same 0 (omega arith)) (same 1 (omega arith)) (same 2 (omega arith)) (same 3 (omega arith)) (same 4 (omega arith)) (same 5 (omega arith)) (same 6 (omega arith)) (same 7 (omega arith)) (same 8 (omega arith)) (same 9 (omega arith)) (same 10 (omega arith)) (same 11 (omega arith)) (same 12 (omega arith)) (same 13 (omega arith)) (same 14 (omega arith))

@@ -4,3 +4,5 @@ pub mod Rows
 pub mod Order
 pub mod Reading
 pub mod Spelling
+pub mod Answers
+pub mod Finishing

@@ -2,6 +2,8 @@
 use Rattle.std.specs.Prelude.{◌≡◌, ◌≢◌, ◌⊎◌, ℕ, ◌+◌, nat_eq, Bool, true, false, List, [], ◌∷◌, length, map, Option, None, Some, Result, Ok, Err}
 use Rattle.csv.specs.Machine.{Read, next_record}
 use Rattle.csv.specs.Reading.{AreRecords, Reached, default_config}
+use Rattle.csv.specs.declared.error.ErrorKind.{ErrorKind}
+use Rattle.csv.specs.declared.error.ErrorKind.TheVariants as kind
 use Rattle.csv.specs.declared.parser.State.{State}
 use Rattle.csv.specs.declared.parser.State.TheVariants as st
 use Rattle.pawn_pledge.specs.Replayable.{Each}
@@ -11,6 +13,7 @@ use Rattle.pawn_csv.specs.declared.fault.Cause.{Cause}
 use Rattle.pawn_csv.specs.declared.fault.Cause.TheVariants as cause
 use Rattle.pawn_csv.specs.declared.row.Row.{Row}
 use Rattle.pawn_csv.specs.declared.row.Version.{Version}
+use Rattle.pawn_csv.specs.Finishing.{IsFinishedAs, IsOfNoBook}
 use Rattle.pawn_csv.specs.Order.{Begun, place, run, is_whole}
 use Rattle.pawn_csv.specs.Rows.{Fits, Knows, header, row_fields, rows_of, version_rows}
 
@@ -35,14 +38,14 @@ IsNoRow fields = (r : Row) → Fits r → fields ≡ row_fields r → ⊥
 abbrev pub IsRefused : List (List ℕ) → Option Begun → Cause → Type 0
 IsRefused fields old c = (r : Row) × IsSpelled fields r × (place old r ≡ Err c)
 
--- why a record after the header is not taken
+-- why a record after the header is not taken: memory is wanting, it has another number of columns, they spell no row, or the
+-- row is refused there
 abbrev pub RefusesRow : List (List ℕ) → Option Begun → Cause → Type 0
-RefusesRow fields old cause.Csv = length fields ≢ length header
-RefusesRow fields old cause.BadField = (length fields ≡ length header) × (IsNoRow fields ⊎ IsRefused fields old cause.BadField)
-RefusesRow fields old cause.TooMany = IsRefused fields old cause.TooMany
-RefusesRow fields old cause.Order = IsRefused fields old cause.Order
-RefusesRow fields old cause.Memory = Unit {0}
-RefusesRow fields old _ = ⊥
+RefusesRow fields old c =
+    (c ≡ cause.Memory)
+    ⊎ (((c ≡ cause.Csv) × (length fields ≢ length header))
+    ⊎ (((c ≡ cause.BadField) × (length fields ≡ length header) × IsNoRow fields)
+    ⊎ IsRefused fields old c))
 
 -- what taking the next record does: the header is first, and then rows
 abbrev pub Taking : {U : Type 0} → Bool → List (List ℕ) → Option Begun → Result U Cause → Option Begun → Type 0
@@ -56,21 +59,17 @@ abbrev pub AreTaken : List (List (List ℕ)) → List Row → Option Begun → T
 AreTaken [] rows s = (rows ≡ []) × (s ≡ None)
 AreTaken (h ∷ rs) rows s = (h ≡ header) × (rs ≡ map row_fields rows) × Each Fits rows × (run None rows ≡ Ok s)
 
--- the rows are those of no book
-abbrev pub AreNoBook : List Row → Type 0
-AreNoBook rows = (version : Version) (k : BookRows) → IsHeldBy version k → rows ≡ rows_of version k → ⊥
-
 -- why the end of the records is refused: rows are wanting, or they make no book
-abbrev pub RefusesEnd : List Row → Option Begun → Cause → Type 0
-RefusesEnd rows s cause.Order = is_whole s ≡ false
-RefusesEnd rows s cause.NotReplayable = (is_whole s ≡ true) × AreNoBook rows
-RefusesEnd rows s cause.Memory = Unit {0}
-RefusesEnd rows s _ = ⊥
+abbrev pub RefusesEnd : Option Begun → Cause → Type 0
+RefusesEnd s cause.Order = is_whole s ≡ false
+RefusesEnd s cause.NotReplayable = IsOfNoBook s
+RefusesEnd s cause.Memory = Unit {0}
+RefusesEnd s _ = ⊥
 
 -- a text without a record wants the header
-abbrev pub EndsAs : List (List (List ℕ)) → List Row → Option Begun → Cause → Type 0
-EndsAs [] rows s c = c ≡ cause.Columns
-EndsAs (h ∷ rs) rows s c = RefusesEnd rows s c
+abbrev pub EndsAs : List (List (List ℕ)) → Option Begun → Cause → Type 0
+EndsAs [] s c = c ≡ cause.Columns
+EndsAs (h ∷ rs) s c = RefusesEnd s c
 
 -- each record before this one is taken, and this one, or the end, is refused for that cause
 pub record IsFirstFault (text : List ℕ) (c : Cause) (row : ℕ) : Type 0 where
@@ -84,10 +83,21 @@ pub record IsFirstFault (text : List ℕ) (c : Cause) (row : ℕ) : Type 0 where
   pub place : length before + 1 ≡ row
   pub why : ((p : Read) × (next_record default_config state [] [] rest ≡ Some p)
       × Taking (nat_eq (length before) 0) p.0 begun (let r : Result (Unit {0}) Cause = Err c in r) begun)
-      ⊎ ((next_record default_config state [] [] rest ≡ None) × EndsAs before rows begun c)
+      ⊎ ((next_record default_config state [] [] rest ≡ None) × EndsAs before begun c)
 
 -- a fault of the memory or of the reader may come at any time; any other is the first of the text
 abbrev pub IsFaultOf : List ℕ → Cause → ℕ → Type 0
 IsFaultOf text cause.Memory row = Unit {0}
 IsFaultOf text cause.Read row = Unit {0}
 IsFaultOf text c row = IsFirstFault text c row
+
+-- the records of this text are taken to their end, and make the book
+abbrev pub IsReadAs : List ℕ → BookRows → Type 0
+IsReadAs text k =
+    (records : List (List (List ℕ))) × (rows : List Row) × (s : Option Begun) × AreRecords default_config st.StartRecord text records × AreTaken records rows s × IsFinishedAs s k
+
+-- what an error of the library's reader is here; of one that takes any number of columns it is the reader's own or memory's
+abbrev pub CauseOf : ErrorKind → Cause → Type 0
+CauseOf (kind.Io e) c = c ≡ cause.Read
+CauseOf kind.OutOfMemory c = c ≡ cause.Memory
+CauseOf other c = Unit {0}

@@ -3,6 +3,7 @@
 
 mod columns;
 mod fault;
+mod finishing;
 mod order;
 mod reading;
 mod row;

@@ -5,8 +5,9 @@ ghost use Rattle.pawn_csv.specs.Rows.{AreColumns, Fits, header, pledge_fields, r
 ghost use Rattle.pawn_csv.specs.Spelling.{IsOpeningOf, Reads, column_at};
 
 use crate::columns::{
-    are_blank, column, read_agreed, read_closing, read_day, read_day_if_any, read_issue, read_kind, read_number,
-    read_number_if_any, read_secret, read_sort, read_state, read_text, read_version, read_yes,
+    are_blank, column, read_agreed, read_closing, read_day, read_day_if_any, read_issue, read_kind,
+    read_number, read_number_if_any, read_secret, read_sort, read_state, read_text, read_version,
+    read_yes,
 };
 use crate::row::{PledgeColumns, Row};
 use csv::ByteRecord;
@@ -229,26 +230,41 @@ pub(crate) fn read_row(alloc: Global, columns: &ByteRecord) -> Result<Option<Row
     }
 }
 
+// The header's column at a place, from 0; empty past the last.
+fn header_name(place: usize) -> &'static [u8]
+    ensures value { result.now ≡ column_at header place }
+{
+    match place {
+        0 => b"row",
+        1 => b"c1",
+        2 => b"c2",
+        3 => b"c3",
+        4 => b"c4",
+        5 => b"c5",
+        6 => b"c6",
+        7 => b"c7",
+        8 => b"c8",
+        9 => b"c9",
+        10 => b"c10",
+        11 => b"c11",
+        12 => b"c12",
+        13 => b"c13",
+        14 => b"c14",
+        _ => b"",
+    }
+}
+
 // Whether the columns are the header's.
 pub(crate) fn is_header(columns: &ByteRecord) -> bool
     ensures answer { IsTrue result ↔ (fields_of columns.now ≡ header) }
 {
-    let names = [
-        b"row".as_slice(),
-        b"c1".as_slice(),
-        b"c2".as_slice(),
-        b"c3".as_slice(),
-        b"c4".as_slice(),
-        b"c5".as_slice(),
-        b"c6".as_slice(),
-        b"c7".as_slice(),
-        b"c8".as_slice(),
-        b"c9".as_slice(),
-        b"c10".as_slice(),
-        b"c11".as_slice(),
-        b"c12".as_slice(),
-        b"c13".as_slice(),
-        b"c14".as_slice(),
-    ];
-    columns.len() == names.len() && (0..names.len()).all(|place| column(columns, place) == names[place])
+    if columns.len() != 15 {
+        return false;
+    }
+    for place in 0..15 {
+        if column(columns, place) != header_name(place) {
+            return false;
+        }
+    }
+    true
 }

@@ -1,4 +1,3 @@
-use Rattle.std.proofs.Common.{◌≡◌, ◌∙◌}
 use Rattle.csv.specs.Records.{fields_of}
 use Rattle.pawn_csv.proofs.ColumnLemmas.{column_is, no_column}
 use Rattle.pawn_csv.proofs.columns.column.Goals as goal

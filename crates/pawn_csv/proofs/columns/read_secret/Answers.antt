@@ -1,4 +1,4 @@
-use Rattle.std.proofs.Common.{rules, ◌≡◌, ◌∙◌, sym, ap, List, ℕ}
+use Rattle.std.proofs.Common.{rules, ◌∙◌, sym, ap, List, ℕ}
 use Rattle.std.specs.Cmp.Lexicographic.{same_text, other_text}
 use Rattle.uuid.specs.Text.{hyphenated_text, lower}
 use Rattle.pawn_pledge.specs.Secret.{secret_text}

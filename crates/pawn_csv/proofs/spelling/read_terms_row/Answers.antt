@@ -1,10 +1,7 @@
-use Rattle.std.proofs.Common.{◌≡◌, ◌∙◌, List, [], ◌∷◌, ℕ, refl, sym, ap}
+use Rattle.std.proofs.Common.{◌∙◌, [], ◌∷◌, refl, sym, ap}
 use Rattle.std.specs.Prelude.{codes, decimal}
 use Rattle.std.proofs.lemmas.Bool.{false≢true}
 use Rattle.csv.specs.Records.{fields_of}
-use Rattle.pawn_terms.specs.Calendar.{day_text}
-use Rattle.pawn_pledge.specs.Secret.{secret_text}
-use Rattle.pawn_csv.specs.Columns.{version_text, issue_text, sort_text, state_text}
 use Rattle.pawn_csv.specs.Spelling.{column_at}
 use Rattle.pawn_csv.proofs.RowLemmas.{blank_after, is_terms, no_terms}
 use Rattle.pawn_csv.proofs.spelling.read_terms_row.Goals as goal

@@ -1,0 +1,53 @@
+-- The book that rows make once all of them are read.
+use Rattle.std.specs.Prelude.{◌≡◌, true, false, List, map, Option, Some, Result, Ok, Err}
+use Rattle.pawn_terms.specs.declared.terms.Rates.{Rates}
+use Rattle.pawn_pledge.specs.Number.{IsNumber}
+use Rattle.pawn_pledge.specs.Pledge.{PledgeValue}
+use Rattle.pawn_pledge.specs.Replayable.{Each}
+use Rattle.pawn_pledge.specs.declared.record.Closing.{Closing}
+use Rattle.pawn_book.specs.Rows.{AreReplayable, IsUnder}
+use Rattle.pawn_book.specs.declared.rows.BookRows.{BookRows}
+use Rattle.pawn_csv.specs.declared.fault.Cause.{Cause}
+use Rattle.pawn_csv.specs.declared.fault.Cause.TheVariants as cause
+use Rattle.pawn_csv.specs.declared.order.RawPledge.{RawPledge}
+use Rattle.pawn_csv.specs.declared.row.PledgeColumns.{PledgeColumns}
+use Rattle.pawn_csv.specs.Order.{Begun, is_whole, pledges_of}
+use Rattle.pawn_csv.specs.Rows.{closing_amount, closing_day, closing_word, columns_of}
+
+-- a pledge as its rows tell it
+abbrev pub raw_of : PledgeValue → RawPledge
+raw_of p = record { columns = columns_of p; secrets = p.secrets; entries = p.entries; extensions = p.extensions; booking = p.standing.booking }
+
+-- columns that tell this closing
+abbrev pub IsClosingOf : PledgeColumns → Closing → Type 0
+IsClosingOf c closing =
+    (c.closing ≡ closing_word closing) × (c.closing_day ≡ closing_day closing) × (c.amount ≡ closing_amount closing)
+
+-- the rows of a pledge that a book with these terms can have
+abbrev pub IsRawOf : List Rates → RawPledge → PledgeValue → Type 0
+IsRawOf terms raw p = (raw ≡ raw_of p) × IsUnder terms p × IsNumber p.agreement.number
+
+-- the same of each pledge in turn
+abbrev pub AreRawOf : List Rates → List RawPledge → List PledgeValue → Type 0
+AreRawOf terms raws pledges =
+    (raws ≡ map raw_of pledges) × Each (IsUnder terms) pledges × Each (λ p. IsNumber p.agreement.number) pledges
+
+-- what was read is this book
+abbrev pub IsBegunOf : Begun → BookRows → Type 0
+IsBegunOf b k = (b.terms ≡ k.terms) × AreRawOf b.terms (pledges_of b) k.pledges
+
+-- what was read is whole, and the book is replayable
+abbrev pub IsFinishedAs : Option Begun → BookRows → Type 0
+IsFinishedAs s k = (b : Begun) × (s ≡ Some b) × (is_whole s ≡ true) × IsBegunOf b k × AreReplayable k.terms k.pledges
+
+-- it is whole, and of no replayable book
+abbrev pub IsOfNoBook : Option Begun → Type 0
+IsOfNoBook s = (b : Begun) × (s ≡ Some b) × (is_whole s ≡ true) × ((k : BookRows) → IsBegunOf b k → AreReplayable k.terms k.pledges → ⊥)
+
+-- what the end of the rows makes
+abbrev pub Ends : Option Begun → Result BookRows Cause → Type 0
+Ends s (Ok k) = IsFinishedAs s k
+Ends s (Err cause.Order) = is_whole s ≡ false
+Ends s (Err cause.NotReplayable) = IsOfNoBook s
+Ends s (Err cause.Memory) = Unit {0}
+Ends s (Err e) = ⊥
