@@ -2,3 +2,5 @@ pub mod ColumnLemmas
 pub mod RowLemmas
 pub mod FinishLemmas
 pub mod ReadLemmas
+pub mod OrderLemmas
+pub mod BookLemmas

@@ -107,9 +107,5 @@ pub fn read_book<R: Read + Drop>(alloc: Global, reader: R) -> Result<ReplayableR
     ensures found { IfOk result (λ k. IfSome (R.remaining reader) (λ text. IsTextOf (strip_bom text) k)) }
     ensures fault { IfErr result (λ f. IfSome (R.remaining reader) (λ text. IsFaultOf (strip_bom text) f.cause f.row)) }
 {
-    let _ = (alloc, reader);
-    Err(CsvFault {
-        cause: Cause::Memory,
-        row: 1,
-    })
+    take_all(alloc, reader)
 }
