@@ -1,3 +1,10 @@
+pub mod ColumnLemmas
+pub mod RowLemmas
+pub mod FinishLemmas
+pub mod ReadLemmas
+pub mod OrderLemmas
+pub mod BookLemmas
+pub mod RoundLemmas
 pub mod OneSpelling
 pub mod OneReading
 pub mod OneBook

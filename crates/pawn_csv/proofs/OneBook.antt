@@ -18,7 +18,7 @@ use Rattle.pawn_csv.specs.declared.order.RawPledge.{RawPledge}
 use Rattle.pawn_csv.specs.declared.row.ClosingWord.{ClosingWord}
 use Rattle.pawn_csv.specs.declared.row.ClosingWord.TheVariants as closing
 use Rattle.pawn_csv.specs.Finishing.{IsBegunOf, IsFinishedAs, raw_of}
-use Rattle.pawn_csv.specs.OneReading.{TextsHoldOneBook}
+use Rattle.pawn_csv.specs.Laws.{TextsHoldOneBook}
 use Rattle.pawn_csv.specs.Order.{Begun}
 use Rattle.pawn_csv.specs.Reading.{AreTaken, IsReadAs}
 use Rattle.pawn_csv.specs.Rows.{closing_amount, closing_day, closing_word}

@@ -14,7 +14,7 @@ use Rattle.pawn_csv.specs.declared.fault.Cause.{Cause}
 use Rattle.pawn_csv.specs.declared.fault.Cause.TheVariants as cause
 use Rattle.pawn_csv.specs.declared.row.Row.{Row}
 use Rattle.pawn_csv.specs.Finishing.{IsBegunOf, IsFinishedAs, IsOfNoBook}
-use Rattle.pawn_csv.specs.OneReading.{FirstFaultsAreOne, FirstFaultsExcludeBooks}
+use Rattle.pawn_csv.specs.Laws.{FirstFaultsAreOne, FirstFaultsExcludeBooks}
 use Rattle.pawn_csv.specs.Order.{Begun, is_whole, place, run, then_run}
 use Rattle.pawn_csv.specs.Reading.{AreTaken, EndsAs, IsFirstFault, IsNoRow, IsRefused, RefusesEnd, RefusesRow, Taking}
 use Rattle.pawn_csv.specs.Rows.{Fits, header, row_fields}

@@ -49,3 +49,7 @@ state_text state.Cancelled = codes "cancelled"
 abbrev pub text_if_any : (ℕ → List ℕ) → Option ℕ → List ℕ
 text_if_any text None = []
 text_if_any text (Some n) = text n
+
+-- a column of which each value has its word
+abbrev pub IsAny : {A : Type 0} → A → Type 0
+IsAny value = Unit {0}

@@ -44,12 +44,6 @@ IsFinishedAs s k = (b : Begun) × (s ≡ Some b) × (is_whole s ≡ true) × IsB
 abbrev pub IsOfNoBook : Option Begun → Type 0
 IsOfNoBook s = (b : Begun) × (s ≡ Some b) × (is_whole s ≡ true) × ((k : BookRows) → IsBegunOf b k → AreReplayable k.terms k.pledges → ⊥)
 
--- why what was read is judged to be none
-abbrev pub IsJudged : Begun → Cause → Type 0
-IsJudged b cause.NotReplayable = (k : BookRows) → IsBegunOf b k → AreReplayable k.terms k.pledges → ⊥
-IsJudged b cause.Memory = Unit {0}
-IsJudged b _ = ⊥
-
 -- what the end of the rows makes
 abbrev pub Ends : Option Begun → Result BookRows Cause → Type 0
 Ends s (Ok k) = IsFinishedAs s k

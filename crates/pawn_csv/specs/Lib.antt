@@ -1,10 +1,11 @@
 pub mod Columns
 pub mod Fault
 pub mod Rows
+pub mod Spelling
 pub mod Order
+pub mod Answers
 pub mod Finishing
 pub mod Reading
+pub mod Laws
 pub mod Sent
 pub mod Exports
-pub mod OneRow
-pub mod OneReading

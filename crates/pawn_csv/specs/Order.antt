@@ -10,6 +10,8 @@ use Rattle.pawn_pledge.specs.declared.record.Issued.{Issued}
 use Rattle.pawn_book.specs.Limits.{most_pledges, most_terms}
 use Rattle.pawn_csv.specs.declared.fault.Cause.{Cause}
 use Rattle.pawn_csv.specs.declared.fault.Cause.TheVariants as cause
+use Rattle.pawn_csv.specs.declared.order.BegunBook.{BegunBook}
+use Rattle.pawn_csv.specs.declared.order.RawBook.{RawBook}
 use Rattle.pawn_csv.specs.declared.order.RawPledge.{RawPledge}
 use Rattle.pawn_csv.specs.declared.row.PledgeColumns.{PledgeColumns}
 use Rattle.pawn_csv.specs.declared.row.Row.{Row}
@@ -24,6 +26,24 @@ pub record Begun : Type 0 where
   pub terms : List Rates
   pub pledges : List RawPledge
   pub at_hand : Option RawPledge
+
+-- what the code keeps, as it is seen here
+abbrev pub view_begun : BegunBook → Begun
+view_begun b = record {
+  version = b.version;
+  terms_due = b.terms_due;
+  pledges_due = b.pledges_due;
+  terms = b.terms;
+  pledges = b.pledges.items;
+  at_hand = b.at_hand;
+}
+
+abbrev pub view_if_any : Option BegunBook → Option Begun
+view_if_any None = None
+view_if_any (Some b) = Some (view_begun b)
+
+abbrev pub begun_of : RawBook → Option Begun
+begun_of raw = view_if_any raw.begun
 
 -- an answer where a test holds, else a row where it can't stand
 abbrev pub in_order : {A : Type 0} → Bool → A → Result A Cause
@@ -76,7 +96,7 @@ place_book s version terms pledges =
 -- the next version of terms, as long as some are due; the pledges come after all of them
 abbrev pub place_terms : Begun → ℕ → Rates → Result Begun Cause
 place_terms b version rates =
-    in_order ((version == length b.terms + 1) && nat_le version b.terms_due && is_nil (pledges_of b))
+    in_order ((version == length b.terms + 1) && nat_le version b.terms_due && (length (pledges_of b) == 0))
     (record b { terms = b.terms ++ rates ∷ [] })
 
 -- the next pledge, as long as some are due, where the one before it may end

@@ -38,14 +38,14 @@ IsNoRow fields = (r : Row) → Fits r → fields ≡ row_fields r → ⊥
 abbrev pub IsRefused : List (List ℕ) → Option Begun → Cause → Type 0
 IsRefused fields old c = (r : Row) × IsSpelled fields r × (place old r ≡ Err c)
 
--- why a record after the header is not taken
+-- why a record after the header is not taken: memory is wanting, it has another number of columns, they spell no row, or the
+-- row is refused there
 abbrev pub RefusesRow : List (List ℕ) → Option Begun → Cause → Type 0
-RefusesRow fields old cause.Csv = length fields ≢ length header
-RefusesRow fields old cause.BadField = (length fields ≡ length header) × (IsNoRow fields ⊎ IsRefused fields old cause.BadField)
-RefusesRow fields old cause.TooMany = IsRefused fields old cause.TooMany
-RefusesRow fields old cause.Order = IsRefused fields old cause.Order
-RefusesRow fields old cause.Memory = Unit {0}
-RefusesRow fields old _ = ⊥
+RefusesRow fields old c =
+    (c ≡ cause.Memory)
+    ⊎ (((c ≡ cause.Csv) × (length fields ≢ length header))
+    ⊎ (((c ≡ cause.BadField) × (length fields ≡ length header) × IsNoRow fields)
+    ⊎ IsRefused fields old c))
 
 -- what taking the next record does: the header is first, and then rows
 abbrev pub Taking : {U : Type 0} → Bool → List (List ℕ) → Option Begun → Result U Cause → Option Begun → Type 0

@@ -1,17 +1,23 @@
 //! A book's text: its rows as records of comma-separated columns.
 #![tactic(auto)]
 
+mod columns;
 mod exporting;
 mod fault;
-pub mod one;
+mod finishing;
+mod laws;
 mod order;
 mod reading;
 mod row;
+mod spelling;
+#[cfg(test)]
+mod tests;
 mod words;
 mod writing;
 
 pub use exporting::{ExportFault, RowWriter};
 pub use fault::{Cause, CsvFault};
+pub use laws::{laws_of_texts, rows_have_one_spelling, texts_have_one_reading};
 pub use pawn_book::{
     BookRows, Booking, Day, Entry, Extension, Issued, Opening, Rates, ReplayableRows,
 };

@@ -1,7 +1,17 @@
 //! The order of a book's rows.
+ghost use Rattle.std.specs.Prelude.{◌≡◌, Some, length};
+ghost use Rattle.pawn_csv.specs.Order.{begun_of, has_secret, is_whole, may_end, on_hand, on_second, place, place_after, place_before, place_booking, place_entry, place_extension, place_pledge, place_secret, place_terms, pledges_of, raw_pledge, view_begun};
+ghost use Rattle.pawn_csv.specs.Answers.{Answers, Gives, Places};
 
-use crate::row::{PledgeColumns, Version};
-use pawn_book::{Booking, Entries, Extensions, Rates, Rows, Secrets};
+use crate::fault::Cause;
+use crate::row::{PledgeColumns, Row, Version};
+use pawn_book::{
+    Booking, Entries, Entry, Extension, Extensions, Issued, MOST_PLEDGES, MOST_TERMS, Rates, Rows,
+    Secrets,
+};
+use pawn_debt::MOST_ENTRIES;
+use pawn_pledge::{MOST_EXTENSIONS, MOST_SECRETS};
+use std::alloc::Global;
 
 /// A pledge as its rows so far tell it, be it one that can have come about or not.
 #[derive(Drop)]
@@ -11,4 +21,318 @@ pub(crate) struct RawPledge {
     pub entries: Entries,
     pub extensions: Extensions,
     pub booking: Option<Booking>,
+}
+
+impl RawPledge {
+    // A pledge whose own row was read.
+    fn new(alloc: Global, columns: PledgeColumns) -> RawPledge
+        ensures value { result ≡ raw_pledge columns }
+    {
+        RawPledge {
+            columns,
+            secrets: Rows::new(alloc),
+            entries: Rows::new(alloc),
+            extensions: Rows::new(alloc),
+            booking: None,
+        }
+    }
+
+    // Whether it has the secret of its opening.
+    fn has_secret(&self) -> bool
+        ensures value { result ≡ has_secret self.now }
+    {
+        !self.secrets.is_empty()
+    }
+
+    // Takes the row of a secret.
+    fn place_secret(&mut self, place: u64, issued: Issued) -> Result<(), Cause>
+        ensures answer { Places (place_secret self.old place issued) result self.new }
+    {
+        if self.secrets.len() >= MOST_SECRETS {
+            return Err(Cause::TooMany);
+        }
+        if place != self.secrets.len() as u64 + 1 {
+            return Err(Cause::Order);
+        }
+        if !self.entries.is_empty() || !self.extensions.is_empty() || self.booking.is_some() {
+            return Err(Cause::Order);
+        }
+        match self.secrets.push(issued) {
+            Ok(()) => Ok(()),
+            Err(_) => Err(Cause::Memory),
+        }
+    }
+
+    // Takes the row of an entry.
+    fn place_entry(&mut self, entry: Entry) -> Result<(), Cause>
+        ensures answer { Places (place_entry self.old entry) result self.new }
+    {
+        if self.entries.len() >= MOST_ENTRIES {
+            return Err(Cause::TooMany);
+        }
+        if entry.seq != self.entries.len() as u64 + 1 {
+            return Err(Cause::Order);
+        }
+        if !self.has_secret() || !self.extensions.is_empty() || self.booking.is_some() {
+            return Err(Cause::Order);
+        }
+        match self.entries.push(entry) {
+            Ok(()) => Ok(()),
+            Err(_) => Err(Cause::Memory),
+        }
+    }
+
+    // Takes the row of an extension.
+    fn place_extension(&mut self, place: u64, extension: Extension) -> Result<(), Cause>
+        ensures answer { Places (place_extension self.old place extension) result self.new }
+    {
+        if self.extensions.len() >= MOST_EXTENSIONS {
+            return Err(Cause::TooMany);
+        }
+        if place != self.extensions.len() as u64 + 1 {
+            return Err(Cause::Order);
+        }
+        if !self.has_secret() || self.booking.is_some() {
+            return Err(Cause::Order);
+        }
+        match self.extensions.push(extension) {
+            Ok(()) => Ok(()),
+            Err(_) => Err(Cause::Memory),
+        }
+    }
+
+    // Takes the row of a booking.
+    fn place_booking(&mut self, booking: Booking) -> Result<(), Cause>
+        ensures answer { Places (place_booking self.old booking) result self.new }
+    {
+        if !self.has_secret() || self.booking.is_some() {
+            return Err(Cause::Order);
+        }
+        self.booking = Some(booking);
+        Ok(())
+    }
+}
+
+/// A book of which some rows were read.
+#[derive(Drop)]
+pub(crate) struct BegunBook {
+    pub version: Version,
+    pub terms_due: u64,
+    pub pledges_due: u64,
+    pub terms: Rows<Rates>,
+    pub pledges: Vec<RawPledge>,
+    pub at_hand: Option<RawPledge>,
+}
+
+// The book that a first row begins.
+fn begin(alloc: Global, row: &Row) -> Result<BegunBook, Cause>
+    ensures answer { Gives view_begun (place_before row.now) result }
+{
+    let Row::Book {
+        version,
+        terms,
+        pledges,
+    } = row
+    else {
+        return Err(Cause::Order);
+    };
+    if *terms > MOST_TERMS || *pledges > MOST_PLEDGES {
+        return Err(Cause::TooMany);
+    }
+    Ok(BegunBook {
+        version: *version,
+        terms_due: *terms,
+        pledges_due: *pledges,
+        terms: Rows::new(alloc),
+        pledges: Vec::new(alloc),
+        at_hand: None,
+    })
+}
+
+impl BegunBook {
+    // How many pledges there are so far.
+    fn count_pledges(&self) -> u64
+        ensures value { result ≡ length (pledges_of (view_begun self.now)) }
+    {
+        let over = self.pledges.len() as u64;
+        if self.at_hand.is_some() {
+            over + 1
+        } else {
+            over
+        }
+    }
+
+    // Whether the rows of the pledge at hand may be over.
+    fn may_end(&self) -> bool
+        ensures value { result ≡ may_end self.now.at_hand }
+    {
+        match &self.at_hand {
+            None => true,
+            Some(pledge) => pledge.has_secret(),
+        }
+    }
+
+    // Takes the row of a version of terms.
+    fn place_terms(&mut self, version: u64, rates: Rates) -> Result<(), Cause>
+        ensures answer { Places (place_terms (view_begun self.old) version rates) result (view_begun self.new) }
+    {
+        if self.terms.len() as u64 >= self.terms_due || version != self.terms.len() as u64 + 1 {
+            return Err(Cause::Order);
+        }
+        if self.count_pledges() != 0 {
+            return Err(Cause::Order);
+        }
+        match self.terms.push(rates) {
+            Ok(()) => Ok(()),
+            Err(_) => Err(Cause::Memory),
+        }
+    }
+
+    // Takes the row of a pledge.
+    fn place_pledge(&mut self, alloc: Global, columns: PledgeColumns) -> Result<(), Cause>
+        ensures answer { Places (place_pledge (view_begun self.old) columns) result (view_begun self.new) }
+    {
+        if self.terms.len() as u64 != self.terms_due || !self.may_end() {
+            return Err(Cause::Order);
+        }
+        if columns.number != self.count_pledges() + 1 || columns.number > self.pledges_due {
+            return Err(Cause::Order);
+        }
+        if let Some(pledge) = self.at_hand.take() {
+            if self.pledges.push(pledge).is_err() {
+                return Err(Cause::Memory);
+            }
+        }
+        self.at_hand = Some(RawPledge::new(alloc, columns));
+        Ok(())
+    }
+
+    // Takes the row of a secret of the pledge at hand.
+    fn place_secret(&mut self, number: u64, place: u64, issued: Issued) -> Result<(), Cause>
+        ensures answer { Places (on_hand (view_begun self.old) number self.old.at_hand (λ p. place_secret p place issued)) result (view_begun self.new) }
+    {
+        match &mut self.at_hand {
+            None => Err(Cause::Order),
+            Some(pledge) => {
+                if pledge.columns.number != number {
+                    return Err(Cause::Order);
+                }
+                pledge.place_secret(place, issued)
+            }
+        }
+    }
+
+    // Takes the row of an entry of the pledge at hand.
+    fn place_entry(&mut self, number: u64, entry: Entry) -> Result<(), Cause>
+        ensures answer { Places (on_hand (view_begun self.old) number self.old.at_hand (λ p. place_entry p entry)) result (view_begun self.new) }
+    {
+        match &mut self.at_hand {
+            None => Err(Cause::Order),
+            Some(pledge) => {
+                if pledge.columns.number != number {
+                    return Err(Cause::Order);
+                }
+                pledge.place_entry(entry)
+            }
+        }
+    }
+
+    // Takes the row of an extension of the pledge at hand, which the first version has not.
+    fn place_extension(
+        &mut self,
+        number: u64,
+        place: u64,
+        extension: Extension,
+    ) -> Result<(), Cause>
+        ensures answer { Places (on_second self.old.version (on_hand (view_begun self.old) number self.old.at_hand (λ p. place_extension p place extension))) result (view_begun self.new) }
+    {
+        if let Version::One = self.version {
+            return Err(Cause::BadField);
+        }
+        match &mut self.at_hand {
+            None => Err(Cause::Order),
+            Some(pledge) => {
+                if pledge.columns.number != number {
+                    return Err(Cause::Order);
+                }
+                pledge.place_extension(place, extension)
+            }
+        }
+    }
+
+    // Takes the row of the booking of the pledge at hand.
+    fn place_booking(&mut self, number: u64, booking: Booking) -> Result<(), Cause>
+        ensures answer { Places (on_hand (view_begun self.old) number self.old.at_hand (λ p. place_booking p booking)) result (view_begun self.new) }
+    {
+        match &mut self.at_hand {
+            None => Err(Cause::Order),
+            Some(pledge) => {
+                if pledge.columns.number != number {
+                    return Err(Cause::Order);
+                }
+                pledge.place_booking(booking)
+            }
+        }
+    }
+
+    // Takes a row after the first.
+    fn place(&mut self, alloc: Global, row: Row) -> Result<(), Cause>
+        ensures answer { Places (place_after (view_begun self.old) row) result (view_begun self.new) }
+    {
+        match row {
+            Row::Book { terms, pledges, .. } => {
+                if terms > MOST_TERMS || pledges > MOST_PLEDGES {
+                    return Err(Cause::TooMany);
+                }
+                Err(Cause::Order)
+            }
+            Row::Terms { version, rates } => self.place_terms(version, rates),
+            Row::Pledge(columns) => self.place_pledge(alloc, columns),
+            Row::Secret {
+                number,
+                place,
+                issued,
+            } => self.place_secret(number, place, issued),
+            Row::Entry { number, entry } => self.place_entry(number, entry),
+            Row::Extension {
+                number,
+                place,
+                extension,
+            } => self.place_extension(number, place, extension),
+            Row::Booking { number, booking } => self.place_booking(number, booking),
+        }
+    }
+
+    // Whether all is there that the first row says, and the last pledge may end.
+    pub(crate) fn is_whole(&self) -> bool
+        ensures value { result ≡ is_whole (Some (view_begun self.now)) }
+    {
+        self.terms.len() as u64 == self.terms_due
+            && self.count_pledges() == self.pledges_due
+            && self.may_end()
+    }
+}
+
+/// What the rows so far make: nothing before the first.
+#[derive(Drop)]
+pub(crate) struct RawBook {
+    pub begun: Option<BegunBook>,
+}
+
+impl RawBook {
+    /// Takes the next row.
+    pub(crate) fn place(&mut self, alloc: Global, row: Row) -> Result<(), Cause>
+        ensures answer { Answers (place (begun_of self.old) row) result (begun_of self.new) }
+    {
+        match &mut self.begun {
+            Some(begun) => begun.place(alloc, row),
+            None => match begin(alloc, &row) {
+                Err(cause) => Err(cause),
+                Ok(begun) => {
+                    self.begun = Some(begun);
+                    Ok(())
+                }
+            },
+        }
+    }
 }

@@ -1,12 +1,105 @@
 //! Reading a book's text.
 ghost use Rattle.std.specs.Prelude.{IfErr, IfOk, IfSome};
-ghost use Rattle.csv.specs.Reading.{strip_bom};
-ghost use Rattle.pawn_csv.specs.Reading.{IsFaultOf, IsTextOf};
+ghost use Rattle.csv.specs.Reading.{error_kind, strip_bom};
+ghost use Rattle.csv.specs.Records.{fields_of};
+ghost use Rattle.pawn_csv.specs.Order.{begun_of};
+ghost use Rattle.pawn_csv.specs.Reading.{CauseOf, IsFaultOf, IsReadAs, IsTextOf, Taking};
 
 use crate::fault::{Cause, CsvFault};
+use crate::order::RawBook;
+use crate::spelling::{is_header, read_row};
+use csv::{ByteRecord, Error, ErrorKind, ReaderBuilder};
 use pawn_book::ReplayableRows;
 use std::alloc::Global;
 use std::io::Read;
+
+// What an error of the library's reader is here.
+fn cause_of(error: &Error) -> Cause
+    ensures cause { CauseOf (error_kind error.now) result }
+{
+    match error.kind() {
+        ErrorKind::Io(_) => Cause::Read,
+        ErrorKind::OutOfMemory => Cause::Memory,
+        _ => Cause::Csv,
+    }
+}
+
+// Takes the next record: the header, or a row.
+fn take(alloc: Global, raw: &mut RawBook, columns: &ByteRecord, first: bool) -> Result<(), Cause>
+    ensures taking { Taking first (fields_of columns.now) (begun_of raw.old) result (begun_of raw.new) }
+{
+    if first {
+        return if is_header(columns) {
+            Ok(())
+        } else {
+            Err(Cause::Columns)
+        };
+    }
+    if columns.len() != 15 {
+        return Err(Cause::Csv);
+    }
+    let Ok(row) = read_row(alloc, columns) else {
+        return Err(Cause::Memory);
+    };
+    match row {
+        None => Err(Cause::BadField),
+        Some(row) => raw.place(alloc, row),
+    }
+}
+
+// Takes the records of a text in turn, and makes the book at their end.
+fn take_all<R: Read + Drop>(alloc: Global, reader: R) -> Result<ReplayableRows, CsvFault>
+    ensures found { IfOk result (λ k. IfSome (R.remaining reader) (λ text. IsReadAs (strip_bom text) k)) }
+    ensures fault { IfErr result (λ f. IfSome (R.remaining reader) (λ text. IsFaultOf (strip_bom text) f.cause f.row)) }
+{
+    let mut rdr = ReaderBuilder::new()
+        .has_headers(false)
+        .flexible(true)
+        .from_reader(alloc, reader);
+    let mut raw = RawBook { begun: None };
+    let mut record = ByteRecord::new(alloc);
+    for index in 0..u64::MAX {
+        match rdr.read_byte_record(&mut record) {
+            Err(error) => {
+                return Err(CsvFault {
+                    cause: cause_of(&error),
+                    row: index + 1,
+                });
+            }
+            Ok(false) => {
+                if index == 0 {
+                    return Err(CsvFault {
+                        cause: Cause::Columns,
+                        row: 1,
+                    });
+                }
+                match raw.finish(alloc) {
+                    Ok(book) => return Ok(book),
+                    Err(cause) => {
+                        return Err(CsvFault {
+                            cause,
+                            row: index + 1,
+                        });
+                    }
+                }
+            }
+            Ok(true) => {}
+        }
+        match take(alloc, &mut raw, &record, index == 0) {
+            Ok(()) => {}
+            Err(cause) => {
+                return Err(CsvFault {
+                    cause,
+                    row: index + 1,
+                });
+            }
+        }
+    }
+    Err(CsvFault {
+        cause: Cause::Memory,
+        row: u64::MAX,
+    })
+}
 
 /// The book that a text holds, or the first fault of the text and its row. A byte order mark is
 /// passed over. The reader may fail, and memory be wanting, at any row.
@@ -14,9 +107,5 @@ pub fn read_book<R: Read + Drop>(alloc: Global, reader: R) -> Result<ReplayableR
     ensures found { IfOk result (λ k. IfSome (R.remaining reader) (λ text. IsTextOf (strip_bom text) k)) }
     ensures fault { IfErr result (λ f. IfSome (R.remaining reader) (λ text. IsFaultOf (strip_bom text) f.cause f.row)) }
 {
-    let _ = (alloc, reader);
-    Err(CsvFault {
-        cause: Cause::Memory,
-        row: 1,
-    })
+    take_all(alloc, reader)
 }

@@ -1,6 +1,10 @@
-//! Laws of rows.
-ghost use Rattle.pawn_csv.specs.OneRow.{RowsHaveOneSpelling};
-ghost use Rattle.pawn_csv.specs.OneReading.{FirstFaultsAreOne, FirstFaultsExcludeBooks, TextsHoldOneBook};
+//! Laws of texts and of their rows.
+ghost use Rattle.pawn_csv.specs.Laws.{FirstFaultsAreOne, FirstFaultsExcludeBooks, RowsHaveOneSpelling, TextsAreRead, TextsHoldOneBook};
+
+/// The text of a book is a text of that book.
+pub fn laws_of_texts()
+    ensures read { TextsAreRead }
+{}
 
 /// Two rows with the same columns are one.
 pub fn rows_have_one_spelling()

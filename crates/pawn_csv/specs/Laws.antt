@@ -1,9 +1,21 @@
--- A text has one reading: one book, or one first fault.
+-- Laws of texts and of their rows.
 use Rattle.std.specs.Prelude.{◌≡◌, ◌≢◌, ℕ, List}
+use Rattle.csv.specs.Reading.{strip_bom}
 use Rattle.pawn_book.specs.declared.rows.BookRows.{BookRows}
 use Rattle.pawn_csv.specs.declared.fault.Cause.{Cause}
 use Rattle.pawn_csv.specs.declared.fault.Cause.TheVariants as cause
-use Rattle.pawn_csv.specs.Reading.{IsFirstFault, IsReadAs}
+use Rattle.pawn_csv.specs.declared.row.Row.{Row}
+use Rattle.pawn_csv.specs.declared.row.Version.TheVariants as version
+use Rattle.pawn_csv.specs.Reading.{IsFirstFault, IsHeldBy, IsReadAs, IsTextOf}
+use Rattle.pawn_csv.specs.Rows.{Fits, csv_of, row_fields}
+
+-- the text of a book that a text can hold is a text of that book
+abbrev pub TextsAreRead : Type 0
+TextsAreRead = (k : BookRows) → IsHeldBy version.Two k → IsTextOf (strip_bom (csv_of k)) k
+
+-- two rows with the same columns are one
+abbrev pub RowsHaveOneSpelling : Type 0
+RowsHaveOneSpelling = (r s : Row) → Fits r → Fits s → row_fields r ≡ row_fields s → r ≡ s
 
 -- two first faults of a text are one, in one row
 abbrev pub FirstFaultsAreOne : Type 0

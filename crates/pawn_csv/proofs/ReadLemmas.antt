@@ -1,0 +1,197 @@
+-- The records so far, and what they make.
+use Rattle.std.proofs.Common.{◌≡◌, ◌≢◌, ◌∙◌, ◌+◌, ℕ, Bool, true, false, List, [], ◌∷◌, ◌++◌, length, map, Option, Some, None, Result, Ok, Err, refl, sym, ap, subst, arith, nat_eq, inl, inr}
+use Rattle.std.specs.Prelude.{IfSome}
+use Rattle.std.proofs.lemmas.List.{map-append, length-append}
+use Rattle.std.proofs.lemmas.Bool.Decides.{nat_tests}
+use Rattle.csv.specs.Machine.{Read, next_record}
+use Rattle.csv.specs.declared.parser.State.{State}
+use Rattle.csv.specs.Reading.{Reached, ReadRecord, ExplainsRead, ReadsNext, NextIs, default_config, source_of, pending_of}
+use Rattle.csv.specs.declared.error.ErrorKind.{ErrorKind}
+use Rattle.csv.specs.declared.error.ErrorKind.TheVariants as kind
+use Rattle.pawn_csv.specs.declared.fault.Cause.TheVariants as cause
+use Rattle.csv.specs.declared.reader.Reader.{Reader}
+use Rattle.csv.specs.declared.parser.State.TheVariants as st
+use Rattle.csv.proofs.ReadFacts.{rows-end, rows-more}
+use Rattle.pawn_csv.specs.declared.row.Row.{Row}
+use Rattle.pawn_csv.specs.declared.fault.Cause.{Cause}
+use Rattle.pawn_csv.specs.Order.{Begun, place, run, then_run}
+use Rattle.pawn_csv.specs.Finishing.{Ends, IsFinishedAs}
+use Rattle.pawn_pledge.specs.Replayable.{Each}
+use Rattle.pawn_book.specs.declared.rows.BookRows.{BookRows}
+use Rattle.pawn_csv.specs.Rows.{Fits, row_fields}
+use Rattle.pawn_csv.specs.Reading.{AreTaken, CauseOf, EndsAs, IsFaultOf, IsFirstFault, IsReadAs, IsSpelled, RefusesRow, Taking}
+use Rattle.pawn_csv.specs.Answers.{Answers, Fails}
+
+pub record SoFar {R : Type 0} (rem : R → Option (List ℕ)) (text : List ℕ) (rdr : Reader R) (index : ℕ) (raw : Option Begun) : Type 0 where
+  pub y : List ℕ
+  pub source : source_of rem rdr ≡ Some y
+  pub records : List (List (List ℕ))
+  pub rows : List Row
+  pub reached : Reached default_config st.StartRecord text records rdr.state y
+  pub taken : AreTaken records rows raw
+  pub count : length records ≡ index
+
+-- one row after others
+run-push : (rows : List Row) (r : Row) (s t : Option Begun) (b : Begun) → run s rows ≡ Ok t → place t r ≡ Ok b → run s (rows ++ r ∷ []) ≡ Ok (Some b)
+run-push [] r s t b ran placed = let same : s ≡ t = cc in rw (same, placed) refl
+run-push (q ∷ rows) r s t b ran placed =
+    elim (place s q) as (λ v. then_run v (λ m. run m rows) ≡ Ok t → then_run v (λ m. run m (rows ++ r ∷ [])) ≡ Ok (Some b)) [
+      | Ok m ↦ λ rest. run-push rows r (Some m) t b rest placed
+      | Err e ↦ λ rest. cc
+    ] ran
+
+each-push : (rows : List Row) (r : Row) → Each Fits rows → Fits r → Each Fits (rows ++ r ∷ [])
+each-push [] r h f = (f, tt)
+each-push (q ∷ rows) r h f = (h.0, each-push rows r h.1 f)
+
+taken_more : {U : Type 0} (u : U) (records : List (List (List ℕ))) (rows : List Row) (i : ℕ) (f : List (List ℕ)) (raw new : Option Begun)
+    → length records ≡ i → AreTaken records rows raw → Taking (nat_eq i 0) f raw (let r : Result U Cause = Ok u in r) new → (more : List Row) × AreTaken (records ++ f ∷ []) more new
+taken_more u [] rows i f raw new count taken step =
+    let first : nat_eq i 0 ≡ true = grind (arith, nat_tests, count) in
+    let step' = rw first at step in
+    ([], (step'.0, refl, tt, ap Ok (sym (step'.1 ∙ taken.1))))
+taken_more u (h ∷ rs) rows i f raw new count taken step =
+    let later : nat_eq i 0 ≡ false = grind (arith, nat_tests, count) in
+    let (r, b, spelled, placed, is) = rw later at step in (
+      rows ++ r ∷ [],
+      (
+        taken.0,
+        ap (λ xs. xs ++ f ∷ []) taken.1 ∙ ap (λ x. map row_fields rows ++ x ∷ []) spelled.1 ∙ sym (map-append row_fields rows (r ∷ [])),
+        each-push rows r taken.2 spelled.0,
+        run-push rows r None raw b taken.3 placed ∙ ap Ok (sym is),
+      ),
+    )
+
+-- one record more
+pub so_far_more : {R U : Type 0} (u : U) (rem : R → Option (List ℕ)) (text : List ℕ) (a b : Reader R) (i : ℕ) (f : List (List ℕ)) (raw new : Option Begun)
+    → a.config ≡ default_config → SoFar rem text a i raw → ReadRecord rem a b true f → Taking (nat_eq i 0) f raw (let r : Result U Cause = Ok u in r) new → SoFar rem text b (i + 1) new
+so_far_more u rem text a b i f raw new config so read step =
+    let (z, at_z, reached) = rows-more rem a b f default_config st.StartRecord text so.y so.records config so.source so.reached read in
+    let (rows, taken) = taken_more u so.records so.rows i f raw new so.count so.taken step in
+    record { y = z; source = at_z; records = so.records ++ f ∷ []; rows = rows; reached = reached; taken = taken; count = grind (arith, length-append so.records (f ∷ []), so.count) }
+
+-- the end of the text
+pub so_far_end : {R : Type 0} (rem : R → Option (List ℕ)) (text : List ℕ) (a b : Reader R) (i : ℕ) (f : List (List ℕ)) (raw : Option Begun) (k : BookRows)
+    → a.config ≡ default_config → SoFar rem text a i raw → ReadRecord rem a b false f → IsFinishedAs raw k → IsReadAs text k
+so_far_end rem text a b i f raw k config so read done =
+    (so.records, so.rows, raw, (a.state, so.y, so.reached, rows-end rem a b f default_config so.y config so.source read), so.taken, done)
+
+-- of the bytes, where they are told
+pub where_told : {A : Type 0} (o : Option A) (P : A → Type 0) → ((x : A) → o ≡ Some x → P x) → IfSome o P
+where_told None P h = tt
+where_told (Some x) P h = h x refl
+
+-- a first fault is the text's, whatever its cause
+pub first_is : (text : List ℕ) (c : Cause) (row : ℕ) → IsFirstFault text c row → IsFaultOf text c row
+first_is text cause.Memory row h = tt
+first_is text cause.Read row h = tt
+first_is text cause.Csv row h = h
+first_is text cause.Columns row h = h
+first_is text cause.BadField row h = h
+first_is text cause.TooMany row h = h
+first_is text cause.Order row h = h
+first_is text cause.NotReplayable row h = h
+
+-- an error of a reader that takes any length is the reader's own or memory's
+pub reader_fault : {R : Type 0} (rem : R → Option (List ℕ)) (text : List ℕ) (a b : Reader R) (k : ErrorKind) (c : Cause) (row : ℕ)
+    → a.flexible ≡ true → ExplainsRead rem a b false k → CauseOf k c → IsFaultOf text c row
+reader_fault rem text a b (kind.Io e) c row flexible why is = subst (λ (x : Cause). IsFaultOf text x row) (sym is) tt
+reader_fault rem text a b kind.OutOfMemory c row flexible why is = subst (λ (x : Cause). IsFaultOf text x row) (sym is) tt
+reader_fault rem text a b (kind.UnequalLengths pos expected len) c row flexible why is = absurd (let e = sym flexible ∙ why.0 in cc)
+reader_fault rem text a b (kind.Utf8 pos err) c row flexible why is = absurd (let e = why.0 in cc)
+reader_fault rem text a b (kind.Serialize t) c row flexible why is = absurd why
+reader_fault rem text a b (kind.Deserialize pos err) c row flexible why is = absurd why
+
+-- the record that was read is the next one
+next_is : (o : Option Read) (f : List (List ℕ)) (s : State) (ys : List ℕ) → NextIs o true f s ys → (p : Read) × (o ≡ Some p) × (f ≡ p.0)
+next_is None f s ys h = cc
+next_is (Some p) f s ys h = (p, refl, h.1)
+
+next_was : (f : List (List ℕ)) (s : State) (k : Option (List ℕ)) (xs : List ℕ) (state : State) → ReadsNext default_config state (Some xs) k true f s → (p : Read) × (next_record default_config state [] [] xs ≡ Some p) × (f ≡ p.0)
+next_was f s None xs state h = absurd h
+next_was f s (Some ys) xs state h = next_is (next_record default_config state [] [] xs) f s ys h
+
+-- a refusal says nothing of the state after it
+refused_as : (first : Bool) (f : List (List ℕ)) (raw new other : Option Begun) (c : Cause) → Taking first f raw (let r : Result (Unit {0}) Cause = Err c in r) new → Taking first f raw (let r : Result (Unit {0}) Cause = Err c in r) other
+refused_as true f raw new other c h = h
+refused_as false f raw new other c h = h
+
+end_refused : (records : List (List (List ℕ))) (raw : Option Begun) (c : Cause) → length records ≢ 0 → (let r : Result BookRows Cause = Err c in Ends raw r) → EndsAs records raw c
+end_refused [] raw c some h = absurd (some refl)
+end_refused (h ∷ rs) raw cause.Order some is = is
+end_refused (h ∷ rs) raw cause.NotReplayable some is = is
+end_refused (h ∷ rs) raw cause.Memory some is = tt
+end_refused (h ∷ rs) raw cause.Csv some is = is
+end_refused (h ∷ rs) raw cause.Columns some is = is
+end_refused (h ∷ rs) raw cause.BadField some is = is
+end_refused (h ∷ rs) raw cause.TooMany some is = is
+end_refused (h ∷ rs) raw cause.Read some is = is
+
+end_empty : (records : List (List (List ℕ))) (raw : Option Begun) → length records ≡ 0 → EndsAs records raw cause.Columns
+end_empty [] raw none = refl
+end_empty (h ∷ rs) raw none = absurd (omega (arith, none))
+
+-- the row that was read is refused
+pub so_far_refused : {R : Type 0} (rem : R → Option (List ℕ)) (text : List ℕ) (a b : Reader R) (i : ℕ) (f : List (List ℕ)) (raw new : Option Begun) (c : Cause)
+    → a.config ≡ default_config → SoFar rem text a i raw → ReadRecord rem a b true f → Taking (nat_eq i 0) f raw (let r : Result (Unit {0}) Cause = Err c in r) new → IsFaultOf text c (i + 1)
+so_far_refused rem text a b i f raw new c config so read step =
+    let (p, is, same) = next_was f b.state (pending_of (rem b.rdr) b) so.y a.state (rw (config, so.source) at read.0) in
+    first_is text c (i + 1) (record {
+      before = so.records;
+      rows = so.rows;
+      state = a.state;
+      rest = so.y;
+      begun = raw;
+      reached = so.reached;
+      taken = so.taken;
+      place = ap (λ n. n + 1) so.count;
+      why = inl (p, is, rw same at (refused_as (nat_eq (length so.records) 0) f raw new raw c (subst (λ n. Taking (nat_eq n 0) f raw (let r : Result (Unit {0}) Cause = Err c in r) new) (sym so.count) step)));
+    })
+
+-- the end is refused
+pub so_far_unfinished : {R : Type 0} (rem : R → Option (List ℕ)) (text : List ℕ) (a b : Reader R) (i : ℕ) (f : List (List ℕ)) (raw : Option Begun) (c : Cause)
+    → a.config ≡ default_config → SoFar rem text a i raw → ReadRecord rem a b false f → i ≢ 0 → (let r : Result BookRows Cause = Err c in Ends raw r) → IsFaultOf text c (i + 1)
+so_far_unfinished rem text a b i f raw c config so read some refused =
+    first_is text c (i + 1) (record {
+      before = so.records;
+      rows = so.rows;
+      state = a.state;
+      rest = so.y;
+      begun = raw;
+      reached = so.reached;
+      taken = so.taken;
+      place = ap (λ n. n + 1) so.count;
+      why = inr (rows-end rem a b f default_config so.y config so.source read, end_refused so.records raw c (λ e. some (sym so.count ∙ e)) refused);
+    })
+
+-- a text without records is refused
+pub so_far_empty : {R : Type 0} (rem : R → Option (List ℕ)) (text : List ℕ) (a b : Reader R) (i : ℕ) (f : List (List ℕ)) (raw : Option Begun)
+    → a.config ≡ default_config → SoFar rem text a i raw → ReadRecord rem a b false f → i ≡ 0 → IsFaultOf text cause.Columns 1
+so_far_empty rem text a b i f raw config so read none =
+    record {
+      before = so.records;
+      rows = so.rows;
+      state = a.state;
+      rest = so.y;
+      begun = raw;
+      reached = so.reached;
+      taken = so.taken;
+      place = ap (λ n. n + 1) (so.count ∙ none);
+      why = inr (rows-end rem a b f default_config so.y config so.source read, end_empty so.records raw (so.count ∙ none));
+    }
+
+refused_for : (fs : List (List ℕ)) (s : Option Begun) (r : Row) (c : Cause) → IsSpelled fs r → Fails (place s r) c → RefusesRow fs s c
+refused_for fs s r cause.Memory spelled h = inl refl
+refused_for fs s r cause.Csv spelled h = inr (inr (inr (r, spelled, h)))
+refused_for fs s r cause.Columns spelled h = inr (inr (inr (r, spelled, h)))
+refused_for fs s r cause.BadField spelled h = inr (inr (inr (r, spelled, h)))
+refused_for fs s r cause.Order spelled h = inr (inr (inr (r, spelled, h)))
+refused_for fs s r cause.NotReplayable spelled h = inr (inr (inr (r, spelled, h)))
+refused_for fs s r cause.TooMany spelled h = inr (inr (inr (r, spelled, h)))
+refused_for fs s r cause.Read spelled h = inr (inr (inr (r, spelled, h)))
+
+-- a row that is placed, or refused there
+pub placed_is : {U : Type 0} (first : Bool) (fs : List (List ℕ)) (s new : Option Begun) (r : Row) (res : Result U Cause) → first ≡ false → IsSpelled fs r → Answers (place s r) res new → Taking first fs s res new
+placed_is true fs s new r res is spelled h = cc
+placed_is false fs s new r (Ok u) is spelled h = (r, h.0, spelled, h.1, h.2)
+placed_is false fs s new r (Err e) is spelled h = refused_for fs s r e spelled h

@@ -1,0 +1,34 @@
+-- The text of a book, read back.
+use Rattle.std.proofs.Common.{◌≡◌, ◌++◌, ◌∷◌, [], List, refl, map}
+use Rattle.std.specs.List.{flat_map}
+use Rattle.csv.specs.Machine.{next_record}
+use Rattle.csv.specs.Reading.{Reached, default_config, strip_bom}
+use Rattle.csv.specs.Writing.{default_writer, row_text, escaped, fields_text, is_blank}
+use Rattle.csv.specs.declared.parser.State.TheVariants as st
+use Rattle.csv.proofs.RoundTrip.{read-write}
+use Rattle.std.proofs.Common.{ℕ, None}
+use Rattle.pawn_csv.specs.declared.row.Row.{Row}
+use Rattle.pawn_csv.specs.declared.row.Version.TheVariants as version
+use Rattle.pawn_csv.specs.Rows.{header, row_fields, rows_of}
+use Rattle.pawn_csv.specs.Laws.{TextsAreRead}
+
+-- written records are read back
+rows_reached : (rows : List Row) → Reached default_config st.StartRecord (flat_map (row_text default_writer) (map row_fields rows)) (map row_fields rows) st.StartRecord []
+unfolding Reached
+rows_reached [] = (refl, refl)
+rows_reached (r ∷ rs) = ((row_fields r, st.StartRecord, flat_map (row_text default_writer) (map row_fields rs)), read-write (row_fields r) (flat_map (row_text default_writer) (map row_fields rs)), refl, rows_reached rs)
+
+at_end : next_record default_config st.StartRecord [] [] [] ≡ None
+unfolding next_record
+at_end = refl
+
+-- no byte order mark
+no_mark : (rest : List ℕ) → strip_bom (row_text default_writer header ++ rest) ≡ row_text default_writer header ++ rest
+unfolding strip_bom escaped fields_text is_blank
+no_mark rest = refl
+
+pub texts_are_read : TextsAreRead
+unfolding Reached
+texts_are_read k held =
+    let tail = flat_map (row_text default_writer) (map row_fields (rows_of version.Two k)) in
+    (version.Two, rw (no_mark tail) (st.StartRecord, [], ((header, st.StartRecord, tail), read-write header tail, refl, rows_reached (rows_of version.Two k)), at_end), held)

@@ -1,0 +1,25 @@
+-- How calls answer as the order of rows says.
+use Rattle.std.specs.Prelude.{◌≡◌, Option, Some, Result, Ok, Err}
+use Rattle.pawn_csv.specs.declared.fault.Cause.{Cause}
+use Rattle.pawn_csv.specs.declared.fault.Cause.TheVariants as cause
+use Rattle.pawn_csv.specs.Order.{Begun}
+
+-- a refusal is the one that is said, unless memory was wanting
+abbrev pub Fails : {A : Type 0} → Result A Cause → Cause → Type 0
+Fails said cause.Memory = Unit {0}
+Fails said e = said ≡ Err e
+
+-- a call answers what is said, and leaves what is said there
+abbrev pub Places : {A U : Type 0} → Result A Cause → Result U Cause → A → Type 0
+Places said (Ok u) new = said ≡ Ok new
+Places said (Err e) new = Fails said e
+
+-- the same of a value that is seen in another form
+abbrev pub Gives : {A B : Type 0} → (A → B) → Result B Cause → Result A Cause → Type 0
+Gives view said (Ok value) = said ≡ Ok (view value)
+Gives view said (Err e) = Fails said e
+
+-- the same of a book that has begun
+abbrev pub Answers : {U : Type 0} → Result Begun Cause → Result U Cause → Option Begun → Type 0
+Answers said (Ok u) new = (b : Begun) × (said ≡ Ok b) × (new ≡ Some b)
+Answers said (Err e) new = Fails said e

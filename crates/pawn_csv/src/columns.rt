@@ -1,0 +1,225 @@
+//! One column.
+ghost use Rattle.std.specs.Prelude.{◌≡◌, ℕ, ◌↔◌, List, IfOk, IfNone, IfSome, IsTrue, decimal};
+ghost use Rattle.csv.specs.Records.{fields_of};
+ghost use Rattle.pawn_terms.specs.Calendar.{day_text, IsStampDay};
+ghost use Rattle.pawn_debt.specs.Due.{credit_of};
+ghost use Rattle.pawn_pledge.specs.Secret.{secret_text};
+ghost use Rattle.pawn_book.specs.Written.{IsWord};
+ghost use Rattle.pawn_csv.specs.Columns.{version_text, yes_text, kind_text, closing_text, issue_text, sort_text, state_text, text_if_any, IsAny};
+ghost use Rattle.pawn_csv.specs.Rows.{IsShort};
+ghost use Rattle.pawn_csv.specs.Spelling.{Reads, column_at, AreBlankFrom, IsTextColumn, IsShortIfAny, IsStampDayIfAny};
+
+use crate::row::{ClosingWord, Version};
+use csv::ByteRecord;
+use itoa::Buffer;
+use pawn_book::{BookingState, Day, Issue, Kind, RequestDay, Secret, Sort, Text};
+use std::alloc::{AllocError, Global};
+use uuid::Uuid;
+
+// The column at a place, from 0; empty past the last.
+pub(crate) fn column(columns: &ByteRecord, place: usize) -> &[u8]
+    ensures value { result.now ≡ column_at (fields_of columns.now) place }
+{
+    match columns.get(place) {
+        Some(field) => field,
+        None => &[],
+    }
+}
+
+// The number that a column spells.
+pub(crate) fn read_number(field: &[u8]) -> Option<u64>
+    ensures value { Reads decimal IsShort field.now result }
+{
+    let Ok(text) = str::from_utf8(field) else {
+        return None;
+    };
+    let Ok(number) = text.parse::<u64>() else {
+        return None;
+    };
+    if number >= 1_000_000_000_000 {
+        return None;
+    }
+    let mut buffer = Buffer::new();
+    if buffer.format(number).as_bytes() == field {
+        Some(number)
+    } else {
+        None
+    }
+}
+
+// The day that a column spells.
+pub(crate) fn read_day(field: &[u8]) -> Option<Day>
+    ensures value { Reads day_text IsStampDay field.now result }
+{
+    match Day::of_text(field) {
+        Ok(day) => Some(day),
+        Err(_) => None,
+    }
+}
+
+// The secret that a column spells.
+pub(crate) fn read_secret(field: &[u8]) -> Option<Secret>
+    ensures value { Reads secret_text IsWord field.now result }
+{
+    let Some(secret) = Secret::of_text(field) else {
+        return None;
+    };
+    let mut buffer = Uuid::encode_buffer();
+    let text = Uuid::from_u128(secret.word())
+        .hyphenated()
+        .encode_lower(&mut buffer);
+    if text.as_bytes() == field {
+        Some(secret)
+    } else {
+        None
+    }
+}
+
+// The version that a column spells.
+pub(crate) fn read_version(field: &[u8]) -> Option<Version>
+    ensures value { Reads version_text IsAny field.now result }
+{
+    match field {
+        b"1" => Some(Version::One),
+        b"2" => Some(Version::Two),
+        _ => None,
+    }
+}
+
+// The answer that a column spells.
+pub(crate) fn read_yes(field: &[u8]) -> Option<bool>
+    ensures value { Reads yes_text IsAny field.now result }
+{
+    match field {
+        b"yes" => Some(true),
+        b"no" => Some(false),
+        _ => None,
+    }
+}
+
+// How a column says that a pledge was closed.
+pub(crate) fn read_closing(field: &[u8]) -> Option<ClosingWord>
+    ensures value { Reads closing_text IsAny field.now result }
+{
+    match field {
+        b"open" => Some(ClosingWord::Open),
+        b"redeemed" => Some(ClosingWord::Redeemed),
+        b"sold" => Some(ClosingWord::Sold),
+        _ => None,
+    }
+}
+
+// How a column says that a secret was issued.
+pub(crate) fn read_issue(field: &[u8]) -> Option<Issue>
+    ensures value { Reads issue_text IsAny field.now result }
+{
+    match field {
+        b"opening" => Some(Issue::Opening),
+        b"sworn" => Some(Issue::Sworn),
+        b"written" => Some(Issue::Written),
+        _ => None,
+    }
+}
+
+// What a column says that an entry is.
+pub(crate) fn read_sort(field: &[u8]) -> Option<Sort>
+    ensures value { Reads sort_text IsAny field.now result }
+{
+    match field {
+        b"draw" => Some(Sort::Draw),
+        b"repay" => Some(Sort::Repay),
+        _ => None,
+    }
+}
+
+// Where a column says that a booking stands.
+pub(crate) fn read_state(field: &[u8]) -> Option<BookingState>
+    ensures value { Reads state_text IsAny field.now result }
+{
+    match field {
+        b"asked" => Some(BookingState::Asked),
+        b"confirmed" => Some(BookingState::Confirmed),
+        b"refused" => Some(BookingState::Refused),
+        b"cancelled" => Some(BookingState::Cancelled),
+        _ => None,
+    }
+}
+
+// The number that a column spells, if it is not empty.
+pub(crate) fn read_number_if_any(field: &[u8]) -> Option<Option<u64>>
+    ensures value { Reads (text_if_any decimal) IsShortIfAny field.now result }
+{
+    if field.is_empty() {
+        return Some(None);
+    }
+    match read_number(field) {
+        Some(number) => Some(Some(number)),
+        None => None,
+    }
+}
+
+// The day that a column spells, if it is not empty.
+pub(crate) fn read_day_if_any(field: &[u8]) -> Option<Option<Day>>
+    ensures value { Reads (text_if_any day_text) IsStampDayIfAny field.now result }
+{
+    if field.is_empty() {
+        return Some(None);
+    }
+    match read_day(field) {
+        Some(day) => Some(Some(day)),
+        None => None,
+    }
+}
+
+// The day of an agreed end that a column spells, if it is not empty.
+pub(crate) fn read_agreed(field: &[u8]) -> Option<Option<RequestDay>>
+    ensures value { Reads (text_if_any day_text) IsStampDayIfAny field.now result }
+{
+    if field.is_empty() {
+        return Some(None);
+    }
+    match RequestDay::of_text(field) {
+        Ok(day) => Some(Some(day)),
+        Err(_) => None,
+    }
+}
+
+// The text of a column, which keeps a text's limits.
+pub(crate) fn read_text<const MOST: usize>(
+    alloc: Global,
+    field: &[u8],
+) -> Result<Option<Text<MOST>>, AllocError>
+    ensures value { IfOk result (λ text. Reads (λ (bytes : List ℕ). bytes) (IsTextColumn MOST) field.now text) }
+{
+    let Ok(text) = str::from_utf8(field) else {
+        return Ok(None);
+    };
+    Text::of_str(alloc, text)
+}
+
+// The credit of a pledge whose kind and amount two columns spell.
+pub(crate) fn read_kind(word: &[u8], amount: &[u8]) -> Option<Kind>
+    ensures found { IfSome result (λ kind. (word.now ≡ kind_text kind) × IsShort (credit_of kind) × (amount.now ≡ decimal (credit_of kind))) }
+    ensures none { IfNone result ((kind : Kind) → word.now ≡ kind_text kind → IsShort (credit_of kind) → amount.now ≡ decimal (credit_of kind) → ⊥) }
+{
+    let Some(amount) = read_number(amount) else {
+        return None;
+    };
+    match word {
+        b"fixed" => Some(Kind::Fixed(amount)),
+        b"running" => Some(Kind::Running(amount)),
+        _ => None,
+    }
+}
+
+// Whether the columns are empty from a place on.
+pub(crate) fn are_blank(columns: &ByteRecord, first: usize) -> bool
+    ensures answer { IsTrue result ↔ AreBlankFrom first (fields_of columns.now) }
+{
+    for place in first..15 {
+        if !column(columns, place).is_empty() {
+            return false;
+        }
+    }
+    true
+}

@@ -1,0 +1,198 @@
+//! The end of a book's rows.
+ghost use Rattle.std.specs.Prelude.{◌≡◌, ◌++◌, IfErr, IfNone, IfOk, IfSome, Some};
+ghost use Rattle.pawn_book.specs.declared.rows.BookRows.{BookRows};
+ghost use Rattle.pawn_book.specs.Rows.{AreReplayable, terms_at};
+ghost use Rattle.pawn_csv.specs.declared.fault.Cause.TheVariants as Cause;
+ghost use Rattle.pawn_csv.specs.Finishing.{AreRawOf, Ends, IsBegunOf, IsClosingOf, IsRawOf};
+ghost use Rattle.pawn_csv.specs.Order.{begun_of, hand, pledges_of, view_begun};
+ghost use Rattle.pawn_pledge.specs.Pledge.{PledgeValue};
+ghost use Rattle.pawn_pledge.specs.declared.record.Closing.{Closing};
+
+use crate::fault::Cause;
+use crate::order::{BegunBook, RawBook, RawPledge};
+use crate::row::{ClosingWord, PledgeColumns};
+use pawn_book::{
+    Agreement, BookRows, Closing, Number, Parts, PledgeRows, Rates, ReplayableRows, Standing,
+};
+use std::alloc::{AllocError, Global};
+
+// The terms of a version, from 1.
+fn find_terms(terms: &[Rates], version: u64) -> Option<Rates>
+    ensures value { result ≡ terms_at terms.now version }
+{
+    if version == 0 || version > terms.len() as u64 {
+        return None;
+    }
+    Some(terms[version as usize - 1])
+}
+
+// The closing that a pledge's columns tell, if they go together.
+fn closing_of(columns: &PledgeColumns) -> Option<Closing>
+    ensures found { IfSome result (IsClosingOf columns.now) }
+    ensures none { IfNone result ((closing : Closing) → IsClosingOf columns.now closing → ⊥) }
+{
+    match columns.closing {
+        ClosingWord::Open => match columns.closing_day {
+            Some(_) => None,
+            None => match columns.amount {
+                Some(_) => None,
+                None => Some(Closing::Open),
+            },
+        },
+        ClosingWord::Redeemed => match columns.closing_day {
+            None => None,
+            Some(day) => match columns.amount {
+                None => None,
+                Some(paid) => Some(Closing::Redeemed { day, paid }),
+            },
+        },
+        ClosingWord::Sold => match columns.closing_day {
+            None => None,
+            Some(day) => match columns.amount {
+                None => None,
+                Some(net) => Some(Closing::Sold { day, net }),
+            },
+        },
+    }
+}
+
+// The record of a pledge whose rows are all read, if its columns go together with the book's terms.
+fn parts_of(raw: RawPledge, terms: &[Rates]) -> Option<Parts>
+    ensures found { IfSome result (IsRawOf terms.now raw) }
+    ensures none { IfNone result ((p : PledgeValue) → IsRawOf terms.now raw p → ⊥) }
+{
+    let RawPledge {
+        columns,
+        secrets,
+        entries,
+        extensions,
+        booking,
+    } = raw;
+    let number = Number::new(columns.number)?;
+    let rates = find_terms(terms, columns.version)?;
+    let closing = closing_of(&columns)?;
+    let standing = Standing {
+        held: columns.held,
+        booking,
+        last: columns.last,
+        closing,
+    };
+    let agreement = Agreement {
+        number,
+        taken: columns.taken,
+        version: columns.version,
+        terms: rates,
+        opening: columns.opening,
+    };
+    Some(Parts {
+        agreement,
+        entries,
+        secrets,
+        extensions,
+        standing,
+    })
+}
+
+// The records of all pledges, if the columns of each go together.
+fn all_parts(
+    alloc: Global,
+    raws: Vec<RawPledge>,
+    terms: &[Rates],
+) -> Result<Option<Vec<Parts>>, AllocError>
+    ensures found { IfOk result (λ all. IfSome all (λ parts. AreRawOf terms.now raws.items parts.items)) }
+    ensures none { IfOk result (λ all. IfNone all ((pledges : _) → AreRawOf terms.now raws.items pledges → ⊥)) }
+{
+    let mut all = Vec::new(alloc);
+    for raw in raws {
+        let Some(parts) = parts_of(raw, terms) else {
+            return Ok(None);
+        };
+        all.push(parts)?;
+    }
+    Ok(Some(all))
+}
+
+// The pledges whose rows are over, and the one at hand.
+fn with_hand(
+    pledges: Vec<RawPledge>,
+    at_hand: Option<RawPledge>,
+) -> Result<Vec<RawPledge>, AllocError>
+    ensures value { IfOk result (λ raws. raws.items ≡ pledges.items ++ hand at_hand) }
+{
+    let mut raws = pledges;
+    match at_hand {
+        None => Ok(raws),
+        Some(raw) => {
+            raws.push(raw)?;
+            Ok(raws)
+        }
+    }
+}
+
+impl BegunBook {
+    // The book's rows, if the columns of each pledge go together.
+    fn into_rows(self, alloc: Global) -> Result<Option<BookRows>, AllocError>
+        ensures found { IfOk result (λ rows. IfSome rows (IsBegunOf (view_begun self))) }
+        ensures none { IfOk result (λ rows. IfNone rows ((k : BookRows) → IsBegunOf (view_begun self) k → ⊥)) }
+    {
+        let BegunBook {
+            terms,
+            pledges,
+            at_hand,
+            ..
+        } = self;
+        let raws = with_hand(pledges, at_hand)?;
+        match all_parts(alloc, raws, terms.as_slice())? {
+            None => Ok(None),
+            Some(all) => Ok(Some(BookRows {
+                terms,
+                pledges: PledgeRows::from_vec(all),
+            })),
+        }
+    }
+}
+
+// The same rows, if a book can have come to them.
+fn judge(rows: Option<BookRows>) -> Result<ReplayableRows, Cause>
+    ensures found { IfOk result (λ k. (rows ≡ Some k) × AreReplayable k.terms k.pledges) }
+    ensures refused { IfErr result (λ e. (e ≡ Cause.NotReplayable) × IfSome rows (λ k. AreReplayable k.terms k.pledges → ⊥)) }
+{
+    let Some(rows) = rows else {
+        return Err(Cause::NotReplayable);
+    };
+    match ReplayableRows::of_rows(rows) {
+        Err(_) => Err(Cause::NotReplayable),
+        Ok(replayable) => {
+            // Whoever reads the rows knows that they are replayable.
+            let _ = replayable.rows();
+            Ok(replayable)
+        }
+    }
+}
+
+impl BegunBook {
+    // The book, where the rows may end, and one can have come to them.
+    fn finish(self, alloc: Global) -> Result<ReplayableRows, Cause>
+        ensures value { Ends (Some (view_begun self)) result }
+    {
+        if !self.is_whole() {
+            return Err(Cause::Order);
+        }
+        match self.into_rows(alloc) {
+            Err(_) => Err(Cause::Memory),
+            Ok(rows) => judge(rows),
+        }
+    }
+}
+
+impl RawBook {
+    /// The book, where the rows may end, and a book can have come to them.
+    pub(crate) fn finish(self, alloc: Global) -> Result<ReplayableRows, Cause>
+        ensures value { Ends (begun_of self) result }
+    {
+        match self.begun {
+            None => Err(Cause::Order),
+            Some(begun) => begun.finish(alloc),
+        }
+    }
+}

@@ -1,0 +1,270 @@
+//! Rows from their columns.
+ghost use Rattle.std.specs.Prelude.{◌≡◌, ◌↔◌, IfOk, IfNone, IfSome, IsTrue, codes, length};
+ghost use Rattle.csv.specs.Records.{fields_of};
+ghost use Rattle.pawn_csv.specs.Rows.{AreColumns, Fits, header, pledge_fields, row_fields};
+ghost use Rattle.pawn_csv.specs.Spelling.{IsOpeningOf, Reads, column_at};
+
+use crate::columns::{
+    are_blank, column, read_agreed, read_closing, read_day, read_day_if_any, read_issue, read_kind,
+    read_number, read_number_if_any, read_secret, read_sort, read_state, read_text, read_version,
+    read_yes,
+};
+use crate::row::{PledgeColumns, Row};
+use csv::ByteRecord;
+use pawn_book::{Booking, Entry, Extension, Issued, Opening, Rates, RequestDay};
+use std::alloc::{AllocError, Global};
+
+// The row of a book's counts.
+fn read_book_row(columns: &ByteRecord) -> Option<Row>
+    requires wide { length (fields_of columns.now) ≡ 15 }
+    requires letter { column_at (fields_of columns.now) 0 ≡ codes "B" }
+    ensures value { Reads row_fields Fits (fields_of columns.now) result }
+{
+    let version = read_version(column(columns, 1))?;
+    let terms = read_number(column(columns, 2))?;
+    let pledges = read_number(column(columns, 3))?;
+    if !are_blank(columns, 4) {
+        return None;
+    }
+    Some(Row::Book {
+        version,
+        terms,
+        pledges,
+    })
+}
+
+// The row of a version of terms.
+fn read_terms_row(columns: &ByteRecord) -> Option<Row>
+    requires wide { length (fields_of columns.now) ≡ 15 }
+    requires letter { column_at (fields_of columns.now) 0 ≡ codes "T" }
+    ensures value { Reads row_fields Fits (fields_of columns.now) result }
+{
+    let version = read_number(column(columns, 1))?;
+    let rate = read_number(column(columns, 2))?;
+    let keep_before = read_number(column(columns, 3))?;
+    let keep_after = read_number(column(columns, 4))?;
+    if !are_blank(columns, 5) {
+        return None;
+    }
+    Some(Row::Terms {
+        version,
+        rates: Rates {
+            rate,
+            keep_before,
+            keep_after,
+        },
+    })
+}
+
+// The row of a secret.
+fn read_secret_row(columns: &ByteRecord) -> Option<Row>
+    requires wide { length (fields_of columns.now) ≡ 15 }
+    requires letter { column_at (fields_of columns.now) 0 ≡ codes "S" }
+    ensures value { Reads row_fields Fits (fields_of columns.now) result }
+{
+    let number = read_number(column(columns, 1))?;
+    let place = read_number(column(columns, 2))?;
+    let day = read_day(column(columns, 3))?;
+    let sort = read_issue(column(columns, 4))?;
+    let secret = read_secret(column(columns, 5))?;
+    if !are_blank(columns, 6) {
+        return None;
+    }
+    Some(Row::Secret {
+        number,
+        place,
+        issued: Issued { day, sort, secret },
+    })
+}
+
+// The row of an entry.
+fn read_entry_row(columns: &ByteRecord) -> Option<Row>
+    requires wide { length (fields_of columns.now) ≡ 15 }
+    requires letter { column_at (fields_of columns.now) 0 ≡ codes "E" }
+    ensures value { Reads row_fields Fits (fields_of columns.now) result }
+{
+    let number = read_number(column(columns, 1))?;
+    let seq = read_number(column(columns, 2))?;
+    let day = read_day(column(columns, 3))?;
+    let sort = read_sort(column(columns, 4))?;
+    let pence = read_number(column(columns, 5))?;
+    if !are_blank(columns, 6) {
+        return None;
+    }
+    Some(Row::Entry {
+        number,
+        entry: Entry {
+            seq,
+            day,
+            sort,
+            pence,
+        },
+    })
+}
+
+// The row of an extension.
+fn read_extension_row(columns: &ByteRecord) -> Option<Row>
+    requires wide { length (fields_of columns.now) ≡ 15 }
+    requires letter { column_at (fields_of columns.now) 0 ≡ codes "X" }
+    ensures value { Reads row_fields Fits (fields_of columns.now) result }
+{
+    let number = read_number(column(columns, 1))?;
+    let place = read_number(column(columns, 2))?;
+    let day = read_day(column(columns, 3))?;
+    let until = read_day(column(columns, 4))?;
+    if !are_blank(columns, 5) {
+        return None;
+    }
+    Some(Row::Extension {
+        number,
+        place,
+        extension: Extension { day, until },
+    })
+}
+
+// The row of a booking.
+fn read_booking_row(columns: &ByteRecord) -> Option<Row>
+    requires wide { length (fields_of columns.now) ≡ 15 }
+    requires letter { column_at (fields_of columns.now) 0 ≡ codes "K" }
+    ensures value { Reads row_fields Fits (fields_of columns.now) result }
+{
+    let number = read_number(column(columns, 1))?;
+    let day = read_day(column(columns, 2))?;
+    let window = read_number(column(columns, 3))?;
+    let state = read_state(column(columns, 4))?;
+    if !are_blank(columns, 5) {
+        return None;
+    }
+    Some(Row::Booking {
+        number,
+        booking: Booking { day, window, state },
+    })
+}
+
+// The opening in the columns of a pledge's own row.
+fn read_opening(alloc: Global, columns: &ByteRecord) -> Result<Option<Opening>, AllocError>
+    ensures found { IfOk result (λ opening. IfSome opening (IsOpeningOf (fields_of columns.now))) }
+    ensures none { IfOk result (λ opening. IfNone opening ((o : _) → IsOpeningOf (fields_of columns.now) o → ⊥)) }
+{
+    let Some(kind) = read_kind(column(columns, 4), column(columns, 5)) else {
+        return Ok(None);
+    };
+    let Some(agreed) = read_agreed(column(columns, 7)) else {
+        return Ok(None);
+    };
+    let Some(five_days) = read_yes(column(columns, 8)) else {
+        return Ok(None);
+    };
+    let Some(reference) = read_text(alloc, column(columns, 2))? else {
+        return Ok(None);
+    };
+    let Some(article) = read_text(alloc, column(columns, 3))? else {
+        return Ok(None);
+    };
+    Ok(Some(Opening {
+        reference,
+        article,
+        kind,
+        agreed,
+        five_days,
+    }))
+}
+
+// The columns of a pledge's own row, whose opening is read already.
+fn with_opening(columns: &ByteRecord, opening: Opening) -> Option<PledgeColumns>
+    requires wide { length (fields_of columns.now) ≡ 15 }
+    requires letter { column_at (fields_of columns.now) 0 ≡ codes "P" }
+    requires opening { IsOpeningOf (fields_of columns.now) opening }
+    ensures value { Reads pledge_fields AreColumns (fields_of columns.now) result }
+{
+    let number = read_number(column(columns, 1))?;
+    let taken = read_day(column(columns, 6))?;
+    let version = read_number(column(columns, 9))?;
+    let held = read_yes(column(columns, 10))?;
+    let last = read_day(column(columns, 11))?;
+    let closing = read_closing(column(columns, 12))?;
+    let closing_day = read_day_if_any(column(columns, 13))?;
+    let amount = read_number_if_any(column(columns, 14))?;
+    Some(PledgeColumns {
+        number,
+        opening,
+        taken,
+        version,
+        held,
+        last,
+        closing,
+        closing_day,
+        amount,
+    })
+}
+
+// The row of a pledge.
+fn read_pledge_row(alloc: Global, columns: &ByteRecord) -> Result<Option<Row>, AllocError>
+    requires wide { length (fields_of columns.now) ≡ 15 }
+    requires letter { column_at (fields_of columns.now) 0 ≡ codes "P" }
+    ensures value { IfOk result (λ row. Reads row_fields Fits (fields_of columns.now) row) }
+{
+    let Some(opening) = read_opening(alloc, columns)? else {
+        return Ok(None);
+    };
+    match with_opening(columns, opening) {
+        Some(columns) => Ok(Some(Row::Pledge(columns))),
+        None => Ok(None),
+    }
+}
+
+// The row that fifteen columns spell.
+pub(crate) fn read_row(alloc: Global, columns: &ByteRecord) -> Result<Option<Row>, AllocError>
+    requires wide { length (fields_of columns.now) ≡ 15 }
+    ensures value { IfOk result (λ row. Reads row_fields Fits (fields_of columns.now) row) }
+{
+    match column(columns, 0) {
+        b"B" => Ok(read_book_row(columns)),
+        b"T" => Ok(read_terms_row(columns)),
+        b"P" => read_pledge_row(alloc, columns),
+        b"S" => Ok(read_secret_row(columns)),
+        b"E" => Ok(read_entry_row(columns)),
+        b"X" => Ok(read_extension_row(columns)),
+        b"K" => Ok(read_booking_row(columns)),
+        _ => Ok(None),
+    }
+}
+
+// The header's column at a place, from 0; empty past the last.
+fn header_name(place: usize) -> &'static [u8]
+    ensures value { result.now ≡ column_at header place }
+{
+    match place {
+        0 => b"row",
+        1 => b"c1",
+        2 => b"c2",
+        3 => b"c3",
+        4 => b"c4",
+        5 => b"c5",
+        6 => b"c6",
+        7 => b"c7",
+        8 => b"c8",
+        9 => b"c9",
+        10 => b"c10",
+        11 => b"c11",
+        12 => b"c12",
+        13 => b"c13",
+        14 => b"c14",
+        _ => b"",
+    }
+}
+
+// Whether the columns are the header's.
+pub(crate) fn is_header(columns: &ByteRecord) -> bool
+    ensures answer { IsTrue result ↔ (fields_of columns.now ≡ header) }
+{
+    if columns.len() != 15 {
+        return false;
+    }
+    for place in 0..15 {
+        if column(columns, place) != header_name(place) {
+            return false;
+        }
+    }
+    true
+}
