@@ -4,3 +4,4 @@ pub mod FinishLemmas
 pub mod ReadLemmas
 pub mod OrderLemmas
 pub mod BookLemmas
+pub mod RoundLemmas

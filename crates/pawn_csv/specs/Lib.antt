@@ -6,3 +6,4 @@ pub mod Reading
 pub mod Spelling
 pub mod Answers
 pub mod Finishing
+pub mod Laws

@@ -4,14 +4,19 @@
 mod columns;
 mod fault;
 mod finishing;
+mod laws;
 mod order;
 mod reading;
 mod row;
 mod spelling;
 
 pub use fault::{Cause, CsvFault};
+pub use laws::laws_of_texts;
 pub use pawn_book::{
     BookRows, Booking, Day, Entry, Extension, Issued, Opening, Rates, ReplayableRows,
 };
 pub use reading::read_book;
 pub use row::{ClosingWord, PledgeColumns, Row, Version};
+
+#[cfg(test)]
+mod tests;
