@@ -101,14 +101,10 @@ no_refusal fields s r b c fits spelled placed a =
 
 -- columns that were taken are refused for no cause
 not_taken : (x : List (List ℕ)) (s : Option Begun) (r : Row) (u : Begun) → Fits r → x ≡ row_fields r → place s r ≡ Ok u → (e : Cause) → e ≢ cause.Memory → RefusesRow x s e → ⊥
-not_taken x s r u fits spelled placed cause.Csv other says = says (ap length spelled ∙ fifteen r)
-not_taken x s r u fits spelled placed cause.Columns other says = absurd says
-not_taken x s r u fits spelled placed cause.BadField other says = elim says.1 [ inl none ↦ none r fits spelled | inr refusal ↦ no_refusal x s r u cause.BadField fits spelled placed refusal ]
-not_taken x s r u fits spelled placed cause.Order other says = no_refusal x s r u cause.Order fits spelled placed says
-not_taken x s r u fits spelled placed cause.NotReplayable other says = absurd says
-not_taken x s r u fits spelled placed cause.TooMany other says = no_refusal x s r u cause.TooMany fits spelled placed says
-not_taken x s r u fits spelled placed cause.Read other says = absurd says
-not_taken x s r u fits spelled placed cause.Memory other says = absurd (other refl)
+not_taken x s r u fits spelled placed e other (inl memory) = other memory
+not_taken x s r u fits spelled placed e other (inr (inl few)) = few.1 (ap length spelled ∙ fifteen r)
+not_taken x s r u fits spelled placed e other (inr (inr (inl none))) = none.2 r fits spelled
+not_taken x s r u fits spelled placed e other (inr (inr (inr refusal))) = no_refusal x s r u e fits spelled placed refusal
 
 -- of rows that ran the first was placed, and the others ran from there
 run_first : (from : Option Begun) (r : Row) (later : List Row) (t : Option Begun) (o : Result Begun Cause) → place from r ≡ o → then_run o (λ v. run v later) ≡ Ok t
@@ -173,14 +169,8 @@ abbrev pub Verdict : List (List ℕ) → Option Begun → Cause → Type 0
 Verdict x s e = ((e ≡ cause.Csv) × (length x ≢ length header)) ⊎ (((e ≡ cause.BadField) × (length x ≡ length header) × IsNoRow x) ⊎ IsRefused x s e)
 
 verdict_of : (x : List (List ℕ)) (s : Option Begun) (e : Cause) → e ≢ cause.Memory → RefusesRow x s e → Verdict x s e
-verdict_of x s cause.Csv other says = inl (refl, says)
-verdict_of x s cause.Columns other says = absurd says
-verdict_of x s cause.BadField other says = elim says.1 [ inl none ↦ inr (inl (refl, says.0, none)) | inr refusal ↦ inr (inr refusal) ]
-verdict_of x s cause.Order other says = inr (inr says)
-verdict_of x s cause.NotReplayable other says = absurd says
-verdict_of x s cause.TooMany other says = inr (inr says)
-verdict_of x s cause.Read other says = absurd says
-verdict_of x s cause.Memory other says = absurd (other refl)
+verdict_of x s e other (inl memory) = absurd (other memory)
+verdict_of x s e other (inr verdict) = verdict
 
 one_verdict : (x : List (List ℕ)) (s : Option Begun) (c d : Cause) → Verdict x s c → Verdict x s d → c ≡ d
 one_verdict x s c d (inl a) (inl b) = a.0 ∙ sym b.0

@@ -1,10 +1,8 @@
 -- Rows that were taken are shown by what they made.
-use Rattle.std.proofs.Common.{◌≡◌, ◌∙◌, ◌+◌, ℕ, zero, suc, Bool, true, false, List, [], ◌∷◌, ◌++◌, length, map, Option, Some, None, Result, Ok, Err, refl, sym, ap, subst, append_assoc, arith, cond, nat_lt, nat_le}
-use Rattle.std.specs.Prelude.{◌==◌, ◌&&◌, ◌||◌, not}
-use Rattle.std.specs.List.{flat_map}
+use Rattle.std.proofs.Common.{◌≡◌, ◌∙◌, ◌+◌, ℕ, Bool, true, false, List, [], ◌∷◌, ◌++◌, length, Option, Some, None, Result, Ok, Err, refl, sym, ap, subst, append_assoc, arith, cond, nat_le}
+use Rattle.std.specs.Prelude.{◌==◌, ◌&&◌}
 use Rattle.std.proofs.lemmas.Bool.Decides.{nat_tests}
-use Rattle.std.proofs.lemmas.List.{append-nil, map-append, length-append}
-use Rattle.pawn_terms.specs.declared.terms.Rates.{Rates}
+use Rattle.std.proofs.lemmas.List.{append-nil, map-append}
 use Rattle.pawn_debt.specs.Limits.{most_entries}
 use Rattle.pawn_debt.specs.declared.entry.Entry.{Entry}
 use Rattle.pawn_pledge.specs.Limits.{most_extensions, most_secrets}
@@ -14,11 +12,9 @@ use Rattle.pawn_pledge.specs.declared.record.Issued.{Issued}
 use Rattle.pawn_csv.specs.declared.fault.Cause.{Cause}
 use Rattle.pawn_csv.specs.declared.fault.Cause.TheVariants as cause
 use Rattle.pawn_csv.specs.declared.order.RawPledge.{RawPledge}
-use Rattle.pawn_csv.specs.declared.row.PledgeColumns.{PledgeColumns}
 use Rattle.pawn_csv.specs.declared.row.Row.{Row}
-use Rattle.pawn_csv.specs.declared.row.Version.{Version}
 use Rattle.pawn_csv.specs.Order.{has_secret, is_nil, is_none, place_booking, place_entry, place_extension, place_secret}
-use Rattle.pawn_csv.specs.Rows.{booking_rows, entry_rows, extension_rows, secret_rows, terms_rows}
+use Rattle.pawn_csv.specs.Rows.{booking_rows, entry_rows, extension_rows, secret_rows}
 
 -- the rows of a pledge's lists
 abbrev pub list_rows : ℕ → List Issued → List Entry → List Extension → Option Booking → List Row

@@ -3,7 +3,7 @@ use Rattle.std.proofs.Common.{◌≡◌, ◌++◌, ◌∷◌, [], List, refl, ma
 use Rattle.std.specs.List.{flat_map}
 use Rattle.csv.specs.Machine.{next_record}
 use Rattle.csv.specs.Reading.{Reached, default_config, strip_bom}
-use Rattle.csv.specs.Writing.{default_writer, row_text, escaped, fields_text, is_blank}
+use Rattle.csv.specs.Writing.{default_writer, read_back, row_text, escaped, fields_text, is_blank}
 use Rattle.csv.specs.declared.parser.State.TheVariants as st
 use Rattle.csv.proofs.RoundTrip.{read-write}
 use Rattle.std.proofs.Common.{ℕ, None}
@@ -12,11 +12,21 @@ use Rattle.pawn_csv.specs.declared.row.Version.TheVariants as version
 use Rattle.pawn_csv.specs.Rows.{header, row_fields, rows_of}
 use Rattle.pawn_csv.specs.Laws.{TextsAreRead}
 
+-- a record of more than one column is read as it is
+row_back : (r : Row) → read_back (row_fields r) ≡ row_fields r
+row_back (Row.Book v t p) = refl
+row_back (Row.Terms v x) = refl
+row_back (Row.Pledge x) = refl
+row_back (Row.Secret n at x) = refl
+row_back (Row.Entry n x) = refl
+row_back (Row.Extension n at x) = refl
+row_back (Row.Booking n x) = refl
+
 -- written records are read back
 rows_reached : (rows : List Row) → Reached default_config st.StartRecord (flat_map (row_text default_writer) (map row_fields rows)) (map row_fields rows) st.StartRecord []
 unfolding Reached
 rows_reached [] = (refl, refl)
-rows_reached (r ∷ rs) = ((row_fields r, st.StartRecord, flat_map (row_text default_writer) (map row_fields rs)), read-write (row_fields r) (flat_map (row_text default_writer) (map row_fields rs)), refl, rows_reached rs)
+rows_reached (r ∷ rs) = ((row_fields r, st.StartRecord, flat_map (row_text default_writer) (map row_fields rs)), (rw (row_back r) at (read-write (row_fields r) (flat_map (row_text default_writer) (map row_fields rs)))), refl, rows_reached rs)
 
 at_end : next_record default_config st.StartRecord [] [] [] ≡ None
 unfolding next_record
