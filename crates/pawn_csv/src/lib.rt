@@ -9,7 +9,7 @@ mod row;
 mod words;
 mod writing;
 
-pub use exporting::{ExportFault, RowWriter};
+pub use exporting::{ExportFault, RowWriter, export};
 pub use fault::{Cause, CsvFault};
 pub use pawn_book::{
     BookRows, Booking, Day, Entry, Extension, Issued, Opening, Rates, ReplayableRows,
