@@ -1,6 +1,6 @@
 -- The rows of a list that is handed out, put one by one.
-use Rattle.std.proofs.Common.{◌≡◌, ◌∙◌, ℕ, ◌+◌, ◌-◌, ◌^◌, ◌≤◌, zero, suc, Bool, false, List, [], ◌∷◌, ◌++◌, length, Option, Some, None, refl, sym, ap, subst, inl, inr, arith, length-append, append_assoc}
-use Rattle.std.specs.Prelude.{if◌then◌else◌, map, min}
+use Rattle.std.proofs.Common.{◌≡◌, ◌∙◌, ℕ, ◌+◌, ◌-◌, ◌^◌, ◌≤◌, suc, Bool, false, List, [], ◌∷◌, ◌++◌, length, Option, Some, None, refl, sym, ap, subst, inl, inr, arith, length-append, append_assoc}
+use Rattle.std.specs.Prelude.{if◌then◌else◌}
 use Rattle.std.specs.List.{flat_map}
 use Rattle.std.specs.FinMap.{get}
 use Rattle.std.proofs.lemmas.List.{append-nil}
@@ -14,7 +14,7 @@ use Rattle.pawn_book.specs.BookStep.{pledge_in}
 use Rattle.pawn_book.specs.HostStep.{Host}
 use Rattle.pawn_book.specs.Keeping.{entries_of, extensions_of, secrets_of}
 use Rattle.pawn_book.specs.Sound.{IsSound}
-use Rattle.pawn_book.specs.Visits.{End, Handed, IsShare, Whole}
+use Rattle.pawn_book.specs.Visits.{End, Handed, IsShare}
 use Rattle.pawn_book.specs.declared.visit.Flow.{Flow}
 use Rattle.pawn_book.specs.declared.visit.Flow.TheVariants.{Go, Stop}
 use Rattle.pawn_book.proofs.Sounds.{standing_at}
@@ -22,7 +22,6 @@ use Rattle.pawn_csv.specs.Exports.{PutsAt, entry_line, extension_line, secret_li
 use Rattle.pawn_csv.specs.Rows.{entry_rows, extension_rows, secret_rows}
 use Rattle.pawn_csv.specs.Sent.{Puts, PutsShare, has_ended, line_of}
 use Rattle.pawn_csv.specs.declared.exporting.RowWriter.{RowWriter}
-use Rattle.pawn_csv.specs.declared.writing.Sink.{Sink}
 use Rattle.pawn_csv.proofs.SentLemmas.{puts_nil, puts_then}
 
 -- the rows of a list from a place on

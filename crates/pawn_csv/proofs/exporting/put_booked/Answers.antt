@@ -1,5 +1,4 @@
-use Rattle.std.proofs.Common.{◌∙◌, ℕ, List, ap, sym, subst}
-use Rattle.std.specs.List.{flat_map}
+use Rattle.std.proofs.Common.{ℕ, List, sym, subst}
 use Rattle.std.proofs.lemmas.List.{append-nil}
 use Rattle.pawn_csv.specs.Sent.{Puts, line_of}
 use Rattle.pawn_csv.specs.declared.row.Row.{Row}

@@ -1,5 +1,4 @@
 use Rattle.std.proofs.Common.{refl, rules}
-use Rattle.std.specs.FinMap.{get}
 use Rattle.pawn_book.specs.Visits.{call_end}
 use Rattle.pawn_book.proofs.Reading.{reads_as}
 use Rattle.pawn_csv.proofs.ListLemmas.{extensions_share}
