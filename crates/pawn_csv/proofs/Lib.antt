@@ -10,3 +10,6 @@ pub mod OneReading
 pub mod OneBook
 pub mod SentLemmas
 pub mod ListLemmas
+pub mod RecordLemmas
+pub mod CountLemmas
+pub mod ExportLemmas

@@ -64,6 +64,10 @@ pub share_more : {W : Type 0} {contents : W → Option (List ℕ)} {a b : Sink W
 share_more t (out, rest, whole, puts, all) =
     (out, rest ++ t, sym (append_assoc out rest t) ∙ ap (λ (x : List ℕ). x ++ t) whole, puts, λ fine done. cc)
 
+-- all of a text is a front of it
+pub share_front : {W : Type 0} {contents : W → Option (List ℕ)} {a b : Sink W} {s : List ℕ} → PutsShare contents a s Whole b → PutsShare contents a s Front b
+share_front (out, rest, whole, puts, all) = (out, rest, whole, puts, λ fine done. cc)
+
 -- a text and then another
 pub share_then : {W : Type 0} {contents : W → Option (List ℕ)} {a b c : Sink W} {s t : List ℕ} {end : End} → PutsShare contents a s Whole b → PutsShare contents b t end c → PutsShare contents a (s ++ t) end c
 share_then {contents = contents} {a = a} {b = b} {s = s} {t = t} (out, rest, whole, puts, all) (out', rest', whole', puts', all') = elim (cases_Bool (has_ended b)) [

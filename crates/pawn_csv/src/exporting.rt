@@ -1,17 +1,17 @@
 //! Writing a book's text.
-ghost use Rattle.std.specs.Prelude.{◌≡◌, ◌+◌, ◌-◌, ◌^◌, min, if◌then◌else◌, false, true, length, IsErrOf};
+ghost use Rattle.std.specs.Prelude.{◌≡◌, ◌++◌, ◌+◌, ◌-◌, ◌^◌, min, if◌then◌else◌, false, true, Some, length, IsErrOf};
 ghost use Rattle.pawn_book.specs.declared.visit.Flow.TheVariants.{Go, Stop};
 ghost use Rattle.std.specs.FinMap.{get};
 ghost use Rattle.std.specs.List.{flat_map};
 ghost use Rattle.pawn_pledge.specs.Pledge.{PledgeValue};
 ghost use Rattle.pawn_pledge.specs.Brief.{brief_of};
-ghost use Rattle.pawn_book.specs.BookStep.{pledge_in};
+ghost use Rattle.pawn_book.specs.BookStep.{BookValue, book_head, pledge_in};
 ghost use Rattle.pawn_book.specs.Sound.{IsSound};
 ghost use Rattle.pawn_book.specs.Keeping.{Reads, IsSteady, entries_of, extensions_of, pledges_of, secrets_of, terms_of};
 ghost use Rattle.pawn_book.specs.Visits.{call_end};
 ghost use Rattle.pawn_view.specs.Ends.{write_failed, writing_inner};
-ghost use Rattle.pawn_csv.specs.Rows.{entry_rows, extension_rows, pledge_rows, secret_rows, terms_rows};
-ghost use Rattle.pawn_csv.specs.Sent.{PutsShare, has_ended, line_of};
+ghost use Rattle.pawn_csv.specs.Rows.{booking_rows, entry_rows, extension_rows, pledge_rows, secret_rows, terms_rows};
+ghost use Rattle.pawn_csv.specs.Sent.{Puts, PutsShare, has_ended, line_of};
 ghost use Rattle.pawn_csv.specs.Exports.{Exports, IsQuietExport, PutsAt, ending_of, entry_line, extension_line, export_fault, secret_line, text_of};
 
 use crate::writing::{
@@ -19,7 +19,7 @@ use crate::writing::{
     put_terms,
 };
 use pawn_book::{
-    BookHead, Brief, Entry, Extension, Flow, Issued, Keep, KeepError, Number, Visitor,
+    BookHead, Booking, Brief, Entry, Extension, Flow, Issued, Keep, KeepError, Number, Visitor,
 };
 use std::alloc::Global;
 use std::io::Write;
@@ -156,3 +156,164 @@ fn put_extensions<K: Keep, W: Write>(
     rows.place = 1;
     keep.extensions(book, number, rows)
 }
+
+// Puts the booking of a pledge, if one stands.
+fn put_booked<W: Write>(sink: &mut Sink<W>, number: Number, booking: Option<Booking>)
+    ensures puts { Puts W.contents sink.old (flat_map line_of (booking_rows number booking)) sink.new }
+{
+    match booking {
+        Some(booking) => put_booking(sink, u64::from(number.get()), booking),
+        None => {}
+    }
+}
+
+// Puts the rows of the pledge that this brief is of.
+fn put_record<K: Keep, W: Write>(
+    keep: &mut K,
+    book: Number,
+    number: Number,
+    brief: &Brief,
+    rows: &mut RowWriter<W>,
+) -> Result<(), KeepError>
+    ensures shares { Reads K.keeping keep.old keep.new (λ h. IsSound h → (p : PledgeValue) → pledge_in (get h.books book) number ≡ Some p → brief.now ≡ brief_of p
+        → PutsShare W.contents rows.old.sink (flat_map line_of (pledge_rows p)) (call_end result) rows.new.sink) }
+    ensures steady { IsSteady K.keeping keep.old result }
+{
+    let fields = brief.fields();
+    put_pledge(&mut rows.sink, fields);
+    match put_secrets(keep, book, number, rows) {
+        Ok(()) => {}
+        Err(error) => return Err(error),
+    }
+    match put_entries(keep, book, number, rows) {
+        Ok(()) => {}
+        Err(error) => return Err(error),
+    }
+    match put_extensions(keep, book, number, rows) {
+        Ok(()) => {}
+        Err(error) => return Err(error),
+    }
+    put_booked(&mut rows.sink, number, fields.standing.booking);
+    Ok(())
+}
+
+// Puts so many versions of the terms of a book.
+fn put_versions<K: Keep, W: Write>(
+    keep: &mut K,
+    book: Number,
+    count: u64,
+    rows: &mut RowWriter<W>,
+) -> Result<(), KeepError>
+    ensures shares { Reads K.keeping keep.old keep.new (λ h. count ≡ length (terms_of (get h.books book))
+        → PutsShare W.contents rows.old.sink (flat_map line_of (terms_rows 1 (terms_of (get h.books book)))) (call_end result) rows.new.sink) }
+    ensures steady { IsSteady K.keeping keep.old result }
+{
+    for index in 0..count {
+        match keep.terms(book, index + 1) {
+            Ok(Some(terms)) => put_terms(&mut rows.sink, index + 1, terms.rates()),
+            Ok(None) => return Ok(()),
+            Err(error) => return Err(error),
+        }
+    }
+    Ok(())
+}
+
+// Puts so many pledges of a book.
+fn put_pledges<K: Keep, W: Write>(
+    keep: &mut K,
+    book: Number,
+    count: u64,
+    rows: &mut RowWriter<W>,
+) -> Result<(), KeepError>
+    ensures shares { Reads K.keeping keep.old keep.new (λ h. IsSound h → count ≡ length (pledges_of (get h.books book))
+        → PutsShare W.contents rows.old.sink (flat_map line_of (flat_map pledge_rows (pledges_of (get h.books book)))) (call_end result) rows.new.sink) }
+    ensures steady { IsSteady K.keeping keep.old result }
+{
+    for index in 0..count {
+        let Some(number) = Number::new(index + 1) else {
+            return Ok(());
+        };
+        let brief = match keep.brief(book, number) {
+            Ok(Some(brief)) => brief,
+            Ok(None) => return Ok(()),
+            Err(error) => return Err(error),
+        };
+        match put_record(keep, book, number, &brief, rows) {
+            Ok(()) => {}
+            Err(error) => return Err(error),
+        }
+    }
+    Ok(())
+}
+
+// Puts the rows below the first.
+fn put_rows<K: Keep, W: Write>(
+    keep: &mut K,
+    book: Number,
+    head: &BookHead,
+    rows: &mut RowWriter<W>,
+) -> Result<(), KeepError>
+    ensures shares { Reads K.keeping keep.old keep.new (λ h. IsSound h → (at : BookValue) → get h.books book ≡ Some at → head.now ≡ book_head at
+        → PutsShare W.contents rows.old.sink (flat_map line_of (terms_rows 1 at.terms) ++ flat_map line_of (flat_map pledge_rows at.pledges)) (call_end result) rows.new.sink) }
+    ensures steady { IsSteady K.keeping keep.old result }
+{
+    match put_versions(keep, book, head.terms, rows) {
+        Ok(()) => put_pledges(keep, book, head.pledges, rows),
+        Err(error) => Err(error),
+    }
+}
+
+// The fault of an export whose keeper did not answer.
+fn export_fault(error: KeepError) -> ExportFault
+    ensures answer { result ≡ export_fault error }
+{
+    match error {
+        KeepError::Memory => ExportFault::Memory,
+        KeepError::Store(_) => ExportFault::Store,
+    }
+}
+
+// How an export ends, once its rows were put.
+fn ending<W>(done: Result<(), KeepError>, sink: &Sink<W>) -> Result<(), ExportFault>
+    ensures answer { result ≡ ending_of done sink.now }
+{
+    if sink.has_failed() {
+        return Err(ExportFault::Write);
+    }
+    if sink.has_ended() {
+        return Err(ExportFault::Memory);
+    }
+    match done {
+        Ok(()) => Ok(()),
+        Err(error) => Err(export_fault(error)),
+    }
+}
+
+/// Writes the text of a book, row by row. The keeper's content stays as it is.
+///
+/// The caller's condition: each row before was written whole. Errors: `NoSuchBook` where the book
+/// does not stand; `Memory` where it is wanting; `Store` where the keeper does not answer; `Write`
+/// only where the writer failed in the call.
+pub fn export<K: Keep, W: Write>(
+    keep: &mut K,
+    book: Number,
+    rows: &mut RowWriter<W>,
+) -> Result<(), ExportFault>
+    requires fine { has_ended rows.old.sink ≡ false }
+    ensures exports { Reads K.keeping keep.old keep.new (λ h. IsSound h → Exports W.contents rows.old.sink (text_of h book) result rows.new.sink) }
+    ensures write { IsErrOf result ExportFault.Write → write_failed rows.new.sink.writer ≡ true }
+    ensures steady { IsQuietExport K.keeping keep.old result }
+{
+    let head = match keep.book_head(book) {
+        Ok(Some(head)) => head,
+        Ok(None) => return Err(ExportFault::NoSuchBook),
+        Err(error) => return Err(export_fault(error)),
+    };
+    put_header(&mut rows.sink);
+    put_book(&mut rows.sink, head.terms, head.pledges);
+    let done = put_rows(keep, book, &head, rows);
+    ending(done, &rows.sink)
+}
+
+#[cfg(test)]
+mod tests;

@@ -15,7 +15,7 @@ mod tests;
 mod words;
 mod writing;
 
-pub use exporting::{ExportFault, RowWriter};
+pub use exporting::{ExportFault, RowWriter, export};
 pub use fault::{Cause, CsvFault};
 pub use laws::{laws_of_texts, rows_have_one_spelling, texts_have_one_reading};
 pub use pawn_book::{

@@ -6,7 +6,7 @@ use Rattle.pawn_pledge.specs.declared.command.Stamp.{Stamp}
 use Rattle.pawn_book.specs.declared.refusal.Refusal.{Refusal}
 use Rattle.pawn_book.specs.declared.refusal.Refusal.TheVariants as no
 use Rattle.pawn_book.specs.declared.request.Request.{Request}
-use Rattle.pawn_book.specs.BookStep.{Out, Told, Denied, Shown, Listed, out_of}
+use Rattle.pawn_book.specs.BookStep.{Out, Told, Denied, Shown, Listed, Exported, out_of}
 use Rattle.pawn_book.specs.HostStep.{Host, host_step}
 use Rattle.pawn_book.specs.Runs.{Mark, read_as, no_memory, no_store, host_after_event, mark_reply, is_settled}
 use Rattle.pawn_book.specs.Traces.{slot_trace}
@@ -61,6 +61,7 @@ settled_out (Told reply) settled = refl
 settled_out (Denied why) settled = settled_refusal why settled
 settled_out (Shown day pledges) settled = refl
 settled_out (Listed day capacity items) settled = refl
+settled_out (Exported rows) settled = refl
 
 -- bytes that are a request were read as that request
 request_read : (bytes : List ℕ) (request : Request) (said : Result Request WireFault) → Reads bytes (Ok request) → Reads bytes said → said ≡ Ok request

@@ -8,3 +8,4 @@ pub mod RunMore
 pub mod LawLemmas
 pub mod HeadlineLemmas
 pub mod SheetLemmas
+pub mod RowsLemmas

@@ -1,11 +1,12 @@
 -- A run of the service: requests as bytes, each with how it was answered.
 use Rattle.std.specs.Prelude.{◌≢◌, ℕ, List, map, codes, Err}
 use Rattle.pawn_pledge.specs.declared.command.Stamp.{Stamp}
-use Rattle.pawn_book.specs.BookStep.{Told, Denied, Shown, Listed}
+use Rattle.pawn_book.specs.BookStep.{Told, Denied, Shown, Listed, Exported}
 use Rattle.pawn_book.specs.HostStep.{Host}
 use Rattle.pawn_book.specs.Runs.{Mark, read_as, no_memory, no_store, Event, Said, Answered, Faulted, run_host, run_replies}
 use Rattle.pawn_view.specs.Text.{presented_text}
 use Rattle.pawn_view.specs.Sheets.{sheet_text}
+use Rattle.pawn_csv.specs.Rows.{csv_of}
 use Rattle.pawn_wire.specs.Request.{Reads}
 use Rattle.pawn_wire.specs.Reply.{out_text, reply_text, fault_text}
 use Rattle.pawn_wire.specs.declared.reply.Out.TheVariants as wire
@@ -45,6 +46,7 @@ said_text (Answered (Told reply)) = out_text (wire.Done reply)
 said_text (Answered (Denied why)) = out_text (wire.Refused why)
 said_text (Answered (Shown day pledges)) = reply_text 200 (codes "text/plain; charset=utf-8") (presented_text day pledges)
 said_text (Answered (Listed day capacity items)) = reply_text 200 (codes "text/plain; charset=utf-8") (sheet_text day capacity items)
+said_text (Answered (Exported rows)) = reply_text 200 (codes "text/csv; charset=utf-8") (csv_of rows)
 said_text (Faulted fault) = fault_text fault
 
 -- the host after a run

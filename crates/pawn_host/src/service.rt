@@ -2,7 +2,7 @@
 ghost use Rattle.std.specs.Prelude.{◌≡◌, IfOk, OnErr, map};
 ghost use Rattle.pawn_book.specs.declared.request.Caller.TheVariants.{Bearer, Broker};
 ghost use Rattle.pawn_book.specs.declared.request.BearerRequest.TheVariants.{Present};
-ghost use Rattle.pawn_book.specs.declared.request.BrokerRequest.TheVariants.{SheetOf, Show};
+ghost use Rattle.pawn_book.specs.declared.request.BrokerRequest.TheVariants.{Export, SheetOf, Show};
 ghost use Rattle.pawn_book.specs.Plans.{IsWritten};
 ghost use Rattle.pawn_wire.specs.Reply.{out_text};
 ghost use Rattle.pawn_host.specs.Headline.{IsRunOfSlots};
@@ -12,6 +12,7 @@ use pawn_book::{
     BearerRequest, BrokerRequest, Caller, Keep, Number, Receipts, Refusal, Request, RequestDay,
     Secret, Stamp, commit, gate, plan,
 };
+use pawn_csv::{ExportFault, RowWriter, export};
 use pawn_view::{ViewFault, Writing, show_day_sheet, show_presented, show_statement};
 use pawn_wire::{Out, Router, read_request, write_reply};
 use std::alloc::{AllocError, Global};
@@ -140,6 +141,36 @@ impl<K: Keep> Service<K> {
         }
     }
 
+    // Shows the rows of a book to the holder of its key.
+    fn show_rows(&mut self, stamp: &Stamp, book: Number, key: Secret) -> Answer
+        ensures stays { StaysOpen K.keeping self.old self.new }
+        ensures acted { Serves K.keeping self.old self.new
+            (λ start. Answers start stamp.now (record { book = book; caller = Broker key Export }) (answer_bytes result)) }
+    {
+        match gate(&mut self.keep, book, key) {
+            Err(why) => return tell(self.alloc, &Out::Refused(why)),
+            Ok(_) => {}
+        }
+        self.show_book(stamp, book, key)
+    }
+
+    // Shows the rows of a book whose key was given.
+    fn show_book(&mut self, stamp: &Stamp, book: Number, key: Secret) -> Answer
+        ensures stays { StaysOpen K.keeping self.old self.new }
+        ensures acted { Serves K.keeping self.old self.new (λ start kept. IsKeyOf start.host book key
+            → Answers start stamp.now (record { book = book; caller = Broker key Export }) (answer_bytes result) kept) }
+    {
+        let mut rows = RowWriter::new(self.alloc, Vec::new(self.alloc));
+        match export(&mut self.keep, book, &mut rows) {
+            Ok(()) => tell(self.alloc, &Out::Csv(rows.into_inner())),
+            Err(ExportFault::NoSuchBook) => tell(self.alloc, &Out::Refused(Refusal::NoSuchBook)),
+            Err(ExportFault::Store) => tell(self.alloc, &Out::Refused(Refusal::Store)),
+            // The text is built in memory, so a failed write is want of it.
+            Err(ExportFault::Memory) => Answer::Memory,
+            Err(ExportFault::Write) => Answer::Memory,
+        }
+    }
+
     // Answers what a broker asks.
     fn answer_broker(
         &mut self,
@@ -159,6 +190,7 @@ impl<K: Keep> Service<K> {
             BrokerRequest::Import { .. } => self.act(stamp, request),
             BrokerRequest::Show(number) => self.show_pledge(stamp, request.book, key, *number),
             BrokerRequest::SheetOf(day) => self.show_sheet(stamp, request.book, key, *day),
+            BrokerRequest::Export => self.show_rows(stamp, request.book, key),
         }
     }
 

@@ -13,7 +13,7 @@ use pawn_view::Writing;
 use std::alloc::Global;
 use std::process::Abort;
 use std::test::Fail;
-use turns::{ROWS, day_turns, turns};
+use turns::{ROWS, day_turns, export_turns, turns};
 
 const ASKED: &[u8] = b"GET /books/7/held HTTP/1.1\r\nHost: x\r\n\r\n";
 
@@ -75,6 +75,17 @@ fn a_day_is_shown(rt: HostRuntime) -> Result<(), Fail> {
     let alloc = rt.alloc();
     let mut service = service(&rt, alloc);
     for turn in day_turns(&rt, alloc)?.iter() {
+        let answer = service.answer_one(&turn.stamp, turn.request.as_slice());
+        tells(&rt, &answer, turn.reply.as_slice());
+    }
+    Ok(())
+}
+
+#[test]
+fn a_book_is_exported(rt: HostRuntime) -> Result<(), Fail> {
+    let alloc = rt.alloc();
+    let mut service = service(&rt, alloc);
+    for turn in export_turns(&rt, alloc)?.iter() {
         let answer = service.answer_one(&turn.stamp, turn.request.as_slice());
         tells(&rt, &answer, turn.reply.as_slice());
     }

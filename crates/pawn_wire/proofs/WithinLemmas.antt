@@ -42,7 +42,7 @@ use Rattle.pawn_wire.specs.declared.request.Item.{Item}
 use Rattle.pawn_wire.specs.declared.request.Item.TheVariants.{Nothing, Pledge, Day}
 use Rattle.pawn_wire.specs.declared.request.Place.{Place}
 use Rattle.pawn_wire.specs.declared.route.Endpoint.{Endpoint}
-use Rattle.pawn_wire.specs.declared.route.Endpoint.TheVariants.{Create, PutTerms, TakePledge, Show, OnPledge, ShowDay, Present, OnReceipt}
+use Rattle.pawn_wire.specs.declared.route.Endpoint.TheVariants.{Create, PutTerms, TakePledge, Show, OnPledge, ShowDay, Export, Present, OnReceipt}
 use Rattle.pawn_wire.specs.declared.route.Action.{Action}
 use Rattle.pawn_wire.specs.declared.route.Action.TheVariants.{Draw, Repay, Hold, Release, Declare, Ask, Cancel, Decide, Redeem, Sell, Extend}
 use Rattle.pawn_wire.proofs.NamedLemmas.{number_said-is, day_said-is}
@@ -270,6 +270,9 @@ caller_within ShowDay item fields body caller within e =
     let key = after_ok (key_given fields) _ caller e in
     mapped IsCallerWithin (λ day. Broker key.0 (broker.SheetOf day)) (day_in item) caller (or_fault_ok BadBody _ caller key.2)
     (λ day is. day_in_within item day within is)
+caller_within Export item fields body caller within e =
+    let key = after_ok (key_given fields) _ caller e in
+    let same : Broker key.0 broker.Export ≡ caller = cc (key.2) in subst IsCallerWithin same tt
 caller_within Present item fields body caller within e =
     let receipts = after_ok (receipts_said (receipt_values fields)) _ caller e in
     let same : Bearer (bearer.Present receipts.0) ≡ caller = cc (receipts.2) in
@@ -296,6 +299,7 @@ item_within PutTerms (Some text) item e = named text item e
 item_within TakePledge (Some text) item e = named text item e
 item_within Show (Some text) item e = named text item e
 item_within (OnPledge action) (Some text) item e = named text item e
+item_within Export (Some text) item e = named text item e
 item_within Present (Some text) item e = named text item e
 item_within (OnReceipt action) (Some text) item e = named text item e
 

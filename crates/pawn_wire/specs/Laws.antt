@@ -14,7 +14,7 @@ use Rattle.pawn_book.specs.Limits.{IsCapacity, AreFew, most_name_bytes}
 use Rattle.pawn_book.specs.declared.request.Request.{Request}
 use Rattle.pawn_book.specs.declared.request.Caller.{Caller}
 use Rattle.pawn_book.specs.declared.request.Caller.TheVariants.{Operator, Broker, Bearer}
-use Rattle.pawn_book.specs.declared.request.BrokerRequest.TheVariants.{PutTerms, TakePledge, Import, Show, SheetOf}
+use Rattle.pawn_book.specs.declared.request.BrokerRequest.TheVariants.{PutTerms, TakePledge, Import, Show, SheetOf, Export}
 use Rattle.pawn_book.specs.Rows.{AreReplayable}
 use Rattle.pawn_book.specs.declared.request.BrokerRequest.TheVariants as broker
 use Rattle.pawn_book.specs.declared.request.BearerRequest.TheVariants.{Present}
@@ -110,6 +110,7 @@ IsCallerWithin (Broker key (broker.OnPledge n command)) = IsNumber n × IsComman
 IsCallerWithin (Broker key (Show n)) = IsNumber n
 IsCallerWithin (Broker key (Import importing rows)) = AreReplayable rows.terms rows.pledges
 IsCallerWithin (Broker key (SheetOf day)) = IsStampDay day
+IsCallerWithin (Broker key Export) = Unit {0}
 IsCallerWithin (Bearer (Present receipts)) = AreFew receipts
 IsCallerWithin (Bearer (bearer.OnPledge receipt command)) = IsNumber receipt.number × IsCommandWithin command
 
@@ -152,6 +153,7 @@ item_for e.TakePledge = None
 item_for e.Show = Some (codes "12")
 item_for (e.OnPledge action) = Some (codes "12")
 item_for e.ShowDay = Some (codes "2024-03-04")
+item_for e.Export = None
 item_for e.Present = None
 item_for (e.OnReceipt action) = None
 

@@ -10,7 +10,7 @@ use Rattle.pawn_wire.specs.Done.{commanded_text}
 use Rattle.pawn_wire.specs.Status.{status_of}
 use Rattle.pawn_wire.specs.Fault.{code_of, name_of}
 use Rattle.pawn_wire.specs.declared.reply.Out.{Out}
-use Rattle.pawn_wire.specs.declared.reply.Out.TheVariants.{Done, Refused, Fault, Plain}
+use Rattle.pawn_wire.specs.declared.reply.Out.TheVariants.{Done, Refused, Fault, Plain, Csv}
 use Rattle.pawn_wire.specs.declared.fault.WireFault.{WireFault}
 use Rattle.pawn_wire.specs.declared.fault.WireFault.TheVariants.{Memory}
 
@@ -54,3 +54,4 @@ out_text (Done reply) = json_text 200 (done_text reply)
 out_text (Refused why) = refused_text (book.code_of why) (book.name_of why) (book.total_of why)
 out_text (Fault fault) = fault_text fault
 out_text (Plain text) = reply_text 200 (codes "text/plain; charset=utf-8") text.items
+out_text (Csv text) = reply_text 200 (codes "text/csv; charset=utf-8") text.items

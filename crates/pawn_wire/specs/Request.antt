@@ -27,7 +27,7 @@ use Rattle.pawn_wire.specs.declared.request.Item.{Item}
 use Rattle.pawn_wire.specs.declared.request.Item.TheVariants.{Nothing, Pledge, Day}
 use Rattle.pawn_wire.specs.declared.request.Place.{Place}
 use Rattle.pawn_wire.specs.declared.route.Endpoint.{Endpoint}
-use Rattle.pawn_wire.specs.declared.route.Endpoint.TheVariants.{Create, PutTerms, TakePledge, Show, OnPledge, ShowDay, Present, OnReceipt}
+use Rattle.pawn_wire.specs.declared.route.Endpoint.TheVariants.{Create, PutTerms, TakePledge, Show, OnPledge, ShowDay, Export, Present, OnReceipt}
 
 -- the faults by which a head and its body can't be parted from what follows, in their order
 abbrev pub framing_faults : List Pair → List ℕ → List (Bool × WireFault)
@@ -94,6 +94,7 @@ caller_said (OnPledge action) item fields body =
     (λ number. option_map (λ command. Broker key (broker.OnPledge number command)) (and_then (command_said action body) (if_sent_by is_brokers)))))
 caller_said ShowDay item fields body =
     after (key_given fields) (λ key. or_fault BadBody (option_map (λ day. Broker key (broker.SheetOf day)) (day_in item)))
+caller_said Export item fields body = after (key_given fields) (λ key. Ok (Broker key broker.Export))
 caller_said Present item fields body =
     after (receipts_said (receipt_values fields)) (λ receipts. Ok (Bearer (bearer.Present receipts)))
 caller_said (OnReceipt action) item fields body =

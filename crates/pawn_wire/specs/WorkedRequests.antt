@@ -21,7 +21,7 @@ use Rattle.pawn_wire.specs.declared.fault.WireFault.TheVariants.{Transfer, BadLe
 use Rattle.pawn_wire.specs.declared.request.Item.TheVariants.{Nothing, Pledge, Day}
 use Rattle.pawn_wire.specs.declared.request.Place.{Place}
 use Rattle.pawn_wire.specs.declared.route.Endpoint.{Endpoint}
-use Rattle.pawn_wire.specs.declared.route.Endpoint.TheVariants.{Create, PutTerms, TakePledge, Show, OnPledge, ShowDay, Present, OnReceipt}
+use Rattle.pawn_wire.specs.declared.route.Endpoint.TheVariants.{Create, PutTerms, TakePledge, Show, OnPledge, ShowDay, Export, Present, OnReceipt}
 use Rattle.pawn_wire.specs.declared.route.Action.TheVariants.{Draw, Hold, Declare, Ask, Decide, Redeem, Extend}
 
 -- an endpoint of a book
@@ -47,6 +47,7 @@ WorkedTargets =
     × (place_of (codes "/books/7/pledges/12/extend") ≡ of_pledge 7 12 (OnPledge Extend))
     × (place_of (codes "/books/7/days/2024-02-29") ≡ of_day 7 (date 2024 2 29) ShowDay)
     × (place_of (codes "/books/7/days/2199-12-31") ≡ of_day 7 (date 2199 12 31) ShowDay)
+    × (place_of (codes "/books/7/export") ≡ of_book 7 Export)
     × (place_of (codes "/books/7/held") ≡ of_book 7 Present)
     × (place_of (codes "/books/7/held/redeem") ≡ of_book 7 (OnReceipt Redeem))
 
@@ -199,6 +200,8 @@ WorkedRequests =
     ≡ Ok (record { book = 7; caller = Broker 0x11111111_1111_1111_1111_111111111111 (broker.Show 3) }))
     × (request_by (codes "GET") (codes "/books/7/days/2024-02-29") (gives_key operator_key ∷ []) []
     ≡ Ok (record { book = 7; caller = Broker 0x11111111_1111_1111_1111_111111111111 (broker.SheetOf (date 2024 2 29)) }))
+    × (request_by (codes "GET") (codes "/books/7/export") (gives_key operator_key ∷ []) []
+    ≡ Ok (record { book = 7; caller = Broker 0x11111111_1111_1111_1111_111111111111 broker.Export }))
     × (request_by (codes "POST") (codes "/books/7/pledges/3/hold") (gives_key operator_key ∷ []) []
     ≡ Ok (record { book = 7; caller = Broker 0x11111111_1111_1111_1111_111111111111 (broker.OnPledge 3 Command.Hold) }))
     × (request_by (codes "GET") (codes "/books/7/held") (presents some_receipt_text ∷ []) []

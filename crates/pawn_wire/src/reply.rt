@@ -24,6 +24,8 @@ pub enum Out {
     Fault(WireFault),
     /// Lines of text.
     Plain(Vec<u8>),
+    /// The rows of a book as comma-separated columns.
+    Csv(Vec<u8>),
 }
 
 /// The reply where memory is wanting, which takes no memory.
@@ -156,5 +158,6 @@ pub fn write_reply(alloc: Global, out: &Out) -> Result<Vec<u8>, AllocError>
         }
         Out::Fault(fault) => refusal_reply(alloc, fault.code(), fault.name(), None),
         Out::Plain(text) => reply(alloc, StatusCode::OK, "text/plain; charset=utf-8", text),
+        Out::Csv(text) => reply(alloc, StatusCode::OK, "text/csv; charset=utf-8", text),
     }
 }

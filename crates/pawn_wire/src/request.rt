@@ -4,7 +4,7 @@ ghost use Rattle.pawn_wire.specs.Chain.{Says};
 ghost use Rattle.pawn_wire.specs.Fields.{pairs_of};
 ghost use Rattle.pawn_wire.specs.Named.{number_said};
 ghost use Rattle.pawn_wire.specs.Request.{day_in, is_ascii_text, item_said, number_in, place_of, key_given, caller_said, request_by, IsRead};
-ghost use Rattle.pawn_wire.specs.declared.route.Endpoint.TheVariants.{Create, PutTerms, TakePledge, Show, OnPledge, ShowDay, Present, OnReceipt};
+ghost use Rattle.pawn_wire.specs.declared.route.Endpoint.TheVariants.{Create, PutTerms, TakePledge, Show, OnPledge, ShowDay, Export, Present, OnReceipt};
 ghost use Rattle.pawn_wire.specs.declared.request.Item.TheVariants.{Nothing};
 
 use crate::fault::WireFault;
@@ -206,6 +206,17 @@ fn show_day(item: Item, sent: &Sent<'_>) -> Result<Caller, WireFault>
     })
 }
 
+// Who has the rows of the book as a text.
+fn export(sent: &Sent<'_>) -> Result<Caller, WireFault>
+    ensures value { Says result (caller_said Export Nothing (pairs_of sent.now.fields) sent.now.body.now) }
+{
+    let key = key(&sent.fields)?;
+    Ok(Caller::Broker {
+        key,
+        asked: BrokerRequest::Export,
+    })
+}
+
 // Who sees what receipts stand for.
 fn present(alloc: Global, sent: &Sent<'_>) -> Result<Caller, WireFault>
     ensures value { Says result (caller_said Present Nothing (pairs_of sent.now.fields) sent.now.body.now) }
@@ -237,6 +248,7 @@ fn caller(alloc: Global, place: Place, sent: &Sent<'_>) -> Result<Caller, WireFa
         Endpoint::Show => show(place.item, sent),
         Endpoint::OnPledge(action) => command_pledge(alloc, place.item, action, sent),
         Endpoint::ShowDay => show_day(place.item, sent),
+        Endpoint::Export => export(sent),
         Endpoint::Present => present(alloc, sent),
         Endpoint::OnReceipt(action) => command_receipt(alloc, action, sent),
     }

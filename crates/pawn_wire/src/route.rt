@@ -19,6 +19,8 @@ pub enum Endpoint {
     OnPledge(Action),
     /// To show a day of a book.
     ShowDay,
+    /// To have the rows of a book as a text.
+    Export,
     /// To show what receipts stand for.
     Present,
     /// To command the pledge of a receipt.
@@ -43,7 +45,7 @@ pub enum Action {
 
 /// The targets, each with its endpoint; a name in braces stands for a number, or for a day. An action stands here
 /// under those who may send its command, and under no other.
-pub(crate) const ROUTES: [(&str, Endpoint); 18] = [
+pub(crate) const ROUTES: [(&str, Endpoint); 19] = [
     ("/books/{b}", Endpoint::Create),
     ("/books/{b}/terms", Endpoint::PutTerms),
     ("/books/{b}/pledges", Endpoint::TakePledge),
@@ -81,6 +83,7 @@ pub(crate) const ROUTES: [(&str, Endpoint); 18] = [
         Endpoint::OnPledge(Action::Extend),
     ),
     ("/books/{b}/days/{d}", Endpoint::ShowDay),
+    ("/books/{b}/export", Endpoint::Export),
     ("/books/{b}/held", Endpoint::Present),
     ("/books/{b}/held/repay", Endpoint::OnReceipt(Action::Repay)),
     ("/books/{b}/held/ask", Endpoint::OnReceipt(Action::Ask)),
@@ -103,6 +106,7 @@ impl Endpoint {
             Endpoint::Present => Method::GET,
             Endpoint::Show => Method::GET,
             Endpoint::ShowDay => Method::GET,
+            Endpoint::Export => Method::GET,
             Endpoint::Create => Method::POST,
             Endpoint::PutTerms => Method::POST,
             Endpoint::TakePledge => Method::POST,

@@ -1,4 +1,4 @@
-use Rattle.pawn_book.specs.declared.request.BrokerRequest.TheVariants.{SheetOf, Show}
+use Rattle.pawn_book.specs.declared.request.BrokerRequest.TheVariants.{Export, SheetOf, Show}
 use Rattle.pawn_host.proofs.RunLemmas.{read_broker}
 use Rattle.pawn_host.proofs.service.Service.answer_broker.Goals as goal
 
@@ -9,3 +9,7 @@ returns-in-Show-clause-acted g c = λ honest h sound at bytes read.
 pub returns-in-SheetOf-clause-acted : goal.returns-in-SheetOf-clause-acted
 returns-in-SheetOf-clause-acted g c = λ honest h sound at bytes read.
     c.show_sheet.ensures.acted honest h sound at bytes (read_broker bytes c.args.request.now c.args.key c.args.asked.now (SheetOf c.in-SheetOf.day) c.requires.asks c.in-SheetOf.is read)
+
+pub returns-in-Export-clause-acted : goal.returns-in-Export-clause-acted
+returns-in-Export-clause-acted g c = λ honest h sound at bytes read.
+    c.show_rows.ensures.acted honest h sound at bytes (read_broker bytes c.args.request.now c.args.key c.args.asked.now Export c.requires.asks c.in-Export.is read)

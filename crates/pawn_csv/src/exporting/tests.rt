@@ -1,0 +1,87 @@
+//! The text of a book without terms and pledges.
+ghost use Rattle.std.specs.Prelude.{Some};
+
+use super::{ExportFault, RowWriter, export};
+use pawn_book::{
+    Caller, Capacity, ListKeep, Name, NewBook, Number, Request, RequestDay, Secret, Stamp, act,
+};
+use std::alloc::Global;
+use std::io;
+use std::io::{ErrorKind, Write};
+use std::test::Fail;
+
+const TEXT: &[u8] =
+    b"row,c1,c2,c3,c4,c5,c6,c7,c8,c9,c10,c11,c12,c13,c14\nB,2,0,0,,,,,,,,,,,\n";
+
+// A writer that takes one byte, and then fails.
+#[derive(Drop)]
+struct OneByte {
+    taken: Vec<u8>,
+}
+
+impl Write for OneByte {
+    ghost contents = { λ w. Some w.taken.items };
+
+    fn write(&mut self, buf: &[u8]) -> io::Result<usize> {
+        if !self.taken.is_empty() {
+            return Err(io::Error::from(ErrorKind::BrokenPipe));
+        }
+        let most = buf.len().min(1);
+        self.taken.extend_from_slice(&buf[..most])?;
+        Ok(most)
+    }
+
+    fn flush(&mut self) -> io::Result<()> {
+        Ok(())
+    }
+}
+
+fn number(n: u64) -> Result<Number, Fail> {
+    Ok(Number::new(n).ok_or("no number")?)
+}
+
+// A keeper of book 7.
+fn one_book(alloc: Global) -> Result<ListKeep, Fail> {
+    let mut keep = ListKeep::new(alloc, 100);
+    let key = Secret::of_word(2);
+    let new_book = NewBook {
+        key,
+        name: Name::of_str(alloc, "High Street")?.ok_or("no name")?,
+        capacity: Capacity::new(1).ok_or("no capacity")?,
+    };
+    let day = RequestDay::of_text(b"2024-01-31")?;
+    let caller = Caller::Operator { key, new_book };
+    let book = number(7)?;
+    let request = Request { book, caller };
+    if !request.caller.writes() {
+        return Err(Fail::from("a request that writes nothing"));
+    }
+    match act(alloc, &mut keep, key, &Stamp { day, word: 3 }, &request) {
+        Ok(_) => Ok(keep),
+        Err(_) => Err(Fail::from("refused")),
+    }
+}
+
+#[test]
+fn a_book_that_stands_is_exported(rt: HostRuntime) -> Result<(), Fail> {
+    let mut keep = one_book(rt.alloc())?;
+    for (book, came, text) in [
+        (7u64, Ok(()), TEXT),
+        (8, Err(ExportFault::NoSuchBook), b"".as_slice()),
+    ] {
+        let mut rows = RowWriter::new(rt.alloc(), Vec::new(rt.alloc()));
+        assert_eq!(rt; export(&mut keep, number(book)?, &mut rows), came);
+        assert_eq!(rt; rows.into_inner().as_slice(), text);
+    }
+    Ok(())
+}
+
+#[test]
+fn what_a_writer_took_before_it_failed_is_a_front(rt: HostRuntime) -> Result<(), Fail> {
+    let mut keep = one_book(rt.alloc())?;
+    let taken = Vec::new(rt.alloc());
+    let mut rows = RowWriter::new(rt.alloc(), OneByte { taken });
+    assert_eq!(rt; export(&mut keep, number(7)?, &mut rows), Err(ExportFault::Write));
+    assert_eq!(rt; rows.into_inner().taken.as_slice(), b"r".as_slice());
+    Ok(())
+}
