@@ -1,0 +1,2 @@
+pub mod RowCells
+pub mod Words

@@ -1,0 +1,6 @@
+pub mod Finding
+pub mod Keeps
+pub mod Meta
+pub mod Rows
+pub mod Schema
+pub mod StandsFor

@@ -1,0 +1,5 @@
+//! Pledge books in the tables of a database.
+#![tactic(auto)]
+
+mod cells;
+mod lists;
