@@ -1,2 +1,6 @@
+pub mod PledgeReads
+pub mod Placed
+pub mod ReadTexts
 pub mod RowCells
+pub mod Sought
 pub mod Words

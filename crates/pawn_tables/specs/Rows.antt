@@ -1,5 +1,5 @@
 -- The rows that tell of books and pledges.
-use Rattle.std.specs.Prelude.{ℕ, ◌+◌, Bool, if◌then◌else◌, List, [], ◌∷◌, length, map, pos, Option, Some, None}
+use Rattle.std.specs.Prelude.{ℕ, ◌+◌, Bool, if◌then◌else◌, List, [], ◌∷◌, length, map, pos, Option, Some, None, option_map}
 use Rattle.std.specs.Int.{to_be_bytes, w128}
 use Rattle.sqlite.specs.declared.types.Value.{Value}
 use Rattle.sqlite.specs.declared.types.Value.TheVariants.{Null, Int, Text, Blob}
@@ -63,24 +63,37 @@ state_number BookingState.Confirmed = 1
 state_number BookingState.Refused = 2
 state_number BookingState.Cancelled = 3
 
--- whether a pledge is closed and how, the day, and the amount
-abbrev pub closing_cells : Closing → Row
-closing_cells Closing.Open = number 0 ∷ Null ∷ Null ∷ []
-closing_cells (Closing.Redeemed day paid) = number 1 ∷ number day ∷ number paid ∷ []
-closing_cells (Closing.Sold day net) = number 2 ∷ number day ∷ number net ∷ []
+-- whether a pledge is closed and how
+abbrev pub closed_number : Closing → ℕ
+closed_number Closing.Open = 0
+closed_number (Closing.Redeemed day paid) = 1
+closed_number (Closing.Sold day net) = 2
 
-abbrev pub import_key : Imported → Value
-import_key i = word i.key
+-- the day of the closing
+abbrev pub closed_day : Closing → Option ℕ
+closed_day Closing.Open = None
+closed_day (Closing.Redeemed day paid) = Some day
+closed_day (Closing.Sold day net) = Some day
 
-abbrev pub import_count : Imported → Value
-import_count i = number i.pledges
+-- what it brought
+abbrev pub closed_amount : Closing → Option ℕ
+closed_amount Closing.Open = None
+closed_amount (Closing.Redeemed day paid) = Some paid
+closed_amount (Closing.Sold day net) = Some net
+
+-- the key of the import that filled a book, and how many pledges came with it
+abbrev pub import_key : Option Imported → Option ℕ
+import_key imported = option_map (λ i. i.key) imported
+
+abbrev pub import_count : Option Imported → Option ℕ
+import_count imported = option_map (λ i. i.pledges) imported
 
 -- ---- what the rows show beside the key that they stand under
 
 abbrev pub head_cells : BookValue → Row
 head_cells k =
     word k.key ∷ Text k.name ∷ number k.capacity ∷ number (length k.terms) ∷ number (length k.pledges)
-    ∷ or_null import_key k.imported ∷ or_null import_count k.imported ∷ []
+    ∷ or_null word (import_key k.imported) ∷ or_null number (import_count k.imported) ∷ []
 
 abbrev pub terms_cells : Rates → Row
 terms_cells t = number t.rate ∷ number t.keep_before ∷ number t.keep_after ∷ []
@@ -89,7 +102,8 @@ abbrev pub pledge_cells : PledgeValue → Row
 pledge_cells p =
     let o = p.agreement.opening in
     Text o.reference ∷ Text o.article ∷ number (kind_number o.kind) ∷ number (credit_of o.kind) ∷ number p.agreement.taken ∷ or_null number o.agreed
-    ∷ flag o.five_days ∷ number p.agreement.version ∷ number (end_of p) ∷ flag p.standing.held ∷ number p.standing.last ∷ closing_cells p.standing.closing
+    ∷ flag o.five_days ∷ number p.agreement.version ∷ number (end_of p) ∷ flag p.standing.held ∷ number p.standing.last
+    ∷ number (closed_number p.standing.closing) ∷ or_null number (closed_day p.standing.closing) ∷ or_null number (closed_amount p.standing.closing) ∷ []
 
 abbrev pub entry_cells : Entry → Row
 entry_cells e = number e.seq ∷ number e.day ∷ number (sort_number e.sort) ∷ number e.pence ∷ []
@@ -107,6 +121,11 @@ abbrev pub totals_cells : Totals → Row
 totals_cells t = number t.day ∷ number t.principal ∷ number t.millionths ∷ []
 
 -- ---- lists of rows
+
+-- one row, or none
+abbrev pub at_most_one : {A : Type 0} → (A → Row) → Option A → List Row
+at_most_one f None = []
+at_most_one f (Some x) = f x ∷ []
 
 -- the elements with their places, from a place on
 abbrev pub placed_from : {A : Type 0} → (ℕ → A → Row) → ℕ → List A → List Row
@@ -141,12 +160,8 @@ abbrev pub extensions_listed : ℕ → PledgeValue → List Row
 extensions_listed b p = placed_from (λ place e. under b (number_of p) (extension_cells place e)) 1 p.extensions
 
 -- one row for a booking
-abbrev pub booked : ℕ → ℕ → Option Booking → List Row
-booked b n None = []
-booked b n (Some k) = under b n (booking_cells k) ∷ []
-
 abbrev pub booking_listed : ℕ → PledgeValue → List Row
-booking_listed b p = booked b (number_of p) p.standing.booking
+booking_listed b p = at_most_one (λ k. under b (number_of p) (booking_cells k)) p.standing.booking
 
 abbrev pub totals_listed : ℕ → PledgeValue → List Row
 totals_listed b p = under b (number_of p) (totals_cells (totals_of (debt_of p))) ∷ []

@@ -37,6 +37,12 @@ pub record IsStorable (k : BookValue) : Type 0 where
   pub secrets : Each (λ p. AreWords p.secrets) k.pledges
   pub taken : Each (λ p. first_day ≤ p.agreement.taken) k.pledges
 
+abbrev pub AreOrdered : Host → Type 0
+AreOrdered h = (b : ℕ) (k : BookValue) → get h.books b ≡ Some k → IsOrdered k
+
+abbrev pub AreStorable : Host → Type 0
+AreStorable h = (b : ℕ) (k : BookValue) → get h.books b ≡ Some k → IsStorable k
+
 -- The tables list the host, and note the number of their schema, how many rows are counted, and the limit.
 pub record StandsFor (db : Database) (h : Host) : Type 0 where
   pub schema : db.schema ≡ keep_schema
@@ -52,8 +58,8 @@ pub record StandsFor (db : Database) (h : Host) : Type 0 where
   pub totals : Holds db.trees 15 (record totals { tree = 15 }) (of_pledges h totals_listed)
   pub extensions : Holds db.trees 17 (record extensions { tree = 17 }) (of_pledges h extensions_listed)
   -- what no row tells
-  pub ordered : (b : ℕ) (k : BookValue) → get h.books b ≡ Some k → IsOrdered k
-  pub storable : (b : ℕ) (k : BookValue) → get h.books b ≡ Some k → IsStorable k
+  pub ordered : AreOrdered h
+  pub storable : AreStorable h
 
 -- the trees of a database of these tables stand for the host
 abbrev pub HoldHost : Trees → Host → Type 0

@@ -3,3 +3,5 @@
 
 mod cells;
 mod lists;
+mod records;
+mod rows;
