@@ -1,6 +1,9 @@
+pub mod Joins
+pub mod Lent
 pub mod PledgeReads
 pub mod Placed
 pub mod ReadTexts
 pub mod RowCells
+pub mod SoundReads
 pub mod Sought
 pub mod Words

@@ -103,9 +103,9 @@ short rows [] few same = empty rows (length_permutation [] rows same)
 short rows (x ∷ []) few same = one_permutation x rows same
 short rows (x ∷ y ∷ xs) few same = absurd (omega (arith, few))
 
-pub few : {A : Type 0} {f : A → Row} (o : Option A) → length (at_most_one f o) ≤ 1
-few None = omega arith
-few (Some x) = omega arith
+pub few : {A : Type 0} (f : A → Row) (o : Option A) → length (at_most_one f o) ≤ 1
+few f None = omega arith
+few f (Some x) = omega arith
 
 module _ (old new : State) (h : Host) (b n : ℕ) (rows : List Row) (st : StandsFor old.now h) where
   abbrev params : Row
@@ -157,7 +157,7 @@ module _ (old new : State) (h : Host) (b n : ℕ) (rows : List Row) (st : Stands
   booking_shown shown =
       let t : Table = record bookings { tree = 11 } in
       let one = of_one_pledge h b n booking_listed st.ordered (λ m p. under_booked m p.agreement.number p.standing.booking) in
-      short rows _ (few (booking_of found)) (subst (λ xs. IsPermutation xs rows) (ap (map (λ v. column v 2 ∷ column v 3 ∷ column v 4 ∷ [])) one ∙ cells found)
+      short rows _ (few booking_cells (booking_of found)) (subst (λ xs. IsPermutation xs rows) (ap (map (λ v. column v 2 ∷ column v 3 ∷ column v 4 ∷ [])) one ∙ cells found)
       (shown_listed keep_schema 11 (λ _. refl) t text.of_pledge text.booking_shows params (at_pledge b n) (λ v. column v 2 ∷ column v 3 ∷ column v 4 ∷ []) (λ _. refl) (λ _. refl) text.booking_text _ [] text.booking_is old new (of_pledges h booking_listed) rows st.schema st.bookings shown))
     where
       in_book : (m : ℕ) (k : Option Booking) → map (λ v. column v 2 ∷ column v 3 ∷ column v 4 ∷ []) (at_most_one (λ k. under b m (booking_cells k)) k) ≡ at_most_one booking_cells k
@@ -172,7 +172,7 @@ module _ (old new : State) (h : Host) (b n : ℕ) (rows : List Row) (st : Stands
   totals_shown shown =
       let t : Table = record totals { tree = 15 } in
       let one = of_one_pledge h b n totals_listed st.ordered (λ m p. ((refl, refl), tt)) in
-      short rows _ (few (totals_in found)) (subst (λ xs. IsPermutation xs rows) (ap (map (λ v. column v 2 ∷ column v 3 ∷ column v 4 ∷ [])) one ∙ cells found)
+      short rows _ (few totals_cells (totals_in found)) (subst (λ xs. IsPermutation xs rows) (ap (map (λ v. column v 2 ∷ column v 3 ∷ column v 4 ∷ [])) one ∙ cells found)
       (shown_listed keep_schema 15 (λ _. refl) t text.of_pledge text.totals_shows params (at_pledge b n) (λ v. column v 2 ∷ column v 3 ∷ column v 4 ∷ []) (λ _. refl) (λ _. refl) text.totals_text _ [] text.totals_is old new (of_pledges h totals_listed) rows st.schema st.totals shown))
     where
       cells : (o : Option PledgeValue) → map (λ v. column v 2 ∷ column v 3 ∷ column v 4 ∷ []) (rows_at o (totals_listed b)) ≡ at_most_one totals_cells (totals_in o)
@@ -183,7 +183,7 @@ module _ (old new : State) (h : Host) (b n : ℕ) (rows : List Row) (st : Stands
   pledge_shown shown =
       let t : Table = record pledges { tree = 3 } in
       let one = of_one_pledge h b n pledge_listed st.ordered (λ m p. ((refl, refl), tt)) in
-      short rows _ (few found) (subst (λ xs. IsPermutation xs rows) (ap (map cells) one ∙ shows found)
+      short rows _ (few pledge_cells found) (subst (λ xs. IsPermutation xs rows) (ap (map cells) one ∙ shows found)
       (shown_listed keep_schema 3 (λ _. refl) t text.of_pledge text.pledge_shows params (at_pledge b n) cells (λ _. refl) (λ _. refl) text.pledge_text _ [] text.pledge_is old new (of_pledges h pledge_listed) rows st.schema st.pledges shown))
     where
       cells : Row → Row
@@ -239,7 +239,7 @@ terms_shown old new h b v rows st shown =
     let t : Table = record terms { tree = 1 } in
     let cells : Row → Row = λ r. column r 2 ∷ column r 3 ∷ column r 4 ∷ [] in
     let one = of_one_book h b (at_pledge b v) terms_listed (λ m k apart. under_terms m 1 k.terms b v apart) ∙ at_book (get h.books b) in
-    short rows _ (few (terms_at (terms_of (get h.books b)) v)) (subst (λ xs. IsPermutation xs rows) (ap (map cells) one ∙ shows (terms_at (terms_of (get h.books b)) v))
+    short rows _ (few terms_cells (terms_at (terms_of (get h.books b)) v)) (subst (λ xs. IsPermutation xs rows) (ap (map cells) one ∙ shows (terms_at (terms_of (get h.books b)) v))
     (shown_listed keep_schema 1 (λ _. refl) t text.of_pledge text.terms_shows (number b ∷ number v ∷ []) (at_pledge b v) cells (λ _. refl) (λ _. refl) text.terms_text _ [] text.terms_is old new (of_books h terms_listed) rows st.schema st.terms shown))
   where
     by_version : (w : ℕ) → v ≡ w → (ts : List Rates) → filter (at_pledge b v) (placed_from (λ version t. number b ∷ number version ∷ terms_cells t) 1 ts) ≡ rows_at (terms_at ts w) (λ t. (number b ∷ number v ∷ terms_cells t) ∷ [])

@@ -20,8 +20,12 @@ Finds (Err (Keeper.Store Database)) P Q = Unit {0}
 abbrev pub IsRead : {A : Type 0} → Result A KeepError → A → Type 0 → Type 0
 IsRead result it kept = Finds result (λ x. x ≡ it) (kept → ⊥)
 
+-- an open store stands for the host; one that a fault has shut stands for any
+abbrev pub Stood : State → Host → Type 0
+Stood s h = IsTrue s.is_open → StandsFor s.now h
+
 -- of each host that the tables stood for within the transaction: P of what was read, and the tables rest; a row is no record
 -- only of a host with a book that is not sound
 abbrev pub FindsIn : {A : Type 0} → State → State → Result A KeepError → (Host → A → Type 0) → Type 0
 FindsIn old new result P =
-    HasCleanDisk new → IsTrue old.in_transaction → (h : Host) → StandsFor old.now h → Finds result (λ x. P h x × Rests old new) (HasUnsoundBook h)
+    HasCleanDisk new → IsTrue old.in_transaction → (h : Host) → Stood old h → Finds result (λ x. P h x × Rests old new) (HasUnsoundBook h)

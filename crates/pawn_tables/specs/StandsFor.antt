@@ -1,5 +1,5 @@
 -- When tables stand for a host.
-use Rattle.std.specs.Prelude.{ℕ, ◌≡◌, ◌≤◌, List, map, flat_map, Some, IfSome}
+use Rattle.std.specs.Prelude.{ℕ, ◌≡◌, ◌≤◌, ◌<◌, ◌^◌, List, length, map, flat_map, Some, IfSome}
 use Rattle.std.specs.FinMap.{entries, get}
 use Rattle.sqlite.specs.Order.{Row}
 use Rattle.sqlite.specs.Tree.{Trees}
@@ -30,12 +30,13 @@ pub record IsOrdered (k : BookValue) : Type 0 where
   pub entries : Each (λ p. AreNumbered 1 p.entries) k.pledges
   pub under : Each (IsUnder k.terms) k.pledges
 
--- What a row can hold: keys and secrets of 128 bits, and no pledge taken before the first day that there is.
+-- What rows can hold: keys and secrets of 128 bits, no pledge taken before the first day that there is, and versions of 32 bits.
 pub record IsStorable (k : BookValue) : Type 0 where
   pub key : IsWord k.key
   pub imported : IfSome k.imported (λ i. IsWord i.key)
   pub secrets : Each (λ p. AreWords p.secrets) k.pledges
   pub taken : Each (λ p. first_day ≤ p.agreement.taken) k.pledges
+  pub versions : length k.terms < 2 ^ 32
 
 abbrev pub AreOrdered : Host → Type 0
 AreOrdered h = (b : ℕ) (k : BookValue) → get h.books b ≡ Some k → IsOrdered k

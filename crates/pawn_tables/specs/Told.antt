@@ -10,6 +10,8 @@ use Rattle.pawn_pledge.specs.Text.{IsText}
 use Rattle.pawn_pledge.specs.Limits.{most_article_bytes, most_reference_bytes}
 use Rattle.pawn_pledge.specs.Pledge.{PledgeValue, end_of, debt_of}
 use Rattle.pawn_tables.specs.Rows.{closed_day}
+use Rattle.pawn_tables.specs.declared.joining.Lists.{Lists}
+use Rattle.pawn_tables.specs.declared.joining.Sides.{Sides}
 use Rattle.pawn_tables.specs.declared.records.PledgeRow.{PledgeRow}
 
 -- the texts of an opening keep their limits, and its day is one that a request may name
@@ -34,7 +36,6 @@ row_of p = record {
 pub record IsRowTold (p : PledgeValue) : Type 0 where
   pub opening : IsTold p.agreement.opening
   pub taken : IsDayNumber p.agreement.taken
-  pub ends : IsDayNumber (end_of p)
   pub last : IsDayNumber p.standing.last
   pub closed : IfSome (closed_day p.standing.closing) IsDayNumber
 
@@ -47,3 +48,15 @@ booking_of (Some p) = p.standing.booking
 abbrev pub totals_in : Option PledgeValue → Option Totals
 totals_in None = None
 totals_in (Some p) = Some (totals_of (debt_of p))
+
+-- the lists of a pledge
+pub record AreLists (l : Lists) (p : PledgeValue) : Type 0 where
+  pub entries : l.entries ≡ p.entries
+  pub secrets : l.secrets ≡ p.secrets
+  pub extensions : l.extensions ≡ p.extensions
+
+-- what the tables beside its row tell of a pledge
+pub record AreSides (s : Sides) (p : PledgeValue) : Type 0 where
+  pub terms : s.terms ≡ Some p.agreement.terms
+  pub booking : s.booking ≡ p.standing.booking
+  pub totals : s.totals ≡ Some (totals_of (debt_of p))

@@ -1,4 +1,4 @@
-ghost use Rattle.std.specs.Prelude.{◌≡◌, ◌<◌, ℕ, List, Bool, Option, IfErr, IfOk, IfSome, length, ⊤};
+ghost use Rattle.std.specs.Prelude.{◌≡◌, ◌≢◌, ◌<◌, ℕ, List, Bool, Option, IfErr, IfOk, IfSome, length, ⊤};
 ghost use Rattle.std.specs.Str.{IsUtf8};
 ghost use Rattle.sqlite.specs.declared.types.Value.TheVariants.{Text as Words};
 ghost use Rattle.sqlite.specs.Order.{column};
@@ -12,6 +12,7 @@ ghost use Rattle.pawn_tables.specs.Rows.{number, flag, flag_number, or_null, wor
 ghost use Rattle.pawn_tables.specs.Finding.{IsRead};
 ghost use Rattle.sqlite.specs.declared.error.Error.TheVariants as SqlError;
 ghost use Rattle.sqlite.specs.declared.error.ErrorCode.TheVariants.{OutOfMemory};
+ghost use Rattle.pawn_book.specs.declared.fault.StoreFault.TheVariants.{NoRecord};
 ghost use Rattle.pawn_book.specs.declared.fault.KeepError.TheVariants as Keeper;
 
 use pawn_book::{BookingState, Day, Issue, KeepError, RequestDay, Secret, Sort, StoreFault};
@@ -22,6 +23,16 @@ use uuid::Uuid;
 
 /// A stored row is no record.
 pub(crate) const NO_RECORD: KeepError = KeepError::Store(StoreFault::NoRecord);
+
+/// Why the store gave no rows.
+pub(crate) fn refused(error: Error) -> KeepError
+    ensures no_row { result ≢ Keeper.Store NoRecord }
+{
+    match error {
+        Error::SqliteFailure(ErrorCode::OutOfMemory) => KeepError::Memory,
+        _ => KeepError::Store(StoreFault::Database),
+    }
+}
 
 // Why a value of a row was not read.
 fn unread(error: Error) -> KeepError

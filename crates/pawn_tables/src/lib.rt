@@ -2,6 +2,9 @@
 #![tactic(auto)]
 
 mod cells;
+mod joining;
 mod lists;
+mod queries;
 mod records;
 mod rows;
+mod whole;

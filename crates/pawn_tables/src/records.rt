@@ -23,8 +23,8 @@ pub(crate) struct PledgeRow {
     pub opening: Opening,
     pub taken: Day,
     pub version: u64,
-    /// The end of the period.
-    pub ends: Day,
+    /// The day number of the end of the period.
+    pub ends: u64,
     pub held: bool,
     pub last: Day,
     pub closing: Closing,

@@ -48,7 +48,7 @@ fn pledge_row(alloc: Global, row: &Row) -> Result<PledgeRow, KeepError>
     let opening = opening_at(alloc, row)?;
     let taken = day_at(row, 4)?;
     let version = number_at(row, 7)?;
-    let ends = day_at(row, 8)?;
+    let ends = number_at(row, 8)?;
     let held = flag_at(row, 9)?;
     let last = day_at(row, 10)?;
     let closing = closing_at(row)?;
