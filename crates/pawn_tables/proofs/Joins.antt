@@ -1,6 +1,10 @@
 -- A pledge of what was read of it.
-use Rattle.std.proofs.Common.{◌≡◌, ◌≤◌, ◌<◌, ◌^◌, ℕ, zero, suc, List, [], ◌∷◌, length, Option, Some, None, Result, refl, sym, ap, subst, ◌∙◌, arith}
-use Rattle.std.specs.Prelude.{IfSome, option_map}
+use Rattle.std.proofs.Common.{◌≡◌, ◌≤◌, ◌<◌, ◌^◌, ℕ, zero, suc, List, [], ◌∷◌, length, Option, Some, None, Result, Ok, Err, refl, sym, ap, subst, ◌∙◌, arith}
+use Rattle.std.specs.Prelude.{IfSome, option_map, is_ok}
+use Rattle.sqlite.specs.State.{State}
+use Rattle.one_table.specs.Lending.{IsLent, Rests}
+use Rattle.pawn_book.specs.Sound.{HasUnsoundBook}
+use Rattle.pawn_tables.proofs.Lent.{unfound}
 use Rattle.std.specs.FinMap.{get}
 use Rattle.pawn_terms.specs.declared.terms.Rates.{Rates}
 use Rattle.pawn_debt.specs.declared.owing.Totals.{Totals}
@@ -12,7 +16,7 @@ use Rattle.pawn_book.specs.BookStep.{BookValue, pledge_in}
 use Rattle.pawn_book.specs.HostStep.{Host}
 use Rattle.pawn_book.specs.declared.fault.KeepError.{KeepError}
 use Rattle.pawn_pledge.specs.Replayable.{IsStanding}
-use Rattle.pawn_tables.specs.Finding.{IsRead}
+use Rattle.pawn_tables.specs.Finding.{IsRead, FindsIn}
 use Rattle.pawn_tables.specs.StandsFor.{AreOrdered, AreStorable}
 use Rattle.pawn_tables.specs.Told.{AreLists, AreSides, booking_of, totals_in, row_of}
 use Rattle.pawn_tables.specs.declared.joining.Lists.{Lists}
@@ -78,3 +82,23 @@ sides_told h b n v s ordered terms booking totals = go (pledge_in (get h.books b
 pub lists_told : (o : Option PledgeValue) (l : Lists) → l.entries ≡ entries_of o → l.secrets ≡ secrets_of o → l.extensions ≡ extensions_of o → IfSome o (AreLists l)
 lists_told None l entries secrets extensions = tt
 lists_told (Some p) l entries secrets extensions = record { entries = entries; secrets = secrets; extensions = extensions }
+
+past_terms : (ts : List Rates) (v : ℕ) → length ts < v → None ≡ terms_at ts v
+past_terms ts zero lt = absurd (omega (arith, lt))
+past_terms [] (suc v) lt = refl
+past_terms (t ∷ ts) (suc zero) lt = absurd (omega (arith, lt))
+past_terms (t ∷ ts) (suc (suc v)) lt = past_terms ts (suc v) (omega (arith, lt))
+
+-- no terms stand under a version that 32 bits can't hold
+pub none_under : (s0 s1 : State) (r : Result (Option Rates) KeepError) (b v : ℕ) → 2 ^ 32 ≤ v → IsLent s0 s1 (is_ok r) → FindsIn s0 s1 r (λ h x. x ≡ terms_at (terms_of (get h.books b)) 0)
+    → FindsIn s0 s1 r (λ h x. x ≡ terms_at (terms_of (get h.books b)) v)
+none_under s0 s1 (Err e) b v big lent f clean within h stood =
+    unfound e (Err e) (λ x. (x ≡ terms_at (terms_of (get h.books b)) 0) × Rests s0 s1) (λ x. (x ≡ terms_at (terms_of (get h.books b)) v) × Rests s0 s1) (HasUnsoundBook h) refl (f clean within h stood)
+none_under s0 s1 (Ok x) b v big lent f clean within h stood =
+    let found = f clean within h stood in
+    let st = stood (lent.opened clean within refl) in
+    (found.0 ∙ inside (get h.books b) refl st.storable, found.1)
+  where
+    inside : (o : Option BookValue) → get h.books b ≡ o → AreStorable h → None ≡ terms_at (terms_of o) v
+    inside None e storable = past_terms [] v (omega (arith, big))
+    inside (Some k) e storable = let few = (storable b k e).versions in past_terms k.terms v (omega (arith, few, big))

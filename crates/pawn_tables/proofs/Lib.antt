@@ -1,4 +1,5 @@
 pub mod Joins
+pub mod KeeperReads
 pub mod Lent
 pub mod PledgeReads
 pub mod Placed

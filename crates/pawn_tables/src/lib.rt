@@ -3,8 +3,14 @@
 
 mod cells;
 mod joining;
+mod keeper;
 mod lists;
 mod queries;
 mod records;
 mod rows;
 mod whole;
+
+pub use keeper::TableKeep;
+
+#[cfg(test)]
+mod tests;

@@ -1,7 +1,9 @@
 ghost use Rattle.std.specs.Prelude.{◌≡◌, IfSome, is_ok};
 ghost use Rattle.std.specs.FinMap.{get};
 ghost use Rattle.sqlite.specs.Held.{state};
+ghost use Rattle.pawn_book.specs.Rows.{terms_at};
 ghost use Rattle.pawn_book.specs.BookStep.{pledge_in};
+ghost use Rattle.pawn_book.specs.Keeping.{terms_of};
 ghost use Rattle.one_table.specs.Lending.{IsLent};
 ghost use Rattle.pawn_tables.specs.Finding.{FindsIn};
 ghost use Rattle.pawn_tables.specs.Told.{AreLists, AreSides};
@@ -12,9 +14,25 @@ use crate::joining::{Lists, Sides};
 use crate::queries::{
     booking_in, entries_in, extensions_in, row_in, secrets_in, terms_in, totals_in,
 };
-use pawn_book::{KeepError, Number, Pledge};
+use pawn_book::{KeepError, Number, Pledge, Terms};
 use sqlite::{Alter, Transaction};
 use std::alloc::Global;
+
+/// The terms of a version. None stand under 0, nor under a version that 32 bits can't hold.
+pub(crate) fn terms_under<S: Alter>(
+    tx: &mut Transaction<'_, S>,
+    book: u32,
+    version: u64,
+) -> Result<Option<Terms>, KeepError>
+    ensures same_reference { tx.new.conn.ghost_name ≡ tx.old.conn.ghost_name }
+    ensures finds { FindsIn (state S.Store tx.old.conn.now) (state S.Store tx.new.conn.now) result (λ h terms. terms ≡ terms_at (terms_of (get h.books book)) version) }
+    ensures lent { IsLent (state S.Store tx.old.conn.now) (state S.Store tx.new.conn.now) (is_ok result) }
+{
+    let Ok(short) = u32::try_from(version) else {
+        return terms_in(tx, book, 0);
+    };
+    terms_in(tx, book, short)
+}
 
 /// The lists of a pledge.
 #[tactic(auto, using(crate::proofs::Lent::lent_then))]
