@@ -1,18 +1,18 @@
 -- A read of a keeper: a transaction that is lent, and rolled back.
-use Rattle.std.proofs.Common.{◌≡◌, ◌⊎◌, inl, inr, Bool, true, false, Result, Ok, Err, IsTrue, refl, sym, subst, ◌∙◌, arith}
+use Rattle.std.proofs.Common.{◌≡◌, ◌⊎◌, inl, inr, Bool, false, Result, Ok, Err, IsTrue, sym, subst, ◌∙◌, arith}
 use Rattle.std.specs.Prelude.{IfOk, is_ok}
 use Rattle.sqlite.specs.State.{State, HasCleanDisk, IsRolledBack, Survives}
 use Rattle.pawn_book.specs.HostStep.{Host}
-use Rattle.pawn_book.specs.Keeping.{Keeping, GoesOn, Reads, Errs}
+use Rattle.pawn_book.specs.Keeping.{Reads, Errs}
 use Rattle.pawn_book.specs.Sound.{HasUnsoundBook}
 use Rattle.pawn_book.specs.declared.fault.KeepError.{KeepError}
 use Rattle.pawn_book.specs.declared.fault.KeepError.TheVariants as Keeper
-use Rattle.pawn_book.specs.declared.fault.StoreFault.TheVariants.{NoRecord, Database}
+use Rattle.pawn_book.specs.declared.fault.StoreFault.TheVariants.{NoRecord}
 use Rattle.one_table.specs.Lending.{IsLent, Rests}
 use Rattle.one_table.proofs.Lent.{clean_before}
 use Rattle.one_table.proofs.Parts.{rests_open, committed_rests}
 use Rattle.pawn_tables.specs.StandsFor.{StandsFor}
-use Rattle.pawn_tables.specs.Keeps.{Keeps, Leaves, keeping_by}
+use Rattle.pawn_tables.specs.Keeps.{Keeps, keeping_by}
 use Rattle.pawn_tables.specs.Finding.{Finds, FindsIn, Stood}
 
 -- what was found, alone

@@ -1,6 +1,6 @@
 -- What is kept of a sound host can be read of its rows.
 use Rattle.std.proofs.Common.{◌≡◌, ℕ, zero, suc, ◌≤◌, List, [], ◌∷◌, slice_get, Option, Some, None, Result, Ok, Err, refl, sym, subst, arith}
-use Rattle.std.specs.Prelude.{IfSome, option_map}
+use Rattle.std.specs.Prelude.{IfSome}
 use Rattle.std.specs.FinMap.{get}
 use Rattle.pawn_terms.specs.Calendar.{IsDayNumber}
 use Rattle.pawn_terms.specs.Limits.{first_day, last_stamp_day}
@@ -8,28 +8,26 @@ use Rattle.pawn_terms.specs.Terms.{IsChecked}
 use Rattle.pawn_terms.specs.declared.terms.Rates.{Rates}
 use Rattle.pawn_terms.specs.Order.{DoNotFall, last_by}
 use Rattle.pawn_debt.specs.Due.{last_of}
-use Rattle.pawn_debt.specs.Kept.{totals_of}
-use Rattle.pawn_debt.specs.declared.owing.Totals.{Totals}
 use Rattle.pawn_terms.proofs.OrderLemmas.{last_by-le}
 use Rattle.pawn_pledge.specs.declared.record.Extension.{Extension}
 use Rattle.pawn_pledge.specs.declared.record.Booking.{Booking}
 use Rattle.pawn_pledge.specs.declared.record.Closing.{Closing}
 use Rattle.pawn_pledge.specs.declared.record.Closing.TheVariants.{Open, Redeemed, Sold}
-use Rattle.pawn_pledge.specs.Pledge.{PledgeValue, debt_of}
+use Rattle.pawn_pledge.specs.Pledge.{PledgeValue}
 use Rattle.pawn_pledge.specs.Replayable.{Each, AreExtended, IsBooked, IsClosed, IsStanding}
 use Rattle.pawn_pledge.proofs.Pushes.{DoNotFall-each}
 use Rattle.pawn_book.specs.BookStep.{BookValue, pledge_from, pledge_in}
 use Rattle.pawn_book.specs.HostStep.{Host}
 use Rattle.pawn_book.specs.Rows.{terms_at}
 use Rattle.pawn_book.specs.Keeping.{entries_of, extensions_of, secrets_of, terms_of}
-use Rattle.pawn_book.specs.Sound.{IsSoundBook, IsSoundAt, HasUnsoundBook}
+use Rattle.pawn_book.specs.Sound.{IsSoundBook, HasUnsoundBook}
 use Rattle.pawn_book.specs.Written.{HasTextsAndWords, AreWords}
 use Rattle.pawn_book.specs.declared.fault.KeepError.{KeepError}
 use Rattle.pawn_book.specs.declared.fault.KeepError.TheVariants as Keeper
 use Rattle.pawn_book.specs.declared.fault.StoreFault.TheVariants.{NoRecord, Database}
 use Rattle.pawn_book.proofs.Sounds.{each_at}
 use Rattle.pawn_tables.specs.Rows.{closed_day}
-use Rattle.pawn_tables.specs.Told.{IsTold, IsRowTold, row_of, booking_of, totals_in}
+use Rattle.pawn_tables.specs.Told.{IsRowTold, booking_of, totals_in}
 use Rattle.pawn_tables.specs.StandsFor.{AreStorable}
 use Rattle.pawn_tables.specs.Finding.{Finds, IsRead}
 

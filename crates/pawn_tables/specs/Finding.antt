@@ -1,5 +1,5 @@
 -- What is read, and when it is none.
-use Rattle.std.specs.Prelude.{ℕ, ◌≡◌, IsTrue, List, Option, Some, None, Result, Ok, Err}
+use Rattle.std.specs.Prelude.{◌≡◌, IsTrue, Result, Ok, Err}
 use Rattle.sqlite.specs.State.{State, HasCleanDisk}
 use Rattle.pawn_book.specs.HostStep.{Host}
 use Rattle.pawn_book.specs.Sound.{HasUnsoundBook}

@@ -1,5 +1,5 @@
 -- What the row of a pledge tells, and what the tables beside it tell.
-use Rattle.std.specs.Prelude.{◌≡◌, ℕ, List, Option, Some, None, IfSome}
+use Rattle.std.specs.Prelude.{◌≡◌, Option, Some, None, IfSome}
 use Rattle.std.specs.Str.{IsUtf8}
 use Rattle.pawn_terms.specs.Calendar.{IsDayNumber, IsStampDay}
 use Rattle.pawn_debt.specs.declared.owing.Totals.{Totals}

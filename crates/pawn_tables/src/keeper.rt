@@ -13,6 +13,7 @@ use sqlite::{Alter, Connection};
 use std::alloc::Global;
 
 /// Books in the tables of a database.
+#[derive(Drop)]
 pub struct TableKeep<S: Alter> {
     alloc: Global,
     conn: Connection<S>,

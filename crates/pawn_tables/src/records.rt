@@ -11,9 +11,7 @@ ghost use Rattle.pawn_tables.specs.Rows.{kind_number, closed_number, closed_day,
 ghost use Rattle.pawn_tables.specs.Finding.{IsRead};
 
 use crate::cells::{NO_RECORD, day_at, day_of, number_at, state_of};
-use pawn_book::{
-    Booking, Closing, Day, KeepError, Kind, Opening, Rates, Terms,
-};
+use pawn_book::{Booking, Closing, Day, KeepError, Kind, Opening, Rates, Terms};
 use pawn_debt::Totals;
 use sqlite::Row;
 
@@ -52,7 +50,11 @@ pub(crate) fn optional_day(number: Option<u64>) -> Result<Option<Day>, KeepError
 }
 
 /// The closing of a pledge, by its number, day and amount.
-pub(crate) fn closing_of(closed: u64, day: Option<Day>, amount: Option<u64>) -> Result<Closing, KeepError>
+pub(crate) fn closing_of(
+    closed: u64,
+    day: Option<Day>,
+    amount: Option<u64>,
+) -> Result<Closing, KeepError>
     ensures read { (c : Closing) → closed ≡ closed_number c → day ≡ closed_day c → amount ≡ closed_amount c → IsRead result c ⊤ }
 {
     match (closed, day, amount) {

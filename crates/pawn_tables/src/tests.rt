@@ -54,7 +54,13 @@ fn terms_of_rows_are_read(rt: HostRuntime) -> Result<(), Fail> {
     let terms = keeper.terms(seven, 1).ok().ok_or("read")?.ok_or("found")?;
     assert_eq!(rt; terms.rates().rate, 2667);
     assert!(rt; keeper.terms(seven, 2).ok().ok_or("read")?.is_none());
-    assert!(rt; keeper.terms(seven, 5_000_000_000).ok().ok_or("read")?.is_none());
+    assert!(rt;
+        keeper
+            .terms(seven, 5_000_000_000)
+            .ok()
+            .ok_or("read")?
+            .is_none()
+    );
     Ok(())
 }
 

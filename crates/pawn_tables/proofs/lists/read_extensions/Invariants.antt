@@ -1,4 +1,3 @@
-use Rattle.std.specs.Prelude.{ℕ}
 use Rattle.pawn_pledge.specs.declared.record.Extension.{Extension}
 use Rattle.pawn_tables.specs.Rows.{extension_cells}
 use Rattle.pawn_tables.proofs.Placed.{AreReadTo}

@@ -1,4 +1,3 @@
-use Rattle.std.specs.Prelude.{ℕ}
 use Rattle.pawn_pledge.specs.declared.record.Issued.{Issued}
 use Rattle.pawn_book.specs.Written.{IsWord}
 use Rattle.pawn_tables.specs.Rows.{secret_cells}

@@ -1,5 +1,4 @@
 use Rattle.std.proofs.Common.{rules, refl, sym, subst, ◌∙◌}
-use Rattle.std.specs.FinMap.{get}
 use Rattle.sqlite.specs.Held.{state}
 use Rattle.sqlite.specs.Listing.{understood}
 use Rattle.sqlite.proofs.Callers.{IsPlain}

@@ -6,7 +6,6 @@ use Rattle.pawn_tables.specs.declared.joining.Lists.{Lists}
 use Rattle.pawn_tables.specs.declared.joining.Sides.{Sides}
 use Rattle.pawn_tables.specs.Told.{AreLists, AreSides, row_of}
 use Rattle.sqlite.specs.Held.{state}
-use Rattle.pawn_pledge.specs.Pledge.{PledgeValue}
 use Rattle.pawn_book.specs.BookStep.{pledge_in}
 use Rattle.pawn_tables.specs.declared.records.PledgeRow.{PledgeRow}
 use Rattle.pawn_tables.proofs.Joins.{row_is, version_fits, whole_told}
