@@ -6,3 +6,4 @@ pub mod Rows
 pub mod Schema
 pub mod StandsFor
 pub mod Told
+pub mod WorkedTables

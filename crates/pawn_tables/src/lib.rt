@@ -9,8 +9,10 @@ mod queries;
 mod records;
 mod rows;
 mod whole;
+mod worked;
 
 pub use keeper::TableKeep;
+pub use worked::worked_tables;
 
 #[cfg(test)]
 mod tests;
