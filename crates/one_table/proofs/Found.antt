@@ -1,0 +1,91 @@
+-- What a query on one table shows, told by the rows that the table holds.
+use Rattle.std.proofs.Common.{◌≡◌, ℕ, List, [], ◌∷◌, map, filter, take, Bool, refl, sym, ap, subst, ◌∙◌, IsPermutation}
+use Rattle.std.specs.declared.cmp.Ordering.TheVariants.{Less}
+use Rattle.std.proofs.lemmas.List.Elements.{filter_agree}
+use Rattle.std.proofs.lemmas.List.Sorted.{IsPermutation-map, IsPermutation-trans, IsPermutation-sym}
+use Rattle.sqlite.specs.declared.types.Value.{Value}
+use Rattle.sqlite.specs.declared.types.Value.TheVariants.{Null}
+use Rattle.sqlite.specs.Order.{Row, column, value_cmp}
+use Rattle.sqlite.specs.Tree.{Trees, IsAscending}
+use Rattle.sqlite.specs.Table.{Table}
+use Rattle.sqlite.specs.Term.{Term}
+use Rattle.sqlite.specs.Query.{Query, IsAnswer, output, output_cmp, Output}
+use Rattle.sqlite.specs.Program.{overlay}
+use Rattle.sqlite.specs.State.{State, Shown}
+use Rattle.sqlite_value.specs.declared.keys.Key.{Key}
+use Rattle.sqlite_value.proofs.OrderLemmas.{then-Equal}
+use Rattle.sqlite_trees.proofs.ListLemmas.{map-map, filter-map, IsPermutation-filter, ascending-map, ascending_weaker}
+use Rattle.sqlite.proofs.Callers.{reads_as}
+use Rattle.sqlite.specs.Schema.{Schema}
+use Rattle.one_table.specs.Listing.{Holds, columns_of}
+use Rattle.one_table.proofs.OneTable.{over_table, first_of_table, around, passes, shows_of, found, found_first, found_all}
+use Rattle.one_table.proofs.Texts.{Asks, by_column}
+
+-- the rows that pass, and what is shown of them, by what SELECT * shows
+module _ (schema : Schema) (tree : ℕ) (is_tree : (db : Trees) → overlay db [] tree ≡ db tree) (table : Table) (tests shows : List Term) (params : Row) (test : Row → Bool) (cells : Row → Row)
+    (passes_is : (r : Row) → passes tests params r ≡ test (columns_of table r)) (shows_is : (r : Row) → shows_of shows params r ≡ cells (columns_of table r)) where
+  by_columns : (rows : List Row) → map (shows_of shows params) (filter (passes tests params) rows) ≡ map cells (filter test (map (columns_of table) rows))
+  by_columns rows =
+      (λ i. map (λ r. shows_is r i) (filter (passes tests params) rows))
+      ∙ ap (map (λ r. cells (columns_of table r))) (filter_agree _ _ passes_is rows)
+      ∙ sym (map-map cells (columns_of table) _) ∙ ap (map cells) (sym (filter-map test (columns_of table) rows))
+
+  -- in some order
+  pub shown_listed : (text : List ℕ) (names : List (List ℕ)) (order : List (Term × Key)) → Asks schema text (over_table tree tests shows order) names
+      → (old new : State) (listed rows : List Row) → old.now.schema ≡ schema → Holds old.now.trees tree table listed → Shown text params old new rows
+      → IsPermutation (map cells (filter test listed)) rows
+  shown_listed text names order is old new listed rows has holds shown =
+      let db = old.now.trees in
+      let read = reads_as text params old new schema has _ is.0 is.2 is.1 rows shown in
+      let found' = found tree tests shows order (overlay db []) params rows (read.answer Null) in
+      let moved = IsPermutation-map cells _ _ (IsPermutation-filter test _ _ holds.same) in
+      IsPermutation-trans _ _ _ moved (subst (λ xs. IsPermutation xs rows) (ap (λ xs. map (shows_of shows params) (filter (passes tests params) xs)) (is_tree db) ∙ by_columns (db tree)) found')
+
+  module _ (place : ℕ) (key : Row → Value) (key_is : (r : Row) → column r place ≡ key (columns_of table r)) where
+    abbrev pub output_of : Row → Output
+    output_of v = (key v ∷ [], cells v)
+
+    outputs : (q : Query) → (q.order ≡ by_column place) → q.project ≡ shows → (rows : List Row)
+        → map (λ r. output q (around params r)) (filter (passes tests params) rows) ≡ map output_of (filter test (map (columns_of table) rows))
+    outputs q order project rows =
+        (λ i. map (λ r. (Rattle.sqlite.specs.Term.eval_all (map (λ (k : Term × Key). k.0) (order i)) (around params r), Rattle.sqlite.specs.Term.eval_all (project i) (around params r))) (filter (passes tests params) rows))
+        ∙ (λ i. map (λ r. (key_is r i ∷ [], shows_is r i)) (filter (passes tests params) rows))
+        ∙ ap (map (λ r. output_of (columns_of table r))) (filter_agree _ _ passes_is rows)
+        ∙ sym (map-map output_of (columns_of table) _) ∙ ap (map output_of) (sym (filter-map test (columns_of table) rows))
+
+    abbrev pub Rises : List Row → Type 0
+    Rises = IsAscending (λ a b. value_cmp (key a) (key b) ≡ Less)
+
+    rising : (q : Query) → q.order ≡ by_column place → (xs : List Row) → Rises xs → IsAscending (λ x y. output_cmp q x y ≡ Less) (map output_of xs)
+    rising q order xs up =
+        ascending-map (λ x y. output_cmp q x y ≡ Less) output_of xs
+        (ascending_weaker (λ a b. value_cmp (key a) (key b) ≡ Less) (λ a b. output_cmp q (output_of a) (output_of b) ≡ Less)
+        (λ a b less. (λ i. Rattle.sqlite_sql.specs.Query.key_cmp 0 (map (λ (k : Term × Key). k.1) (order i)) (key a ∷ []) (key b ∷ [])) ∙ then-Equal _ ∙ less) xs up)
+
+    -- in the order of a column that rises in the list
+    pub shown_in_order : (text : List ℕ) (names : List (List ℕ)) → Asks schema text (over_table tree tests shows (by_column place)) names
+        → (old new : State) (listed rows : List Row) → old.now.schema ≡ schema → Holds old.now.trees tree table listed → Rises (filter test listed) → Shown text params old new rows
+        → rows ≡ map cells (filter test listed)
+    shown_in_order text names is old new listed rows has holds up shown =
+        let db = old.now.trees in
+        let q = over_table tree tests shows (by_column place) in
+        let read = reads_as text params old new schema has _ is.0 is.2 is.1 rows shown in
+        let a : IsAnswer q (overlay db []) params rows = read.answer Null in
+        let xs = map output_of (filter test listed) in
+        let same : IsPermutation xs (map (λ r. output q (around params r)) (filter (passes tests params) (overlay db [] tree))) =
+        subst (IsPermutation xs) (sym (ap (λ ts. map (λ r. output q (around params r)) (filter (passes tests params) ts)) (is_tree db) ∙ outputs q refl refl (db tree))) (IsPermutation-map output_of _ _ (IsPermutation-filter test _ _ holds.same)) in
+        found_all tree tests shows (by_column place) (overlay db []) params rows a xs (IsPermutation-sym _ _ same) (rising q refl _ up) ∙ map-map (λ (o : Output). o.1) output_of _
+
+    -- the first of them alone
+    pub shown_first : (text : List ℕ) (names : List (List ℕ)) → Asks schema text (first_of_table tree tests shows (by_column place)) names
+        → (old new : State) (listed rows : List Row) → old.now.schema ≡ schema → Holds old.now.trees tree table listed → Rises (filter test listed) → Shown text params old new rows
+        → rows ≡ take 1 (map cells (filter test listed))
+    shown_first text names is old new listed rows has holds up shown =
+        let db = old.now.trees in
+        let q = first_of_table tree tests shows (by_column place) in
+        let read = reads_as text params old new schema has _ is.0 is.2 is.1 rows shown in
+        let a : IsAnswer q (overlay db []) params rows = read.answer Null in
+        let xs = map output_of (filter test listed) in
+        let same : IsPermutation xs (map (λ r. output q (around params r)) (filter (passes tests params) (overlay db [] tree))) =
+        subst (IsPermutation xs) (sym (ap (λ ts. map (λ r. output q (around params r)) (filter (passes tests params) ts)) (is_tree db) ∙ outputs q refl refl (db tree))) (IsPermutation-map output_of _ _ (IsPermutation-filter test _ _ holds.same)) in
+        found_first tree tests shows (by_column place) (overlay db []) params rows a xs (IsPermutation-sym _ _ same) (rising q refl _ up) ∙ ap (take 1) (map-map (λ (o : Output). o.1) output_of _)

@@ -1,0 +1,11 @@
+pub mod Alteration
+pub mod Found
+pub mod Insertion
+pub mod Lent
+pub mod OneTable
+pub mod Parts
+pub mod Queries
+pub mod Returning
+pub mod Rowed
+pub mod Texts
+pub mod Upsertion

@@ -1,0 +1,52 @@
+-- What a text means under a schema.
+use Rattle.std.specs.Prelude.{◌≡◌, List, [], ◌∷◌, ℕ, false, Option, Some, None, Result, Ok, Err}
+use Rattle.sqlite.specs.Command.TheVariants.{Insert, Select, Update}
+use Rattle.sqlite.specs.Schema.{Schema}
+use Rattle.sqlite.specs.Listing.{understood, reads_listing}
+use Rattle.sqlite.specs.Collation.TheVariants.{Binary}
+use Rattle.sqlite.specs.Term.{Term, col, op2}
+use Rattle.sqlite.specs.Query.{Query}
+use Rattle.sqlite.specs.Source.TheVariants.{Values}
+use Rattle.sqlite_sql.specs.declared.ops.BinaryOp.TheVariants.{Compare}
+use Rattle.sqlite_sql.specs.declared.ops.CompareOp.TheVariants.{Eq}
+use Rattle.sqlite_resolve.specs.declared.compiled.Compiled.{Compiled}
+use Rattle.sqlite_resolve.specs.declared.error.CompileError.{CompileError}
+use Rattle.sqlite_schema.specs.declared.command.Returning.{Returning}
+use Rattle.sqlite_value.specs.declared.keys.Key.{Key}
+use Rattle.sqlite.proofs.Callers.{IsPlain, command_of}
+
+-- the text is this query, which shows columns of these names, and nothing else
+abbrev pub Asks : Schema → List ℕ → Query → List (List ℕ) → Type 0
+Asks schema text query names =
+    (command_of (understood schema text) ≡ Select (record { lets = []; body = query }) names) × (reads_listing schema text ≡ false) × IsPlain (understood schema text)
+
+-- the text puts one row of these values into the table at a place
+abbrev pub Puts : Schema → List ℕ → ℕ → List Term → ℕ → Type 0
+Puts schema text at values width = (command_of (understood schema text) ≡ Insert at (Values values width)) × IsPlain (understood schema text)
+
+-- the text changes rows of the table at a place, found by this query
+abbrev pub Sets : Schema → List ℕ → ℕ → Query → Type 0
+Sets schema text at query = (command_of (understood schema text) ≡ Update at (record { lets = []; body = query })) × IsPlain (understood schema text)
+
+-- a column is a parameter
+abbrev pub is_param : ℕ → ℕ → Term
+is_param place param = op2 (Compare Eq Binary) (col 1 place) (col 0 param)
+
+-- in the order of a column
+abbrev pub by_column : ℕ → List (Term × Key)
+by_column place = (col 1 place, record { collation = Binary; descending = false }) ∷ []
+
+-- what the text hands back of the rows that it writes
+abbrev pub returning_of : Result Compiled CompileError → Option Returning
+returning_of (Ok c) = c.returning
+returning_of (Err e) = None
+
+-- the formats of time that the text reads
+abbrev pub formats_of : Result Compiled CompileError → List (List ℕ)
+formats_of (Ok c) = c.formats
+formats_of (Err e) = []
+
+-- the text changes rows of the table at a place, found by this query, and hands these back
+abbrev pub Returns : Schema → List ℕ → ℕ → Query → Returning → Type 0
+Returns schema text at query what =
+    (command_of (understood schema text) ≡ Update at (record { lets = []; body = query })) × (returning_of (understood schema text) ≡ Some what) × (formats_of (understood schema text) ≡ [])

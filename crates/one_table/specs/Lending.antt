@@ -1,0 +1,16 @@
+-- What a part that is lent a transaction leaves of it.
+use Rattle.std.specs.Prelude.{◌≡◌, Bool, true, IsTrue}
+use Rattle.sqlite.specs.State.{State, HasCleanDisk, KeepsCommit, Survives}
+
+-- the last commit is kept, the transaction goes on unless the part failed, and a crash leaves what it left before
+pub record IsLent (old new : State) (ok : Bool) : Type 0 where
+  pub kept : HasCleanDisk new → IsTrue old.in_transaction → KeepsCommit old new
+  -- only an open store answers
+  pub opened : HasCleanDisk new → IsTrue old.in_transaction → ok ≡ true → IsTrue old.is_open
+  pub inside : HasCleanDisk new → IsTrue old.in_transaction → ok ≡ true → IsTrue new.in_transaction
+  pub survives : Survives old new (λ _. ⊥)
+
+-- the database is as it was, and the transaction goes on
+pub record Rests (old new : State) : Type 0 where
+  pub now_is : new.now ≡ old.now
+  pub inside : IsTrue new.in_transaction

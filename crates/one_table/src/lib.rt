@@ -1,0 +1,6 @@
+//! Statements on one table of a database at a time, whatever its schema is.
+#![tactic(auto)]
+
+mod asking;
+
+pub use asking::{ask, run};

@@ -1,0 +1,104 @@
+-- A pledge of what was read of it.
+use Rattle.std.proofs.Common.{◌≡◌, ◌≤◌, ◌<◌, ◌^◌, ℕ, zero, suc, List, [], ◌∷◌, length, Option, Some, None, Result, Ok, Err, refl, sym, ap, subst, ◌∙◌, arith}
+use Rattle.std.specs.Prelude.{IfSome, option_map, is_ok}
+use Rattle.sqlite.specs.State.{State}
+use Rattle.one_table.specs.Lending.{IsLent, Rests}
+use Rattle.pawn_book.specs.Sound.{HasUnsoundBook}
+use Rattle.pawn_tables.proofs.Lent.{unfound}
+use Rattle.std.specs.FinMap.{get}
+use Rattle.pawn_terms.specs.declared.terms.Rates.{Rates}
+use Rattle.pawn_debt.specs.declared.owing.Totals.{Totals}
+use Rattle.pawn_debt.specs.Kept.{totals_of}
+use Rattle.pawn_pledge.specs.Pledge.{PledgeValue, debt_of, end_of}
+use Rattle.pawn_book.specs.Rows.{terms_at}
+use Rattle.pawn_book.specs.Keeping.{entries_of, extensions_of, secrets_of, terms_of}
+use Rattle.pawn_book.specs.BookStep.{BookValue, pledge_in}
+use Rattle.pawn_book.specs.HostStep.{Host}
+use Rattle.pawn_book.specs.declared.fault.KeepError.{KeepError}
+use Rattle.pawn_pledge.specs.Replayable.{IsStanding}
+use Rattle.pawn_tables.specs.Finding.{IsRead, FindsIn}
+use Rattle.pawn_tables.specs.StandsFor.{AreOrdered, AreStorable}
+use Rattle.pawn_tables.specs.Told.{AreLists, AreSides, booking_of, totals_in, row_of}
+use Rattle.pawn_tables.specs.declared.joining.Lists.{Lists}
+use Rattle.pawn_tables.specs.declared.joining.Sides.{Sides}
+use Rattle.pawn_tables.specs.declared.records.PledgeRow.{PledgeRow}
+use Rattle.pawn_tables.proofs.PledgeReads.{number_in, under_in}
+
+-- the row that was found is that of a pledge
+pub row_is : (o : Option PledgeValue) (row : PledgeRow) → Some row ≡ option_map row_of o → (p : PledgeValue) × (o ≡ Some p) × (row ≡ row_of p)
+row_is None row is = absurd (let e = is in cc)
+row_is (Some p) row is = (p, refl, (let e = is in cc))
+
+pub no_row : (o : Option PledgeValue) → None ≡ option_map row_of o → None ≡ o
+no_row None is = refl
+no_row (Some p) is = absurd (let e = is in cc)
+
+within_terms : (ts : List Rates) (v : ℕ) (t : Rates) → terms_at ts v ≡ Some t → v ≤ length ts
+within_terms ts zero t is = omega arith
+within_terms [] (suc v) t is = absurd (let e = is in cc)
+within_terms (x ∷ ts) (suc zero) t is = omega arith
+within_terms (x ∷ ts) (suc (suc v)) t is = let rest : suc v ≤ length ts = within_terms ts (suc v) t is in omega (arith, rest)
+
+-- a version of 32 bits
+pub version_fits : (h : Host) (b n : ℕ) (p : PledgeValue) → AreOrdered h → AreStorable h → pledge_in (get h.books b) n ≡ Some p → p.agreement.version < 2 ^ 32
+version_fits h b n p ordered storable is = inside (get h.books b) refl (under_in h b n p ordered is)
+  where
+    inside : (o : Option BookValue) → get h.books b ≡ o → terms_at (terms_of o) p.agreement.version ≡ Some p.agreement.terms → p.agreement.version < 2 ^ 32
+    inside None e at = let low = within_terms [] p.agreement.version p.agreement.terms at in omega (arith, low)
+    inside (Some k) e at = let low = within_terms k.terms p.agreement.version p.agreement.terms at in let few = (storable b k e).versions in omega (arith, low, few)
+
+-- the pledge that was joined of what was found of it, or why there is none
+pub whole_told : (h : Host) (b n v : ℕ) (p : PledgeValue) (row : PledgeRow) (s : Sides) (l : Lists) (r : Result PledgeValue KeepError) (number : ℕ) → number ≡ n → AreOrdered h → pledge_in (get h.books b) n ≡ Some p → row ≡ row_of p → v ≡ row.version
+    → IfSome (pledge_in (get h.books b) n) (λ q. v ≡ q.agreement.version → AreSides s q) → IfSome (pledge_in (get h.books b) n) (AreLists l)
+    → ((q : PledgeValue) → number ≡ q.agreement.number → row ≡ row_of q → AreSides s q → AreLists l q → IsRead r q (IsStanding q)) → IsRead r p (IsStanding p)
+whole_told h b n v p row s l r number named ordered at of version sides lists read =
+    let beside = subst (λ o. IfSome o (λ q. v ≡ q.agreement.version → AreSides s q)) at sides in
+    let listed = subst (λ o. IfSome o (AreLists l)) at lists in
+    read p (named ∙ sym (number_in h b n p ordered at)) of (beside (version ∙ ap (λ (x : PledgeRow). x.version) of)) listed
+
+-- what the sides have, where they are of a pledge
+pub joined : (s : Sides) (terms : Rates) (totals : Totals) (p : PledgeValue) → s.terms ≡ Some terms → s.totals ≡ Some totals → AreSides s p
+    → (terms ≡ p.agreement.terms) × (s.booking ≡ p.standing.booking) × (totals ≡ totals_of (debt_of p))
+joined s terms totals p has owed sides =
+    let a : Some terms ≡ Some p.agreement.terms = sym has ∙ sides.terms in
+    let b : Some totals ≡ Some (totals_of (debt_of p)) = sym owed ∙ sides.totals in
+    ((let e = a in cc), sides.booking, (let e = b in cc))
+
+pub ends_joined : (row : PledgeRow) (p q : PledgeValue) (ends : ℕ) → ends ≡ row.ends → row ≡ row_of p → q ≡ p → ends ≡ end_of q
+ends_joined row p q ends is of same = is ∙ ap (λ (r : PledgeRow). r.ends) of ∙ ap end_of (sym same)
+
+pub sides_told : (h : Host) (b n v : ℕ) (s : Sides) → AreOrdered h → s.terms ≡ terms_at (terms_of (get h.books b)) v → s.booking ≡ booking_of (pledge_in (get h.books b) n) → s.totals ≡ totals_in (pledge_in (get h.books b) n)
+    → IfSome (pledge_in (get h.books b) n) (λ p. v ≡ p.agreement.version → AreSides s p)
+sides_told h b n v s ordered terms booking totals = go (pledge_in (get h.books b) n) refl booking totals
+  where
+    go : (o : Option PledgeValue) → pledge_in (get h.books b) n ≡ o → s.booking ≡ booking_of o → s.totals ≡ totals_in o → IfSome o (λ p. v ≡ p.agreement.version → AreSides s p)
+    go None is booking totals = tt
+    go (Some p) is booking totals = λ version. record {
+      terms = terms ∙ ap (terms_at (terms_of (get h.books b))) version ∙ under_in h b n p ordered is;
+      booking = booking;
+      totals = totals;
+    }
+
+pub lists_told : (o : Option PledgeValue) (l : Lists) → l.entries ≡ entries_of o → l.secrets ≡ secrets_of o → l.extensions ≡ extensions_of o → IfSome o (AreLists l)
+lists_told None l entries secrets extensions = tt
+lists_told (Some p) l entries secrets extensions = record { entries = entries; secrets = secrets; extensions = extensions }
+
+past_terms : (ts : List Rates) (v : ℕ) → length ts < v → None ≡ terms_at ts v
+past_terms ts zero lt = absurd (omega (arith, lt))
+past_terms [] (suc v) lt = refl
+past_terms (t ∷ ts) (suc zero) lt = absurd (omega (arith, lt))
+past_terms (t ∷ ts) (suc (suc v)) lt = past_terms ts (suc v) (omega (arith, lt))
+
+-- no terms stand under a version that 32 bits can't hold
+pub none_under : (s0 s1 : State) (r : Result (Option Rates) KeepError) (b v : ℕ) → 2 ^ 32 ≤ v → IsLent s0 s1 (is_ok r) → FindsIn s0 s1 r (λ h x. x ≡ terms_at (terms_of (get h.books b)) 0)
+    → FindsIn s0 s1 r (λ h x. x ≡ terms_at (terms_of (get h.books b)) v)
+none_under s0 s1 (Err e) b v big lent f clean within h stood =
+    unfound e (Err e) (λ x. (x ≡ terms_at (terms_of (get h.books b)) 0) × Rests s0 s1) (λ x. (x ≡ terms_at (terms_of (get h.books b)) v) × Rests s0 s1) (HasUnsoundBook h) refl (f clean within h stood)
+none_under s0 s1 (Ok x) b v big lent f clean within h stood =
+    let found = f clean within h stood in
+    let st = stood (lent.opened clean within refl) in
+    (found.0 ∙ inside (get h.books b) refl st.storable, found.1)
+  where
+    inside : (o : Option BookValue) → get h.books b ≡ o → AreStorable h → None ≡ terms_at (terms_of o) v
+    inside None e storable = past_terms [] v (omega (arith, big))
+    inside (Some k) e storable = let few = (storable b k e).versions in past_terms k.terms v (omega (arith, few, big))

@@ -1,0 +1,10 @@
+pub mod Joins
+pub mod KeeperReads
+pub mod Lent
+pub mod PledgeReads
+pub mod Placed
+pub mod ReadTexts
+pub mod RowCells
+pub mod SoundReads
+pub mod Sought
+pub mod Words

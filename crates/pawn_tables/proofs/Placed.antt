@@ -1,0 +1,77 @@
+-- Lists that are read of rows, one row for each element.
+use Rattle.std.proofs.Common.{◌≡◌, ◌++◌, ℕ, zero, suc, ◌+◌, ◌<◌, List, [], ◌∷◌, length, take, map, get_or, slice_get, Option, Some, None, Ok, Err, refl, sym, ap, subst, ◌∙◌, arith}
+use Rattle.std.specs.Prelude.{IfSome}
+use Rattle.sqlite.specs.Order.{Row}
+use Rattle.pawn_pledge.specs.Replayable.{Each}
+use Rattle.pawn_book.specs.declared.fault.KeepError.{KeepError}
+use Rattle.pawn_book.specs.declared.fault.KeepError.TheVariants as Keeper
+use Rattle.pawn_book.specs.declared.fault.StoreFault.TheVariants.{NoRecord, Database}
+use Rattle.pawn_tables.specs.Rows.{placed_from, at_most_one}
+use Rattle.pawn_tables.specs.Finding.{IsRead}
+
+-- the element of a row, with its place
+pub element_at : {A : Type 0} (f : ℕ → A → Row) (k : ℕ) (xs : List A) (rows : List Row) (i : ℕ) (r : Row) → rows ≡ placed_from f k xs → i < length rows → r ≡ get_or rows i r
+    → (place : ℕ) × (x : A) × (r ≡ f place x) × (slice_get xs i ≡ Some x)
+element_at f k [] rows i r are lt is = absurd (let e = subst (λ rs. i < length rs) are lt in omega (arith, e))
+element_at f k (x ∷ xs) rows zero r are lt is = (k, x, is ∙ ap (λ rs. get_or rs 0 r) are, refl)
+element_at f k (x ∷ xs) rows (suc i) r are lt is =
+    let short : suc i < suc (length (placed_from f (k + 1) xs)) = subst (λ rs. suc i < length rs) are lt in
+    element_at f (k + 1) xs (placed_from f (k + 1) xs) i r refl (omega (arith, short)) (is ∙ ap (λ rs. get_or rs (suc i) r) are)
+
+take_next : {A : Type 0} (xs : List A) (i : ℕ) (x : A) → slice_get xs i ≡ Some x → take (suc i) xs ≡ take i xs ++ x ∷ []
+take_next [] i x at = absurd (let e = at in cc)
+take_next (y ∷ xs) zero x at = let same : y ≡ x = (let e = at in cc) in ap (λ z. z ∷ []) same
+take_next (y ∷ xs) (suc i) x at = ap (λ l. y ∷ l) (take_next xs i x at)
+
+pub each_at : {A : Type 0} (P : A → Type 0) (xs : List A) (i : ℕ) (x : A) → slice_get xs i ≡ Some x → Each P xs → P x
+each_at P [] i x at all = absurd (let e = at in cc)
+each_at P (y ∷ xs) zero x at all = let same : y ≡ x = (let e = at in cc) in subst P same all.0
+each_at P (y ∷ xs) (suc i) x at all = each_at P xs i x at all.1
+
+take_whole : {A : Type 0} (f : ℕ → A → Row) (k : ℕ) (xs : List A) → take (length (placed_from f k xs)) xs ≡ xs
+take_whole f k [] = refl
+take_whole f k (x ∷ xs) = ap (λ l. x ∷ l) (take_whole f (k + 1) xs)
+
+-- what is read so far of the rows of any list
+abbrev pub AreReadTo : {A : Type 0} → (ℕ → A → Row) → (A → Type 0) → List Row → ℕ → List A → Type 0
+AreReadTo {A = A} f W rows i got = (xs : List A) → Each W xs → rows ≡ placed_from f 1 xs → got ≡ take i xs
+
+-- one more is read
+pub placed_more : {A : Type 0} (f : ℕ → A → Row) (W P : A → Type 0) (rows : List Row) (i : ℕ) (got more : List A) (r : Row) (y : A) → i < length rows → r ≡ get_or rows i r → more ≡ got ++ y ∷ []
+    → ((place : ℕ) (x : A) → W x → r ≡ f place x → IsRead (Ok y) x (P x)) → AreReadTo f W rows i got → AreReadTo f W rows (i + 1) more
+placed_more f W P rows i got more r y lt is grown read so xs words are =
+    let at = element_at f 1 xs rows i r are lt is in
+    let same = read at.0 at.1 (each_at W xs i at.1 at.3 words) at.2 in
+    let next : i + 1 ≡ suc i = omega arith in
+    grown ∙ ap (λ z. got ++ z ∷ []) same ∙ ap (λ l. l ++ at.1 ∷ []) (so xs words are) ∙ sym (take_next xs i at.1 at.3) ∙ ap (λ n. take n xs) (sym next)
+
+-- an element that can't be kept is the reason why a row is no record
+pub placed_err : {A : Type 0} (f : ℕ → A → Row) (W P : A → Type 0) (rows : List Row) (i : ℕ) (r : Row) (e : KeepError) → i < length rows → r ≡ get_or rows i r
+    → ((place : ℕ) (x : A) → W x → r ≡ f place x → IsRead (Err e) x (P x)) → (xs : List A) → Each W xs → rows ≡ placed_from f 1 xs → IsRead (Err e) xs (Each P xs)
+placed_err f W P rows i r Keeper.Memory lt is read xs words are = tt
+placed_err f W P rows i r (Keeper.Store Database) lt is read xs words are = tt
+placed_err f W P rows i r (Keeper.Store NoRecord) lt is read xs words are = λ all.
+    let at = element_at f 1 xs rows i r are lt is in
+    read at.0 at.1 (each_at W xs i at.1 at.3 words) at.2 (each_at P xs i at.1 at.3 all)
+
+-- all are read
+pub placed_whole : {A : Type 0} (f : ℕ → A → Row) (W : A → Type 0) (rows : List Row) (i : ℕ) (got : List A) → i ≡ length rows → AreReadTo f W rows i got → (xs : List A) → Each W xs → rows ≡ placed_from f 1 xs → got ≡ xs
+placed_whole f W rows i got end so xs words are = so xs words are ∙ ap (λ n. take n xs) (end ∙ ap length are) ∙ take_whole f 1 xs
+
+-- elements without their places
+pub mapped : {A : Type 0} (f : A → Row) (k : ℕ) (xs : List A) → map f xs ≡ placed_from (λ place x. f x) k xs
+mapped f k [] = refl
+mapped f k (x ∷ xs) = ap (λ l. f x ∷ l) (mapped f (k + 1) xs)
+
+pub each_any : {A : Type 0} (xs : List A) → Each (λ x. Unit {0}) xs
+each_any [] = tt
+each_any (x ∷ xs) = (tt, each_any xs)
+
+-- ---- one row, or none
+
+pub first_err : {A : Type 0} (f : A → Row) (P : A → Type 0) (rows : List Row) (r : Row) (e : KeepError) → r ≡ get_or rows 0 r → 0 < length rows
+    → ((x : A) → r ≡ f x → IsRead (Err e) x (P x)) → (o : Option A) → rows ≡ at_most_one f o → IsRead (Err e) o (IfSome o P)
+first_err f P rows r e is lt read None are = absurd (let short = subst (λ rs. 0 < length rs) are lt in omega (arith, short))
+first_err f P rows r Keeper.Memory is lt read (Some x) are = tt
+first_err f P rows r (Keeper.Store Database) is lt read (Some x) are = tt
+first_err f P rows r (Keeper.Store NoRecord) is lt read (Some x) are = read x (is ∙ ap (λ rs. get_or rs 0 r) are)

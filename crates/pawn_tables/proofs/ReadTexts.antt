@@ -1,0 +1,150 @@
+-- What the texts of the queries mean.
+use Rattle.std.proofs.Common.{List, [], ◌∷◌, ℕ, pos, codes, refl}
+use Rattle.sqlite_tied.specs.Compute.{everything}
+use Rattle.sqlite.specs.Listing.{understood}
+use Rattle.sqlite.specs.Collation.TheVariants.{Binary}
+use Rattle.sqlite.specs.Term.{Term, lit, col, op2}
+use Rattle.sqlite_sql.specs.declared.ops.BinaryOp.TheVariants.{Compare}
+use Rattle.sqlite_sql.specs.declared.ops.CompareOp.TheVariants.{Eq, Gt}
+use Rattle.sqlite.specs.declared.types.Value.TheVariants.{Int}
+use Rattle.one_table.proofs.Texts.{Asks, by_column, is_param}
+use Rattle.pawn_tables.specs.Schema.{keep_schema}
+use Rattle.one_table.proofs.OneTable.{over_table, first_of_table}
+
+-- a row of a book
+abbrev pub of_book : List Term
+of_book = is_param 0 0 ∷ []
+
+-- a row of a pledge
+abbrev pub of_pledge : List Term
+of_pledge = is_param 1 0 ∷ is_param 2 1 ∷ []
+
+abbrev pub head_text : List ℕ
+head_text = codes "SELECT book_key, title, capacity, terms, pledges, import_key, imported FROM books WHERE book = ?1"
+
+abbrev pub head_shows : List Term
+head_shows = col 1 2 ∷ col 1 3 ∷ col 1 4 ∷ col 1 5 ∷ col 1 6 ∷ col 1 7 ∷ col 1 8 ∷ []
+
+pub head_is : Asks keep_schema head_text (over_table 0 of_book head_shows []) (codes "book_key" ∷ codes "title" ∷ codes "capacity" ∷ codes "terms" ∷ codes "pledges" ∷ codes "import_key" ∷ codes "imported" ∷ [])
+unfolding understood everything
+head_is = (refl, refl, (refl, refl))
+
+abbrev pub entries_text : List ℕ
+entries_text = codes "SELECT seq, day, sort, pence FROM entries WHERE book = ?1 AND number = ?2 ORDER BY seq"
+
+abbrev pub entries_shows : List Term
+entries_shows = col 1 3 ∷ col 1 4 ∷ col 1 5 ∷ col 1 6 ∷ []
+
+pub entries_is : Asks keep_schema entries_text (over_table 6 of_pledge entries_shows (by_column 3)) (codes "seq" ∷ codes "day" ∷ codes "sort" ∷ codes "pence" ∷ [])
+unfolding understood everything
+entries_is = (refl, refl, (refl, refl))
+
+abbrev pub terms_text : List ℕ
+terms_text = codes "SELECT rate, keep_before, keep_after FROM terms WHERE book = ?1 AND version = ?2"
+
+abbrev pub terms_shows : List Term
+terms_shows = col 1 3 ∷ col 1 4 ∷ col 1 5 ∷ []
+
+pub terms_is : Asks keep_schema terms_text (over_table 1 of_pledge terms_shows []) (codes "rate" ∷ codes "keep_before" ∷ codes "keep_after" ∷ [])
+unfolding understood everything
+terms_is = (refl, refl, (refl, refl))
+
+abbrev pub pledge_text : List ℕ
+pledge_text = codes "SELECT ref, article, kind, credit, taken, agreed, five, version, ends, held, last_day, closed, closed_day, amount FROM pledges WHERE book = ?1 AND number = ?2"
+
+abbrev pub pledge_shows : List Term
+pledge_shows = col 1 3 ∷ col 1 4 ∷ col 1 5 ∷ col 1 6 ∷ col 1 7 ∷ col 1 8 ∷ col 1 9 ∷ col 1 10 ∷ col 1 11 ∷ col 1 12 ∷ col 1 13 ∷ col 1 14 ∷ col 1 15 ∷ col 1 16 ∷ []
+
+pub pledge_is : Asks keep_schema pledge_text (over_table 3 of_pledge pledge_shows []) (codes "ref" ∷ codes "article" ∷ codes "kind" ∷ codes "credit" ∷ codes "taken" ∷ codes "agreed" ∷ codes "five" ∷ codes "version" ∷ codes "ends" ∷ codes "held" ∷ codes "last_day" ∷ codes "closed" ∷ codes "closed_day" ∷ codes "amount" ∷ [])
+unfolding understood everything
+pledge_is = (refl, refl, (refl, refl))
+
+abbrev pub secrets_text : List ℕ
+secrets_text = codes "SELECT place, day, sort, secret FROM secrets WHERE book = ?1 AND number = ?2 ORDER BY place"
+
+abbrev pub secrets_shows : List Term
+secrets_shows = col 1 3 ∷ col 1 4 ∷ col 1 5 ∷ col 1 6 ∷ []
+
+pub secrets_is : Asks keep_schema secrets_text (over_table 8 of_pledge secrets_shows (by_column 3)) (codes "place" ∷ codes "day" ∷ codes "sort" ∷ codes "secret" ∷ [])
+unfolding understood everything
+secrets_is = (refl, refl, (refl, refl))
+
+abbrev pub booking_text : List ℕ
+booking_text = codes "SELECT day, slot, state FROM bookings WHERE book = ?1 AND number = ?2"
+
+abbrev pub booking_shows : List Term
+booking_shows = col 1 3 ∷ col 1 4 ∷ col 1 5 ∷ []
+
+pub booking_is : Asks keep_schema booking_text (over_table 11 of_pledge booking_shows []) (codes "day" ∷ codes "slot" ∷ codes "state" ∷ [])
+unfolding understood everything
+booking_is = (refl, refl, (refl, refl))
+
+abbrev pub totals_text : List ℕ
+totals_text = codes "SELECT day, principal, charges FROM totals WHERE book = ?1 AND number = ?2"
+
+abbrev pub totals_shows : List Term
+totals_shows = col 1 3 ∷ col 1 4 ∷ col 1 5 ∷ []
+
+pub totals_is : Asks keep_schema totals_text (over_table 15 of_pledge totals_shows []) (codes "day" ∷ codes "principal" ∷ codes "charges" ∷ [])
+unfolding understood everything
+totals_is = (refl, refl, (refl, refl))
+
+abbrev pub extensions_text : List ℕ
+extensions_text = codes "SELECT place, day, until_day FROM extensions WHERE book = ?1 AND number = ?2 ORDER BY place"
+
+abbrev pub extensions_shows : List Term
+extensions_shows = col 1 3 ∷ col 1 4 ∷ col 1 5 ∷ []
+
+pub extensions_is : Asks keep_schema extensions_text (over_table 17 of_pledge extensions_shows (by_column 3)) (codes "place" ∷ codes "day" ∷ codes "until_day" ∷ [])
+unfolding understood everything
+extensions_is = (refl, refl, (refl, refl))
+
+abbrev pub ref_text : List ℕ
+ref_text = codes "SELECT number FROM pledges WHERE book = ?1 AND ref = ?2"
+
+abbrev pub ref_tests : List Term
+ref_tests = is_param 1 0 ∷ is_param 3 1 ∷ []
+
+abbrev pub ref_shows : List Term
+ref_shows = col 1 2 ∷ []
+
+pub ref_is : Asks keep_schema ref_text (over_table 3 ref_tests ref_shows []) (codes "number" ∷ [])
+unfolding understood everything
+ref_is = (refl, refl, (refl, refl))
+
+abbrev pub confirmed_text : List ℕ
+confirmed_text = codes "SELECT number FROM bookings WHERE book = ?1 AND day = ?2 AND slot = ?3 AND state = 1"
+
+abbrev pub confirmed_tests : List Term
+confirmed_tests = is_param 1 0 ∷ is_param 3 1 ∷ is_param 4 2 ∷ op2 (Compare Eq Binary) (col 1 5) (lit (Int (pos 1))) ∷ []
+
+abbrev pub confirmed_shows : List Term
+confirmed_shows = col 1 2 ∷ []
+
+pub confirmed_is : Asks keep_schema confirmed_text (over_table 11 confirmed_tests confirmed_shows []) (codes "number" ∷ [])
+unfolding understood everything
+confirmed_is = (refl, refl, (refl, refl))
+
+abbrev pub next_text : List ℕ
+next_text = codes "SELECT book FROM books WHERE book > ?1 ORDER BY book LIMIT 1"
+
+abbrev pub next_tests : List Term
+next_tests = op2 (Compare Gt Binary) (col 1 0) (col 0 0) ∷ []
+
+abbrev pub next_shows : List Term
+next_shows = col 1 0 ∷ []
+
+pub next_is : Asks keep_schema next_text (first_of_table 0 next_tests next_shows (by_column 0)) (codes "book" ∷ [])
+unfolding understood everything
+next_is = (refl, refl, (refl, refl))
+
+-- the entries past one, in order
+abbrev pub more_text : List ℕ
+more_text = codes "SELECT seq, day, sort, pence FROM entries WHERE book = ?1 AND number = ?2 AND seq > ?3 ORDER BY seq LIMIT 1"
+
+abbrev pub more_tests : List Term
+more_tests = is_param 1 0 ∷ is_param 2 1 ∷ op2 (Compare Gt Binary) (col 1 3) (col 0 2) ∷ []
+
+pub more_is : Asks keep_schema more_text (first_of_table 6 more_tests entries_shows (by_column 3)) (codes "seq" ∷ codes "day" ∷ codes "sort" ∷ codes "pence" ∷ [])
+unfolding understood everything
+more_is = (refl, refl, (refl, refl))

@@ -1,0 +1,8 @@
+-- The cells of a row.
+use Rattle.std.proofs.Common.{◌≡◌, ℕ, ◌<◌, length, sym, ap, subst, ◌∙◌}
+use Rattle.sqlite.specs.declared.types.Value.{Value}
+use Rattle.sqlite.specs.Order.{Row, column}
+
+-- what stands in a column, where the row is known
+pub cell_at : (row cells : Row) (at : ℕ) (v : Value) → row ≡ cells → at < length cells → column cells at ≡ v → (at < length row) × (column row at ≡ v)
+cell_at row cells at v is within cell = (subst (λ r. at < length r) (sym is) within, ap (λ r. column r at) is ∙ cell)

@@ -1,0 +1,195 @@
+-- The rows of one book, and of one pledge, among those of a host.
+use Rattle.std.proofs.Common.{◌≡◌, ◌≢◌, ◌++◌, ◌==◌, ℕ, ◌+◌, ◌<◌, pos, List, [], ◌∷◌, map, filter, flat_map, Bool, true, false, cond, ◌&&◌, Option, Some, None, T, refl, sym, ap, subst, ◌∙◌, arith, append-nil}
+use Rattle.std.specs.Prelude.{if◌then◌else◌}
+use Rattle.std.specs.List.{AllByRecursion}
+use Rattle.std.specs.Ordering.{is_eq, is_lt, nat_cmp}
+use Rattle.std.specs.declared.cmp.Ordering.TheVariants.{Less}
+use Rattle.std.specs.FinMap.{entries, entries_sorted, get, get-entries, find, is_sorted}
+use Rattle.std.specs.FinMap.Entries.{below_all}
+use Rattle.std.proofs.lemmas.Bool.Decides.{nat_tests}
+use Rattle.sqlite.specs.declared.types.Value.{Value}
+use Rattle.sqlite.specs.Order.{Row, column, value_cmp}
+use Rattle.sqlite.specs.Tree.{IsAscending}
+use Rattle.sqlite.specs.Ops.{binary, is_true, from_truth}
+use Rattle.sqlite_value.proofs.OrderLemmas.{value_cmp-Int}
+use Rattle.pawn_debt.specs.declared.entry.Entry.{Entry}
+use Rattle.pawn_pledge.specs.Pledge.{PledgeValue}
+use Rattle.pawn_pledge.specs.Replayable.{AreNumbered}
+use Rattle.pawn_book.specs.BookStep.{BookValue, pledge_from, pledge_in}
+use Rattle.pawn_book.specs.HostStep.{Host}
+use Rattle.pawn_book.specs.Rows.{AreNumberedFrom}
+use Rattle.pawn_tables.specs.Rows.{number, placed_from}
+use Rattle.pawn_tables.specs.StandsFor.{of_books, of_pledges, AreOrdered}
+pub use Rattle.pawn_tables.specs.At.{is_at, at_book, at_pledge}
+
+-- ---- SQL's = on numbers
+
+truth_of : (b : Bool) → is_true (from_truth (Some b)) ≡ b
+truth_of true = refl
+truth_of false = refl
+
+pub equals : (m n : ℕ) → is_at (number m) (number n) ≡ (m == n)
+unfolding binary
+equals m n = truth_of _ ∙ ap is_eq (value_cmp-Int (pos m) (pos n)) ∙ grind (arith, nat_tests)
+
+-- ---- the entry at a key
+
+abbrev pub rows_at : {X : Type 0} → Option X → (X → List Row) → List Row
+rows_at None f = []
+rows_at (Some x) f = f x
+
+filter-append : (p : Row → Bool) (xs ys : List Row) → filter p (xs ++ ys) ≡ filter p xs ++ filter p ys
+filter-append p [] ys = refl
+filter-append p (x ∷ xs) ys = elim (p x) as (λ b. cond b (x ∷ filter p (xs ++ ys)) (filter p (xs ++ ys)) ≡ cond b (x ∷ filter p xs) (filter p xs) ++ filter p ys)
+    [ true ↦ ap (λ l. x ∷ l) (filter-append p xs ys) | false ↦ filter-append p xs ys ]
+
+pub filter-flat_map : {X : Type 0} (p : Row → Bool) (f : X → List Row) (xs : List X) → filter p (flat_map f xs) ≡ flat_map (λ x. filter p (f x)) xs
+filter-flat_map p f [] = refl
+filter-flat_map p f (x ∷ xs) = filter-append p (f x) (flat_map f xs) ∙ ap (λ l. filter p (f x) ++ l) (filter-flat_map p f xs)
+
+low : (a b : Bool) → T (a && b) → T a × T b
+low true b h = (tt, h)
+low false b h = absurd h
+
+told : (b : Bool) → T b → b ≡ true
+told true h = refl
+told false h = absurd h
+
+same_key : (m n : ℕ) → is_eq (nat_cmp n m) ≡ true → m ≡ n
+same_key m n h = grind (arith, nat_tests, h)
+
+other_key : (m n : ℕ) → is_eq (nat_cmp n m) ≡ false → m ≢ n
+other_key m n h same = grind (arith, nat_tests, h, same)
+
+apart : (m n : ℕ) → T (is_lt (nat_cmp n m)) → m ≢ n
+apart m n h same = let e = told _ h in grind (arith, nat_tests, e, same)
+
+module _ {X : Type 0} (n : ℕ) (f : ℕ → X → List Row) (none : (m : ℕ) (x : X) → m ≢ n → f m x ≡ []) where
+  none_below : (es : List (ℕ × X)) → T (below_all nat_cmp n es) → flat_map (λ (e : ℕ × X). f e.0 e.1) es ≡ []
+  none_below [] h = refl
+  none_below (e ∷ es) h = let both = low _ _ h in ap (λ l. l ++ flat_map (λ (e : ℕ × X). f e.0 e.1) es) (none e.0 e.1 (apart e.0 n both.0)) ∙ none_below es both.1
+
+  at_key : (es : List (ℕ × X)) → T (is_sorted nat_cmp es) → flat_map (λ (e : ℕ × X). f e.0 e.1) es ≡ rows_at (find nat_cmp n es) (f n)
+  at_key [] h = refl
+  at_key (e ∷ es) h = go (is_eq (nat_cmp n e.0)) refl (at_key es (low _ _ h).1)
+    where
+      go : (b : Bool) → is_eq (nat_cmp n e.0) ≡ b → flat_map (λ (e : ℕ × X). f e.0 e.1) es ≡ rows_at (find nat_cmp n es) (f n)
+          → f e.0 e.1 ++ flat_map (λ (e : ℕ × X). f e.0 e.1) es ≡ rows_at (cond b (Some e.1) (find nat_cmp n es)) (f n)
+      go true is rest =
+          let same = same_key e.0 n is in
+          ap (λ l. f e.0 e.1 ++ l) (none_below es (subst (λ k. T (below_all nat_cmp k es)) same (low _ _ h).0)) ∙ append-nil _ ∙ ap (λ k. f k e.1) same
+      go false is rest = ap (λ l. l ++ flat_map (λ (e : ℕ × X). f e.0 e.1) es) (none e.0 e.1 (other_key e.0 n is)) ∙ rest
+
+-- the rows of a book, where no other has a row that passes
+pub of_one_book : (h : Host) (b : ℕ) (test : Row → Bool) (rows_of : ℕ → BookValue → List Row) → ((m : ℕ) (k : BookValue) → m ≢ b → filter test (rows_of m k) ≡ [])
+    → filter test (of_books h rows_of) ≡ rows_at (get h.books b) (λ k. filter test (rows_of b k))
+of_one_book h b test rows_of none =
+    filter-flat_map test (λ (e : ℕ × BookValue). rows_of e.0 e.1) (entries h.books)
+    ∙ at_key b (λ m k. filter test (rows_of m k)) none (entries h.books) (entries_sorted h.books)
+    ∙ ap (λ o. rows_at o (λ k. filter test (rows_of b k))) (sym (get-entries h.books b))
+
+-- ---- the pledge of a number
+
+module _ (n : ℕ) (f : PledgeValue → List Row) (none : (p : PledgeValue) → p.agreement.number ≢ n → f p ≡ []) where
+  none_past : (k : ℕ) (ps : List PledgeValue) → n < k → AreNumberedFrom k ps → flat_map f ps ≡ []
+  none_past k [] past numbered = refl
+  none_past k (p ∷ ps) past numbered =
+      ap (λ l. l ++ flat_map f ps) (none p (λ same. let at = numbered.0 in absurd (omega (arith, same, past, at)))) ∙ none_past (k + 1) ps (omega (arith, past)) numbered.1
+
+  pub at_number : (k : ℕ) (ps : List PledgeValue) → AreNumberedFrom k ps → flat_map f ps ≡ rows_at (pledge_from k ps n) f
+  at_number k [] numbered = refl
+  at_number k (p ∷ ps) numbered = go (n == k) refl (at_number (k + 1) ps numbered.1)
+    where
+      go : (b : Bool) → (n == k) ≡ b → flat_map f ps ≡ rows_at (pledge_from (k + 1) ps n) f → f p ++ flat_map f ps ≡ rows_at (if b then Some p else pledge_from (k + 1) ps n) f
+      go true is rest =
+          let same : n ≡ k = grind (arith, nat_tests, is) in
+          ap (λ l. f p ++ l) (none_past (k + 1) ps (omega (arith, same)) numbered.1) ∙ append-nil _
+      go false is rest =
+          let at = numbered.0 in
+          ap (λ l. l ++ flat_map f ps) (none p (λ same. absurd (let e : (n == k) ≡ true = grind (arith, nat_tests, same, at) in let e2 = sym e ∙ is in cc))) ∙ rest
+
+-- rows of one pledge
+abbrev pub AreUnder : ℕ → ℕ → List Row → Type 0
+AreUnder b n = AllByRecursion (λ r. (column r 0 ≡ number b) × (column r 1 ≡ number n))
+
+at_is : (b n m k : ℕ) (r : Row) → (column r 0 ≡ number m) × (column r 1 ≡ number k) → at_pledge b n r ≡ ((m == b) && ((k == n) && true))
+at_is b n m k r at = (λ i. is_at (at.0 i) (number b) && (is_at (at.1 i) (number n) && true)) ∙ (λ i. equals m b i && (equals k n i && true))
+
+pub all_under : (b n : ℕ) (rows : List Row) → AreUnder b n rows → filter (at_pledge b n) rows ≡ rows
+all_under b n [] h = refl
+all_under b n (r ∷ rows) h =
+    let here : at_pledge b n r ≡ true = at_is b n b n r h.0 ∙ (let x : (b == b) ≡ true = grind (arith, nat_tests) in let y : (n == n) ≡ true = grind (arith, nat_tests) in rw (x, y) refl) in
+    ap (λ c. cond c (r ∷ filter (at_pledge b n) rows) (filter (at_pledge b n) rows)) here ∙ ap (λ l. r ∷ l) (all_under b n rows h.1)
+
+none_under : (b n m k : ℕ) → ((m == b) && ((k == n) && true)) ≡ false → (rows : List Row) → AreUnder m k rows → filter (at_pledge b n) rows ≡ []
+none_under b n m k other [] h = refl
+none_under b n m k other (r ∷ rows) h =
+    ap (λ c. cond c (r ∷ filter (at_pledge b n) rows) (filter (at_pledge b n) rows)) (at_is b n m k r h.0 ∙ other) ∙ none_under b n m k other rows h.1
+
+no_and : (b : Bool) → (b && false) ≡ false
+no_and true = refl
+no_and false = refl
+
+flat_none : {X : Type 0} (f : X → List Row) (xs : List X) → ((x : X) → f x ≡ []) → flat_map f xs ≡ []
+flat_none f [] h = refl
+flat_none f (x ∷ xs) h = ap (λ l. l ++ flat_map f xs) (h x) ∙ flat_none f xs h
+
+-- the rows of one pledge, among those of all pledges of all books
+pub of_one_pledge : (h : Host) (b n : ℕ) (rows_of : ℕ → PledgeValue → List Row) → AreOrdered h → ((m : ℕ) (p : PledgeValue) → AreUnder m p.agreement.number (rows_of m p))
+    → filter (at_pledge b n) (of_pledges h rows_of) ≡ rows_at (pledge_in (get h.books b) n) (rows_of b)
+of_one_pledge h b n rows_of ordered under' =
+    of_one_book h b (at_pledge b n) (λ m k. flat_map (rows_of m) k.pledges) other ∙ inside (get h.books b) refl
+  where
+    other : (m : ℕ) (k : BookValue) → m ≢ b → filter (at_pledge b n) (flat_map (rows_of m) k.pledges) ≡ []
+    other m k apart' =
+        let no' : (m == b) ≡ false = grind (arith, nat_tests, apart') in
+        filter-flat_map (at_pledge b n) (rows_of m) k.pledges
+        ∙ flat_none (λ p. filter (at_pledge b n) (rows_of m p)) k.pledges (λ p. none_under b n m p.agreement.number (ap (λ c. c && ((p.agreement.number == n) && true)) no') (rows_of m p) (under' m p))
+
+    one : (p : PledgeValue) → p.agreement.number ≢ n → filter (at_pledge b n) (rows_of b p) ≡ []
+    one p apart' =
+        let no' : (p.agreement.number == n) ≡ false = grind (arith, nat_tests, apart') in
+        none_under b n b p.agreement.number (ap (λ c. (b == b) && (c && true)) no' ∙ no_and (b == b)) (rows_of b p) (under' b p)
+
+    found : (o : Option PledgeValue) → ((p : PledgeValue) → o ≡ Some p → p.agreement.number ≡ n) → rows_at o (λ p. filter (at_pledge b n) (rows_of b p)) ≡ rows_at o (rows_of b)
+    found None at = refl
+    found (Some p) at = all_under b n (rows_of b p) (subst (λ k. AreUnder b k (rows_of b p)) (at p refl) (under' b p))
+
+    number_at : (k : ℕ) (ps : List PledgeValue) → AreNumberedFrom k ps → (p : PledgeValue) → pledge_from k ps n ≡ Some p → p.agreement.number ≡ n
+    number_at k [] numbered p is = absurd (let e = is in cc)
+    number_at k (q ∷ ps) numbered p is = elim (n == k) as (λ c. (n == k) ≡ c → (if c then Some q else pledge_from (k + 1) ps n) ≡ Some p → p.agreement.number ≡ n) [
+      | true ↦ λ at here. let same : q ≡ p = (let e = here in cc) in ap (λ (x : PledgeValue). x.agreement.number) (sym same) ∙ numbered.0 ∙ grind (arith, nat_tests, at)
+      | false ↦ λ at there. number_at (k + 1) ps numbered.1 p there
+    ] refl is
+
+    inside : (o : Option BookValue) → get h.books b ≡ o → rows_at o (λ k. filter (at_pledge b n) (flat_map (rows_of b) k.pledges)) ≡ rows_at (pledge_in o n) (rows_of b)
+    inside None is = refl
+    inside (Some k) is =
+        let numbered = (ordered b k is).pledges in
+        filter-flat_map (at_pledge b n) (rows_of b) k.pledges
+        ∙ at_number n (λ p. filter (at_pledge b n) (rows_of b p)) one 1 k.pledges numbered
+        ∙ found (pledge_from 1 k.pledges n) (number_at 1 k.pledges numbered)
+
+-- ---- the order of a pledge's rows
+
+pub less : (m n : ℕ) → m < n → value_cmp (number m) (number n) ≡ Less
+less m n h = value_cmp-Int (pos m) (pos n) ∙ grind (arith, nat_tests, h)
+
+-- elements with their places stand in order
+pub placed_rise : {A : Type 0} (f : ℕ → A → Row) (key : Row → Value) → ((at : ℕ) (x : A) → key (f at x) ≡ number at) → (at : ℕ) (xs : List A)
+    → IsAscending (λ a b. value_cmp (key a) (key b) ≡ Less) (placed_from f at xs)
+placed_rise f key is at [] = tt
+placed_rise {A} f key is at (x ∷ xs) = (above (at + 1) xs (omega arith), placed_rise f key is (at + 1) xs)
+  where
+    above : (m : ℕ) (ys : List A) → at < m → AllByRecursion (λ r. value_cmp (key (f at x)) (key r) ≡ Less) (placed_from f m ys)
+    above m [] h = tt
+    above m (y ∷ ys) h = ((λ i. value_cmp (is at x i) (is m y i)) ∙ less at m h, above (m + 1) ys (omega (arith, h)))
+
+pub entries_rise : (f : Entry → Row) (key : Row → Value) → ((e : Entry) → key (f e) ≡ number e.seq) → (n : ℕ) (es : List Entry) → AreNumbered n es
+    → IsAscending (λ a b. value_cmp (key a) (key b) ≡ Less) (map f es)
+entries_rise f key is n [] numbered = tt
+entries_rise f key is n (e ∷ es) numbered = (above (n + 1) es (omega arith) numbered.1, entries_rise f key is (n + 1) es numbered.1)
+  where
+    above : (m : ℕ) (ys : List Entry) → n < m → AreNumbered m ys → AllByRecursion (λ r. value_cmp (key (f e)) (key r) ≡ Less) (map f ys)
+    above m [] h at = tt
+    above m (y ∷ ys) h at = let s = numbered.0 in let s2 = at.0 in ((λ i. value_cmp (is e i) (is y i)) ∙ less e.seq y.seq (omega (arith, h, s, s2)), above (m + 1) ys (omega (arith, h)) at.1)

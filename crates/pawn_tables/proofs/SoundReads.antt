@@ -1,0 +1,197 @@
+-- What is kept of a sound host can be read of its rows.
+use Rattle.std.proofs.Common.{◌≡◌, ℕ, zero, suc, ◌≤◌, List, [], ◌∷◌, slice_get, Option, Some, None, Result, Ok, Err, refl, sym, subst, arith}
+use Rattle.std.specs.Prelude.{IfSome}
+use Rattle.std.specs.FinMap.{get}
+use Rattle.pawn_terms.specs.Calendar.{IsDayNumber}
+use Rattle.pawn_terms.specs.Limits.{first_day, last_stamp_day}
+use Rattle.pawn_terms.specs.Terms.{IsChecked}
+use Rattle.pawn_terms.specs.declared.terms.Rates.{Rates}
+use Rattle.pawn_terms.specs.Order.{DoNotFall, last_by}
+use Rattle.pawn_debt.specs.Due.{last_of}
+use Rattle.pawn_terms.proofs.OrderLemmas.{last_by-le}
+use Rattle.pawn_pledge.specs.declared.record.Extension.{Extension}
+use Rattle.pawn_pledge.specs.declared.record.Booking.{Booking}
+use Rattle.pawn_pledge.specs.declared.record.Closing.{Closing}
+use Rattle.pawn_pledge.specs.declared.record.Closing.TheVariants.{Open, Redeemed, Sold}
+use Rattle.pawn_pledge.specs.Pledge.{PledgeValue}
+use Rattle.pawn_pledge.specs.Replayable.{Each, AreExtended, IsBooked, IsClosed, IsStanding}
+use Rattle.pawn_pledge.proofs.Pushes.{DoNotFall-each}
+use Rattle.pawn_book.specs.BookStep.{BookValue, pledge_from, pledge_in}
+use Rattle.pawn_book.specs.HostStep.{Host}
+use Rattle.pawn_book.specs.Rows.{terms_at}
+use Rattle.pawn_book.specs.Keeping.{entries_of, extensions_of, secrets_of, terms_of}
+use Rattle.pawn_book.specs.Sound.{IsSoundBook, HasUnsoundBook}
+use Rattle.pawn_book.specs.Written.{HasTextsAndWords, AreWords}
+use Rattle.pawn_book.specs.declared.fault.KeepError.{KeepError}
+use Rattle.pawn_book.specs.declared.fault.KeepError.TheVariants as Keeper
+use Rattle.pawn_book.specs.declared.fault.StoreFault.TheVariants.{NoRecord, Database}
+use Rattle.pawn_book.proofs.Sounds.{each_at}
+use Rattle.pawn_tables.specs.Rows.{closed_day}
+use Rattle.pawn_tables.specs.Told.{IsRowTold, booking_of, totals_in}
+use Rattle.pawn_tables.specs.StandsFor.{AreStorable}
+use Rattle.pawn_tables.specs.Finding.{Finds, IsRead}
+
+-- ---- answers
+
+-- what was read of the rows is what stands, and what can't be kept is of a host that is not sound
+pub told : {A : Type 0} (r : Result A KeepError) (x : A) (Q R U : Type 0) → IsRead r x Q → R → ((Q → ⊥) → U) → Finds r (λ y. (y ≡ x) × R) U
+told (Ok y) x Q R U read rests bad = (read, rests)
+told (Err Keeper.Memory) x Q R U read rests bad = tt
+told (Err (Keeper.Store NoRecord)) x Q R U read rests bad = bad read
+told (Err (Keeper.Store Database)) x Q R U read rests bad = tt
+
+-- an error that is not of rows tells nothing of them, where it is handed on
+pub untold : {A B : Type 0} (r : Result A KeepError) (e : KeepError) (s : Result B KeepError) (P : B → Type 0) (U : Type 0) → r ≡ Err e → s ≡ Err e → (r ≡ Err (Keeper.Store NoRecord) → ⊥) → Finds s P U
+untold r e s P U is same not = subst (λ x. Finds x P U) (sym same) (go e is)
+  where
+    go : (x : KeepError) → r ≡ Err x → Finds (Err x) P U
+    go Keeper.Memory is = tt
+    go (Keeper.Store NoRecord) is = absurd (not is)
+    go (Keeper.Store Database) is = tt
+
+-- an error that is told of what was joined
+pub unjoined : {A B : Type 0} (e : KeepError) (x : A) (s : Result B KeepError) (P : B → Type 0) (V U : Type 0) → s ≡ Err e → IsRead (Err e) x V → ((V → ⊥) → U) → Finds s P U
+unjoined e x s P V U same read bad = subst (λ r. Finds r P U) (sym same) (go e read)
+  where
+    go : (k : KeepError) → IsRead (Err k) x V → Finds (Err k) P U
+    go Keeper.Memory f = tt
+    go (Keeper.Store NoRecord) f = bad f
+    go (Keeper.Store Database) f = tt
+
+-- ---- a pledge of a sound book
+
+-- where a fact that sound books have of their pledges fails of this one, its book is not sound
+pub unsound_pledge : (h : Host) (b n : ℕ) (Q : Option PledgeValue → Type 0) → Q None
+    → ((k : BookValue) (p : PledgeValue) → get h.books b ≡ Some k → IsSoundBook k → pledge_from 1 k.pledges n ≡ Some p → Q (Some p)) → (Q (pledge_in (get h.books b) n) → ⊥) → HasUnsoundBook h
+unsound_pledge h b n Q none some bad = inside (get h.books b) refl bad
+  where
+    in_book : (k : BookValue) → get h.books b ≡ Some k → IsSoundBook k → (o : Option PledgeValue) → pledge_from 1 k.pledges n ≡ o → Q o
+    in_book k is sound None at = none
+    in_book k is sound (Some p) at = some k p is sound at
+
+    inside : (o : Option BookValue) → get h.books b ≡ o → (Q (pledge_in o n) → ⊥) → HasUnsoundBook h
+    inside None is bad = absurd (bad none)
+    inside (Some k) is bad = (b, k, is, λ sound. bad (in_book k is sound.1 (pledge_from 1 k.pledges n) refl))
+
+standing_of : (k : BookValue) (n : ℕ) (p : PledgeValue) → IsSoundBook k → pledge_from 1 k.pledges n ≡ Some p → IsStanding p
+standing_of k n p sound at = each_at IsStanding 1 k.pledges n p sound.rows.standing at
+
+taken_of : (h : Host) → AreStorable h → (b n : ℕ) (k : BookValue) (p : PledgeValue) → get h.books b ≡ Some k → pledge_from 1 k.pledges n ≡ Some p → first_day ≤ p.agreement.taken
+taken_of h storable b n k p is at = each_at (λ q. first_day ≤ q.agreement.taken) 1 k.pledges n p (storable b k is).taken at
+
+-- days from the day taken to the last change
+day_of_pledge : (taken d last : ℕ) → first_day ≤ taken → taken ≤ d → d ≤ last → last ≤ last_stamp_day → IsDayNumber d
+day_of_pledge taken d last first low high end = (omega (arith, first, low), omega (arith, high, end))
+
+each_weaker : {A : Type 0} (P Q : A → Type 0) → ((x : A) → P x → Q x) → (xs : List A) → Each P xs → Each Q xs
+each_weaker P Q f [] all = tt
+each_weaker P Q f (x ∷ xs) all = (f x all.0, each_weaker P Q f xs all.1)
+
+days_in : {A : Type 0} (f : A → ℕ) (taken last : ℕ) (xs : List A) → first_day ≤ taken → DoNotFall f taken xs → last_by f taken xs ≤ last → last ≤ last_stamp_day → Each (λ x. IsDayNumber (f x)) xs
+days_in f taken last xs first ordered before end =
+    each_weaker (λ x. (taken ≤ f x) × (f x ≤ last)) (λ x. IsDayNumber (f x)) (λ x both. day_of_pledge taken (f x) last first both.0 both.1 end) xs
+    (DoNotFall-each f taken taken last xs (omega arith) ordered before)
+
+days_extended : (day ends : ℕ) (es : List Extension) → first_day ≤ day → AreExtended day ends es → Each (λ e. e.until ≤ last_stamp_day) es → Each (λ e. IsDayNumber e.day × IsDayNumber e.until) es
+days_extended day ends [] first extended named = tt
+days_extended day ends (e ∷ es) first extended named =
+    let a = extended.0 in
+    let b = extended.1 in
+    let d = extended.2 in
+    let u = named.0 in (
+      ((omega (arith, first, a), omega (arith, b, d, u)), (omega (arith, first, a, b, d), omega (arith, u))),
+      days_extended e.day e.until es (omega (arith, first, a)) extended.3 named.1,
+    )
+
+module _ (h : Host) (storable : AreStorable h) (b n : ℕ) where
+  abbrev found : Option PledgeValue
+  found = pledge_in (get h.books b) n
+
+  pub entries_unsound : (Each (λ e. IsDayNumber e.day) (entries_of found) → ⊥) → HasUnsoundBook h
+  entries_unsound bad = unsound_pledge h b n (λ o. Each (λ e. IsDayNumber e.day) (entries_of o)) tt
+      (λ k p is sound at. let s = standing_of k n p sound at in
+      days_in (λ e. e.day) p.agreement.taken p.standing.last p.entries (taken_of h storable b n k p is at) s.replayable.entered.ordered s.replayable.entered.before s.within.last) bad
+
+  pub secrets_unsound : (Each (λ i. IsDayNumber i.day) (secrets_of found) → ⊥) → HasUnsoundBook h
+  secrets_unsound bad = unsound_pledge h b n (λ o. Each (λ i. IsDayNumber i.day) (secrets_of o)) tt
+      (λ k p is sound at. let s = standing_of k n p sound at in
+      days_in (λ i. i.day) p.agreement.taken p.standing.last p.secrets (taken_of h storable b n k p is at) s.replayable.issued.ordered s.replayable.issued.before s.within.last) bad
+
+  pub extensions_unsound : (Each (λ e. IsDayNumber e.day × IsDayNumber e.until) (extensions_of found) → ⊥) → HasUnsoundBook h
+  extensions_unsound bad = unsound_pledge h b n (λ o. Each (λ e. IsDayNumber e.day × IsDayNumber e.until) (extensions_of o)) tt
+      (λ k p is sound at. let s = standing_of k n p sound at in
+      days_extended p.agreement.taken _ p.extensions (taken_of h storable b n k p is at) s.replayable.extended.each s.within.untils) bad
+
+  booked_day : (p : PledgeValue) (o : Option Booking) → first_day ≤ p.agreement.taken → IsBooked p o → IfSome o (λ k. k.day ≤ last_stamp_day) → IfSome o (λ k. IsDayNumber k.day)
+  booked_day p None first booked named = tt
+  booked_day p (Some k) first booked named = let a = booked.0 in (omega (arith, first, a), omega (arith, named))
+
+  pub booking_unsound : (IfSome (booking_of found) (λ k. IsDayNumber k.day) → ⊥) → HasUnsoundBook h
+  booking_unsound bad = unsound_pledge h b n (λ o. IfSome (booking_of o) (λ k. IsDayNumber k.day)) tt
+      (λ k p is sound at. let s = standing_of k n p sound at in booked_day p p.standing.booking (taken_of h storable b n k p is at) s.replayable.booked s.within.booking) bad
+
+  pub totals_unsound : (IfSome (totals_in found) (λ t. IsDayNumber t.day) → ⊥) → HasUnsoundBook h
+  totals_unsound bad = unsound_pledge h b n (λ o. IfSome (totals_in o) (λ t. IsDayNumber t.day)) tt
+      (λ k p is sound at.
+      let s = standing_of k n p sound at in
+      let low = last_by-le (λ e. e.day) p.agreement.taken p.entries s.replayable.entered.ordered in
+      day_of_pledge p.agreement.taken (last_of p.agreement.taken p.entries) p.standing.last (taken_of h storable b n k p is at) low s.replayable.entered.before s.within.last) bad
+
+  closed_in : (p : PledgeValue) (c : Closing) → first_day ≤ p.agreement.taken → p.agreement.taken ≤ p.standing.last → p.standing.last ≤ last_stamp_day → IsClosed p c → IfSome (closed_day c) IsDayNumber
+  closed_in p Open first low high closed = tt
+  closed_in p (Redeemed day paid) first low high closed = let e = closed.0 in (omega (arith, first, low, e), omega (arith, high, e))
+  closed_in p (Sold day net) first low high closed = let e = closed.0 in (omega (arith, first, low, e), omega (arith, high, e))
+
+  row_told : (k : BookValue) (p : PledgeValue) → get h.books b ≡ Some k → IsSoundBook k → pledge_from 1 k.pledges n ≡ Some p → IsRowTold p
+  row_told k p is sound at =
+      let s = standing_of k n p sound at in
+      let w : HasTextsAndWords p = each_at HasTextsAndWords 1 k.pledges n p sound.written at in
+      let first = taken_of h storable b n k p is at in
+      let low = s.replayable.last_in in
+      let high = s.within.last in
+      record {
+        opening = record {
+          reference = (s.within.opening.reference, w.reference);
+          article = (s.within.opening.article, w.article);
+          agreed = s.within.opening.agreed;
+        };
+        taken = (first, omega (arith, low, high));
+        last = (omega (arith, first, low), omega (arith, high));
+        closed = closed_in p p.standing.closing first low high s.replayable.closed;
+      }
+
+  pub row_unsound : (IfSome found IsRowTold → ⊥) → HasUnsoundBook h
+  row_unsound bad = unsound_pledge h b n (λ o. IfSome o IsRowTold) tt row_told bad
+
+-- a pledge that can't stand is of a book that is not sound
+pub standing_unsound : (h : Host) (b n : ℕ) (p : PledgeValue) → pledge_in (get h.books b) n ≡ Some p → (IsStanding p → ⊥) → HasUnsoundBook h
+standing_unsound h b n p at bad = unsound_pledge h b n (λ o. IfSome o IsStanding) tt (λ k q is sound here. standing_of k n q sound here) (λ all. bad (subst (λ o. IfSome o IsStanding) at all))
+
+-- the secrets of a pledge are words
+pub words_in : (h : Host) → AreStorable h → (b n : ℕ) → AreWords (secrets_of (pledge_in (get h.books b) n))
+words_in h storable b n = inside (get h.books b) refl
+  where
+    at : (k : BookValue) → get h.books b ≡ Some k → (o : Option PledgeValue) → pledge_from 1 k.pledges n ≡ o → AreWords (secrets_of o)
+    at k is None e = tt
+    at k is (Some p) e = each_at (λ q. AreWords q.secrets) 1 k.pledges n p (storable b k is).secrets e
+
+    inside : (o : Option BookValue) → get h.books b ≡ o → AreWords (secrets_of (pledge_in o n))
+    inside None is = tt
+    inside (Some k) is = at k is (pledge_from 1 k.pledges n) refl
+
+-- the terms of a version
+pub terms_unsound : (h : Host) (b v : ℕ) → (IfSome (terms_at (terms_of (get h.books b)) v) IsChecked → ⊥) → HasUnsoundBook h
+terms_unsound h b v bad = inside (get h.books b) refl bad
+  where
+    at : (ts : List Rates) (n : ℕ) → Each IsChecked ts → IfSome (slice_get ts n) IsChecked
+    at [] n all = tt
+    at (t ∷ ts) zero all = all.0
+    at (t ∷ ts) (suc n) all = at ts n all.1
+
+    under : (ts : List Rates) (w : ℕ) → Each IsChecked ts → IfSome (terms_at ts w) IsChecked
+    under ts zero all = tt
+    under ts (suc n) all = at ts n all
+
+    inside : (o : Option BookValue) → get h.books b ≡ o → (IfSome (terms_at (terms_of o) v) IsChecked → ⊥) → HasUnsoundBook h
+    inside None is bad = absurd (bad (under [] v tt))
+    inside (Some k) is bad = (b, k, is, λ sound. bad (under k.terms v sound.1.rows.checked))

@@ -1,0 +1,26 @@
+-- Which rows a query finds.
+use Rattle.std.specs.Prelude.{ℕ, Bool, [], ◌∷◌}
+use Rattle.std.specs.List.{list_all}
+use Rattle.sqlite.specs.declared.types.Value.{Value}
+use Rattle.sqlite.specs.Order.{Row, column}
+use Rattle.sqlite.specs.Ops.{binary, is_true}
+use Rattle.sqlite.specs.Collation.TheVariants.{Binary}
+use Rattle.sqlite_sql.specs.declared.ops.BinaryOp.TheVariants.{Compare}
+use Rattle.sqlite_sql.specs.declared.ops.CompareOp.TheVariants.{Eq, Gt}
+use Rattle.pawn_tables.specs.Rows.{number}
+
+-- SQL's =
+abbrev pub is_at : Value → Value → Bool
+is_at v w = is_true (binary (Compare Eq Binary) v w)
+
+-- SQL's >
+abbrev pub is_above : Value → Value → Bool
+is_above v w = is_true (binary (Compare Gt Binary) v w)
+
+-- a row of a book
+abbrev pub at_book : ℕ → Row → Bool
+at_book b v = list_all (λ (x : Bool). x) (is_at (column v 0) (number b) ∷ [])
+
+-- a row of a pledge
+abbrev pub at_pledge : ℕ → ℕ → Row → Bool
+at_pledge b n v = list_all (λ (x : Bool). x) (is_at (column v 0) (number b) ∷ is_at (column v 1) (number n) ∷ [])

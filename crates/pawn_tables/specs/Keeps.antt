@@ -1,0 +1,29 @@
+-- What a keeper over a connection keeps.
+use Rattle.std.specs.Prelude.{◌≡◌, false, IsTrue}
+use Rattle.sqlite.specs.Tree.{Trees}
+use Rattle.sqlite.specs.State.{State, HasCleanDisk}
+use Rattle.pawn_book.specs.HostStep.{Host}
+use Rattle.pawn_book.specs.Keeping.{Keeping}
+use Rattle.pawn_tables.specs.StandsFor.{StandsFor, HoldHost}
+
+-- no transaction is under way, and what is committed stands for the host; a store that a fault has shut stands for any
+pub record Keeps (s : State) (h : Host) : Type 0 where
+  pub autocommit : s.in_transaction ≡ false
+  pub committed : IsTrue s.is_open → s.now ≡ s.committed
+  pub stands : IsTrue s.is_open → StandsFor s.now h
+
+-- a crash now may leave trees that stand for the host
+pub record Leaves (s : State) (h : Host) : Type 0 where
+  pub trees : Trees
+  pub left : s.may_leave trees
+  pub stands : HoldHost trees h
+
+-- a keeper over a connection: honest while the disk has returned what was written; its store may always fail
+abbrev pub keeping_by : {K : Type 0} → (K → State) → Keeping K
+keeping_by state = record {
+  stands = λ k. Keeps (state k);
+  honest = λ k. HasCleanDisk (state k);
+  serves = λ k. IsTrue (state k).is_open;
+  steady = λ k. ⊥;
+  leaves = λ k. Leaves (state k);
+}

@@ -1,0 +1,69 @@
+-- The tables: of the books, of their pledges, and of what the store notes of itself.
+use Rattle.std.specs.Prelude.{[], ◌∷◌, Some, codes}
+use Rattle.sqlite.specs.Table.{Table}
+use Rattle.sqlite.specs.Schema.{Schema}
+use Rattle.sqlite.specs.Change.{created}
+use Rattle.sqlite.specs.Kind.TheVariants.{Integer, Text, Blob}
+use Rattle.sqlite_value.specs.Keys.{plain}
+use Rattle.one_table.specs.Columns.{filled, blank, refers, keyed, no_schema}
+
+-- a book, by its number; the counts of its terms and pledges; the key of the import that filled it, and how many pledges came with it
+abbrev pub books : Table
+books = record (keyed (codes "books")
+    (blank (codes "book") Integer ∷ filled (codes "book_key") Blob ∷ filled (codes "title") Text ∷ filled (codes "capacity") Integer
+    ∷ filled (codes "terms") Integer ∷ filled (codes "pledges") Integer ∷ blank (codes "import_key") Blob ∷ blank (codes "imported") Integer ∷ [])
+    (0 ∷ []) [] []) { key = Some 0 }
+
+-- the terms of a book under each version
+abbrev pub terms : Table
+terms = record (keyed (codes "terms")
+    (filled (codes "book") Integer ∷ filled (codes "version") Integer ∷ filled (codes "rate") Integer ∷ filled (codes "keep_before") Integer ∷ filled (codes "keep_after") Integer ∷ [])
+    (1 ∷ 2 ∷ []) ((1 ∷ 2 ∷ []) ∷ []) (refers (1 ∷ []) (codes "books") ∷ [])) { orders = plain ∷ [] }
+
+-- what was agreed on a pledge, its end, and how it stands
+abbrev pub pledges : Table
+pledges = record (keyed (codes "pledges")
+    (filled (codes "book") Integer ∷ filled (codes "number") Integer ∷ filled (codes "ref") Text ∷ filled (codes "article") Text
+    ∷ filled (codes "kind") Integer ∷ filled (codes "credit") Integer ∷ filled (codes "taken") Integer ∷ blank (codes "agreed") Integer
+    ∷ filled (codes "five") Integer ∷ filled (codes "version") Integer ∷ filled (codes "ends") Integer ∷ filled (codes "held") Integer
+    ∷ filled (codes "last_day") Integer ∷ filled (codes "closed") Integer ∷ blank (codes "closed_day") Integer ∷ blank (codes "amount") Integer ∷ [])
+    (1 ∷ 2 ∷ []) ((1 ∷ 2 ∷ []) ∷ (1 ∷ 3 ∷ []) ∷ []) (refers (1 ∷ 10 ∷ []) (codes "terms") ∷ [])) { orders = plain ∷ plain ∷ [] }
+
+-- drawings and repayments
+abbrev pub entries : Table
+entries = record (keyed (codes "entries")
+    (filled (codes "book") Integer ∷ filled (codes "number") Integer ∷ filled (codes "seq") Integer ∷ filled (codes "day") Integer ∷ filled (codes "sort") Integer ∷ filled (codes "pence") Integer ∷ [])
+    (1 ∷ 2 ∷ 3 ∷ []) ((1 ∷ 2 ∷ 3 ∷ []) ∷ []) (refers (1 ∷ 2 ∷ []) (codes "pledges") ∷ [])) { orders = plain ∷ [] }
+
+-- the secrets of a pledge, in the order of their places
+abbrev pub secrets : Table
+secrets = record (keyed (codes "secrets")
+    (filled (codes "book") Integer ∷ filled (codes "number") Integer ∷ filled (codes "place") Integer ∷ filled (codes "day") Integer ∷ filled (codes "sort") Integer ∷ filled (codes "secret") Blob ∷ [])
+    (1 ∷ 2 ∷ 3 ∷ []) ((1 ∷ 2 ∷ 3 ∷ []) ∷ (1 ∷ 2 ∷ 6 ∷ []) ∷ []) (refers (1 ∷ 2 ∷ []) (codes "pledges") ∷ [])) { orders = plain ∷ plain ∷ [] }
+
+-- the booking of a pledge
+abbrev pub bookings : Table
+bookings = record (keyed (codes "bookings")
+    (filled (codes "book") Integer ∷ filled (codes "number") Integer ∷ filled (codes "day") Integer ∷ filled (codes "slot") Integer ∷ filled (codes "state") Integer ∷ [])
+    (1 ∷ 2 ∷ []) ((1 ∷ 2 ∷ []) ∷ []) (refers (1 ∷ 2 ∷ []) (codes "pledges") ∷ [])) { orders = plain ∷ [] }
+
+-- the number of the schema, the count of rows, and the limit on them
+abbrev pub meta : Table
+meta = record (keyed (codes "meta") (filled (codes "name") Text ∷ filled (codes "value") Integer ∷ []) (1 ∷ []) ((1 ∷ []) ∷ []) []) { orders = plain ∷ [] }
+
+-- what was owed on the day of the last entry
+abbrev pub totals : Table
+totals = record (keyed (codes "totals")
+    (filled (codes "book") Integer ∷ filled (codes "number") Integer ∷ filled (codes "day") Integer ∷ filled (codes "principal") Integer ∷ filled (codes "charges") Integer ∷ [])
+    (1 ∷ 2 ∷ []) ((1 ∷ 2 ∷ []) ∷ []) (refers (1 ∷ 2 ∷ []) (codes "pledges") ∷ [])) { orders = plain ∷ [] }
+
+-- longer periods, in the order of their places
+abbrev pub extensions : Table
+extensions = record (keyed (codes "extensions")
+    (filled (codes "book") Integer ∷ filled (codes "number") Integer ∷ filled (codes "place") Integer ∷ filled (codes "day") Integer ∷ filled (codes "until_day") Integer ∷ [])
+    (1 ∷ 2 ∷ 3 ∷ []) ((1 ∷ 2 ∷ 3 ∷ []) ∷ []) (refers (1 ∷ 2 ∷ []) (codes "pledges") ∷ [])) { orders = plain ∷ [] }
+
+-- made in this order, the tables have the trees 0, 1, 3, 6, 8, 11, 13, 15 and 17, and the trees between are their indexes
+abbrev pub keep_schema : Schema
+keep_schema =
+    created (created (created (created (created (created (created (created (created no_schema books) terms) pledges) entries) secrets) bookings) meta) totals) extensions

@@ -1,0 +1,67 @@
+-- When tables stand for a host.
+use Rattle.std.specs.Prelude.{ℕ, ◌≡◌, ◌≤◌, ◌<◌, ◌^◌, List, length, map, flat_map, Some, IfSome}
+use Rattle.std.specs.FinMap.{entries, get}
+use Rattle.sqlite.specs.Order.{Row}
+use Rattle.sqlite.specs.Tree.{Trees}
+use Rattle.sqlite.specs.Effect.{Database, IsDatabase}
+use Rattle.pawn_terms.specs.Limits.{first_day}
+use Rattle.pawn_pledge.specs.Pledge.{PledgeValue}
+use Rattle.pawn_pledge.specs.Replayable.{Each, AreNumbered}
+use Rattle.pawn_book.specs.Rows.{AreNumberedFrom, IsUnder}
+use Rattle.pawn_book.specs.Written.{IsWord, AreWords}
+use Rattle.pawn_book.specs.BookStep.{BookValue}
+use Rattle.pawn_book.specs.HostStep.{Host, rows}
+use Rattle.one_table.specs.Listing.{Holds}
+use Rattle.pawn_tables.specs.Schema.{books, terms, pledges, entries as entries_table, secrets, bookings, meta, totals, extensions, keep_schema}
+use Rattle.pawn_tables.specs.Meta.{meta_rows}
+use Rattle.pawn_tables.specs.Rows.{book_row, terms_listed, pledge_listed, entries_listed, secrets_listed, booking_listed, totals_listed, extensions_listed}
+
+-- the rows of each book
+abbrev pub of_books : Host → (ℕ → BookValue → List Row) → List Row
+of_books h rows_of = flat_map (λ (e : ℕ × BookValue). rows_of e.0 e.1) (entries h.books)
+
+-- the rows of each pledge of each book
+abbrev pub of_pledges : Host → (ℕ → PledgeValue → List Row) → List Row
+of_pledges h rows_of = of_books h (λ b k. flat_map (rows_of b) k.pledges)
+
+-- What the order of rows tells of a book: its pledges are numbered 1, 2, .., the entries of each too, and the terms of each stand under its version.
+pub record IsOrdered (k : BookValue) : Type 0 where
+  pub pledges : AreNumberedFrom 1 k.pledges
+  pub entries : Each (λ p. AreNumbered 1 p.entries) k.pledges
+  pub under : Each (IsUnder k.terms) k.pledges
+
+-- What rows can hold: keys and secrets of 128 bits, no pledge taken before the first day that there is, and versions of 32 bits.
+pub record IsStorable (k : BookValue) : Type 0 where
+  pub key : IsWord k.key
+  pub imported : IfSome k.imported (λ i. IsWord i.key)
+  pub secrets : Each (λ p. AreWords p.secrets) k.pledges
+  pub taken : Each (λ p. first_day ≤ p.agreement.taken) k.pledges
+  pub versions : length k.terms < 2 ^ 32
+
+abbrev pub AreOrdered : Host → Type 0
+AreOrdered h = (b : ℕ) (k : BookValue) → get h.books b ≡ Some k → IsOrdered k
+
+abbrev pub AreStorable : Host → Type 0
+AreStorable h = (b : ℕ) (k : BookValue) → get h.books b ≡ Some k → IsStorable k
+
+-- The tables list the host, and note the number of their schema, how many rows are counted, and the limit.
+pub record StandsFor (db : Database) (h : Host) : Type 0 where
+  pub schema : db.schema ≡ keep_schema
+  -- the rows obey it
+  pub sound : IsDatabase db
+  pub books : Holds db.trees 0 (record books { tree = 0 }) (map (λ (e : ℕ × BookValue). book_row e.0 e.1) (entries h.books))
+  pub terms : Holds db.trees 1 (record terms { tree = 1 }) (of_books h terms_listed)
+  pub pledges : Holds db.trees 3 (record pledges { tree = 3 }) (of_pledges h pledge_listed)
+  pub entries : Holds db.trees 6 (record entries_table { tree = 6 }) (of_pledges h entries_listed)
+  pub secrets : Holds db.trees 8 (record secrets { tree = 8 }) (of_pledges h secrets_listed)
+  pub bookings : Holds db.trees 11 (record bookings { tree = 11 }) (of_pledges h booking_listed)
+  pub meta : Holds db.trees 13 (record meta { tree = 13 }) (meta_rows (rows h) h.limit)
+  pub totals : Holds db.trees 15 (record totals { tree = 15 }) (of_pledges h totals_listed)
+  pub extensions : Holds db.trees 17 (record extensions { tree = 17 }) (of_pledges h extensions_listed)
+  -- what no row tells
+  pub ordered : AreOrdered h
+  pub storable : AreStorable h
+
+-- the trees of a database of these tables stand for the host
+abbrev pub HoldHost : Trees → Host → Type 0
+HoldHost trees h = StandsFor (record { schema = keep_schema; trees = trees }) h

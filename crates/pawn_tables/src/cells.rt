@@ -1,0 +1,185 @@
+ghost use Rattle.std.specs.Prelude.{◌≡◌, ◌≢◌, ◌<◌, ℕ, List, Bool, Option, IfErr, IfOk, IfSome, length, ⊤};
+ghost use Rattle.std.specs.Str.{IsUtf8};
+ghost use Rattle.sqlite.specs.declared.types.Value.TheVariants.{Text as Words};
+ghost use Rattle.sqlite.specs.Order.{column};
+ghost use Rattle.pawn_terms.specs.Calendar.{IsDayNumber, IsStampDay};
+ghost use Rattle.pawn_pledge.specs.Text.{IsText};
+ghost use Rattle.pawn_debt.specs.declared.entry.Sort.{Sort};
+ghost use Rattle.pawn_pledge.specs.declared.record.Issue.{Issue};
+ghost use Rattle.pawn_pledge.specs.declared.record.BookingState.{BookingState};
+ghost use Rattle.pawn_book.specs.Written.{IsWord};
+ghost use Rattle.pawn_tables.specs.Rows.{number, flag, flag_number, or_null, word, sort_number, issue_number, state_number};
+ghost use Rattle.pawn_tables.specs.Finding.{IsRead};
+ghost use Rattle.sqlite.specs.declared.error.Error.TheVariants as SqlError;
+ghost use Rattle.sqlite.specs.declared.error.ErrorCode.TheVariants.{OutOfMemory};
+ghost use Rattle.pawn_book.specs.declared.fault.StoreFault.TheVariants.{NoRecord};
+ghost use Rattle.pawn_book.specs.declared.fault.KeepError.TheVariants as Keeper;
+
+use pawn_book::{BookingState, Day, Issue, KeepError, RequestDay, Secret, Sort, StoreFault};
+use pawn_pledge::Text;
+use sqlite::{Error, ErrorCode, Row};
+use std::alloc::Global;
+use uuid::Uuid;
+
+/// A stored row is no record.
+pub(crate) const NO_RECORD: KeepError = KeepError::Store(StoreFault::NoRecord);
+
+/// Why the store gave no rows.
+pub(crate) fn refused(error: Error) -> KeepError
+    ensures no_row { result ≢ Keeper.Store NoRecord }
+{
+    match error {
+        Error::SqliteFailure(ErrorCode::OutOfMemory) => KeepError::Memory,
+        _ => KeepError::Store(StoreFault::Database),
+    }
+}
+
+// Why a value of a row was not read.
+fn unread(error: Error) -> KeepError
+    ensures memory { error ≡ SqlError.SqliteFailure OutOfMemory → result ≡ Keeper.Memory }
+{
+    match error {
+        Error::SqliteFailure(ErrorCode::OutOfMemory) => KeepError::Memory,
+        _ => NO_RECORD,
+    }
+}
+
+/// The number in a column.
+pub(crate) fn number_at(row: &Row, at: usize) -> Result<u64, KeepError>
+    ensures read { (n : ℕ) → at < length row.now → column row.now at ≡ number n → IsRead result n ⊤ }
+{
+    match row.get::<u64>(at) {
+        Ok(n) => Ok(n),
+        Err(error) => Err(unread(error)),
+    }
+}
+
+/// The number in a column, or nothing where it is NULL.
+pub(crate) fn optional_at(row: &Row, at: usize) -> Result<Option<u64>, KeepError>
+    ensures read { (n : Option ℕ) → at < length row.now → column row.now at ≡ or_null number n → IsRead result n ⊤ }
+{
+    match row.get::<Option<u64>>(at) {
+        Ok(n) => Ok(n),
+        Err(error) => Err(unread(error)),
+    }
+}
+
+// The flag of a number.
+fn flag_of(number: u64) -> Result<bool, KeepError>
+    ensures read { (b : Bool) → number ≡ flag_number b → IsRead result b ⊤ }
+{
+    match number {
+        0 => Ok(false),
+        1 => Ok(true),
+        _ => Err(NO_RECORD),
+    }
+}
+
+/// The flag in a column.
+pub(crate) fn flag_at(row: &Row, at: usize) -> Result<bool, KeepError>
+    ensures read { (b : Bool) → at < length row.now → column row.now at ≡ flag b → IsRead result b ⊤ }
+{
+    flag_of(number_at(row, at)?)
+}
+
+/// The day of a number.
+pub(crate) fn day_of(number: u64) -> Result<Day, KeepError>
+    ensures read { IsRead result number (IsDayNumber number) }
+{
+    let Ok(count) = i32::try_from(number) else {
+        return Err(NO_RECORD);
+    };
+    match Day::of_number(count) {
+        Ok(day) => Ok(day),
+        Err(_) => Err(NO_RECORD),
+    }
+}
+
+/// The day in a column.
+pub(crate) fn day_at(row: &Row, at: usize) -> Result<Day, KeepError>
+    ensures read { (d : ℕ) → at < length row.now → column row.now at ≡ number d → IsRead result d (IsDayNumber d) }
+{
+    day_of(number_at(row, at)?)
+}
+
+/// The day of a number that a request may name, if there is a number.
+pub(crate) fn request_day(number: Option<u64>) -> Result<Option<RequestDay>, KeepError>
+    ensures read { IsRead result number (IfSome number IsStampDay) }
+{
+    let Some(number) = number else {
+        return Ok(None);
+    };
+    match RequestDay::of_day(day_of(number)?) {
+        Ok(day) => Ok(Some(day)),
+        Err(_) => Err(NO_RECORD),
+    }
+}
+
+/// The key or secret in a column.
+pub(crate) fn word_at(row: &Row, at: usize) -> Result<Secret, KeepError>
+    ensures read { (w : ℕ) → at < length row.now → IsWord w → column row.now at ≡ word w → IsRead result w ⊤ }
+{
+    let blob = match row.get::<Vec<u8>>(at) {
+        Ok(blob) => blob,
+        Err(error) => return Err(unread(error)),
+    };
+    match Uuid::from_slice(&blob) {
+        Ok(id) => Ok(Secret::of_word(id.as_u128())),
+        Err(_) => Err(NO_RECORD),
+    }
+}
+
+/// The text in a column.
+pub(crate) fn text_at<const MOST: usize>(
+    alloc: Global,
+    row: &Row,
+    at: usize,
+) -> Result<Text<MOST>, KeepError>
+    ensures read { (t : List ℕ) → at < length row.now → column row.now at ≡ Words t → IsRead result t (IsText MOST t × IsUtf8 t) }
+{
+    let string = match row.get::<String>(at) {
+        Ok(string) => string,
+        Err(error) => return Err(unread(error)),
+    };
+    match Text::of_str(alloc, string.as_str()) {
+        Ok(Some(text)) => Ok(text),
+        Ok(None) => Err(NO_RECORD),
+        Err(_) => Err(KeepError::Memory),
+    }
+}
+
+/// The sort of an entry, by its number.
+pub(crate) fn sort_of(number: u64) -> Result<Sort, KeepError>
+    ensures read { (s : Sort) → number ≡ sort_number s → IsRead result s ⊤ }
+{
+    match number {
+        0 => Ok(Sort::Draw),
+        1 => Ok(Sort::Repay),
+        _ => Err(NO_RECORD),
+    }
+}
+
+/// How a secret was issued, by its number.
+pub(crate) fn issue_of(number: u64) -> Result<Issue, KeepError>
+    ensures read { (i : Issue) → number ≡ issue_number i → IsRead result i ⊤ }
+{
+    match number {
+        0 => Ok(Issue::Opening),
+        1 => Ok(Issue::Sworn),
+        2 => Ok(Issue::Written),
+        _ => Err(NO_RECORD),
+    }
+}
+
+/// Where a booking stands, by its number.
+pub(crate) fn state_of(number: u64) -> Result<BookingState, KeepError>
+    ensures read { (s : BookingState) → number ≡ state_number s → IsRead result s ⊤ }
+{
+    match number {
+        0 => Ok(BookingState::Asked),
+        1 => Ok(BookingState::Confirmed),
+        2 => Ok(BookingState::Refused),
+        3 => Ok(BookingState::Cancelled),
+        _ => Err(NO_RECORD),
+    }
+}

@@ -1,0 +1,105 @@
+ghost use Rattle.std.specs.Prelude.{◌≡◌, ◌↔◌, IfOk, IsTrue, Some};
+ghost use Rattle.pawn_debt.specs.Kept.{totals_of};
+ghost use Rattle.pawn_pledge.specs.Pledge.{PledgeValue, debt_of, end_of};
+ghost use Rattle.pawn_pledge.specs.Replayable.{IsStanding};
+ghost use Rattle.pawn_tables.specs.Told.{AreLists, AreSides, row_of};
+ghost use Rattle.pawn_tables.specs.Finding.{IsRead};
+
+use crate::cells::NO_RECORD;
+use crate::joining::{Lists, Sides};
+use crate::records::PledgeRow;
+use pawn_book::{Agreement, Booking, KeepError, Number, Parts, Pledge, Standing, Terms};
+use pawn_debt::Totals;
+
+// Whether the end of the period and the totals are the pledge's.
+fn agrees(pledge: &Pledge, ends: u64, totals: Totals) -> bool
+    ensures answer { IsTrue result ↔ ((ends ≡ end_of pledge.now) × (totals ≡ totals_of (debt_of pledge.now))) }
+{
+    let end = u64::from(pledge.ends().count());
+    let owed = pledge.totals();
+    end == ends && owed == totals
+}
+
+// The end of the period, as the row has it.
+fn ends_of(row: &PledgeRow) -> u64
+    ensures value { result ≡ row.now.ends }
+{
+    row.ends
+}
+
+// The record of what was read.
+fn parts_of(
+    number: Number,
+    row: PledgeRow,
+    terms: Terms,
+    booking: Option<Booking>,
+    lists: Lists,
+) -> Parts
+    ensures value { (p : PledgeValue) → number ≡ p.agreement.number → row ≡ row_of p → terms ≡ p.agreement.terms → booking ≡ p.standing.booking → AreLists lists p → result ≡ p }
+{
+    let PledgeRow {
+        opening,
+        taken,
+        version,
+        ends: _,
+        held,
+        last,
+        closing,
+    } = row;
+    let Lists {
+        entries,
+        secrets,
+        extensions,
+    } = lists;
+    Parts {
+        agreement: Agreement {
+            number,
+            opening,
+            taken,
+            version,
+            terms: terms.rates(),
+        },
+        entries,
+        secrets,
+        extensions,
+        standing: Standing {
+            held,
+            booking,
+            last,
+            closing,
+        },
+    }
+}
+
+/// The pledge of what was read of it, where its end and its totals are those that were stored.
+pub(crate) fn join(
+    number: Number,
+    row: PledgeRow,
+    sides: Sides,
+    lists: Lists,
+) -> Result<Pledge, KeepError>
+    ensures read { (p : PledgeValue) → number ≡ p.agreement.number → row ≡ row_of p → AreSides sides p → AreLists lists p → IsRead result p (IsStanding p) }
+    ensures ends { IfOk result (λ p. row.ends ≡ end_of p) }
+    ensures totals { IfOk result (λ p. sides.totals ≡ Some (totals_of (debt_of p))) }
+{
+    let Sides {
+        terms,
+        booking,
+        totals,
+    } = sides;
+    let Some(terms) = terms else {
+        return Err(NO_RECORD);
+    };
+    let Some(totals) = totals else {
+        return Err(NO_RECORD);
+    };
+    let ends = ends_of(&row);
+    let parts = parts_of(number, row, terms, booking, lists);
+    let Ok(pledge) = Pledge::of_parts(parts) else {
+        return Err(NO_RECORD);
+    };
+    if !agrees(&pledge, ends, totals) {
+        return Err(NO_RECORD);
+    }
+    Ok(pledge)
+}

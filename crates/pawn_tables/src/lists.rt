@@ -1,0 +1,93 @@
+ghost use Rattle.std.specs.Prelude.{◌≡◌, ℕ, List, map, ⊤};
+ghost use Rattle.pawn_terms.specs.Calendar.{IsDayNumber};
+ghost use Rattle.pawn_debt.specs.declared.entry.Entry.{Entry};
+ghost use Rattle.pawn_pledge.specs.declared.record.Issued.{Issued};
+ghost use Rattle.pawn_pledge.specs.declared.record.Extension.{Extension};
+ghost use Rattle.pawn_pledge.specs.Replayable.{Each};
+ghost use Rattle.pawn_book.specs.Written.{IsWord, AreWords};
+ghost use Rattle.pawn_tables.specs.Rows.{entry_cells, secret_cells, extension_cells, placed_from};
+ghost use Rattle.pawn_tables.specs.Finding.{IsRead};
+
+use crate::cells::{day_at, issue_of, number_at, sort_of, word_at};
+use pawn_book::{Entry, Extension, Issued, KeepError};
+use pawn_debt::Entries;
+use pawn_pledge::{Extensions, Secrets};
+use sqlite::Row;
+use std::alloc::Global;
+
+/// The entry of a row.
+pub(crate) fn entry_of(row: &Row) -> Result<Entry, KeepError>
+    ensures read { (e : Entry) → row.now ≡ entry_cells e → IsRead result e (IsDayNumber e.day) }
+{
+    let seq = number_at(row, 0)?;
+    let day = day_at(row, 1)?;
+    let sort = sort_of(number_at(row, 2)?)?;
+    let pence = number_at(row, 3)?;
+    Ok(Entry {
+        seq,
+        day,
+        sort,
+        pence,
+    })
+}
+
+/// The secret of a row, and how it was issued.
+pub(crate) fn issued_of(row: &Row) -> Result<Issued, KeepError>
+    ensures read { (place : ℕ) (i : Issued) → IsWord i.secret → row.now ≡ secret_cells place i → IsRead result i (IsDayNumber i.day) }
+{
+    let day = day_at(row, 1)?;
+    let sort = issue_of(number_at(row, 2)?)?;
+    let secret = word_at(row, 3)?;
+    Ok(Issued { day, sort, secret })
+}
+
+/// The extension of a row.
+pub(crate) fn extension_of(row: &Row) -> Result<Extension, KeepError>
+    ensures read { (place : ℕ) (e : Extension) → row.now ≡ extension_cells place e → IsRead result e (IsDayNumber e.day × IsDayNumber e.until) }
+{
+    let day = day_at(row, 1)?;
+    let until = day_at(row, 2)?;
+    Ok(Extension { day, until })
+}
+
+/// The entries of rows.
+pub(crate) fn read_entries(alloc: Global, rows: &[Row]) -> Result<Entries, KeepError>
+    ensures read { (es : List Entry) → rows.now ≡ map entry_cells es → IsRead result es (Each (λ e. IsDayNumber e.day) es) }
+{
+    let mut entries = Entries::new(alloc);
+    for row in rows {
+        let entry = entry_of(row)?;
+        let Ok(()) = entries.push(entry) else {
+            return Err(KeepError::Memory);
+        };
+    }
+    Ok(entries)
+}
+
+/// The secrets of rows, and how they were issued.
+pub(crate) fn read_secrets(alloc: Global, rows: &[Row]) -> Result<Secrets, KeepError>
+    ensures read { (is : List Issued) → AreWords is → rows.now ≡ placed_from secret_cells 1 is → IsRead result is (Each (λ i. IsDayNumber i.day) is) }
+{
+    let mut secrets = Secrets::new(alloc);
+    for row in rows {
+        let issued = issued_of(row)?;
+        let Ok(()) = secrets.push(issued) else {
+            return Err(KeepError::Memory);
+        };
+    }
+    Ok(secrets)
+}
+
+/// The extensions of rows.
+pub(crate) fn read_extensions(alloc: Global, rows: &[Row]) -> Result<Extensions, KeepError>
+    ensures read { (es : List Extension) → rows.now ≡ placed_from extension_cells 1 es → IsRead result es (Each (λ e. IsDayNumber e.day × IsDayNumber e.until) es) }
+{
+    let mut extensions = Extensions::new(alloc);
+    for row in rows {
+        let extension = extension_of(row)?;
+        let Ok(()) = extensions.push(extension) else {
+            return Err(KeepError::Memory);
+        };
+    }
+    Ok(extensions)
+}

@@ -1,0 +1,172 @@
+ghost use Rattle.std.specs.Prelude.{◌≡◌, Err, IfOk, is_ok, option_map};
+ghost use Rattle.std.specs.FinMap.{get};
+ghost use Rattle.sqlite.specs.Held.{state};
+ghost use Rattle.sqlite.specs.Values.{bound};
+ghost use Rattle.sqlite.specs.State.{HasCleanDisk, Shown};
+ghost use Rattle.pawn_book.specs.declared.fault.KeepError.TheVariants as Keeper;
+ghost use Rattle.pawn_book.specs.declared.fault.StoreFault.TheVariants.{NoRecord};
+ghost use Rattle.pawn_book.specs.Rows.{terms_at};
+ghost use Rattle.pawn_book.specs.BookStep.{pledge_in};
+ghost use Rattle.pawn_book.specs.Keeping.{entries_of, extensions_of, secrets_of, terms_of};
+ghost use Rattle.one_table.specs.Lending.{IsLent};
+ghost use Rattle.pawn_tables.specs.Finding.{FindsIn};
+ghost use Rattle.pawn_tables.specs.Told.{row_of, booking_of, totals_in};
+
+use crate::cells::refused;
+use crate::lists::{read_entries, read_extensions, read_secrets};
+use crate::records::{PledgeRow, first_booking, first_terms, first_totals};
+use crate::rows::first_pledge;
+use one_table::ask;
+use pawn_book::{Booking, KeepError, Terms};
+use pawn_debt::{Entries, Totals};
+use pawn_pledge::{Extensions, Secrets};
+use sqlite::{Alter, Row, Transaction, params};
+use sqlite_value::value::ValueRef;
+use std::alloc::Global;
+
+// The rows of a query. None of them is told to be no record, since none is read yet.
+fn rows_of<S: Alter>(
+    tx: &mut Transaction<'_, S>,
+    sql: &str,
+    params: &[ValueRef<'_>],
+) -> Result<Vec<Row>, KeepError>
+    ensures same_reference { tx.new.conn.ghost_name ≡ tx.old.conn.ghost_name }
+    ensures shown { HasCleanDisk (state S.Store tx.new.conn.now) → IfOk result (λ rows. Shown sql.now (bound params.now) (state S.Store tx.old.conn.now) (state S.Store tx.new.conn.now) rows.items) }
+    ensures unread { result ≡ Err (Keeper.Store NoRecord) → ⊥ }
+    ensures lent { IsLent (state S.Store tx.old.conn.now) (state S.Store tx.new.conn.now) (is_ok result) }
+{
+    match ask(tx, sql, params) {
+        Ok(rows) => Ok(rows),
+        Err(error) => Err(refused(error)),
+    }
+}
+
+/// The entries of a pledge.
+pub(crate) fn entries_in<S: Alter>(
+    tx: &mut Transaction<'_, S>,
+    alloc: Global,
+    book: u32,
+    number: u32,
+) -> Result<Entries, KeepError>
+    ensures same_reference { tx.new.conn.ghost_name ≡ tx.old.conn.ghost_name }
+    ensures finds { FindsIn (state S.Store tx.old.conn.now) (state S.Store tx.new.conn.now) result (λ h x. x ≡ entries_of (pledge_in (get h.books book) number)) }
+    ensures lent { IsLent (state S.Store tx.old.conn.now) (state S.Store tx.new.conn.now) (is_ok result) }
+{
+    let rows = rows_of(
+        tx,
+        "SELECT seq, day, sort, pence FROM entries WHERE book = ?1 AND number = ?2 ORDER BY seq",
+        params![book, number],
+    )?;
+    read_entries(alloc, &rows)
+}
+
+/// The secrets of a pledge.
+pub(crate) fn secrets_in<S: Alter>(
+    tx: &mut Transaction<'_, S>,
+    alloc: Global,
+    book: u32,
+    number: u32,
+) -> Result<Secrets, KeepError>
+    ensures same_reference { tx.new.conn.ghost_name ≡ tx.old.conn.ghost_name }
+    ensures finds { FindsIn (state S.Store tx.old.conn.now) (state S.Store tx.new.conn.now) result (λ h x. x ≡ secrets_of (pledge_in (get h.books book) number)) }
+    ensures lent { IsLent (state S.Store tx.old.conn.now) (state S.Store tx.new.conn.now) (is_ok result) }
+{
+    let rows = rows_of(
+        tx,
+        "SELECT place, day, sort, secret FROM secrets WHERE book = ?1 AND number = ?2 ORDER BY place",
+        params![book, number],
+    )?;
+    read_secrets(alloc, &rows)
+}
+
+/// The extensions of a pledge.
+pub(crate) fn extensions_in<S: Alter>(
+    tx: &mut Transaction<'_, S>,
+    alloc: Global,
+    book: u32,
+    number: u32,
+) -> Result<Extensions, KeepError>
+    ensures same_reference { tx.new.conn.ghost_name ≡ tx.old.conn.ghost_name }
+    ensures finds { FindsIn (state S.Store tx.old.conn.now) (state S.Store tx.new.conn.now) result (λ h x. x ≡ extensions_of (pledge_in (get h.books book) number)) }
+    ensures lent { IsLent (state S.Store tx.old.conn.now) (state S.Store tx.new.conn.now) (is_ok result) }
+{
+    let rows = rows_of(
+        tx,
+        "SELECT place, day, until_day FROM extensions WHERE book = ?1 AND number = ?2 ORDER BY place",
+        params![book, number],
+    )?;
+    read_extensions(alloc, &rows)
+}
+
+/// The booking of a pledge.
+pub(crate) fn booking_in<S: Alter>(
+    tx: &mut Transaction<'_, S>,
+    book: u32,
+    number: u32,
+) -> Result<Option<Booking>, KeepError>
+    ensures same_reference { tx.new.conn.ghost_name ≡ tx.old.conn.ghost_name }
+    ensures finds { FindsIn (state S.Store tx.old.conn.now) (state S.Store tx.new.conn.now) result (λ h x. x ≡ booking_of (pledge_in (get h.books book) number)) }
+    ensures lent { IsLent (state S.Store tx.old.conn.now) (state S.Store tx.new.conn.now) (is_ok result) }
+{
+    let rows = rows_of(
+        tx,
+        "SELECT day, slot, state FROM bookings WHERE book = ?1 AND number = ?2",
+        params![book, number],
+    )?;
+    first_booking(&rows)
+}
+
+/// The totals of a pledge.
+pub(crate) fn totals_in<S: Alter>(
+    tx: &mut Transaction<'_, S>,
+    book: u32,
+    number: u32,
+) -> Result<Option<Totals>, KeepError>
+    ensures same_reference { tx.new.conn.ghost_name ≡ tx.old.conn.ghost_name }
+    ensures finds { FindsIn (state S.Store tx.old.conn.now) (state S.Store tx.new.conn.now) result (λ h x. x ≡ totals_in (pledge_in (get h.books book) number)) }
+    ensures lent { IsLent (state S.Store tx.old.conn.now) (state S.Store tx.new.conn.now) (is_ok result) }
+{
+    let rows = rows_of(
+        tx,
+        "SELECT day, principal, charges FROM totals WHERE book = ?1 AND number = ?2",
+        params![book, number],
+    )?;
+    first_totals(&rows)
+}
+
+/// The terms of a version.
+pub(crate) fn terms_in<S: Alter>(
+    tx: &mut Transaction<'_, S>,
+    book: u32,
+    version: u32,
+) -> Result<Option<Terms>, KeepError>
+    ensures same_reference { tx.new.conn.ghost_name ≡ tx.old.conn.ghost_name }
+    ensures finds { FindsIn (state S.Store tx.old.conn.now) (state S.Store tx.new.conn.now) result (λ h x. x ≡ terms_at (terms_of (get h.books book)) version) }
+    ensures lent { IsLent (state S.Store tx.old.conn.now) (state S.Store tx.new.conn.now) (is_ok result) }
+{
+    let rows = rows_of(
+        tx,
+        "SELECT rate, keep_before, keep_after FROM terms WHERE book = ?1 AND version = ?2",
+        params![book, version],
+    )?;
+    first_terms(&rows)
+}
+
+/// What the row of a pledge tells.
+pub(crate) fn row_in<S: Alter>(
+    tx: &mut Transaction<'_, S>,
+    alloc: Global,
+    book: u32,
+    number: u32,
+) -> Result<Option<PledgeRow>, KeepError>
+    ensures same_reference { tx.new.conn.ghost_name ≡ tx.old.conn.ghost_name }
+    ensures finds { FindsIn (state S.Store tx.old.conn.now) (state S.Store tx.new.conn.now) result (λ h x. x ≡ option_map row_of (pledge_in (get h.books book) number)) }
+    ensures lent { IsLent (state S.Store tx.old.conn.now) (state S.Store tx.new.conn.now) (is_ok result) }
+{
+    let rows = rows_of(
+        tx,
+        "SELECT ref, article, kind, credit, taken, agreed, five, version, ends, held, last_day, closed, closed_day, amount FROM pledges WHERE book = ?1 AND number = ?2",
+        params![book, number],
+    )?;
+    first_pledge(alloc, &rows)
+}

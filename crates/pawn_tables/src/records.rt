@@ -1,0 +1,145 @@
+ghost use Rattle.std.specs.Prelude.{◌≡◌, ℕ, Option, IfSome, ⊤};
+ghost use Rattle.pawn_terms.specs.Calendar.{IsDayNumber};
+ghost use Rattle.pawn_terms.specs.Terms.{IsChecked};
+ghost use Rattle.pawn_terms.specs.declared.terms.Rates.{Rates};
+ghost use Rattle.pawn_debt.specs.declared.entry.Kind.{Kind};
+ghost use Rattle.pawn_debt.specs.declared.owing.Totals.{Totals};
+ghost use Rattle.pawn_debt.specs.Due.{credit_of};
+ghost use Rattle.pawn_pledge.specs.declared.record.Booking.{Booking};
+ghost use Rattle.pawn_pledge.specs.declared.record.Closing.{Closing};
+ghost use Rattle.pawn_tables.specs.Rows.{kind_number, closed_number, closed_day, closed_amount, booking_cells, totals_cells, terms_cells, at_most_one};
+ghost use Rattle.pawn_tables.specs.Finding.{IsRead};
+
+use crate::cells::{NO_RECORD, day_at, day_of, number_at, state_of};
+use pawn_book::{Booking, Closing, Day, KeepError, Kind, Opening, Rates, Terms};
+use pawn_debt::Totals;
+use sqlite::Row;
+
+/// What the row of a pledge tells.
+#[derive(Drop)]
+pub(crate) struct PledgeRow {
+    pub opening: Opening,
+    pub taken: Day,
+    pub version: u64,
+    /// The day number of the end of the period.
+    pub ends: u64,
+    pub held: bool,
+    pub last: Day,
+    pub closing: Closing,
+}
+
+/// The kind of a pledge, by its number and the sum or limit in pence.
+pub(crate) fn kind_of(number: u64, credit: u64) -> Result<Kind, KeepError>
+    ensures read { (k : Kind) → number ≡ kind_number k → credit ≡ credit_of k → IsRead result k ⊤ }
+{
+    match number {
+        0 => Ok(Kind::Fixed(credit)),
+        1 => Ok(Kind::Running(credit)),
+        _ => Err(NO_RECORD),
+    }
+}
+
+/// The day of a number, if there is a number.
+pub(crate) fn optional_day(number: Option<u64>) -> Result<Option<Day>, KeepError>
+    ensures read { IsRead result number (IfSome number IsDayNumber) }
+{
+    let Some(number) = number else {
+        return Ok(None);
+    };
+    Ok(Some(day_of(number)?))
+}
+
+/// The closing of a pledge, by its number, day and amount.
+pub(crate) fn closing_of(
+    closed: u64,
+    day: Option<Day>,
+    amount: Option<u64>,
+) -> Result<Closing, KeepError>
+    ensures read { (c : Closing) → closed ≡ closed_number c → day ≡ closed_day c → amount ≡ closed_amount c → IsRead result c ⊤ }
+{
+    match (closed, day, amount) {
+        (0, None, None) => Ok(Closing::Open),
+        (1, Some(day), Some(paid)) => Ok(Closing::Redeemed { day, paid }),
+        (2, Some(day), Some(net)) => Ok(Closing::Sold { day, net }),
+        _ => Err(NO_RECORD),
+    }
+}
+
+// The booking of a row.
+fn booking_of(row: &Row) -> Result<Booking, KeepError>
+    ensures read { (k : Booking) → row.now ≡ booking_cells k → IsRead result k (IsDayNumber k.day) }
+{
+    let day = day_at(row, 0)?;
+    let window = number_at(row, 1)?;
+    let state = state_of(number_at(row, 2)?)?;
+    Ok(Booking { day, window, state })
+}
+
+// The totals of a row.
+fn totals_of(row: &Row) -> Result<Totals, KeepError>
+    ensures read { (t : Totals) → row.now ≡ totals_cells t → IsRead result t (IsDayNumber t.day) }
+{
+    let day = day_at(row, 0)?;
+    let principal = number_at(row, 1)?;
+    let millionths = number_at(row, 2)?;
+    Ok(Totals {
+        day,
+        principal,
+        millionths,
+    })
+}
+
+// The three numbers of terms in a row.
+fn rates_of(row: &Row) -> Result<Rates, KeepError>
+    ensures read { (t : Rates) → row.now ≡ terms_cells t → IsRead result t ⊤ }
+{
+    let rate = number_at(row, 0)?;
+    let keep_before = number_at(row, 1)?;
+    let keep_after = number_at(row, 2)?;
+    Ok(Rates {
+        rate,
+        keep_before,
+        keep_after,
+    })
+}
+
+// The terms of a row.
+fn terms_of(row: &Row) -> Result<Terms, KeepError>
+    ensures read { (t : Rates) → row.now ≡ terms_cells t → IsRead result t (IsChecked t) }
+{
+    let rates = rates_of(row)?;
+    match rates.check() {
+        Ok(terms) => Ok(terms),
+        Err(_) => Err(NO_RECORD),
+    }
+}
+
+/// The booking of the first row, if there is a row.
+pub(crate) fn first_booking(rows: &[Row]) -> Result<Option<Booking>, KeepError>
+    ensures read { (k : Option Booking) → rows.now ≡ at_most_one booking_cells k → IsRead result k (IfSome k (λ b. IsDayNumber b.day)) }
+{
+    let [row, ..] = rows else {
+        return Ok(None);
+    };
+    Ok(Some(booking_of(row)?))
+}
+
+/// The totals of the first row, if there is a row.
+pub(crate) fn first_totals(rows: &[Row]) -> Result<Option<Totals>, KeepError>
+    ensures read { (t : Option Totals) → rows.now ≡ at_most_one totals_cells t → IsRead result t (IfSome t (λ u. IsDayNumber u.day)) }
+{
+    let [row, ..] = rows else {
+        return Ok(None);
+    };
+    Ok(Some(totals_of(row)?))
+}
+
+/// The terms of the first row, if there is a row.
+pub(crate) fn first_terms(rows: &[Row]) -> Result<Option<Terms>, KeepError>
+    ensures read { (t : Option Rates) → rows.now ≡ at_most_one terms_cells t → IsRead result t (IfSome t IsChecked) }
+{
+    let [row, ..] = rows else {
+        return Ok(None);
+    };
+    Ok(Some(terms_of(row)?))
+}

@@ -1,0 +1,74 @@
+ghost use Rattle.std.specs.Prelude.{◌≡◌, Option, IfSome, option_map};
+ghost use Rattle.pawn_terms.specs.Calendar.{IsDayNumber};
+ghost use Rattle.pawn_pledge.specs.Pledge.{PledgeValue};
+ghost use Rattle.pawn_tables.specs.Rows.{pledge_cells, closed_day, at_most_one};
+ghost use Rattle.pawn_tables.specs.Finding.{IsRead};
+ghost use Rattle.pawn_tables.specs.Told.{IsTold, IsRowTold, row_of};
+
+use crate::cells::{day_at, flag_at, number_at, optional_at, request_day, text_at};
+use crate::records::{PledgeRow, closing_of, kind_of, optional_day};
+use pawn_book::{Closing, KeepError, Opening};
+use sqlite::Row;
+use std::alloc::Global;
+
+// What was agreed on the pledge of a row.
+fn opening_at(alloc: Global, row: &Row) -> Result<Opening, KeepError>
+    ensures read { (p : PledgeValue) → row.now ≡ pledge_cells p → IsRead result p.agreement.opening (IsTold p.agreement.opening) }
+{
+    let reference = text_at(alloc, row, 0)?;
+    let article = text_at(alloc, row, 1)?;
+    let number = number_at(row, 2)?;
+    let credit = number_at(row, 3)?;
+    let kind = kind_of(number, credit)?;
+    let agreed = request_day(optional_at(row, 5)?)?;
+    let five_days = flag_at(row, 6)?;
+    Ok(Opening {
+        reference,
+        article,
+        kind,
+        agreed,
+        five_days,
+    })
+}
+
+// The closing of the pledge of a row.
+fn closing_at(row: &Row) -> Result<Closing, KeepError>
+    ensures read { (p : PledgeValue) → row.now ≡ pledge_cells p → IsRead result p.standing.closing (IfSome (closed_day p.standing.closing) IsDayNumber) }
+{
+    let closed = number_at(row, 11)?;
+    let day = optional_day(optional_at(row, 12)?)?;
+    let amount = optional_at(row, 13)?;
+    closing_of(closed, day, amount)
+}
+
+// What the row of a pledge tells.
+fn pledge_row(alloc: Global, row: &Row) -> Result<PledgeRow, KeepError>
+    ensures read { (p : PledgeValue) → row.now ≡ pledge_cells p → IsRead result (row_of p) (IsRowTold p) }
+{
+    let opening = opening_at(alloc, row)?;
+    let taken = day_at(row, 4)?;
+    let version = number_at(row, 7)?;
+    let ends = number_at(row, 8)?;
+    let held = flag_at(row, 9)?;
+    let last = day_at(row, 10)?;
+    let closing = closing_at(row)?;
+    Ok(PledgeRow {
+        opening,
+        taken,
+        version,
+        ends,
+        held,
+        last,
+        closing,
+    })
+}
+
+/// What the first row tells of its pledge, if there is a row.
+pub(crate) fn first_pledge(alloc: Global, rows: &[Row]) -> Result<Option<PledgeRow>, KeepError>
+    ensures read { (p : Option PledgeValue) → rows.now ≡ at_most_one pledge_cells p → IsRead result (option_map row_of p) (IfSome p IsRowTold) }
+{
+    let [row, ..] = rows else {
+        return Ok(None);
+    };
+    Ok(Some(pledge_row(alloc, row)?))
+}

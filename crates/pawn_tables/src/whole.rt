@@ -1,0 +1,104 @@
+ghost use Rattle.std.specs.Prelude.{◌≡◌, IfSome, is_ok};
+ghost use Rattle.std.specs.FinMap.{get};
+ghost use Rattle.sqlite.specs.Held.{state};
+ghost use Rattle.pawn_book.specs.Rows.{terms_at};
+ghost use Rattle.pawn_book.specs.BookStep.{pledge_in};
+ghost use Rattle.pawn_book.specs.Keeping.{terms_of};
+ghost use Rattle.one_table.specs.Lending.{IsLent};
+ghost use Rattle.pawn_tables.specs.Finding.{FindsIn};
+ghost use Rattle.pawn_tables.specs.Told.{AreLists, AreSides};
+
+use crate::cells::NO_RECORD;
+use crate::joining::pledges::join;
+use crate::joining::{Lists, Sides};
+use crate::queries::{
+    booking_in, entries_in, extensions_in, row_in, secrets_in, terms_in, totals_in,
+};
+use pawn_book::{KeepError, Number, Pledge, Terms};
+use sqlite::{Alter, Transaction};
+use std::alloc::Global;
+
+/// The terms of a version. None stand under 0, nor under a version that 32 bits can't hold.
+pub(crate) fn terms_under<S: Alter>(
+    tx: &mut Transaction<'_, S>,
+    book: u32,
+    version: u64,
+) -> Result<Option<Terms>, KeepError>
+    ensures same_reference { tx.new.conn.ghost_name ≡ tx.old.conn.ghost_name }
+    ensures finds { FindsIn (state S.Store tx.old.conn.now) (state S.Store tx.new.conn.now) result (λ h terms. terms ≡ terms_at (terms_of (get h.books book)) version) }
+    ensures lent { IsLent (state S.Store tx.old.conn.now) (state S.Store tx.new.conn.now) (is_ok result) }
+{
+    let Ok(short) = u32::try_from(version) else {
+        return terms_in(tx, book, 0);
+    };
+    terms_in(tx, book, short)
+}
+
+/// The lists of a pledge.
+#[tactic(auto, using(crate::proofs::Lent::lent_then))]
+pub(crate) fn lists_in<S: Alter>(
+    tx: &mut Transaction<'_, S>,
+    alloc: Global,
+    book: u32,
+    number: u32,
+) -> Result<Lists, KeepError>
+    ensures same_reference { tx.new.conn.ghost_name ≡ tx.old.conn.ghost_name }
+    ensures finds { FindsIn (state S.Store tx.old.conn.now) (state S.Store tx.new.conn.now) result (λ h l. IfSome (pledge_in (get h.books book) number) (AreLists l)) }
+    ensures lent { IsLent (state S.Store tx.old.conn.now) (state S.Store tx.new.conn.now) (is_ok result) }
+{
+    let entries = entries_in(tx, alloc, book, number)?;
+    let secrets = secrets_in(tx, alloc, book, number)?;
+    let extensions = extensions_in(tx, alloc, book, number)?;
+    Ok(Lists {
+        entries,
+        secrets,
+        extensions,
+    })
+}
+
+/// What the tables beside its row tell of a pledge.
+#[tactic(auto, using(crate::proofs::Lent::lent_then))]
+pub(crate) fn sides_in<S: Alter>(
+    tx: &mut Transaction<'_, S>,
+    book: u32,
+    number: u32,
+    version: u32,
+) -> Result<Sides, KeepError>
+    ensures same_reference { tx.new.conn.ghost_name ≡ tx.old.conn.ghost_name }
+    ensures finds { FindsIn (state S.Store tx.old.conn.now) (state S.Store tx.new.conn.now) result (λ h s. IfSome (pledge_in (get h.books book) number) (λ p. version ≡ p.agreement.version → AreSides s p)) }
+    ensures lent { IsLent (state S.Store tx.old.conn.now) (state S.Store tx.new.conn.now) (is_ok result) }
+{
+    let terms = terms_in(tx, book, version)?;
+    let booking = booking_in(tx, book, number)?;
+    let totals = totals_in(tx, book, number)?;
+    Ok(Sides {
+        terms,
+        booking,
+        totals,
+    })
+}
+
+/// The pledge of a number.
+#[tactic(auto, using(crate::proofs::Lent::lent_then))]
+pub(crate) fn pledge_of<S: Alter>(
+    tx: &mut Transaction<'_, S>,
+    alloc: Global,
+    book: u32,
+    number: Number,
+) -> Result<Option<Pledge>, KeepError>
+    ensures same_reference { tx.new.conn.ghost_name ≡ tx.old.conn.ghost_name }
+    ensures finds { FindsIn (state S.Store tx.old.conn.now) (state S.Store tx.new.conn.now) result (λ h pledge. pledge ≡ pledge_in (get h.books book) number) }
+    ensures lent { IsLent (state S.Store tx.old.conn.now) (state S.Store tx.new.conn.now) (is_ok result) }
+{
+    let n = number.get();
+    let Some(row) = row_in(tx, alloc, book, n)? else {
+        return Ok(None);
+    };
+    let Ok(version) = u32::try_from(row.version) else {
+        return Err(NO_RECORD);
+    };
+    let sides = sides_in(tx, book, n, version)?;
+    let lists = lists_in(tx, alloc, book, n)?;
+    let pledge = join(number, row, sides, lists)?;
+    Ok(Some(pledge))
+}
