@@ -7,3 +7,4 @@ pub mod Spelling
 pub mod Answers
 pub mod Finishing
 pub mod Laws
+pub mod WorkedTexts

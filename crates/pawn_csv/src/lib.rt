@@ -9,6 +9,7 @@ mod order;
 mod reading;
 mod row;
 mod spelling;
+mod worked;
 
 pub use fault::{Cause, CsvFault};
 pub use laws::laws_of_texts;
@@ -17,6 +18,7 @@ pub use pawn_book::{
 };
 pub use reading::read_book;
 pub use row::{ClosingWord, PledgeColumns, Row, Version};
+pub use worked::worked_texts;
 
 #[cfg(test)]
 mod tests;
