@@ -9,3 +9,4 @@ pub mod Reading
 pub mod Laws
 pub mod Sent
 pub mod Exports
+pub mod WorkedTexts

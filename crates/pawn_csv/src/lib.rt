@@ -10,9 +10,8 @@ mod order;
 mod reading;
 mod row;
 mod spelling;
-#[cfg(test)]
-mod tests;
 mod words;
+mod worked;
 mod writing;
 
 pub use exporting::{ExportFault, RowWriter, export};
@@ -23,3 +22,7 @@ pub use pawn_book::{
 };
 pub use reading::read_book;
 pub use row::{ClosingWord, PledgeColumns, Row, Version};
+pub use worked::worked_texts;
+
+#[cfg(test)]
+mod tests;

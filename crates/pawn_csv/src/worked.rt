@@ -1,0 +1,6 @@
+ghost use Rattle.pawn_csv.specs.WorkedTexts.{WorkedTexts};
+
+/// Rows that are taken, and rows that are refused.
+pub fn worked_texts()
+    ensures texts { WorkedTexts }
+{}
