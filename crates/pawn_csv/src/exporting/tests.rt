@@ -10,8 +10,7 @@ use std::io;
 use std::io::{ErrorKind, Write};
 use std::test::Fail;
 
-const TEXT: &[u8] =
-    b"row,c1,c2,c3,c4,c5,c6,c7,c8,c9,c10,c11,c12,c13,c14\nB,2,0,0,,,,,,,,,,,\n";
+const TEXT: &[u8] = b"row,c1,c2,c3,c4,c5,c6,c7,c8,c9,c10,c11,c12,c13,c14\nB,2,0,0,,,,,,,,,,,\n";
 
 // A writer that takes one byte, and then fails.
 #[derive(Drop)]
@@ -81,7 +80,10 @@ fn what_a_writer_took_before_it_failed_is_a_front(rt: HostRuntime) -> Result<(),
     let mut keep = one_book(rt.alloc())?;
     let taken = Vec::new(rt.alloc());
     let mut rows = RowWriter::new(rt.alloc(), OneByte { taken });
-    assert_eq!(rt; export(&mut keep, number(7)?, &mut rows), Err(ExportFault::Write));
+    assert_eq!(rt;
+        export(&mut keep, number(7)?, &mut rows),
+        Err(ExportFault::Write)
+    );
     assert_eq!(rt; rows.into_inner().taken.as_slice(), b"r".as_slice());
     Ok(())
 }
