@@ -1,5 +1,4 @@
 -- The words in which the theorem of slots is said, from one place.
-pub use Rattle.std.specs.Prelude.{◌≡◌, ◌≢◌, ℕ, List, [], ◌∷◌, ◌++◌, ◌==◌, Bool, true, ◌&&◌, Option, None, Some, Ok, is_some, if◌then◌else◌, slice_get, take}
 pub use Rattle.std.specs.List.{list_any, list_all, flat_map}
 pub use Rattle.std.specs.FinMap.{get}
 pub use Rattle.pawn_pledge.specs.declared.command.Stamp.{Stamp}

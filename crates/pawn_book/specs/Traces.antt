@@ -1,7 +1,8 @@
 -- What a run of requests leaves of one book, and of a slot: a list of receipts of one book.
-use Rattle.pawn_book.specs.Common.{ℕ, List, [], ◌∷◌, ◌++◌, ◌==◌, Bool, ◌&&◌, Option, None, Some, is_some, if◌then◌else◌, list_any, flat_map, get}
-use Rattle.pawn_book.specs.Common.{Stamp, Command, Receipt, PledgeValue, Caller, BookValue, Outcome, Makes, out_of, is_live, pledge_in, Host, host_step}
-use Rattle.pawn_book.specs.Common.{numbered_pledges, touched_pledges, pledges_of, command_of, Event, Moment, is_settled, moments}
+use Rattle.std.specs.Prelude.{ℕ, List, [], ◌∷◌, ◌++◌, ◌==◌, Bool, ◌&&◌, Option, None, Some, is_some, if◌then◌else◌}
+use Rattle.pawn_book.specs.Common.{list_any, flat_map, get, Stamp, Command, Receipt, PledgeValue, Caller, BookValue, Outcome, Makes, out_of}
+use Rattle.pawn_book.specs.Common.{is_live, pledge_in, Host, host_step, numbered_pledges, touched_pledges, pledges_of, command_of, Event}
+use Rattle.pawn_book.specs.Common.{Moment, is_settled, moments}
 
 -- what comes of a request on its own host
 abbrev pub outcome_of : ℕ → Moment → Outcome

@@ -1,5 +1,6 @@
 -- The headline: each answer is what a plain machine gives that is fed one slot's trace alone.
-use Rattle.pawn_book.specs.Common.{◌≡◌, ◌≢◌, ℕ, List, true, Some, Ok, slice_get, take, get, Stamp, Receipt, Denied, Out, Host}
+use Rattle.std.specs.Prelude.{◌≡◌, ◌≢◌, ℕ, List, true, Some, Ok, slice_get, take}
+use Rattle.pawn_book.specs.Common.{get, Stamp, Receipt, Denied, Out, Host}
 use Rattle.pawn_book.specs.declared.refusal.Refusal.TheVariants.{Full, Memory, Store}
 use Rattle.pawn_book.specs.declared.request.Request.{Request}
 use Rattle.pawn_book.specs.declared.request.Caller.TheVariants.{Bearer}
