@@ -1,16 +1,15 @@
 #!/usr/bin/env python3
-"""Prints requests a second and peak memory of openings, views, day sheets, exports, imports and repayments through
-`pawnd answer :memory:`.
+"""Prints requests a second and peak memory of openings, views, day sheets, exports and repayments
+through `pawnd answer :memory:`.
 
 usage: bench/requests.py [PROGRAM]     (default: the program that `rt run` built in crates/pawnd)
 
 A stream has at most 1,000 requests, so a run is one book, its terms, and up to 998 openings, views
 or repayments. What a view costs is the time of 499 openings and 499 views less that of 499 openings,
 and so for sheets of a day on which nobody comes and of one on which all 499 periods end, for exports
-of the book and imports of what it exports, both told for each pledge, and for repayments of one penny
-on each of 499 pledges. Repayments on one pledge are timed as its
-entries grow, each span less the one before it. Start and the reading of the stream are included where
-nothing is taken off.
+of the book, told for each pledge, and for repayments of one penny on each of 499 pledges. Repayments
+on one pledge are timed as its entries grow, each span less the one before it. Start and the reading
+of the stream are included where nothing is taken off.
 """
 import os
 import resource
@@ -27,12 +26,8 @@ from service import BROKER, OPERATOR, PROGRAM, SEED, request  # noqa: E402
 RUNS = 9
 
 
-def creation(book):
-    return request("POST", f"/books/{book}", f"Pledge-Key: {OPERATOR}", body=f'{{"capacity":2,"key":"{BROKER}","name":"High Street"}}')
-
-
 def start():
-    yield creation(7)
+    yield request("POST", "/books/7", f"Pledge-Key: {OPERATOR}", body=f'{{"capacity":2,"key":"{BROKER}","name":"High Street"}}')
     yield request("POST", "/books/7/terms", f"Pledge-Key: {BROKER}", body='{"keep_after":0,"keep_before":0,"rate":0,"version":1}')
 
 
@@ -51,10 +46,6 @@ def sheet(day):
 
 def export():
     return request("GET", "/books/7/export", f"Pledge-Key: {BROKER}")
-
-
-def importing(book, text):
-    return request("POST", f"/books/{book}/import", f"Pledge-Key: {BROKER}", f"Import-Key: {BROKER}", body=text)
 
 
 def repayment(receipt, seq):
@@ -100,14 +91,9 @@ def main():
         assert told.count(f"Ends {ending}\n".encode()) == 499
         line(name, 499, sheets - half_time)
     once, _ = answer(program, half + export())
-    text = once.rpartition(b"\r\n\r\n")[2].decode()
-    assert text.count("\nP,") == 499
+    assert once.count(b"\nP,") == 499
     _, exports = answer(program, half + export() * 100)
     line("exports, for each pledge", 100 * 499, exports - half_time)
-    made = b"".join(map(creation, range(8, 28)))
-    filled, imports = answer(program, made + b"".join(importing(book, text) for book in range(8, 28)))
-    assert filled.count(b'{"imported":499}') == 20
-    line("imports, for each pledge", 20 * 499, imports - answer(program, made)[1])
     repaid, repayments = answer(program, half + b"".join(repayment(r, 1) for r in receipts(replies)))
     assert repaid.count(b'"sort":"repay"') == 499
     line("repayments, one a pledge", 499, repayments - half_time)
