@@ -15,15 +15,13 @@ const EXTENDED: &[u8] =
 // The first such bytes of a text replaced by others.
 fn replace(alloc: Global, text: &[u8], old: &[u8], new: &[u8]) -> Result<Vec<u8>, Fail> {
     let mut changed = Vec::new(alloc);
-    let mut at = 0;
-    while at < text.len() {
-        if text[at..].starts_with(old) {
+    for at in 0..text.len() {
+        if let Some(rest) = text[at..].strip_prefix(old) {
             changed.extend_from_slice(new)?;
-            changed.extend_from_slice(&text[at + old.len()..])?;
+            changed.extend_from_slice(rest)?;
             return Ok(changed);
         }
         changed.push(text[at])?;
-        at += 1;
     }
     Ok(changed)
 }
