@@ -194,7 +194,7 @@ fn slow_ends_change_no_reply(rt: HostRuntime) -> Result<(), Fail> {
     }
     let all = answered(&rt, alloc, stream.as_slice(), stamps.as_slice(), SLOW);
     let how = How::End;
-    assert_eq!(rt; all.came, Ok(Ended { how, acted: 29 }));
+    assert_eq!(rt; all.came, Ok(Ended { how, acted: 28 }));
     assert!(rt; all.written.as_slice() == replies.as_slice());
     Ok(())
 }
