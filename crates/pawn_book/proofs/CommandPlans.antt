@@ -3,7 +3,7 @@ use Rattle.std.proofs.Common.{◌≡◌, ℕ, Some, None, Ok, Err, refl, ◌∙�
 use Rattle.std.specs.Prelude.{if◌then◌else◌, Option, Result, Bool, true, false, IfSome, IfOk}
 use Rattle.std.specs.FinMap.{get}
 use Rattle.std.specs.Str.{IsUtf8}
-use Rattle.pawn_terms.specs.Calendar.{IsStampDay}
+use Rattle.pawn_terms.specs.Calendar.{IsDayNumber, IsStampDay}
 use Rattle.pawn_pledge.specs.declared.command.Command.{Command}
 use Rattle.pawn_pledge.specs.declared.command.Done.{Done}
 use Rattle.pawn_pledge.specs.declared.command.Stamp.{Stamp}
@@ -60,7 +60,7 @@ sound_put book n p q sound is kept standing words =
         few_terms = sound.rows.few_terms;
         few_pledges = omega (arith, long, few);
       };
-      written = each_put HasTextsAndWords 1 book.pledges n q sound.written (record { reference = subst (λ (a : Agreement). IsUtf8 a.opening.reference) (sym kept.agreement) before.reference; article = subst (λ (a : Agreement). IsUtf8 a.opening.article) (sym kept.agreement) before.article; secrets = words });
+      written = each_put HasTextsAndWords 1 book.pledges n q sound.written (record { reference = subst (λ (a : Agreement). IsUtf8 a.opening.reference) (sym kept.agreement) before.reference; article = subst (λ (a : Agreement). IsUtf8 a.opening.article) (sym kept.agreement) before.article; secrets = words; taken = subst (λ (a : Agreement). IsDayNumber a.taken) (sym kept.agreement) before.taken });
     }
 
 -- the change that a command makes may be saved

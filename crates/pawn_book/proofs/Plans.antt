@@ -6,6 +6,7 @@ use Rattle.std.specs.Str.{IsUtf8}
 use Rattle.std.proofs.lemmas.Bool.Decides.{nat_tests}
 use Rattle.pawn_terms.specs.declared.terms.Rates.{Rates}
 use Rattle.pawn_terms.specs.Terms.{IsChecked}
+use Rattle.pawn_terms.specs.Calendar.{IsDayNumber}
 use Rattle.pawn_pledge.specs.Number.{IsNumber}
 use Rattle.pawn_pledge.specs.declared.record.Issued.{Issued}
 use Rattle.pawn_pledge.specs.Pledge.{PledgeValue}
@@ -219,6 +220,7 @@ pub record IsTakenAs (head : BookHead) (opening : Opening) (stamp : Stamp) (newe
   pub version : p.agreement.version ≡ head.terms
   pub under : newest ≡ Some p.agreement.terms
   pub first : (issued : Issued) × (p.secrets ≡ issued ∷ []) × (issued.secret ≡ stamp.word)
+  pub day : p.agreement.taken ≡ stamp.day
   pub few : head.pledges < most_pledges
 
 pub taken_is : (head : BookHead) (opening : Opening) (stamp : Stamp) (newest : Option Rates) (p : PledgeValue) → next_pledge head opening stamp newest ≡ Ok p → IsTakenAs head opening stamp newest p
@@ -234,14 +236,14 @@ taken_is head opening stamp (Some terms) p is = from (pledge_start (head.pledges
         let same : q ≡ p = ap (λ (r : Result PledgeValue Refusal). result_unwrap_or r q) row.1 in
         let start = past_row (is_bad_amount (credit_of opening.kind)) _ _ q at in
         subst (IsTakenAs head opening stamp (Some terms)) (ap (λ (r : Result PledgeValue PledgeRefusal). result_unwrap_or r q) start.1 ∙ same)
-        (record { number = refl; asked = refl; version = refl; under = refl; first = (_, refl, refl); few = few })
+        (record { number = refl; asked = refl; version = refl; under = refl; first = (_, refl, refl); day = refl; few = few })
 
 -- the next pledge, as a keeper tells of the book
 pub taken_plans : (h : Host) (b : ℕ) (at : BookValue) (head : BookHead) (opening : Opening) (stamp : Stamp) (p : PledgeValue) → IsSound h → get h.books b ≡ Some at → head ≡ book_head at
     → None ≡ with_reference (pledges_of (get h.books b)) opening.reference → next_pledge head opening stamp (newest at.terms) ≡ Ok p → IsStanding p
-    → IsUtf8 opening.reference → IsUtf8 opening.article → IsWord stamp.word
+    → IsUtf8 opening.reference → IsUtf8 opening.article → IsWord stamp.word → IsDayNumber stamp.day
     → Plans h b (take_pledge at b opening stamp (with_reference at.pledges opening.reference)) (Ok (record { change = Some (PutPledge b p.agreement.number p); reply = Opened (first_receipt p) }))
-taken_plans h b at head opening stamp p sound is heads none answer standing reference article word =
+taken_plans h b at head opening stamp p sound is heads none answer standing reference article word day =
     let absent : with_reference at.pledges opening.reference ≡ None = sym (none ∙ ap (λ o. with_reference (pledges_of o) opening.reference) is) in
     let next : next_pledge (book_head at) opening stamp (newest at.terms) ≡ Ok p = ap (λ (q : BookHead). next_pledge q opening stamp (newest at.terms)) (sym heads) ∙ answer in
     let taken = taken_is (book_head at) opening stamp (newest at.terms) p next in
@@ -256,5 +258,6 @@ taken_plans h b at head opening stamp p sound is heads none answer standing refe
       reference = subst (λ (o : Opening). IsUtf8 o.reference) (sym taken.asked) reference;
       article = subst (λ (o : Opening). IsUtf8 o.article) (sym taken.asked) article;
       secrets = subst AreWords (sym taken.first.1) (subst IsWord (sym taken.first.2) word, tt);
+      taken = subst IsDayNumber (sym taken.day) day;
     } in
     pledge_plans h b at opening stamp p sound is absent next is_next standing written

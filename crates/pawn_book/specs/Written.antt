@@ -1,6 +1,7 @@
--- What the types of a record's texts and secrets keep.
+-- What the types of a record's texts, secrets and days keep.
 use Rattle.std.specs.Prelude.{ℕ, ◌^◌, ◌<◌, List}
 use Rattle.std.specs.Str.{IsUtf8}
+use Rattle.pawn_terms.specs.Calendar.{IsDayNumber}
 use Rattle.pawn_pledge.specs.declared.record.Issued.{Issued}
 use Rattle.pawn_pledge.specs.Pledge.{PledgeValue}
 use Rattle.pawn_pledge.specs.Replayable.{Each}
@@ -12,8 +13,9 @@ IsWord n = n < 2 ^ 128
 abbrev pub AreWords : List Issued → Type 0
 AreWords issued = Each (λ i. IsWord i.secret) issued
 
--- the texts of a pledge are UTF-8, and its secrets are words
+-- the texts of a pledge are UTF-8, its secrets are words, and it was taken on a day of the calendar
 pub record HasTextsAndWords (p : PledgeValue) : Type 0 where
   pub reference : IsUtf8 p.agreement.opening.reference
   pub article : IsUtf8 p.agreement.opening.article
   pub secrets : AreWords p.secrets
+  pub taken : IsDayNumber p.agreement.taken

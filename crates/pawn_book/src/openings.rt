@@ -2,6 +2,7 @@
 ghost use Rattle.std.specs.Prelude.{◌≡◌, Err, IfOk, Some};
 ghost use Rattle.std.specs.FinMap.{get};
 ghost use Rattle.std.specs.Str.{IsUtf8};
+ghost use Rattle.pawn_terms.specs.Calendar.{IsDayNumber};
 ghost use Rattle.pawn_terms.specs.Refusals.{IsSaid};
 ghost use Rattle.pawn_pledge.specs.Replayable.{IsStanding};
 ghost use Rattle.pawn_book.specs.BookStep.{BookValue, first_receipt, book_head, is_same_opening, newest, take_pledge, next_pledge, with_reference};
@@ -64,13 +65,15 @@ pub(crate) fn plan_pledge<K: Keep>(
     }
 }
 
-// What a request gives for a new pledge: texts that are UTF-8, and a word of 128 bits.
+// What a request gives for a new pledge: texts that are UTF-8, a word of 128 bits, and a day of the calendar.
 fn know_given(opening: &Opening, stamp: &Stamp)
     ensures reference { IsUtf8 opening.now.reference }
     ensures article { IsUtf8 opening.now.article }
     ensures word { IsWord stamp.now.word }
+    ensures day { IsDayNumber stamp.now.day }
 {
     // Whoever reads these knows what they are.
+    let _ = stamp.day.day();
     let _ = opening.reference.as_str();
     let _ = opening.article.as_str();
     know_word(stamp);

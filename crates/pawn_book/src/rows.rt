@@ -57,7 +57,7 @@ impl PledgeRows {
     }
 }
 
-// The texts of records are UTF-8, and their secrets words: whoever reads them knows.
+// The texts of records are UTF-8, their secrets words, and their days such: whoever reads them knows.
 fn know_records(records: &[Parts])
     ensures written { Each HasTextsAndWords records.now }
 {
@@ -71,6 +71,7 @@ fn know_record(parts: &Parts)
 {
     let _ = parts.agreement.opening.reference.as_str();
     let _ = parts.agreement.opening.article.as_str();
+    let _ = parts.agreement.taken.count();
     for issued in parts.secrets.as_slice() {
         let _word = issued.secret.word();
     }

@@ -19,4 +19,4 @@ returns-in-Ok-clause-reads g c = reads_then c.find_reference.ensures.reads c.tak
     (Ok (record { change = Some (PutPledge c.args.book c.in-Ok.pledge.agreement.number c.in-Ok.pledge); reply = Opened r })))
     (sym c.first_receipt-in-Ok.ensures.value)
     (taken_plans h c.args.book at c.args.head.now c.args.opening.now c.args.stamp.now c.in-Ok.pledge sound is heads
-    (ok_is (c.in-Ok-None.is ∙ ap Ok c.in-Ok-None.field-0-is) (found sound)) answer c.in-Ok.ensures.standing c.know_given.ensures.reference c.know_given.ensures.article c.know_given.ensures.word)))
+    (ok_is (c.in-Ok-None.is ∙ ap Ok c.in-Ok-None.field-0-is) (found sound)) answer c.in-Ok.ensures.standing c.know_given.ensures.reference c.know_given.ensures.article c.know_given.ensures.word c.know_given.ensures.day)))
