@@ -13,6 +13,10 @@ use Rattle.pawn_csv.specs.Rows.{Fits, csv_of, row_fields}
 abbrev pub TextsAreRead : Type 0
 TextsAreRead = (k : BookRows) → IsHeldBy version.Two k → IsTextOf (strip_bom (csv_of k)) k
 
+-- the records of a book's text are taken to their end, and make the book
+abbrev pub TextsAreReadAs : Type 0
+TextsAreReadAs = (text : List ℕ) (k : BookRows) → IsTextOf text k → IsReadAs text k
+
 -- two rows with the same columns are one
 abbrev pub RowsHaveOneSpelling : Type 0
 RowsHaveOneSpelling = (r s : Row) → Fits r → Fits s → row_fields r ≡ row_fields s → r ≡ s
@@ -23,11 +27,11 @@ FirstFaultsAreOne =
     (text : List ℕ) (c d : Cause) (m n : ℕ) → c ≢ cause.Memory → d ≢ cause.Memory
     → IsFirstFault text c m → IsFirstFault text d n → (c ≡ d) × (m ≡ n)
 
--- a text with a first fault holds no book
+-- a text with a first fault is of no book
 abbrev pub FirstFaultsExcludeBooks : Type 0
 FirstFaultsExcludeBooks =
-    (text : List ℕ) (c : Cause) (m : ℕ) (k : BookRows) → c ≢ cause.Memory → IsFirstFault text c m → IsReadAs text k → ⊥
+    (text : List ℕ) (c : Cause) (m : ℕ) (k : BookRows) → c ≢ cause.Memory → IsFirstFault text c m → IsTextOf text k → ⊥
 
--- no text holds two books
+-- no text is of two books
 abbrev pub TextsHoldOneBook : Type 0
-TextsHoldOneBook = (text : List ℕ) (j k : BookRows) → IsReadAs text j → IsReadAs text k → j ≡ k
+TextsHoldOneBook = (text : List ℕ) (j k : BookRows) → IsTextOf text j → IsTextOf text k → j ≡ k

@@ -1,9 +1,10 @@
 //! Laws of texts and of their rows.
-ghost use Rattle.pawn_csv.specs.Laws.{FirstFaultsAreOne, FirstFaultsExcludeBooks, RowsHaveOneSpelling, TextsAreRead, TextsHoldOneBook};
+ghost use Rattle.pawn_csv.specs.Laws.{FirstFaultsAreOne, FirstFaultsExcludeBooks, RowsHaveOneSpelling, TextsAreRead, TextsAreReadAs, TextsHoldOneBook};
 
-/// The text of a book is a text of that book.
+/// The text of a book is a text of that book, and is taken to its end as that book.
 pub fn laws_of_texts()
     ensures read { TextsAreRead }
+    ensures taken { TextsAreReadAs }
 {}
 
 /// Two rows with the same columns are one.
