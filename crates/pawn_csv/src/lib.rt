@@ -20,7 +20,8 @@ pub use fault::{Cause, CsvFault};
 pub use importing::import;
 pub use laws::{laws_of_texts, rows_have_one_spelling, texts_have_one_reading};
 pub use pawn_book::{
-    BookRows, Booking, Day, Entry, Extension, Issued, Opening, Rates, ReplayableRows,
+    BookRows, Booking, Day, Entry, Extension, Issued, Keep, Number, Opening, Rates, Refusal,
+    ReplayableRows, Reply, Secret, Stamp,
 };
 pub use reading::read_book;
 pub use row::{ClosingWord, PledgeColumns, Row, Version};
