@@ -31,7 +31,6 @@ use Rattle.pawn_pledge.specs.declared.record.Issued.{Issued}
 use Rattle.pawn_book.specs.Rows.{IsUnder, terms_at}
 use Rattle.pawn_book.specs.Written.{AreWords, HasTextsAndWords}
 use Rattle.pawn_csv.specs.Laws.{BooksAreHeld, TextsAreRead, TextsOfHostsAreRead}
-use Rattle.pawn_csv.specs.Reading.{IsTakenInTime}
 use Rattle.pawn_csv.specs.Rows.{AreColumns, Fits, IsShort, booking_rows, closing_amount, closing_day, columns_of, entry_rows, extension_rows, pledge_rows, secret_rows, terms_rows}
 use Rattle.pawn_csv.specs.declared.row.Row.{Row}
 use Rattle.pawn_csv.specs.declared.row.Version.TheVariants as version
@@ -150,8 +149,9 @@ fit_amount p closed.Open h total = tt
 fit_amount p (closed.Redeemed day paid) h total = subst IsShort (sym (h.1 ∙ ap (total_on p) h.0)) total
 fit_amount p (closed.Sold day net) h total = omega (arith, h.2)
 
-fit_columns : (terms : List Rates) (p : PledgeValue) → length terms ≤ 1000 → IsUnder terms p → IsStanding p → HasTextsAndWords p → first_day ≤ p.agreement.taken → AreColumns (columns_of p)
-fit_columns terms p few under h written from =
+fit_columns : (terms : List Rates) (p : PledgeValue) → length terms ≤ 1000 → IsUnder terms p → IsStanding p → HasTextsAndWords p → AreColumns (columns_of p)
+fit_columns terms p few under h written =
+    let from = written.taken.0 in
     let r = h.replayable in
     let last : IsStampDay p.standing.last = (omega (arith, from, r.last_in), h.within.last) in
     let version = few_versions terms p.agreement.version p.agreement.terms under in
@@ -168,8 +168,9 @@ fit_columns terms p few under h written from =
       amount = fit_amount p p.standing.closing r.closed (total_short p h);
     }
 
-fit_pledge : (terms : List Rates) (p : PledgeValue) → length terms ≤ 1000 → IsUnder terms p → IsStanding p → HasTextsAndWords p → first_day ≤ p.agreement.taken → Each Fits (pledge_rows p)
-fit_pledge terms p few under h written from =
+fit_pledge : (terms : List Rates) (p : PledgeValue) → length terms ≤ 1000 → IsUnder terms p → IsStanding p → HasTextsAndWords p → Each Fits (pledge_rows p)
+fit_pledge terms p few under h written =
+    let from = written.taken.0 in
     let n = p.agreement.number in
     let a = p.agreement in
     let r = h.replayable in
@@ -178,14 +179,14 @@ fit_pledge terms p few under h written from =
     let entries = fit_entries n 1 a.taken p.entries short r.entered.numbered (omega (arith, h.within.entries)) from r.entered.ordered (omega (arith, r.entered.before, h.within.last)) (all_pence (debt_of p) [] p.entries r.entered.accepted) in
     let extensions = fit_extensions n 1 a.taken (end_with a None) p.extensions short (omega (arith, h.within.extensions)) from r.extended.each h.within.untils in
     let booking = fit_booking p n p.standing.booking short from r.booked h.within.booking in (
-      fit_columns terms p few under h written from,
+      fit_columns terms p few under h written,
       each_both (secret_rows n 1 p.secrets) _ secrets (each_both (entry_rows n p.entries) _ entries (each_both (extension_rows n 1 p.extensions) (booking_rows n p.standing.booking) extensions booking)),
     )
 
-fit_pledges : (terms : List Rates) (ps : List PledgeValue) → length terms ≤ 1000 → Each (IsUnder terms) ps → Each IsStanding ps → Each HasTextsAndWords ps → Each IsTakenInTime ps → Each Fits (flat_map pledge_rows ps)
-fit_pledges terms [] few under h written from = tt
-fit_pledges terms (p ∷ ps) few under h written from =
-    each_both (pledge_rows p) (flat_map pledge_rows ps) (fit_pledge terms p few under.0 h.0 written.0 from.0) (fit_pledges terms ps few under.1 h.1 written.1 from.1)
+fit_pledges : (terms : List Rates) (ps : List PledgeValue) → length terms ≤ 1000 → Each (IsUnder terms) ps → Each IsStanding ps → Each HasTextsAndWords ps → Each Fits (flat_map pledge_rows ps)
+fit_pledges terms [] few under h written = tt
+fit_pledges terms (p ∷ ps) few under h written =
+    each_both (pledge_rows p) (flat_map pledge_rows ps) (fit_pledge terms p few under.0 h.0 written.0) (fit_pledges terms ps few under.1 h.1 written.1)
 
 -- ---- books
 
@@ -197,7 +198,7 @@ books_are_held v k h knows =
       (
         (omega (arith, r.few_terms), omega (arith, r.few_pledges)),
         each_both (terms_rows 1 k.terms) (flat_map pledge_rows k.pledges) (fit_terms 1 k.terms r.checked (omega (arith, r.few_terms)))
-            (fit_pledges k.terms k.pledges (omega (arith, r.few_terms)) r.under r.standing h.written h.taken),
+            (fit_pledges k.terms k.pledges (omega (arith, r.few_terms)) r.under r.standing h.written),
       ),
     )
 
@@ -205,6 +206,6 @@ pub texts_are_read : TextsAreRead
 texts_are_read k h = held_texts_are_read k (books_are_held version.Two k h tt)
 
 pub texts_of_hosts_are_read : TextsOfHostsAreRead
-texts_of_hosts_are_read h b book sound at taken =
+texts_of_hosts_are_read h b book sound at =
     let is = (sound.books b book at).1 in
-    texts_are_read (record { terms = book.terms; pledges = book.pledges }) (record { replayable = is.rows; written = is.written; taken = taken })
+    texts_are_read (record { terms = book.terms; pledges = book.pledges }) (record { replayable = is.rows; written = is.written })

@@ -2,7 +2,6 @@
 use Rattle.std.specs.Prelude.{◌≡◌, ◌≢◌, ℕ, List, Some}
 use Rattle.std.specs.FinMap.{get}
 use Rattle.csv.specs.Reading.{strip_bom}
-use Rattle.pawn_pledge.specs.Replayable.{Each}
 use Rattle.pawn_book.specs.BookStep.{BookValue, rows_of_book}
 use Rattle.pawn_book.specs.HostStep.{Host}
 use Rattle.pawn_book.specs.Sound.{IsSound}
@@ -11,7 +10,7 @@ use Rattle.pawn_csv.specs.declared.fault.Cause.{Cause}
 use Rattle.pawn_csv.specs.declared.fault.Cause.TheVariants as cause
 use Rattle.pawn_csv.specs.declared.row.Row.{Row}
 use Rattle.pawn_csv.specs.declared.row.Version.{Version}
-use Rattle.pawn_csv.specs.Reading.{CanBeWritten, IsFirstFault, IsHeldBy, IsReadAs, IsTakenInTime, IsTextOf}
+use Rattle.pawn_csv.specs.Reading.{CanBeWritten, IsFirstFault, IsHeldBy, IsReadAs, IsTextOf}
 use Rattle.pawn_csv.specs.Rows.{Fits, Knows, csv_of, row_fields}
 
 -- a book that can be written is one that a text can hold, in each version that knows what it has
@@ -22,10 +21,10 @@ BooksAreHeld = (version : Version) (k : BookRows) → CanBeWritten k → Knows v
 abbrev pub TextsAreRead : Type 0
 TextsAreRead = (k : BookRows) → CanBeWritten k → IsTextOf (strip_bom (csv_of k)) k
 
--- so is the text of each book of a sound host, whose pledges were taken in time
+-- so is the text of each book of a sound host
 abbrev pub TextsOfHostsAreRead : Type 0
 TextsOfHostsAreRead =
-    (h : Host) (b : ℕ) (book : BookValue) → IsSound h → get h.books b ≡ Some book → Each IsTakenInTime book.pledges
+    (h : Host) (b : ℕ) (book : BookValue) → IsSound h → get h.books b ≡ Some book
     → IsTextOf (strip_bom (csv_of (rows_of_book book))) (rows_of_book book)
 
 -- the records of a book's text are taken to their end, and make the book
