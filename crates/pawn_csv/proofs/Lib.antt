@@ -6,6 +6,8 @@ pub mod OrderLemmas
 pub mod BookLemmas
 pub mod RoundLemmas
 pub mod OneSpelling
+pub mod TakenLemmas
+pub mod FitLemmas
 pub mod OneReading
 pub mod OneBook
 pub mod SentLemmas

@@ -23,6 +23,7 @@ use Rattle.pawn_csv.specs.Order.{Begun}
 use Rattle.pawn_csv.specs.Reading.{AreTaken, IsReadAs}
 use Rattle.pawn_csv.specs.Rows.{closing_amount, closing_day, closing_word}
 use Rattle.pawn_csv.proofs.OneReading.{no_further, reached_on, taken_same}
+use Rattle.pawn_csv.proofs.TakenLemmas.{texts_are_read_as}
 
 abbrev word_place : ClosingWord → ℕ
 word_place closing.Open = 0
@@ -96,9 +97,12 @@ shorter text j k a b short =
     let begun = taken_same a.0 a.1 b.1 a.2 b.2 a.4 (subst (λ (x : List (List (List ℕ))). AreTaken x b.1 b.2) (sym same) b.4) in
     one_finish a.2 j k a.5 (subst (λ (s : Option Begun). IsFinishedAs s k) (sym begun) b.5)
 
-pub texts_hold_one_book : TextsHoldOneBook
-texts_hold_one_book text j k a b = from (nat_le (length a.0) (length b.0)) refl
+one_reading : (text : List ℕ) (j k : BookRows) → IsReadAs text j → IsReadAs text k → j ≡ k
+one_reading text j k a b = from (nat_le (length a.0) (length b.0)) refl
   where
     from : (v : Bool) → nat_le (length a.0) (length b.0) ≡ v → j ≡ k
     from true is = shorter text j k a b (grind (arith, nat_tests, is))
     from false is = sym (shorter text k j b a (grind (arith, nat_tests, is)))
+
+pub texts_hold_one_book : TextsHoldOneBook
+texts_hold_one_book text j k a b = one_reading text j k (texts_are_read_as text j a) (texts_are_read_as text k b)

@@ -16,9 +16,10 @@ use Rattle.pawn_csv.specs.declared.row.Row.{Row}
 use Rattle.pawn_csv.specs.Finishing.{IsBegunOf, IsFinishedAs, IsOfNoBook}
 use Rattle.pawn_csv.specs.Laws.{FirstFaultsAreOne, FirstFaultsExcludeBooks}
 use Rattle.pawn_csv.specs.Order.{Begun, is_whole, place, run, then_run}
-use Rattle.pawn_csv.specs.Reading.{AreTaken, EndsAs, IsFirstFault, IsNoRow, IsRefused, RefusesEnd, RefusesRow, Taking}
+use Rattle.pawn_csv.specs.Reading.{AreTaken, EndsAs, IsFirstFault, IsNoRow, IsReadAs, IsRefused, RefusesEnd, RefusesRow, Taking}
 use Rattle.pawn_csv.specs.Rows.{Fits, header, row_fields}
 use Rattle.pawn_csv.proofs.OneSpelling.{one_row}
+use Rattle.pawn_csv.proofs.TakenLemmas.{texts_are_read_as}
 
 -- records that were reached
 
@@ -292,8 +293,9 @@ pub no_further : (state : State) (rest : List ℕ) (more : List (List (List ℕ)
 no_further state rest [] s2 ys none on = refl
 no_further state rest (x ∷ more) s2 ys none on = let (p, next, is) = next_of default_config state rest x more s2 ys on in absurd (no_read p _ none next)
 
-pub first_faults_exclude_books : FirstFaultsExcludeBooks
-first_faults_exclude_books text c m k hc f read = from (nat_le (length f.before) (length read.0)) refl
+-- a text with a first fault is read as no book
+no_reading : (text : List ℕ) (c : Cause) (m : ℕ) (k : BookRows) → c ≢ cause.Memory → IsFirstFault text c m → IsReadAs text k → ⊥
+no_reading text c m k hc f read = from (nat_le (length f.before) (length read.0)) refl
   where
     from : (v : Bool) → nat_le (length f.before) (length read.0) ≡ v → ⊥
     from true is =
@@ -306,3 +308,6 @@ first_faults_exclude_books text c m k hc f read = from (nat_le (length f.before)
         let longer : length f.before < length read.0 + 1 = omega (arith, ap length same) in
         let short : length read.0 < length f.before = grind (arith, nat_tests, is) in
         absurd (omega (arith, short, ap length same))
+
+pub first_faults_exclude_books : FirstFaultsExcludeBooks
+first_faults_exclude_books text c m k hc f is = no_reading text c m k hc f (texts_are_read_as text k is)

@@ -1,17 +1,36 @@
 -- Laws of texts and of their rows.
-use Rattle.std.specs.Prelude.{◌≡◌, ◌≢◌, ℕ, List}
+use Rattle.std.specs.Prelude.{◌≡◌, ◌≢◌, ℕ, List, Some}
+use Rattle.std.specs.FinMap.{get}
 use Rattle.csv.specs.Reading.{strip_bom}
+use Rattle.pawn_pledge.specs.Replayable.{Each}
+use Rattle.pawn_book.specs.BookStep.{BookValue, rows_of_book}
+use Rattle.pawn_book.specs.HostStep.{Host}
+use Rattle.pawn_book.specs.Sound.{IsSound}
 use Rattle.pawn_book.specs.declared.rows.BookRows.{BookRows}
 use Rattle.pawn_csv.specs.declared.fault.Cause.{Cause}
 use Rattle.pawn_csv.specs.declared.fault.Cause.TheVariants as cause
 use Rattle.pawn_csv.specs.declared.row.Row.{Row}
-use Rattle.pawn_csv.specs.declared.row.Version.TheVariants as version
-use Rattle.pawn_csv.specs.Reading.{IsFirstFault, IsHeldBy, IsReadAs, IsTextOf}
-use Rattle.pawn_csv.specs.Rows.{Fits, csv_of, row_fields}
+use Rattle.pawn_csv.specs.declared.row.Version.{Version}
+use Rattle.pawn_csv.specs.Reading.{CanBeWritten, IsFirstFault, IsHeldBy, IsReadAs, IsTakenInTime, IsTextOf}
+use Rattle.pawn_csv.specs.Rows.{Fits, Knows, csv_of, row_fields}
 
--- the text of a book that a text can hold is a text of that book
+-- a book that can be written is one that a text can hold, in each version that knows what it has
+abbrev pub BooksAreHeld : Type 0
+BooksAreHeld = (version : Version) (k : BookRows) → CanBeWritten k → Knows version k → IsHeldBy version k
+
+-- the text of a book is a text of that book
 abbrev pub TextsAreRead : Type 0
-TextsAreRead = (k : BookRows) → IsHeldBy version.Two k → IsTextOf (strip_bom (csv_of k)) k
+TextsAreRead = (k : BookRows) → CanBeWritten k → IsTextOf (strip_bom (csv_of k)) k
+
+-- so is the text of each book of a sound host, whose pledges were taken in time
+abbrev pub TextsOfHostsAreRead : Type 0
+TextsOfHostsAreRead =
+    (h : Host) (b : ℕ) (book : BookValue) → IsSound h → get h.books b ≡ Some book → Each IsTakenInTime book.pledges
+    → IsTextOf (strip_bom (csv_of (rows_of_book book))) (rows_of_book book)
+
+-- the records of a book's text are taken to their end, and make the book
+abbrev pub TextsAreReadAs : Type 0
+TextsAreReadAs = (text : List ℕ) (k : BookRows) → IsTextOf text k → IsReadAs text k
 
 -- two rows with the same columns are one
 abbrev pub RowsHaveOneSpelling : Type 0
@@ -23,11 +42,11 @@ FirstFaultsAreOne =
     (text : List ℕ) (c d : Cause) (m n : ℕ) → c ≢ cause.Memory → d ≢ cause.Memory
     → IsFirstFault text c m → IsFirstFault text d n → (c ≡ d) × (m ≡ n)
 
--- a text with a first fault holds no book
+-- a text with a first fault is of no book
 abbrev pub FirstFaultsExcludeBooks : Type 0
 FirstFaultsExcludeBooks =
-    (text : List ℕ) (c : Cause) (m : ℕ) (k : BookRows) → c ≢ cause.Memory → IsFirstFault text c m → IsReadAs text k → ⊥
+    (text : List ℕ) (c : Cause) (m : ℕ) (k : BookRows) → c ≢ cause.Memory → IsFirstFault text c m → IsTextOf text k → ⊥
 
--- no text holds two books
+-- no text is of two books
 abbrev pub TextsHoldOneBook : Type 0
-TextsHoldOneBook = (text : List ℕ) (j k : BookRows) → IsReadAs text j → IsReadAs text k → j ≡ k
+TextsHoldOneBook = (text : List ℕ) (j k : BookRows) → IsTextOf text j → IsTextOf text k → j ≡ k

@@ -9,4 +9,5 @@ pub mod Reading
 pub mod Laws
 pub mod Sent
 pub mod Exports
+pub mod Imports
 pub mod WorkedTexts

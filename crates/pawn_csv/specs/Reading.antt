@@ -1,13 +1,16 @@
 -- What a text holds, and why it holds no book.
-use Rattle.std.specs.Prelude.{◌≡◌, ◌≢◌, ◌⊎◌, ℕ, ◌+◌, nat_eq, Bool, true, false, List, [], ◌∷◌, length, map, Option, None, Some, Result, Ok, Err}
+use Rattle.std.specs.Prelude.{◌≡◌, ◌≢◌, ◌⊎◌, ℕ, ◌+◌, ◌≤◌, nat_eq, Bool, true, false, List, [], ◌∷◌, length, map, Option, None, Some, Result, Ok, Err}
 use Rattle.csv.specs.Machine.{Read, next_record}
 use Rattle.csv.specs.Reading.{AreRecords, Reached, default_config}
 use Rattle.csv.specs.declared.error.ErrorKind.{ErrorKind}
 use Rattle.csv.specs.declared.error.ErrorKind.TheVariants as kind
 use Rattle.csv.specs.declared.parser.State.{State}
 use Rattle.csv.specs.declared.parser.State.TheVariants as st
+use Rattle.pawn_terms.specs.Limits.{first_day}
+use Rattle.pawn_pledge.specs.Pledge.{PledgeValue}
 use Rattle.pawn_pledge.specs.Replayable.{Each}
 use Rattle.pawn_book.specs.Rows.{AreReplayable}
+use Rattle.pawn_book.specs.Written.{HasTextsAndWords}
 use Rattle.pawn_book.specs.declared.rows.BookRows.{BookRows}
 use Rattle.pawn_csv.specs.declared.fault.Cause.{Cause}
 use Rattle.pawn_csv.specs.declared.fault.Cause.TheVariants as cause
@@ -20,6 +23,16 @@ use Rattle.pawn_csv.specs.Rows.{Fits, Knows, header, row_fields, rows_of, versio
 -- a book that a text of this version can hold: it can have come about, and each column can be spelled
 abbrev pub IsHeldBy : Version → BookRows → Type 0
 IsHeldBy version k = AreReplayable k.terms k.pledges × Knows version k × Each Fits (rows_of version k)
+
+-- a pledge was taken on a day that the calendar of requests has
+abbrev pub IsTakenInTime : PledgeValue → Type 0
+IsTakenInTime p = first_day ≤ p.agreement.taken
+
+-- a book that can be written: it can have come about, its texts are UTF-8, its secrets words, and its days such as columns tell
+pub record CanBeWritten (k : BookRows) : Type 0 where
+  pub replayable : AreReplayable k.terms k.pledges
+  pub written : Each HasTextsAndWords k.pledges
+  pub taken : Each IsTakenInTime k.pledges
 
 -- the records of this text are those of the book, in one of the versions
 abbrev pub IsTextOf : List ℕ → BookRows → Type 0

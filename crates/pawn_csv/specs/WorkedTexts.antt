@@ -1,16 +1,19 @@
 -- Rows worked out: what is taken, and what each that is refused is refused for.
-use Rattle.std.specs.Prelude.{◌≡◌, Bool, true, false, List, [], ◌∷◌, Option, None, Result, Ok, Err, codes}
+use Rattle.std.specs.Prelude.{◌≡◌, Bool, true, false, ℕ, List, [], ◌∷◌, map, Option, None, Some, Result, Ok, Err, codes}
+use Rattle.csv.specs.Writing.{default_writer, row_text}
 use Rattle.pawn_terms.specs.Worked.{date}
 use Rattle.pawn_debt.specs.Worked.{free}
 use Rattle.pawn_pledge.specs.Pledge.{PledgeValue}
 use Rattle.pawn_pledge.specs.Worked.{ring}
+use Rattle.pawn_pledge.specs.declared.record.BookingState.TheVariants.{Asked}
+use Rattle.pawn_pledge.specs.declared.record.Issue.{Issue}
 use Rattle.pawn_book.specs.declared.rows.BookRows.{BookRows}
 use Rattle.pawn_csv.specs.declared.fault.Cause.{Cause}
 use Rattle.pawn_csv.specs.declared.fault.Cause.TheVariants as cause
 use Rattle.pawn_csv.specs.declared.row.Row.{Row}
 use Rattle.pawn_csv.specs.declared.row.Version.TheVariants as version
 use Rattle.pawn_csv.specs.Order.{Begun, is_whole, run}
-use Rattle.pawn_csv.specs.Rows.{columns_of, row_fields, rows_of}
+use Rattle.pawn_csv.specs.Rows.{columns_of, csv1_rows, row_fields, rows_of}
 
 -- a ring whose period was made longer
 abbrev pub extended_ring : PledgeValue
@@ -23,6 +26,22 @@ ring_book = record { terms = free ∷ []; pledges = ring 10000 ∷ [] }
 
 abbrev pub extended_book : BookRows
 extended_book = record { terms = free ∷ []; pledges = extended_ring ∷ [] }
+
+-- a ring for which a declaration was tendered, and a booking asked for
+abbrev pub declared_ring : PledgeValue
+declared_ring =
+    let p = ring 10000 in
+    record p {
+      secrets = record { day = date 2024 1 31; sort = Issue.Opening; secret = 3 } ∷ record { day = date 2024 2 1; sort = Issue.Sworn; secret = 4 } ∷ [];
+      standing = record p.standing { last = date 2024 2 1; booking = Some (record { day = date 2024 2 10; window = 3; state = Asked }) };
+    }
+
+abbrev pub declared_book : BookRows
+declared_book = record { terms = free ∷ []; pledges = declared_ring ∷ [] }
+
+-- the lines of a text
+abbrev pub lines_of : List (List (List ℕ)) → List (List ℕ)
+lines_of records = map (row_text default_writer) records
 
 abbrev pub ended : Result (Option Begun) Cause → Result Bool Cause
 ended (Ok s) = Ok (is_whole s)
@@ -40,7 +59,22 @@ pub record WorkedTexts : Type 0 where
   pub pledge :
       row_fields (Row.Pledge (columns_of (ring 10000)))
       ≡ codes "P" ∷ codes "1" ∷ codes "A1" ∷ codes "Gold ring" ∷ codes "fixed" ∷ codes "10000" ∷ codes "2024-01-31" ∷ [] ∷ codes "no" ∷ codes "1" ∷ codes "no" ∷ codes "2024-01-31" ∷ codes "open" ∷ [] ∷ [] ∷ []
+  -- a whole book, line by line
+  pub example :
+      lines_of (csv1_rows declared_book)
+      ≡ codes "row,c1,c2,c3,c4,c5,c6,c7,c8,c9,c10,c11,c12,c13,c14\n"
+      ∷ codes "B,1,1,1,,,,,,,,,,,\n"
+      ∷ codes "T,1,0,0,0,,,,,,,,,,\n"
+      ∷ codes "P,1,A1,Gold ring,fixed,10000,2024-01-31,,no,1,no,2024-02-01,open,,\n"
+      ∷ codes "S,1,1,2024-01-31,opening,00000000-0000-0000-0000-000000000003,,,,,,,,,\n"
+      ∷ codes "S,1,2,2024-02-01,sworn,00000000-0000-0000-0000-000000000004,,,,,,,,,\n"
+      ∷ codes "K,1,2024-02-10,3,asked,,,,,,,,,,\n"
+      ∷ []
+  -- a column with a comma or a quote is quoted
+  pub quoted : row_text default_writer (codes "a,b" ∷ codes "\"" ∷ []) ≡ codes "\"a,b\",\"\"\"\"\n"
   -- the rows of a book may end
+  pub declared : comes_to (rows_of version.One declared_book) ≡ Ok true
+  pub unbooked : comes_to (rows_of version.One (record { terms = free ∷ []; pledges = record declared_ring { standing = record declared_ring.standing { booking = None } } ∷ [] })) ≡ Ok true
   pub whole : comes_to (rows_of version.Two ring_book) ≡ Ok true
   pub extended : comes_to (rows_of version.Two extended_book) ≡ Ok true
   -- the first version knows no extension

@@ -1,9 +1,13 @@
 //! Laws of texts and of their rows.
-ghost use Rattle.pawn_csv.specs.Laws.{FirstFaultsAreOne, FirstFaultsExcludeBooks, RowsHaveOneSpelling, TextsAreRead, TextsHoldOneBook};
+ghost use Rattle.pawn_csv.specs.Laws.{BooksAreHeld, FirstFaultsAreOne, FirstFaultsExcludeBooks, RowsHaveOneSpelling, TextsAreRead, TextsAreReadAs, TextsHoldOneBook, TextsOfHostsAreRead};
 
-/// The text of a book is a text of that book.
+/// The text of a book is a text of that book, so that of each book of a sound host. A text of a
+/// book is taken to its end as that book.
 pub fn laws_of_texts()
+    ensures held { BooksAreHeld }
     ensures read { TextsAreRead }
+    ensures hosts { TextsOfHostsAreRead }
+    ensures taken { TextsAreReadAs }
 {}
 
 /// Two rows with the same columns are one.

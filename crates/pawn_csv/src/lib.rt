@@ -5,6 +5,7 @@ mod columns;
 mod exporting;
 mod fault;
 mod finishing;
+mod importing;
 mod laws;
 mod order;
 mod reading;
@@ -16,9 +17,11 @@ mod writing;
 
 pub use exporting::{ExportFault, RowWriter, export};
 pub use fault::{Cause, CsvFault};
+pub use importing::import;
 pub use laws::{laws_of_texts, rows_have_one_spelling, texts_have_one_reading};
 pub use pawn_book::{
-    BookRows, Booking, Day, Entry, Extension, Issued, Opening, Rates, ReplayableRows,
+    BookRows, Booking, Day, Entry, Extension, Issued, Keep, Number, Opening, Rates, Refusal,
+    ReplayableRows, Reply, Secret, Stamp,
 };
 pub use reading::read_book;
 pub use row::{ClosingWord, PledgeColumns, Row, Version};

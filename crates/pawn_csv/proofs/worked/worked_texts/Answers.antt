@@ -1,15 +1,21 @@
 use Rattle.std.proofs.Common.{refl}
 use Rattle.std.specs.Fmt.{digits}
+use Rattle.uuid.specs.Text.{by_index}
+use Rattle.csv.specs.Writing.{escaped, fields_text, is_blank}
 use Rattle.pawn_terms.specs.Calendar.{civil_after, days_of_years, days_of_months}
 use Rattle.pawn_csv.proofs.worked.worked_texts.Goals as goal
 
 pub returns : goal.returns
-unfolding civil_after days_of_years days_of_months digits
+unfolding civil_after days_of_years days_of_months digits escaped fields_text is_blank by_index
 returns c = record {
   texts = record {
     terms = refl;
     extension = refl;
     pledge = refl;
+    example = refl;
+    quoted = refl;
+    declared = refl;
+    unbooked = refl;
     whole = refl;
     extended = refl;
     first_version = refl;

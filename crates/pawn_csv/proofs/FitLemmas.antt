@@ -1,0 +1,210 @@
+-- The rows of a book that can have come about can be spelled.
+use Rattle.std.proofs.Common.{◌≡◌, ◌∙◌, ◌+◌, ◌-◌, ◌*◌, ◌≤◌, ◌<◌, ℕ, zero, suc, Bool, true, false, List, [], ◌∷◌, ◌++◌, length, Option, Some, None, if◌then◌else◌, IsOk, Ok, sym, ap, subst, arith, nat_le, slice_get}
+use Rattle.std.specs.Prelude.{IfSome}
+use Rattle.std.specs.List.{flat_map}
+use Rattle.std.proofs.lemmas.Bool.Decides.{nat_tests}
+use Rattle.std.proofs.lemmas.Nat.{mul-le}
+use Rattle.pawn_terms.proofs.OrderLemmas.{last_by-le}
+use Rattle.pawn_terms.proofs.RefusalLemmas.{first_of-is_ok}
+use Rattle.pawn_terms.specs.Calendar.{IsStampDay}
+use Rattle.pawn_terms.specs.Limits.{first_day, last_stamp_day}
+use Rattle.pawn_terms.specs.Order.{DoNotFall, last_by}
+use Rattle.pawn_terms.specs.Terms.{IsChecked}
+use Rattle.pawn_terms.specs.declared.terms.Rates.{Rates}
+use Rattle.pawn_debt.proofs.Bounds.{accepted-bounded}
+use Rattle.pawn_debt.proofs.DueLemmas.{after_days-principal}
+use Rattle.pawn_debt.proofs.EntryLemmas.{due-from-last}
+use Rattle.pawn_debt.specs.Answers.{draw_rows, is_bad_amount, repay_rows, with_entry}
+use Rattle.pawn_debt.specs.Due.{AreOrdered, DebtValue, Due, after_days, due, keep_on, last_of}
+use Rattle.pawn_debt.specs.Limits.{most_a_day, most_pence}
+use Rattle.pawn_debt.specs.Replay.{AreAccepted, sort_answer}
+use Rattle.pawn_debt.specs.declared.entry.Entry.{Entry}
+use Rattle.pawn_debt.specs.declared.entry.Sort.{Sort}
+use Rattle.pawn_debt.specs.declared.entry.Sort.TheVariants.{Draw, Repay}
+use Rattle.pawn_pledge.specs.Pledge.{PledgeValue, debt_of, end_with, total_on}
+use Rattle.pawn_pledge.specs.Replayable.{AreExtended, AreNumbered, Each, IsBooked, IsClosed, IsStanding}
+use Rattle.pawn_pledge.specs.declared.record.Booking.{Booking}
+use Rattle.pawn_pledge.specs.declared.record.Closing.{Closing}
+use Rattle.pawn_pledge.specs.declared.record.Closing.TheVariants as closed
+use Rattle.pawn_pledge.specs.declared.record.Extension.{Extension}
+use Rattle.pawn_pledge.specs.declared.record.Issued.{Issued}
+use Rattle.pawn_book.specs.Rows.{IsUnder, terms_at}
+use Rattle.pawn_book.specs.Written.{AreWords, HasTextsAndWords}
+use Rattle.pawn_csv.specs.Laws.{BooksAreHeld, TextsAreRead, TextsOfHostsAreRead}
+use Rattle.pawn_csv.specs.Reading.{IsTakenInTime}
+use Rattle.pawn_csv.specs.Rows.{AreColumns, Fits, IsShort, booking_rows, closing_amount, closing_day, columns_of, entry_rows, extension_rows, pledge_rows, secret_rows, terms_rows}
+use Rattle.pawn_csv.specs.declared.row.Row.{Row}
+use Rattle.pawn_csv.specs.declared.row.Version.TheVariants as version
+use Rattle.pawn_csv.proofs.RoundLemmas.{held_texts_are_read}
+
+each_both : (xs ys : List Row) → Each Fits xs → Each Fits ys → Each Fits (xs ++ ys)
+each_both [] ys hx hy = hy
+each_both (x ∷ xs) ys hx hy = (hx.0, each_both xs ys hx.1 hy)
+
+-- ---- sums
+
+few_pence : (pence : ℕ) → is_bad_amount pence ≡ false → IsShort pence
+few_pence pence h = let few : pence ≤ most_pence = grind (arith, nat_tests, h) in omega (arith, few)
+
+-- what the rules accept is a sum of at most a million pounds
+accepted_pence : (s : Sort) (d : DebtValue) (x pence : ℕ) → IsOk (sort_answer s d x pence) → IsShort pence
+accepted_pence Draw d x pence h = few_pence pence ((first_of-is_ok (draw_rows d x pence) (Ok (with_entry d x Draw pence)) h).0.1.1.0)
+accepted_pence Repay d x pence h = few_pence pence ((first_of-is_ok (repay_rows d x pence) (Ok (with_entry d x Repay pence)) h).0.1.0)
+
+all_pence : (d : DebtValue) (prior es : List Entry) → AreAccepted d prior es → Each (λ e. IsShort e.pence) es
+all_pence d prior [] h = tt
+all_pence d prior (e ∷ es) h = (accepted_pence e.sort (record d { entries = prior }) e.day e.pence h.0.1, all_pence d (prior ++ e ∷ []) es h.1)
+
+keep_small : (t : Rates) (ends x : ℕ) → IsChecked t → keep_on t ends x ≤ 10000000
+keep_small t ends x h = from (nat_le x ends)
+  where
+    from : (b : Bool) → (if b then t.keep_before else t.keep_after) ≤ 10000000
+    from true = h.1
+    from false = omega (arith, h.1, h.2)
+
+-- days without entries add no more than the most a day
+days_small : (t : Rates) (ends x n : ℕ) (o : Due) → IsChecked t → o.principal ≤ most_pence → (after_days t ends x n o).millionths ≤ o.millionths + n * most_a_day
+unfolding after_days
+days_small t ends x zero o h small = omega arith
+days_small t ends x (suc n) o h small =
+    let less = days_small t ends x n o h small in
+    let same = after_days-principal t ends x n o in
+    let interest : (after_days t ends x n o).principal * t.rate ≤ 100000000 * 20000 = mul-le _ _ 100000000 20000 (omega (arith, same, small)) h.0 in
+    let keep = keep_small t ends (x + suc n) h in
+    omega (arith, less, interest, keep)
+
+-- what is owing on a pledge's last day has twelve digits
+total_short : (p : PledgeValue) → IsStanding p → IsShort (total_on p p.standing.last)
+total_short p h =
+    let d = debt_of p in
+    let x = p.standing.last in
+    let entered = h.replayable.entered in
+    let credit = h.replayable.credit.1 in
+    let bounded = accepted-bounded d h.terms credit entered.accepted in
+    let last = last_of d.taken d.entries in
+    let low = last_by-le (λ (e : Entry). e.day) d.taken d.entries entered.ordered in
+    let same = due-from-last d x entered.ordered entered.before in
+    let principal = after_days-principal d.terms d.ends last (x - last) (due d last) in
+    let small = days_small d.terms d.ends last (x - last) (due d last) h.terms bounded.principal in
+    let millionths : (due d x).millionths ≤ 84005 * 2000010000000 = omega (arith, ap (λ (o : Due). o.millionths) same, small, bounded.millionths, low, entered.before, h.within.last) in
+    let pence : (due d x).principal ≤ most_pence = omega (arith, ap (λ (o : Due). o.principal) same, principal, bounded.principal) in
+    omega (arith, millionths, pence)
+
+-- ---- the rows of terms
+
+fit_terms : (v : ℕ) (ts : List Rates) → Each IsChecked ts → v + length ts ≤ 1000 → Each Fits (terms_rows v ts)
+fit_terms v [] h few = tt
+fit_terms v (t ∷ ts) h few = ((omega (arith, few), omega (arith, h.0.0), omega (arith, h.0.1), omega (arith, h.0.1, h.0.2)), fit_terms (v + 1) ts h.1 (omega (arith, few)))
+
+-- ---- the rows of a pledge
+
+fit_secrets : (n k low : ℕ) (is : List Issued) → IsShort n → k + length is ≤ 1000 → first_day ≤ low → DoNotFall (λ i. i.day) low is → last_by (λ i. i.day) low is ≤ last_stamp_day → AreWords is
+    → Each Fits (secret_rows n k is)
+fit_secrets n k low [] hn few from ordered before words = tt
+fit_secrets n k low (i ∷ is) hn few from ordered before words =
+    let late = last_by-le (λ (i : Issued). i.day) i.day is ordered.1 in (
+      (hn, omega (arith, few), (omega (arith, from, ordered.0), omega (arith, late, before)), words.0),
+      fit_secrets n (k + 1) i.day is hn (omega (arith, few)) (omega (arith, from, ordered.0)) ordered.1 before words.1,
+    )
+
+fit_entries : (n k low : ℕ) (es : List Entry) → IsShort n → AreNumbered k es → k + length es ≤ 100000 → first_day ≤ low → AreOrdered low es → last_of low es ≤ last_stamp_day → Each (λ e. IsShort e.pence) es
+    → Each Fits (entry_rows n es)
+fit_entries n k low [] hn numbered few from ordered before pence = tt
+fit_entries n k low (e ∷ es) hn numbered few from ordered before pence =
+    let late = last_by-le (λ (e : Entry). e.day) e.day es ordered.1 in (
+      (hn, omega (arith, numbered.0, few), (omega (arith, from, ordered.0), omega (arith, late, before)), pence.0),
+      fit_entries n (k + 1) e.day es hn numbered.1 (omega (arith, few)) (omega (arith, from, ordered.0)) ordered.1 before pence.1,
+    )
+
+fit_extensions : (n k low ends : ℕ) (xs : List Extension) → IsShort n → k + length xs ≤ 1000 → first_day ≤ low → AreExtended low ends xs → Each (λ e. e.until ≤ last_stamp_day) xs
+    → Each Fits (extension_rows n k xs)
+fit_extensions n k low ends [] hn few from extended untils = tt
+fit_extensions n k low ends (e ∷ es) hn few from extended untils = (
+  (hn, omega (arith, few), (omega (arith, from, extended.0), omega (arith, extended.1, extended.2, untils.0)), (omega (arith, from, extended.0, extended.1, extended.2), untils.0)),
+  fit_extensions n (k + 1) e.day e.until es hn (omega (arith, few)) (omega (arith, from, extended.0)) extended.3 untils.1,
+)
+
+fit_booking : (p : PledgeValue) (n : ℕ) (o : Option Booking) → IsShort n → first_day ≤ p.agreement.taken → IsBooked p o → IfSome o (λ b. b.day ≤ last_stamp_day) → Each Fits (booking_rows n o)
+fit_booking p n None hn from booked before = tt
+fit_booking p n (Some b) hn from booked before = ((hn, (omega (arith, from, booked.0), before), omega (arith, booked.2)), tt)
+
+-- ---- the row of a pledge
+
+-- the version of terms that stand
+few_versions : (terms : List Rates) (v : ℕ) (t : Rates) → terms_at terms v ≡ Some t → v ≤ length terms
+few_versions terms zero t h = omega arith
+few_versions terms (suc n) t h = let there = at terms n h in omega (arith, there)
+  where
+    at : (ts : List Rates) (n : ℕ) → slice_get ts n ≡ Some t → n < length ts
+    at [] n h = cc
+    at (x ∷ ts) zero h = omega arith
+    at (x ∷ ts) (suc n) h = let less = at ts n h in omega (arith, less)
+
+fit_closing_day : (p : PledgeValue) (c : Closing) → IsClosed p c → IsStampDay p.standing.last → IfSome (closing_day c) IsStampDay
+fit_closing_day p closed.Open h last = tt
+fit_closing_day p (closed.Redeemed day paid) h last = subst IsStampDay (sym h.0) last
+fit_closing_day p (closed.Sold day net) h last = subst IsStampDay (sym h.0) last
+
+fit_amount : (p : PledgeValue) (c : Closing) → IsClosed p c → IsShort (total_on p p.standing.last) → IfSome (closing_amount c) IsShort
+fit_amount p closed.Open h total = tt
+fit_amount p (closed.Redeemed day paid) h total = subst IsShort (sym (h.1 ∙ ap (total_on p) h.0)) total
+fit_amount p (closed.Sold day net) h total = omega (arith, h.2)
+
+fit_columns : (terms : List Rates) (p : PledgeValue) → length terms ≤ 1000 → IsUnder terms p → IsStanding p → HasTextsAndWords p → first_day ≤ p.agreement.taken → AreColumns (columns_of p)
+fit_columns terms p few under h written from =
+    let r = h.replayable in
+    let last : IsStampDay p.standing.last = (omega (arith, from, r.last_in), h.within.last) in
+    let version = few_versions terms p.agreement.version p.agreement.terms under in
+    record {
+      number = omega (arith, h.within.number.1);
+      opening = h.within.opening;
+      reference = written.reference;
+      article = written.article;
+      credit = omega (arith, r.credit.1);
+      taken = (from, omega (arith, r.last_in, h.within.last));
+      version = omega (arith, version, few);
+      last = last;
+      closing_day = fit_closing_day p p.standing.closing r.closed last;
+      amount = fit_amount p p.standing.closing r.closed (total_short p h);
+    }
+
+fit_pledge : (terms : List Rates) (p : PledgeValue) → length terms ≤ 1000 → IsUnder terms p → IsStanding p → HasTextsAndWords p → first_day ≤ p.agreement.taken → Each Fits (pledge_rows p)
+fit_pledge terms p few under h written from =
+    let n = p.agreement.number in
+    let a = p.agreement in
+    let r = h.replayable in
+    let short : IsShort n = omega (arith, h.within.number.1) in
+    let secrets = fit_secrets n 1 a.taken p.secrets short (omega (arith, h.within.secrets)) from r.issued.ordered (omega (arith, r.issued.before, h.within.last)) written.secrets in
+    let entries = fit_entries n 1 a.taken p.entries short r.entered.numbered (omega (arith, h.within.entries)) from r.entered.ordered (omega (arith, r.entered.before, h.within.last)) (all_pence (debt_of p) [] p.entries r.entered.accepted) in
+    let extensions = fit_extensions n 1 a.taken (end_with a None) p.extensions short (omega (arith, h.within.extensions)) from r.extended.each h.within.untils in
+    let booking = fit_booking p n p.standing.booking short from r.booked h.within.booking in (
+      fit_columns terms p few under h written from,
+      each_both (secret_rows n 1 p.secrets) _ secrets (each_both (entry_rows n p.entries) _ entries (each_both (extension_rows n 1 p.extensions) (booking_rows n p.standing.booking) extensions booking)),
+    )
+
+fit_pledges : (terms : List Rates) (ps : List PledgeValue) → length terms ≤ 1000 → Each (IsUnder terms) ps → Each IsStanding ps → Each HasTextsAndWords ps → Each IsTakenInTime ps → Each Fits (flat_map pledge_rows ps)
+fit_pledges terms [] few under h written from = tt
+fit_pledges terms (p ∷ ps) few under h written from =
+    each_both (pledge_rows p) (flat_map pledge_rows ps) (fit_pledge terms p few under.0 h.0 written.0 from.0) (fit_pledges terms ps few under.1 h.1 written.1 from.1)
+
+-- ---- books
+
+pub books_are_held : BooksAreHeld
+books_are_held v k h knows =
+    let r = h.replayable in (
+      r,
+      knows,
+      (
+        (omega (arith, r.few_terms), omega (arith, r.few_pledges)),
+        each_both (terms_rows 1 k.terms) (flat_map pledge_rows k.pledges) (fit_terms 1 k.terms r.checked (omega (arith, r.few_terms)))
+            (fit_pledges k.terms k.pledges (omega (arith, r.few_terms)) r.under r.standing h.written h.taken),
+      ),
+    )
+
+pub texts_are_read : TextsAreRead
+texts_are_read k h = held_texts_are_read k (books_are_held version.Two k h tt)
+
+pub texts_of_hosts_are_read : TextsOfHostsAreRead
+texts_of_hosts_are_read h b book sound at taken =
+    let is = (sound.books b book at).1 in
+    texts_are_read (record { terms = book.terms; pledges = book.pledges }) (record { replayable = is.rows; written = is.written; taken = taken })

@@ -1,0 +1,10 @@
+-- What an import asks of a book.
+use Rattle.std.specs.Prelude.{ℕ}
+use Rattle.pawn_book.specs.declared.request.BrokerRequest.TheVariants.{Import}
+use Rattle.pawn_book.specs.declared.request.Caller.TheVariants.{Broker}
+use Rattle.pawn_book.specs.declared.request.Request.{Request}
+use Rattle.pawn_book.specs.declared.rows.BookRows.{BookRows}
+
+-- by the book's key: to make these rows its terms and pledges, under a key of their own
+abbrev pub import_of : ℕ → ℕ → ℕ → BookRows → Request
+import_of book broker key rows = record { book = book; caller = Broker broker (Import key rows) }

@@ -1,0 +1,41 @@
+//! Putting rows into a book.
+ghost use Rattle.std.specs.Prelude.{ℕ};
+ghost use Rattle.pawn_book.specs.HostStep.{Host};
+ghost use Rattle.pawn_book.specs.Keeping.{GoesOn, IsQuiet, Of};
+ghost use Rattle.pawn_book.specs.Plans.{Acts, IsLeftByAct};
+ghost use Rattle.pawn_csv.specs.Imports.{import_of};
+
+use pawn_book::{
+    BrokerRequest, Caller, Keep, Number, Refusal, Reply, ReplayableRows, Request, Secret, Stamp,
+    act,
+};
+use std::alloc::Global;
+
+/// Makes rows the terms and pledges of an empty book, under a key of their own, for the holder of
+/// the book's key `broker`. The same import again is told as it was the first time, whatever rows
+/// come with it.
+///
+/// Refused in this order: `NoSuchBook` where the book does not stand or the key is another's;
+/// `BookNotEmpty` where terms, pledges or another import stand; `Full` where the rows of all books
+/// would be above the limit. `Memory` and `Store` as the keeper answers. No refusal changes
+/// anything.
+pub fn import<K: Keep>(
+    alloc: Global,
+    keep: &mut K,
+    stamp: &Stamp,
+    book: Number,
+    broker: Secret,
+    key: Secret,
+    rows: ReplayableRows,
+) -> Result<Reply, Refusal>
+    ensures on { GoesOn K.keeping keep.old keep.new }
+    ensures acts { (operator : ℕ) → Of K.keeping keep.old keep.new (λ h. Acts h operator stamp.now (import_of book broker key rows) result (K.keeping.stands keep.new)) }
+    ensures crash { (operator : ℕ) → Of K.keeping keep.old keep.new (λ h. (left : Host) → K.keeping.leaves keep.new left
+        → IsLeftByAct h operator stamp.now (import_of book broker key rows) (K.keeping.leaves keep.old) result left) }
+    ensures steady { IsQuiet K.keeping keep.old result }
+{
+    let asked = BrokerRequest::Import { key, rows };
+    let caller = Caller::Broker { key: broker, asked };
+    // Whoever the operator is: the book's own key is asked for.
+    act(alloc, keep, broker, stamp, &Request { book, caller })
+}
