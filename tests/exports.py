@@ -99,7 +99,7 @@ def a_book_goes_out_and_into_another():
 def both_forms_are_read():
     with Server() as server:
         session = server.session()
-        for book in range(7, 10):
+        for book in range(7, 11):
             make_book(session, book)
         session.close()
         expect("the first form", put(server, 7, EXAMPLE), b'{"imported":1}')
@@ -109,6 +109,8 @@ def both_forms_are_read():
         marked = "\ufeff" + EXTENDED.replace("\n", "\r\n").removesuffix("\r\n")
         expect("a mark, other line ends, and none at the end", put(server, 9, marked), b'{"imported":1}')
         expect("it is exported as the others", export(server, 9).decode(), EXTENDED)
+        shorter = "".join(EXAMPLE.splitlines(keepends=True)[:-1])
+        expect("a pledge without its booking, which no count names", put(server, 10, shorter), b'{"imported":1}')
 
 
 def fault(code, name, row):
@@ -125,6 +127,9 @@ def changed_rows_are_refused():
         ("a window that there is not", EXAMPLE.replace("K,1,2024-02-10,3,", "K,1,2024-02-10,16,"), fault(605, "NotReplayable", 8)),
         ("a leading zero", EXAMPLE.replace("K,1,2024-02-10,3,", "K,1,2024-02-10,03,"), fault(603, "BadField", 7)),
         ("one column less", "".join([*lines[:2], lines[2].replace(",\n", "\n"), *lines[3:]]), fault(601, "Csv", 3)),
+        ("nothing from the pledge on", "".join(lines[:3]), fault(604, "Order", 4)),
+        ("no secrets and no booking", "".join(lines[:4]), fault(604, "Order", 5)),
+        ("a day that there is not", EXAMPLE.replace("K,1,2024-02-10,", "K,1,2024-02-30,"), fault(603, "BadField", 7)),
         ("no header", "".join(lines[1:]), fault(602, "Columns", 1)),
         ("nothing", "", fault(602, "Columns", 1)),
         ("two first rows", "".join([*lines[:2], *lines[1:]]), fault(604, "Order", 3)),
