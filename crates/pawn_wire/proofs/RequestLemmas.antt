@@ -1,5 +1,5 @@
 -- On requests.
-use Rattle.std.proofs.Common.{◌≡◌, ℕ, ◌+◌, ◌-◌, ◌≤◌, List, [], ◌++◌, length, map, take, drop, refl, subst, transport, sym, ap, ◌∙◌, arith, append-nil, length-append, length-drop, min, Result, Ok, Err, inl, inr}
+use Rattle.std.proofs.Common.{◌≡◌, ℕ, ◌+◌, ◌-◌, ◌≤◌, List, [], ◌++◌, length, map, take, drop, refl, subst, sym, ap, ◌∙◌, arith, append-nil, length-append, length-drop, min, Result, Ok, Err, inl, inr}
 use Rattle.std.proofs.lemmas.List.{take-append-drop, drop-append-le}
 use Rattle.std.proofs.Math.Seq.{take-append-add, take-length}
 use Rattle.httparse.specs.Grammar.{RequestHead, print_request, HasNoRequest}
@@ -18,6 +18,7 @@ use Rattle.pawn_csv.specs.declared.fault.CsvFault.{CsvFault}
 use Rattle.pawn_book.specs.declared.rows.BookRows.{BookRows}
 use Rattle.pawn_book.specs.declared.request.Caller.TheVariants.{Broker}
 use Rattle.pawn_book.specs.declared.request.BrokerRequest.TheVariants.{Import}
+use Rattle.pawn_wire.specs.Fields.{Pair}
 use Rattle.pawn_wire.specs.Fault.{fault_by, text_fault}
 use Rattle.pawn_wire.specs.declared.asking.Asks.{Asks}
 use Rattle.pawn_wire.specs.declared.asking.Asks.TheVariants as asks
@@ -71,7 +72,7 @@ pub said_by_spans : (s : List ℕ) (n : ℕ) (headers : List HeaderSpan) (r : Re
     → OrMemory (IsOutlined (take (length s - r.len) (drop r.len s)) (outline_by (span_bytes (take n s) r.method) (span_bytes (take n s) r.path) (map (header_bytes (take n s)) (take r.headers headers)) (take (length s - r.len) (drop r.len s)))) answer
     → OrMemory (IsOutlined (drop r.len (take n s) ++ drop n s) (outline_by h.method h.target (fields_of h) (drop r.len (take n s) ++ drop n s))) answer
 said_by_spans s n headers r h answer at fits said =
-    transport (λ i. OrMemory (IsOutlined (rest i) (outline_by (at.method i) (at.path i) (at.fields i) (rest i))) answer) said
+    subst (λ (q : List ℕ × List ℕ × List Pair × List ℕ). OrMemory (IsOutlined q.3 (outline_by q.0 q.1 q.2 q.3)) answer) (λ i. (at.method i, at.path i, at.fields i, rest i)) said
   where
     rest : take (length s - r.len) (drop r.len s) ≡ drop r.len (take n s) ++ drop n s
     rest =
@@ -128,7 +129,7 @@ pub reads_unique : (s : List ℕ) (a b : Result Request WireFault) → Reads s a
 reads_unique s a b (inl x) (inl y) =
     let same = request_unique s x.0 y.0 x.1 y.1 x.2.0 y.2.0 in
     outlined_once y.1 (outline_by y.0.method y.0.target (fields_of y.0) y.1) a b
-    (transport (λ i. IsOutlined (same.1 i) (outline_by (same.0 i).method (same.0 i).target (fields_of (same.0 i)) (same.1 i)) a) x.3) y.3
+    (subst (λ (q : RequestHead × List ℕ). IsOutlined q.1 (outline_by q.0.method q.0.target (fields_of q.0) q.1) a) (λ i. (same.0 i, same.1 i)) x.3) y.3
 reads_unique s a b (inl x) (inr y) = absurd (y.0 x.0 x.1 x.2)
 reads_unique s a b (inr x) (inl y) = absurd (x.0 y.0 y.1 y.2)
 reads_unique s a b (inr x) (inr y) = x.1 ∙ sym y.1
