@@ -11,9 +11,7 @@ use crate::fields::{Fields, Found};
 use crate::place::{Item, Place};
 use crate::route::{Action, Endpoint};
 use crate::{body, commands, member, receipts};
-use pawn_book::{
-    BearerCommand, BearerRequest, BrokerCommand, BrokerRequest, Caller, Secret,
-};
+use pawn_book::{BearerCommand, BearerRequest, BrokerCommand, BrokerRequest, Caller, Secret};
 use std::alloc::Global;
 
 /// What is sent beside a target.
@@ -166,10 +164,7 @@ fn command_receipt(alloc: Global, action: Action, sent: &Sent<'_>) -> Result<Ask
     let command = BearerCommand::try_from(command)
         .ok()
         .ok_or(WireFault::BadBody)?;
-    Ok(Asks::Whole(Caller::Bearer(BearerRequest::OnPledge {
-        receipt,
-        command,
-    })))
+    Ok(Asks::Whole(Caller::Bearer(BearerRequest::OnPledge { receipt, command })))
 }
 
 // Who asks at an endpoint, and what for.

@@ -61,12 +61,7 @@ fn refusal_with_total(
     format!(in alloc; "{{\"code\":{code},\"name\":\"{name}\",\"total\":{total}}}")
 }
 
-fn refusal_with_row(
-    alloc: Global,
-    code: u16,
-    name: &str,
-    row: u64,
-) -> Result<String, AllocError>
+fn refusal_with_row(alloc: Global, code: u16, name: &str, row: u64) -> Result<String, AllocError>
     ensures text { IfOk result (λ s. string_bytes s ≡ refusal_text code name.now (Some (Row row))) }
 {
     format!(in alloc; "{{\"code\":{code},\"name\":\"{name}\",\"row\":{row}}}")
