@@ -7,7 +7,8 @@ usage: bench/requests.py [PROGRAM]     (default: the program that `rt run` built
 A stream has at most 1,000 requests, so a run is one book, its terms, and up to 998 openings, views
 or repayments. What a view costs is the time of 499 openings and 499 views less that of 499 openings,
 and so for sheets of a day on which nobody comes and of one on which all 499 periods end, for exports
-of the book, told for each pledge, and for repayments of one penny on each of 499 pledges. Repayments
+of the book and imports of it into other books, told for each pledge, and for repayments of one penny
+on each of 499 pledges. Repayments
 on one pledge are timed as its entries grow, each span less the one before it. Start and the reading
 of the stream are included where nothing is taken off.
 """
@@ -46,6 +47,11 @@ def sheet(day):
 
 def export():
     return request("GET", "/books/7/export", f"Pledge-Key: {BROKER}")
+
+
+def fill(book, rows):
+    yield request("POST", f"/books/{book}", f"Pledge-Key: {OPERATOR}", body=f'{{"capacity":2,"key":"{BROKER}","name":"High Street"}}')
+    yield request("POST", f"/books/{book}/import", f"Pledge-Key: {BROKER}", f"Import-Key: {BROKER}", body=rows)
 
 
 def repayment(receipt, seq):
@@ -94,6 +100,10 @@ def main():
     assert once.count(b"\nP,") == 499
     _, exports = answer(program, half + export() * 100)
     line("exports, for each pledge", 100 * 499, exports - half_time)
+    rows = once.decode().split("\r\n\r\n")[-1]
+    filled, imports = answer(program, b"".join(part for book in range(8, 108) for part in fill(book, rows)))
+    assert filled.count(b'{"imported":499}') == 100
+    line("imports, for each pledge", 100 * 499, imports)
     repaid, repayments = answer(program, half + b"".join(repayment(r, 1) for r in receipts(replies)))
     assert repaid.count(b'"sort":"repay"') == 499
     line("repayments, one a pledge", 499, repayments - half_time)

@@ -7,6 +7,7 @@ the period and the receipt are those of this run in place of the README's.
 import os
 import re
 import subprocess
+import tempfile
 
 from service import TOP, Failed, Server, expect, main, six_months_after, today
 
@@ -34,14 +35,14 @@ def the_first_screen():
     told_first = RECEIPT.search("\n".join(told for _, told in steps())).group()
     days = sorted(set(re.findall(r"\d{4}-\d\d-\d\d", "\n".join(told for _, told in steps()))))
     expect("the days that it names", len(days), 2)
-    with Server() as server:
+    with Server() as server, tempfile.TemporaryDirectory() as folder:
         shell, receipt = "", None
         for command, told in steps():
             command = command.replace(PORT, f"127.0.0.1:{server.port}")
             if command.startswith("RECEIPT="):
                 shell = f"RECEIPT={receipt}\n"
                 continue
-            ran = subprocess.run(["bash", "-c", shell + command], stdin=subprocess.DEVNULL, stdout=subprocess.PIPE, stderr=subprocess.DEVNULL, timeout=30)
+            ran = subprocess.run(["bash", "-c", shell + command], cwd=folder, stdin=subprocess.DEVNULL, stdout=subprocess.PIPE, stderr=subprocess.DEVNULL, timeout=30)
             said = ran.stdout.decode().strip("\n")
             receipt = next(iter(RECEIPT.findall(said)), receipt)
             told = told.replace(days[0], str(today())).replace(days[1], str(six_months_after(today())))

@@ -13,7 +13,7 @@ use pawn_view::Writing;
 use std::alloc::Global;
 use std::process::Abort;
 use std::test::Fail;
-use turns::{ROWS, day_turns, export_turns, turns};
+use turns::{ROWS, day_turns, export_turns, import_turns, turns};
 
 const ASKED: &[u8] = b"GET /books/7/held HTTP/1.1\r\nHost: x\r\n\r\n";
 
@@ -86,6 +86,17 @@ fn a_book_is_exported(rt: HostRuntime) -> Result<(), Fail> {
     let alloc = rt.alloc();
     let mut service = service(&rt, alloc);
     for turn in export_turns(&rt, alloc)?.iter() {
+        let answer = service.answer_one(&turn.stamp, turn.request.as_slice());
+        tells(&rt, &answer, turn.reply.as_slice());
+    }
+    Ok(())
+}
+
+#[test]
+fn the_rows_of_a_book_fill_another(rt: HostRuntime) -> Result<(), Fail> {
+    let alloc = rt.alloc();
+    let mut service = service(&rt, alloc);
+    for turn in import_turns(&rt, alloc)?.iter() {
         let answer = service.answer_one(&turn.stamp, turn.request.as_slice());
         tells(&rt, &answer, turn.reply.as_slice());
     }

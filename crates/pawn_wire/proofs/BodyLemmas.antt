@@ -7,6 +7,8 @@ use Rattle.serde_json.specs.Data.{object, no_members}
 use Rattle.serde_json.specs.Written.{compact_text}
 use Rattle.serde_json.proofs.OnLiterals.{serde_json_on_literals}
 use Rattle.pawn_wire.specs.Laws.{is_plain, number_member, text_member, refusal_members}
+use Rattle.pawn_wire.specs.declared.detail.Detail.{Detail}
+use Rattle.pawn_wire.specs.declared.detail.Detail.TheVariants.{Row, Total}
 use Rattle.pawn_wire.specs.Bodies.{opened_text, refusal_text}
 use Rattle.pawn_wire.proofs.DigitLemmas.{both_true}
 
@@ -31,10 +33,12 @@ unfolding serde_json_on_literals
 opened_text-json number receipt h =
     ap (λ (t : List ℕ). codes "{\"number\":" ++ (decimal number ++ (codes ",\"receipt\":\"" ++ t))) (quoted receipt (codes "}") h)
 
-pub refusal_text-json : (code : ℕ) (name : List ℕ) (total : Option ℕ) → IsTrue (is_plain name)
-    → refusal_text code name total ≡ compact_text (object (refusal_members code name total))
+pub refusal_text-json : (code : ℕ) (name : List ℕ) (detail : Option Detail) → IsTrue (is_plain name)
+    → refusal_text code name detail ≡ compact_text (object (refusal_members code name detail))
 unfolding serde_json_on_literals
 refusal_text-json code name None h =
     ap (λ (t : List ℕ). codes "{\"code\":" ++ (decimal code ++ (codes ",\"name\":\"" ++ t))) (quoted name (codes "}") h)
-refusal_text-json code name (Some total) h =
+refusal_text-json code name (Some (Total total)) h =
     ap (λ (t : List ℕ). codes "{\"code\":" ++ (decimal code ++ (codes ",\"name\":\"" ++ t))) (quoted name (codes ",\"total\":" ++ (decimal total ++ codes "}")) h)
+refusal_text-json code name (Some (Row row)) h =
+    ap (λ (t : List ℕ). codes "{\"code\":" ++ (decimal code ++ (codes ",\"name\":\"" ++ t))) (quoted name (codes ",\"row\":" ++ (decimal row ++ codes "}")) h)

@@ -7,7 +7,7 @@ use Rattle.std.proofs.lemmas.Bool.Decides.{nat_tests}
 use Rattle.std.proofs.lemmas.Grind.{common_steps}
 use Rattle.pawn_terms.specs.Calendar.{Civil, civil_of, civil_text, day_text}
 use Rattle.pawn_wire.specs.Laws.{is_plain}
-use Rattle.pawn_wire.specs.Request.{is_ascii_text}
+use Rattle.pawn_wire.specs.Place.{is_ascii_text}
 use Rattle.pawn_wire.proofs.DigitLemmas.{both_true}
 
 -- what digits and the hyphen pass, each byte of a day's text passes

@@ -1,5 +1,5 @@
 -- On requests.
-use Rattle.std.proofs.Common.{◌≡◌, ℕ, ◌+◌, ◌-◌, ◌≤◌, List, [], ◌++◌, length, map, take, drop, sym, ap, ◌∙◌, arith, append-nil, length-append, length-drop, min, Result, Ok, Err, inl, inr}
+use Rattle.std.proofs.Common.{◌≡◌, ℕ, ◌+◌, ◌-◌, ◌≤◌, List, [], ◌++◌, length, map, take, drop, refl, subst, sym, ap, ◌∙◌, arith, append-nil, length-append, length-drop, min, Result, Ok, Err, inl, inr}
 use Rattle.std.proofs.lemmas.List.{take-append-drop, drop-append-le}
 use Rattle.std.proofs.Math.Seq.{take-append-add, take-length}
 use Rattle.httparse.specs.Grammar.{RequestHead, print_request, HasNoRequest}
@@ -8,26 +8,71 @@ use Rattle.httparse.specs.declared.spans.HeaderSpan.{HeaderSpan}
 use Rattle.httparse.specs.declared.spans.RequestSpans.{RequestSpans}
 use Rattle.pawn_wire.specs.Head.{ReadsHead, fields_of}
 use Rattle.pawn_wire.specs.Limits.{max_head, max_fields}
-use Rattle.pawn_wire.specs.Chain.{Says}
+use Rattle.pawn_wire.specs.Chain.{OrMemory, after}
 use Rattle.pawn_wire.specs.declared.fault.WireFault.{WireFault}
-use Rattle.pawn_wire.specs.Request.{request_by, IsRead, Reads}
+use Rattle.csv.specs.Reading.{strip_bom}
+use Rattle.pawn_csv.specs.Reading.{IsFaultOf, IsFirstFault}
+use Rattle.pawn_csv.specs.declared.fault.Cause.{Cause}
+use Rattle.pawn_csv.specs.declared.fault.Cause.TheVariants as cause
+use Rattle.pawn_csv.specs.declared.fault.CsvFault.{CsvFault}
+use Rattle.pawn_book.specs.declared.rows.BookRows.{BookRows}
+use Rattle.pawn_book.specs.declared.request.Caller.TheVariants.{Broker}
+use Rattle.pawn_book.specs.declared.request.BrokerRequest.TheVariants.{Import}
+use Rattle.pawn_wire.specs.Fields.{Pair}
+use Rattle.pawn_wire.specs.Fault.{fault_by, text_fault}
+use Rattle.pawn_wire.specs.declared.asking.Asks.{Asks}
+use Rattle.pawn_wire.specs.declared.asking.Asks.TheVariants as asks
+use Rattle.pawn_wire.specs.declared.fault.WireFault.TheVariants.{Csv}
+use Rattle.pawn_wire.specs.declared.request.Outline.{Outline}
+use Rattle.pawn_wire.specs.Request.{HoldsRows, IsAsked, IsOutlined, IsRead, Reads, outline_by}
 use Rattle.pawn_book.specs.declared.request.Request.{Request}
+use Rattle.pawn_csv.proofs.OneBook.{texts_hold_one_book}
+use Rattle.pawn_csv.proofs.OneReading.{first_faults_are_one, first_faults_exclude_books}
 use Rattle.httparse.proofs.GrammarLemmas.{request_unique}
 use Rattle.pawn_wire.proofs.HeadLemmas.{overflows_on}
 
 pub is_read : (s : List ℕ) (r : Result Request WireFault) (h : RequestHead) (body : List ℕ) → ReadsHead s h body
-    → Says r (request_by h.method h.target (fields_of h) body) → IsRead s r
-is_read s (Ok v) h body x e = inl (h, body, x, sym e)
+    → OrMemory (IsOutlined body (outline_by h.method h.target (fields_of h) body)) r → IsRead s r
+is_read s (Ok v) h body x e = inl (h, body, x, e)
 is_read s (Err f) h body x (inl m) = inl m
-is_read s (Err f) h body x (inr e) = inr (inl (h, body, x, sym e))
+is_read s (Err f) h body x (inr e) = inr (inl (h, body, x, e))
+
+-- the request of an outline is the one that is sent
+pub outlined_by : (body : List ℕ) (said : Result Outline WireFault) (outline : Outline) (r : Result Request WireFault) → said ≡ Ok outline
+    → OrMemory (IsAsked body outline.book outline.asks) r → OrMemory (IsOutlined body said) r
+outlined_by body said outline r is asked = subst (λ (x : Result Outline WireFault). OrMemory (IsOutlined body x) r) (sym is) asked
+
+-- an import is asked for with the rows that its body holds
+pub asked_with : (body : List ℕ) (book key importing : ℕ) (held : Result BookRows WireFault) → OrMemory (HoldsRows body) held
+    → OrMemory (IsAsked body book (asks.Import key importing)) (after held (λ rows. Ok (record { book = book; caller = Broker key (Import importing rows) })))
+asked_with body book key importing (Ok rows) text = (Ok rows, text, refl)
+asked_with body book key importing (Err fault) (inl memory) = inl memory
+asked_with body book key importing (Err fault) (inr why) = inr (Err fault, why, refl)
+
+-- what a text is found to be, as what a body holds
+pub held_fault : (body : List ℕ) (fault : CsvFault) → IsFaultOf (strip_bom body) fault.cause fault.row → OrMemory {A = BookRows} (HoldsRows body) (Err (text_fault fault))
+held_fault body fault why = by_cause fault.cause refl why
+  where
+    not_memory : (c : Cause) → fault.cause ≡ c → (c ≡ cause.Memory → ⊥) → fault.cause ≡ cause.Memory → ⊥
+    not_memory c is other memory = other (sym is ∙ memory)
+
+    by_cause : (c : Cause) → fault.cause ≡ c → IsFaultOf (strip_bom body) c fault.row → OrMemory {A = BookRows} (HoldsRows body) (Err (fault_by c fault))
+    by_cause cause.Memory is why = inl refl
+    by_cause cause.Read is why = inl refl
+    by_cause cause.Csv is why = inr (fault, refl, not_memory cause.Csv is (λ e. cc), subst (λ c. IsFirstFault (strip_bom body) c fault.row) (sym is) why)
+    by_cause cause.Columns is why = inr (fault, refl, not_memory cause.Columns is (λ e. cc), subst (λ c. IsFirstFault (strip_bom body) c fault.row) (sym is) why)
+    by_cause cause.BadField is why = inr (fault, refl, not_memory cause.BadField is (λ e. cc), subst (λ c. IsFirstFault (strip_bom body) c fault.row) (sym is) why)
+    by_cause cause.Order is why = inr (fault, refl, not_memory cause.Order is (λ e. cc), subst (λ c. IsFirstFault (strip_bom body) c fault.row) (sym is) why)
+    by_cause cause.NotReplayable is why = inr (fault, refl, not_memory cause.NotReplayable is (λ e. cc), subst (λ c. IsFirstFault (strip_bom body) c fault.row) (sym is) why)
+    by_cause cause.TooMany is why = inr (fault, refl, not_memory cause.TooMany is (λ e. cc), subst (λ c. IsFirstFault (strip_bom body) c fault.row) (sym is) why)
 
 -- what the spans cover says what the head says
-pub said_by_spans : (s : List ℕ) (n : ℕ) (headers : List HeaderSpan) (r : RequestSpans) (h : RequestHead) → IsRequestAt (take n s) headers r h
+pub said_by_spans : (s : List ℕ) (n : ℕ) (headers : List HeaderSpan) (r : RequestSpans) (h : RequestHead) (answer : Result Request WireFault) → IsRequestAt (take n s) headers r h
     → r.len ≤ length (take n s)
-    → request_by (span_bytes (take n s) r.method) (span_bytes (take n s) r.path) (map (header_bytes (take n s)) (take r.headers headers)) (take (length s - r.len) (drop r.len s))
-    ≡ request_by h.method h.target (fields_of h) (drop r.len (take n s) ++ drop n s)
-said_by_spans s n headers r h at fits =
-    λ i. request_by (at.method i) (at.path i) (at.fields i) (rest i)
+    → OrMemory (IsOutlined (take (length s - r.len) (drop r.len s)) (outline_by (span_bytes (take n s) r.method) (span_bytes (take n s) r.path) (map (header_bytes (take n s)) (take r.headers headers)) (take (length s - r.len) (drop r.len s)))) answer
+    → OrMemory (IsOutlined (drop r.len (take n s) ++ drop n s) (outline_by h.method h.target (fields_of h) (drop r.len (take n s) ++ drop n s))) answer
+said_by_spans s n headers r h answer at fits said =
+    subst (λ (q : List ℕ × List ℕ × List Pair × List ℕ). OrMemory (IsOutlined q.3 (outline_by q.0 q.1 q.2 q.3)) answer) (λ i. (at.method i, at.path i, at.fields i, rest i)) said
   where
     rest : take (length s - r.len) (drop r.len s) ≡ drop r.len (take n s) ++ drop n s
     rest =
@@ -59,11 +104,32 @@ none_by_overflow s n over h body x =
     let k = overflows_on s n over [] h body (x.0.0, append-nil s ∙ x.0.1) in
     omega (arith, x.1)
 
+-- a body holds one book, or has one first fault
+held_once : (body : List ℕ) (a b : Result BookRows WireFault) → HoldsRows body a → HoldsRows body b → a ≡ b
+held_once body (Ok j) (Ok k) x y = ap Ok (texts_hold_one_book (strip_bom body) j k x y)
+held_once body (Ok j) (Err fault) x y = absurd (first_faults_exclude_books (strip_bom body) y.0.cause y.0.row j y.2 y.3 x)
+held_once body (Err fault) (Ok k) x y = absurd (first_faults_exclude_books (strip_bom body) x.0.cause x.0.row k x.2 x.3 y)
+held_once body (Err e) (Err f) x y =
+    let same = first_faults_are_one (strip_bom body) x.0.cause y.0.cause x.0.row y.0.row x.2 y.2 x.3 y.3 in
+    let csv : x.0 ≡ y.0 = λ i. record { cause = same.0 i; row = same.1 i } in
+    ap Err (x.1 ∙ ap Csv csv ∙ sym y.1)
+
+asked_once : (body : List ℕ) (book : ℕ) (asked : Asks) (a b : Result Request WireFault) → IsAsked body book asked a → IsAsked body book asked b → a ≡ b
+asked_once body book (asks.Whole caller) a b x y = x ∙ sym y
+asked_once body book (asks.Import key importing) a b x y =
+    let once = held_once body x.0 y.0 x.1 y.1 in
+    x.2 ∙ ap (λ held. after held (λ rows. Ok (record { book = book; caller = Broker key (Import importing rows) }))) once ∙ sym y.2
+
+outlined_once : (body : List ℕ) (said : Result Outline WireFault) (a b : Result Request WireFault) → IsOutlined body said a → IsOutlined body said b → a ≡ b
+outlined_once body (Ok outline) a b x y = asked_once body outline.book outline.asks a b x y
+outlined_once body (Err fault) a b x y = x ∙ sym y
+
 -- bytes say one thing
 pub reads_unique : (s : List ℕ) (a b : Result Request WireFault) → Reads s a → Reads s b → a ≡ b
 reads_unique s a b (inl x) (inl y) =
     let same = request_unique s x.0 y.0 x.1 y.1 x.2.0 y.2.0 in
-    x.3 ∙ (λ i. request_by (same.0 i).method (same.0 i).target (fields_of (same.0 i)) (same.1 i)) ∙ sym y.3
+    outlined_once y.1 (outline_by y.0.method y.0.target (fields_of y.0) y.1) a b
+    (subst (λ (q : RequestHead × List ℕ). IsOutlined q.1 (outline_by q.0.method q.0.target (fields_of q.0) q.1) a) (λ i. (same.0 i, same.1 i)) x.3) y.3
 reads_unique s a b (inl x) (inr y) = absurd (y.0 x.0 x.1 x.2)
 reads_unique s a b (inr x) (inl y) = absurd (x.0 y.0 y.1 y.2)
 reads_unique s a b (inr x) (inr y) = x.1 ∙ sym y.1

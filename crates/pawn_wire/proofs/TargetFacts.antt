@@ -28,4 +28,4 @@ fourth_targets = (refl, (refl, (refl, (refl, tt))))
 
 pub last_targets : Each IsTargetFound (drop 16 table)
 unfolding table_rows matchit_on_literals
-last_targets = (refl, (refl, (refl, tt)))
+last_targets = (refl, (refl, (refl, (refl, tt))))

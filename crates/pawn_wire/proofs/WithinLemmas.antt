@@ -17,6 +17,7 @@ use Rattle.pawn_pledge.specs.declared.command.Command.{Command}
 use Rattle.pawn_pledge.specs.Commands.{is_brokers, is_bearers}
 use Rattle.pawn_book.specs.Limits.{IsCapacity, AreFew, most_name_bytes}
 use Rattle.pawn_book.specs.declared.request.NewBook.{NewBook}
+use Rattle.pawn_book.specs.declared.rows.BookRows.{BookRows}
 use Rattle.pawn_book.specs.declared.request.Request.{Request}
 use Rattle.pawn_book.specs.declared.request.Caller.{Caller}
 use Rattle.pawn_book.specs.declared.request.Caller.TheVariants.{Operator, Broker, Bearer}
@@ -33,16 +34,21 @@ use Rattle.pawn_book.specs.Limits.{most_receipts}
 use Rattle.pawn_wire.specs.Member.{json_of, in_range, number_at, string_at, flag_at, if_text, text_at, key_at, day_at, body_said}
 use Rattle.pawn_wire.specs.Named.{number_said, day_said}
 use Rattle.pawn_wire.specs.Receipts.{is_hyphen, receipt_said, all_said, receipt_values, receipt_faults, receipts_said, one_said}
-use Rattle.pawn_wire.specs.Request.{framing_faults, place_of, place_asked, item_said, number_in, day_in, is_ascii_text, key_given, if_sent_by, caller_said, request_by, Reads}
+use Rattle.pawn_wire.specs.Asking.{asks_said, if_sent_by, key_given, key_of}
+use Rattle.pawn_wire.specs.Place.{day_in, is_ascii_text, item_said, number_in, place_asked, place_of}
+use Rattle.pawn_wire.specs.Request.{framing_faults, HoldsRows, IsAsked, IsOutlined, outline_by, Reads}
 use Rattle.pawn_wire.specs.Route.{AskedFor, route_of, method_of}
 use Rattle.pawn_wire.specs.declared.commands.NewEntry.{NewEntry}
 use Rattle.pawn_wire.specs.declared.fault.WireFault.{WireFault}
 use Rattle.pawn_wire.specs.declared.fault.WireFault.TheVariants.{NoRoute, WrongMethod, BadBody, BadReceipt, TooManyReceipts, NoReceipt}
-use Rattle.pawn_wire.specs.declared.request.Item.{Item}
-use Rattle.pawn_wire.specs.declared.request.Item.TheVariants.{Nothing, Pledge, Day}
-use Rattle.pawn_wire.specs.declared.request.Place.{Place}
+use Rattle.pawn_wire.specs.declared.asking.Asks.{Asks}
+use Rattle.pawn_wire.specs.declared.asking.Asks.TheVariants as asks
+use Rattle.pawn_wire.specs.declared.place.Item.{Item}
+use Rattle.pawn_wire.specs.declared.place.Item.TheVariants.{Nothing, Pledge, Day}
+use Rattle.pawn_wire.specs.declared.place.Place.{Place}
+use Rattle.pawn_wire.specs.declared.request.Outline.{Outline}
 use Rattle.pawn_wire.specs.declared.route.Endpoint.{Endpoint}
-use Rattle.pawn_wire.specs.declared.route.Endpoint.TheVariants.{Create, PutTerms, TakePledge, Show, OnPledge, ShowDay, Export, Present, OnReceipt}
+use Rattle.pawn_wire.specs.declared.route.Endpoint.TheVariants.{Create, PutTerms, TakePledge, Show, OnPledge, ShowDay, Export, Import, Present, OnReceipt}
 use Rattle.pawn_wire.specs.declared.route.Action.{Action}
 use Rattle.pawn_wire.specs.declared.route.Action.TheVariants.{Draw, Repay, Hold, Release, Declare, Ask, Cancel, Decide, Redeem, Sell, Extend}
 use Rattle.pawn_wire.proofs.NamedLemmas.{number_said-is, day_said-is}
@@ -242,44 +248,53 @@ day_in_within Nothing day within e = absurd cc
 day_in_within (Pledge n) day within e = absurd cc
 day_in_within (Day x) day within e = (let same : x ≡ day = cc in subst IsStampDay same within)
 
-caller_within : (endpoint : Endpoint) (item : Item) (fields : List Pair) (body : List ℕ) (caller : Caller) → IsItemWithin item
-    → caller_said endpoint item fields body ≡ Ok caller → IsCallerWithin caller
-caller_within Create item fields body caller within e =
-    let key = after_ok (key_given fields) _ caller e in
-    mapped IsCallerWithin (Operator key.0) (body_said new_book_of body) caller (or_fault_ok BadBody _ caller key.2)
+-- what is asked whole is within its limits
+abbrev AreAsksWithin : Asks → Type 0
+AreAsksWithin (asks.Whole caller) = IsCallerWithin caller
+AreAsksWithin (asks.Import key importing) = Unit {0}
+
+asks_within : (endpoint : Endpoint) (item : Item) (fields : List Pair) (body : List ℕ) (caller : Asks) → IsItemWithin item
+    → asks_said endpoint item fields body ≡ Ok caller → AreAsksWithin caller
+asks_within Create item fields body caller within e =
+    let key = after_ok (key_of fields) _ caller e in
+    mapped AreAsksWithin (λ new. asks.Whole (Operator key.0 new)) (body_said new_book_of body) caller (or_fault_ok BadBody _ caller key.2)
     (λ new is. of_body (λ (b : NewBook). IsText most_name_bytes b.name × IsCapacity b.capacity) new_book_of body new is (λ d. new_book_within d new))
-caller_within PutTerms item fields body caller within e =
-    let key = after_ok (key_given fields) _ caller e in
-    mapped IsCallerWithin (λ terms. Broker key.0 (broker.PutTerms terms)) (body_said new_terms_of body) caller (or_fault_ok BadBody _ caller key.2) (λ terms is. tt)
-caller_within TakePledge item fields body caller within e =
-    let key = after_ok (key_given fields) _ caller e in
-    mapped IsCallerWithin (λ opening. Broker key.0 (broker.TakePledge opening)) (body_said opening_of body) caller (or_fault_ok BadBody _ caller key.2)
+asks_within PutTerms item fields body caller within e =
+    let key = after_ok (key_of fields) _ caller e in
+    mapped AreAsksWithin (λ terms. asks.Whole (Broker key.0 (broker.PutTerms terms))) (body_said new_terms_of body) caller (or_fault_ok BadBody _ caller key.2) (λ terms is. tt)
+asks_within TakePledge item fields body caller within e =
+    let key = after_ok (key_of fields) _ caller e in
+    mapped AreAsksWithin (λ opening. asks.Whole (Broker key.0 (broker.TakePledge opening))) (body_said opening_of body) caller (or_fault_ok BadBody _ caller key.2)
     (λ opening is. of_body IsOpening opening_of body opening is (λ d. opening_within d opening))
-caller_within Show item fields body caller within e =
-    let key = after_ok (key_given fields) _ caller e in
-    mapped IsCallerWithin (λ number. Broker key.0 (broker.Show number)) (number_in item) caller (or_fault_ok BadBody _ caller key.2)
+asks_within Show item fields body caller within e =
+    let key = after_ok (key_of fields) _ caller e in
+    mapped AreAsksWithin (λ number. asks.Whole (Broker key.0 (broker.Show number))) (number_in item) caller (or_fault_ok BadBody _ caller key.2)
     (λ number is. number_in_within item number within is)
-caller_within (OnPledge action) item fields body caller within e =
-    let key = after_ok (key_given fields) _ caller e in
+asks_within (OnPledge action) item fields body caller within e =
+    let key = after_ok (key_of fields) _ caller e in
     let number = given_some (number_in item) _ caller (or_fault_ok BadBody _ caller key.2) in
-    mapped IsCallerWithin (λ command. Broker key.0 (broker.OnPledge number.0 command)) (and_then (command_said action body) (if_sent_by is_brokers)) caller number.2
+    mapped AreAsksWithin (λ command. asks.Whole (Broker key.0 (broker.OnPledge number.0 command))) (and_then (command_said action body) (if_sent_by is_brokers)) caller number.2
     (λ command is.
     let said = given_some (command_said action body) (if_sent_by is_brokers) command is in
     (number_in_within item number.0 within number.1, subst IsCommandWithin (sent_is is_brokers said.0 command said.2) (command_within action body said.0 said.1)))
-caller_within ShowDay item fields body caller within e =
-    let key = after_ok (key_given fields) _ caller e in
-    mapped IsCallerWithin (λ day. Broker key.0 (broker.SheetOf day)) (day_in item) caller (or_fault_ok BadBody _ caller key.2)
+asks_within ShowDay item fields body caller within e =
+    let key = after_ok (key_of fields) _ caller e in
+    mapped AreAsksWithin (λ day. asks.Whole (Broker key.0 (broker.SheetOf day))) (day_in item) caller (or_fault_ok BadBody _ caller key.2)
     (λ day is. day_in_within item day within is)
-caller_within Export item fields body caller within e =
-    let key = after_ok (key_given fields) _ caller e in
-    let same : Broker key.0 broker.Export ≡ caller = cc (key.2) in subst IsCallerWithin same tt
-caller_within Present item fields body caller within e =
+asks_within Export item fields body caller within e =
+    let key = after_ok (key_of fields) _ caller e in
+    let same : asks.Whole (Broker key.0 broker.Export) ≡ caller = cc (key.2) in subst AreAsksWithin same tt
+asks_within Import item fields body caller within e =
+    let key = after_ok (key_of fields) _ caller e in
+    let importing = after_ok (key_given (codes "import-key") fields) _ caller key.2 in
+    let same : asks.Import key.0 importing.0 ≡ caller = cc (importing.2) in subst AreAsksWithin same tt
+asks_within Present item fields body caller within e =
     let receipts = after_ok (receipts_said (receipt_values fields)) _ caller e in
-    let same : Bearer (bearer.Present receipts.0) ≡ caller = cc (receipts.2) in
-    subst IsCallerWithin same (few_within (receipt_values fields) receipts.0 receipts.1)
-caller_within (OnReceipt action) item fields body caller within e =
+    let same : asks.Whole (Bearer (bearer.Present receipts.0)) ≡ caller = cc (receipts.2) in
+    subst AreAsksWithin same (few_within (receipt_values fields) receipts.0 receipts.1)
+asks_within (OnReceipt action) item fields body caller within e =
     let receipt = after_ok (one_said (receipt_values fields)) _ caller e in
-    mapped IsCallerWithin (λ command. Bearer (bearer.OnPledge receipt.0 command)) (and_then (command_said action body) (if_sent_by is_bearers)) caller (or_fault_ok BadBody _ caller receipt.2)
+    mapped AreAsksWithin (λ command. asks.Whole (Bearer (bearer.OnPledge receipt.0 command))) (and_then (command_said action body) (if_sent_by is_bearers)) caller (or_fault_ok BadBody _ caller receipt.2)
     (λ command is.
     let said = given_some (command_said action body) (if_sent_by is_bearers) command is in
     (one_within (receipt_values fields) receipt.0 receipt.1, subst IsCommandWithin (sent_is is_bearers said.0 command said.2) (command_within action body said.0 said.1)))
@@ -300,6 +315,7 @@ item_within TakePledge (Some text) item e = named text item e
 item_within Show (Some text) item e = named text item e
 item_within (OnPledge action) (Some text) item e = named text item e
 item_within Export (Some text) item e = named text item e
+item_within Import (Some text) item e = named text item e
 item_within Present (Some text) item e = named text item e
 item_within (OnReceipt action) (Some text) item e = named text item e
 
@@ -323,17 +339,43 @@ place_within target place e = by_test (is_ascii_text target) e
     by_test true same = (let asked = given_some (route_of target) place_asked place same in asked_within asked.0 place asked.2)
     by_test false same = absurd cc
 
-request_within : (method target : List ℕ) (fields : List Pair) (body : List ℕ) (request : Request)
-    → request_by method target fields body ≡ Ok request → IsNumber request.book × IsCallerWithin request.caller
-request_within method target fields body request e =
-    let place = after_ok (or_fault NoRoute (place_of target)) _ request (first_ok (framing_faults fields body) _ request e) in
-    let caller = after_ok (caller_said place.0.endpoint place.0.item fields body) _ request (first_ok ((not (bytes_eq (method_of place.0.endpoint) method), WrongMethod) ∷ []) _ request place.2) in
+-- an outline is of a book's number, and what it asks whole is within its limits
+abbrev IsOutlineWithin : Outline → Type 0
+IsOutlineWithin outline = IsNumber outline.book × AreAsksWithin outline.asks
+
+outline_within : (method target : List ℕ) (fields : List Pair) (body : List ℕ) (outline : Outline)
+    → outline_by method target fields body ≡ Ok outline → IsOutlineWithin outline
+outline_within method target fields body outline e =
+    let place = after_ok (or_fault NoRoute (place_of target)) _ outline (first_ok (framing_faults fields body) _ outline e) in
+    let asked = after_ok (asks_said place.0.endpoint place.0.item fields body) _ outline (first_ok ((not (bytes_eq (method_of place.0.endpoint) method), WrongMethod) ∷ []) _ outline place.2) in
     let within = place_within target place.0 (or_fault_ok NoRoute (place_of target) place.0 place.1) in
-    let same : ◌≡◌ {A = Request} (record { book = place.0.book; caller = caller.0 }) request = cc (caller.2) in
-    subst (λ (r : Request). IsNumber r.book × IsCallerWithin r.caller) same
-    (within.0, caller_within place.0.endpoint place.0.item fields body caller.0 within.1 caller.1)
+    let same : ◌≡◌ {A = Outline} (record { book = place.0.book; asks = asked.0 }) outline = cc (asked.2) in
+    subst IsOutlineWithin same (within.0, asks_within place.0.endpoint place.0.item fields body asked.0 within.1 asked.1)
+
+-- a request is within the limits of its parts
+abbrev IsWithin : Request → Type 0
+IsWithin request = IsNumber request.book × IsCallerWithin request.caller
+
+-- the rows that a body holds can have come about
+filled_within : (body : List ℕ) (book key importing : ℕ) (held : Result BookRows WireFault) (request : Request) → IsNumber book → HoldsRows body held
+    → Ok request ≡ after held (λ rows. Ok (record { book = book; caller = Broker key (broker.Import importing rows) })) → IsWithin request
+filled_within body book key importing (Ok rows) request range text same =
+    let is : ◌≡◌ {A = Request} (record { book = book; caller = Broker key (broker.Import importing rows) }) request = cc in
+    subst IsWithin is (range, text.2.0)
+filled_within body book key importing (Err fault) request range text same = absurd cc
+
+asked_in : (body : List ℕ) (book : ℕ) (asked : Asks) (request : Request) → IsNumber book → AreAsksWithin asked → IsAsked body book asked (Ok request) → IsWithin request
+asked_in body book (asks.Whole caller) request range within same =
+    let is : ◌≡◌ {A = Request} (record { book = book; caller = caller }) request = cc in subst IsWithin is (range, within)
+asked_in body book (asks.Import key importing) request range within it = filled_within body book key importing it.0 request range it.1 it.2
+
+outlined : (body : List ℕ) (said : Result Outline WireFault) (request : Request) → ((outline : Outline) → said ≡ Ok outline → IsOutlineWithin outline)
+    → IsOutlined body said (Ok request) → IsWithin request
+outlined body (Ok outline) request within it = (let here = within outline refl in asked_in body outline.book outline.asks request here.0 here.1 it)
+outlined body (Err fault) request within same = absurd cc
 
 -- a request that bytes say is within the limits of its parts
 pub reads_within : (bytes : List ℕ) (request : Request) → Reads bytes (Ok request) → IsNumber request.book × IsCallerWithin request.caller
-reads_within bytes request (inl x) = request_within x.0.method x.0.target (fields_of x.0) x.1 request (sym x.3)
+reads_within bytes request (inl x) =
+    outlined x.1 (outline_by x.0.method x.0.target (fields_of x.0) x.1) request (outline_within x.0.method x.0.target (fields_of x.0) x.1) x.3
 reads_within bytes request (inr x) = absurd (let never = x.1 in cc)

@@ -1,5 +1,7 @@
 -- The JSON bodies of replies.
 use Rattle.std.specs.Prelude.{ℕ, List, ◌++◌, codes, decimal, Option, Some, None}
+use Rattle.pawn_wire.specs.declared.detail.Detail.{Detail}
+use Rattle.pawn_wire.specs.declared.detail.Detail.TheVariants.{Row, Total}
 
 -- a book stands
 abbrev pub book_text : ℕ → List ℕ
@@ -18,9 +20,11 @@ abbrev pub opened_text : ℕ → List ℕ → List ℕ
 opened_text number receipt =
     codes "{\"number\":" ++ (decimal number ++ (codes ",\"receipt\":\"" ++ (receipt ++ codes "\"}")))
 
--- a refusal or a fault, with the total owing where it tells one
-abbrev pub refusal_text : ℕ → List ℕ → Option ℕ → List ℕ
+-- a refusal or a fault, with what it tells beside
+abbrev pub refusal_text : ℕ → List ℕ → Option Detail → List ℕ
 refusal_text code name None =
     codes "{\"code\":" ++ (decimal code ++ (codes ",\"name\":\"" ++ (name ++ codes "\"}")))
-refusal_text code name (Some total) =
+refusal_text code name (Some (Total total)) =
     codes "{\"code\":" ++ (decimal code ++ (codes ",\"name\":\"" ++ (name ++ (codes "\",\"total\":" ++ (decimal total ++ codes "}")))))
+refusal_text code name (Some (Row row)) =
+    codes "{\"code\":" ++ (decimal code ++ (codes ",\"name\":\"" ++ (name ++ (codes "\",\"row\":" ++ (decimal row ++ codes "}")))))

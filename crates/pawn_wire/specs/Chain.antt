@@ -27,3 +27,7 @@ Says answer said = IsSaid (λ fault. fault ≡ Memory) said answer
 abbrev pub Gives : {A : Type 0} → WireFault → Result A WireFault → Option A → Type 0
 Gives missing answer part =
     MatchResult answer (λ a. part ≡ Some a) (λ fault. (fault ≡ Memory) ⊎ ((fault ≡ missing) × (part ≡ None)))
+
+-- the answer is one that may be said, or memory was wanting
+abbrev pub OrMemory : {A : Type 0} → (Result A WireFault → Type 0) → Result A WireFault → Type 0
+OrMemory May answer = MatchResult answer (λ a. May (Ok a)) (λ fault. (fault ≡ Memory) ⊎ May (Err fault))

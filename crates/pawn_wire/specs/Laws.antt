@@ -25,6 +25,8 @@ use Rattle.pawn_wire.specs.Limits.{max_number}
 use Rattle.pawn_wire.specs.Named.{number_said, day_said}
 use Rattle.pawn_wire.specs.Request.{Reads}
 use Rattle.pawn_wire.specs.Route.{table, route_of}
+use Rattle.pawn_wire.specs.declared.detail.Detail.{Detail}
+use Rattle.pawn_wire.specs.declared.detail.Detail.TheVariants.{Row, Total}
 use Rattle.pawn_wire.specs.declared.fault.WireFault.{WireFault}
 use Rattle.pawn_wire.specs.declared.route.Endpoint.{Endpoint}
 use Rattle.pawn_wire.specs.declared.route.Endpoint.TheVariants as e
@@ -40,10 +42,12 @@ abbrev pub text_member : List ℕ → List ℕ → Members → Members
 text_member name text rest = member name (string text) rest
 
 -- the members of a refusal's body
-abbrev pub refusal_members : ℕ → List ℕ → Option ℕ → Members
+abbrev pub refusal_members : ℕ → List ℕ → Option Detail → Members
 refusal_members code name None = number_member (codes "code") code (text_member (codes "name") name no_members)
-refusal_members code name (Some total) =
+refusal_members code name (Some (Total total)) =
     number_member (codes "code") code (text_member (codes "name") name (number_member (codes "total") total no_members))
+refusal_members code name (Some (Row row)) =
+    number_member (codes "code") code (text_member (codes "name") name (number_member (codes "row") row no_members))
 
 -- the members of an entry's body
 abbrev pub entry_members : Entry → Members
@@ -67,8 +71,8 @@ pub record BodiesAreJson : Type 0 where
   pub version : (version : ℕ) → version_text version ≡ compact_text (object (number_member (codes "version") version no_members))
   pub opened : (number : ℕ) (receipt : List ℕ) → IsTrue (is_plain receipt)
       → opened_text number receipt ≡ compact_text (object (number_member (codes "number") number (text_member (codes "receipt") receipt no_members)))
-  pub refusal : (code : ℕ) (name : List ℕ) (total : Option ℕ) → IsTrue (is_plain name)
-      → refusal_text code name total ≡ compact_text (object (refusal_members code name total))
+  pub refusal : (code : ℕ) (name : List ℕ) (detail : Option Detail) → IsTrue (is_plain name)
+      → refusal_text code name detail ≡ compact_text (object (refusal_members code name detail))
   pub entered : (entry : Entry) → entered_text (day_text entry.day) entry.pence entry.seq (sort_text entry.sort) ≡ compact_text (object (entry_members entry))
   pub held : (barred : Bool) → held_text barred ≡ compact_text (object (member (codes "held") (boolean barred) no_members))
   pub declared : (receipt : List ℕ) → IsTrue (is_plain receipt)
@@ -154,6 +158,7 @@ item_for e.Show = Some (codes "12")
 item_for (e.OnPledge action) = Some (codes "12")
 item_for e.ShowDay = Some (codes "2024-03-04")
 item_for e.Export = None
+item_for e.Import = None
 item_for e.Present = None
 item_for (e.OnReceipt action) = None
 

@@ -1,4 +1,5 @@
 pub mod Asked
+pub mod Asking
 pub mod Bodies
 pub mod Body
 pub mod Chain
@@ -12,6 +13,7 @@ pub mod Limits
 pub mod Member
 pub mod Named
 pub mod Numeral
+pub mod Place
 pub mod Receipts
 pub mod Reply
 pub mod Request

@@ -1,5 +1,5 @@
 -- Replies.
-use Rattle.std.specs.Prelude.{ℕ, List, ◌++◌, length, codes, decimal, Option, None}
+use Rattle.std.specs.Prelude.{ℕ, List, ◌++◌, length, codes, decimal, Option, option_map}
 use Rattle.http.specs.StatusCode.{status_text}
 use Rattle.pawn_pledge.specs.Receipt.{receipt_text}
 use Rattle.pawn_book.specs.Refusals as book
@@ -8,7 +8,9 @@ use Rattle.pawn_book.specs.declared.reply.Reply.TheVariants.{BookMade, TermsPut,
 use Rattle.pawn_wire.specs.Bodies.{book_text, version_text, filled_text, opened_text, refusal_text}
 use Rattle.pawn_wire.specs.Done.{commanded_text}
 use Rattle.pawn_wire.specs.Status.{status_of}
-use Rattle.pawn_wire.specs.Fault.{code_of, name_of}
+use Rattle.pawn_wire.specs.Fault.{code_of, detail_of, name_of}
+use Rattle.pawn_wire.specs.declared.detail.Detail.{Detail}
+use Rattle.pawn_wire.specs.declared.detail.Detail.TheVariants.{Total}
 use Rattle.pawn_wire.specs.declared.reply.Out.{Out}
 use Rattle.pawn_wire.specs.declared.reply.Out.TheVariants.{Done, Refused, Fault, Plain, Csv}
 use Rattle.pawn_wire.specs.declared.fault.WireFault.{WireFault}
@@ -28,13 +30,13 @@ reply_text status kind body = head_text status (length body) kind ++ body
 abbrev pub json_text : ℕ → List ℕ → List ℕ
 json_text status body = reply_text status (codes "application/json") body
 
--- the reply to a refusal or a fault, with the total owing where it tells one
-abbrev pub refused_text : ℕ → List ℕ → Option ℕ → List ℕ
-refused_text code name total = json_text (status_of code) (refusal_text code name total)
+-- the reply to a refusal or a fault, with what it tells beside
+abbrev pub refused_text : ℕ → List ℕ → Option Detail → List ℕ
+refused_text code name detail = json_text (status_of code) (refusal_text code name detail)
 
 -- the reply to bytes that are no request
 abbrev pub fault_text : WireFault → List ℕ
-fault_text fault = refused_text (code_of fault) (name_of fault) None
+fault_text fault = refused_text (code_of fault) (name_of fault) (detail_of fault)
 
 -- the reply where memory is wanting
 abbrev pub memory_text : List ℕ
@@ -51,7 +53,7 @@ done_text (Commanded number done) = commanded_text number done
 -- what is told of a request
 abbrev pub out_text : Out → List ℕ
 out_text (Done reply) = json_text 200 (done_text reply)
-out_text (Refused why) = refused_text (book.code_of why) (book.name_of why) (book.total_of why)
+out_text (Refused why) = refused_text (book.code_of why) (book.name_of why) (option_map Total (book.total_of why))
 out_text (Fault fault) = fault_text fault
 out_text (Plain text) = reply_text 200 (codes "text/plain; charset=utf-8") text.items
 out_text (Csv text) = reply_text 200 (codes "text/csv; charset=utf-8") text.items

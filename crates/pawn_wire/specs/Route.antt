@@ -9,7 +9,7 @@ use Rattle.matchit.specs.Router.{RouteOf, route_from}
 use Rattle.matchit.specs.Params.{walk}
 use Rattle.matchit.specs.declared.error.InsertError.{InsertError}
 use Rattle.pawn_wire.specs.declared.route.Endpoint.{Endpoint}
-use Rattle.pawn_wire.specs.declared.route.Endpoint.TheVariants.{Create, PutTerms, TakePledge, Show, OnPledge, ShowDay, Export, Present, OnReceipt}
+use Rattle.pawn_wire.specs.declared.route.Endpoint.TheVariants.{Create, PutTerms, TakePledge, Show, OnPledge, ShowDay, Export, Import, Present, OnReceipt}
 use Rattle.pawn_wire.specs.declared.route.Action.TheVariants.{Draw, Repay, Hold, Release, Declare, Ask, Cancel, Decide, Redeem, Sell, Extend}
 
 -- the targets, each with its endpoint
@@ -29,6 +29,7 @@ table =
     ∷ (codes "/books/{b}/pledges/{n}/extend", OnPledge Extend)
     ∷ (codes "/books/{b}/days/{d}", ShowDay)
     ∷ (codes "/books/{b}/export", Export)
+    ∷ (codes "/books/{b}/import", Import)
     ∷ (codes "/books/{b}/held", Present)
     ∷ (codes "/books/{b}/held/repay", OnReceipt Repay)
     ∷ (codes "/books/{b}/held/ask", OnReceipt Ask)
@@ -45,6 +46,7 @@ method_of Show = codes "GET"
 method_of (OnPledge action) = codes "POST"
 method_of ShowDay = codes "GET"
 method_of Export = codes "GET"
+method_of Import = codes "POST"
 method_of Present = codes "GET"
 method_of (OnReceipt action) = codes "POST"
 

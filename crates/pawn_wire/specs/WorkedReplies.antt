@@ -3,9 +3,10 @@ use Rattle.std.specs.Prelude.{◌≡◌, codes}
 use Rattle.pawn_pledge.specs.declared.receipt.Receipt.{Receipt}
 use Rattle.pawn_book.specs.declared.refusal.Refusal.TheVariants.{NoSuchReceipt, NotOperator, BookTaken, Full}
 use Rattle.pawn_book.specs.declared.reply.Reply.TheVariants.{BookMade, TermsPut, BookFilled, Opened}
+use Rattle.pawn_csv.specs.declared.fault.Cause.TheVariants as cause
 use Rattle.pawn_wire.specs.Reply.{memory_text, out_text}
 use Rattle.pawn_wire.specs.Status.{status_of}
-use Rattle.pawn_wire.specs.declared.fault.WireFault.TheVariants.{BadHead, NoRoute, BadBody}
+use Rattle.pawn_wire.specs.declared.fault.WireFault.TheVariants.{BadHead, NoRoute, BadBody, Csv}
 use Rattle.pawn_wire.specs.declared.reply.Out.TheVariants.{Done, Refused, Fault}
 
 -- the first number and the last of each kind: bad requests, forbidden, not found, unavailable, and conflicts between them
@@ -40,6 +41,8 @@ WorkedFaults =
     ≡ codes "HTTP/1.1 404 Not Found\r\nContent-Length: 29\r\nContent-Type: application/json\r\n\r\n{\"code\":706,\"name\":\"NoRoute\"}")
     × (out_text (Fault BadBody)
     ≡ codes "HTTP/1.1 400 Bad Request\r\nContent-Length: 29\r\nContent-Type: application/json\r\n\r\n{\"code\":708,\"name\":\"BadBody\"}")
+    × (out_text (Fault (Csv (record { cause = cause.BadField; row = 7 })))
+    ≡ codes "HTTP/1.1 400 Bad Request\r\nContent-Length: 38\r\nContent-Type: application/json\r\n\r\n{\"code\":603,\"name\":\"BadField\",\"row\":7}")
     × (memory_text
     ≡ codes "HTTP/1.1 503 Service Unavailable\r\nContent-Length: 28\r\nContent-Type: application/json\r\n\r\n{\"code\":491,\"name\":\"Memory\"}")
 

@@ -15,13 +15,16 @@ use Rattle.pawn_wire.specs.Fields.{Pair}
 use Rattle.pawn_wire.specs.Member.{body_said}
 use Rattle.pawn_wire.specs.Named.{number_said, day_said}
 use Rattle.pawn_wire.specs.Receipts.{receipt_values, receipt_said, receipts_said, one_said}
-use Rattle.pawn_wire.specs.Request.{place_of, key_given, request_by}
+use Rattle.pawn_wire.specs.Asking.{key_of}
+use Rattle.pawn_wire.specs.Place.{place_of}
+use Rattle.pawn_wire.specs.Request.{outline_by}
 use Rattle.pawn_wire.specs.WorkedHeads.{chunked_coding, tells_length}
+use Rattle.pawn_wire.specs.declared.asking.Asks.TheVariants as asks
 use Rattle.pawn_wire.specs.declared.fault.WireFault.TheVariants.{Transfer, BadLength, BodyTooLong, NoRoute, WrongMethod, BadBody, BadKey, BadReceipt, TooManyReceipts, NoReceipt}
-use Rattle.pawn_wire.specs.declared.request.Item.TheVariants.{Nothing, Pledge, Day}
-use Rattle.pawn_wire.specs.declared.request.Place.{Place}
+use Rattle.pawn_wire.specs.declared.place.Item.TheVariants.{Nothing, Pledge, Day}
+use Rattle.pawn_wire.specs.declared.place.Place.{Place}
 use Rattle.pawn_wire.specs.declared.route.Endpoint.{Endpoint}
-use Rattle.pawn_wire.specs.declared.route.Endpoint.TheVariants.{Create, PutTerms, TakePledge, Show, OnPledge, ShowDay, Export, Present, OnReceipt}
+use Rattle.pawn_wire.specs.declared.route.Endpoint.TheVariants.{Create, PutTerms, TakePledge, Show, OnPledge, ShowDay, Export, Import, Present, OnReceipt}
 use Rattle.pawn_wire.specs.declared.route.Action.TheVariants.{Draw, Hold, Declare, Ask, Decide, Redeem, Extend}
 
 -- an endpoint of a book
@@ -48,6 +51,7 @@ WorkedTargets =
     × (place_of (codes "/books/7/days/2024-02-29") ≡ of_day 7 (date 2024 2 29) ShowDay)
     × (place_of (codes "/books/7/days/2199-12-31") ≡ of_day 7 (date 2199 12 31) ShowDay)
     × (place_of (codes "/books/7/export") ≡ of_book 7 Export)
+    × (place_of (codes "/books/7/import") ≡ of_book 7 Import)
     × (place_of (codes "/books/7/held") ≡ of_book 7 Present)
     × (place_of (codes "/books/7/held/redeem") ≡ of_book 7 (OnReceipt Redeem))
 
@@ -102,17 +106,21 @@ WorkedDays =
 abbrev pub gives_key : List ℕ → Pair
 gives_key value = (codes "Pledge-Key", value)
 
+-- a field that gives the key of an import
+abbrev pub gives_import_key : Pair
+gives_import_key = (codes "Import-Key", codes "33333333-3333-3333-3333-333333333333")
+
 abbrev pub operator_key : List ℕ
 operator_key = codes "11111111-1111-1111-1111-111111111111"
 
 -- exactly one key, in any of its forms
 abbrev pub WorkedKeys : Type 0
 WorkedKeys =
-    (key_given (gives_key operator_key ∷ []) ≡ Ok 0x11111111_1111_1111_1111_111111111111)
-    × (key_given ((codes "pledge-KEY", codes "{11111111-1111-1111-1111-111111111111}") ∷ []) ≡ Ok 0x11111111_1111_1111_1111_111111111111)
-    × (key_given [] ≡ Err BadKey)
-    × (key_given (gives_key (codes "1") ∷ []) ≡ Err BadKey)
-    × (key_given (gives_key operator_key ∷ gives_key operator_key ∷ []) ≡ Err BadKey)
+    (key_of (gives_key operator_key ∷ []) ≡ Ok 0x11111111_1111_1111_1111_111111111111)
+    × (key_of ((codes "pledge-KEY", codes "{11111111-1111-1111-1111-111111111111}") ∷ []) ≡ Ok 0x11111111_1111_1111_1111_111111111111)
+    × (key_of [] ≡ Err BadKey)
+    × (key_of (gives_key (codes "1") ∷ []) ≡ Err BadKey)
+    × (key_of (gives_key operator_key ∷ gives_key operator_key ∷ []) ≡ Err BadKey)
 
 -- a receipt of pledge 1, and its text
 abbrev pub some_receipt : Receipt
@@ -178,33 +186,37 @@ WorkedCommands =
 -- each fault is told before those that come after it
 abbrev pub WorkedOrder : Type 0
 WorkedOrder =
-    (request_by (codes "PUT") (codes "/nowhere") (tells_length (codes "x") ∷ chunked_coding ∷ []) (codes "{}") ≡ Err Transfer)
-    × (request_by (codes "PUT") (codes "/nowhere") (tells_length (codes "x") ∷ []) (codes "{}") ≡ Err BadLength)
-    × (request_by (codes "PUT") (codes "/nowhere") (tells_length (codes "1048577") ∷ []) (codes "{}") ≡ Err BodyTooLong)
-    × (request_by (codes "PUT") (codes "/nowhere") (tells_length (codes "3") ∷ []) (codes "{}") ≡ Err BadLength)
-    × (request_by (codes "PUT") (codes "/nowhere") (tells_length (codes "2") ∷ []) (codes "{}") ≡ Err NoRoute)
-    × (request_by (codes "PUT") (codes "/books/7") (tells_length (codes "2") ∷ []) (codes "{}") ≡ Err WrongMethod)
-    × (request_by (codes "POST") (codes "/books/7/days/2024-02-30") [] [] ≡ Err NoRoute)
-    × (request_by (codes "POST") (codes "/books/7/days/2024-02-29") [] [] ≡ Err WrongMethod)
-    × (request_by (codes "GET") (codes "/books/7/days/2024-02-29") [] [] ≡ Err BadKey)
-    × (request_by (codes "POST") (codes "/books/7") (tells_length (codes "2") ∷ []) (codes "{}") ≡ Err BadKey)
-    × (request_by (codes "POST") (codes "/books/7") (tells_length (codes "2") ∷ gives_key operator_key ∷ []) (codes "{}") ≡ Err BadBody)
-    × (request_by (codes "POST") (codes "/books/7/held/redeem") (tells_length (codes "2") ∷ []) (codes "{}") ≡ Err NoReceipt)
-    × (request_by (codes "POST") (codes "/books/7/held/redeem") (tells_length (codes "2") ∷ presents (codes "1") ∷ []) (codes "{}") ≡ Err BadReceipt)
-    × (request_by (codes "POST") (codes "/books/7/held/redeem") (tells_length (codes "2") ∷ presents some_receipt_text ∷ []) (codes "{}") ≡ Err BadBody)
+    (outline_by (codes "PUT") (codes "/nowhere") (tells_length (codes "x") ∷ chunked_coding ∷ []) (codes "{}") ≡ Err Transfer)
+    × (outline_by (codes "PUT") (codes "/nowhere") (tells_length (codes "x") ∷ []) (codes "{}") ≡ Err BadLength)
+    × (outline_by (codes "PUT") (codes "/nowhere") (tells_length (codes "1048577") ∷ []) (codes "{}") ≡ Err BodyTooLong)
+    × (outline_by (codes "PUT") (codes "/nowhere") (tells_length (codes "3") ∷ []) (codes "{}") ≡ Err BadLength)
+    × (outline_by (codes "PUT") (codes "/nowhere") (tells_length (codes "2") ∷ []) (codes "{}") ≡ Err NoRoute)
+    × (outline_by (codes "PUT") (codes "/books/7") (tells_length (codes "2") ∷ []) (codes "{}") ≡ Err WrongMethod)
+    × (outline_by (codes "POST") (codes "/books/7/days/2024-02-30") [] [] ≡ Err NoRoute)
+    × (outline_by (codes "POST") (codes "/books/7/days/2024-02-29") [] [] ≡ Err WrongMethod)
+    × (outline_by (codes "GET") (codes "/books/7/days/2024-02-29") [] [] ≡ Err BadKey)
+    × (outline_by (codes "POST") (codes "/books/7") (tells_length (codes "2") ∷ []) (codes "{}") ≡ Err BadKey)
+    × (outline_by (codes "POST") (codes "/books/7") (tells_length (codes "2") ∷ gives_key operator_key ∷ []) (codes "{}") ≡ Err BadBody)
+    × (outline_by (codes "POST") (codes "/books/7/import") (gives_import_key ∷ []) [] ≡ Err BadKey)
+    × (outline_by (codes "POST") (codes "/books/7/import") (gives_key operator_key ∷ []) [] ≡ Err BadKey)
+    × (outline_by (codes "POST") (codes "/books/7/held/redeem") (tells_length (codes "2") ∷ []) (codes "{}") ≡ Err NoReceipt)
+    × (outline_by (codes "POST") (codes "/books/7/held/redeem") (tells_length (codes "2") ∷ presents (codes "1") ∷ []) (codes "{}") ≡ Err BadReceipt)
+    × (outline_by (codes "POST") (codes "/books/7/held/redeem") (tells_length (codes "2") ∷ presents some_receipt_text ∷ []) (codes "{}") ≡ Err BadBody)
 
 -- requests of the operator, of a broker and of a bearer
 abbrev pub WorkedRequests : Type 0
 WorkedRequests =
-    (request_by (codes "GET") (codes "/books/7/pledges/3") (gives_key operator_key ∷ []) []
-    ≡ Ok (record { book = 7; caller = Broker 0x11111111_1111_1111_1111_111111111111 (broker.Show 3) }))
-    × (request_by (codes "GET") (codes "/books/7/days/2024-02-29") (gives_key operator_key ∷ []) []
-    ≡ Ok (record { book = 7; caller = Broker 0x11111111_1111_1111_1111_111111111111 (broker.SheetOf (date 2024 2 29)) }))
-    × (request_by (codes "GET") (codes "/books/7/export") (gives_key operator_key ∷ []) []
-    ≡ Ok (record { book = 7; caller = Broker 0x11111111_1111_1111_1111_111111111111 broker.Export }))
-    × (request_by (codes "POST") (codes "/books/7/pledges/3/hold") (gives_key operator_key ∷ []) []
-    ≡ Ok (record { book = 7; caller = Broker 0x11111111_1111_1111_1111_111111111111 (broker.OnPledge 3 Command.Hold) }))
-    × (request_by (codes "GET") (codes "/books/7/held") (presents some_receipt_text ∷ []) []
-    ≡ Ok (record { book = 7; caller = Bearer (bearer.Present (some_receipt ∷ [])) }))
-    × (request_by (codes "POST") (codes "/books/7/held/cancel") (presents some_receipt_text ∷ []) []
-    ≡ Ok (record { book = 7; caller = Bearer (bearer.OnPledge some_receipt Command.CancelBooking) }))
+    (outline_by (codes "GET") (codes "/books/7/pledges/3") (gives_key operator_key ∷ []) []
+    ≡ Ok (record { book = 7; asks = asks.Whole (Broker 0x11111111_1111_1111_1111_111111111111 (broker.Show 3)) }))
+    × (outline_by (codes "GET") (codes "/books/7/days/2024-02-29") (gives_key operator_key ∷ []) []
+    ≡ Ok (record { book = 7; asks = asks.Whole (Broker 0x11111111_1111_1111_1111_111111111111 (broker.SheetOf (date 2024 2 29))) }))
+    × (outline_by (codes "GET") (codes "/books/7/export") (gives_key operator_key ∷ []) []
+    ≡ Ok (record { book = 7; asks = asks.Whole (Broker 0x11111111_1111_1111_1111_111111111111 broker.Export) }))
+    × (outline_by (codes "POST") (codes "/books/7/import") (gives_import_key ∷ gives_key operator_key ∷ []) []
+    ≡ Ok (record { book = 7; asks = asks.Import 0x11111111_1111_1111_1111_111111111111 0x33333333_3333_3333_3333_333333333333 }))
+    × (outline_by (codes "POST") (codes "/books/7/pledges/3/hold") (gives_key operator_key ∷ []) []
+    ≡ Ok (record { book = 7; asks = asks.Whole (Broker 0x11111111_1111_1111_1111_111111111111 (broker.OnPledge 3 Command.Hold)) }))
+    × (outline_by (codes "GET") (codes "/books/7/held") (presents some_receipt_text ∷ []) []
+    ≡ Ok (record { book = 7; asks = asks.Whole (Bearer (bearer.Present (some_receipt ∷ []))) }))
+    × (outline_by (codes "POST") (codes "/books/7/held/cancel") (presents some_receipt_text ∷ []) []
+    ≡ Ok (record { book = 7; asks = asks.Whole (Bearer (bearer.OnPledge some_receipt Command.CancelBooking)) }))

@@ -1,7 +1,9 @@
 //! The JSON bodies of replies.
 ghost use Rattle.std.specs.Prelude.{◌≡◌, IfOk, Some, string_bytes};
+ghost use Rattle.pawn_wire.specs.declared.detail.Detail.TheVariants.{Row, Total};
 ghost use Rattle.pawn_wire.specs.Bodies.{book_text, version_text, filled_text, opened_text, refusal_text};
 
+use crate::detail::Detail;
 use std::alloc::{AllocError, Global};
 
 // A book stands.
@@ -32,17 +34,18 @@ pub(crate) fn opening(alloc: Global, number: u32, receipt: &str) -> Result<Strin
     format!(in alloc; "{{\"number\":{number},\"receipt\":\"{receipt}\"}}")
 }
 
-// A refusal or a fault, with the total owing where it tells one.
+// A refusal or a fault, with what it tells beside.
 pub(crate) fn refusal(
     alloc: Global,
     code: u16,
     name: &str,
-    total: Option<u64>,
+    detail: Option<Detail>,
 ) -> Result<String, AllocError>
-    ensures text { IfOk result (λ s. string_bytes s ≡ refusal_text code name.now total) }
+    ensures text { IfOk result (λ s. string_bytes s ≡ refusal_text code name.now detail) }
 {
-    match total {
-        Some(total) => refusal_with_total(alloc, code, name, total),
+    match detail {
+        Some(Detail::Total(total)) => refusal_with_total(alloc, code, name, total),
+        Some(Detail::Row(row)) => refusal_with_row(alloc, code, name, row),
         None => format!(in alloc; "{{\"code\":{code},\"name\":\"{name}\"}}"),
     }
 }
@@ -53,7 +56,13 @@ fn refusal_with_total(
     name: &str,
     total: u64,
 ) -> Result<String, AllocError>
-    ensures text { IfOk result (λ s. string_bytes s ≡ refusal_text code name.now (Some total)) }
+    ensures text { IfOk result (λ s. string_bytes s ≡ refusal_text code name.now (Some (Total total))) }
 {
     format!(in alloc; "{{\"code\":{code},\"name\":\"{name}\",\"total\":{total}}}")
+}
+
+fn refusal_with_row(alloc: Global, code: u16, name: &str, row: u64) -> Result<String, AllocError>
+    ensures text { IfOk result (λ s. string_bytes s ≡ refusal_text code name.now (Some (Row row))) }
+{
+    format!(in alloc; "{{\"code\":{code},\"name\":\"{name}\",\"row\":{row}}}")
 }

@@ -1,8 +1,10 @@
 //! Why bytes are no request.
 ghost use Rattle.std.specs.Prelude.{◌≡◌};
-ghost use Rattle.pawn_wire.specs.Fault.{code_of, name_of, wire_fault};
+ghost use Rattle.pawn_wire.specs.Fault.{code_of, detail_of, name_of, text_fault, wire_fault};
 ghost use Rattle.pawn_wire.specs.declared.fault.WireFault.TheVariants.{Memory};
 
+use crate::detail::Detail;
+use pawn_csv::{Cause, CsvFault};
 use std::alloc::{AllocError, AllocFailed};
 use std::error::Error;
 use std::fmt;
@@ -46,6 +48,8 @@ pub enum WireFault {
     TooManyReceipts,
     /// No receipt is presented.
     NoReceipt,
+    /// The body is not the text of a book.
+    Csv(CsvFault),
     /// Memory was wanting.
     Memory,
 }
@@ -67,7 +71,18 @@ impl WireFault {
             WireFault::BadReceipt => 710,
             WireFault::TooManyReceipts => 711,
             WireFault::NoReceipt => 712,
+            WireFault::Csv(fault) => fault.code(),
             WireFault::Memory => 491,
+        }
+    }
+
+    /// What replies tell of the fault beside its number and its name: the row of a text.
+    pub fn detail(self) -> Option<Detail>
+        ensures value { result ≡ detail_of self }
+    {
+        match self {
+            WireFault::Csv(fault) => Some(Detail::Row(fault.row)),
+            _ => None,
         }
     }
 
@@ -87,7 +102,24 @@ impl WireFault {
             WireFault::BadReceipt => "BadReceipt",
             WireFault::TooManyReceipts => "TooManyReceipts",
             WireFault::NoReceipt => "NoReceipt",
+            WireFault::Csv(fault) => fault.name(),
             WireFault::Memory => "Memory",
+        }
+    }
+}
+
+impl From<CsvFault> for WireFault {
+    ghost from_gives = { λ csv fault. fault ≡ text_fault csv };
+
+    fn from(fault: CsvFault) -> WireFault {
+        match fault.cause {
+            Cause::Memory | Cause::Read => WireFault::Memory,
+            Cause::Csv
+            | Cause::Columns
+            | Cause::BadField
+            | Cause::Order
+            | Cause::NotReplayable
+            | Cause::TooMany => WireFault::Csv(fault),
         }
     }
 }

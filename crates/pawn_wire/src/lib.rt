@@ -1,9 +1,11 @@
 //! The HTTP interface: requests from bytes, and replies to bytes.
 #![tactic(auto)]
 
+mod asking;
 mod bodies;
 mod body;
 mod commands;
+mod detail;
 mod done;
 mod fault;
 mod fields;
@@ -12,6 +14,7 @@ mod laws;
 mod limits;
 mod member;
 mod numeral;
+mod place;
 mod receipts;
 mod reply;
 mod request;
@@ -20,6 +23,7 @@ mod router;
 mod status;
 mod worked;
 
+pub use detail::Detail;
 pub use fault::{HeadFault, WireFault};
 pub use head::{HeadFacts, HeadRead, read_head};
 pub use laws::{bodies_are_json, laws_of_readings, laws_of_targets};
@@ -30,6 +34,7 @@ pub use pawn_book::{
     Paper, PledgeRefusal, Receipt, Receipts, Reference, Refusal, Reply, Request, RequestDay,
     Secret, Sort, TermsFault, Text,
 };
+pub use pawn_csv::{Cause, CsvFault};
 pub use reply::{MEMORY_REPLY, Out, fault_reply, memory_reply, write_reply};
 pub use request::read_request;
 pub use router::Router;

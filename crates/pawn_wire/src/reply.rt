@@ -6,6 +6,7 @@ ghost use Rattle.pawn_wire.specs.Done.{commanded_text};
 ghost use Rattle.pawn_wire.specs.Fault.{wire_fault};
 ghost use Rattle.pawn_wire.specs.Reply.{head_text, reply_text, json_text, refused_text, fault_text, memory_text, done_text, out_text};
 
+use crate::detail::Detail;
 use crate::fault::{HeadFault, WireFault};
 use crate::status::status_of;
 use crate::{bodies, done};
@@ -90,11 +91,11 @@ fn refusal_reply(
     alloc: Global,
     code: u16,
     name: &str,
-    total: Option<u64>,
+    detail: Option<Detail>,
 ) -> Result<Vec<u8>, AllocError>
-    ensures text { IfOk result (λ v. v.items ≡ refused_text code name.now total) }
+    ensures text { IfOk result (λ v. v.items ≡ refused_text code name.now detail) }
 {
-    let body = bodies::refusal(alloc, code, name, total)?;
+    let body = bodies::refusal(alloc, code, name, detail)?;
     json_reply(alloc, status_of(code), body.as_str())
 }
 
@@ -154,9 +155,10 @@ pub fn write_reply(alloc: Global, out: &Out) -> Result<Vec<u8>, AllocError>
     match out {
         Out::Done(reply) => done_reply(alloc, *reply),
         Out::Refused(refusal) => {
-            refusal_reply(alloc, refusal.code(), refusal.name(), refusal.total())
+            let total = refusal.total().map(Detail::Total);
+            refusal_reply(alloc, refusal.code(), refusal.name(), total)
         }
-        Out::Fault(fault) => refusal_reply(alloc, fault.code(), fault.name(), None),
+        Out::Fault(fault) => refusal_reply(alloc, fault.code(), fault.name(), fault.detail()),
         Out::Plain(text) => reply(alloc, StatusCode::OK, "text/plain; charset=utf-8", text),
         Out::Csv(text) => reply(alloc, StatusCode::OK, "text/csv; charset=utf-8", text),
     }

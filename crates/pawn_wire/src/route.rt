@@ -21,6 +21,8 @@ pub enum Endpoint {
     ShowDay,
     /// To have the rows of a book as a text.
     Export,
+    /// To fill a book with the rows of a text.
+    Import,
     /// To show what receipts stand for.
     Present,
     /// To command the pledge of a receipt.
@@ -45,7 +47,7 @@ pub enum Action {
 
 /// The targets, each with its endpoint; a name in braces stands for a number, or for a day. An action stands here
 /// under those who may send its command, and under no other.
-pub(crate) const ROUTES: [(&str, Endpoint); 19] = [
+pub(crate) const ROUTES: [(&str, Endpoint); 20] = [
     ("/books/{b}", Endpoint::Create),
     ("/books/{b}/terms", Endpoint::PutTerms),
     ("/books/{b}/pledges", Endpoint::TakePledge),
@@ -84,6 +86,7 @@ pub(crate) const ROUTES: [(&str, Endpoint); 19] = [
     ),
     ("/books/{b}/days/{d}", Endpoint::ShowDay),
     ("/books/{b}/export", Endpoint::Export),
+    ("/books/{b}/import", Endpoint::Import),
     ("/books/{b}/held", Endpoint::Present),
     ("/books/{b}/held/repay", Endpoint::OnReceipt(Action::Repay)),
     ("/books/{b}/held/ask", Endpoint::OnReceipt(Action::Ask)),
@@ -110,6 +113,7 @@ impl Endpoint {
             Endpoint::Create => Method::POST,
             Endpoint::PutTerms => Method::POST,
             Endpoint::TakePledge => Method::POST,
+            Endpoint::Import => Method::POST,
             Endpoint::OnPledge(_) => Method::POST,
             Endpoint::OnReceipt(_) => Method::POST,
         }

@@ -91,6 +91,55 @@ const EXPORT: &str = r#"
 200 OK|row,c1,c2,c3,c4,c5,c6,c7,c8,c9,c10,c11,c12,c13,c14|B,2,1,2,,,,,,,,,,,|T,1,0,0,0,,,,,,,,,,|P,1,A1,Gold ring,fixed,10000,2024-01-31,,no,1,no,2024-02-01,open,,|S,1,1,2024-01-31,opening,00000000-0000-0000-0000-000000000003,,,,,,,,,|S,1,2,2024-02-01,sworn,00000000-0000-0000-0000-000000000004,,,,,,,,,|K,1,2024-02-10,3,asked,,,,,,,,,,|P,2,A2,"Ring, ""old""",running,20000,2024-02-01,,yes,1,no,2024-02-01,open,,|S,2,1,2024-02-01,opening,00000000-0000-0000-0000-000000000005,,,,,,,,,|E,2,1,2024-02-01,draw,12345,,,,,,,,,|X,2,1,2024-02-01,2024-09-30,,,,,,,,,,|
 "#;
 
+// A book with a replaced receipt, an asked booking and a pledge that was sold: its rows, imported into another, are exported as they
+// came; and the answers that an import has before and after that.
+const IMPORT: &str = r#"
+2000-01-01|0|operator|POST /books/7|{"capacity":1,"key":"22222222-2222-2222-2222-222222222222","name":"High Street"}
+200 OK|{"book":7}
+2000-01-01|0|broker|POST /books/7/terms|{"keep_after":0,"keep_before":0,"rate":0,"version":1}
+200 OK|{"version":1}
+2024-01-31|3|broker|POST /books/7/pledges|{"article":"Gold ring","five_days":false,"kind":"fixed","pence":10000,"ref":"A1"}
+200 OK|{"number":1,"receipt":"1-00000000-0000-0000-0000-000000000003"}
+2024-01-31|4|broker|POST /books/7/pledges|{"article":"Clock","five_days":false,"kind":"fixed","pence":10000,"ref":"A2"}
+200 OK|{"number":2,"receipt":"2-00000000-0000-0000-0000-000000000004"}
+2024-02-01|5|broker|POST /books/7/pledges/1/declare|{"paper":"sworn"}
+200 OK|{"receipt":"1-00000000-0000-0000-0000-000000000005"}
+2024-02-01|0|1-5|POST /books/7/held/ask|{"day":"2024-02-10","window":3}
+200 OK|{"booking":"asked","day":"2024-02-10","window":3}
+2024-08-01|0|broker|POST /books/7/pledges/2/sell|{"net":9000}
+200 OK|{"net":9000,"shortfall":1000,"surplus":0}
+2024-08-01|0|broker|GET /books/7/export|
+200 OK|row,c1,c2,c3,c4,c5,c6,c7,c8,c9,c10,c11,c12,c13,c14|B,2,1,2,,,,,,,,,,,|T,1,0,0,0,,,,,,,,,,|P,1,A1,Gold ring,fixed,10000,2024-01-31,,no,1,no,2024-02-01,open,,|S,1,1,2024-01-31,opening,00000000-0000-0000-0000-000000000003,,,,,,,,,|S,1,2,2024-02-01,sworn,00000000-0000-0000-0000-000000000005,,,,,,,,,|K,1,2024-02-10,3,asked,,,,,,,,,,|P,2,A2,Clock,fixed,10000,2024-01-31,,no,1,no,2024-08-01,sold,2024-08-01,9000|S,2,1,2024-01-31,opening,00000000-0000-0000-0000-000000000004,,,,,,,,,|
+2000-01-01|0|operator|POST /books/8|{"capacity":1,"key":"22222222-2222-2222-2222-222222222222","name":"High Street"}
+200 OK|{"book":8}
+2024-08-01|0|broker|POST /books/8/import|row,c1,c2,c3,c4,c5,c6,c7,c8,c9,c10,c11,c12,c13,c14|B,2,1,2,,,,,,,,,,,|T,1,0,0,0,,,,,,,,,,|P,1,A1,Gold ring,fixed,10000,2024-01-31,,no,1,no,2024-02-01,open,,|S,1,1,2024-01-31,opening,00000000-0000-0000-0000-000000000003,,,,,,,,,|S,1,2,2024-02-01,sworn,00000000-0000-0000-0000-000000000005,,,,,,,,,|K,1,2024-02-10,3,asked,,,,,,,,,,|P,2,A2,Clock,fixed,10000,2024-01-31,,no,1,no,2024-08-01,sold,2024-08-01,9000|S,2,1,2024-01-31,opening,00000000-0000-0000-0000-000000000004,,,,,,,,,|
+400 Bad Request|{"code":709,"name":"BadKey"}
+2024-08-01|0|stranger/44444444|POST /books/8/import|row,c1,c2,c3,c4,c5,c6,c7,c8,c9,c10,c11,c12,c13,c14|B,2,1,2,,,,,,,,,,,|T,1,0,0,0,,,,,,,,,,|P,1,A1,Gold ring,fixed,10000,2024-01-31,,no,1,no,2024-02-01,open,,|S,1,1,2024-01-31,opening,00000000-0000-0000-0000-000000000003,,,,,,,,,|S,1,2,2024-02-01,sworn,00000000-0000-0000-0000-000000000005,,,,,,,,,|K,1,2024-02-10,03,asked,,,,,,,,,,|P,2,A2,Clock,fixed,10000,2024-01-31,,no,1,no,2024-08-01,sold,2024-08-01,9000|S,2,1,2024-01-31,opening,00000000-0000-0000-0000-000000000004,,,,,,,,,|
+400 Bad Request|{"code":603,"name":"BadField","row":7}
+2024-08-01|0|stranger/44444444|POST /books/8/import|row,c1,c2,c3,c4,c5,c6,c7,c8,c9,c10,c11,c12,c13,c14|B,2,1,2,,,,,,,,,,,|T,1,0,0,0,,,,,,,,,,|P,1,A1,Gold ring,fixed,10000,2024-01-31,,no,1,no,2024-02-01,open,,|S,1,1,2024-01-31,opening,00000000-0000-0000-0000-000000000003,,,,,,,,,|S,1,2,2024-02-01,sworn,00000000-0000-0000-0000-000000000005,,,,,,,,,|K,1,2024-02-10,3,asked,,,,,,,,,,|P,2,A2,Clock,fixed,10000,2024-01-31,,no,1,no,2024-08-01,sold,2024-08-01,9000|S,2,1,2024-01-31,opening,00000000-0000-0000-0000-000000000004,,,,,,,,,|
+404 Not Found|{"code":401,"name":"NoSuchBook"}
+2024-08-01|0|broker/44444444|POST /books/8/import|row,c1,c2,c3,c4,c5,c6,c7,c8,c9,c10,c11,c12,c13,c14|B,2,1,2,,,,,,,,,,,|T,1,0,0,0,,,,,,,,,,|P,1,A1,Gold ring,fixed,10000,2024-01-31,,no,1,no,2024-02-01,open,,|S,1,1,2024-01-31,opening,00000000-0000-0000-0000-000000000003,,,,,,,,,|S,1,2,2024-02-01,sworn,00000000-0000-0000-0000-000000000005,,,,,,,,,|K,1,2024-02-10,3,asked,,,,,,,,,,|P,2,A2,Clock,fixed,10000,2024-01-31,,no,1,no,2024-08-01,sold,2024-08-01,9000|S,2,1,2024-01-31,opening,00000000-0000-0000-0000-000000000004,,,,,,,,,|
+200 OK|{"imported":2}
+2024-08-01|0|broker|GET /books/8/export|
+200 OK|row,c1,c2,c3,c4,c5,c6,c7,c8,c9,c10,c11,c12,c13,c14|B,2,1,2,,,,,,,,,,,|T,1,0,0,0,,,,,,,,,,|P,1,A1,Gold ring,fixed,10000,2024-01-31,,no,1,no,2024-02-01,open,,|S,1,1,2024-01-31,opening,00000000-0000-0000-0000-000000000003,,,,,,,,,|S,1,2,2024-02-01,sworn,00000000-0000-0000-0000-000000000005,,,,,,,,,|K,1,2024-02-10,3,asked,,,,,,,,,,|P,2,A2,Clock,fixed,10000,2024-01-31,,no,1,no,2024-08-01,sold,2024-08-01,9000|S,2,1,2024-01-31,opening,00000000-0000-0000-0000-000000000004,,,,,,,,,|
+2024-08-01|0|1-5|GET /books/8/held|
+200 OK|Pledge 1|Article Gold ring|Kind fixed 100.00|Taken 2024-01-31|Ends 2024-07-31|Status realisable|Principal 100.00|Charges 0.00|Owing 100.00|Held no|Booking 2024-02-10 3 asked|
+2024-08-01|0|broker/44444444|POST /books/8/import|row,c1,c2,c3,c4,c5,c6,c7,c8,c9,c10,c11,c12,c13,c14|B,2,1,2,,,,,,,,,,,|T,1,0,0,0,,,,,,,,,,|P,1,A1,Gold ring,fixed,10000,2024-01-31,,no,1,no,2024-02-01,open,,|S,1,1,2024-01-31,opening,00000000-0000-0000-0000-000000000003,,,,,,,,,|S,1,2,2024-02-01,sworn,00000000-0000-0000-0000-000000000005,,,,,,,,,|K,1,2024-02-10,3,asked,,,,,,,,,,|P,2,A2,Clock,fixed,10000,2024-01-31,,no,1,no,2024-08-01,sold,2024-08-01,9000|S,2,1,2024-01-31,opening,00000000-0000-0000-0000-000000000004,,,,,,,,,|
+200 OK|{"imported":2}
+2024-08-01|0|broker/44444444|POST /books/8/import|row,c1,c2,c3,c4,c5,c6,c7,c8,c9,c10,c11,c12,c13,c14|B,1,0,0,,,,,,,,,,,|
+200 OK|{"imported":2}
+2024-08-01|0|broker/55555555|POST /books/8/import|row,c1,c2,c3,c4,c5,c6,c7,c8,c9,c10,c11,c12,c13,c14|B,2,1,2,,,,,,,,,,,|T,1,0,0,0,,,,,,,,,,|P,1,A1,Gold ring,fixed,10000,2024-01-31,,no,1,no,2024-02-01,open,,|S,1,1,2024-01-31,opening,00000000-0000-0000-0000-000000000003,,,,,,,,,|S,1,2,2024-02-01,sworn,00000000-0000-0000-0000-000000000005,,,,,,,,,|K,1,2024-02-10,3,asked,,,,,,,,,,|P,2,A2,Clock,fixed,10000,2024-01-31,,no,1,no,2024-08-01,sold,2024-08-01,9000|S,2,1,2024-01-31,opening,00000000-0000-0000-0000-000000000004,,,,,,,,,|
+409 Conflict|{"code":409,"name":"BookNotEmpty"}
+2000-01-01|0|operator|POST /books/9|{"capacity":1,"key":"22222222-2222-2222-2222-222222222222","name":"High Street"}
+200 OK|{"book":9}
+2024-08-01|0|broker/44444444|POST /books/9/import|row,c1,c2,c3,c4,c5,c6,c7,c8,c9,c10,c11,c12,c13,c14|B,1,0,0,,,,,,,,,,,|
+200 OK|{"imported":0}
+2024-08-01|0|broker|POST /books/9/terms|{"keep_after":0,"keep_before":0,"rate":0,"version":1}
+200 OK|{"version":1}
+2024-08-01|0|broker/44444444|POST /books/9/import|row,c1,c2,c3,c4,c5,c6,c7,c8,c9,c10,c11,c12,c13,c14|B,2,1,2,,,,,,,,,,,|T,1,0,0,0,,,,,,,,,,|P,1,A1,Gold ring,fixed,10000,2024-01-31,,no,1,no,2024-02-01,open,,|S,1,1,2024-01-31,opening,00000000-0000-0000-0000-000000000003,,,,,,,,,|S,1,2,2024-02-01,sworn,00000000-0000-0000-0000-000000000005,,,,,,,,,|K,1,2024-02-10,3,asked,,,,,,,,,,|P,2,A2,Clock,fixed,10000,2024-01-31,,no,1,no,2024-08-01,sold,2024-08-01,9000|S,2,1,2024-01-31,opening,00000000-0000-0000-0000-000000000004,,,,,,,,,|
+200 OK|{"imported":0}
+"#;
+
 // A day of a book that confirms one booking of a window, and for which two bearers ask.
 const DAY: &str = r#"
 2000-01-01|0|operator|POST /books/7|{"capacity":1,"key":"22222222-2222-2222-2222-222222222222","name":"High Street"}
@@ -133,7 +182,7 @@ pub struct Turn {
 }
 
 // The fields that make a caller known: a key, or receipts, each named by its pledge and by the word that issued it.
-fn fields(rt: &impl Abort, alloc: Global, caller: &str) -> Result<String, Fail> {
+fn caller_fields(rt: &impl Abort, alloc: Global, caller: &str) -> Result<String, Fail> {
     let key = match caller {
         "operator" => "11111111-1111-1111-1111-111111111111",
         "broker" => "22222222-2222-2222-2222-222222222222",
@@ -141,6 +190,15 @@ fn fields(rt: &impl Abort, alloc: Global, caller: &str) -> Result<String, Fail> 
         receipts => return receipt_fields(rt, alloc, receipts),
     };
     Ok(format!(in alloc; "Pledge-Key: {key}\r\n")?)
+}
+
+// The fields of a caller, and the key of an import, which is named by its first digits after a slash.
+fn fields(rt: &impl Abort, alloc: Global, caller: &str) -> Result<String, Fail> {
+    let Some((caller, digits)) = caller.split_once('/') else {
+        return caller_fields(rt, alloc, caller);
+    };
+    let fields = caller_fields(rt, alloc, caller)?;
+    Ok(format!(in alloc; "{fields}Import-Key: {digits}-0000-0000-0000-000000000000\r\n")?)
 }
 
 fn receipt_fields(rt: &impl Abort, alloc: Global, receipts: &str) -> Result<String, Fail> {
@@ -173,6 +231,7 @@ pub fn request(rt: &impl Abort, alloc: Global, line: &str) -> Result<(Stamp, Vec
     let (asked, body) = cut(rt, rest);
     let fields = fields(rt, alloc, caller)?;
     let length = body.len();
+    let body = body.replace(alloc, '|', "\n")?;
     let text = format!(in alloc;
         "{asked} HTTP/1.1\r\n{fields}Content-Length: {length}\r\n\r\n{body}"
     )?;
@@ -211,6 +270,11 @@ pub fn day_turns(rt: &impl Abort, alloc: Global) -> Result<Vec<Turn>, Fail> {
 /// The turns about an export, in order.
 pub fn export_turns(rt: &impl Abort, alloc: Global) -> Result<Vec<Turn>, Fail> {
     turns_of(rt, alloc, EXPORT)
+}
+
+/// The turns about imports, in order.
+pub fn import_turns(rt: &impl Abort, alloc: Global) -> Result<Vec<Turn>, Fail> {
+    turns_of(rt, alloc, IMPORT)
 }
 
 /// The turns of these lines.

@@ -12,7 +12,7 @@ returns-clause-refusals c = (refl, refl, refl, refl)
 
 pub returns-clause-faults : goal.returns-clause-faults
 unfolding digits
-returns-clause-faults c = (refl, refl, refl, refl)
+returns-clause-faults c = (refl, refl, refl, refl, refl)
 
 pub returns-clause-answers : goal.returns-clause-answers
 unfolding digits uuid_on_literals

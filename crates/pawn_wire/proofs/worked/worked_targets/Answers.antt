@@ -7,7 +7,7 @@ use Rattle.pawn_wire.proofs.worked.worked_targets.Goals as goal
 
 pub returns-clause-targets : goal.returns-clause-targets
 unfolding table_rows matchit_on_literals number_said day_said civil_after days_of_years days_of_months
-returns-clause-targets c = (refl, refl, refl, refl, refl, refl, refl, refl, refl, refl, refl)
+returns-clause-targets c = (refl, refl, refl, refl, refl, refl, refl, refl, refl, refl, refl, refl)
 
 pub returns-clause-none : goal.returns-clause-none
 unfolding table_rows matchit_on_literals number_said day_said civil_after days_of_years days_of_months
