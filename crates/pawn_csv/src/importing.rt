@@ -6,7 +6,7 @@ ghost use Rattle.pawn_book.specs.Plans.{Acts, IsLeftByAct};
 ghost use Rattle.pawn_csv.specs.Imports.{import_of};
 
 use pawn_book::{
-    BrokerRequest, Caller, Keep, Number, Refusal, Reply, ReplayableRows, Request, Secret, Stamp,
+    BrokerRequest, Caller, Keep, Number, Refusal, ReplayableRows, Reply, Request, Secret, Stamp,
     act,
 };
 use std::alloc::Global;
