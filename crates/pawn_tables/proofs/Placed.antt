@@ -75,3 +75,9 @@ first_err f P rows r e is lt read None are = absurd (let short = subst (λ rs. 0
 first_err f P rows r Keeper.Memory is lt read (Some x) are = tt
 first_err f P rows r (Keeper.Store Database) is lt read (Some x) are = tt
 first_err f P rows r (Keeper.Store NoRecord) is lt read (Some x) are = read x (is ∙ ap (λ rs. get_or rs 0 r) are)
+
+-- what can be read always is not told to be no record
+pub always_read : {A B : Type 0} (e : KeepError) (x : A) (y : B) (Q : Type 0) → IsRead (Err e) x (Unit {0}) → IsRead (Err e) y Q
+always_read Keeper.Memory x y Q f = tt
+always_read (Keeper.Store Database) x y Q f = tt
+always_read (Keeper.Store NoRecord) x y Q f = absurd (f tt)

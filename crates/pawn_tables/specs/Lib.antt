@@ -1,7 +1,9 @@
 pub mod At
 pub mod Finding
+pub mod Heads
 pub mod Keeps
 pub mod Meta
+pub mod OneHost
 pub mod Rows
 pub mod Schema
 pub mod StandsFor

@@ -1,9 +1,12 @@
 //! Pledge books in the tables of a database.
 #![tactic(auto)]
 
+mod books;
 mod cells;
+mod heads;
 mod joining;
 mod keeper;
+mod laws;
 mod lists;
 mod queries;
 mod records;
@@ -11,7 +14,9 @@ mod rows;
 mod whole;
 mod worked;
 
+pub use books::{confirmed_in, head_in, next_in, ref_in, rows_in};
 pub use keeper::TableKeep;
+pub use laws::tables_stand_for_one;
 pub use worked::worked_tables;
 
 #[cfg(test)]
