@@ -1,6 +1,5 @@
 pub mod BookReads
 pub mod Joins
-pub mod KeeperReads
 pub mod Lent
 pub mod OneHost
 pub mod PledgeReads

@@ -5,7 +5,6 @@ mod books;
 mod cells;
 mod heads;
 mod joining;
-mod keeper;
 mod laws;
 mod lists;
 mod queries;
@@ -15,8 +14,8 @@ mod whole;
 mod worked;
 
 pub use books::{confirmed_in, head_in, next_in, ref_in, rows_in};
-pub use keeper::TableKeep;
 pub use laws::tables_stand_for_one;
+pub use whole::{pledge_of, terms_under};
 pub use worked::worked_tables;
 
 #[cfg(test)]
