@@ -1,5 +1,5 @@
 -- What the queries of a book show, where the tables stand for a host.
-use Rattle.std.proofs.Common.{◌≡◌, ◌≢◌, ◌==◌, ◌++◌, ℕ, zero, suc, ◌+◌, ◌≤◌, ◌<◌, List, [], ◌∷◌, map, filter, flat_map, take, length, codes, Bool, true, false, cond, ◌&&◌, Option, Some, None, T, refl, sym, ap, subst, ◌∙◌, arith, IsPermutation, nat_lt, find, option_map}
+use Rattle.std.proofs.Common.{◌≡◌, ◌==◌, ℕ, ◌≤◌, ◌<◌, List, [], ◌∷◌, map, filter, flat_map, take, codes, Bool, true, false, cond, ◌&&◌, Option, Some, None, T, refl, sym, ap, subst, ◌∙◌, arith, IsPermutation, nat_lt, find, option_map}
 use Rattle.std.specs.List.{list_all, AllByRecursion}
 use Rattle.std.specs.Ordering.{is_eq, is_gt, is_lt, nat_cmp}
 use Rattle.std.specs.declared.cmp.Ordering.TheVariants.{Less}
@@ -7,10 +7,8 @@ use Rattle.std.specs.FinMap.{entries, entries_sorted, get, get-entries, is_sorte
 use Rattle.std.specs.FinMap.Entries.{below_all}
 use Rattle.std.proofs.lemmas.Bool.Decides.{nat_tests}
 use Rattle.std.proofs.lemmas.List.Elements.{filter_agree}
-use Rattle.std.proofs.lemmas.List.Sorted.{length_permutation}
 use Rattle.std.specs.Cmp.Lexicographic.{texts_ties}
-use Rattle.sqlite_trees.proofs.ListLemmas.{map-map, filter-map, ascending-filter, ascending-map, ascending_weaker}
-use Rattle.sqlite.specs.declared.types.Value.{Value}
+use Rattle.sqlite_trees.proofs.ListLemmas.{map-map, filter-map, ascending-filter}
 use Rattle.sqlite.specs.declared.types.Value.TheVariants.{Text}
 use Rattle.sqlite.specs.Order.{Row, column, value_cmp}
 use Rattle.sqlite.specs.Ops.{binary, is_true, from_truth}
@@ -18,25 +16,20 @@ use Rattle.sqlite.specs.Tree.{IsAscending}
 use Rattle.sqlite.specs.Table.{Table}
 use Rattle.sqlite.specs.State.{State, Shown}
 use Rattle.sqlite_value.proofs.OrderLemmas.{value_cmp-Int, value_cmp-Text}
-use Rattle.pawn_pledge.specs.declared.record.Booking.{Booking}
-use Rattle.pawn_pledge.specs.declared.record.BookingState.{BookingState}
-use Rattle.pawn_pledge.specs.declared.record.BookingState.TheVariants.{Asked, Confirmed, Refused, Cancelled}
-use Rattle.pawn_pledge.specs.Pledge.{PledgeValue}
-use Rattle.pawn_book.specs.BookStep.{BookValue, with_reference}
-use Rattle.pawn_book.specs.Bookings.{confirmed_count, is_confirmed_for}
+use Rattle.pawn_book.specs.BookStep.{BookValue}
 use Rattle.pawn_book.specs.HostStep.{Host, rows}
-use Rattle.pawn_book.specs.Keeping.{IsNextBook, number_of, pledges_of}
-use Rattle.pawn_book.specs.Rows.{AreNumberedFrom, is_same_text}
-use Rattle.pawn_tables.specs.Schema.{keep_schema, books, pledges, bookings, meta}
-use Rattle.pawn_tables.specs.Rows.{number, book_row, head_cells, pledge_listed, booking_listed, at_most_one}
+use Rattle.pawn_book.specs.Keeping.{IsNextBook}
+use Rattle.pawn_book.specs.Rows.{is_same_text}
+use Rattle.pawn_tables.specs.Schema.{keep_schema, books, meta}
+use Rattle.pawn_tables.specs.Rows.{number, book_row, head_cells, at_most_one}
 use Rattle.pawn_tables.specs.Meta.{meta_row, meta_rows}
 use Rattle.pawn_tables.specs.Heads.{number_cells}
 use Rattle.pawn_tables.specs.At.{is_at, is_above, at_book}
-use Rattle.pawn_tables.specs.StandsFor.{StandsFor, of_books, of_pledges, AreOrdered}
+use Rattle.pawn_tables.specs.StandsFor.{StandsFor}
 use Rattle.one_table.proofs.Found.{shown_listed, shown_first}
 use Rattle.pawn_tables.proofs.ReadTexts as text
 use Rattle.pawn_tables.proofs.PledgeReads.{short, few}
-use Rattle.pawn_tables.proofs.Sought.{rows_at, of_one_book, filter-flat_map, equals, less}
+use Rattle.pawn_tables.proofs.Sought.{rows_at, of_one_book, equals, less}
 
 truth_of : (b : Bool) → is_true (from_truth (Some b)) ≡ b
 truth_of true = refl

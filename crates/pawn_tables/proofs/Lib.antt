@@ -4,6 +4,7 @@ pub mod Lent
 pub mod OneHost
 pub mod PledgeReads
 pub mod Placed
+pub mod PlaceReads
 pub mod ReadTexts
 pub mod RowCells
 pub mod SameRows

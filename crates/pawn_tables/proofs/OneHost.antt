@@ -1,9 +1,9 @@
 -- Tables stand for one host at most.
-use Rattle.std.proofs.Common.{◌≡◌, ◌≢◌, ◌==◌, ℕ, zero, suc, ◌+◌, ◌≤◌, List, [], ◌∷◌, map, filter, codes, Bool, true, false, Option, Some, None, refl, sym, ap, subst, ◌∙◌, arith, IsPermutation, slice_get}
+use Rattle.std.proofs.Common.{◌≡◌, ◌==◌, ℕ, suc, ◌+◌, ◌≤◌, List, [], ◌∷◌, map, filter, codes, Bool, true, false, Option, Some, None, refl, sym, ap, subst, ◌∙◌, arith, IsPermutation, slice_get}
 use Rattle.std.specs.Prelude.{IfSome, if◌then◌else◌}
 use Rattle.std.specs.List.{list_all}
 use Rattle.std.specs.Cmp.{nat_cmp_total}
-use Rattle.std.specs.FinMap.{FinMap, entries, get, same_map, nat_cmp-IsAntisymmetric}
+use Rattle.std.specs.FinMap.{get, same_map, nat_cmp-IsAntisymmetric}
 use Rattle.std.proofs.lemmas.Bool.Decides.{nat_tests}
 use Rattle.std.proofs.lemmas.List.Sorted.{IsPermutation-map}
 use Rattle.sqlite_trees.proofs.ListLemmas.{map-map, IsPermutation-filter}
@@ -13,22 +13,19 @@ use Rattle.sqlite.specs.Order.{Row, column, value_cmp}
 use Rattle.sqlite.specs.Effect.{Database}
 use Rattle.sqlite.proofs.Callers.{one_permutation}
 use Rattle.pawn_terms.specs.declared.terms.Rates.{Rates}
-use Rattle.pawn_debt.specs.declared.entry.Entry.{Entry}
-use Rattle.pawn_pledge.specs.declared.record.Issued.{Issued}
-use Rattle.pawn_pledge.specs.declared.record.Extension.{Extension}
 use Rattle.pawn_pledge.specs.declared.record.Booking.{Booking}
 use Rattle.pawn_pledge.specs.Pledge.{PledgeValue}
-use Rattle.pawn_pledge.specs.Replayable.{Each, AreNumbered}
+use Rattle.pawn_pledge.specs.Replayable.{AreNumbered}
 use Rattle.pawn_book.specs.BookStep.{BookValue, pledge_from, pledge_in}
 use Rattle.pawn_book.specs.HostStep.{Host, rows}
 use Rattle.pawn_book.specs.Keeping.{entries_of, extensions_of, secrets_of, terms_of}
 use Rattle.pawn_book.specs.Rows.{terms_at}
 use Rattle.pawn_book.specs.Written.{IsWord, AreWords}
-use Rattle.pawn_tables.specs.Rows.{number, under, at_most_one, placed_from, head_cells, book_row, terms_cells, terms_listed, pledge_cells, pledge_listed, entry_cells, entries_listed, secret_cells, secrets_listed, extension_cells, extensions_listed, booking_cells, booking_listed}
+use Rattle.pawn_tables.specs.Rows.{under, at_most_one, placed_from, head_cells, terms_cells, pledge_cells, pledge_listed, entry_cells, entries_listed, secret_cells, secrets_listed, extension_cells, extensions_listed, booking_cells, booking_listed}
 use Rattle.pawn_tables.specs.Meta.{meta_row, meta_rows}
 use Rattle.pawn_tables.specs.Told.{booking_of}
 use Rattle.pawn_tables.specs.At.{is_at, at_book, at_pledge}
-use Rattle.pawn_tables.specs.StandsFor.{StandsFor, of_books, of_pledges, AreOrdered, AreStorable}
+use Rattle.pawn_tables.specs.StandsFor.{StandsFor, of_pledges, AreOrdered}
 use Rattle.pawn_tables.proofs.Placed.{mapped, each_any}
 use Rattle.pawn_tables.proofs.PledgeReads.{short, few, holds_in, number_in, under_in, rises_at, under_map, under_placed, under_booked, placed_cells, one_version}
 use Rattle.pawn_tables.proofs.BookReads.{one_book}

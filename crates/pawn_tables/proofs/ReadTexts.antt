@@ -162,3 +162,28 @@ rows_shows = col 1 2 ∷ []
 pub rows_is : Asks keep_schema rows_text (over_table 13 rows_tests rows_shows []) (codes "value" ∷ [])
 unfolding understood everything
 rows_is = (refl, refl, (refl, refl))
+
+-- a row of a pledge, at a place
+abbrev pub of_place : List Term
+of_place = is_param 1 0 ∷ is_param 2 1 ∷ is_param 3 2 ∷ []
+
+abbrev pub entry_text : List ℕ
+entry_text = codes "SELECT seq, day, sort, pence FROM entries WHERE book = ?1 AND number = ?2 AND seq = ?3"
+
+pub entry_is : Asks keep_schema entry_text (over_table 6 of_place entries_shows []) (codes "seq" ∷ codes "day" ∷ codes "sort" ∷ codes "pence" ∷ [])
+unfolding understood everything
+entry_is = (refl, refl, (refl, refl))
+
+abbrev pub secret_text : List ℕ
+secret_text = codes "SELECT place, day, sort, secret FROM secrets WHERE book = ?1 AND number = ?2 AND place = ?3"
+
+pub secret_is : Asks keep_schema secret_text (over_table 8 of_place secrets_shows []) (codes "place" ∷ codes "day" ∷ codes "sort" ∷ codes "secret" ∷ [])
+unfolding understood everything
+secret_is = (refl, refl, (refl, refl))
+
+abbrev pub extension_text : List ℕ
+extension_text = codes "SELECT place, day, until_day FROM extensions WHERE book = ?1 AND number = ?2 AND place = ?3"
+
+pub extension_is : Asks keep_schema extension_text (over_table 17 of_place extensions_shows []) (codes "place" ∷ codes "day" ∷ codes "until_day" ∷ [])
+unfolding understood everything
+extension_is = (refl, refl, (refl, refl))

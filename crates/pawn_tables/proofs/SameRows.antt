@@ -1,5 +1,5 @@
 -- What the rows of a table tell, they tell once.
-use Rattle.std.proofs.Common.{◌≡◌, ◌==◌, ℕ, zero, suc, ◌+◌, ◌≤◌, ◌<◌, List, [], ◌∷◌, map, length, Bool, true, false, Option, Some, None, refl, sym, ap, subst, ◌∙◌, arith, IsPermutation, slice_get, get_or}
+use Rattle.std.proofs.Common.{◌≡◌, ℕ, zero, suc, ◌+◌, ◌≤◌, ◌<◌, List, [], ◌∷◌, length, Bool, true, false, Option, Some, None, refl, sym, ap, ◌∙◌, arith, IsPermutation, get_or}
 use Rattle.std.specs.Ordering.{is_lt, ordering_reverse}
 use Rattle.std.specs.declared.cmp.Ordering.TheVariants.{Less}
 use Rattle.std.specs.Cmp.{IsTotalOrder, on_total}
@@ -9,7 +9,7 @@ use Rattle.sqlite_trees.proofs.ListLemmas.{ascending-get_or}
 use Rattle.sqlite_keyed.proofs.SortLemmas.{sorted_unique}
 use Rattle.sqlite_value.proofs.OrderLemmas.{value_cmp_total}
 use Rattle.sqlite.specs.declared.types.Value.{Value}
-use Rattle.sqlite.specs.declared.types.Value.TheVariants.{Null, Int, Text, Blob}
+use Rattle.sqlite.specs.declared.types.Value.TheVariants.{Text}
 use Rattle.sqlite.specs.Order.{Row, column, value_cmp}
 use Rattle.sqlite.specs.Tree.{Trees, IsAscending}
 use Rattle.sqlite.specs.Table.{Table}
@@ -30,14 +30,12 @@ use Rattle.pawn_pledge.specs.declared.record.BookingState.{BookingState}
 use Rattle.pawn_pledge.specs.declared.record.BookingState.TheVariants as state
 use Rattle.pawn_pledge.specs.declared.record.Closing.{Closing}
 use Rattle.pawn_pledge.specs.declared.record.Closing.TheVariants as closing
-use Rattle.pawn_pledge.specs.declared.record.Opening.{Opening}
-use Rattle.pawn_pledge.specs.declared.record.Standing.{Standing}
 use Rattle.pawn_pledge.specs.Pledge.{PledgeValue}
 use Rattle.pawn_pledge.specs.Replayable.{Each}
 use Rattle.pawn_book.specs.declared.change.Imported.{Imported}
 use Rattle.pawn_book.specs.Written.{IsWord}
-use Rattle.std.specs.Prelude.{IfSome, pos}
-use Rattle.pawn_tables.specs.Rows.{number, flag, flag_number, or_null, word, kind_number, sort_number, issue_number, state_number, closed_number, closed_day, closed_amount, import_key, import_count, at_most_one, placed_from, pledge_cells, entry_cells, secret_cells, extension_cells, booking_cells, terms_cells}
+use Rattle.std.specs.Prelude.{IfSome}
+use Rattle.pawn_tables.specs.Rows.{number, flag_number, or_null, word, kind_number, sort_number, issue_number, state_number, closed_number, closed_day, closed_amount, import_key, import_count, at_most_one, placed_from, pledge_cells, entry_cells, secret_cells, extension_cells, booking_cells, terms_cells}
 use Rattle.pawn_tables.proofs.Words.{word_of_bytes}
 
 -- two lists that a table holds

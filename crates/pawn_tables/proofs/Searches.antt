@@ -27,7 +27,7 @@ use Rattle.pawn_tables.specs.Schema.{keep_schema, pledges, bookings}
 use Rattle.pawn_tables.specs.Rows.{number, under, pledge_cells, pledge_listed, booking_cells, booking_listed, state_number, at_most_one}
 use Rattle.pawn_tables.specs.Heads.{number_cells}
 use Rattle.pawn_tables.specs.At.{is_at}
-use Rattle.pawn_tables.specs.StandsFor.{StandsFor, of_books, of_pledges, AreOrdered}
+use Rattle.pawn_tables.specs.StandsFor.{StandsFor, of_pledges, AreOrdered}
 use Rattle.one_table.proofs.Found.{shown_listed, shown_first}
 use Rattle.pawn_tables.proofs.ReadTexts as text
 use Rattle.pawn_tables.proofs.Sought.{rows_at, of_one_book, filter-flat_map, filter-append, flat_none, equals, less}

@@ -4,6 +4,7 @@ pub mod Heads
 pub mod Keeps
 pub mod Meta
 pub mod OneHost
+pub mod Places
 pub mod Rows
 pub mod Schema
 pub mod StandsFor

@@ -7,6 +7,7 @@ mod heads;
 mod joining;
 mod laws;
 mod lists;
+mod places;
 mod queries;
 mod records;
 mod rows;
@@ -15,6 +16,7 @@ mod worked;
 
 pub use books::{confirmed_in, head_in, next_in, ref_in, rows_in};
 pub use laws::tables_stand_for_one;
+pub use places::{entry_in, extension_in, secret_in};
 pub use whole::{pledge_of, terms_under};
 pub use worked::worked_tables;
 

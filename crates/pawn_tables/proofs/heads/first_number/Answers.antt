@@ -1,4 +1,4 @@
-use Rattle.std.proofs.Common.{rules, ℕ, arith}
+use Rattle.std.proofs.Common.{rules, arith}
 use Rattle.pawn_tables.specs.Heads.{number_cells}
 use Rattle.pawn_tables.proofs.Placed.{first_err, always_read}
 use Rattle.pawn_pledge.specs.Number.{IsNumber}
