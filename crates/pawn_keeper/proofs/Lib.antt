@@ -1,1 +1,2 @@
 pub mod KeeperReads
+pub mod Walks

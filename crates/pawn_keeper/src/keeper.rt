@@ -5,14 +5,27 @@ ghost use Rattle.sqlite.specs.Held.{state};
 ghost use Rattle.pawn_book.specs.Bookings.{confirmed_count};
 ghost use Rattle.pawn_book.specs.BookStep.{book_head, pledge_in};
 ghost use Rattle.pawn_book.specs.HostStep.{rows};
-ghost use Rattle.pawn_book.specs.Keeping.{Errs, IsNextBook, Reads, number_of, pledges_of, terms_of};
+ghost use Rattle.pawn_book.specs.Keeping.{Errs, IsNextBook, Reads, entries_of, extensions_of, number_of, pledges_of, secrets_of, terms_of};
 ghost use Rattle.pawn_book.specs.Rows.{terms_at};
+ghost use Rattle.pawn_book.specs.Visits.{IsShare, Visits, call_end};
 ghost use Rattle.pawn_tables.specs.Keeps.{keeping_by};
+ghost use Rattle.pawn_tables.specs.Places.{at_place};
 
-use pawn_book::{BookHead, Day, KeepError, Number, Pledge, Reference, Terms};
-use pawn_tables::{confirmed_in, head_in, next_in, pledge_of, ref_in, rows_in, terms_under};
+use pawn_book::{
+    BookHead, Day, Entry, Extension, Flow, Issued, KeepError, Number, Pledge, Reference,
+    StoreFault, Terms, Visitor,
+};
+use pawn_tables::{
+    confirmed_in, entry_in, extension_in, head_in, next_in, pledge_of, ref_in, rows_in, secret_in,
+    terms_under,
+};
 use sqlite::{Alter, Connection};
 use std::alloc::Global;
+
+// How many numbers there are for pledges, and what comes of a list that has more than can be counted.
+const NUMBERS: u64 = 999_999_999;
+
+const BEYOND: KeepError = KeepError::Store(StoreFault::Database);
 
 /// Books in the tables of a database.
 #[derive(Drop)]
@@ -123,6 +136,151 @@ impl<S: Alter> TableKeep<S> {
         let count = rows_in(&mut tx);
         tx.rollback();
         count
+    }
+
+    /// Hands the visitor the pledges of a book in order of their numbers, until it wants no more.
+    pub fn walk<V: Visitor<Pledge>>(
+        &mut self,
+        book: Number,
+        visitor: &mut V,
+    ) -> Result<(), KeepError>
+        ensures reads { Visits V.step visitor.old visitor.new (λ given flow.
+            Reads (keeping_by (λ k. state S.Store k.conn)) self.old self.new (λ h. IsShare given flow (call_end result) (pledges_of (get h.books book)))) }
+        ensures errs { Errs (keeping_by (λ k. state S.Store k.conn)) self.old self.new result }
+    {
+        for place in 0..NUMBERS {
+            let Some(number) = Number::new(place + 1) else {
+                return Err(BEYOND);
+            };
+            let Some(pledge) = self.pledge(book, number)? else {
+                return Ok(());
+            };
+            match visitor.visit(&pledge) {
+                Flow::Go => {}
+                Flow::Stop => return Ok(()),
+            }
+        }
+        Err(BEYOND)
+    }
+
+    // The entry of a pledge at a place.
+    fn entry_at(
+        &mut self,
+        book: Number,
+        number: Number,
+        place: u32,
+    ) -> Result<Option<Entry>, KeepError>
+        ensures reads { Reads (keeping_by (λ k. state S.Store k.conn)) self.old self.new (λ h. IfOk result (λ x. x ≡ at_place (entries_of (pledge_in (get h.books book) number)) place)) }
+        ensures errs { Errs (keeping_by (λ k. state S.Store k.conn)) self.old self.new result }
+    {
+        let _ = self.conn.is_autocommit();
+        let mut tx = self.conn.transaction();
+        let entry = entry_in(&mut tx, book.get(), number.get(), place);
+        tx.rollback();
+        entry
+    }
+
+    /// Hands the visitor the entries of a pledge in order, until it wants no more.
+    pub fn entries<V: Visitor<Entry>>(
+        &mut self,
+        book: Number,
+        number: Number,
+        visitor: &mut V,
+    ) -> Result<(), KeepError>
+        ensures reads { Visits V.step visitor.old visitor.new (λ given flow.
+            Reads (keeping_by (λ k. state S.Store k.conn)) self.old self.new (λ h. IsShare given flow (call_end result) (entries_of (pledge_in (get h.books book) number)))) }
+        ensures errs { Errs (keeping_by (λ k. state S.Store k.conn)) self.old self.new result }
+    {
+        for place in 0..u32::MAX {
+            let Some(entry) = self.entry_at(book, number, place + 1)? else {
+                return Ok(());
+            };
+            match visitor.visit(&entry) {
+                Flow::Go => {}
+                Flow::Stop => return Ok(()),
+            }
+        }
+        Err(BEYOND)
+    }
+
+    // The secret of a pledge at a place.
+    fn secret_at(
+        &mut self,
+        book: Number,
+        number: Number,
+        place: u32,
+    ) -> Result<Option<Issued>, KeepError>
+        ensures reads { Reads (keeping_by (λ k. state S.Store k.conn)) self.old self.new (λ h. IfOk result (λ x. x ≡ at_place (secrets_of (pledge_in (get h.books book) number)) place)) }
+        ensures errs { Errs (keeping_by (λ k. state S.Store k.conn)) self.old self.new result }
+    {
+        let _ = self.conn.is_autocommit();
+        let mut tx = self.conn.transaction();
+        let secret = secret_in(&mut tx, book.get(), number.get(), place);
+        tx.rollback();
+        secret
+    }
+
+    /// Hands the visitor the secrets of a pledge in order, until it wants no more.
+    pub fn secrets<V: Visitor<Issued>>(
+        &mut self,
+        book: Number,
+        number: Number,
+        visitor: &mut V,
+    ) -> Result<(), KeepError>
+        ensures reads { Visits V.step visitor.old visitor.new (λ given flow.
+            Reads (keeping_by (λ k. state S.Store k.conn)) self.old self.new (λ h. IsShare given flow (call_end result) (secrets_of (pledge_in (get h.books book) number)))) }
+        ensures errs { Errs (keeping_by (λ k. state S.Store k.conn)) self.old self.new result }
+    {
+        for place in 0..u32::MAX {
+            let Some(secret) = self.secret_at(book, number, place + 1)? else {
+                return Ok(());
+            };
+            match visitor.visit(&secret) {
+                Flow::Go => {}
+                Flow::Stop => return Ok(()),
+            }
+        }
+        Err(BEYOND)
+    }
+
+    // The extension of a pledge at a place.
+    fn extension_at(
+        &mut self,
+        book: Number,
+        number: Number,
+        place: u32,
+    ) -> Result<Option<Extension>, KeepError>
+        ensures reads { Reads (keeping_by (λ k. state S.Store k.conn)) self.old self.new (λ h. IfOk result (λ x. x ≡ at_place (extensions_of (pledge_in (get h.books book) number)) place)) }
+        ensures errs { Errs (keeping_by (λ k. state S.Store k.conn)) self.old self.new result }
+    {
+        let _ = self.conn.is_autocommit();
+        let mut tx = self.conn.transaction();
+        let extension = extension_in(&mut tx, book.get(), number.get(), place);
+        tx.rollback();
+        extension
+    }
+
+    /// Hands the visitor the extensions of a pledge in order, until it wants no more.
+    pub fn extensions<V: Visitor<Extension>>(
+        &mut self,
+        book: Number,
+        number: Number,
+        visitor: &mut V,
+    ) -> Result<(), KeepError>
+        ensures reads { Visits V.step visitor.old visitor.new (λ given flow.
+            Reads (keeping_by (λ k. state S.Store k.conn)) self.old self.new (λ h. IsShare given flow (call_end result) (extensions_of (pledge_in (get h.books book) number)))) }
+        ensures errs { Errs (keeping_by (λ k. state S.Store k.conn)) self.old self.new result }
+    {
+        for place in 0..u32::MAX {
+            let Some(extension) = self.extension_at(book, number, place + 1)? else {
+                return Ok(());
+            };
+            match visitor.visit(&extension) {
+                Flow::Go => {}
+                Flow::Stop => return Ok(()),
+            }
+        }
+        Err(BEYOND)
     }
 }
 
