@@ -2,6 +2,7 @@ ghost use Rattle.std.specs.Prelude.{◌≡◌, IfErr, IfOk, IsTrue, false, optio
 ghost use Rattle.std.specs.FinMap.{get};
 ghost use Rattle.std.proofs.Props.{props};
 ghost use Rattle.sqlite.specs.Held.{state};
+ghost use Rattle.pawn_pledge.specs.Brief.{brief_of};
 ghost use Rattle.pawn_book.specs.Bookings.{confirmed_count};
 ghost use Rattle.pawn_book.specs.BookStep.{book_head, pledge_in};
 ghost use Rattle.pawn_book.specs.HostStep.{rows};
@@ -12,7 +13,7 @@ ghost use Rattle.pawn_tables.specs.Keeps.{keeping_by};
 ghost use Rattle.pawn_tables.specs.Places.{at_place};
 
 use pawn_book::{
-    BookHead, Day, Entry, Extension, Flow, Issued, KeepError, Number, Pledge, Reference,
+    BookHead, Brief, Day, Entry, Extension, Flow, Issued, KeepError, Number, Pledge, Reference,
     StoreFault, Terms, Visitor,
 };
 use pawn_tables::{
@@ -161,6 +162,21 @@ impl<S: Alter> TableKeep<S> {
             }
         }
         Err(BEYOND)
+    }
+
+    /// The pledge of a number without its lists. They are read, since what is stored beside them is
+    /// compared with what follows from them.
+    pub fn brief(&mut self, book: Number, number: Number) -> Result<Option<Brief>, KeepError>
+        ensures reads { Reads (keeping_by (λ k. state S.Store k.conn)) self.old self.new (λ h. IfOk result (λ brief. brief ≡ option_map brief_of (pledge_in (get h.books book) number))) }
+        ensures errs { Errs (keeping_by (λ k. state S.Store k.conn)) self.old self.new result }
+    {
+        let Some(pledge) = self.pledge(book, number)? else {
+            return Ok(None);
+        };
+        match pledge.brief() {
+            Ok(brief) => Ok(Some(brief)),
+            Err(_) => Err(KeepError::Memory),
+        }
     }
 
     // The entry of a pledge at a place.

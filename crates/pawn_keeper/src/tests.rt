@@ -1,5 +1,7 @@
 use crate::TableKeep;
-use pawn_book::{Day, KeepError, Number, Reference, StoreFault};
+use pawn_book::{
+    Day, Entry, Extension, Flow, Issued, KeepError, Number, Pledge, Reference, StoreFault, Visitor,
+};
 use sqlite::{Connection, MemStore};
 use std::alloc::Global;
 use std::test::Fail;
@@ -43,6 +45,8 @@ fn a_pledge_of_rows_is_read(rt: HostRuntime) -> Result<(), Fail> {
     assert_eq!(rt; pledge.secrets()[0].secret.word(), 3);
     assert_eq!(rt; pledge.agreement().opening.reference.as_str(), "A1");
     assert_eq!(rt; pledge.totals().millionths, 100_000);
+    let brief = keeper.brief(seven, one).ok().ok_or("read")?;
+    assert_eq!(rt; brief.ok_or("found")?.fields().counts.entries, 1);
     assert!(rt; keeper.pledge(seven, two).ok().ok_or("read")?.is_none());
     Ok(())
 }
@@ -98,5 +102,121 @@ fn a_row_that_was_bent_is_no_record(rt: HostRuntime) -> Result<(), Fail> {
         let fault = keeper.pledge(seven, one).err().ok_or("no fault")?;
         assert_eq!(rt; fault, KeepError::Store(StoreFault::NoRecord));
     }
+    Ok(())
+}
+
+// The last number that was handed over, how many were, and how many are wanted.
+#[derive(Drop)]
+struct Last {
+    number: u128,
+    seen: u64,
+    wanted: u64,
+}
+
+impl Last {
+    fn of(wanted: u64) -> Last {
+        Last {
+            number: 0,
+            seen: 0,
+            wanted,
+        }
+    }
+
+    fn take(&mut self, number: u128) -> Flow {
+        self.number = number;
+        self.seen = self.seen.wrapping_add(1);
+        if self.seen < self.wanted {
+            Flow::Go
+        } else {
+            Flow::Stop
+        }
+    }
+}
+
+impl Visitor<Pledge> for Last {
+    ghost use Rattle.std.specs.Prelude.{⊤};
+
+    ghost step = { λ v item flow w. ⊤ };
+
+    fn visit(&mut self, item: &Pledge) -> Flow {
+        self.take(u128::from(item.agreement().number.get()))
+    }
+}
+
+impl Visitor<Entry> for Last {
+    ghost use Rattle.std.specs.Prelude.{⊤};
+
+    ghost step = { λ v item flow w. ⊤ };
+
+    fn visit(&mut self, item: &Entry) -> Flow {
+        self.take(u128::from(item.pence))
+    }
+}
+
+impl Visitor<Issued> for Last {
+    ghost use Rattle.std.specs.Prelude.{⊤};
+
+    ghost step = { λ v item flow w. ⊤ };
+
+    fn visit(&mut self, item: &Issued) -> Flow {
+        self.take(item.secret.word())
+    }
+}
+
+impl Visitor<Extension> for Last {
+    ghost use Rattle.std.specs.Prelude.{⊤};
+
+    ghost step = { λ v item flow w. ⊤ };
+
+    fn visit(&mut self, item: &Extension) -> Flow {
+        self.take(u128::from(item.until.count()))
+    }
+}
+
+// A second pledge in the book.
+const WATCH: &str =
+    "INSERT INTO pledges VALUES (7, 2, 'A2', 'Watch', 0, 5000, 19723, NULL, 0, 1, 19905, 0, 19723, 0, NULL, NULL); INSERT INTO secrets VALUES (7, 2, 1, 19723, 0, X'00000000000000000000000000000004'); INSERT INTO totals VALUES (7, 2, 19723, 5000, 0); UPDATE books SET pledges = 2";
+
+#[test]
+fn pledges_are_handed_over_in_order(rt: HostRuntime) -> Result<(), Fail> {
+    let (seven, _, _) = numbers()?;
+    let mut keeper = keeper(rt.alloc(), WATCH)?;
+    let mut all = Last::of(9);
+    keeper.walk(seven, &mut all).ok().ok_or("walked")?;
+    assert_eq!(rt; all.number, 2);
+    assert_eq!(rt; all.seen, 2);
+    let mut first = Last::of(1);
+    keeper.walk(seven, &mut first).ok().ok_or("walked")?;
+    assert_eq!(rt; first.number, 1);
+    Ok(())
+}
+
+#[test]
+fn lists_are_handed_over(rt: HostRuntime) -> Result<(), Fail> {
+    let (seven, one, _) = numbers()?;
+    let mut keeper = keeper(
+        rt.alloc(),
+        "INSERT INTO secrets VALUES (7, 1, 2, 19730, 1, X'00000000000000000000000000000005')",
+    )?;
+    let mut entries = Last::of(9);
+    keeper
+        .entries(seven, one, &mut entries)
+        .ok()
+        .ok_or("entries")?;
+    assert_eq!(rt; entries.number, 1000);
+    assert_eq!(rt; entries.seen, 1);
+    let mut secrets = Last::of(9);
+    keeper
+        .secrets(seven, one, &mut secrets)
+        .ok()
+        .ok_or("secrets")?;
+    assert_eq!(rt; secrets.number, 5);
+    assert_eq!(rt; secrets.seen, 2);
+    let mut extensions = Last::of(9);
+    keeper
+        .extensions(seven, one, &mut extensions)
+        .ok()
+        .ok_or("extensions")?;
+    assert_eq!(rt; extensions.seen, 0);
     Ok(())
 }
