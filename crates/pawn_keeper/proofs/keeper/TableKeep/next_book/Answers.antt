@@ -1,4 +1,4 @@
-use Rattle.std.proofs.Common.{rules, ◌≡◌, refl}
+use Rattle.std.proofs.Common.{rules, refl}
 use Rattle.std.specs.Prelude.{ℕ, Option, unwrap_or, is_ok}
 use Rattle.pawn_book.specs.Keeping.{IsNextBook}
 use Rattle.sqlite.specs.Held.{state}

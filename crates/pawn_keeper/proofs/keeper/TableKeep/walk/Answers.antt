@@ -1,7 +1,6 @@
-use Rattle.std.proofs.Common.{rules, ◌≡◌, ◌+◌, Some, None, Ok, Err, sym, ap, subst, ◌∙◌}
+use Rattle.std.proofs.Common.{rules, ◌≡◌, ◌+◌, Some, None, Err, sym, ap, subst, ◌∙◌}
 use Rattle.std.specs.FinMap.{get}
 use Rattle.sqlite.specs.Held.{state}
-use Rattle.pawn_book.specs.HostStep.{Host}
 use Rattle.pawn_book.specs.Keeping.{pledges_of}
 use Rattle.pawn_book.specs.Visits.{call_end}
 use Rattle.pawn_book.proofs.Reading.{reads_as}
