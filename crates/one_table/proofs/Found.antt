@@ -1,8 +1,9 @@
 -- What a query on one table shows, told by the rows that the table holds.
-use Rattle.std.proofs.Common.{◌≡◌, ℕ, List, [], ◌∷◌, map, filter, take, Bool, refl, sym, ap, subst, ◌∙◌, IsPermutation}
+use Rattle.std.proofs.Common.{◌≡◌, ℕ, List, [], ◌∷◌, map, filter, take, Bool, refl, sym, ap, subst, ◌∙◌, IsPermutation, reverse, ◌++◌}
+use Rattle.std.proofs.lemmas.List.{reverse-append}
 use Rattle.std.specs.declared.cmp.Ordering.TheVariants.{Less}
 use Rattle.std.proofs.lemmas.List.Elements.{filter_agree}
-use Rattle.std.proofs.lemmas.List.Sorted.{IsPermutation-map, IsPermutation-trans, IsPermutation-sym}
+use Rattle.std.proofs.lemmas.List.Sorted.{IsPermutation-map, IsPermutation-trans, IsPermutation-sym, IsPermutation-reverse}
 use Rattle.sqlite.specs.declared.types.Value.{Value}
 use Rattle.sqlite.specs.declared.types.Value.TheVariants.{Null}
 use Rattle.sqlite.specs.Order.{Row, column, value_cmp}
@@ -14,12 +15,50 @@ use Rattle.sqlite.specs.Program.{overlay}
 use Rattle.sqlite.specs.State.{State, Shown}
 use Rattle.sqlite_value.specs.declared.keys.Key.{Key}
 use Rattle.sqlite_value.proofs.OrderLemmas.{then-Equal}
-use Rattle.sqlite_trees.proofs.ListLemmas.{map-map, filter-map, IsPermutation-filter, ascending-map, ascending_weaker}
+use Rattle.sqlite_trees.proofs.ListLemmas.{map-map, filter-map, IsPermutation-filter, ascending-map, ascending_weaker, ascending-append, all-append}
 use Rattle.sqlite.proofs.Callers.{reads_as}
 use Rattle.sqlite.specs.Schema.{Schema}
 use Rattle.one_table.specs.Listing.{Holds, columns_of}
 use Rattle.one_table.proofs.OneTable.{over_table, first_of_table, around, passes, shows_of, found, found_first, found_all}
-use Rattle.one_table.proofs.Texts.{Asks, by_column}
+use Rattle.one_table.proofs.Texts.{Asks, by_column, by_column_down}
+
+-- the last of a list alone
+abbrev pub last_of : {A : Type 0} → List A → List A
+last_of [] = []
+last_of (x ∷ []) = x ∷ []
+last_of (x ∷ (y ∷ ys)) = last_of (y ∷ ys)
+
+first_append : {A : Type 0} (xs ys : List A) (x : A) → take 1 ((xs ++ x ∷ []) ++ ys) ≡ take 1 (xs ++ x ∷ [])
+first_append [] ys x = refl
+first_append (z ∷ xs) ys x = refl
+
+first_reversed : {A : Type 0} (xs : List A) → take 1 (reverse xs) ≡ last_of xs
+first_reversed [] = refl
+first_reversed (x ∷ []) = refl
+first_reversed (x ∷ (y ∷ ys)) =
+    ap (take 1) (reverse-append (x ∷ []) (y ∷ ys) ∙ ap (λ l. l ++ x ∷ []) (reverse-append (y ∷ []) ys)) ∙ first_append (reverse ys) (x ∷ []) y
+    ∙ ap (take 1) (sym (reverse-append (y ∷ []) ys)) ∙ first_reversed (y ∷ ys)
+
+first_of_map : {A B : Type 0} (f : A → B) (xs : List A) → take 1 (map f xs) ≡ map f (take 1 xs)
+first_of_map f [] = refl
+first_of_map f (x ∷ xs) = refl
+
+pub last_map : {A B : Type 0} (f : A → B) (xs : List A) → last_of (map f xs) ≡ map f (last_of xs)
+last_map f [] = refl
+last_map f (x ∷ []) = refl
+last_map f (x ∷ (y ∷ ys)) = last_map f (y ∷ ys)
+
+falls : {A : Type 0} (R : A → A → Type 0) (xs : List A) → IsAscending R xs → IsAscending (λ a b. R b a) (reverse xs)
+falls R [] up = tt
+falls {A} R (x ∷ xs) up =
+    subst (IsAscending (λ a b. R b a)) (sym (reverse-append (x ∷ []) xs))
+    (ascending-append (λ a b. R b a) (reverse xs) (x ∷ []) (falls R xs up.1) (tt, tt) (after xs up.0))
+  where
+    after : (ys : List A) → Rattle.std.specs.List.AllByRecursion (R x) ys → Rattle.std.specs.List.AllByRecursion (λ z. Rattle.std.specs.List.AllByRecursion (λ b. R b z) (x ∷ [])) (reverse ys)
+    after [] all = tt
+    after (y ∷ ys) all =
+        subst (Rattle.std.specs.List.AllByRecursion (λ z. Rattle.std.specs.List.AllByRecursion (λ b. R b z) (x ∷ []))) (sym (reverse-append (y ∷ []) ys))
+        (all-append (λ z. Rattle.std.specs.List.AllByRecursion (λ b. R b z) (x ∷ [])) (reverse ys) (y ∷ []) (after ys all.1) ((all.0, tt), tt))
 
 -- the rows that pass, and what is shown of them, by what SELECT * shows
 module _ (schema : Schema) (tree : ℕ) (is_tree : (db : Trees) → overlay db [] tree ≡ db tree) (table : Table) (tests shows : List Term) (params : Row) (test : Row → Bool) (cells : Row → Row)
@@ -45,10 +84,10 @@ module _ (schema : Schema) (tree : ℕ) (is_tree : (db : Trees) → overlay db [
     abbrev pub output_of : Row → Output
     output_of v = (key v ∷ [], cells v)
 
-    outputs : (q : Query) → (q.order ≡ by_column place) → q.project ≡ shows → (rows : List Row)
+    outputs : (q : Query) → (map (λ (k : Term × Key). k.0) q.order ≡ Rattle.sqlite.specs.Term.col 1 place ∷ []) → q.project ≡ shows → (rows : List Row)
         → map (λ r. output q (around params r)) (filter (passes tests params) rows) ≡ map output_of (filter test (map (columns_of table) rows))
     outputs q order project rows =
-        (λ i. map (λ r. (Rattle.sqlite.specs.Term.eval_all (map (λ (k : Term × Key). k.0) (order i)) (around params r), Rattle.sqlite.specs.Term.eval_all (project i) (around params r))) (filter (passes tests params) rows))
+        (λ i. map (λ r. (Rattle.sqlite.specs.Term.eval_all (order i) (around params r), Rattle.sqlite.specs.Term.eval_all (project i) (around params r))) (filter (passes tests params) rows))
         ∙ (λ i. map (λ r. (key_is r i ∷ [], shows_is r i)) (filter (passes tests params) rows))
         ∙ ap (map (λ r. output_of (columns_of table r))) (filter_agree _ _ passes_is rows)
         ∙ sym (map-map output_of (columns_of table) _) ∙ ap (map output_of) (sym (filter-map test (columns_of table) rows))
@@ -89,3 +128,26 @@ module _ (schema : Schema) (tree : ℕ) (is_tree : (db : Trees) → overlay db [
         let same : IsPermutation xs (map (λ r. output q (around params r)) (filter (passes tests params) (overlay db [] tree))) =
         subst (IsPermutation xs) (sym (ap (λ ts. map (λ r. output q (around params r)) (filter (passes tests params) ts)) (is_tree db) ∙ outputs q refl refl (db tree))) (IsPermutation-map output_of _ _ (IsPermutation-filter test _ _ holds.same)) in
         found_first tree tests shows (by_column place) (overlay db []) params rows a xs (IsPermutation-sym _ _ same) (rising q refl _ up) ∙ ap (take 1) (map-map (λ (o : Output). o.1) output_of _)
+
+    falling : (q : Query) → q.order ≡ by_column_down place → (xs : List Row) → IsAscending (λ a b. value_cmp (key b) (key a) ≡ Less) xs → IsAscending (λ x y. output_cmp q x y ≡ Less) (map output_of xs)
+    falling q order xs up =
+        ascending-map (λ x y. output_cmp q x y ≡ Less) output_of xs
+        (ascending_weaker (λ a b. value_cmp (key b) (key a) ≡ Less) (λ a b. output_cmp q (output_of a) (output_of b) ≡ Less)
+        (λ a b less. (λ i. Rattle.sqlite_sql.specs.Query.key_cmp 0 (map (λ (k : Term × Key). k.1) (order i)) (key a ∷ []) (key b ∷ [])) ∙ then-Equal _ ∙ less) xs up)
+
+    -- the last of them alone, where the highest is asked for first
+    pub shown_last : (text : List ℕ) (names : List (List ℕ)) → Asks schema text (first_of_table tree tests shows (by_column_down place)) names
+        → (old new : State) (listed rows : List Row) → old.now.schema ≡ schema → Holds old.now.trees tree table listed → Rises (filter test listed) → Shown text params old new rows
+        → rows ≡ map cells (last_of (filter test listed))
+    shown_last text names is old new listed rows has holds up shown =
+        let db = old.now.trees in
+        let q = first_of_table tree tests shows (by_column_down place) in
+        let read = reads_as text params old new schema has _ is.0 is.2 is.1 rows shown in
+        let a : IsAnswer q (overlay db []) params rows = read.answer Null in
+        let found' = filter test listed in
+        let xs = map output_of (reverse found') in
+        let moved = IsPermutation-map output_of _ _ (IsPermutation-trans _ _ _ (IsPermutation-sym _ _ (IsPermutation-reverse found')) (IsPermutation-filter test _ _ holds.same)) in
+        let same : IsPermutation xs (map (λ r. output q (around params r)) (filter (passes tests params) (overlay db [] tree))) =
+        subst (IsPermutation xs) (sym (ap (λ ts. map (λ r. output q (around params r)) (filter (passes tests params) ts)) (is_tree db) ∙ outputs q refl refl (db tree))) moved in
+        found_first tree tests shows (by_column_down place) (overlay db []) params rows a xs (IsPermutation-sym _ _ same) (falling q refl _ (falls (λ a b. value_cmp (key a) (key b) ≡ Less) found' up))
+        ∙ ap (take 1) (map-map (λ (o : Output). o.1) output_of (reverse found')) ∙ first_of_map cells (reverse found') ∙ ap (map cells) (first_reversed found')

@@ -1,5 +1,5 @@
 -- What a text means under a schema.
-use Rattle.std.specs.Prelude.{◌≡◌, List, [], ◌∷◌, ℕ, false, Option, Some, None, Result, Ok, Err}
+use Rattle.std.specs.Prelude.{◌≡◌, List, [], ◌∷◌, ℕ, false, true, Option, Some, None, Result, Ok, Err}
 use Rattle.sqlite.specs.Command.TheVariants.{Insert, Select, Update}
 use Rattle.sqlite.specs.Schema.{Schema}
 use Rattle.sqlite.specs.Listing.{understood, reads_listing}
@@ -35,6 +35,10 @@ is_param place param = op2 (Compare Eq Binary) (col 1 place) (col 0 param)
 -- in the order of a column
 abbrev pub by_column : ℕ → List (Term × Key)
 by_column place = (col 1 place, record { collation = Binary; descending = false }) ∷ []
+
+-- in the order of a column, the highest first
+abbrev pub by_column_down : ℕ → List (Term × Key)
+by_column_down place = (col 1 place, record { collation = Binary; descending = true }) ∷ []
 
 -- what the text hands back of the rows that it writes
 abbrev pub returning_of : Result Compiled CompileError → Option Returning

@@ -1,10 +1,15 @@
+pub mod BookReads
 pub mod Joins
-pub mod KeeperReads
 pub mod Lent
+pub mod OneHost
 pub mod PledgeReads
 pub mod Placed
+pub mod PlaceReads
 pub mod ReadTexts
 pub mod RowCells
+pub mod SameRows
+pub mod Searches
+pub mod SoundBooks
 pub mod SoundReads
 pub mod Sought
 pub mod Words

@@ -75,3 +75,22 @@ first_err f P rows r e is lt read None are = absurd (let short = subst (λ rs. 0
 first_err f P rows r Keeper.Memory is lt read (Some x) are = tt
 first_err f P rows r (Keeper.Store Database) is lt read (Some x) are = tt
 first_err f P rows r (Keeper.Store NoRecord) is lt read (Some x) are = read x (is ∙ ap (λ rs. get_or rs 0 r) are)
+
+-- what can be read always is not told to be no record
+pub always_read : {A B : Type 0} (e : KeepError) (x : A) (y : B) (Q : Type 0) → IsRead (Err e) x (Unit {0}) → IsRead (Err e) y Q
+always_read Keeper.Memory x y Q f = tt
+always_read (Keeper.Store Database) x y Q f = tt
+always_read (Keeper.Store NoRecord) x y Q f = absurd (f tt)
+
+-- the same, of elements that are such
+pub first_err_of : {A : Type 0} (f : A → Row) (W P : A → Type 0) (rows : List Row) (r : Row) (e : KeepError) → r ≡ get_or rows 0 r → 0 < length rows
+    → ((x : A) → W x → r ≡ f x → IsRead (Err e) x (P x)) → (o : Option A) → IfSome o W → rows ≡ at_most_one f o → IsRead (Err e) o (IfSome o P)
+first_err_of f W P rows r e is lt read None fits are = absurd (let short = subst (λ rs. 0 < length rs) are lt in omega (arith, short))
+first_err_of f W P rows r Keeper.Memory is lt read (Some x) fits are = tt
+first_err_of f W P rows r (Keeper.Store Database) is lt read (Some x) fits are = tt
+first_err_of f W P rows r (Keeper.Store NoRecord) is lt read (Some x) fits are = read x fits (is ∙ ap (λ rs. get_or rs 0 r) are)
+
+pub first_of : {A : Type 0} (f : A → Row) (W : A → Type 0) (rows : List Row) (r : Row) (y : A) → r ≡ get_or rows 0 r → 0 < length rows
+    → ((x : A) → W x → r ≡ f x → y ≡ x) → (o : Option A) → IfSome o W → rows ≡ at_most_one f o → Some y ≡ o
+first_of f W rows r y is lt read None fits are = absurd (let short = subst (λ rs. 0 < length rs) are lt in omega (arith, short))
+first_of f W rows r y is lt read (Some x) fits are = ap Some (read x fits (is ∙ ap (λ rs. get_or rs 0 r) are))

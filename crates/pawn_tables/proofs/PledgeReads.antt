@@ -69,26 +69,26 @@ under_in h b n p ordered is = inside (get h.books b) refl is
 
 -- ---- each row of a pledge stands under its number
 
-under_map : {A : Type 0} (b n : ℕ) (f : A → Row) (xs : List A) → AreUnder b n (map (λ x. under b n (f x)) xs)
+pub under_map : {A : Type 0} (b n : ℕ) (f : A → Row) (xs : List A) → AreUnder b n (map (λ x. under b n (f x)) xs)
 under_map b n f [] = tt
 under_map b n f (x ∷ xs) = ((refl, refl), under_map b n f xs)
 
-under_placed : {A : Type 0} (b n : ℕ) (f : ℕ → A → Row) (at : ℕ) (xs : List A) → AreUnder b n (placed_from (λ place x. under b n (f place x)) at xs)
+pub under_placed : {A : Type 0} (b n : ℕ) (f : ℕ → A → Row) (at : ℕ) (xs : List A) → AreUnder b n (placed_from (λ place x. under b n (f place x)) at xs)
 under_placed b n f at [] = tt
 under_placed b n f at (x ∷ xs) = ((refl, refl), under_placed b n f (at + 1) xs)
 
-under_booked : (b n : ℕ) (o : Option Booking) → AreUnder b n (at_most_one (λ k. under b n (booking_cells k)) o)
+pub under_booked : (b n : ℕ) (o : Option Booking) → AreUnder b n (at_most_one (λ k. under b n (booking_cells k)) o)
 under_booked b n None = tt
 under_booked b n (Some k) = ((refl, refl), tt)
 
 -- ---- rows in order
 
-rises_at : (o : Option PledgeValue) (f : PledgeValue → List Row) (key : Row → Value) → ((p : PledgeValue) → o ≡ Some p → IsAscending (λ a b. value_cmp (key a) (key b) ≡ Less) (f p))
+pub rises_at : (o : Option PledgeValue) (f : PledgeValue → List Row) (key : Row → Value) → ((p : PledgeValue) → o ≡ Some p → IsAscending (λ a b. value_cmp (key a) (key b) ≡ Less) (f p))
     → IsAscending (λ a b. value_cmp (key a) (key b) ≡ Less) (rows_at o f)
 rises_at None f key up = tt
 rises_at (Some p) f key up = up p refl
 
-placed_cells : {A : Type 0} (b n : ℕ) (f : ℕ → A → Row) (cells : Row → Row) → ((place : ℕ) (x : A) → cells (under b n (f place x)) ≡ f place x) → (at : ℕ) (xs : List A)
+pub placed_cells : {A : Type 0} (b n : ℕ) (f : ℕ → A → Row) (cells : Row → Row) → ((place : ℕ) (x : A) → cells (under b n (f place x)) ≡ f place x) → (at : ℕ) (xs : List A)
     → map cells (placed_from (λ place x. under b n (f place x)) at xs) ≡ placed_from f at xs
 placed_cells b n f cells is at [] = refl
 placed_cells b n f cells is at (x ∷ xs) = λ i. is at x i ∷ placed_cells b n f cells is (at + 1) xs i
@@ -233,14 +233,9 @@ at_version b at v (suc n) (t ∷ ts) is =
     ap (λ c. cond c ((number b ∷ number at ∷ terms_cells t) ∷ filter (at_pledge b v) (placed_from (λ version t. number b ∷ number version ∷ terms_cells t) (at + 1) ts))
     (filter (at_pledge b v) (placed_from (λ version t. number b ∷ number version ∷ terms_cells t) (at + 1) ts))) (yes_or b at v t ∙ no') ∙ at_version b (at + 1) v n ts (omega (arith, is))
 
-pub terms_shown : (old new : State) (h : Host) (b v : ℕ) (rows : List Row) → StandsFor old.now h → Shown text.terms_text (number b ∷ number v ∷ []) old new rows
-    → rows ≡ at_most_one terms_cells (terms_at (terms_of (get h.books b)) v)
-terms_shown old new h b v rows st shown =
-    let t : Table = record terms { tree = 1 } in
-    let cells : Row → Row = λ r. column r 2 ∷ column r 3 ∷ column r 4 ∷ [] in
-    let one = of_one_book h b (at_pledge b v) terms_listed (λ m k apart. under_terms m 1 k.terms b v apart) ∙ at_book (get h.books b) in
-    short rows _ (few terms_cells (terms_at (terms_of (get h.books b)) v)) (subst (λ xs. IsPermutation xs rows) (ap (map cells) one ∙ shows (terms_at (terms_of (get h.books b)) v))
-    (shown_listed keep_schema 1 (λ _. refl) t text.of_pledge text.terms_shows (number b ∷ number v ∷ []) (at_pledge b v) cells (λ _. refl) (λ _. refl) text.terms_text _ [] text.terms_is old new (of_books h terms_listed) rows st.schema st.terms shown))
+pub one_version : (h : Host) (b v : ℕ) → map (λ r. column r 2 ∷ column r 3 ∷ column r 4 ∷ []) (filter (at_pledge b v) (of_books h terms_listed)) ≡ at_most_one terms_cells (terms_at (terms_of (get h.books b)) v)
+one_version h b v =
+    ap (map (λ r. column r 2 ∷ column r 3 ∷ column r 4 ∷ [])) (of_one_book h b (at_pledge b v) terms_listed (λ m k apart. under_terms m 1 k.terms b v apart) ∙ at_book (get h.books b)) ∙ shows (terms_at (terms_of (get h.books b)) v)
   where
     by_version : (w : ℕ) → v ≡ w → (ts : List Rates) → filter (at_pledge b v) (placed_from (λ version t. number b ∷ number version ∷ terms_cells t) 1 ts) ≡ rows_at (terms_at ts w) (λ t. (number b ∷ number v ∷ terms_cells t) ∷ [])
     by_version zero is ts = past_version b 1 v ts (omega (arith, is))
@@ -257,3 +252,11 @@ terms_shown old new h b v rows st shown =
     shows : (o : Option Rates) → map (λ r. column r 2 ∷ column r 3 ∷ column r 4 ∷ []) (rows_at o (λ t. (number b ∷ number v ∷ terms_cells t) ∷ [])) ≡ at_most_one terms_cells o
     shows None = refl
     shows (Some t) = refl
+
+pub terms_shown : (old new : State) (h : Host) (b v : ℕ) (rows : List Row) → StandsFor old.now h → Shown text.terms_text (number b ∷ number v ∷ []) old new rows
+    → rows ≡ at_most_one terms_cells (terms_at (terms_of (get h.books b)) v)
+terms_shown old new h b v rows st shown =
+    let t : Table = record terms { tree = 1 } in
+    let cells : Row → Row = λ r. column r 2 ∷ column r 3 ∷ column r 4 ∷ [] in
+    short rows _ (few terms_cells (terms_at (terms_of (get h.books b)) v)) (subst (λ xs. IsPermutation xs rows) (one_version h b v)
+    (shown_listed keep_schema 1 (λ _. refl) t text.of_pledge text.terms_shows (number b ∷ number v ∷ []) (at_pledge b v) cells (λ _. refl) (λ _. refl) text.terms_text _ [] text.terms_is old new (of_books h terms_listed) rows st.schema st.terms shown))

@@ -6,7 +6,7 @@ use Rattle.sqlite.specs.Collation.TheVariants.{Binary}
 use Rattle.sqlite.specs.Term.{Term, lit, col, op2}
 use Rattle.sqlite_sql.specs.declared.ops.BinaryOp.TheVariants.{Compare}
 use Rattle.sqlite_sql.specs.declared.ops.CompareOp.TheVariants.{Eq, Gt}
-use Rattle.sqlite.specs.declared.types.Value.TheVariants.{Int}
+use Rattle.sqlite.specs.declared.types.Value.TheVariants.{Int, Text}
 use Rattle.one_table.proofs.Texts.{Asks, by_column, is_param}
 use Rattle.pawn_tables.specs.Schema.{keep_schema}
 use Rattle.one_table.proofs.OneTable.{over_table, first_of_table}
@@ -100,7 +100,7 @@ unfolding understood everything
 extensions_is = (refl, refl, (refl, refl))
 
 abbrev pub ref_text : List ℕ
-ref_text = codes "SELECT number FROM pledges WHERE book = ?1 AND ref = ?2"
+ref_text = codes "SELECT number FROM pledges WHERE book = ?1 AND ref = ?2 ORDER BY number LIMIT 1"
 
 abbrev pub ref_tests : List Term
 ref_tests = is_param 1 0 ∷ is_param 3 1 ∷ []
@@ -108,7 +108,7 @@ ref_tests = is_param 1 0 ∷ is_param 3 1 ∷ []
 abbrev pub ref_shows : List Term
 ref_shows = col 1 2 ∷ []
 
-pub ref_is : Asks keep_schema ref_text (over_table 3 ref_tests ref_shows []) (codes "number" ∷ [])
+pub ref_is : Asks keep_schema ref_text (first_of_table 3 ref_tests ref_shows (by_column 2)) (codes "number" ∷ [])
 unfolding understood everything
 ref_is = (refl, refl, (refl, refl))
 
@@ -148,3 +148,42 @@ more_tests = is_param 1 0 ∷ is_param 2 1 ∷ op2 (Compare Gt Binary) (col 1 3)
 pub more_is : Asks keep_schema more_text (first_of_table 6 more_tests entries_shows (by_column 3)) (codes "seq" ∷ codes "day" ∷ codes "sort" ∷ codes "pence" ∷ [])
 unfolding understood everything
 more_is = (refl, refl, (refl, refl))
+
+-- the count of rows
+abbrev pub rows_text : List ℕ
+rows_text = codes "SELECT value FROM meta WHERE name = 'rows'"
+
+abbrev pub rows_tests : List Term
+rows_tests = op2 (Compare Eq Binary) (col 1 1) (lit (Text (codes "rows"))) ∷ []
+
+abbrev pub rows_shows : List Term
+rows_shows = col 1 2 ∷ []
+
+pub rows_is : Asks keep_schema rows_text (over_table 13 rows_tests rows_shows []) (codes "value" ∷ [])
+unfolding understood everything
+rows_is = (refl, refl, (refl, refl))
+
+-- a row of a pledge, at a place
+abbrev pub of_place : List Term
+of_place = is_param 1 0 ∷ is_param 2 1 ∷ is_param 3 2 ∷ []
+
+abbrev pub entry_text : List ℕ
+entry_text = codes "SELECT seq, day, sort, pence FROM entries WHERE book = ?1 AND number = ?2 AND seq = ?3"
+
+pub entry_is : Asks keep_schema entry_text (over_table 6 of_place entries_shows []) (codes "seq" ∷ codes "day" ∷ codes "sort" ∷ codes "pence" ∷ [])
+unfolding understood everything
+entry_is = (refl, refl, (refl, refl))
+
+abbrev pub secret_text : List ℕ
+secret_text = codes "SELECT place, day, sort, secret FROM secrets WHERE book = ?1 AND number = ?2 AND place = ?3"
+
+pub secret_is : Asks keep_schema secret_text (over_table 8 of_place secrets_shows []) (codes "place" ∷ codes "day" ∷ codes "sort" ∷ codes "secret" ∷ [])
+unfolding understood everything
+secret_is = (refl, refl, (refl, refl))
+
+abbrev pub extension_text : List ℕ
+extension_text = codes "SELECT place, day, until_day FROM extensions WHERE book = ?1 AND number = ?2 AND place = ?3"
+
+pub extension_is : Asks keep_schema extension_text (over_table 17 of_place extensions_shows []) (codes "place" ∷ codes "day" ∷ codes "until_day" ∷ [])
+unfolding understood everything
+extension_is = (refl, refl, (refl, refl))

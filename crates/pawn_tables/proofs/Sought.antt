@@ -38,7 +38,7 @@ abbrev pub rows_at : {X : Type 0} → Option X → (X → List Row) → List Row
 rows_at None f = []
 rows_at (Some x) f = f x
 
-filter-append : (p : Row → Bool) (xs ys : List Row) → filter p (xs ++ ys) ≡ filter p xs ++ filter p ys
+pub filter-append : (p : Row → Bool) (xs ys : List Row) → filter p (xs ++ ys) ≡ filter p xs ++ filter p ys
 filter-append p [] ys = refl
 filter-append p (x ∷ xs) ys = elim (p x) as (λ b. cond b (x ∷ filter p (xs ++ ys)) (filter p (xs ++ ys)) ≡ cond b (x ∷ filter p xs) (filter p xs) ++ filter p ys)
     [ true ↦ ap (λ l. x ∷ l) (filter-append p xs ys) | false ↦ filter-append p xs ys ]
@@ -130,7 +130,7 @@ no_and : (b : Bool) → (b && false) ≡ false
 no_and true = refl
 no_and false = refl
 
-flat_none : {X : Type 0} (f : X → List Row) (xs : List X) → ((x : X) → f x ≡ []) → flat_map f xs ≡ []
+pub flat_none : {X : Type 0} (f : X → List Row) (xs : List X) → ((x : X) → f x ≡ []) → flat_map f xs ≡ []
 flat_none f [] h = refl
 flat_none f (x ∷ xs) h = ap (λ l. l ++ flat_map f xs) (h x) ∙ flat_none f xs h
 

@@ -1,7 +1,10 @@
 pub mod At
 pub mod Finding
+pub mod Heads
 pub mod Keeps
 pub mod Meta
+pub mod OneHost
+pub mod Places
 pub mod Rows
 pub mod Schema
 pub mod StandsFor

@@ -1,4 +1,5 @@
 ghost use Rattle.std.specs.Prelude.{◌≡◌, ◌≢◌, ◌<◌, ℕ, List, Bool, Option, IfErr, IfOk, IfSome, length, ⊤};
+ghost use Rattle.std.specs.Int.{to_be_bytes, w128};
 ghost use Rattle.std.specs.Str.{IsUtf8};
 ghost use Rattle.sqlite.specs.declared.types.Value.TheVariants.{Text as Words};
 ghost use Rattle.sqlite.specs.Order.{column};
@@ -126,6 +127,27 @@ pub(crate) fn word_at(row: &Row, at: usize) -> Result<Secret, KeepError>
     match Uuid::from_slice(&blob) {
         Ok(id) => Ok(Secret::of_word(id.as_u128())),
         Err(_) => Err(NO_RECORD),
+    }
+}
+
+// The key of sixteen bytes.
+fn key_of(bytes: &[u8]) -> Result<Secret, KeepError>
+    ensures read { (w : ℕ) → IsWord w → bytes.now ≡ to_be_bytes w128 w → IsRead result w ⊤ }
+{
+    match Uuid::from_slice(bytes) {
+        Ok(id) => Ok(Secret::of_word(id.as_u128())),
+        Err(_) => Err(NO_RECORD),
+    }
+}
+
+/// The key in a column, or nothing where it is NULL.
+pub(crate) fn optional_word_at(row: &Row, at: usize) -> Result<Option<Secret>, KeepError>
+    ensures read { (w : Option ℕ) → at < length row.now → IfSome w IsWord → column row.now at ≡ or_null word w → IsRead result w ⊤ }
+{
+    match row.get::<Option<Vec<u8>>>(at) {
+        Ok(Some(bytes)) => Ok(Some(key_of(&bytes)?)),
+        Ok(None) => Ok(None),
+        Err(error) => Err(unread(error)),
     }
 }
 

@@ -1,17 +1,23 @@
 //! Pledge books in the tables of a database.
 #![tactic(auto)]
 
+mod books;
 mod cells;
+mod heads;
 mod joining;
-mod keeper;
+mod laws;
 mod lists;
+mod places;
 mod queries;
 mod records;
 mod rows;
 mod whole;
 mod worked;
 
-pub use keeper::TableKeep;
+pub use books::{confirmed_in, head_in, next_in, ref_in, rows_in};
+pub use laws::tables_stand_for_one;
+pub use places::{entry_in, extension_in, secret_in};
+pub use whole::{pledge_of, terms_under};
 pub use worked::worked_tables;
 
 #[cfg(test)]

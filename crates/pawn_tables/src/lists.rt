@@ -1,11 +1,11 @@
-ghost use Rattle.std.specs.Prelude.{◌≡◌, ℕ, List, map, ⊤};
+ghost use Rattle.std.specs.Prelude.{◌≡◌, ℕ, IfSome, List, Option, map, ⊤};
 ghost use Rattle.pawn_terms.specs.Calendar.{IsDayNumber};
 ghost use Rattle.pawn_debt.specs.declared.entry.Entry.{Entry};
 ghost use Rattle.pawn_pledge.specs.declared.record.Issued.{Issued};
 ghost use Rattle.pawn_pledge.specs.declared.record.Extension.{Extension};
 ghost use Rattle.pawn_pledge.specs.Replayable.{Each};
 ghost use Rattle.pawn_book.specs.Written.{IsWord, AreWords};
-ghost use Rattle.pawn_tables.specs.Rows.{entry_cells, secret_cells, extension_cells, placed_from};
+ghost use Rattle.pawn_tables.specs.Rows.{at_most_one, entry_cells, secret_cells, extension_cells, placed_from};
 ghost use Rattle.pawn_tables.specs.Finding.{IsRead};
 
 use crate::cells::{day_at, issue_of, number_at, sort_of, word_at};
@@ -90,4 +90,34 @@ pub(crate) fn read_extensions(alloc: Global, rows: &[Row]) -> Result<Extensions,
         };
     }
     Ok(extensions)
+}
+
+/// The entry of the first row, if there is a row.
+pub(crate) fn first_entry(rows: &[Row]) -> Result<Option<Entry>, KeepError>
+    ensures read { (e : Option Entry) → rows.now ≡ at_most_one entry_cells e → IsRead result e (IfSome e (λ x. IsDayNumber x.day)) }
+{
+    let [row, ..] = rows else {
+        return Ok(None);
+    };
+    Ok(Some(entry_of(row)?))
+}
+
+/// The secret of the first row, and how it was issued, if there is a row.
+pub(crate) fn first_issued(rows: &[Row]) -> Result<Option<Issued>, KeepError>
+    ensures read { (place : ℕ) (i : Option Issued) → IfSome i (λ x. IsWord x.secret) → rows.now ≡ at_most_one (secret_cells place) i → IsRead result i (IfSome i (λ x. IsDayNumber x.day)) }
+{
+    let [row, ..] = rows else {
+        return Ok(None);
+    };
+    Ok(Some(issued_of(row)?))
+}
+
+/// The extension of the first row, if there is a row.
+pub(crate) fn first_extension(rows: &[Row]) -> Result<Option<Extension>, KeepError>
+    ensures read { (place : ℕ) (e : Option Extension) → rows.now ≡ at_most_one (extension_cells place) e → IsRead result e (IfSome e (λ x. IsDayNumber x.day × IsDayNumber x.until)) }
+{
+    let [row, ..] = rows else {
+        return Ok(None);
+    };
+    Ok(Some(extension_of(row)?))
 }

@@ -24,8 +24,8 @@ use sqlite::{Alter, Row, Transaction, params};
 use sqlite_value::value::ValueRef;
 use std::alloc::Global;
 
-// The rows of a query. None of them is told to be no record, since none is read yet.
-fn rows_of<S: Alter>(
+/// The rows of a query. None of them is told to be no record, since none is read yet.
+pub(crate) fn rows_of<S: Alter>(
     tx: &mut Transaction<'_, S>,
     sql: &str,
     params: &[ValueRef<'_>],

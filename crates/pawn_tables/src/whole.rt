@@ -19,7 +19,7 @@ use sqlite::{Alter, Transaction};
 use std::alloc::Global;
 
 /// The terms of a version. None stand under 0, nor under a version that 32 bits can't hold.
-pub(crate) fn terms_under<S: Alter>(
+pub fn terms_under<S: Alter>(
     tx: &mut Transaction<'_, S>,
     book: u32,
     version: u64,
@@ -78,9 +78,9 @@ pub(crate) fn sides_in<S: Alter>(
     })
 }
 
-/// The pledge of a number.
+/// The pledge of a number. Its stored totals and its end are compared with those that follow from its record.
 #[tactic(auto, using(crate::proofs::Lent::lent_then))]
-pub(crate) fn pledge_of<S: Alter>(
+pub fn pledge_of<S: Alter>(
     tx: &mut Transaction<'_, S>,
     alloc: Global,
     book: u32,

@@ -1,13 +1,13 @@
 use Rattle.std.proofs.Common.{rules, ◌≡◌, refl}
 use Rattle.std.specs.Prelude.{Option, is_ok}
 use Rattle.std.specs.FinMap.{get}
-use Rattle.sqlite.specs.Held.{state}
 use Rattle.pawn_terms.specs.declared.terms.Rates.{Rates}
 use Rattle.pawn_book.specs.Rows.{terms_at}
 use Rattle.pawn_book.specs.Keeping.{terms_of}
+use Rattle.sqlite.specs.Held.{state}
 use Rattle.pawn_book.specs.HostStep.{Host}
-use Rattle.pawn_tables.proofs.KeeperReads.{IsRead, errs_by}
-use Rattle.pawn_tables.proofs.keeper.TableKeep.terms.Goals as goal
+use Rattle.pawn_keeper.proofs.KeeperReads.{IsRead, errs_by}
+use Rattle.pawn_keeper.proofs.keeper.TableKeep.terms.Goals as goal
 
 pub returns-clause-errs : goal.returns-clause-errs
 returns-clause-errs g c =

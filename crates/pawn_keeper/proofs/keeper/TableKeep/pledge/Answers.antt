@@ -1,12 +1,12 @@
 use Rattle.std.proofs.Common.{rules, ◌≡◌, refl}
 use Rattle.std.specs.Prelude.{Option, is_ok}
 use Rattle.std.specs.FinMap.{get}
-use Rattle.sqlite.specs.Held.{state}
 use Rattle.pawn_pledge.specs.Pledge.{PledgeValue}
 use Rattle.pawn_book.specs.BookStep.{pledge_in}
+use Rattle.sqlite.specs.Held.{state}
 use Rattle.pawn_book.specs.HostStep.{Host}
-use Rattle.pawn_tables.proofs.KeeperReads.{IsRead, errs_by}
-use Rattle.pawn_tables.proofs.keeper.TableKeep.pledge.Goals as goal
+use Rattle.pawn_keeper.proofs.KeeperReads.{IsRead, errs_by}
+use Rattle.pawn_keeper.proofs.keeper.TableKeep.pledge.Goals as goal
 
 pub returns-clause-errs : goal.returns-clause-errs
 returns-clause-errs g c =

@@ -1,0 +1,2 @@
+pub mod KeeperReads
+pub mod Walks

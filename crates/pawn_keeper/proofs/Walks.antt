@@ -1,0 +1,124 @@
+-- A list that is handed over element by element, each of them read by a call of its own.
+use Rattle.std.proofs.Common.{◌≡◌, ◌++◌, ◌==◌, ℕ, zero, suc, ◌+◌, List, [], ◌∷◌, take, drop, slice_get, true, false, Option, Some, None, Result, Ok, Err, refl, sym, ap, subst, ◌∙◌, arith, append-nil}
+use Rattle.std.specs.Prelude.{IfErr, if◌then◌else◌}
+use Rattle.std.proofs.lemmas.Bool.Decides.{nat_tests}
+use Rattle.std.proofs.lemmas.List.{take-append-drop}
+use Rattle.pawn_pledge.specs.Pledge.{PledgeValue}
+use Rattle.pawn_book.specs.declared.visit.Flow.{Flow}
+use Rattle.pawn_book.specs.declared.visit.Flow.TheVariants.{Go, Stop}
+use Rattle.pawn_book.specs.declared.fault.KeepError.{KeepError}
+use Rattle.pawn_book.specs.declared.fault.KeepError.TheVariants as Keeper
+use Rattle.pawn_book.specs.declared.fault.StoreFault.TheVariants.{Database}
+use Rattle.pawn_book.specs.BookStep.{BookValue, pledge_from, pledge_in}
+use Rattle.pawn_book.specs.HostStep.{Host}
+use Rattle.pawn_book.specs.Keeping.{Errs, Keeping, Reads, pledges_of}
+use Rattle.pawn_book.specs.Visits.{Front, Handed, IsShare, Visits, Whole}
+use Rattle.pawn_tables.specs.Places.{at_place}
+use Rattle.pawn_book.proofs.Reading.{reads_then}
+use Rattle.pawn_book.proofs.VisitLemmas.{handed-snoc}
+
+take_next : {A : Type 0} (xs : List A) (i : ℕ) (x : A) → slice_get xs i ≡ Some x → take (suc i) xs ≡ take i xs ++ x ∷ []
+take_next [] i x at = absurd (let e = at in cc)
+take_next (y ∷ xs) zero x at = let same : y ≡ x = (let e = at in cc) in ap (λ z. z ∷ []) same
+take_next (y ∷ xs) (suc i) x at = ap (λ l. y ∷ l) (take_next xs i x at)
+
+take_nothing : {A : Type 0} (n : ℕ) → ◌≡◌ {A = List A} (take n []) []
+take_nothing zero = refl
+take_nothing (suc n) = refl
+
+take_past : {A : Type 0} (xs : List A) (i : ℕ) → slice_get xs i ≡ None → take i xs ≡ xs
+take_past [] i none = take_nothing i
+take_past (y ∷ xs) zero none = absurd (let e = none in cc)
+take_past (y ∷ xs) (suc i) none = ap (λ l. y ∷ l) (take_past xs i none)
+
+-- a call that read nothing
+pub reads_none : {K : Type 0} (k : Keeping K) (s : K) (P : Host → Type 0) → ((h : Host) → P h) → Reads k s s P
+reads_none k s P all = record {
+  on = record { past = λ honest. honest; served = λ honest now. now; stays = λ steady. steady };
+  same = λ honest h at. at;
+  back = λ honest now h at. at;
+  tells = λ honest h at. all h;
+  crash = λ honest left at. at;
+}
+
+module _ {K V T : Type 0} (k : Keeping K) (step : V → T → Flow → V → Type 0) (listed : Host → List T) where
+  -- the first elements were handed over, and the visitor wants more
+  abbrev pub Walked : K → K → V → V → ℕ → Type 0
+  Walked old now v w i = (given : List T) × Handed step v given Go w × Reads k old now (λ h. given ≡ take i (listed h))
+
+  pub begins : (s : K) (v : V) → Walked s s v v 0
+  begins s v = ([], (refl, refl), reads_none k s (λ h. [] ≡ take 0 (listed h)) (λ h. refl))
+
+  -- all that was handed
+  abbrev pub Goes : K → K → V → V → Rattle.pawn_book.specs.Visits.End → Type 0
+  Goes old new v w end = Visits step v w (λ given flow. Reads k old new (λ h. IsShare given flow end (listed h)))
+
+  module _ (old now new : K) (v u w : V) (i : ℕ) (before : Walked old now v u i) where
+    pub more : (x : T) → Reads k now new (λ h. Some x ≡ slice_get (listed h) i) → step u x Go w → Walked old new v w (i + 1)
+    more x read here =
+        let next : suc i ≡ i + 1 = omega arith in (
+          before.0 ++ x ∷ [],
+          handed-snoc step v u w before.0 x Go before.1 here,
+          reads_then before.2 read (λ h are at. ap (λ l. l ++ x ∷ []) are ∙ sym (take_next (listed h) i x (sym at)) ∙ ap (λ n. take n (listed h)) next),
+        )
+
+    pub stopped : (x : T) → Reads k now new (λ h. Some x ≡ slice_get (listed h) i) → step u x Stop w → Goes old new v w Whole
+    stopped x read here = (
+      before.0 ++ x ∷ [],
+      Stop,
+      handed-snoc step v u w before.0 x Stop before.1 here,
+      reads_then before.2 read (λ h are at. (
+        drop (suc i) (listed h),
+        ap (λ l. (l ++ x ∷ []) ++ drop (suc i) (listed h)) are ∙ ap (λ l. l ++ drop (suc i) (listed h)) (sym (take_next (listed h) i x (sym at))) ∙ take-append-drop (suc i) (listed h),
+        λ e. cc e,
+      )),
+    )
+
+    pub ended : Reads k now new (λ h. None ≡ slice_get (listed h) i) → Goes old new v u Whole
+    ended read = (before.0, Go, before.1, reads_then before.2 read (λ h are at. ([], append-nil before.0 ∙ are ∙ take_past (listed h) i (sym at), λ e f. refl)))
+
+    pub failed : {P : Host → Type 0} → Reads k now new P → Goes old new v u Front
+    failed read = (before.0, Go, before.1, reads_then before.2 read (λ h are p. (drop i (listed h), ap (λ l. l ++ drop i (listed h)) are ∙ take-append-drop i (listed h), λ e f. cc f)))
+
+-- ---- errors
+
+module _ {K : Type 0} (k : Keeping K) (old now new : K) {P Q : Host → Type 0} (before : Reads k old now P) (read : Reads k now new Q) where
+  -- an error that is handed on
+  pub errs_then : {A B : Type 0} (r : Result A KeepError) (s : Result B KeepError) (e : KeepError) → r ≡ Err e → s ≡ Err e → Errs k now new r → Errs k old new s
+  errs_then r s e is same errs = record {
+    never = λ steady. subst (λ x. IfErr x (λ f. f ≡ Keeper.Memory)) (sym same) (subst (λ x. IfErr x (λ f. f ≡ Keeper.Memory)) is (errs.never (before.on.stays steady)));
+    no_record = λ bad honest h at. errs.no_record (is ∙ ap Err (let x = sym same ∙ bad in cc)) honest h (before.same (read.on.past honest) h at);
+  }
+
+-- no error
+pub errs_ok : {K A : Type 0} (k : Keeping K) (old new : K) (r : Result A KeepError) (x : A) → r ≡ Ok x → Errs k old new r
+errs_ok k old new r x is = record {
+  never = λ steady. subst (λ y. IfErr y (λ f. f ≡ Keeper.Memory)) (sym is) tt;
+  no_record = λ bad. absurd (let e = sym is ∙ bad in cc);
+}
+
+-- a store that may fail, and tells of no row
+pub errs_database : {K A : Type 0} (k : Keeping K) (old new : K) (r : Result A KeepError) → (k.steady old → ⊥) → r ≡ Err (Keeper.Store Database) → Errs k old new r
+errs_database k old new r may is = record {
+  never = λ steady. absurd (may steady);
+  no_record = λ bad. absurd (let e = sym is ∙ bad in cc);
+}
+
+-- ---- the pledge at a number
+
+pledge_at_place : (k : ℕ) (ps : List PledgeValue) (i n : ℕ) → n ≡ k + i → pledge_from k ps n ≡ slice_get ps i
+pledge_at_place k [] i n is = refl
+pledge_at_place k (p ∷ ps) zero n is =
+    let here : (n == k) ≡ true = grind (arith, nat_tests, is) in
+    ap (λ c. if c then Some p else pledge_from (k + 1) ps n) here
+pledge_at_place k (p ∷ ps) (suc i) n is =
+    let other : (n == k) ≡ false = grind (arith, nat_tests, is) in
+    ap (λ c. if c then Some p else pledge_from (k + 1) ps n) other ∙ pledge_at_place (k + 1) ps i n (omega (arith, is))
+
+pub pledge_at : (o : Option BookValue) (i n : ℕ) → n ≡ i + 1 → pledge_in o n ≡ slice_get (pledges_of o) i
+pledge_at None i n is = refl
+pledge_at (Some b) i n is = pledge_at_place 1 b.pledges i n (omega (arith, is))
+
+-- the element at a place, counted from 1
+pub at_next : {A : Type 0} (xs : List A) (i : ℕ) → at_place xs (i + 1) ≡ slice_get xs i
+at_next xs i = let next : i + 1 ≡ suc i = omega arith in ap (at_place xs) next

@@ -1,0 +1,30 @@
+use Rattle.std.proofs.Common.{rules, ◌≡◌, refl}
+use Rattle.std.specs.Prelude.{Option, is_ok}
+use Rattle.std.specs.FinMap.{get}
+use Rattle.sqlite.specs.Held.{state}
+use Rattle.pawn_pledge.specs.declared.record.Issued.{Issued}
+use Rattle.pawn_book.specs.BookStep.{pledge_in}
+use Rattle.pawn_book.specs.HostStep.{Host}
+use Rattle.pawn_book.specs.Keeping.{secrets_of}
+use Rattle.pawn_tables.specs.Places.{at_place}
+use Rattle.pawn_keeper.proofs.KeeperReads.{IsRead, errs_by}
+use Rattle.pawn_keeper.proofs.keeper.TableKeep.secret_at.Goals as goal
+
+pub returns-clause-errs : goal.returns-clause-errs
+returns-clause-errs g c =
+    let begun = c.transaction-tx.ensures.begun in
+    let P : Host → Option Issued → Type 0 = λ h x. x ≡ at_place (secrets_of (pledge_in (get h.books c.args.book) c.args.number)) c.args.place in
+    let was : IsRead (state g.S.Store c.args.self.now.conn) (state g.S.Store c.transaction-tx.result.conn.now) (state g.S.Store c.secret_in-secret.new.tx.conn.now) (state g.S.Store c.rollback.new.self.0) (is_ok c.secret_in-secret.result) = record {
+      ended = c.args.self.now.rests;
+      settled = search rules;
+      was_open = λ now. rw begun at now;
+      now = rw begun refl;
+      committed = rw begun refl;
+      within = rw begun refl;
+      clean = λ clean. rw begun at clean;
+      left = λ trees left. rw begun at left;
+      part = c.secret_in-secret.ensures.lent;
+      undone = c.rollback.ensures.undone;
+      after = c.rollback.ensures.survives;
+    } in
+    errs_by (λ k. state g.S.Store k.conn) _ _ (state g.S.Store c.transaction-tx.result.conn.now) (state g.S.Store c.secret_in-secret.new.tx.conn.now) c.secret_in-secret.result was P (rw (c.get.ensures.value, c.get-2.ensures.value) at c.secret_in-secret.ensures.finds)

@@ -1,0 +1,185 @@
+-- What the queries of a pledge's lists show at a place, where the tables stand for a host.
+use Rattle.std.proofs.Common.{◌≡◌, ◌==◌, ℕ, zero, suc, ◌+◌, ◌<◌, List, [], ◌∷◌, map, filter, Bool, true, false, cond, ◌&&◌, Option, Some, None, refl, sym, ap, subst, ◌∙◌, arith, IsPermutation, slice_get}
+use Rattle.std.specs.Prelude.{IfSome}
+use Rattle.std.specs.List.{list_all}
+use Rattle.std.specs.FinMap.{get}
+use Rattle.std.proofs.lemmas.Bool.Decides.{nat_tests}
+use Rattle.std.proofs.lemmas.List.Elements.{filter_agree}
+use Rattle.sqlite.specs.Order.{Row, column}
+use Rattle.sqlite.specs.Table.{Table}
+use Rattle.sqlite.specs.State.{State, Shown}
+use Rattle.pawn_terms.specs.Calendar.{IsDayNumber}
+use Rattle.pawn_debt.specs.declared.entry.Entry.{Entry}
+use Rattle.pawn_pledge.specs.Pledge.{PledgeValue}
+use Rattle.pawn_pledge.specs.Replayable.{Each, AreNumbered}
+use Rattle.pawn_book.specs.BookStep.{pledge_in}
+use Rattle.pawn_book.specs.HostStep.{Host}
+use Rattle.pawn_book.specs.Keeping.{entries_of, extensions_of, secrets_of}
+use Rattle.pawn_book.specs.Sound.{HasUnsoundBook}
+use Rattle.pawn_tables.specs.Schema.{keep_schema, entries, secrets, extensions}
+use Rattle.pawn_tables.specs.Rows.{number, under, at_most_one, placed_from, entry_cells, entries_listed, secret_cells, secrets_listed, extension_cells, extensions_listed}
+use Rattle.pawn_tables.specs.At.{is_at, at_pledge}
+use Rattle.pawn_tables.specs.Places.{at_place}
+use Rattle.pawn_tables.specs.StandsFor.{StandsFor, of_pledges, AreStorable}
+use Rattle.one_table.proofs.Found.{shown_listed}
+use Rattle.pawn_tables.proofs.ReadTexts as text
+use Rattle.pawn_tables.proofs.PledgeReads.{short, few, holds_in, under_map, under_placed}
+use Rattle.pawn_tables.proofs.SoundReads.{entries_unsound, secrets_unsound, extensions_unsound}
+use Rattle.pawn_tables.proofs.Sought.{AreUnder, rows_at, of_one_pledge, equals}
+
+abbrev pub at_third : ℕ → ℕ → ℕ → Row → Bool
+at_third b n s v = list_all (λ (x : Bool). x) (is_at (column v 0) (number b) ∷ is_at (column v 1) (number n) ∷ is_at (column v 2) (number s) ∷ [])
+
+abbrev has_place : ℕ → Row → Bool
+has_place s v = is_at (column v 2) (number s)
+
+regroup : (a b c : Bool) → (a && (b && (c && true))) ≡ ((a && (b && true)) && c)
+regroup true true true = refl
+regroup true true false = refl
+regroup true false c = refl
+regroup false b c = refl
+
+filter_both : (p q : Row → Bool) (xs : List Row) → filter q (filter p xs) ≡ filter (λ x. p x && q x) xs
+filter_both p q [] = refl
+filter_both p q (x ∷ xs) =
+    elim (p x) as (λ b. filter q (cond b (x ∷ filter p xs) (filter p xs)) ≡ cond (b && q x) (x ∷ filter (λ y. p y && q y) xs) (filter (λ y. p y && q y) xs))
+    [ true ↦ ap (λ l. cond (q x) (x ∷ l) l) (filter_both p q xs) | false ↦ filter_both p q xs ]
+
+-- ---- rows that count their places
+
+abbrev pub CountFrom : ℕ → List Row → Type 0
+CountFrom k [] = Unit {0}
+CountFrom k (r ∷ rs) = (column r 2 ≡ number k) × CountFrom (k + 1) rs
+
+test_is : (s k : ℕ) (r : Row) → column r 2 ≡ number k → has_place s r ≡ (k == s)
+test_is s k r is = ap (λ v. is_at v (number s)) is ∙ equals k s
+
+past : (s k : ℕ) (rs : List Row) → CountFrom k rs → s < k → filter (has_place s) rs ≡ []
+past s k [] counts lt = refl
+past s k (r ∷ rs) counts lt =
+    let other : (k == s) ≡ false = grind (arith, nat_tests, lt) in
+    ap (λ c. cond c (r ∷ filter (has_place s) rs) (filter (has_place s) rs)) (test_is s k r counts.0 ∙ other) ∙ past s (k + 1) rs counts.1 (omega (arith, lt))
+
+at_count : (s k n : ℕ) (rs : List Row) → CountFrom k rs → s ≡ k + n → filter (has_place s) rs ≡ at_most_one (λ r. r) (slice_get rs n)
+at_count s k n [] counts is = refl
+at_count s k zero (r ∷ rs) counts is =
+    let here : (k == s) ≡ true = grind (arith, nat_tests, is) in
+    ap (λ c. cond c (r ∷ filter (has_place s) rs) (filter (has_place s) rs)) (test_is s k r counts.0 ∙ here) ∙ ap (λ l. r ∷ l) (past s (k + 1) rs counts.1 (omega (arith, is)))
+at_count s k (suc n) (r ∷ rs) counts is =
+    let other : (k == s) ≡ false = grind (arith, nat_tests, is) in
+    ap (λ c. cond c (r ∷ filter (has_place s) rs) (filter (has_place s) rs)) (test_is s k r counts.0 ∙ other) ∙ at_count s (k + 1) n rs counts.1 (omega (arith, is))
+
+placed_alone : (s : ℕ) (rs : List Row) → CountFrom 1 rs → filter (has_place s) rs ≡ at_most_one (λ r. r) (at_place rs s)
+placed_alone zero rs counts = past 0 1 rs counts (omega arith)
+placed_alone (suc n) rs counts = at_count (suc n) 1 n rs counts (omega arith)
+
+counts_placed : {A : Type 0} (g : ℕ → A → Row) → ((at : ℕ) (x : A) → column (g at x) 2 ≡ number at) → (k : ℕ) (xs : List A) → CountFrom k (placed_from g k xs)
+counts_placed g is k [] = tt
+counts_placed g is k (x ∷ xs) = (is k x, counts_placed g is (k + 1) xs)
+
+counts_entries : (g : Entry → Row) → ((e : Entry) → column (g e) 2 ≡ number e.seq) → (k : ℕ) (es : List Entry) → AreNumbered k es → CountFrom k (map g es)
+counts_entries g is k [] numbered = tt
+counts_entries g is k (e ∷ es) numbered = (is e ∙ ap number numbered.0, counts_entries g is (k + 1) es numbered.1)
+
+-- the row at a place
+one_placed : {A : Type 0} (g told : ℕ → A → Row) (cells : Row → Row) → ((at : ℕ) (x : A) → cells (g at x) ≡ told at x) → (k n s : ℕ) (xs : List A) → s ≡ k + n
+    → map cells (at_most_one (λ r. r) (slice_get (placed_from g k xs) n)) ≡ at_most_one (told s) (slice_get xs n)
+one_placed g told cells is k n s [] at = refl
+one_placed g told cells is k zero s (x ∷ xs) at = let same : k ≡ s = omega (arith, at) in ap (λ r. r ∷ []) (is k x ∙ ap (λ m. told m x) same)
+one_placed g told cells is k (suc n) s (x ∷ xs) at = one_placed g told cells is (k + 1) n s xs (omega (arith, at))
+
+shown_placed : {A : Type 0} (g told : ℕ → A → Row) (cells : Row → Row) → ((at : ℕ) (x : A) → cells (g at x) ≡ told at x) → (s : ℕ) (xs : List A)
+    → map cells (at_most_one (λ r. r) (at_place (placed_from g 1 xs) s)) ≡ at_most_one (told s) (at_place xs s)
+shown_placed g told cells is zero xs = refl
+shown_placed g told cells is (suc n) xs = one_placed g told cells is 1 n (suc n) xs (omega arith)
+
+one_entry : (g : Entry → Row) (cells : Row → Row) → ((e : Entry) → cells (g e) ≡ entry_cells e) → (n : ℕ) (es : List Entry) → map cells (at_most_one (λ r. r) (slice_get (map g es) n)) ≡ at_most_one entry_cells (slice_get es n)
+one_entry g cells is n [] = refl
+one_entry g cells is zero (e ∷ es) = ap (λ r. r ∷ []) (is e)
+one_entry g cells is (suc n) (e ∷ es) = one_entry g cells is n es
+
+shown_entry : (g : Entry → Row) (cells : Row → Row) → ((e : Entry) → cells (g e) ≡ entry_cells e) → (s : ℕ) (es : List Entry) → map cells (at_most_one (λ r. r) (at_place (map g es) s)) ≡ at_most_one entry_cells (at_place es s)
+shown_entry g cells is zero es = refl
+shown_entry g cells is (suc n) es = one_entry g cells is n es
+
+-- what holds of each element holds at a place
+pub at_each : {A : Type 0} (P : A → Type 0) (xs : List A) (s : ℕ) → Each P xs → IfSome (at_place xs s) P
+at_each P xs zero all = tt
+at_each P [] (suc n) all = tt
+at_each P (x ∷ xs) (suc zero) all = all.0
+at_each P (x ∷ xs) (suc (suc n)) all = at_each P xs (suc n) all.1
+
+module _ (old new : State) (h : Host) (b n s : ℕ) (rows : List Row) (st : StandsFor old.now h) where
+  abbrev params : Row
+  params = number b ∷ number n ∷ number s ∷ []
+
+  abbrev found : Option PledgeValue
+  found = pledge_in (get h.books b) n
+
+  -- the row at a place, among those of all pledges
+  one_row : (f : ℕ → PledgeValue → List Row) → ((m : ℕ) (p : PledgeValue) → AreUnder m p.agreement.number (f m p)) → CountFrom 1 (rows_at found (f b)) → filter (at_third b n s) (of_pledges h f) ≡ at_most_one (λ r. r) (at_place (rows_at found (f b)) s)
+  one_row f under' counts =
+      filter_agree (at_third b n s) (λ v. at_pledge b n v && has_place s v) (λ v. regroup (is_at (column v 0) (number b)) (is_at (column v 1) (number n)) (has_place s v)) (of_pledges h f)
+      ∙ sym (filter_both (at_pledge b n) (has_place s) (of_pledges h f)) ∙ ap (filter (has_place s)) (of_one_pledge h b n f st.ordered under') ∙ placed_alone s _ counts
+
+  nothing : {A : Type 0} (m : ℕ) → ◌≡◌ {A = Option A} (at_place [] m) None
+  nothing zero = refl
+  nothing (suc m) = refl
+
+  pub entry_shown : Shown text.entry_text params old new rows → rows ≡ at_most_one entry_cells (at_place (entries_of found) s)
+  entry_shown shown =
+      let t : Table = record entries { tree = 6 } in
+      let cells : Row → Row = λ v. column v 2 ∷ column v 3 ∷ column v 4 ∷ column v 5 ∷ [] in
+      let one = one_row entries_listed (λ m p. under_map m p.agreement.number entry_cells p.entries) (counts found refl) in
+      short rows _ (few entry_cells (at_place (entries_of found) s)) (subst (λ xs. IsPermutation xs rows) (ap (map cells) one ∙ shows found)
+      (shown_listed keep_schema 6 (λ _. refl) t text.of_place text.entries_shows params (at_third b n s) cells (λ _. refl) (λ _. refl) text.entry_text _ [] text.entry_is old new (of_pledges h entries_listed) rows st.schema st.entries shown))
+    where
+      counts : (o : Option PledgeValue) → pledge_in (get h.books b) n ≡ o → CountFrom 1 (rows_at o (entries_listed b))
+      counts None is = tt
+      counts (Some p) is = counts_entries (λ e. under b p.agreement.number (entry_cells e)) (λ e. refl) 1 p.entries (holds_in h (λ (q : PledgeValue). AreNumbered 1 q.entries) (λ c k at. (st.ordered c k at).entries) b n p is)
+
+      shows : (o : Option PledgeValue) → map (λ v. column v 2 ∷ column v 3 ∷ column v 4 ∷ column v 5 ∷ []) (at_most_one (λ r. r) (at_place (rows_at o (entries_listed b)) s)) ≡ at_most_one entry_cells (at_place (entries_of o) s)
+      shows None = ap (λ x. map (λ v. column v 2 ∷ column v 3 ∷ column v 4 ∷ column v 5 ∷ []) (at_most_one (λ r. r) x)) (nothing s) ∙ ap (at_most_one entry_cells) (sym (nothing s))
+      shows (Some p) = shown_entry (λ e. under b p.agreement.number (entry_cells e)) (λ v. column v 2 ∷ column v 3 ∷ column v 4 ∷ column v 5 ∷ []) (λ e. refl) s p.entries
+
+  pub secret_shown : Shown text.secret_text params old new rows → rows ≡ at_most_one (secret_cells s) (at_place (secrets_of found) s)
+  secret_shown shown =
+      let t : Table = record secrets { tree = 8 } in
+      let cells : Row → Row = λ v. column v 2 ∷ column v 3 ∷ column v 4 ∷ column v 5 ∷ [] in
+      let one = one_row secrets_listed (λ m p. under_placed m p.agreement.number secret_cells 1 p.secrets) (counts found) in
+      short rows _ (few (secret_cells s) (at_place (secrets_of found) s)) (subst (λ xs. IsPermutation xs rows) (ap (map cells) one ∙ shows found)
+      (shown_listed keep_schema 8 (λ _. refl) t text.of_place text.secrets_shows params (at_third b n s) cells (λ _. refl) (λ _. refl) text.secret_text _ [] text.secret_is old new (of_pledges h secrets_listed) rows st.schema st.secrets shown))
+    where
+      counts : (o : Option PledgeValue) → CountFrom 1 (rows_at o (secrets_listed b))
+      counts None = tt
+      counts (Some p) = counts_placed (λ place i. under b p.agreement.number (secret_cells place i)) (λ place i. refl) 1 p.secrets
+
+      shows : (o : Option PledgeValue) → map (λ v. column v 2 ∷ column v 3 ∷ column v 4 ∷ column v 5 ∷ []) (at_most_one (λ r. r) (at_place (rows_at o (secrets_listed b)) s)) ≡ at_most_one (secret_cells s) (at_place (secrets_of o) s)
+      shows None = ap (λ x. map (λ v. column v 2 ∷ column v 3 ∷ column v 4 ∷ column v 5 ∷ []) (at_most_one (λ r. r) x)) (nothing s) ∙ ap (at_most_one (secret_cells s)) (sym (nothing s))
+      shows (Some p) = shown_placed (λ place i. under b p.agreement.number (secret_cells place i)) secret_cells (λ v. column v 2 ∷ column v 3 ∷ column v 4 ∷ column v 5 ∷ []) (λ place i. refl) s p.secrets
+
+  pub extension_shown : Shown text.extension_text params old new rows → rows ≡ at_most_one (extension_cells s) (at_place (extensions_of found) s)
+  extension_shown shown =
+      let t : Table = record extensions { tree = 17 } in
+      let cells : Row → Row = λ v. column v 2 ∷ column v 3 ∷ column v 4 ∷ [] in
+      let one = one_row extensions_listed (λ m p. under_placed m p.agreement.number extension_cells 1 p.extensions) (counts found) in
+      short rows _ (few (extension_cells s) (at_place (extensions_of found) s)) (subst (λ xs. IsPermutation xs rows) (ap (map cells) one ∙ shows found)
+      (shown_listed keep_schema 17 (λ _. refl) t text.of_place text.extensions_shows params (at_third b n s) cells (λ _. refl) (λ _. refl) text.extension_text _ [] text.extension_is old new (of_pledges h extensions_listed) rows st.schema st.extensions shown))
+    where
+      counts : (o : Option PledgeValue) → CountFrom 1 (rows_at o (extensions_listed b))
+      counts None = tt
+      counts (Some p) = counts_placed (λ place e. under b p.agreement.number (extension_cells place e)) (λ place e. refl) 1 p.extensions
+
+      shows : (o : Option PledgeValue) → map (λ v. column v 2 ∷ column v 3 ∷ column v 4 ∷ []) (at_most_one (λ r. r) (at_place (rows_at o (extensions_listed b)) s)) ≡ at_most_one (extension_cells s) (at_place (extensions_of o) s)
+      shows None = ap (λ x. map (λ v. column v 2 ∷ column v 3 ∷ column v 4 ∷ []) (at_most_one (λ r. r) x)) (nothing s) ∙ ap (at_most_one (extension_cells s)) (sym (nothing s))
+      shows (Some p) = shown_placed (λ place e. under b p.agreement.number (extension_cells place e)) extension_cells (λ v. column v 2 ∷ column v 3 ∷ column v 4 ∷ []) (λ place e. refl) s p.extensions
+
+module _ (h : Host) (storable : AreStorable h) (b n s : ℕ) where
+  pub entry_unsound : (IfSome (at_place (entries_of (pledge_in (get h.books b) n)) s) (λ e. IsDayNumber e.day) → ⊥) → HasUnsoundBook h
+  entry_unsound bad = entries_unsound h storable b n (λ all. bad (at_each (λ e. IsDayNumber e.day) _ s all))
+
+  pub secret_unsound : (IfSome (at_place (secrets_of (pledge_in (get h.books b) n)) s) (λ i. IsDayNumber i.day) → ⊥) → HasUnsoundBook h
+  secret_unsound bad = secrets_unsound h storable b n (λ all. bad (at_each (λ i. IsDayNumber i.day) _ s all))
+
+  pub extension_unsound : (IfSome (at_place (extensions_of (pledge_in (get h.books b) n)) s) (λ e. IsDayNumber e.day × IsDayNumber e.until) → ⊥) → HasUnsoundBook h
+  extension_unsound bad = extensions_unsound h storable b n (λ all. bad (at_each (λ e. IsDayNumber e.day × IsDayNumber e.until) _ s all))

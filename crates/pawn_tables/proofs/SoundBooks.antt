@@ -1,0 +1,64 @@
+-- What is kept of a sound host's books can be read of their rows.
+use Rattle.std.proofs.Common.{◌≡◌, ℕ, ◌+◌, ◌≤◌, List, [], ◌∷◌, length, Bool, true, false, cond, Option, Some, None, Result, Ok, Err, refl, sym, subst, arith, option_map}
+use Rattle.std.specs.Prelude.{IfSome}
+use Rattle.std.specs.FinMap.{get}
+use Rattle.pawn_pledge.specs.Number.{IsNumber}
+use Rattle.pawn_pledge.specs.Pledge.{PledgeValue}
+use Rattle.pawn_book.specs.BookStep.{BookValue, with_reference}
+use Rattle.pawn_book.specs.HostStep.{Host}
+use Rattle.pawn_book.specs.Keeping.{IsNextBook, number_of}
+use Rattle.pawn_book.specs.Rows.{AreNumberedFrom, is_same_text}
+use Rattle.pawn_book.specs.Sound.{IsSoundAt, HasUnsoundBook}
+use Rattle.pawn_book.specs.declared.fault.KeepError.{KeepError}
+use Rattle.pawn_book.specs.declared.fault.KeepError.TheVariants as Keeper
+use Rattle.pawn_book.specs.declared.fault.StoreFault.TheVariants.{NoRecord, Database}
+use Rattle.pawn_tables.specs.Heads.{HasKeys, IsHeadTold}
+use Rattle.pawn_tables.specs.StandsFor.{AreStorable}
+use Rattle.pawn_tables.specs.Finding.{Finds, IsRead}
+use Rattle.pawn_tables.proofs.BookReads.{next_of, is_next}
+
+-- a fact of what was read, and what can't be kept is of a host that is not sound
+pub told_as : {A : Type 0} (r : Result A KeepError) (x : A) (P : A → Type 0) (Q R U : Type 0) → IsRead r x Q → P x → R → ((Q → ⊥) → U) → Finds r (λ y. P y × R) U
+told_as (Ok y) x P Q R U read fact rests bad = (subst P (sym read) fact, rests)
+told_as (Err Keeper.Memory) x P Q R U read fact rests bad = tt
+told_as (Err (Keeper.Store NoRecord)) x P Q R U read fact rests bad = bad read
+told_as (Err (Keeper.Store Database)) x P Q R U read fact rests bad = tt
+
+module _ (h : Host) (b : ℕ) where
+  -- where a fact that sound books have fails of this one, it is not sound
+  pub unsound_book : (Q : Option BookValue → Type 0) → Q None → ((k : BookValue) → IsSoundAt b k → Q (Some k)) → (Q (get h.books b) → ⊥) → HasUnsoundBook h
+  unsound_book Q none some bad = inside (get h.books b) refl bad
+    where
+      inside : (o : Option BookValue) → get h.books b ≡ o → (Q o → ⊥) → HasUnsoundBook h
+      inside None is bad = absurd (bad none)
+      inside (Some k) is bad = (b, k, is, λ sound. bad (some k sound))
+
+  pub head_unsound : (IfSome (get h.books b) IsHeadTold → ⊥) → HasUnsoundBook h
+  head_unsound bad = unsound_book (λ o. IfSome o IsHeadTold) tt (λ k sound. record { name = (sound.1.name, sound.1.utf8); capacity = sound.1.capacity }) bad
+
+  -- the number of a pledge that stands is such
+  numbers_in : (s : List ℕ) (k : ℕ) (ps : List PledgeValue) → AreNumberedFrom k ps → 1 ≤ k → k + length ps ≤ 1000001 → IfSome (option_map (λ (p : PledgeValue). p.agreement.number) (with_reference ps s)) IsNumber
+  numbers_in s k [] numbered low few = tt
+  numbers_in s k (p ∷ ps) numbered low few = go (numbers_in s (k + 1) ps numbered.1 (omega arith) (omega (arith, few))) (is_same_text p.agreement.opening.reference s)
+    where
+      go : IfSome (option_map (λ (q : PledgeValue). q.agreement.number) (with_reference ps s)) IsNumber → (c : Bool) → IfSome (option_map (λ (q : PledgeValue). q.agreement.number) (cond c (Some p) (with_reference ps s))) IsNumber
+      go rest true = let at = numbered.0 in (omega (arith, at, low), omega (arith, at, few))
+      go rest false = rest
+
+  pub ref_unsound : (s : List ℕ) → (IfSome (number_of (get h.books b) s) IsNumber → ⊥) → HasUnsoundBook h
+  ref_unsound s bad = unsound_book (λ o. IfSome (number_of o s) IsNumber) tt (λ k sound. let fits = sound.1.rows.few_pledges in numbers_in s 1 k.pledges sound.1.rows.numbered (omega arith) (omega (arith, fits))) bad
+
+  -- the keys of books are words
+  pub keys_in : AreStorable h → IfSome (get h.books b) HasKeys
+  keys_in storable = inside (get h.books b) refl
+    where
+      inside : (o : Option BookValue) → get h.books b ≡ o → IfSome o HasKeys
+      inside None is = tt
+      inside (Some k) is = record { key = (storable b k is).key; imported = (storable b k is).imported }
+
+pub next_unsound : (h : Host) (n : ℕ) → (IfSome (next_of h n) IsNumber → ⊥) → HasUnsoundBook h
+next_unsound h n bad = go (next_of h n) (is_next h n) bad
+  where
+    go : (o : Option ℕ) → IsNextBook h n o → (IfSome o IsNumber → ⊥) → HasUnsoundBook h
+    go None is bad = absurd (bad tt)
+    go (Some b) is bad = (b, is.1.0, is.1.1, λ sound. bad sound.0)

@@ -1,0 +1,23 @@
+-- What the row of a book tells.
+use Rattle.std.specs.Prelude.{ℕ, [], ◌∷◌, IfSome}
+use Rattle.std.specs.Str.{IsUtf8}
+use Rattle.sqlite.specs.Order.{Row}
+use Rattle.pawn_pledge.specs.Text.{IsText}
+use Rattle.pawn_book.specs.BookStep.{BookValue}
+use Rattle.pawn_book.specs.Limits.{IsCapacity, most_name_bytes}
+use Rattle.pawn_book.specs.Written.{IsWord}
+use Rattle.pawn_tables.specs.Rows.{number}
+
+-- its keys are words
+pub record HasKeys (k : BookValue) : Type 0 where
+  pub key : IsWord k.key
+  pub imported : IfSome k.imported (λ i. IsWord i.key)
+
+-- its name and its capacity keep their limits
+pub record IsHeadTold (k : BookValue) : Type 0 where
+  pub name : IsText most_name_bytes k.name × IsUtf8 k.name
+  pub capacity : IsCapacity k.capacity
+
+-- a number alone
+abbrev pub number_cells : ℕ → Row
+number_cells n = number n ∷ []

@@ -1,0 +1,102 @@
+ghost use Rattle.std.specs.Prelude.{◌≡◌, is_ok, option_map};
+ghost use Rattle.std.specs.FinMap.{get};
+ghost use Rattle.sqlite.specs.Held.{state};
+ghost use Rattle.pawn_book.specs.Bookings.{confirmed_count};
+ghost use Rattle.pawn_book.specs.BookStep.{book_head};
+ghost use Rattle.pawn_book.specs.HostStep.{rows};
+ghost use Rattle.pawn_book.specs.Keeping.{IsNextBook, number_of, pledges_of};
+ghost use Rattle.one_table.specs.Lending.{IsLent};
+ghost use Rattle.pawn_tables.specs.Finding.{FindsIn};
+
+use crate::heads::{first_head, first_number, only_number};
+use crate::queries::rows_of;
+use pawn_book::{BookHead, Day, KeepError, Number, StoreFault};
+use sqlite::{Alter, Transaction, params};
+use std::alloc::Global;
+
+/// The head of a book, if the book stands. Of a book that is not sound a row may be no record.
+pub fn head_in<S: Alter>(
+    tx: &mut Transaction<'_, S>,
+    alloc: Global,
+    book: u32,
+) -> Result<Option<BookHead>, KeepError>
+    ensures same_reference { tx.new.conn.ghost_name ≡ tx.old.conn.ghost_name }
+    ensures finds { FindsIn (state S.Store tx.old.conn.now) (state S.Store tx.new.conn.now) result (λ h head. head ≡ option_map book_head (get h.books book)) }
+    ensures lent { IsLent (state S.Store tx.old.conn.now) (state S.Store tx.new.conn.now) (is_ok result) }
+{
+    let rows = rows_of(
+        tx,
+        "SELECT book_key, title, capacity, terms, pledges, import_key, imported FROM books WHERE book = ?1",
+        params![book],
+    )?;
+    first_head(alloc, &rows)
+}
+
+/// The number of the first pledge of a book with a reference, if there is one.
+pub fn ref_in<S: Alter>(
+    tx: &mut Transaction<'_, S>,
+    book: u32,
+    reference: &str,
+) -> Result<Option<Number>, KeepError>
+    ensures same_reference { tx.new.conn.ghost_name ≡ tx.old.conn.ghost_name }
+    ensures finds { FindsIn (state S.Store tx.old.conn.now) (state S.Store tx.new.conn.now) result (λ h number. number ≡ number_of (get h.books book) reference.now) }
+    ensures lent { IsLent (state S.Store tx.old.conn.now) (state S.Store tx.new.conn.now) (is_ok result) }
+{
+    let rows = rows_of(
+        tx,
+        "SELECT number FROM pledges WHERE book = ?1 AND ref = ?2 ORDER BY number LIMIT 1",
+        params![book, reference],
+    )?;
+    first_number(&rows)
+}
+
+/// How many pledges of a book have a confirmed booking for a day and a window. A window that 32
+/// bits can't hold is a fault; a day has six.
+pub fn confirmed_in<S: Alter>(
+    tx: &mut Transaction<'_, S>,
+    book: u32,
+    day: Day,
+    window: u64,
+) -> Result<u64, KeepError>
+    ensures same_reference { tx.new.conn.ghost_name ≡ tx.old.conn.ghost_name }
+    ensures finds { FindsIn (state S.Store tx.old.conn.now) (state S.Store tx.new.conn.now) result (λ h count. count ≡ confirmed_count (pledges_of (get h.books book)) day window) }
+    ensures lent { IsLent (state S.Store tx.old.conn.now) (state S.Store tx.new.conn.now) (is_ok result) }
+{
+    let Ok(slot) = u32::try_from(window) else {
+        return Err(KeepError::Store(StoreFault::Database));
+    };
+    let day = day.count();
+    let rows = rows_of(
+        tx,
+        "SELECT number FROM bookings WHERE book = ?1 AND day = ?2 AND slot = ?3 AND state = 1",
+        params![book, day, slot],
+    )?;
+    Ok(rows.len() as u64)
+}
+
+/// The least number of a book above one.
+pub fn next_in<S: Alter>(
+    tx: &mut Transaction<'_, S>,
+    above: u32,
+) -> Result<Option<Number>, KeepError>
+    ensures same_reference { tx.new.conn.ghost_name ≡ tx.old.conn.ghost_name }
+    ensures finds { FindsIn (state S.Store tx.old.conn.now) (state S.Store tx.new.conn.now) result (λ h next. IsNextBook h above next) }
+    ensures lent { IsLent (state S.Store tx.old.conn.now) (state S.Store tx.new.conn.now) (is_ok result) }
+{
+    let rows = rows_of(
+        tx,
+        "SELECT book FROM books WHERE book > ?1 ORDER BY book LIMIT 1",
+        params![above],
+    )?;
+    first_number(&rows)
+}
+
+/// The rows of all books that are counted.
+pub fn rows_in<S: Alter>(tx: &mut Transaction<'_, S>) -> Result<u64, KeepError>
+    ensures same_reference { tx.new.conn.ghost_name ≡ tx.old.conn.ghost_name }
+    ensures finds { FindsIn (state S.Store tx.old.conn.now) (state S.Store tx.new.conn.now) result (λ h count. count ≡ rows h) }
+    ensures lent { IsLent (state S.Store tx.old.conn.now) (state S.Store tx.new.conn.now) (is_ok result) }
+{
+    let rows = rows_of(tx, "SELECT value FROM meta WHERE name = 'rows'", &[])?;
+    only_number(&rows)
+}

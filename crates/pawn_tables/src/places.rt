@@ -1,0 +1,70 @@
+ghost use Rattle.std.specs.Prelude.{◌≡◌, is_ok};
+ghost use Rattle.std.specs.FinMap.{get};
+ghost use Rattle.sqlite.specs.Held.{state};
+ghost use Rattle.pawn_book.specs.BookStep.{pledge_in};
+ghost use Rattle.pawn_book.specs.Keeping.{entries_of, extensions_of, secrets_of};
+ghost use Rattle.one_table.specs.Lending.{IsLent};
+ghost use Rattle.pawn_tables.specs.Finding.{FindsIn};
+ghost use Rattle.pawn_tables.specs.Places.{at_place};
+
+use crate::lists::{first_entry, first_extension, first_issued};
+use crate::queries::rows_of;
+use pawn_book::{Entry, Extension, Issued, KeepError};
+use sqlite::{Alter, Transaction, params};
+
+/// The entry of a pledge at a place. The first place is 1.
+pub fn entry_in<S: Alter>(
+    tx: &mut Transaction<'_, S>,
+    book: u32,
+    number: u32,
+    place: u32,
+) -> Result<Option<Entry>, KeepError>
+    ensures same_reference { tx.new.conn.ghost_name ≡ tx.old.conn.ghost_name }
+    ensures finds { FindsIn (state S.Store tx.old.conn.now) (state S.Store tx.new.conn.now) result (λ h x. x ≡ at_place (entries_of (pledge_in (get h.books book) number)) place) }
+    ensures lent { IsLent (state S.Store tx.old.conn.now) (state S.Store tx.new.conn.now) (is_ok result) }
+{
+    let rows = rows_of(
+        tx,
+        "SELECT seq, day, sort, pence FROM entries WHERE book = ?1 AND number = ?2 AND seq = ?3",
+        params![book, number, place],
+    )?;
+    first_entry(&rows)
+}
+
+/// The secret of a pledge at a place, and how it was issued. The first place is 1.
+pub fn secret_in<S: Alter>(
+    tx: &mut Transaction<'_, S>,
+    book: u32,
+    number: u32,
+    place: u32,
+) -> Result<Option<Issued>, KeepError>
+    ensures same_reference { tx.new.conn.ghost_name ≡ tx.old.conn.ghost_name }
+    ensures finds { FindsIn (state S.Store tx.old.conn.now) (state S.Store tx.new.conn.now) result (λ h x. x ≡ at_place (secrets_of (pledge_in (get h.books book) number)) place) }
+    ensures lent { IsLent (state S.Store tx.old.conn.now) (state S.Store tx.new.conn.now) (is_ok result) }
+{
+    let rows = rows_of(
+        tx,
+        "SELECT place, day, sort, secret FROM secrets WHERE book = ?1 AND number = ?2 AND place = ?3",
+        params![book, number, place],
+    )?;
+    first_issued(&rows)
+}
+
+/// The extension of a pledge at a place. The first place is 1.
+pub fn extension_in<S: Alter>(
+    tx: &mut Transaction<'_, S>,
+    book: u32,
+    number: u32,
+    place: u32,
+) -> Result<Option<Extension>, KeepError>
+    ensures same_reference { tx.new.conn.ghost_name ≡ tx.old.conn.ghost_name }
+    ensures finds { FindsIn (state S.Store tx.old.conn.now) (state S.Store tx.new.conn.now) result (λ h x. x ≡ at_place (extensions_of (pledge_in (get h.books book) number)) place) }
+    ensures lent { IsLent (state S.Store tx.old.conn.now) (state S.Store tx.new.conn.now) (is_ok result) }
+{
+    let rows = rows_of(
+        tx,
+        "SELECT place, day, until_day FROM extensions WHERE book = ?1 AND number = ?2 AND place = ?3",
+        params![book, number, place],
+    )?;
+    first_extension(&rows)
+}
