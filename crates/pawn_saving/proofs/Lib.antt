@@ -1,0 +1,9 @@
+pub mod BookChanges
+pub mod Changing
+pub mod Counter
+pub mod Hosting
+pub mod Lent
+pub mod Places
+pub mod Puts
+pub mod Saved
+pub mod WriteTexts
