@@ -1,5 +1,5 @@
 -- The counter of rows goes up.
-use Rattle.std.proofs.Common.{◌≡◌, ◌++◌, ℕ, ◌+◌, ◌<◌, ◌^◌, pos, List, [], ◌∷◌, map, filter, get_or, codes, Bool, true, Some, Ok, refl, sym, ap, ap₂, subst, ◌∙◌, arith, IsPermutation, slice_get, nat_lt}
+use Rattle.std.proofs.Common.{◌≡◌, ◌++◌, ℕ, ◌+◌, ◌<◌, ◌^◌, pos, List, [], ◌∷◌, map, filter, get_or, codes, Bool, true, Some, Result, Ok, Err, IfOk, refl, sym, ap, ap₂, subst, ◌∙◌, arith, IsPermutation, slice_get, nat_lt}
 use Rattle.std.specs.List.{list_all, AllByRecursion}
 use Rattle.std.proofs.lemmas.Bool.Decides.{nat_tests}
 use Rattle.sqlite.specs.declared.types.Value.TheVariants.{Int, Text}
@@ -122,8 +122,12 @@ limit_shown old new rows listed counted limit noted st shown =
     one_permutation _ _ (subst (λ xs. IsPermutation xs rows) one same)
 
 -- the number that is read of its row
-pub limit_told : (x n limit : ℕ) (row : Row) (rows : List Row) → rows ≡ (Int (pos limit) ∷ []) ∷ [] → row ≡ get_or rows 0 row → column row 0 ≡ Int (pos x) → n ≡ x → n ≡ limit
-limit_told x n limit row rows are is read same =
+pub limit_told : (x limit : ℕ) (row : Row) (rows : List Row) → rows ≡ (Int (pos limit) ∷ []) ∷ [] → row ≡ get_or rows 0 row → column row 0 ≡ Int (pos x) → x ≡ limit
+limit_told x limit row rows are is read =
     let first : row ≡ Int (pos limit) ∷ [] = is ∙ ap (λ rs. get_or rs 0 row) are in
     let e : Int (pos x) ≡ Int (pos limit) = sym read ∙ ap (λ r. column r 0) first in
-    same ∙ cc
+    cc
+
+pub if_small : {E : Type 0} (r : Result ℕ E) (x limit : ℕ) (P : Type 0) → x ≡ limit → P → IfOk r (λ n. n ≡ x) → IfOk r (λ n. (n ≡ limit) × P)
+if_small (Ok n) x limit P same p is = (is ∙ same, p)
+if_small (Err e) x limit P same p is = tt

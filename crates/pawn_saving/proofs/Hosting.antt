@@ -1,5 +1,5 @@
 -- Tables that stand for a host, and tables that list its rows.
-use Rattle.std.proofs.Common.{◌≡◌, ◌==◌, ◌≤◌, ◌<◌, ◌^◌, ℕ, List, [], ◌∷◌, map, length, Option, Some, None, IsPermutation, refl, sym, subst, arith}
+use Rattle.std.proofs.Common.{◌≡◌, ◌==◌, ◌≤◌, ◌<◌, ◌^◌, ℕ, List, [], ◌∷◌, map, length, codes, Option, Some, None, IsPermutation, refl, sym, subst, arith}
 use Rattle.std.specs.Prelude.{if◌then◌else◌, IfSome}
 use Rattle.std.specs.FinMap.{get}
 use Rattle.std.proofs.lemmas.List.Sorted.{IsPermutation-trans, IsPermutation-refl}
@@ -15,7 +15,9 @@ use Rattle.pawn_book.specs.BookStep.{BookValue}
 use Rattle.pawn_book.specs.HostStep.{Host, rows}
 use Rattle.pawn_book.specs.Sound.{AreSound, HasTextsAndWords}
 use Rattle.pawn_book.specs.Written.{AreWords}
-use Rattle.one_table.specs.Listing.{Holds, Lists, Listed}
+use Rattle.one_table.specs.Listing.{Holds, Lists, Listed, with_rows}
+use Rattle.one_table.proofs.Rowed.{swapped}
+use Rattle.pawn_tables.specs.Meta.{meta_row, other_rows}
 use Rattle.pawn_tables.specs.Schema.{keep_schema}
 use Rattle.pawn_tables.specs.StandsFor.{StandsFor, HoldHost, AreOrdered, AreStorable}
 use Rattle.pawn_saving.specs.Counted.{listed_as, ListsHost, AreTaken}
@@ -103,3 +105,17 @@ are_storable h sound taken b k is = let s = (sound b k is).1 in record {
   taken = taken b k is;
   versions = let few = s.rows.few_terms in omega (arith, few);
 }
+
+-- the same rows with another count of them
+pub recounted : (db : Database) (h : Host) (counted more told : ℕ) → told ≡ more → Lists keep_schema db (with_rows (listed_as h counted) 13 (meta_row (codes "rows") told ∷ other_rows h.limit)) → ListsHost db h more
+recounted db h counted more told is l = subst (ListsHost db h) is (relisted db _ _ (record {
+  books = IsPermutation-refl _;
+  terms = IsPermutation-refl _;
+  pledges = IsPermutation-refl _;
+  entries = IsPermutation-refl _;
+  secrets = IsPermutation-refl _;
+  bookings = IsPermutation-refl _;
+  meta = swapped (meta_row (codes "schema") 3) (meta_row (codes "rows") told) (meta_row (codes "limit") h.limit ∷ []);
+  totals = IsPermutation-refl _;
+  extensions = IsPermutation-refl _;
+}) l)

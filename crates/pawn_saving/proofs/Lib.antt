@@ -1,4 +1,5 @@
 pub mod BookChanges
+pub mod BookPuts
 pub mod Changing
 pub mod Counter
 pub mod Hosting

@@ -1,4 +1,4 @@
-ghost use Rattle.std.specs.Prelude.{◌≡◌, IfOk};
+ghost use Rattle.std.specs.Prelude.{◌≡◌, ◌<◌, ◌^◌, IfOk};
 ghost use Rattle.sqlite.specs.declared.error.Error.TheVariants as SqlError;
 ghost use Rattle.sqlite.specs.declared.error.ErrorCode.TheVariants.{OutOfMemory};
 ghost use Rattle.pawn_book.specs.declared.fault.KeepError.TheVariants as Keeper;
@@ -23,6 +23,7 @@ pub(crate) fn refused(error: Error) -> KeepError
 /// A number as a statement takes it.
 pub(crate) fn small(number: u64) -> Result<u32, KeepError>
     ensures value { IfOk result (λ n. n ≡ number) }
+    ensures in_range { IfOk result (λ n. n < 2 ^ 32) }
 {
     match u32::try_from(number) {
         Ok(n) => Ok(n),

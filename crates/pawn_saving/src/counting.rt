@@ -18,6 +18,7 @@ fn limit_in<S: Alter>(tx: &mut Transaction<'_, S>) -> Result<u32, KeepError>
     ensures found { HasCleanDisk (state S.Store tx.new.conn.now) → IsTrue (state S.Store tx.old.conn.now).in_transaction
         → (listed : Listed) (counted limit : ℕ) → listed 13 ≡ meta_rows counted limit → Lists keep_schema (state S.Store tx.old.conn.now).now listed
         → IfOk result (λ n. (n ≡ limit) × Rests (state S.Store tx.old.conn.now) (state S.Store tx.new.conn.now)) }
+    ensures in_range { IfOk result (λ n. n < 2 ^ 32) }
     ensures lent { IsLent (state S.Store tx.old.conn.now) (state S.Store tx.new.conn.now) (is_ok result) }
 {
     let rows = match ask(tx, "SELECT value FROM meta WHERE name = 'limit'", &[]) {
