@@ -119,3 +119,6 @@ recounted db h counted more told is l = subst (ListsHost db h) is (relisted db _
   totals = IsPermutation-refl _;
   extensions = IsPermutation-refl _;
 }) l)
+
+pub are_taken : (db : Database) (h : Host) → StandsFor db h → AreTaken h
+are_taken db h st b k is = (st.storable b k is).taken
