@@ -7,5 +7,6 @@ pub mod Judging
 pub mod Lent
 pub mod Places
 pub mod Puts
+pub mod RowPuts
 pub mod Saved
 pub mod WriteTexts

@@ -6,6 +6,7 @@ ghost use Rattle.pawn_tables.specs.Rows as spec;
 
 use pawn_book::{BookingState, Closing, Issue, KeepError, Kind, RequestDay, Sort, StoreFault};
 use sqlite::{Error, ErrorCode};
+use sqlite_value::value::Value;
 
 /// The database refused.
 pub(crate) const REFUSED: KeepError = KeepError::Store(StoreFault::Database);
@@ -81,13 +82,23 @@ pub(crate) fn state_number(state: BookingState) -> u32
     }
 }
 
-/// The day of an agreed end.
-pub(crate) fn agreed_count(agreed: Option<RequestDay>) -> Option<u32>
-    ensures value { result ≡ agreed }
+// A number as a statement takes it, or NULL.
+fn optional(number: Option<u32>) -> Value
+    ensures value { result ≡ spec.or_null spec.number number }
+{
+    match number {
+        Some(n) => Value::Int(n as i64),
+        None => Value::Null,
+    }
+}
+
+/// The agreed end of a period.
+pub(crate) fn agreed_value(agreed: Option<RequestDay>) -> Value
+    ensures value { result ≡ spec.or_null spec.number agreed }
 {
     match agreed {
-        Some(day) => Some(day.day().count()),
-        None => None,
+        Some(day) => optional(Some(day.day().count())),
+        None => optional(None),
     }
 }
 
@@ -103,23 +114,23 @@ pub(crate) fn closed_number(closing: Closing) -> u32
 }
 
 /// The day of a closing.
-pub(crate) fn closed_day(closing: Closing) -> Option<u32>
-    ensures value { result ≡ spec.closed_day closing }
+pub(crate) fn closed_day(closing: Closing) -> Value
+    ensures value { result ≡ spec.or_null spec.number (spec.closed_day closing) }
 {
     match closing {
-        Closing::Open => None,
-        Closing::Redeemed { day, paid: _ } => Some(day.count()),
-        Closing::Sold { day, net: _ } => Some(day.count()),
+        Closing::Open => optional(None),
+        Closing::Redeemed { day, paid: _ } => optional(Some(day.count())),
+        Closing::Sold { day, net: _ } => optional(Some(day.count())),
     }
 }
 
 /// The sum of a closing.
-pub(crate) fn closed_amount(closing: Closing) -> Result<Option<u32>, KeepError>
-    ensures value { IfOk result (λ amount. amount ≡ spec.closed_amount closing) }
+pub(crate) fn closed_amount(closing: Closing) -> Result<Value, KeepError>
+    ensures value { IfOk result (λ amount. amount ≡ spec.or_null spec.number (spec.closed_amount closing)) }
 {
     match closing {
-        Closing::Open => Ok(None),
-        Closing::Redeemed { day: _, paid } => Ok(Some(small(paid)?)),
-        Closing::Sold { day: _, net } => Ok(Some(small(net)?)),
+        Closing::Open => Ok(optional(None)),
+        Closing::Redeemed { day: _, paid } => Ok(optional(Some(small(paid)?))),
+        Closing::Sold { day: _, net } => Ok(optional(Some(small(net)?))),
     }
 }

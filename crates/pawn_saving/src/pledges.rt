@@ -9,7 +9,7 @@ ghost use Rattle.pawn_tables.specs.Rows.{under, booking_cells, pledge_cells, tot
 ghost use Rattle.pawn_saving.specs.Writing.{Joins, PutsOver, Replaces};
 
 use crate::cells::{
-    REFUSED, agreed_count, closed_amount, closed_day, closed_number, flag_number, kind_number,
+    REFUSED, agreed_value, closed_amount, closed_day, closed_number, flag_number, kind_number,
     small, state_number,
 };
 use crate::writing::write;
@@ -35,7 +35,7 @@ pub(crate) fn put_row<S: Alter>(
     let kind = kind_number(agreement.opening.kind);
     let credit = small(agreement.opening.kind.credit())?;
     let taken = agreement.taken.count();
-    let agreed = agreed_count(agreement.opening.agreed);
+    let agreed = agreed_value(agreement.opening.agreed);
     let five = flag_number(agreement.opening.five_days);
     let version = small(agreement.version)?;
     let ends = pledge.ends().count();
@@ -48,8 +48,8 @@ pub(crate) fn put_row<S: Alter>(
         tx,
         "INSERT INTO pledges VALUES (?1, ?2, ?3, ?4, ?5, ?6, ?7, ?8, ?9, ?10, ?11, ?12, ?13, ?14, ?15, ?16)",
         params![
-            book, number, reference, article, kind, credit, taken, agreed, five, version, ends,
-            held, last, closed, closed_on, amount
+            book, number, reference, article, kind, credit, taken, &agreed, five, version, ends,
+            held, last, closed, &closed_on, &amount
         ],
     )
 }
@@ -77,7 +77,7 @@ pub(crate) fn set_row<S: Alter>(
     write(
         tx,
         "UPDATE pledges SET ends = ?3, held = ?4, last_day = ?5, closed = ?6, closed_day = ?7, amount = ?8 WHERE book = ?1 AND number = ?2",
-        params![book, number, ends, held, last, closed, closed_on, amount],
+        params![book, number, ends, held, last, closed, &closed_on, &amount],
     )
 }
 
