@@ -1,5 +1,5 @@
 -- What becomes of the rows of a host where a book is made, and where it gets terms.
-use Rattle.std.proofs.Common.{◌≡◌, ◌≢◌, ◌++◌, ◌==◌, ℕ, zero, suc, ◌+◌, ◌≤◌, List, [], ◌∷◌, map, filter, flat_map, length, length-append, append_assoc, Bool, true, false, cond, ◌&&◌, Option, Some, None, refl, sym, ap, subst, ◌∙◌, arith, IsPermutation}
+use Rattle.std.proofs.Common.{◌≡◌, ◌≢◌, ◌++◌, ◌==◌, ℕ, suc, ◌+◌, ◌≤◌, List, [], ◌∷◌, map, filter, flat_map, length, length-append, Bool, true, false, cond, ◌&&◌, Some, None, refl, sym, ap, subst, ◌∙◌, arith, IsPermutation}
 use Rattle.std.specs.Prelude.{if◌then◌else◌}
 use Rattle.std.specs.FinMap.{entries, get}
 use Rattle.std.proofs.lemmas.Bool.Decides.{nat_tests}
@@ -9,7 +9,6 @@ use Rattle.sqlite.specs.Order.{Row}
 use Rattle.sqlite.specs.Effect.{Database}
 use Rattle.pawn_terms.specs.declared.terms.Rates.{Rates}
 use Rattle.pawn_terms.specs.Limits.{first_day}
-use Rattle.pawn_pledge.specs.Pledge.{PledgeValue}
 use Rattle.pawn_pledge.specs.Replayable.{Each}
 use Rattle.pawn_book.specs.declared.change.Change.TheVariants.{AddTerms, MakeBook}
 use Rattle.pawn_book.specs.declared.request.NewBook.{NewBook}
@@ -18,13 +17,12 @@ use Rattle.pawn_book.specs.Changes.{with_change}
 use Rattle.pawn_book.specs.HostStep.{Host, book_rows, rows, with_book}
 use Rattle.pawn_book.proofs.RowSums.{part, rows-with_book}
 use Rattle.pawn_book.proofs.Sounds.{get-with_book, some_is}
-use Rattle.one_table.specs.Listing.{Lists, Listed, with_rows}
+use Rattle.one_table.specs.Listing.{Lists, with_rows}
 use Rattle.pawn_tables.specs.Schema.{keep_schema}
-use Rattle.pawn_tables.specs.Meta.{meta_rows}
 use Rattle.pawn_tables.specs.At.{at_book}
 use Rattle.pawn_tables.specs.Rows.{number, placed_from, book_row, terms_cells, terms_listed, pledge_listed, entries_listed, secrets_listed, booking_listed, totals_listed, extensions_listed}
-use Rattle.pawn_tables.specs.StandsFor.{of_books, of_pledges}
-use Rattle.pawn_tables.proofs.Sought.{equals, of_one_book, rows_at, all_under, filter-flat_map}
+use Rattle.pawn_tables.specs.StandsFor.{of_books}
+use Rattle.pawn_tables.proofs.Sought.{equals, of_one_book, rows_at}
 use Rattle.pawn_saving.specs.Counted.{listed_as, ListsHost, AreTaken, IsWritten}
 use Rattle.pawn_saving.specs.Writing.{IsOnly}
 use Rattle.pawn_saving.proofs.Hosting.{AreSame, relisted}

@@ -1,14 +1,12 @@
 -- What the statements on the rows of books write.
-use Rattle.std.proofs.Common.{◌≡◌, ℕ, ℤ, pos, List, [], ◌∷◌, ◌&&◌, ◌==◌, true, length, Some, None, Ok, refl, sym, ap, subst, ◌∙◌, arith}
+use Rattle.std.proofs.Common.{◌≡◌, ℕ, ℤ, List, [], ◌∷◌, ◌&&◌, ◌==◌, true, length, Some, None, Ok, refl, sym, subst, ◌∙◌, arith}
 use Rattle.std.proofs.lemmas.Bool.Decides.{nat_tests}
-use Rattle.sqlite.specs.declared.types.Value.{Value}
 use Rattle.sqlite.specs.declared.types.Value.TheVariants.{Null, Int, Text, Blob}
-use Rattle.sqlite.specs.Cast.{cast, cast_row}
+use Rattle.sqlite.specs.Cast.{cast}
 use Rattle.sqlite.specs.Kind.TheVariants.{Integer, Blob as BlobKind}
 use Rattle.sqlite.specs.Order.{Row, column}
 use Rattle.sqlite.specs.Term.{Term}
 use Rattle.sqlite.specs.State.{State, Executes}
-use Rattle.sqlite.proofs.Callers.{IsPlain, command_of}
 use Rattle.pawn_terms.specs.declared.terms.Rates.{Rates}
 use Rattle.pawn_pledge.specs.Pledge.{PledgeValue}
 use Rattle.pawn_book.specs.declared.request.NewBook.{NewBook}
@@ -17,7 +15,7 @@ use Rattle.pawn_book.specs.BookStep.{BookValue, filled_book, made_book}
 use Rattle.one_table.specs.Listing.{Lists, Listed, with_rows, columns_of}
 use Rattle.one_table.proofs.OneTable.{over_table, passes, shows_of}
 use Rattle.one_table.proofs.Texts.{Sets}
-use Rattle.one_table.proofs.Rowed.{plainly, cast_null, cast_int, cast_whole}
+use Rattle.one_table.proofs.Rowed.{cast_null, cast_int, cast_whole}
 use Rattle.one_table.proofs.Insertion.{inserted}
 use Rattle.one_table.proofs.Alteration.{set_one}
 use Rattle.pawn_tables.specs.Schema.{books, keep_schema}

@@ -1,17 +1,11 @@
 -- Tables that stand for a host, and tables that list its rows.
-use Rattle.std.proofs.Common.{◌≡◌, ◌==◌, ◌≤◌, ◌<◌, ◌^◌, ℕ, List, [], ◌∷◌, map, length, codes, Option, Some, None, IsPermutation, refl, sym, subst, arith}
-use Rattle.std.specs.Prelude.{if◌then◌else◌, IfSome}
-use Rattle.std.specs.FinMap.{get}
+use Rattle.std.proofs.Common.{◌≡◌, ℕ, List, [], ◌∷◌, codes, IsPermutation, subst, arith}
 use Rattle.std.proofs.lemmas.List.Sorted.{IsPermutation-trans, IsPermutation-refl}
 use Rattle.sqlite.specs.Order.{Row}
 use Rattle.sqlite.specs.Tree.{Trees}
 use Rattle.sqlite.specs.Table.{Table}
 use Rattle.sqlite.specs.Effect.{Database}
-use Rattle.sqlite_catalog.specs.Listing.{IsSound as IsSoundListing}
-use Rattle.pawn_terms.specs.Limits.{first_day}
-use Rattle.pawn_pledge.specs.Pledge.{PledgeValue}
 use Rattle.pawn_pledge.specs.Replayable.{Each, IsStanding, AreNumbered}
-use Rattle.pawn_book.specs.BookStep.{BookValue}
 use Rattle.pawn_book.specs.HostStep.{Host, rows}
 use Rattle.pawn_book.specs.Sound.{AreSound, HasTextsAndWords}
 use Rattle.pawn_book.specs.Written.{AreWords}
@@ -69,14 +63,28 @@ relisted db a b same l = record {
   sound = l.sound;
   tables = (
     other db.trees 0 _ (b 0) (a 0) same.books l.tables.0,
-    (other db.trees 1 _ (b 1) (a 1) same.terms l.tables.1.0,
-    (other db.trees 3 _ (b 3) (a 3) same.pledges l.tables.1.1.0,
-    (other db.trees 6 _ (b 6) (a 6) same.entries l.tables.1.1.1.0,
-    (other db.trees 8 _ (b 8) (a 8) same.secrets l.tables.1.1.1.1.0,
-    (other db.trees 11 _ (b 11) (a 11) same.bookings l.tables.1.1.1.1.1.0,
-    (other db.trees 13 _ (b 13) (a 13) same.meta l.tables.1.1.1.1.1.1.0,
-    (other db.trees 15 _ (b 15) (a 15) same.totals l.tables.1.1.1.1.1.1.1.0,
-    (other db.trees 17 _ (b 17) (a 17) same.extensions l.tables.1.1.1.1.1.1.1.1.0, tt)))))))),
+    (
+      other db.trees 1 _ (b 1) (a 1) same.terms l.tables.1.0,
+      (
+        other db.trees 3 _ (b 3) (a 3) same.pledges l.tables.1.1.0,
+        (
+          other db.trees 6 _ (b 6) (a 6) same.entries l.tables.1.1.1.0,
+          (
+            other db.trees 8 _ (b 8) (a 8) same.secrets l.tables.1.1.1.1.0,
+            (
+              other db.trees 11 _ (b 11) (a 11) same.bookings l.tables.1.1.1.1.1.0,
+              (
+                other db.trees 13 _ (b 13) (a 13) same.meta l.tables.1.1.1.1.1.1.0,
+                (
+                  other db.trees 15 _ (b 15) (a 15) same.totals l.tables.1.1.1.1.1.1.1.0,
+                  (other db.trees 17 _ (b 17) (a 17) same.extensions l.tables.1.1.1.1.1.1.1.1.0, tt),
+                ),
+              ),
+            ),
+          ),
+        ),
+      ),
+    ),
   );
 }
 

@@ -1,5 +1,5 @@
 -- What the statements on the rows of pledges write.
-use Rattle.std.proofs.Common.{◌≡◌, ℕ, ℤ, pos, List, [], ◌∷◌, Option, Some, None, Ok, refl, sym, ap, subst, ◌∙◌}
+use Rattle.std.proofs.Common.{◌≡◌, ℕ, List, [], ◌∷◌, Option, Some, None, Ok, refl, ap, subst, ◌∙◌}
 use Rattle.sqlite.specs.declared.types.Value.{Value}
 use Rattle.sqlite.specs.declared.types.Value.TheVariants.{Null, Int, Text}
 use Rattle.sqlite.specs.Cast.{cast}
@@ -9,7 +9,7 @@ use Rattle.sqlite.specs.State.{State, Executes}
 use Rattle.pawn_debt.specs.Due.{credit_of}
 use Rattle.pawn_pledge.specs.declared.record.Agreement.{Agreement}
 use Rattle.pawn_pledge.specs.Pledge.{PledgeValue, end_of}
-use Rattle.one_table.specs.Listing.{Lists, Listed, with_rows, columns_of}
+use Rattle.one_table.specs.Listing.{Lists, Listed, with_rows}
 use Rattle.one_table.proofs.Rowed.{cast_null, cast_int, cast_whole}
 use Rattle.one_table.proofs.Insertion.{inserted}
 use Rattle.one_table.proofs.Alteration.{set_one}
@@ -53,10 +53,10 @@ module _ (old new : State) (listed : Listed) (st : Lists keep_schema old.now lis
       let o = p.agreement.opening in
       let q = before.agreement.opening in
       let after : Row = number b ∷ number n ∷ Text o.reference ∷ Text o.article ∷ number (kind_number o.kind) ∷ number (credit_of o.kind) ∷ number p.agreement.taken ∷ or_null number o.agreed
-          ∷ flag o.five_days ∷ number p.agreement.version ∷ number e ∷ number h ∷ number l ∷ number x ∷ or_null number (closed_day p.standing.closing) ∷ or_null number (closed_amount p.standing.closing) ∷ [] in
+      ∷ flag o.five_days ∷ number p.agreement.version ∷ number e ∷ number h ∷ number l ∷ number x ∷ or_null number (closed_day p.standing.closing) ∷ or_null number (closed_amount p.standing.closing) ∷ [] in
       subst (λ row. Lists keep_schema new.now (with_rows listed 3 (row ∷ rest)))
       (λ i. number b ∷ number n ∷ Text o.reference ∷ Text o.article ∷ number (kind_number o.kind) ∷ number (credit_of o.kind) ∷ number p.agreement.taken ∷ or_null number o.agreed
-          ∷ flag o.five_days ∷ number p.agreement.version ∷ number (es i) ∷ number (hs i) ∷ number (ls i) ∷ number (xs i) ∷ or_null number (closed_day p.standing.closing) ∷ or_null number (closed_amount p.standing.closing) ∷ [])
+      ∷ flag o.five_days ∷ number p.agreement.version ∷ number (es i) ∷ number (hs i) ∷ number (ls i) ∷ number (xs i) ∷ or_null number (closed_day p.standing.closing) ∷ or_null number (closed_amount p.standing.closing) ∷ [])
       (set_one keep_schema 2 (record pledges { tree = 3 }) pledges_place (λ _. refl) read.of_pledge text.change_shows (at_pledge b n) text.change_text text.change_is.0 text.change_is.1
       old new (number b ∷ number n ∷ number e ∷ number h ∷ number l ∷ number x ∷ or_null number (closed_day p.standing.closing) ∷ or_null number (closed_amount p.standing.closing) ∷ []) count listed (under b n (pledge_cells before)) after rest st (λ row. refl) only.split (own_row b n (pledge_cells before)) only.none
       (λ id row at cols.

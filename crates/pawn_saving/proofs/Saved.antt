@@ -1,9 +1,8 @@
--- A change is saved: a transaction that is lent, and then committed or rolled back.
-use Rattle.std.proofs.Common.{◌≡◌, ◌≢◌, ◌⊎◌, inl, inr, ◌≤◌, ◌<◌, Bool, true, false, Result, Ok, Err, IsTrue, refl, sym, ap, subst, ◌∙◌, arith}
-use Rattle.std.specs.Prelude.{is_ok}
+-- A change is saved: a transaction that is lent and goes well, and a commit.
+use Rattle.std.proofs.Common.{◌≡◌, ◌≢◌, ◌⊎◌, inl, inr, ◌≤◌, true, false, Ok, Err, IsTrue, refl, sym, ap, subst, ◌∙◌, arith}
 use Rattle.sqlite.specs.Effect.{Database}
 use Rattle.sqlite.specs.Tree.{Trees}
-use Rattle.sqlite.specs.State.{State, HasCleanDisk, IsRolledBack, KeepsCounts, Shows, Survives, Fails}
+use Rattle.sqlite.specs.State.{State, HasCleanDisk, IsRolledBack, Shows, Survives}
 use Rattle.sqlite.specs.Steps.{FailsToCommit}
 use Rattle.sqlite.specs.declared.error.Error.{Error}
 use Rattle.pawn_book.specs.HostStep.{Host, rows}
@@ -15,32 +14,16 @@ use Rattle.pawn_book.specs.declared.fault.SaveError.{SaveError}
 use Rattle.pawn_book.specs.declared.fault.SaveError.TheVariants as Save
 use Rattle.one_table.specs.Lending.{IsLent}
 use Rattle.one_table.proofs.Lent.{clean_before}
-use Rattle.one_table.proofs.Parts.{rests_open, committed_rests}
-use Rattle.pawn_tables.specs.Schema.{keep_schema}
+use Rattle.one_table.proofs.Parts.{committed_rests}
 use Rattle.pawn_tables.specs.StandsFor.{StandsFor, HoldHost}
 use Rattle.pawn_tables.specs.Keeps.{Keeps, Leaves, keeping_by}
-use Rattle.pawn_saving.specs.Counted.{Judged, StandForOne, WritesChange}
+use Rattle.pawn_saving.specs.Counted.{StandForOne, WritesChange}
 use Rattle.pawn_saving.proofs.Hosting.{held}
-
--- an error that is not want of rows asks for nothing
-pub judged_err : (T : Type 0) (e : SaveError) (P Q : Type 0) → e ≢ Save.Full → Judged {T = T} (Err e) P Q
-judged_err T Save.Full P Q other = absurd (other refl)
-judged_err T Save.Memory P Q other = tt
-judged_err T (Save.Store fault) P Q other = tt
-
--- after an error a crash leaves what it left before, at least
-left_before : (T : Type 0) (h : Host) (change : Change) (before : Host → Type 0) (e : SaveError) (left : Host) → before left → IsLeftBy {T = T} h change before (Err e) left
-left_before T h change before Save.Full left was = was
-left_before T h change before Save.Memory left was = inl was
-left_before T h change before (Save.Store fault) left was = inl was
 
 left_fitting : (T : Type 0) (h : Host) (change : Change) (before : Host → Type 0) (e : SaveError) (left : Host) → e ≢ Save.Full → before left ⊎ IsFitting h change left → IsLeftBy {T = T} h change before (Err e) left
 left_fitting T h change before Save.Full left other was = absurd (other refl)
 left_fitting T h change before Save.Memory left other was = was
 left_fitting T h change before (Save.Store fault) left other was = was
-
-full_of : (T : Type 0) (e : SaveError) (P Q : Type 0) → ◌≡◌ {A = Result T SaveError} (Err e) (Err Save.Full) → Judged {T = T} (Err e) P Q → Q
-full_of T e P Q same judged = let is : e ≡ Save.Full = cc in subst (λ x. Judged {T = T} (Err x) P Q) is judged
 
 no_more : {P : Type 0} → P ⊎ ⊥ → P
 no_more (inl p) = p
@@ -61,44 +44,6 @@ module _ {K : Type 0} (state : K → State) (old new : K) (begun lent : State) (
     (can : IsTrue (state old).is_open → Of (keeping_by state) old old (λ h. CanSave h change)) where
   may : HasCleanDisk begun → (h : Host) → IsSound h → Keeps (state old) h → IsTrue begun.is_open → CanSave h change × StandsFor begun.now h
   may clean h sound k now = (can (was.was_open now) (was.clean clean) h sound k, subst (λ d. StandsFor d h) (sym was.now) (k.stands (was.was_open now)))
-
-  -- ---- a part that fails, and a rollback
-
-  module _ (e : SaveError) (part : IsLent begun lent false) (undone : HasCleanDisk (state new) → IsRolledBack lent (state new)) (after : Survives lent (state new) (λ _. ⊥)) where
-    clean_lent : HasCleanDisk (state new) → HasCleanDisk lent
-    clean_lent clean = let up = after.clean in omega (arith, clean, up)
-
-    clean_begun : HasCleanDisk (state new) → HasCleanDisk begun
-    clean_begun clean = clean_before begun lent false part (clean_lent clean)
-
-    opened : HasCleanDisk (state new) → IsTrue (state new).is_open → IsTrue (state old).is_open
-    opened clean now = rests_open (state old) begun lent (state new) was.was_open was.committed (part.kept (clean_lent clean) was.within) (undone clean) now
-
-    as_it_was : HasCleanDisk (state new) → IsTrue (state new).is_open → (state new).now ≡ (state old).now
-    as_it_was clean now =
-        let u = undone clean in
-        (u.undone now).0 ∙ sym (u.undone now).1 ∙ committed_rests (state old) begun lent (state new) was.was_open was.committed (part.kept (clean_lent clean) was.within) u now
-        ∙ sym (was.settled (opened clean now))
-
-    pub saves_undone : (T : Type 0) → WritesChange {T = T} begun lent change (Err e) → Saves {T = T} (keeping_by state) old new change (Err e)
-    saves_undone T wrote = record {
-      on = record { past = λ clean. was.clean (clean_begun clean); served = opened; stays = λ steady. steady };
-      ok = tt;
-      full = λ same clean h sound k. full_of T e _ _ same (wrote (clean_lent clean) was.within h sound (may (clean_begun clean) h sound k));
-      err = λ clean h sound k. record {
-        autocommit = (undone clean).autocommit;
-        committed = λ now. ((undone clean).undone now).0 ∙ sym ((undone clean).undone now).1;
-        stands = λ now. subst (λ d. StandsFor d h) (sym (as_it_was clean now)) (k.stands (opened clean now));
-      };
-      crash = λ clean h sound k left l. left_before T h change (Leaves (state old)) e left (record {
-        trees = l.trees;
-        left = was.left l.trees (no_more (part.survives.crash (clean_lent clean) l.trees (no_more (after.crash clean l.trees l.left))));
-        stands = l.stands;
-      });
-      never = λ steady. absurd steady;
-    }
-
-  -- ---- a part that goes well, and a commit
 
   module _ (T : Type 0) (done : T) (one : StandForOne) (part : IsLent begun lent true) (wrote : WritesChange {T = T} begun lent change (Ok done)) (ended : (state new).in_transaction ≡ false) (after : Survives lent (state new) (λ db. db ≡ lent.now.trees)) where
     clean_past : HasCleanDisk (state new) → HasCleanDisk lent
@@ -175,15 +120,3 @@ module _ {K : Type 0} (state : K → State) (old new : K) (begun lent : State) (
           go clean h sound k left l (inr made) =
               let w = written clean h sound k in
               inr (one_left lent.now left (with_change h change) l.trees made l.stands w.0, w.1)
-
--- ---- the store has a transaction already
-
-pub saves_nothing : {K : Type 0} (state : K → State) (k : K) (change : Change) (T : Type 0) (e : SaveError) → e ≢ Save.Full → Saves {T = T} (keeping_by state) k k change (Err e)
-saves_nothing state k change T e other = record {
-  on = record { past = λ clean. clean; served = λ clean now. now; stays = λ steady. steady };
-  ok = tt;
-  full = λ same. absurd (other (let s = same in cc));
-  err = λ clean h sound stands. stands;
-  crash = λ clean h sound stands left l. left_before T h change (Leaves (state k)) e left l;
-  never = λ steady. absurd steady;
-}

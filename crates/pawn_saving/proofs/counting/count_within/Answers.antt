@@ -1,4 +1,4 @@
-use Rattle.std.proofs.Common.{rules, ◌≡◌, ◌+◌, ◌<◌, ◌^◌, refl, sym, subst, arith}
+use Rattle.std.proofs.Common.{rules, ◌+◌, ◌<◌, ◌^◌, refl, sym, subst, arith}
 use Rattle.sqlite.specs.Held.{state}
 use Rattle.pawn_saving.specs.Counted.{listed_as, ListsHost}
 use Rattle.pawn_saving.proofs.Lent.{clean_before}
