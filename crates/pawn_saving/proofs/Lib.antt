@@ -9,4 +9,5 @@ pub mod Places
 pub mod Puts
 pub mod RowPuts
 pub mod Saved
+pub mod Tailing
 pub mod WriteTexts

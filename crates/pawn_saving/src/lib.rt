@@ -8,4 +8,5 @@ mod counting;
 mod entries;
 mod pledges;
 mod saving;
+mod tails;
 mod writing;

@@ -40,9 +40,12 @@ fn write_rows<S: Alter>(tx: &mut Transaction<'_, S>, change: &Change) -> Result<
     }
 }
 
-// Writes a change and counts its rows, unless they would be above the limit.
+/// Writes a change and counts its rows, unless they would be above the limit.
 #[tactic(auto, using(crate::proofs::Lent::lent_then))]
-fn write_change<S: Alter>(tx: &mut Transaction<'_, S>, change: &Change) -> Result<(), SaveError>
+pub(crate) fn write_change<S: Alter>(
+    tx: &mut Transaction<'_, S>,
+    change: &Change,
+) -> Result<(), SaveError>
     ensures same_reference { tx.new.conn.ghost_name ≡ tx.old.conn.ghost_name }
     ensures wrote { WritesChange (state S.Store tx.old.conn.now) (state S.Store tx.new.conn.now) change.now result }
     ensures lent { IsLent (state S.Store tx.old.conn.now) (state S.Store tx.new.conn.now) (is_ok result) }
