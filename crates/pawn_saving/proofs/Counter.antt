@@ -1,0 +1,133 @@
+-- The counter of rows goes up.
+use Rattle.std.proofs.Common.{◌≡◌, ◌++◌, ℕ, ◌+◌, ◌<◌, ◌^◌, pos, List, [], ◌∷◌, map, filter, get_or, codes, Bool, true, Some, Result, Ok, Err, IfOk, refl, sym, ap, ap₂, subst, ◌∙◌, arith, IsPermutation, slice_get, nat_lt}
+use Rattle.std.specs.List.{list_all, AllByRecursion}
+use Rattle.std.proofs.lemmas.Bool.Decides.{nat_tests}
+use Rattle.sqlite.specs.declared.types.Value.TheVariants.{Int, Text}
+use Rattle.sqlite.specs.Order.{Row, column, value_cmp}
+use Rattle.sqlite.specs.Table.{Table}
+use Rattle.sqlite.specs.Ops.{binary, is_true}
+use Rattle.sqlite.specs.Collation.TheVariants.{Binary}
+use Rattle.sqlite_sql.specs.declared.ops.BinaryOp.TheVariants.{Compare, Arith}
+use Rattle.sqlite_sql.specs.declared.ops.ArithOp.TheVariants.{Add}
+use Rattle.sqlite_sql.specs.declared.ops.CompareOp.TheVariants.{Eq}
+use Rattle.sqlite.specs.Command.TheVariants.{Update}
+use Rattle.sqlite.specs.Does.{Tally, Does, Shows as ShowsEach}
+use Rattle.sqlite.specs.Rows.{Task}
+use Rattle.sqlite.specs.Effect.{Database}
+use Rattle.sqlite.specs.Listing.{understood}
+use Rattle.sqlite.specs.Cast.{cast_row}
+use Rattle.sqlite.specs.State.{State, mode_of, QueriesRow, Shown}
+use Rattle.sqlite.proofs.Callers.{statement_of, one_permutation}
+use Rattle.one_table.proofs.Found.{shown_listed}
+use Rattle.sqlite_schema.specs.declared.schema.Keys.TheVariants.{Enforced}
+use Rattle.pawn_tables.specs.Schema.{meta, keep_schema}
+use Rattle.one_table.specs.Listing.{Holds, Lists, Listed, with_rows}
+use Rattle.pawn_tables.specs.Meta.{meta_row, meta_rows, other_rows}
+use Rattle.one_table.proofs.OneTable.{over_table, shows_of}
+use Rattle.one_table.proofs.Rowed.{swapped, cast_int, cast_whole, at_place}
+use Rattle.one_table.proofs.Insertion.{went, same_value}
+use Rattle.one_table.proofs.Alteration as alter
+use Rattle.one_table.proofs.Returning.{row_returned}
+use Rattle.pawn_saving.proofs.WriteTexts.{count_text, count_tests, count_shows, count_returns, count_is, limit_text, limit_tests, limit_shows, limit_is}
+use Rattle.pawn_saving.proofs.Places.{meta_place}
+
+abbrev is_rows : Row → Bool
+is_rows v = list_all (λ (x : Bool). x) (is_true (binary (Compare Eq Binary) (column v 0) (Text (codes "rows"))) ∷ [])
+
+the_first : (rows : List Row) (x row : Row) → rows ≡ x ∷ [] → slice_get rows 0 ≡ Some row → row ≡ x
+the_first rows x row is first = let e : Some x ≡ Some row = ap (λ l. slice_get l 0) (sym is) ∙ first in cc
+
+counted_alone : (counted limit : ℕ) → (is_rows (meta_row (codes "rows") counted) ≡ true) × (filter is_rows (meta_row (codes "schema") 3 ∷ meta_row (codes "limit") limit ∷ []) ≡ [])
+unfolding binary value_cmp lib.Ieee.is_nan lib.Ieee.lt
+counted_alone counted limit = (refl, refl)
+
+sum_of : (a b : ℕ) → a + b < 2 ^ 63 → binary (Arith Add) (Int (pos a)) (Int (pos b)) ≡ Int (pos (a + b))
+unfolding binary
+sum_of a b fits = let e : nat_lt (a + b) (2 ^ 63) ≡ true = grind (arith, nat_tests, fits) in rw e refl
+
+pub counts : (by : ℕ) (old new : State) (row : Row) (listed : Listed) (counted limit : ℕ) → Lists keep_schema old.now listed → listed 13 ≡ meta_rows counted limit → counted + by < 2 ^ 63
+    → QueriesRow count_text (Int (pos by) ∷ []) old new (Ok row)
+    → (row ≡ Int (pos (counted + by)) ∷ []) × Lists keep_schema new.now (with_rows listed 13 (meta_row (codes "rows") (counted + by) ∷ other_rows limit))
+counts by old new row listed counted limit st noted fits h =
+    let params : Row = Int (pos by) ∷ [] in
+    let db = old.now.trees in
+    let t : Table = record meta { tree = 13 } in
+    let query = over_table 13 count_tests count_shows [] in
+    let told = row_returned count_text params old new keep_schema st.schema_is (Update 6 (record { lets = []; body = query })) count_returns count_is.0 count_is.1 count_is.2 row h in
+    let w = told.1.1 in
+    let whole = statement_of count_text (understood keep_schema count_text) in
+    let does = subst (λ s. Does old.step_limit (mode_of old) params (record old.now { schema = s }) whole (Some count_returns) (Update 6 (record { lets = []; body = query })) (Ok (w.tally, new.now))) st.schema_is w.changed in
+    let done = went does in
+    let tested = went done.2 in
+    let returned = went tested.2 in
+    let ended = same_value returned.2 in
+    let now = ap (λ (p : Tally × Database). p.1) ended in
+    let wrote = alter.updated_part keep_schema 6 t meta_place (λ _. refl) count_tests count_shows old.step_limit params params db done.0 done.1 in
+    let holds : Holds db 13 t (listed 13) = at_place (λ (u : Table). Holds db u.tree u (listed u.tree)) keep_schema.tables 6 t refl st.tables in
+    let before = meta_row (codes "rows") counted in
+    let after = meta_row (codes "rows") (counted + by) in
+    let rest = other_rows limit in
+    let alone = counted_alone counted limit in
+    let split : IsPermutation (listed 13) (before ∷ rest) = subst (λ xs. IsPermutation xs (before ∷ rest)) (sym noted) (swapped (meta_row (codes "schema") 3) before (meta_row (codes "limit") limit ∷ [])) in
+    let it = alter.stands keep_schema 6 t meta_place (λ _. refl) count_tests count_shows is_rows db (listed 13) before rest holds split alone.0 alone.1 in
+    let m = it.id in
+    let name : column it.row 1 ≡ Text (codes "rows") = let e = it.columns in cc in
+    let value : column it.row 2 ≡ Int (pos counted) = let e = it.columns in cc in
+    let sum = ap (λ v. binary (Arith Add) v (Int (pos by))) value ∙ sum_of counted by fits in
+    let source : Row = Int m ∷ Text (codes "rows") ∷ Int (pos (counted + by)) ∷ [] in
+    let shown : shows_of count_shows params it.row ≡ Int m ∷ source = λ i. it.numbered i ∷ it.numbered i ∷ name i ∷ sum i ∷ [] in
+    let cast : cast_row t source ≡ Int m ∷ after = λ i. cast_whole m i ∷ Text (codes "rows") ∷ cast_int (counted + by) i ∷ [] in
+    let rep = alter.one_changed keep_schema 6 t meta_place (λ _. refl) count_tests count_shows db params done.0 wrote it.row source after m it.one shown cast in
+    let tables = alter.lists_after keep_schema 6 t meta_place (λ _. refl) count_tests count_shows is_rows db listed before after rest done.0 after it holds.numbered st.tables refl rep in
+    let showing = went returned.1 in
+    let task : Task = record { limit = old.step_limit; keys = Enforced; schema = keep_schema; table = t; params = params } in
+    let first = went (subst (λ rs. ShowsEach task count_returns done.0.trees rs (Ok showing.0)) rep.news showing.1) in
+    let last = went first.2 in
+    let only : showing.0 ≡ (Int (pos (counted + by)) ∷ []) ∷ [] = same_value last.2 ∙ ap₂ ◌++◌ first.1.1 (same_value last.1) in
+    let seen : told.0 ≡ (Int (pos (counted + by)) ∷ []) ∷ [] = told.1.2 ∙ ap (λ (p : Tally × Database). p.0.shown) ended ∙ same_value (went showing.2).2 ∙ only in (
+      the_first told.0 _ row seen told.2,
+      record {
+        schema_is = ap (λ (d : Database). d.schema) now;
+        sound = w.sound;
+        tables = subst (λ (d : Database). AllByRecursion (λ (u : Table). Holds d.trees u.tree u (with_rows listed 13 (after ∷ rest) u.tree)) keep_schema.tables) (sym now) tables;
+      },
+    )
+
+-- the number that is read of the row
+pub count_told : (x n : ℕ) (row : Row) (db : Database) (listed : Listed) (limit : ℕ) → column row 0 ≡ Int (pos x) → row ≡ Int (pos n) ∷ []
+    → Lists keep_schema db (with_rows listed 13 (meta_row (codes "rows") n ∷ other_rows limit)) → (x ≡ n) × Lists keep_schema db (with_rows listed 13 (meta_row (codes "rows") x ∷ other_rows limit))
+count_told x n row db listed limit read is st =
+    let same : x ≡ n = let e : Int (pos x) ≡ Int (pos n) = sym read ∙ ap (λ r. column r 0) is in cc in
+    (same, subst (λ k. Lists keep_schema db (with_rows listed 13 (meta_row (codes "rows") k ∷ other_rows limit))) (sym same) st)
+
+-- ---- the limit
+
+abbrev is_limit : Row → Bool
+is_limit v = list_all (λ (x : Bool). x) (is_true (binary (Compare Eq Binary) (column v 0) (Text (codes "limit"))) ∷ [])
+
+limit_alone : (counted limit : ℕ) → filter is_limit (meta_rows counted limit) ≡ meta_row (codes "limit") limit ∷ []
+unfolding binary value_cmp lib.Ieee.is_nan lib.Ieee.lt
+limit_alone counted limit = refl
+
+abbrev pub value_cells : Row → Row
+value_cells v = column v 1 ∷ []
+
+pub limit_shown : (old new : State) (rows : List Row) (listed : Listed) (counted limit : ℕ) → listed 13 ≡ meta_rows counted limit → Lists keep_schema old.now listed → Shown limit_text [] old new rows
+    → rows ≡ (Int (pos limit) ∷ []) ∷ []
+limit_shown old new rows listed counted limit noted st shown =
+    let t : Table = record meta { tree = 13 } in
+    let holds : Holds old.now.trees 13 t (listed 13) = at_place (λ (u : Table). Holds old.now.trees u.tree u (listed u.tree)) keep_schema.tables 6 t refl st.tables in
+    let same = shown_listed keep_schema 13 (λ _. refl) t limit_tests limit_shows [] is_limit value_cells (λ r. refl) (λ r. refl) limit_text (codes "value" ∷ []) [] limit_is old new (listed 13) rows st.schema_is holds shown in
+    let one : map value_cells (filter is_limit (listed 13)) ≡ (Int (pos limit) ∷ []) ∷ [] = ap (λ rs. map value_cells (filter is_limit rs)) noted ∙ ap (map value_cells) (limit_alone counted limit) in
+    one_permutation _ _ (subst (λ xs. IsPermutation xs rows) one same)
+
+-- the number that is read of its row
+pub limit_told : (x limit : ℕ) (row : Row) (rows : List Row) → rows ≡ (Int (pos limit) ∷ []) ∷ [] → row ≡ get_or rows 0 row → column row 0 ≡ Int (pos x) → x ≡ limit
+limit_told x limit row rows are is read =
+    let first : row ≡ Int (pos limit) ∷ [] = is ∙ ap (λ rs. get_or rs 0 row) are in
+    let e : Int (pos x) ≡ Int (pos limit) = sym read ∙ ap (λ r. column r 0) first in
+    cc
+
+pub if_small : {E : Type 0} (r : Result ℕ E) (x limit : ℕ) (P : Type 0) → x ≡ limit → P → IfOk r (λ n. n ≡ x) → IfOk r (λ n. (n ≡ limit) × P)
+if_small (Ok n) x limit P same p is = (is ∙ same, p)
+if_small (Err e) x limit P same p is = tt

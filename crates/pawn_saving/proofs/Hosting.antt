@@ -1,0 +1,132 @@
+-- Tables that stand for a host, and tables that list its rows.
+use Rattle.std.proofs.Common.{◌≡◌, ℕ, List, [], ◌∷◌, codes, IsPermutation, subst, arith}
+use Rattle.std.proofs.lemmas.List.Sorted.{IsPermutation-trans, IsPermutation-refl}
+use Rattle.sqlite.specs.Order.{Row}
+use Rattle.sqlite.specs.Tree.{Trees}
+use Rattle.sqlite.specs.Table.{Table}
+use Rattle.sqlite.specs.Effect.{Database}
+use Rattle.pawn_pledge.specs.Replayable.{Each, IsStanding, AreNumbered}
+use Rattle.pawn_book.specs.HostStep.{Host, rows}
+use Rattle.pawn_book.specs.Sound.{AreSound, HasTextsAndWords}
+use Rattle.pawn_book.specs.Written.{AreWords}
+use Rattle.one_table.specs.Listing.{Holds, Lists, Listed, with_rows}
+use Rattle.one_table.proofs.Rowed.{swapped}
+use Rattle.pawn_tables.specs.Meta.{meta_row, other_rows}
+use Rattle.pawn_tables.specs.Schema.{keep_schema}
+use Rattle.pawn_tables.specs.StandsFor.{StandsFor, HoldHost, AreOrdered, AreStorable}
+use Rattle.pawn_saving.specs.Counted.{listed_as, ListsHost, AreTaken}
+
+-- the tables that stand for a host list its rows, and count them
+pub as_lists : (db : Database) (h : Host) → StandsFor db h → ListsHost db h (rows h)
+as_lists db h st = record {
+  schema_is = st.schema;
+  sound = st.sound;
+  tables = (st.books, (st.terms, (st.pledges, (st.entries, (st.secrets, (st.bookings, (st.meta, (st.totals, (st.extensions, tt)))))))));
+}
+
+pub as_stands : (db : Database) (h : Host) → ListsHost db h (rows h) → AreOrdered h → AreStorable h → StandsFor db h
+as_stands db h l ordered storable = record {
+  schema = l.schema_is;
+  sound = l.sound;
+  books = l.tables.0;
+  terms = l.tables.1.0;
+  pledges = l.tables.1.1.0;
+  entries = l.tables.1.1.1.0;
+  secrets = l.tables.1.1.1.1.0;
+  bookings = l.tables.1.1.1.1.1.0;
+  meta = l.tables.1.1.1.1.1.1.0;
+  totals = l.tables.1.1.1.1.1.1.1.0;
+  extensions = l.tables.1.1.1.1.1.1.1.1.0;
+  ordered = ordered;
+  storable = storable;
+}
+
+-- the same rows in another order
+other : (db : Trees) (tree : ℕ) (t : Table) (a b : List Row) → IsPermutation b a → Holds db tree t a → Holds db tree t b
+other db tree t a b same holds = record { same = IsPermutation-trans _ _ _ same holds.same; numbered = holds.numbered }
+
+-- rows that are the same but for their order, tree by tree
+pub record AreSame (a b : Listed) : Type 0 where
+  pub books : IsPermutation (a 0) (b 0)
+  pub terms : IsPermutation (a 1) (b 1)
+  pub pledges : IsPermutation (a 3) (b 3)
+  pub entries : IsPermutation (a 6) (b 6)
+  pub secrets : IsPermutation (a 8) (b 8)
+  pub bookings : IsPermutation (a 11) (b 11)
+  pub meta : IsPermutation (a 13) (b 13)
+  pub totals : IsPermutation (a 15) (b 15)
+  pub extensions : IsPermutation (a 17) (b 17)
+
+pub relisted : (db : Database) (a b : Listed) → AreSame a b → Lists keep_schema db b → Lists keep_schema db a
+relisted db a b same l = record {
+  schema_is = l.schema_is;
+  sound = l.sound;
+  tables = (
+    other db.trees 0 _ (b 0) (a 0) same.books l.tables.0,
+    (
+      other db.trees 1 _ (b 1) (a 1) same.terms l.tables.1.0,
+      (
+        other db.trees 3 _ (b 3) (a 3) same.pledges l.tables.1.1.0,
+        (
+          other db.trees 6 _ (b 6) (a 6) same.entries l.tables.1.1.1.0,
+          (
+            other db.trees 8 _ (b 8) (a 8) same.secrets l.tables.1.1.1.1.0,
+            (
+              other db.trees 11 _ (b 11) (a 11) same.bookings l.tables.1.1.1.1.1.0,
+              (
+                other db.trees 13 _ (b 13) (a 13) same.meta l.tables.1.1.1.1.1.1.0,
+                (
+                  other db.trees 15 _ (b 15) (a 15) same.totals l.tables.1.1.1.1.1.1.1.0,
+                  (other db.trees 17 _ (b 17) (a 17) same.extensions l.tables.1.1.1.1.1.1.1.1.0, tt),
+                ),
+              ),
+            ),
+          ),
+        ),
+      ),
+    ),
+  );
+}
+
+-- trees of tables that stand for a host
+pub held : (db : Database) (h : Host) → StandsFor db h → HoldHost db.trees h
+held db h st = subst (λ s. StandsFor (record { schema = s; trees = db.trees }) h) st.schema st
+
+-- ---- what rows cannot tell, of a host whose books are sound
+
+each_of : {A : Type 0} (P Q : A → Type 0) → ((x : A) → P x → Q x) → (xs : List A) → Each P xs → Each Q xs
+each_of P Q f [] all = tt
+each_of P Q f (x ∷ xs) all = (f x all.0, each_of P Q f xs all.1)
+
+pub are_ordered : (h : Host) → AreSound h → AreOrdered h
+are_ordered h sound b k is = let s = (sound b k is).1 in record {
+  pledges = s.rows.numbered;
+  entries = each_of IsStanding (λ p. AreNumbered 1 p.entries) (λ p standing. standing.replayable.entered.numbered) k.pledges s.rows.standing;
+  under = s.rows.under;
+}
+
+pub are_storable : (h : Host) → AreSound h → AreTaken h → AreStorable h
+are_storable h sound taken b k is = let s = (sound b k is).1 in record {
+  key = s.key;
+  imported = s.imported;
+  secrets = each_of HasTextsAndWords (λ p. AreWords p.secrets) (λ p written. written.secrets) k.pledges s.written;
+  taken = taken b k is;
+  versions = let few = s.rows.few_terms in omega (arith, few);
+}
+
+-- the same rows with another count of them
+pub recounted : (db : Database) (h : Host) (counted more told : ℕ) → told ≡ more → Lists keep_schema db (with_rows (listed_as h counted) 13 (meta_row (codes "rows") told ∷ other_rows h.limit)) → ListsHost db h more
+recounted db h counted more told is l = subst (ListsHost db h) is (relisted db _ _ (record {
+  books = IsPermutation-refl _;
+  terms = IsPermutation-refl _;
+  pledges = IsPermutation-refl _;
+  entries = IsPermutation-refl _;
+  secrets = IsPermutation-refl _;
+  bookings = IsPermutation-refl _;
+  meta = swapped (meta_row (codes "schema") 3) (meta_row (codes "rows") told) (meta_row (codes "limit") h.limit ∷ []);
+  totals = IsPermutation-refl _;
+  extensions = IsPermutation-refl _;
+}) l)
+
+pub are_taken : (db : Database) (h : Host) → StandsFor db h → AreTaken h
+are_taken db h st b k is = (st.storable b k is).taken

@@ -1,0 +1,13 @@
+pub mod BookChanges
+pub mod BookPuts
+pub mod Changing
+pub mod Counter
+pub mod Hosting
+pub mod Judging
+pub mod Lent
+pub mod Places
+pub mod Puts
+pub mod RowPuts
+pub mod Saved
+pub mod Tailing
+pub mod WriteTexts

@@ -1,0 +1,88 @@
+-- What the statements on the rows of pledges write.
+use Rattle.std.proofs.Common.{◌≡◌, ℕ, List, [], ◌∷◌, Option, Some, None, Ok, refl, ap, subst, ◌∙◌}
+use Rattle.sqlite.specs.declared.types.Value.{Value}
+use Rattle.sqlite.specs.declared.types.Value.TheVariants.{Null, Int, Text}
+use Rattle.sqlite.specs.Cast.{cast}
+use Rattle.sqlite.specs.Kind.TheVariants.{Integer}
+use Rattle.sqlite.specs.Order.{Row, column}
+use Rattle.sqlite.specs.State.{State, Executes}
+use Rattle.pawn_debt.specs.Due.{credit_of}
+use Rattle.pawn_pledge.specs.declared.record.Agreement.{Agreement}
+use Rattle.pawn_pledge.specs.Pledge.{PledgeValue, end_of}
+use Rattle.one_table.specs.Listing.{Lists, Listed, with_rows}
+use Rattle.one_table.proofs.Rowed.{cast_null, cast_int, cast_whole}
+use Rattle.one_table.proofs.Insertion.{inserted}
+use Rattle.one_table.proofs.Alteration.{set_one}
+use Rattle.pawn_tables.specs.Schema.{pledges, keep_schema}
+use Rattle.pawn_tables.specs.Rows.{number, or_null, flag, flag_number, under, kind_number, pledge_cells, closed_number, closed_day, closed_amount}
+use Rattle.pawn_tables.specs.At.{at_pledge}
+use Rattle.pawn_tables.proofs.ReadTexts as read
+use Rattle.pawn_saving.specs.Writing.{IsOnly}
+use Rattle.pawn_saving.proofs.WriteTexts as text
+use Rattle.pawn_saving.proofs.Places.{pledges_place}
+use Rattle.pawn_saving.proofs.Puts.{own_row}
+
+cast_optional : (o : Option ℕ) → cast Integer (or_null number o) ≡ or_null number o
+cast_optional None = cast_null
+cast_optional (Some n) = cast_int n
+
+module _ (old new : State) (listed : Listed) (st : Lists keep_schema old.now listed) (count : ℕ) where
+  row_put : (b n : ℕ) (r a : List ℕ) (k c t : ℕ) (go : Option ℕ) (f v e h l x : ℕ) (yo zo : Option ℕ)
+      → Executes text.pledge_text (number b ∷ number n ∷ Text r ∷ Text a ∷ number k ∷ number c ∷ number t ∷ or_null number go ∷ number f ∷ number v ∷ number e ∷ number h ∷ number l ∷ number x ∷ or_null number yo ∷ or_null number zo ∷ []) old new (Ok count)
+      → Lists keep_schema new.now (with_rows listed 3 ((number b ∷ number n ∷ Text r ∷ Text a ∷ number k ∷ number c ∷ number t ∷ or_null number go ∷ number f ∷ number v ∷ number e ∷ number h ∷ number l ∷ number x ∷ or_null number yo ∷ or_null number zo ∷ []) ∷ listed 3))
+  row_put b n r a k c t go f v e h l x yo zo ran =
+      let vals : Row = number b ∷ number n ∷ Text r ∷ Text a ∷ number k ∷ number c ∷ number t ∷ or_null number go ∷ number f ∷ number v ∷ number e ∷ number h ∷ number l ∷ number x ∷ or_null number yo ∷ or_null number zo ∷ [] in
+      inserted keep_schema 2 (record pledges { tree = 3 }) text.sixteen_values 17 text.pledge_text pledges_place text.pledge_is.0 text.pledge_is.1 old new vals (Null ∷ vals) (Null ∷ vals) vals count listed st refl
+      (λ i. cast_null i ∷ cast_int b i ∷ cast_int n i ∷ Text r ∷ Text a ∷ cast_int k i ∷ cast_int c i ∷ cast_int t i ∷ cast_optional go i ∷ cast_int f i ∷ cast_int v i ∷ cast_int e i ∷ cast_int h i ∷ cast_int l i ∷ cast_int x i ∷ cast_optional yo i ∷ cast_optional zo i ∷ [])
+      (λ rows. refl) ran
+
+  pub row_wrote : (b n : ℕ) (r a : List ℕ) (k c t : ℕ) (g : Value) (f v e h l x : ℕ) (y z : Value) (p : PledgeValue) → r ≡ p.agreement.opening.reference → a ≡ p.agreement.opening.article → k ≡ kind_number p.agreement.opening.kind
+      → c ≡ credit_of p.agreement.opening.kind → t ≡ p.agreement.taken → g ≡ or_null number p.agreement.opening.agreed → f ≡ flag_number p.agreement.opening.five_days → v ≡ p.agreement.version → e ≡ end_of p → h ≡ flag_number p.standing.held
+      → l ≡ p.standing.last → x ≡ closed_number p.standing.closing → y ≡ or_null number (closed_day p.standing.closing) → z ≡ or_null number (closed_amount p.standing.closing)
+      → Executes text.pledge_text (number b ∷ number n ∷ Text r ∷ Text a ∷ number k ∷ number c ∷ number t ∷ g ∷ number f ∷ number v ∷ number e ∷ number h ∷ number l ∷ number x ∷ y ∷ z ∷ []) old new (Ok count)
+      → Lists keep_schema new.now (with_rows listed 3 (under b n (pledge_cells p) ∷ listed 3))
+  row_wrote b n r a k c t g f v e h l x y z p rs as' ks cs ts gs fs vs es hs ls xs ys zs ran =
+      subst (λ cells. Lists keep_schema new.now (with_rows listed 3 (under b n cells ∷ listed 3)))
+      (λ i. Text (rs i) ∷ Text (as' i) ∷ number (ks i) ∷ number (cs i) ∷ number (ts i) ∷ or_null number p.agreement.opening.agreed ∷ number (fs i) ∷ number (vs i) ∷ number (es i) ∷ number (hs i) ∷ number (ls i) ∷ number (xs i) ∷ or_null number (closed_day p.standing.closing) ∷ or_null number (closed_amount p.standing.closing) ∷ [])
+      (row_put b n r a k c t p.agreement.opening.agreed f v e h l x (closed_day p.standing.closing) (closed_amount p.standing.closing) (rw (gs, ys, zs) at ran))
+
+  pub row_set : (b n e h l x : ℕ) (y z : Value) (before p : PledgeValue) (rest : List Row) → before.agreement ≡ p.agreement → e ≡ end_of p → h ≡ flag_number p.standing.held → l ≡ p.standing.last
+      → x ≡ closed_number p.standing.closing → y ≡ or_null number (closed_day p.standing.closing) → z ≡ or_null number (closed_amount p.standing.closing) → IsOnly (at_pledge b n) (listed 3) (under b n (pledge_cells before)) rest
+      → Executes text.change_text (number b ∷ number n ∷ number e ∷ number h ∷ number l ∷ number x ∷ y ∷ z ∷ []) old new (Ok count) → Lists keep_schema new.now (with_rows listed 3 (under b n (pledge_cells p) ∷ rest))
+  row_set b n e h l x y z before p rest agreed es hs ls xs ys zs only ran =
+      let o = p.agreement.opening in
+      let q = before.agreement.opening in
+      let after : Row = number b ∷ number n ∷ Text o.reference ∷ Text o.article ∷ number (kind_number o.kind) ∷ number (credit_of o.kind) ∷ number p.agreement.taken ∷ or_null number o.agreed
+      ∷ flag o.five_days ∷ number p.agreement.version ∷ number e ∷ number h ∷ number l ∷ number x ∷ or_null number (closed_day p.standing.closing) ∷ or_null number (closed_amount p.standing.closing) ∷ [] in
+      subst (λ row. Lists keep_schema new.now (with_rows listed 3 (row ∷ rest)))
+      (λ i. number b ∷ number n ∷ Text o.reference ∷ Text o.article ∷ number (kind_number o.kind) ∷ number (credit_of o.kind) ∷ number p.agreement.taken ∷ or_null number o.agreed
+      ∷ flag o.five_days ∷ number p.agreement.version ∷ number (es i) ∷ number (hs i) ∷ number (ls i) ∷ number (xs i) ∷ or_null number (closed_day p.standing.closing) ∷ or_null number (closed_amount p.standing.closing) ∷ [])
+      (set_one keep_schema 2 (record pledges { tree = 3 }) pledges_place (λ _. refl) read.of_pledge text.change_shows (at_pledge b n) text.change_text text.change_is.0 text.change_is.1
+      old new (number b ∷ number n ∷ number e ∷ number h ∷ number l ∷ number x ∷ or_null number (closed_day p.standing.closing) ∷ or_null number (closed_amount p.standing.closing) ∷ []) count listed (under b n (pledge_cells before)) after rest st (λ row. refl) only.split (own_row b n (pledge_cells before)) only.none
+      (λ id row at cols.
+      let c1 : column row 1 ≡ number b = (let s = cols in cc) in
+      let c2 : column row 2 ≡ number n = (let s = cols in cc) in
+      let c3 : column row 3 ≡ Text q.reference = (let s = cols in cc) in
+      let c4 : column row 4 ≡ Text q.article = (let s = cols in cc) in
+      let c5 : column row 5 ≡ number (kind_number q.kind) = (let s = cols in cc) in
+      let c6 : column row 6 ≡ number (credit_of q.kind) = (let s = cols in cc) in
+      let c7 : column row 7 ≡ number before.agreement.taken = (let s = cols in cc) in
+      let c8 : column row 8 ≡ or_null number q.agreed = (let s = cols in cc) in
+      let c9 : column row 9 ≡ flag q.five_days = (let s = cols in cc) in
+      let c10 : column row 10 ≡ number before.agreement.version = (let s = cols in cc) in
+      let d3 = c3 ∙ ap (λ (m : Agreement). Text m.opening.reference) agreed in
+      let d4 = c4 ∙ ap (λ (m : Agreement). Text m.opening.article) agreed in
+      let d5 = c5 ∙ ap (λ (m : Agreement). number (kind_number m.opening.kind)) agreed in
+      let d6 = c6 ∙ ap (λ (m : Agreement). number (credit_of m.opening.kind)) agreed in
+      let d7 = c7 ∙ ap (λ (m : Agreement). number m.taken) agreed in
+      let d8 = c8 ∙ ap (λ (m : Agreement). or_null number m.opening.agreed) agreed in
+      let d9 = c9 ∙ ap (λ (m : Agreement). flag m.opening.five_days) agreed in
+      let d10 = c10 ∙ ap (λ (m : Agreement). number m.version) agreed in (
+        Int id ∷ after,
+        after,
+        (λ i. at i ∷ at i ∷ c1 i ∷ c2 i ∷ d3 i ∷ d4 i ∷ d5 i ∷ d6 i ∷ d7 i ∷ d8 i ∷ d9 i ∷ d10 i ∷ number e ∷ number h ∷ number l ∷ number x ∷ or_null number (closed_day p.standing.closing) ∷ or_null number (closed_amount p.standing.closing) ∷ []),
+        (λ i. cast_whole id i ∷ cast_int b i ∷ cast_int n i ∷ Text o.reference ∷ Text o.article ∷ cast_int (kind_number o.kind) i ∷ cast_int (credit_of o.kind) i ∷ cast_int p.agreement.taken i ∷ cast_optional o.agreed i
+            ∷ cast_int (flag_number o.five_days) i ∷ cast_int p.agreement.version i ∷ cast_int e i ∷ cast_int h i ∷ cast_int l i ∷ cast_int x i ∷ cast_optional (closed_day p.standing.closing) i ∷ cast_optional (closed_amount p.standing.closing) i ∷ []),
+        refl,
+      ))
+      (rw (ys, zs) at ran))

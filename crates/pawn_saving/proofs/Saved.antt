@@ -1,0 +1,123 @@
+-- A change is saved: a transaction that is lent and goes well, and a commit.
+use Rattle.std.proofs.Common.{◌≡◌, ◌≢◌, ◌⊎◌, inl, inr, ◌≤◌, true, false, Ok, Err, IsTrue, refl, sym, ap, subst, ◌∙◌, arith}
+use Rattle.sqlite.specs.Effect.{Database}
+use Rattle.sqlite.specs.Tree.{Trees}
+use Rattle.sqlite.specs.State.{State, HasCleanDisk, IsRolledBack, Shows, Survives}
+use Rattle.sqlite.specs.Steps.{FailsToCommit}
+use Rattle.sqlite.specs.declared.error.Error.{Error}
+use Rattle.pawn_book.specs.HostStep.{Host, rows}
+use Rattle.pawn_book.specs.Keeping.{IsLeftBy, IsFitting, Of, Saves, GoesOn}
+use Rattle.pawn_book.specs.Sound.{IsSound}
+use Rattle.pawn_book.specs.Changes.{CanSave, with_change}
+use Rattle.pawn_book.specs.declared.change.Change.{Change}
+use Rattle.pawn_book.specs.declared.fault.SaveError.{SaveError}
+use Rattle.pawn_book.specs.declared.fault.SaveError.TheVariants as Save
+use Rattle.one_table.specs.Lending.{IsLent}
+use Rattle.one_table.proofs.Lent.{clean_before}
+use Rattle.one_table.proofs.Parts.{committed_rests}
+use Rattle.pawn_tables.specs.StandsFor.{StandsFor, HoldHost}
+use Rattle.pawn_tables.specs.OneHost.{StandForOne}
+use Rattle.pawn_tables.specs.Keeps.{Keeps, Leaves, keeping_by}
+use Rattle.pawn_saving.specs.Counted.{StandForOne, WritesChange}
+use Rattle.pawn_saving.proofs.Hosting.{held}
+
+left_fitting : (T : Type 0) (h : Host) (change : Change) (before : Host → Type 0) (e : SaveError) (left : Host) → e ≢ Save.Full → before left ⊎ IsFitting h change left → IsLeftBy {T = T} h change before (Err e) left
+left_fitting T h change before Save.Full left other was = absurd (other refl)
+left_fitting T h change before Save.Memory left other was = was
+left_fitting T h change before (Save.Store fault) left other was = was
+
+no_more : {P : Type 0} → P ⊎ ⊥ → P
+no_more (inl p) = p
+no_more (inr none) = absurd none
+
+-- a transaction that begins
+pub record IsBegun (a begun : State) : Type 0 where
+  pub ended : a.in_transaction ≡ false
+  pub settled : IsTrue a.is_open → a.now ≡ a.committed
+  pub was_open : IsTrue begun.is_open → IsTrue a.is_open
+  pub now : begun.now ≡ a.now
+  pub committed : begun.committed ≡ a.committed
+  pub within : IsTrue begun.in_transaction
+  pub clean : HasCleanDisk begun → HasCleanDisk a
+  pub left : (trees : _) → begun.may_leave trees → a.may_leave trees
+
+module _ {K : Type 0} (state : K → State) (old new : K) (begun lent : State) (change : Change) (was : IsBegun (state old) begun)
+    (can : IsTrue (state old).is_open → Of (keeping_by state) old old (λ h. CanSave h change)) where
+  may : HasCleanDisk begun → (h : Host) → IsSound h → Keeps (state old) h → IsTrue begun.is_open → CanSave h change × StandsFor begun.now h
+  may clean h sound k now = (can (was.was_open now) (was.clean clean) h sound k, subst (λ d. StandsFor d h) (sym was.now) (k.stands (was.was_open now)))
+
+  module _ (T : Type 0) (done : T) (one : StandForOne) (part : IsLent begun lent true) (wrote : WritesChange {T = T} begun lent change (Ok done)) (ended : (state new).in_transaction ≡ false) (after : Survives lent (state new) (λ db. db ≡ lent.now.trees)) where
+    clean_past : HasCleanDisk (state new) → HasCleanDisk lent
+    clean_past clean = let up = after.clean in omega (arith, clean, up)
+
+    clean_first : HasCleanDisk (state new) → HasCleanDisk begun
+    clean_first clean = clean_before begun lent true part (clean_past clean)
+
+    was_served : HasCleanDisk (state new) → IsTrue (state old).is_open
+    was_served clean = was.was_open (part.opened (clean_past clean) was.within refl)
+
+    written : HasCleanDisk (state new) → (h : Host) → IsSound h → Keeps (state old) h → StandsFor lent.now (with_change h change) × (rows (with_change h change) ≤ h.limit)
+    written clean h sound k = wrote (clean_past clean) was.within h sound (may (clean_first clean) h sound k)
+
+    on_past : GoesOn (keeping_by state) old new
+    on_past = record { past = λ clean. was.clean (clean_first clean); served = λ clean now. was_served clean; stays = λ steady. steady }
+
+    -- trees that stand for a host and are those of a database of these tables that stands for another
+    one_left : (db : Database) (left g : Host) (trees : Trees) → trees ≡ db.trees → HoldHost trees left → StandsFor db g → left ≡ g
+    one_left db left g trees same l st = one _ left g (subst (λ ts. HoldHost ts left) same l) (held db g st)
+
+    pub saves_committed : (HasCleanDisk (state new) → Shows lent (state new) lent.now lent.now false)
+        → (IsTrue (state new).is_open → (trees : Trees) → (state new).may_leave trees → trees ≡ (state new).committed.trees) → Saves {T = T} (keeping_by state) old new change (Ok done)
+    saves_committed shows settled = record {
+      on = on_past;
+      ok = λ clean h sound k. (
+        record {
+          autocommit = ended;
+          committed = λ now. (shows clean).now_is ∙ sym (shows clean).committed_is;
+          stands = λ now. subst (λ d. StandsFor d (with_change h change)) (sym (shows clean).now_is) (written clean h sound k).0;
+        },
+        (written clean h sound k).1,
+      );
+      full = λ same. absurd (let e = same in cc);
+      err = tt;
+      crash = λ clean h sound k left l.
+          let s = shows clean in
+          one_left lent.now left (with_change h change) l.trees (settled s.is_open l.trees l.left ∙ ap (λ (d : Database). d.trees) s.committed_is) l.stands (written clean h sound k).0;
+      never = λ steady. absurd steady;
+    }
+
+    -- the commit fails
+    module _ (e : SaveError) (other : e ≢ Save.Full) (error : Error) (failed : HasCleanDisk (state new) → FailsToCommit lent (state new) error) where
+      rolled : HasCleanDisk (state new) → IsRolledBack lent (state new)
+      rolled clean = go (failed clean)
+        where
+          go : FailsToCommit lent (state new) error → IsRolledBack lent (state new)
+          go (inl f) = f.3
+          go (inr f) = absurd (let yes' = part.inside (clean_past clean) was.within refl in let no' = f.1 in cc)
+
+      back_open : HasCleanDisk (state new) → IsTrue (state new).is_open → (state new).now ≡ (state old).now
+      back_open clean now =
+          let u = rolled clean in
+          (u.undone now).0 ∙ sym (u.undone now).1 ∙ committed_rests (state old) begun lent (state new) was.was_open was.committed (part.kept (clean_past clean) was.within) u now
+          ∙ sym (was.settled (was_served clean))
+
+      pub saves_refused : Saves {T = T} (keeping_by state) old new change (Err e)
+      saves_refused = record {
+        on = on_past;
+        ok = tt;
+        full = λ same. absurd (other (let s = same in cc));
+        err = λ clean h sound k. record {
+          autocommit = ended;
+          committed = λ now. ((rolled clean).undone now).0 ∙ sym ((rolled clean).undone now).1;
+          stands = λ now. subst (λ d. StandsFor d h) (sym (back_open clean now)) (k.stands (was_served clean));
+        };
+        crash = λ clean h sound k left l. left_fitting T h change (Leaves (state old)) e left other (go clean h sound k left l (after.crash clean l.trees l.left));
+        never = λ steady. absurd steady;
+      }
+        where
+          go : HasCleanDisk (state new) → (h : Host) → IsSound h → Keeps (state old) h → (left : Host) (l : Leaves (state new) left) → lent.may_leave l.trees ⊎ (l.trees ≡ lent.now.trees)
+              → Leaves (state old) left ⊎ IsFitting h change left
+          go clean h sound k left l (inl before) = inl (record { trees = l.trees; left = was.left l.trees (no_more (part.survives.crash (clean_past clean) l.trees before)); stands = l.stands })
+          go clean h sound k left l (inr made) =
+              let w = written clean h sound k in
+              inr (one_left lent.now left (with_change h change) l.trees made l.stands w.0, w.1)

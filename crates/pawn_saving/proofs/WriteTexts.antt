@@ -1,0 +1,179 @@
+-- What the texts of the changes mean.
+use Rattle.std.proofs.Common.{◌≡◌, List, [], ◌∷◌, ℕ, pos, codes, Some, refl}
+use Rattle.sqlite.specs.Command.TheVariants.{InsertOr}
+use Rattle.sqlite_tied.specs.Compute.{everything}
+use Rattle.sqlite.specs.Listing.{understood}
+use Rattle.sqlite.specs.Collation.TheVariants.{Binary}
+use Rattle.sqlite.specs.Term.{Term, lit, col, op2}
+use Rattle.sqlite.specs.Source.TheVariants.{Values}
+use Rattle.sqlite_sql.specs.declared.ops.BinaryOp.TheVariants.{Compare, Arith}
+use Rattle.sqlite_sql.specs.declared.ops.ArithOp.TheVariants.{Add}
+use Rattle.sqlite_sql.specs.declared.ops.CompareOp.TheVariants.{Eq}
+use Rattle.sqlite_schema.specs.declared.command.Returning.{Returning}
+use Rattle.sqlite_schema.specs.declared.command.Conflict.TheVariants.{Abort}
+use Rattle.sqlite_schema.specs.declared.command.Upsert.{Upsert}
+use Rattle.sqlite.specs.declared.types.Value.TheVariants.{Null, Int, Text}
+use Rattle.sqlite.proofs.Callers.{IsPlain, command_of}
+use Rattle.pawn_tables.specs.Schema.{keep_schema}
+use Rattle.one_table.proofs.OneTable.{over_table}
+use Rattle.one_table.proofs.Texts.{Asks, Puts, Sets, Returns}
+use Rattle.pawn_tables.proofs.ReadTexts.{of_book, of_pledge}
+
+abbrev pub book_text : List ℕ
+book_text = codes "INSERT INTO books VALUES (?1, ?2, ?3, ?4, 0, 0, NULL, NULL)"
+
+abbrev pub book_values : List Term
+book_values = col 0 0 ∷ lit Null ∷ col 0 1 ∷ col 0 2 ∷ col 0 3 ∷ lit (Int (pos 0)) ∷ lit (Int (pos 0)) ∷ lit Null ∷ lit Null ∷ []
+
+pub book_is : Puts keep_schema book_text 0 book_values 9
+unfolding understood everything
+book_is = (refl, (refl, refl))
+
+abbrev pub entry_text : List ℕ
+entry_text = codes "INSERT INTO entries VALUES (?1, ?2, ?3, ?4, ?5, ?6)"
+
+abbrev pub six_values : List Term
+six_values = lit Null ∷ col 0 0 ∷ col 0 1 ∷ col 0 2 ∷ col 0 3 ∷ col 0 4 ∷ col 0 5 ∷ []
+
+pub entry_is : Puts keep_schema entry_text 3 six_values 7
+unfolding understood everything
+entry_is = (refl, (refl, refl))
+
+abbrev pub secret_text : List ℕ
+secret_text = codes "INSERT INTO secrets VALUES (?1, ?2, ?3, ?4, ?5, ?6)"
+
+pub secret_is : Puts keep_schema secret_text 4 six_values 7
+unfolding understood everything
+secret_is = (refl, (refl, refl))
+
+abbrev pub extension_text : List ℕ
+extension_text = codes "INSERT INTO extensions VALUES (?1, ?2, ?3, ?4, ?5)"
+
+abbrev pub five_values : List Term
+five_values = lit Null ∷ col 0 0 ∷ col 0 1 ∷ col 0 2 ∷ col 0 3 ∷ col 0 4 ∷ []
+
+pub extension_is : Puts keep_schema extension_text 8 five_values 6
+unfolding understood everything
+extension_is = (refl, (refl, refl))
+
+-- held, last_day, ends and the closing are all that changes of a row of a pledge
+abbrev pub change_text : List ℕ
+change_text = codes "UPDATE pledges SET ends = ?3, held = ?4, last_day = ?5, closed = ?6, closed_day = ?7, amount = ?8 WHERE book = ?1 AND number = ?2"
+
+abbrev pub change_shows : List Term
+change_shows = col 1 0 ∷ col 1 0 ∷ col 1 1 ∷ col 1 2 ∷ col 1 3 ∷ col 1 4 ∷ col 1 5 ∷ col 1 6 ∷ col 1 7 ∷ col 1 8 ∷ col 1 9 ∷ col 1 10 ∷ col 0 2 ∷ col 0 3 ∷ col 0 4 ∷ col 0 5 ∷ col 0 6 ∷ col 0 7 ∷ []
+
+pub change_is : Sets keep_schema change_text 2 (over_table 3 of_pledge change_shows [])
+unfolding understood everything
+change_is = (refl, (refl, refl))
+
+abbrev pub totals_text : List ℕ
+totals_text = codes "UPDATE totals SET day = ?3, principal = ?4, charges = ?5 WHERE book = ?1 AND number = ?2"
+
+abbrev pub totals_shows : List Term
+totals_shows = col 1 0 ∷ col 1 0 ∷ col 1 1 ∷ col 1 2 ∷ col 0 2 ∷ col 0 3 ∷ col 0 4 ∷ []
+
+pub totals_is : Sets keep_schema totals_text 7 (over_table 15 of_pledge totals_shows [])
+unfolding understood everything
+totals_is = (refl, (refl, refl))
+
+abbrev pub booking_text : List ℕ
+booking_text = codes "INSERT INTO bookings VALUES (?1, ?2, ?3, ?4, ?5) ON CONFLICT (book, number) DO UPDATE SET day = excluded.day, slot = excluded.slot, state = excluded.state"
+
+-- the row that is there is told by its number, after the five parameters, and the columns that were to be put come after that
+abbrev pub booking_tests : List Term
+booking_tests = op2 (Compare Eq Binary) (col 1 0) (col 0 5) ∷ []
+
+abbrev pub booking_shows : List Term
+booking_shows = col 1 0 ∷ col 1 0 ∷ col 1 1 ∷ col 1 2 ∷ col 0 9 ∷ col 0 10 ∷ col 0 11 ∷ []
+
+abbrev pub booking_clause : Upsert
+booking_clause = record { target = Some (1 ∷ 2 ∷ []); update = Some (record { lets = []; body = over_table 11 booking_tests booking_shows [] }) }
+
+pub booking_is : (command_of (understood keep_schema booking_text) ≡ InsertOr 5 Abort (Values five_values 6) (booking_clause ∷ [])) × IsPlain (understood keep_schema booking_text)
+unfolding understood everything
+booking_is = (refl, (refl, refl))
+
+abbrev pub count_text : List ℕ
+count_text = codes "UPDATE meta SET value = value + ?1 WHERE name = 'rows' RETURNING value"
+
+abbrev pub count_tests : List Term
+count_tests = op2 (Compare Eq Binary) (col 1 1) (lit (Text (codes "rows"))) ∷ []
+
+abbrev pub count_shows : List Term
+count_shows = col 1 0 ∷ col 1 0 ∷ col 1 1 ∷ op2 (Arith Add) (col 1 2) (col 0 0) ∷ []
+
+abbrev pub count_returns : Returning
+count_returns = record { names = codes "value" ∷ []; row = Values (col 0 4 ∷ []) 1 }
+
+pub count_is : Returns keep_schema count_text 6 (over_table 13 count_tests count_shows []) count_returns
+unfolding understood everything
+count_is = (refl, refl, refl)
+
+abbrev pub limit_text : List ℕ
+limit_text = codes "SELECT value FROM meta WHERE name = 'limit'"
+
+abbrev pub limit_tests : List Term
+limit_tests = op2 (Compare Eq Binary) (col 1 1) (lit (Text (codes "limit"))) ∷ []
+
+abbrev pub limit_shows : List Term
+limit_shows = col 1 2 ∷ []
+
+pub limit_is : Asks keep_schema limit_text (over_table 13 limit_tests limit_shows []) (codes "value" ∷ [])
+unfolding understood everything
+limit_is = (refl, refl, (refl, refl))
+
+abbrev pub terms_text : List ℕ
+terms_text = codes "INSERT INTO terms VALUES (?1, ?2, ?3, ?4, ?5)"
+
+pub terms_is : Puts keep_schema terms_text 1 five_values 6
+unfolding understood everything
+terms_is = (refl, (refl, refl))
+
+abbrev pub new_totals_text : List ℕ
+new_totals_text = codes "INSERT INTO totals VALUES (?1, ?2, ?3, ?4, ?5)"
+
+pub new_totals_is : Puts keep_schema new_totals_text 7 five_values 6
+unfolding understood everything
+new_totals_is = (refl, (refl, refl))
+
+abbrev pub pledge_text : List ℕ
+pledge_text = codes "INSERT INTO pledges VALUES (?1, ?2, ?3, ?4, ?5, ?6, ?7, ?8, ?9, ?10, ?11, ?12, ?13, ?14, ?15, ?16)"
+
+abbrev pub sixteen_values : List Term
+sixteen_values =
+    lit Null ∷ col 0 0 ∷ col 0 1 ∷ col 0 2 ∷ col 0 3 ∷ col 0 4 ∷ col 0 5 ∷ col 0 6 ∷ col 0 7 ∷ col 0 8 ∷ col 0 9 ∷ col 0 10 ∷ col 0 11 ∷ col 0 12 ∷ col 0 13 ∷ col 0 14 ∷ col 0 15 ∷ []
+
+pub pledge_is : Puts keep_schema pledge_text 2 sixteen_values 17
+unfolding understood everything
+pledge_is = (refl, (refl, refl))
+
+abbrev pub terms_count_text : List ℕ
+terms_count_text = codes "UPDATE books SET terms = ?2 WHERE book = ?1"
+
+abbrev pub terms_count_shows : List Term
+terms_count_shows = col 1 0 ∷ col 1 0 ∷ lit Null ∷ col 1 2 ∷ col 1 3 ∷ col 1 4 ∷ col 0 1 ∷ col 1 6 ∷ col 1 7 ∷ col 1 8 ∷ []
+
+pub terms_count_is : Sets keep_schema terms_count_text 0 (over_table 0 of_book terms_count_shows [])
+unfolding understood everything
+terms_count_is = (refl, (refl, refl))
+
+abbrev pub pledges_count_text : List ℕ
+pledges_count_text = codes "UPDATE books SET pledges = ?2 WHERE book = ?1"
+
+abbrev pub pledges_count_shows : List Term
+pledges_count_shows = col 1 0 ∷ col 1 0 ∷ lit Null ∷ col 1 2 ∷ col 1 3 ∷ col 1 4 ∷ col 1 5 ∷ col 0 1 ∷ col 1 7 ∷ col 1 8 ∷ []
+
+pub pledges_count_is : Sets keep_schema pledges_count_text 0 (over_table 0 of_book pledges_count_shows [])
+unfolding understood everything
+pledges_count_is = (refl, (refl, refl))
+
+abbrev pub import_text : List ℕ
+import_text = codes "UPDATE books SET terms = ?2, pledges = ?3, import_key = ?4, imported = ?3 WHERE book = ?1"
+
+abbrev pub import_shows : List Term
+import_shows = col 1 0 ∷ col 1 0 ∷ lit Null ∷ col 1 2 ∷ col 1 3 ∷ col 1 4 ∷ col 0 1 ∷ col 0 2 ∷ col 0 3 ∷ col 0 2 ∷ []
+
+pub import_is : Sets keep_schema import_text 0 (over_table 0 of_book import_shows [])
+unfolding understood everything
+import_is = (refl, (refl, refl))

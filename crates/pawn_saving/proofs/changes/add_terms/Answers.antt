@@ -1,0 +1,34 @@
+use Rattle.std.proofs.Common.{◌≡◌, ◌+◌, ◌∙◌, ◌++◌, ◌∷◌, [], ℕ, length, length-append, refl, subst, true, arith}
+use Rattle.sqlite.specs.Held.{state}
+use Rattle.pawn_terms.specs.declared.terms.Rates.{Rates}
+use Rattle.pawn_book.specs.HostStep.{rows}
+use Rattle.pawn_book.specs.Changes.{with_change}
+use Rattle.pawn_book.specs.declared.change.Change.TheVariants.{AddTerms}
+use Rattle.one_table.specs.Listing.{with_rows}
+use Rattle.pawn_tables.specs.Rows.{number, terms_cells}
+use Rattle.pawn_saving.specs.Counted.{IsWritten, listed_as}
+use Rattle.pawn_saving.proofs.Lent.{clean_before}
+use Rattle.pawn_saving.proofs.Hosting.{are_taken, as_lists}
+use Rattle.pawn_saving.proofs.BookChanges.{longer_written, other_books, others}
+use Rattle.pawn_saving.proofs.changes.add_terms.Goals as goal
+
+pub returns-clause-wrote : goal.returns-clause-wrote
+returns-clause-wrote g c clean within h sound can st =
+    let mid = state g.S.Store c.put_terms.new.tx.conn.now in
+    let new = state g.S.Store c.set_terms_count.new.tx.conn.now in
+    let clean1 = clean_before mid new true c.in_ok-set_terms_count.ensures.lent clean in
+    let k = can.follows.0 in
+    let is = can.follows.1 in
+    let version : c.in_ok-version.version ≡ length k.terms + 1 = c.in_ok-version.ensures.value ∙ can.follows.2 in
+    let v : ℕ = c.in_ok-version.version in
+    let b : ℕ = c.args.book in
+    let t : Rates = c.args.terms in
+    let n = rows h in
+    let one = rw (c.get.ensures.value, c.rates.ensures.value) at (c.in_ok-put_terms.ensures.wrote clean1 within (listed_as h n) (as_lists _ h st)) in
+    let inside = c.in_ok-put_terms.ensures.lent.inside clean1 within refl in
+    let listed = with_rows (listed_as h n) 1 ((number b ∷ number v ∷ terms_cells t) ∷ listed_as h n 1) in
+    let grown : length (k.terms ++ t ∷ []) ≡ v = (let more = length-append k.terms (t ∷ []) in omega (arith, more, version)) in
+    let rest = others h b v t k is version n in
+    let two = rw c.get-2.ensures.value at (c.in_ok-set_terms_count.ensures.wrote k (k.terms ++ t ∷ []) grown clean inside listed rest) in
+    let both = two (other_books h b v t k is version n) one in
+    subst (λ x. IsWritten h (with_change h (AddTerms b x t)) new.now 1) c.in_ok-version.ensures.value (longer_written h b v t k is version n new.now refl (are_taken _ h st) both)

@@ -1,0 +1,70 @@
+-- Tables within a change, before its rows are counted.
+use Rattle.std.specs.Prelude.{◌≡◌, ◌==◌, ◌↔◌, ℕ, ◌+◌, ◌≤◌, ◌<◌, if◌then◌else◌, map, Bool, Some, IsTrue, Result, Ok, Err, IfOk}
+use Rattle.std.specs.FinMap.{entries, get}
+use Rattle.sqlite.specs.Effect.{Database}
+use Rattle.sqlite.specs.State.{State, HasCleanDisk}
+use Rattle.pawn_terms.specs.Limits.{first_day}
+use Rattle.pawn_pledge.specs.Replayable.{Each}
+use Rattle.pawn_book.specs.BookStep.{BookValue}
+use Rattle.pawn_book.specs.Changes.{CanSave, with_change}
+use Rattle.pawn_book.specs.declared.change.Change.{Change}
+use Rattle.pawn_book.specs.declared.fault.SaveError.{SaveError}
+use Rattle.pawn_book.specs.declared.fault.SaveError.TheVariants as Save
+use Rattle.pawn_book.specs.HostStep.{Host, rows}
+use Rattle.pawn_book.specs.Sound.{IsSound}
+use Rattle.one_table.specs.Listing.{Lists, Listed}
+use Rattle.pawn_tables.specs.Schema.{keep_schema}
+use Rattle.pawn_tables.specs.Meta.{meta_rows}
+use Rattle.pawn_tables.specs.Rows.{book_row, terms_listed, pledge_listed, entries_listed, secrets_listed, booking_listed, totals_listed, extensions_listed}
+use Rattle.pawn_tables.specs.StandsFor.{StandsFor, of_books, of_pledges}
+
+-- the rows of a host by their tree, where so many of them are counted
+abbrev pub listed_as : Host → ℕ → Listed
+listed_as h counted t =
+    if t == 0 then map (λ (e : ℕ × BookValue). book_row e.0 e.1) (entries h.books)
+    else if t == 1 then of_books h terms_listed
+    else if t == 3 then of_pledges h pledge_listed
+    else if t == 6 then of_pledges h entries_listed
+    else if t == 8 then of_pledges h secrets_listed
+    else if t == 11 then of_pledges h booking_listed
+    else if t == 13 then meta_rows counted h.limit
+    else if t == 15 then of_pledges h totals_listed
+    else of_pledges h extensions_listed
+
+-- the tables list the host, and note this count of its rows
+abbrev pub ListsHost : Database → Host → ℕ → Type 0
+ListsHost db h counted = Lists keep_schema db (listed_as h counted)
+
+-- the pledges of each book were taken on a day that there is
+abbrev pub AreTaken : Host → Type 0
+AreTaken h = (b : ℕ) (k : BookValue) → get h.books b ≡ Some k → Each (λ p. first_day ≤ p.agreement.taken) k.pledges
+
+-- the tables list host g, which has so many rows more than h, and still note the count of the rows of h
+pub record IsWritten (h g : Host) (db : Database) (added : ℕ) : Type 0 where
+  pub lists : ListsHost db g (rows h)
+  pub grown : rows g ≡ rows h + added
+  pub taken : AreTaken g
+
+-- of each sound host that the tables stood for within the transaction, and a change that it may have: the changed host is written
+abbrev pub WritesRows : {E : Type 0} → State → State → Change → Result ℕ E → Type 0
+WritesRows old new change result =
+    HasCleanDisk new → IsTrue old.in_transaction → (h : Host) → IsSound h → CanSave h change → StandsFor old.now h → IfOk result (IsWritten h (with_change h change) new.now)
+
+-- so many rows more are counted, and it is told whether all of them are within the limit
+abbrev pub Counts : {E : Type 0} → State → State → ℕ → Result Bool E → Type 0
+Counts old new by result =
+    HasCleanDisk new → IsTrue old.in_transaction → (g : Host) (counted : ℕ) → counted ≤ g.limit → ListsHost old.now g counted
+    → IfOk result (λ fits. (IsTrue fits ↔ (counted + by ≤ g.limit)) × ListsHost new.now g (counted + by))
+
+-- P where the change was made, Q where the rows would be above the limit
+abbrev pub Judged : {T : Type 0} → Result T SaveError → Type 0 → Type 0 → Type 0
+Judged (Ok done) P Q = P
+Judged (Err Save.Full) P Q = Q
+Judged (Err Save.Memory) P Q = Unit {0}
+Judged (Err (Save.Store fault)) P Q = Unit {0}
+
+-- of each sound host that an open store stood for within the transaction, and a change that it may have: the tables stand for the changed host
+abbrev pub WritesChange : {T : Type 0} → State → State → Change → Result T SaveError → Type 0
+WritesChange old new change result =
+    HasCleanDisk new → IsTrue old.in_transaction → (h : Host) → IsSound h → (IsTrue old.is_open → CanSave h change × StandsFor old.now h)
+    → Judged result (StandsFor new.now (with_change h change) × (rows (with_change h change) ≤ h.limit)) (h.limit < rows (with_change h change))

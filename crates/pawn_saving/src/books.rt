@@ -1,0 +1,113 @@
+ghost use Rattle.std.specs.Prelude.{◌≡◌, ◌∷◌, ℕ, List, is_ok, length};
+ghost use Rattle.sqlite.specs.Held.{state};
+ghost use Rattle.pawn_terms.specs.declared.terms.Rates.{Rates};
+ghost use Rattle.pawn_pledge.specs.Pledge.{PledgeValue};
+ghost use Rattle.pawn_book.specs.BookStep.{BookValue, filled_book, made_book};
+ghost use Rattle.pawn_book.specs.declared.rows.BookRows.{BookRows};
+ghost use Rattle.one_table.specs.Lending.{IsLent};
+ghost use Rattle.pawn_tables.specs.At.{at_book};
+ghost use Rattle.pawn_tables.specs.Rows.{book_row, number, terms_cells};
+ghost use Rattle.pawn_saving.specs.Writing.{Joins, Replaces};
+
+use crate::cells::small;
+use crate::writing::write;
+use pawn_book::{KeepError, NewBook, Rates, Secret};
+use sqlite::{Alter, Transaction, params};
+
+/// Puts the row of a new book.
+pub(crate) fn put_book<S: Alter>(
+    tx: &mut Transaction<'_, S>,
+    book: u32,
+    new_book: &NewBook,
+) -> Result<(), KeepError>
+    ensures same_reference { tx.new.conn.ghost_name ≡ tx.old.conn.ghost_name }
+    ensures wrote { Joins (state S.Store tx.old.conn.now) (state S.Store tx.new.conn.now) result 0 (book_row book (made_book new_book.now)) }
+    ensures lent { IsLent (state S.Store tx.old.conn.now) (state S.Store tx.new.conn.now) (is_ok result) }
+{
+    let key = new_book.key.word().to_be_bytes();
+    let name = new_book.name.as_str();
+    let capacity = new_book.capacity.get();
+    write(
+        tx,
+        "INSERT INTO books VALUES (?1, ?2, ?3, ?4, 0, 0, NULL, NULL)",
+        params![book, key.as_slice(), name, capacity],
+    )
+}
+
+/// Sets the count of the terms of a book.
+pub(crate) fn set_terms_count<S: Alter>(
+    tx: &mut Transaction<'_, S>,
+    book: u32,
+    count: u32,
+) -> Result<(), KeepError>
+    ensures same_reference { tx.new.conn.ghost_name ≡ tx.old.conn.ghost_name }
+    ensures wrote { (k : BookValue) (terms : List Rates) → length terms ≡ count
+        → Replaces (state S.Store tx.old.conn.now) (state S.Store tx.new.conn.now) result 0 (at_book book) (book_row book k) (book_row book (record k { terms = terms })) }
+    ensures lent { IsLent (state S.Store tx.old.conn.now) (state S.Store tx.new.conn.now) (is_ok result) }
+{
+    write(
+        tx,
+        "UPDATE books SET terms = ?2 WHERE book = ?1",
+        params![book, count],
+    )
+}
+
+/// Sets the count of the pledges of a book.
+pub(crate) fn set_pledges_count<S: Alter>(
+    tx: &mut Transaction<'_, S>,
+    book: u32,
+    count: u32,
+) -> Result<(), KeepError>
+    ensures same_reference { tx.new.conn.ghost_name ≡ tx.old.conn.ghost_name }
+    ensures wrote { (k : BookValue) (pledges : List PledgeValue) → length pledges ≡ count
+        → Replaces (state S.Store tx.old.conn.now) (state S.Store tx.new.conn.now) result 0 (at_book book) (book_row book k) (book_row book (record k { pledges = pledges })) }
+    ensures lent { IsLent (state S.Store tx.old.conn.now) (state S.Store tx.new.conn.now) (is_ok result) }
+{
+    write(
+        tx,
+        "UPDATE books SET pledges = ?2 WHERE book = ?1",
+        params![book, count],
+    )
+}
+
+/// Notes an import: its key, and how many terms and pledges it brought.
+pub(crate) fn set_import<S: Alter>(
+    tx: &mut Transaction<'_, S>,
+    book: u32,
+    key: Secret,
+    terms: u32,
+    pledges: u32,
+) -> Result<(), KeepError>
+    ensures same_reference { tx.new.conn.ghost_name ≡ tx.old.conn.ghost_name }
+    ensures wrote { (k : BookValue) (rows : BookRows) → length rows.terms ≡ terms → length rows.pledges ≡ pledges
+        → Replaces (state S.Store tx.old.conn.now) (state S.Store tx.new.conn.now) result 0 (at_book book) (book_row book k) (book_row book (filled_book k key rows)) }
+    ensures lent { IsLent (state S.Store tx.old.conn.now) (state S.Store tx.new.conn.now) (is_ok result) }
+{
+    let word = key.word().to_be_bytes();
+    write(
+        tx,
+        "UPDATE books SET terms = ?2, pledges = ?3, import_key = ?4, imported = ?3 WHERE book = ?1",
+        params![book, terms, pledges, word.as_slice()],
+    )
+}
+
+/// Puts the terms of a version.
+pub(crate) fn put_terms<S: Alter>(
+    tx: &mut Transaction<'_, S>,
+    book: u32,
+    version: u32,
+    rates: Rates,
+) -> Result<(), KeepError>
+    ensures same_reference { tx.new.conn.ghost_name ≡ tx.old.conn.ghost_name }
+    ensures wrote { Joins (state S.Store tx.old.conn.now) (state S.Store tx.new.conn.now) result 1 (number book ∷ number version ∷ terms_cells rates) }
+    ensures lent { IsLent (state S.Store tx.old.conn.now) (state S.Store tx.new.conn.now) (is_ok result) }
+{
+    let rate = small(rates.rate)?;
+    let before = small(rates.keep_before)?;
+    let after = small(rates.keep_after)?;
+    write(
+        tx,
+        "INSERT INTO terms VALUES (?1, ?2, ?3, ?4, ?5)",
+        params![book, version, rate, before, after],
+    )
+}

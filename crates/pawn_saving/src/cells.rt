@@ -1,0 +1,136 @@
+ghost use Rattle.std.specs.Prelude.{◌≡◌, ◌<◌, ◌^◌, IfOk};
+ghost use Rattle.sqlite.specs.declared.error.Error.TheVariants as SqlError;
+ghost use Rattle.sqlite.specs.declared.error.ErrorCode.TheVariants.{OutOfMemory};
+ghost use Rattle.pawn_book.specs.declared.fault.KeepError.TheVariants as Keeper;
+ghost use Rattle.pawn_tables.specs.Rows as spec;
+
+use pawn_book::{BookingState, Closing, Issue, KeepError, Kind, RequestDay, Sort, StoreFault};
+use sqlite::{Error, ErrorCode};
+use sqlite_value::value::Value;
+
+/// The database refused.
+pub(crate) const REFUSED: KeepError = KeepError::Store(StoreFault::Database);
+
+/// Why a statement was not run.
+pub(crate) fn refused(error: Error) -> KeepError
+    ensures memory { result ≡ Keeper.Memory → error ≡ SqlError.SqliteFailure OutOfMemory }
+{
+    match error {
+        Error::SqliteFailure(ErrorCode::OutOfMemory) => KeepError::Memory,
+        _ => REFUSED,
+    }
+}
+
+/// A number as a statement takes it.
+pub(crate) fn small(number: u64) -> Result<u32, KeepError>
+    ensures value { IfOk result (λ n. n ≡ number) }
+    ensures in_range { IfOk result (λ n. n < 2 ^ 32) }
+{
+    match u32::try_from(number) {
+        Ok(n) => Ok(n),
+        Err(_) => Err(REFUSED),
+    }
+}
+
+/// The number of a flag.
+pub(crate) fn flag_number(flag: bool) -> u32
+    ensures value { result ≡ spec.flag_number flag }
+{
+    if flag { 1 } else { 0 }
+}
+
+/// The number of a kind of credit.
+pub(crate) fn kind_number(kind: Kind) -> u32
+    ensures value { result ≡ spec.kind_number kind }
+{
+    match kind {
+        Kind::Fixed(_) => 0,
+        Kind::Running(_) => 1,
+    }
+}
+
+/// The number of a sort of entry.
+pub(crate) fn sort_number(sort: Sort) -> u32
+    ensures value { result ≡ spec.sort_number sort }
+{
+    match sort {
+        Sort::Draw => 0,
+        Sort::Repay => 1,
+    }
+}
+
+/// The number of the way in which a secret was issued.
+pub(crate) fn issue_number(issue: Issue) -> u32
+    ensures value { result ≡ spec.issue_number issue }
+{
+    match issue {
+        Issue::Opening => 0,
+        Issue::Sworn => 1,
+        Issue::Written => 2,
+    }
+}
+
+/// The number of where a booking stands.
+pub(crate) fn state_number(state: BookingState) -> u32
+    ensures value { result ≡ spec.state_number state }
+{
+    match state {
+        BookingState::Asked => 0,
+        BookingState::Confirmed => 1,
+        BookingState::Refused => 2,
+        BookingState::Cancelled => 3,
+    }
+}
+
+// A number as a statement takes it, or NULL.
+fn optional(number: Option<u32>) -> Value
+    ensures value { result ≡ spec.or_null spec.number number }
+{
+    match number {
+        Some(n) => Value::Int(n as i64),
+        None => Value::Null,
+    }
+}
+
+/// The agreed end of a period.
+pub(crate) fn agreed_value(agreed: Option<RequestDay>) -> Value
+    ensures value { result ≡ spec.or_null spec.number agreed }
+{
+    match agreed {
+        Some(day) => optional(Some(day.day().count())),
+        None => optional(None),
+    }
+}
+
+/// The number of the way in which a pledge is closed.
+pub(crate) fn closed_number(closing: Closing) -> u32
+    ensures value { result ≡ spec.closed_number closing }
+{
+    match closing {
+        Closing::Open => 0,
+        Closing::Redeemed { .. } => 1,
+        Closing::Sold { .. } => 2,
+    }
+}
+
+/// The day of a closing.
+pub(crate) fn closed_day(closing: Closing) -> Value
+    ensures value { result ≡ spec.or_null spec.number (spec.closed_day closing) }
+{
+    match closing {
+        Closing::Open => optional(None),
+        Closing::Redeemed { day, paid: _ } => optional(Some(day.count())),
+        Closing::Sold { day, net: _ } => optional(Some(day.count())),
+    }
+}
+
+/// The sum of a closing.
+pub(crate) fn closed_amount(closing: Closing) -> Result<Value, KeepError>
+    ensures value { IfOk result (λ amount. amount ≡ spec.or_null spec.number (spec.closed_amount closing)) }
+{
+    match closing {
+        Closing::Open => Ok(optional(None)),
+        Closing::Redeemed { day: _, paid } => Ok(optional(Some(small(paid)?))),
+        Closing::Sold { day: _, net } => Ok(optional(Some(small(net)?))),
+    }
+}

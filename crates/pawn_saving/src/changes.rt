@@ -1,0 +1,43 @@
+ghost use Rattle.std.specs.Prelude.{◌≡◌, is_ok};
+ghost use Rattle.sqlite.specs.Held.{state};
+ghost use Rattle.pawn_book.specs.declared.change.Change.TheVariants.{AddTerms, MakeBook};
+ghost use Rattle.one_table.specs.Lending.{IsLent};
+ghost use Rattle.pawn_saving.specs.Counted.{WritesRows};
+
+use crate::books::{put_book, put_terms, set_terms_count};
+use crate::cells::small;
+use pawn_book::{KeepError, NewBook, Number, Terms};
+use sqlite::{Alter, Transaction};
+
+/// Writes a new book, and tells how many rows that are counted it adds.
+#[tactic(auto, using(crate::proofs::Lent::lent_then))]
+pub(crate) fn make_book<S: Alter>(
+    tx: &mut Transaction<'_, S>,
+    book: Number,
+    new_book: &NewBook,
+) -> Result<u32, KeepError>
+    ensures same_reference { tx.new.conn.ghost_name ≡ tx.old.conn.ghost_name }
+    ensures wrote { WritesRows (state S.Store tx.old.conn.now) (state S.Store tx.new.conn.now) (MakeBook book new_book.now) result }
+    ensures lent { IsLent (state S.Store tx.old.conn.now) (state S.Store tx.new.conn.now) (is_ok result) }
+{
+    put_book(tx, book.get(), new_book)?;
+    Ok(1)
+}
+
+/// Writes the next version of a book's terms, and tells how many rows that are counted it adds.
+#[tactic(auto, using(crate::proofs::Lent::lent_then))]
+pub(crate) fn add_terms<S: Alter>(
+    tx: &mut Transaction<'_, S>,
+    book: Number,
+    version: u64,
+    terms: Terms,
+) -> Result<u32, KeepError>
+    ensures same_reference { tx.new.conn.ghost_name ≡ tx.old.conn.ghost_name }
+    ensures wrote { WritesRows (state S.Store tx.old.conn.now) (state S.Store tx.new.conn.now) (AddTerms book version terms) result }
+    ensures lent { IsLent (state S.Store tx.old.conn.now) (state S.Store tx.new.conn.now) (is_ok result) }
+{
+    let version = small(version)?;
+    put_terms(tx, book.get(), version, terms.rates())?;
+    set_terms_count(tx, book.get(), version)?;
+    Ok(1)
+}

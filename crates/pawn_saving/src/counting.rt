@@ -1,0 +1,71 @@
+ghost use Rattle.std.specs.Prelude.{◌≡◌, ◌∷◌, ◌+◌, ◌<◌, ◌^◌, ℕ, IfOk, IsTrue, codes, is_ok};
+ghost use Rattle.sqlite.specs.Held.{state};
+ghost use Rattle.sqlite.specs.State.{HasCleanDisk};
+ghost use Rattle.one_table.specs.Lending.{IsLent, Rests};
+ghost use Rattle.one_table.specs.Listing.{Listed, Lists, with_rows};
+ghost use Rattle.pawn_tables.specs.Schema.{keep_schema};
+ghost use Rattle.pawn_saving.specs.Counted.{Counts};
+ghost use Rattle.pawn_tables.specs.Meta.{meta_row, meta_rows, other_rows};
+
+use crate::cells::{REFUSED, refused, small};
+use one_table::ask;
+use pawn_book::KeepError;
+use sqlite::{Alter, Transaction, params};
+
+/// The limit on the rows.
+fn limit_in<S: Alter>(tx: &mut Transaction<'_, S>) -> Result<u32, KeepError>
+    ensures same_reference { tx.new.conn.ghost_name ≡ tx.old.conn.ghost_name }
+    ensures found { HasCleanDisk (state S.Store tx.new.conn.now) → IsTrue (state S.Store tx.old.conn.now).in_transaction
+        → (listed : Listed) (counted limit : ℕ) → listed 13 ≡ meta_rows counted limit → Lists keep_schema (state S.Store tx.old.conn.now).now listed
+        → IfOk result (λ n. (n ≡ limit) × Rests (state S.Store tx.old.conn.now) (state S.Store tx.new.conn.now)) }
+    ensures in_range { IfOk result (λ n. n < 2 ^ 32) }
+    ensures lent { IsLent (state S.Store tx.old.conn.now) (state S.Store tx.new.conn.now) (is_ok result) }
+{
+    let rows = match ask(tx, "SELECT value FROM meta WHERE name = 'limit'", &[]) {
+        Ok(rows) => rows,
+        Err(error) => return Err(refused(error)),
+    };
+    let [row, ..] = rows.as_slice() else {
+        return Err(REFUSED);
+    };
+    match row.get::<u64>(0) {
+        Ok(limit) => small(limit),
+        Err(error) => Err(refused(error)),
+    }
+}
+
+/// Adds to the count of rows, and tells the new count.
+fn count_up<S: Alter>(tx: &mut Transaction<'_, S>, by: u32) -> Result<u64, KeepError>
+    ensures same_reference { tx.new.conn.ghost_name ≡ tx.old.conn.ghost_name }
+    ensures wrote { HasCleanDisk (state S.Store tx.new.conn.now) → IsTrue (state S.Store tx.old.conn.now).in_transaction
+        → (listed : Listed) (counted limit : ℕ) → listed 13 ≡ meta_rows counted limit → counted + by < 2 ^ 63 → Lists keep_schema (state S.Store tx.old.conn.now).now listed
+        → IfOk result (λ now. (now ≡ counted + by) × Lists keep_schema (state S.Store tx.new.conn.now).now (with_rows listed 13 (meta_row (codes "rows") now ∷ other_rows limit))) }
+    ensures lent { IsLent (state S.Store tx.old.conn.now) (state S.Store tx.new.conn.now) (is_ok result) }
+{
+    let row = match tx.query_row(
+        "UPDATE meta SET value = value + ?1 WHERE name = 'rows' RETURNING value",
+        params![by],
+    ) {
+        Ok(row) => row,
+        Err(error) => return Err(refused(error)),
+    };
+    match row.get::<u64>(0) {
+        Ok(now) => Ok(now),
+        Err(error) => Err(refused(error)),
+    }
+}
+
+/// Counts so many rows more, and tells whether all of them are within the limit.
+#[tactic(auto, using(crate::proofs::Lent::lent_then))]
+pub(crate) fn count_within<S: Alter>(
+    tx: &mut Transaction<'_, S>,
+    by: u32,
+) -> Result<bool, KeepError>
+    ensures same_reference { tx.new.conn.ghost_name ≡ tx.old.conn.ghost_name }
+    ensures counts { Counts (state S.Store tx.old.conn.now) (state S.Store tx.new.conn.now) by result }
+    ensures lent { IsLent (state S.Store tx.old.conn.now) (state S.Store tx.new.conn.now) (is_ok result) }
+{
+    let limit = limit_in(tx)?;
+    let counted = count_up(tx, by)?;
+    Ok(counted <= limit as u64)
+}

@@ -1,0 +1,75 @@
+ghost use Rattle.std.specs.Prelude.{◌≡◌, is_ok};
+ghost use Rattle.sqlite.specs.Held.{state};
+ghost use Rattle.one_table.specs.Lending.{IsLent};
+ghost use Rattle.pawn_tables.specs.Rows.{under, entry_cells, extension_cells, secret_cells};
+ghost use Rattle.pawn_saving.specs.Writing.{Joins};
+
+use crate::cells::{issue_number, small, sort_number};
+use crate::writing::write;
+use pawn_book::{Entry, Extension, Issued, KeepError};
+use sqlite::{Alter, Transaction, params};
+
+/// Puts an entry of a pledge.
+pub(crate) fn put_entry<S: Alter>(
+    tx: &mut Transaction<'_, S>,
+    book: u32,
+    number: u32,
+    entry: &Entry,
+) -> Result<(), KeepError>
+    ensures same_reference { tx.new.conn.ghost_name ≡ tx.old.conn.ghost_name }
+    ensures wrote { Joins (state S.Store tx.old.conn.now) (state S.Store tx.new.conn.now) result 6 (under book number (entry_cells entry.now)) }
+    ensures lent { IsLent (state S.Store tx.old.conn.now) (state S.Store tx.new.conn.now) (is_ok result) }
+{
+    let seq = small(entry.seq)?;
+    let pence = small(entry.pence)?;
+    let day = entry.day.count();
+    let sort = sort_number(entry.sort);
+    write(
+        tx,
+        "INSERT INTO entries VALUES (?1, ?2, ?3, ?4, ?5, ?6)",
+        params![book, number, seq, day, sort, pence],
+    )
+}
+
+/// Puts a secret of a pledge at its place.
+pub(crate) fn put_secret<S: Alter>(
+    tx: &mut Transaction<'_, S>,
+    book: u32,
+    number: u32,
+    place: u32,
+    issued: &Issued,
+) -> Result<(), KeepError>
+    ensures same_reference { tx.new.conn.ghost_name ≡ tx.old.conn.ghost_name }
+    ensures wrote { Joins (state S.Store tx.old.conn.now) (state S.Store tx.new.conn.now) result 8 (under book number (secret_cells place issued.now)) }
+    ensures lent { IsLent (state S.Store tx.old.conn.now) (state S.Store tx.new.conn.now) (is_ok result) }
+{
+    let day = issued.day.count();
+    let sort = issue_number(issued.sort);
+    let secret = issued.secret.word().to_be_bytes();
+    write(
+        tx,
+        "INSERT INTO secrets VALUES (?1, ?2, ?3, ?4, ?5, ?6)",
+        params![book, number, place, day, sort, secret.as_slice()],
+    )
+}
+
+/// Puts an extension of a pledge's period at its place.
+pub(crate) fn put_extension<S: Alter>(
+    tx: &mut Transaction<'_, S>,
+    book: u32,
+    number: u32,
+    place: u32,
+    extension: &Extension,
+) -> Result<(), KeepError>
+    ensures same_reference { tx.new.conn.ghost_name ≡ tx.old.conn.ghost_name }
+    ensures wrote { Joins (state S.Store tx.old.conn.now) (state S.Store tx.new.conn.now) result 17 (under book number (extension_cells place extension.now)) }
+    ensures lent { IsLent (state S.Store tx.old.conn.now) (state S.Store tx.new.conn.now) (is_ok result) }
+{
+    let day = extension.day.count();
+    let until = extension.until.count();
+    write(
+        tx,
+        "INSERT INTO extensions VALUES (?1, ?2, ?3, ?4, ?5)",
+        params![book, number, place, day, until],
+    )
+}

@@ -1,0 +1,12 @@
+//! Changes of pledge books, written to the tables of a database.
+#![tactic(auto)]
+
+mod books;
+mod cells;
+mod changes;
+mod counting;
+mod entries;
+mod pledges;
+mod saving;
+mod tails;
+mod writing;

@@ -1,0 +1,81 @@
+ghost use Rattle.std.specs.Prelude.{◌≡◌, ◌≢◌, is_ok};
+ghost use Rattle.sqlite.specs.Held.{state};
+ghost use Rattle.pawn_book.specs.declared.fault.SaveError.TheVariants as Save;
+ghost use Rattle.pawn_book.specs.Changes.{CanSave};
+ghost use Rattle.pawn_book.specs.Keeping.{Of, Saves};
+ghost use Rattle.one_table.specs.Lending.{IsLent};
+ghost use Rattle.pawn_tables.specs.Keeps.{keeping_by};
+ghost use Rattle.pawn_saving.specs.Counted.{WritesChange, WritesRows};
+
+use crate::cells::{REFUSED, refused};
+use crate::changes::{add_terms, make_book};
+use crate::counting::count_within;
+use pawn_book::{Change, KeepError, SaveError, StoreFault};
+use sqlite::{Alter, Connection, Transaction};
+
+// Why a change is not saved, where its rows are within the limit.
+fn unsaved(error: KeepError) -> SaveError
+    ensures not_full { result ≢ Save.Full }
+{
+    match error {
+        KeepError::Memory => SaveError::Memory,
+        KeepError::Store(fault) => SaveError::Store(fault),
+    }
+}
+
+// Writes a change, and tells how many rows that are counted it adds.
+fn write_rows<S: Alter>(tx: &mut Transaction<'_, S>, change: &Change) -> Result<u32, KeepError>
+    ensures same_reference { tx.new.conn.ghost_name ≡ tx.old.conn.ghost_name }
+    ensures wrote { WritesRows (state S.Store tx.old.conn.now) (state S.Store tx.new.conn.now) change.now result }
+    ensures lent { IsLent (state S.Store tx.old.conn.now) (state S.Store tx.new.conn.now) (is_ok result) }
+{
+    match change {
+        Change::MakeBook { book, new_book } => make_book(tx, *book, new_book),
+        Change::AddTerms {
+            book,
+            version,
+            terms,
+        } => add_terms(tx, *book, *version, *terms),
+        _ => Err(REFUSED),
+    }
+}
+
+/// Writes a change and counts its rows, unless they would be above the limit.
+#[tactic(auto, using(crate::proofs::Lent::lent_then))]
+pub(crate) fn write_change<S: Alter>(
+    tx: &mut Transaction<'_, S>,
+    change: &Change,
+) -> Result<(), SaveError>
+    ensures same_reference { tx.new.conn.ghost_name ≡ tx.old.conn.ghost_name }
+    ensures wrote { WritesChange (state S.Store tx.old.conn.now) (state S.Store tx.new.conn.now) change.now result }
+    ensures lent { IsLent (state S.Store tx.old.conn.now) (state S.Store tx.new.conn.now) (is_ok result) }
+{
+    let added = match write_rows(tx, change) {
+        Ok(added) => added,
+        Err(error) => return Err(unsaved(error)),
+    };
+    match count_within(tx, added) {
+        Ok(true) => Ok(()),
+        Ok(false) => Err(SaveError::Full),
+        Err(error) => Err(unsaved(error)),
+    }
+}
+
+/// Makes a change, in one transaction, unless the rows would be above the limit.
+pub(crate) fn save<S: Alter>(conn: &mut Connection<S>, change: &Change) -> Result<(), SaveError>
+    requires can_save { (keeping_by (λ c. state S.Store c)).serves conn.old → Of (keeping_by (λ c. state S.Store c)) conn.old conn.old (λ h. CanSave h change.now) }
+    ensures saves { Saves (keeping_by (λ c. state S.Store c)) conn.old conn.new change.now result }
+{
+    if !conn.is_autocommit() {
+        return Err(SaveError::Store(StoreFault::Database));
+    }
+    let mut tx = conn.transaction();
+    if let Err(error) = write_change(&mut tx, change) {
+        tx.rollback();
+        return Err(error);
+    }
+    match tx.commit() {
+        Ok(()) => Ok(()),
+        Err(error) => Err(unsaved(refused(error))),
+    }
+}
