@@ -18,7 +18,7 @@ use Rattle.one_table.proofs.Parts.{committed_rests}
 use Rattle.pawn_tables.specs.StandsFor.{StandsFor, HoldHost}
 use Rattle.pawn_tables.specs.OneHost.{StandForOne}
 use Rattle.pawn_tables.specs.Keeps.{Keeps, Leaves, keeping_by}
-use Rattle.pawn_saving.specs.Counted.{StandForOne, WritesChange}
+use Rattle.pawn_saving.specs.Counted.{WritesChange}
 use Rattle.pawn_saving.proofs.Hosting.{held}
 
 left_fitting : (T : Type 0) (h : Host) (change : Change) (before : Host → Type 0) (e : SaveError) (left : Host) → e ≢ Save.Full → before left ⊎ IsFitting h change left → IsLeftBy {T = T} h change before (Err e) left
