@@ -26,6 +26,9 @@ fn changed(alloc: Global, change: &str) -> Result<Connection<MemStore>, Fail> {
 #[test]
 fn a_book_of_rows_is_read(rt: HostRuntime) -> Result<(), Fail> {
     let mut conn = filled(rt.alloc())?;
+    if !conn.is_autocommit() {
+        return Err(Fail::from("a transaction"));
+    }
     let mut tx = conn.transaction();
     let head = head_in(&mut tx, rt.alloc(), 7).ok().ok_or("read")?;
     let head = head.ok_or("found")?;
@@ -51,6 +54,9 @@ fn a_book_of_rows_is_read(rt: HostRuntime) -> Result<(), Fail> {
 #[test]
 fn pledges_of_rows_are_found(rt: HostRuntime) -> Result<(), Fail> {
     let mut conn = filled(rt.alloc())?;
+    if !conn.is_autocommit() {
+        return Err(Fail::from("a transaction"));
+    }
     let mut tx = conn.transaction();
     let number = ref_in(&mut tx, 7, "A1").ok().ok_or("read")?;
     assert_eq!(rt; number.map(Number::get), Some(1));
@@ -77,6 +83,9 @@ fn a_bent_book_is_no_record(rt: HostRuntime) -> Result<(), Fail> {
     ];
     for change in bent {
         let mut conn = changed(rt.alloc(), change)?;
+        if !conn.is_autocommit() {
+            return Err(Fail::from("a transaction"));
+        }
         let mut tx = conn.transaction();
         let fault = head_in(&mut tx, rt.alloc(), 7).err().ok_or("no fault")?;
         assert_eq!(rt; fault, KeepError::Store(StoreFault::NoRecord));
