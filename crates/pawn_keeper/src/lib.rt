@@ -4,6 +4,3 @@
 mod keeper;
 
 pub use keeper::TableKeep;
-
-#[cfg(test)]
-mod tests;
