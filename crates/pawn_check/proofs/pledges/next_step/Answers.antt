@@ -1,0 +1,58 @@
+use Rattle.std.proofs.Common.{rules, ◌≡◌, ◌≤◌, ◌<◌, ◌+◌, ◌∙◌, ℕ, Err, refl, Some, sym, length, arith, subst}
+use Rattle.std.specs.FinMap.{get}
+use Rattle.std.proofs.lemmas.Bool.Decides.{nat_tests}
+use Rattle.pawn_book.specs.Sound.{HasUnsoundBook}
+use Rattle.pawn_book.proofs.Reading.{reads_as, reads_then}
+use Rattle.pawn_check.specs.Judging.{FitsAt}
+use Rattle.pawn_check.proofs.Fronts.{both_ways, falls_below, handed_on, reads_both, unfit_at}
+use Rattle.pawn_check.proofs.pledges.next_step.Goals as goal
+use Rattle.pawn_check.proofs.pledges.next_step.Goals.{then-not-under-via-then-not-under, then-not-under-via-else-not-under+then-not-first, then-ne-via-then-ne, then-ne-via-else-ne+then-next-version, then-ne-via-else-ne+else-next-version+then-not-can_stand}
+
+pub returns-then-ne-clause-reads : goal.returns-then-ne-clause-reads
+returns-then-ne-clause-reads g c =
+    reads_as c.in_ok-parts.ensures.reads (λ h said k place is next within last.
+    let at = said k is within in
+    let n : ℕ = c.args.number in
+    elim c.then-ne.branch as (λ _. HasUnsoundBook h) [
+      | then-ne-via-then-ne w ↦ unfit_at h c.args.book n k c.in_ok-parts.parts is at (λ fits. let other = w.if-ne.ensures in grind (arith, nat_tests, fits.number, other))
+      | then-ne-via-else-ne+then-next-version w ↦ falls_below h c.args.book place n c.args.version k c.in_ok-parts.parts is next at last w.if-next-version.true
+      | then-ne-via-else-ne+else-next-version+then-not-can_stand w ↦ unfit_at h c.args.book n k c.in_ok-parts.parts is at (λ fits. let stands = w.can_stand.ensures.answer.1 fits.standing in let not' = w.if-not-can_stand.true in both_ways _ stands not')
+    ])
+
+pub returns-in_err-under-clause-reads : goal.returns-in_err-under-clause-reads
+returns-in_err-under-clause-reads g c =
+    let now : c.from_residual-in_err-under.result ≡ Err c.in_err-under.field-0.0 = search rules in
+    reads_then c.in_ok-parts.ensures.reads c.in_err-under.ensures.reads (λ h before said k place is next within last. handed_on h c.in_err-under.field-0.0 _ _ now (said k is))
+
+pub returns-in_err-first-clause-reads : goal.returns-in_err-first-clause-reads
+returns-in_err-first-clause-reads g c =
+    let now : c.from_residual-in_err-first.result ≡ Err c.in_err-first.field-0.0 = search rules in
+    reads_then (reads_both c.in_ok-parts.ensures.reads c.in_ok-under.ensures.reads) c.in_err-first.ensures.reads (λ h before said k place is next within last. handed_on h c.in_err-first.field-0.0 _ _ now (said k is))
+
+pub returns-then-not-under-clause-reads : goal.returns-then-not-under-clause-reads
+returns-then-not-under-clause-reads g c =
+    reads_then (reads_both c.in_ok-parts.ensures.reads c.in_ok-under.ensures.reads) c.in_ok-first.ensures.reads (λ h both said k place is next within last.
+    let at = both.0 k is within in
+    let n : ℕ = c.args.number in
+    elim c.then-not-under.branch as (λ _. HasUnsoundBook h) [
+      | then-not-under-via-then-not-under w ↦ unfit_at h c.args.book n k c.in_ok-parts.parts is at (λ fits. let holds = (both.1 k is).1 fits.under in let not' = w.if-not-under.true in both_ways _ holds not')
+      | then-not-under-via-else-not-under+then-not-first w ↦ unfit_at h c.args.book n k c.in_ok-parts.parts is at (λ fits. let holds = (said k is).1 fits.reference in let not' = w.if-not-first.true in both_ways _ holds not')
+    ])
+
+pub returns-clause-reads : goal.returns-clause-reads
+returns-clause-reads g c =
+    reads_then (reads_both c.in_ok-parts.ensures.reads c.in_ok-under.ensures.reads) c.in_ok-first.ensures.reads (λ h both said k place is next within last.
+    let low : c.args.version ≤ c.in_ok-parts.parts.agreement.version = let less = c.if-next-version.false in omega (arith, less) in (
+      c.in_ok-parts.parts,
+      both.0 k is within,
+      record {
+        number = let same = c.if-ne.ensures in grind (arith, nat_tests, same);
+        standing = c.can_stand.ensures.answer.0 c.if-not-can_stand.false;
+        under = (both.1 k is).0 c.if-not-under.false;
+        reference = (said k is).0 c.if-not-first.false;
+        written = c.know_parts.ensures.written;
+      },
+      low,
+      refl,
+      c.rows_of-rows.ensures.value,
+    ))

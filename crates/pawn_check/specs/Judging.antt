@@ -1,0 +1,77 @@
+-- What a check tells of a host.
+use Rattle.std.specs.Prelude.{◌≡◌, ℕ, ◌≤◌, ◌+◌, List, length, Result, Ok, Err, sum_by, IsErrOf, Some}
+use Rattle.std.specs.FinMap.{entries, get}
+use Rattle.pawn_pledge.specs.Pledge.{PledgeValue}
+use Rattle.pawn_pledge.specs.Replayable.{Each, IsStanding}
+use Rattle.pawn_terms.specs.Order.{DoNotFall, last_by}
+use Rattle.pawn_book.specs.declared.fault.KeepError.{KeepError}
+use Rattle.pawn_book.specs.declared.fault.KeepError.TheVariants as Keeper
+use Rattle.pawn_book.specs.declared.fault.StoreFault.TheVariants.{NoRecord, Database}
+use Rattle.pawn_book.specs.BookStep.{BookValue}
+use Rattle.pawn_book.specs.HostStep.{Host, rows, book_rows, pledge_rows}
+use Rattle.pawn_book.specs.Keeping.{Keeping, number_of}
+use Rattle.pawn_book.specs.Rows.{AreDistinct, AreNumberedFrom, IsUnder, references_of, version_of}
+use Rattle.pawn_book.specs.Sound.{AreSound, HasTextsAndWords, HasUnsoundBook, IsSoundAt}
+use Rattle.pawn_check.specs.declared.counts.Counts.{Counts}
+use Rattle.pawn_check.specs.declared.counts.BookCounts.{BookCounts}
+use Rattle.pawn_check.specs.declared.fault.CheckFault.{CheckFault}
+use Rattle.pawn_check.specs.declared.fault.CheckFault.TheVariants.{Damaged, Memory, Store}
+
+-- what an error of a keeper is to a check: a row that is no record is damage
+abbrev pub fault_of : KeepError → CheckFault
+fault_of Keeper.Memory = Memory
+fault_of (Keeper.Store NoRecord) = Damaged
+fault_of (Keeper.Store Database) = Store
+
+-- a check that calls a store damaged says that a book of it is not sound; one that was broken off says nothing
+abbrev pub Blames : Host → CheckFault → Type 0
+Blames h Damaged = HasUnsoundBook h
+Blames h Memory = Unit {0}
+Blames h Store = Unit {0}
+
+-- P of what was found, or that a book is not sound
+abbrev pub Finds : {T : Type 0} → Host → Result T CheckFault → (T → Type 0) → Type 0
+Finds h (Ok found) P = P found
+Finds h (Err fault) P = Blames h fault
+
+-- how many books a host has, how many pledges they have, and its rows
+pub record AreCounted (h : Host) (counts : Counts) : Type 0 where
+  pub books : counts.books ≡ length (entries h.books)
+  pub pledges : counts.pledges ≡ sum_by (λ (e : ℕ × BookValue). length e.1.pledges) (entries h.books)
+  pub rows : counts.rows ≡ rows h
+
+-- each book is sound, and all are counted; or one is not sound
+abbrev pub Judges : Host → Result Counts CheckFault → Type 0
+Judges h result = Finds h result (λ counts. AreSound h × AreCounted h counts)
+
+-- over a steady keeper the store does not fail
+abbrev pub IsQuiet : {K T : Type 0} → Keeping K → K → Result T CheckFault → Type 0
+IsQuiet k old result = k.steady old → IsErrOf result Store → ⊥
+
+-- the pledges and the rows of a book
+pub record AreOfBook (book : BookValue) (counts : BookCounts) : Type 0 where
+  pub pledges : counts.pledges ≡ length book.pledges
+  pub rows : counts.rows ≡ book_rows book
+
+-- a book that stands is sound, and this is what it has; or some book of the host is not sound
+abbrev pub JudgesBook : Host → ℕ → Result BookCounts CheckFault → Type 0
+JudgesBook h b result = (book : BookValue) → get h.books b ≡ Some book → Finds h result (λ counts. IsSoundAt b book × AreOfBook book counts)
+
+-- a pledge that stands under a number as those of sound books do
+pub record FitsAt (book : BookValue) (n : ℕ) (p : PledgeValue) : Type 0 where
+  pub number : p.agreement.number ≡ n
+  pub standing : IsStanding p
+  pub under : IsUnder book.terms p
+  pub reference : number_of (Some book) p.agreement.opening.reference ≡ Some n
+  pub written : HasTextsAndWords p
+
+-- the first pledges of a book are those of a sound one, the last of them under this version of terms, and they have so many rows
+pub record IsFront (book : BookValue) (pledges : List PledgeValue) (version rows : ℕ) : Type 0 where
+  pub numbered : AreNumberedFrom 1 pledges
+  pub standing : Each IsStanding pledges
+  pub references : AreDistinct (references_of pledges)
+  pub under : Each (IsUnder book.terms) pledges
+  pub versions : DoNotFall version_of 0 pledges
+  pub written : Each HasTextsAndWords pledges
+  pub last : version ≡ last_by version_of 0 pledges
+  pub counted : rows ≡ sum_by pledge_rows pledges

@@ -1,0 +1,154 @@
+//! The books of a store, judged one after the other.
+ghost use Rattle.std.specs.Prelude.{◌≡◌, ◌≤◌, ℕ, IfOk, IfSome, Some, length, unwrap_or};
+ghost use Rattle.std.specs.Str.{IsUtf8};
+ghost use Rattle.std.specs.FinMap.{get};
+ghost use Rattle.pawn_terms.specs.Terms.{IsChecked};
+ghost use Rattle.pawn_pledge.specs.Replayable.{Each};
+ghost use Rattle.pawn_pledge.specs.Text.{IsText};
+ghost use Rattle.pawn_book.specs.BookStep.{BookValue, book_head};
+ghost use Rattle.pawn_book.specs.HostStep.{rows};
+ghost use Rattle.pawn_book.specs.Keeping.{IsNextBook, Reads, terms_of};
+ghost use Rattle.pawn_book.specs.Rows.{terms_at};
+ghost use Rattle.pawn_book.specs.Limits.{IsCapacity, most_name_bytes, most_pledges, most_terms};
+ghost use Rattle.pawn_book.specs.Sound.{IsWord};
+ghost use Rattle.pawn_check.specs.Judging.{AreOfBook, Finds, IsQuiet, Judges, JudgesBook};
+
+use crate::counts::{BookCounts, Counts};
+use crate::fault::{CheckFault, fault_of};
+use crate::pledges::pledges_rows;
+use pawn_book::{BookHead, Keep, MOST_PLEDGES, MOST_TERMS, Number, Terms};
+
+// Whoever reads the keys, the name and the capacity of a book knows what they are.
+fn know_head(head: &BookHead)
+    ensures key { IsWord head.now.key }
+    ensures imported { IfSome head.now.imported (λ i. IsWord i.key) }
+    ensures utf8 { IsUtf8 head.now.name }
+    ensures name { IsText most_name_bytes head.now.name }
+    ensures capacity { IsCapacity head.now.capacity }
+{
+    let _ = head.key.word();
+    let _ = head.name.as_str();
+    let _ = head.capacity.get();
+    if let Some(imported) = head.imported {
+        let _ = imported.key.word();
+    }
+}
+
+// The terms of a version.
+fn terms_under<K: Keep>(
+    keep: &mut K,
+    book: Number,
+    version: u64,
+) -> Result<Option<Terms>, CheckFault>
+    ensures reads { Reads K.keeping keep.old keep.new (λ h. Finds h result (λ terms. terms ≡ terms_at (terms_of (get h.books book)) version)) }
+    ensures quiet { IsQuiet K.keeping keep.old result }
+{
+    match keep.terms(book, version) {
+        Ok(terms) => Ok(terms),
+        Err(error) => Err(fault_of(error)),
+    }
+}
+
+// Finds that the terms of a book stand, each within the limits.
+fn find_terms<K: Keep>(keep: &mut K, book: Number, count: u64) -> Result<(), CheckFault>
+    ensures reads { Reads K.keeping keep.old keep.new (λ h. (k : BookValue) → get h.books book ≡ Some k → count ≡ length k.terms → Finds h result (λ _. Each IsChecked k.terms)) }
+    ensures quiet { IsQuiet K.keeping keep.old result }
+{
+    for version in 0..count {
+        let Some(terms) = terms_under(keep, book, version + 1)? else {
+            return Err(CheckFault::Damaged);
+        };
+        let _ = terms.rates();
+    }
+    Ok(())
+}
+
+// The head of a book that stands.
+fn head_of<K: Keep>(keep: &mut K, book: Number) -> Result<BookHead, CheckFault>
+    ensures reads { Reads K.keeping keep.old keep.new (λ h. (k : BookValue) → get h.books book ≡ Some k → Finds h result (λ head. head ≡ book_head k)) }
+    ensures quiet { IsQuiet K.keeping keep.old result }
+{
+    match keep.book_head(book) {
+        Ok(Some(head)) => Ok(head),
+        Ok(None) => Err(CheckFault::Damaged),
+        Err(error) => Err(fault_of(error)),
+    }
+}
+
+// What a book has, if it is sound.
+fn book_counts<K: Keep>(keep: &mut K, book: Number) -> Result<BookCounts, CheckFault>
+    ensures reads { Reads K.keeping keep.old keep.new (λ h. JudgesBook h book result) }
+    ensures few { IfOk result (λ counts. counts.pledges ≤ most_pledges) }
+    ensures quiet { IsQuiet K.keeping keep.old result }
+{
+    let head = head_of(keep, book)?;
+    know_head(&head);
+    let _ = book.get();
+    if head.terms > MOST_TERMS || head.pledges > MOST_PLEDGES {
+        return Err(CheckFault::Damaged);
+    }
+    find_terms(keep, book, head.terms)?;
+    let rows = pledges_rows(keep, book, head.pledges)?;
+    Ok(BookCounts {
+        pledges: head.pledges,
+        rows: 1 + head.terms + rows,
+    })
+}
+
+// The next book above a number.
+fn book_after<K: Keep>(keep: &mut K, after: Option<Number>) -> Result<Option<Number>, CheckFault>
+    ensures reads { Reads K.keeping keep.old keep.new (λ h. Finds h result (λ next. IsNextBook h (unwrap_or after 0) next)) }
+    ensures quiet { IsQuiet K.keeping keep.old result }
+{
+    match keep.next_book(after) {
+        Ok(next) => Ok(next),
+        Err(error) => Err(fault_of(error)),
+    }
+}
+
+// The rows of all books.
+fn rows_of<K: Keep>(keep: &mut K) -> Result<u64, CheckFault>
+    ensures reads { Reads K.keeping keep.old keep.new (λ h. Finds h result (λ count. count ≡ rows h)) }
+    ensures quiet { IsQuiet K.keeping keep.old result }
+{
+    match keep.rows() {
+        Ok(count) => Ok(count),
+        Err(error) => Err(fault_of(error)),
+    }
+}
+
+/// Judges each book of a store, and counts its books, their pledges and its rows. The keeper's content
+/// stays as it is.
+///
+/// Errors: `Damaged` only where a book is not sound, `Memory` where it is wanting, `Store` where the
+/// store fails. It reads a pledge at a time, and asks for its terms and for its reference again.
+pub fn check<K: Keep>(keep: &mut K) -> Result<Counts, CheckFault>
+    ensures judges { Reads K.keeping keep.old keep.new (λ h. Judges h result) }
+    ensures quiet { IsQuiet K.keeping keep.old result }
+{
+    let rows = rows_of(keep)?;
+    let mut left = rows;
+    let mut above = 0;
+    let mut after = None;
+    let mut books = 0;
+    let mut pledges = 0;
+    while let Some(book) = book_after(keep, after)? {
+        let has = book_counts(keep, book)?;
+        if book.get() <= above || has.rows > left {
+            return Err(CheckFault::Damaged);
+        }
+        left -= has.rows;
+        above = book.get();
+        after = Some(book);
+        books += 1;
+        pledges += has.pledges;
+    }
+    if left > 0 {
+        return Err(CheckFault::Damaged);
+    }
+    Ok(Counts {
+        books,
+        pledges,
+        rows,
+    })
+}

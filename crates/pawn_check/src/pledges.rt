@@ -1,0 +1,149 @@
+//! The pledges of a book, judged one after the other.
+ghost use Rattle.std.specs.Prelude.{◌≡◌, ◌≤◌, ◌+◌, ◌*◌, ◌↔◌, ℕ, Some, IsTrue, IfOk, length, take};
+ghost use Rattle.std.specs.FinMap.{get};
+ghost use Rattle.pawn_terms.specs.Order.{last_by};
+ghost use Rattle.pawn_pledge.specs.Pledge.{PledgeValue};
+ghost use Rattle.pawn_pledge.specs.Replayable.{IsStanding};
+ghost use Rattle.pawn_book.specs.BookStep.{BookValue, pledge_from};
+ghost use Rattle.pawn_book.specs.HostStep.{pledge_rows};
+ghost use Rattle.pawn_book.specs.Keeping.{Reads, number_of};
+ghost use Rattle.pawn_book.specs.Limits.{most_pledges};
+ghost use Rattle.pawn_book.specs.Rows.{IsUnder, version_of};
+ghost use Rattle.pawn_book.specs.Sound.{HasTextsAndWords};
+ghost use Rattle.pawn_check.specs.Judging.{Finds, FitsAt, IsFront, IsQuiet};
+
+use crate::fault::{CheckFault, fault_of};
+use pawn_book::{Keep, Number, Reference};
+use pawn_pledge::Parts;
+
+// A pledge under the version of its terms, and how many rows it has.
+#[derive(Clone, Copy)]
+pub struct Step {
+    pub version: u64,
+    pub rows: u64,
+}
+
+// Whoever reads the texts, the secrets and the day of a pledge knows what they are.
+fn know_parts(parts: &Parts)
+    ensures written { HasTextsAndWords parts.now }
+{
+    let _ = parts.agreement.opening.reference.as_str();
+    let _ = parts.agreement.opening.article.as_str();
+    let _ = parts.agreement.taken.count();
+    for issued in parts.secrets.as_slice() {
+        let _word = issued.secret.word();
+    }
+}
+
+// How many rows a pledge has.
+fn rows_of(parts: &Parts) -> u64
+    requires standing { IsStanding parts.now }
+    ensures value { result ≡ pledge_rows parts.now }
+    ensures few { result ≤ 10102 }
+{
+    let booking = match parts.standing.booking {
+        Some(_) => 1,
+        None => 0,
+    };
+    1 + parts.entries.len() as u64 + parts.secrets.len() as u64 + booking
+}
+
+// The parts of the pledge of a number.
+fn parts_of<K: Keep>(keep: &mut K, book: Number, number: Number) -> Result<Parts, CheckFault>
+    ensures reads { Reads K.keeping keep.old keep.new (λ h. (k : BookValue) → get h.books book ≡ Some k → number ≤ length k.pledges → Finds h result (λ parts. pledge_from 1 k.pledges number ≡ Some parts)) }
+    ensures quiet { IsQuiet K.keeping keep.old result }
+{
+    let _ = number.get();
+    match keep.pledge(book, number) {
+        Ok(Some(pledge)) => match pledge.parts() {
+            Ok(parts) => Ok(parts),
+            Err(_) => Err(CheckFault::Memory),
+        },
+        Ok(None) => Err(CheckFault::Damaged),
+        Err(error) => Err(fault_of(error)),
+    }
+}
+
+// Whether the terms of a pledge stand under its version.
+fn is_under<K: Keep>(keep: &mut K, book: Number, parts: &Parts) -> Result<bool, CheckFault>
+    ensures reads { Reads K.keeping keep.old keep.new (λ h. (k : BookValue) → get h.books book ≡ Some k → Finds h result (λ under. IsTrue under ↔ IsUnder k.terms parts.now)) }
+    ensures quiet { IsQuiet K.keeping keep.old result }
+{
+    match keep.terms(book, parts.agreement.version) {
+        Ok(Some(terms)) => Ok(terms.rates() == parts.agreement.terms),
+        Ok(None) => Ok(false),
+        Err(error) => Err(fault_of(error)),
+    }
+}
+
+// Whether the pledge of a number is the first with a reference.
+fn is_first<K: Keep>(
+    keep: &mut K,
+    book: Number,
+    number: Number,
+    reference: &Reference,
+) -> Result<bool, CheckFault>
+    ensures reads { Reads K.keeping keep.old keep.new (λ h. (k : BookValue) → get h.books book ≡ Some k → Finds h result (λ first. IsTrue first ↔ (number_of (Some k) reference.now ≡ Some number))) }
+    ensures quiet { IsQuiet K.keeping keep.old result }
+{
+    match keep.find_ref(book, reference) {
+        Ok(Some(found)) => Ok(found == number),
+        Ok(None) => Ok(false),
+        Err(error) => Err(fault_of(error)),
+    }
+}
+
+// The next pledge of a book, if it may stand behind one of this version.
+fn next_step<K: Keep>(
+    keep: &mut K,
+    book: Number,
+    number: Number,
+    version: u64,
+) -> Result<Step, CheckFault>
+    ensures reads { Reads K.keeping keep.old keep.new (λ h. (k : BookValue) (place : ℕ) → get h.books book ≡ Some k → number ≡ place + 1 → number ≤ length k.pledges → version ≡ last_by version_of 0 (take place k.pledges)
+        → Finds h result (λ step. (p : PledgeValue) × (pledge_from 1 k.pledges number ≡ Some p) × FitsAt k number p × (version ≤ step.version) × (step.version ≡ version_of p) × (step.rows ≡ pledge_rows p))) }
+    ensures few { IfOk result (λ step. step.rows ≤ 10102) }
+    ensures quiet { IsQuiet K.keeping keep.old result }
+{
+    let parts = parts_of(keep, book, number)?;
+    know_parts(&parts);
+    let next = parts.agreement.version;
+    if parts.agreement.number != number || next < version || !parts.can_stand() {
+        return Err(CheckFault::Damaged);
+    }
+    let rows = rows_of(&parts);
+    let under = is_under(keep, book, &parts)?;
+    let first = is_first(keep, book, number, &parts.agreement.opening.reference)?;
+    if !under || !first {
+        return Err(CheckFault::Damaged);
+    }
+    Ok(Step {
+        version: next,
+        rows,
+    })
+}
+
+/// The rows of the pledges of a book, if all may stand.
+pub(crate) fn pledges_rows<K: Keep>(
+    keep: &mut K,
+    book: Number,
+    count: u64,
+) -> Result<u64, CheckFault>
+    requires few { count ≤ most_pledges }
+    ensures reads { Reads K.keeping keep.old keep.new (λ h. (k : BookValue) → get h.books book ≡ Some k → count ≡ length k.pledges
+        → Finds h result (λ rows. (version : ℕ) × IsFront k k.pledges version rows)) }
+    ensures few { IfOk result (λ rows. rows ≤ count * 10102) }
+    ensures quiet { IsQuiet K.keeping keep.old result }
+{
+    let mut version = 0;
+    let mut rows = 0;
+    for place in 0..count {
+        let Some(number) = Number::new(place + 1) else {
+            return Err(CheckFault::Damaged);
+        };
+        let step = next_step(keep, book, number, version)?;
+        version = step.version;
+        rows += step.rows;
+    }
+    Ok(rows)
+}
