@@ -1,6 +1,6 @@
 -- The terms and the pledges of a book, judged one after the other.
-use Rattle.std.proofs.Common.{◌≡◌, ◌≢◌, ◌∙◌, ℕ, ◌+◌, ◌<◌, ◌≤◌, zero, suc, true, false, List, [], ◌∷◌, ◌++◌, length, take, Some, None, refl, sym, ap, subst, arith, sum}
-use Rattle.std.specs.Prelude.{◌==◌, ◌||◌, if◌then◌else◌, Bool, Option, option_map, slice_get, unwrap_or, sum_by}
+use Rattle.std.proofs.Common.{◌≡◌, ◌∙◌, ℕ, ◌+◌, ◌<◌, ◌≤◌, zero, suc, true, false, List, [], ◌∷◌, ◌++◌, length, take, Some, None, refl, sym, ap, subst, arith}
+use Rattle.std.specs.Prelude.{◌==◌, ◌||◌, if◌then◌else◌, Bool, Option, option_map, slice_get}
 use Rattle.std.specs.FinMap.{get}
 use Rattle.std.specs.List.{list_any}
 use Rattle.std.proofs.lemmas.Bool.Decides.{nat_tests}
@@ -17,7 +17,7 @@ use Rattle.pawn_pledge.specs.Text.{IsText}
 use Rattle.pawn_book.specs.declared.change.BookHead.{BookHead}
 use Rattle.pawn_book.specs.Limits.{IsCapacity, most_name_bytes, most_pledges, most_terms}
 use Rattle.pawn_book.specs.HostStep.{pledge_rows}
-use Rattle.pawn_book.specs.Keeping.{Keeping, Reads, number_of, terms_of}
+use Rattle.pawn_book.specs.Keeping.{Keeping, Reads, terms_of}
 use Rattle.pawn_book.proofs.Reading.{reads_then}
 use Rattle.pawn_book.specs.Rows.{AreDistinct, AreNumberedFrom, IsUnder, references_of, version_of, is_same_text, terms_at}
 use Rattle.pawn_book.specs.Sound.{HasTextsAndWords, HasUnsoundBook, IsSoundBook, IsWord}

@@ -1,6 +1,6 @@
 -- Books that are met one after the other, in order of their numbers from 1 on.
-use Rattle.std.proofs.Common.{◌≡◌, ◌∙◌, ℕ, ◌+◌, ◌*◌, ◌<◌, ◌≤◌, zero, suc, List, [], ◌∷◌, length, map, ◌-◌, Some, None, T, cond, refl, sym, ap, subst, arith, Ordering}
-use Rattle.std.specs.Prelude.{if◌then◌else◌, Bool, true, false, ◌&&◌, Option, nat_lt, nat_le, sum_by, unwrap_or}
+use Rattle.std.proofs.Common.{◌≡◌, ◌∙◌, ℕ, ◌+◌, ◌<◌, ◌≤◌, zero, suc, List, [], ◌∷◌, length, map, ◌-◌, Some, None, T, cond, refl, sym, ap, subst, arith, Ordering}
+use Rattle.std.specs.Prelude.{if◌then◌else◌, Bool, true, false, ◌&&◌, Option, nat_lt, nat_le, sum_by}
 use Rattle.std.specs.declared.cmp.Ordering.TheVariants.{Less, Equal, Greater}
 use Rattle.std.specs.Cmp.{ranked}
 use Rattle.std.specs.Ordering.{nat_cmp, is_eq, is_lt}
@@ -13,7 +13,6 @@ use Rattle.pawn_book.specs.HostStep.{Host, book_rows, rows}
 use Rattle.pawn_book.specs.Keeping.{IsNextBook}
 use Rattle.pawn_book.specs.Sound.{AreSound, HasUnsoundBook, IsSoundAt}
 use Rattle.pawn_book.proofs.SoundLists.{absurd_none, some_is}
-use Rattle.pawn_check.specs.declared.counts.Counts.{Counts}
 use Rattle.pawn_check.specs.declared.counts.BookCounts.{BookCounts}
 use Rattle.pawn_check.specs.Judging.{AreCounted, AreOfBook}
 

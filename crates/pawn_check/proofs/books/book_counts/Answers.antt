@@ -1,6 +1,6 @@
-use Rattle.std.proofs.Common.{rules, ◌≡◌, ◌≤◌, Err, ap, refl, arith}
+use Rattle.std.proofs.Common.{rules, ◌≡◌, Err, ap}
 use Rattle.pawn_book.specs.declared.change.BookHead.{BookHead}
-use Rattle.pawn_book.proofs.Reading.{reads_as, reads_then}
+use Rattle.pawn_book.proofs.Reading.{reads_then}
 use Rattle.pawn_check.proofs.Fronts.{handed_on, has_counts, reads_both, sound_book}
 use Rattle.pawn_check.proofs.books.book_counts.Goals as goal
 

@@ -2,7 +2,6 @@ use Rattle.std.proofs.Common.{◌≡◌, ◌≤◌, ◌*◌, ◌-◌}
 use Rattle.std.specs.Prelude.{unwrap_or}
 use Rattle.pawn_book.specs.Keeping.{Reads}
 use Rattle.pawn_book.specs.HostStep.{rows}
-use Rattle.pawn_check.specs.Judging.{IsQuiet}
 use Rattle.pawn_check.proofs.Meeting.{AreMet}
 use Rattle.pawn_check.proofs.books.check.Given as goal
 

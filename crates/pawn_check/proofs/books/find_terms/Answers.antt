@@ -1,5 +1,4 @@
 use Rattle.std.proofs.Common.{◌≡◌, length, arith}
-use Rattle.std.specs.FinMap.{get}
 use Rattle.std.proofs.lemmas.Bool.Decides.{nat_tests}
 use Rattle.pawn_book.proofs.Reading.{reads_as, reads_then}
 use Rattle.pawn_check.proofs.Fronts.{all_checked, next_checked}

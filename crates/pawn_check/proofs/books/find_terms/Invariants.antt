@@ -1,4 +1,4 @@
-use Rattle.std.proofs.Common.{◌≡◌, ℕ, length, take, Some}
+use Rattle.std.proofs.Common.{◌≡◌, take, Some}
 use Rattle.std.specs.FinMap.{get}
 use Rattle.pawn_terms.specs.declared.terms.Rates.{Rates}
 use Rattle.pawn_terms.specs.Terms.{IsChecked}
