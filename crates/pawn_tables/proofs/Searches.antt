@@ -94,13 +94,13 @@ module _ (h : Host) (b : ℕ) (s : List ℕ) where
 abbrev pub at_slot : ℕ → ℕ → ℕ → Row → Bool
 at_slot b day window v = list_all (λ (x : Bool). x) (is_at (column v 0) (number b) ∷ is_at (column v 2) (number day) ∷ is_at (column v 3) (number window) ∷ is_at (column v 4) (number 1) ∷ [])
 
-confirmed_state : (s : BookingState) → (state_number s == 1) ≡ is_confirmed s
+pub confirmed_state : (s : BookingState) → (state_number s == 1) ≡ is_confirmed s
 confirmed_state Asked = refl
 confirmed_state Confirmed = refl
 confirmed_state Refused = refl
 confirmed_state Cancelled = refl
 
-together : (a b c : Bool) → (a && (b && c)) ≡ ((a && b) && c)
+pub together : (a b c : Bool) → (a && (b && c)) ≡ ((a && b) && c)
 together true b c = refl
 together false b c = refl
 

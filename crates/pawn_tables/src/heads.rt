@@ -63,8 +63,8 @@ pub(crate) fn first_head(alloc: Global, rows: &[Row]) -> Result<Option<BookHead>
     Ok(Some(head_of(alloc, row)?))
 }
 
-// The number of a book or a pledge.
-fn number_of(number: u64) -> Result<Number, KeepError>
+/// The number of a book or a pledge.
+pub(crate) fn number_of(number: u64) -> Result<Number, KeepError>
     ensures read { IsRead result number (IsNumber number) }
 {
     match Number::new(number) {
