@@ -1,5 +1,5 @@
 -- The lines of numbered pledges, one after another.
-use Rattle.std.proofs.Common.{◌≡◌, ◌++◌, ℕ, ◌+◌, ◌≤◌, ◌<◌, List, [], ◌∷◌, map, filter, filter_map, length, nat_lt, slice_get, Bool, true, false, cond, Option, Some, None, refl, sym, ap, subst, ◌∙◌, arith, option_map}
+use Rattle.std.proofs.Common.{◌≡◌, ◌++◌, ℕ, ◌+◌, ◌≤◌, ◌<◌, zero, suc, drop, List, [], ◌∷◌, map, filter, filter_map, length, nat_lt, slice_get, Bool, true, false, cond, Option, Some, None, refl, sym, ap, subst, ◌∙◌, arith, option_map}
 use Rattle.std.specs.Prelude.{IfSome}
 use Rattle.std.specs.List.{cons_option}
 use Rattle.std.specs.FinMap.{get}
@@ -16,11 +16,15 @@ use Rattle.pawn_book.specs.Rows.{AreNumberedFrom}
 use Rattle.pawn_book.specs.Sound.{HasUnsoundBook}
 use Rattle.pawn_tables.specs.Rows.{number_of}
 use Rattle.pawn_tables.specs.StandsFor.{AreOrdered}
-use Rattle.pawn_tables.specs.Lines.{above, items_above, IsNextLine}
+use Rattle.pawn_tables.specs.Lines.{items_past, IsNextLine}
 use Rattle.pawn_tables.specs.declared.line.Line.{Line}
 use Rattle.pawn_tables.proofs.SoundBooks.{unsound_book}
 
--- what is told of the pledges above a number
+-- the pledges above a number
+abbrev pub above : ℕ → List PledgeValue → List PledgeValue
+above n ps = filter (λ (p : PledgeValue). nat_lt n (number_of p)) ps
+
+-- what is told of them
 abbrev pub told_above : {A : Type 0} → (PledgeValue → Option A) → ℕ → List PledgeValue → List A
 told_above tell n ps = filter_map tell (above n ps)
 
@@ -39,6 +43,18 @@ all_above n m (p ∷ ps) lt numbered =
     let at = numbered.0 in
     let over : nat_lt n (number_of p) ≡ true = grind (arith, nat_tests, lt, at) in
     ap (λ c. cond c (p ∷ above n ps) (above n ps)) over ∙ ap (λ l. p ∷ l) (all_above n (m + 1) ps (omega (arith, lt)) numbered.1)
+
+-- they are those past so many
+past : (n k m : ℕ) (ps : List PledgeValue) → AreNumberedFrom k ps → m + 1 ≡ k + n → drop n ps ≡ above m ps
+past zero k m ps numbered is = sym (all_above m k ps (omega (arith, is)) numbered)
+past (suc n) k m [] numbered is = refl
+past (suc n) k m (p ∷ ps) numbered is =
+    let at = numbered.0 in
+    let under' : nat_lt m (number_of p) ≡ false = grind (arith, nat_tests, is, at) in
+    past n (k + 1) m ps numbered.1 (omega (arith, is)) ∙ sym (ap (λ c. cond c (p ∷ above m ps) (above m ps)) under')
+
+past_first : (n : ℕ) (ps : List PledgeValue) → AreNumberedFrom 1 ps → drop n ps ≡ above n ps
+past_first n ps numbered = past n 1 n ps numbered (omega arith)
 
 module _ {A : Type 0} (part : Part) (day : ℕ) (tell : PledgeValue → Option A) (line : A → Line)
     (says : (p : PledgeValue) → part_item part day p ≡ option_map (λ a. (line a).item) (tell p)) (numbers : (p : PledgeValue) (a : A) → tell p ≡ Some a → (line a).number ≡ number_of p) where
@@ -103,11 +119,12 @@ module _ {A : Type 0} (part : Part) (day : ℕ) (tell : PledgeValue → Option A
   pub is_next_line : (n : ℕ) (ps : List PledgeValue) → AreNumberedFrom 1 ps → IsNextLine part day n ps (option_map line (slice_get (told_above tell n ps) 0))
   is_next_line n ps numbered = go (told_above tell n ps) refl
     where
+      past_is : (m : ℕ) → items_past part day m ps ≡ map item (told_above tell m ps)
+      past_is m = ap (part_items part day) (past_first m ps numbered) ∙ items_are (above m ps)
+
       go : (xs : List A) → told_above tell n ps ≡ xs → IsNextLine part day n ps (option_map line (slice_get xs 0))
-      go [] is = items_are (above n ps) ∙ ap (map item) is
-      go (a ∷ as') is =
-          items_are (above n ps) ∙ ap (map item) is
-          ∙ ap (λ l. item a ∷ l) (sym (items_are (above (line a).number ps) ∙ ap (map item) (rest_is n 1 ps numbered a as' is)))
+      go [] is = past_is n ∙ ap (map item) is
+      go (a ∷ as') is = past_is n ∙ ap (map item) is ∙ ap (λ l. item a ∷ l) (sym (past_is (line a).number ∙ ap (map item) (rest_is n 1 ps numbered a as' is)))
 
   -- the number of a pledge of a sound book is such
   first_number : (n k : ℕ) (ps : List PledgeValue) → AreNumberedFrom k ps → 1 ≤ k → k + length ps ≤ 1000001 → IfSome (slice_get (told_above tell n ps) 0) (λ a. IsNumber (line a).number)

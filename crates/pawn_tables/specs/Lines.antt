@@ -1,26 +1,22 @@
 -- The lines of a day's sheet, one after another.
-use Rattle.std.specs.Prelude.{ℕ, ◌≡◌, nat_lt, List, [], ◌∷◌, filter, Option, Some, None}
+use Rattle.std.specs.Prelude.{ℕ, ◌≡◌, List, [], ◌∷◌, drop, Option, Some, None}
 use Rattle.sqlite.specs.Order.{Row}
 use Rattle.pawn_pledge.specs.Pledge.{PledgeValue}
 use Rattle.pawn_book.specs.declared.sheet.Part.{Part}
 use Rattle.pawn_book.specs.declared.sheet.SheetItem.{SheetItem}
 use Rattle.pawn_book.specs.declared.sheet.SheetItem.TheVariants.{Confirmed, Asked, Ends}
 use Rattle.pawn_book.specs.Sheet.{part_items}
-use Rattle.pawn_tables.specs.Rows.{number, number_of}
+use Rattle.pawn_tables.specs.Rows.{number}
 use Rattle.pawn_tables.specs.declared.line.Line.{Line}
 
--- the pledges above a number
-abbrev pub above : ℕ → List PledgeValue → List PledgeValue
-above n pledges = filter (λ p. nat_lt n (number_of p)) pledges
+-- what a part says of the pledges past the first so many: they are numbered 1, 2, .., so those above a number
+abbrev pub items_past : Part → ℕ → ℕ → List PledgeValue → List SheetItem
+items_past part day n pledges = part_items part day (drop n pledges)
 
--- what a part says of them
-abbrev pub items_above : Part → ℕ → ℕ → List PledgeValue → List SheetItem
-items_above part day n pledges = part_items part day (above n pledges)
-
--- the first of these items, with the pledge that it tells of: the others are of pledges above that one; none, where there is no item
+-- the first of these items, with the pledge that it tells of: the others are of pledges past that one; none, where there is no item
 abbrev pub IsNextLine : Part → ℕ → ℕ → List PledgeValue → Option Line → Type 0
-IsNextLine part day n pledges None = items_above part day n pledges ≡ []
-IsNextLine part day n pledges (Some line) = items_above part day n pledges ≡ line.item ∷ items_above part day line.number pledges
+IsNextLine part day n pledges None = items_past part day n pledges ≡ []
+IsNextLine part day n pledges (Some line) = items_past part day n pledges ≡ line.item ∷ items_past part day line.number pledges
 
 -- the line of a booking that is confirmed, by the number of its pledge
 abbrev pub confirmed_line : ℕ → Line
