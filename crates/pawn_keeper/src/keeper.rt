@@ -8,13 +8,16 @@ ghost use Rattle.pawn_book.specs.BookStep.{book_head, pledge_in};
 ghost use Rattle.pawn_book.specs.HostStep.{rows};
 ghost use Rattle.pawn_book.specs.Keeping.{Errs, IsNextBook, Reads, entries_of, extensions_of, number_of, pledges_of, secrets_of, terms_of};
 ghost use Rattle.pawn_book.specs.Rows.{terms_at};
+ghost use Rattle.pawn_book.specs.Sheet.{day_sheet};
 ghost use Rattle.pawn_book.specs.Visits.{IsShare, Visits, call_end};
 ghost use Rattle.pawn_tables.specs.Keeps.{keeping_by};
 ghost use Rattle.pawn_tables.specs.Places.{at_place};
 
+mod sheets;
+
 use pawn_book::{
     BookHead, Brief, Day, Entry, Extension, Flow, Issued, KeepError, Number, Pledge, Reference,
-    StoreFault, Terms, Visitor,
+    SheetItem, StoreFault, Terms, Visitor,
 };
 use pawn_tables::{
     confirmed_in, entry_in, extension_in, head_in, next_in, pledge_of, ref_in, rows_in, secret_in,
@@ -297,6 +300,21 @@ impl<S: Alter> TableKeep<S> {
             }
         }
         Err(BEYOND)
+    }
+
+    /// Hands the visitor the items of a day's sheet in order, until it wants no more.
+    pub fn sheet_each<V: Visitor<SheetItem>>(
+        &mut self,
+        book: Number,
+        day: Day,
+        visitor: &mut V,
+    ) -> Result<(), KeepError>
+        ensures reads { Visits V.step visitor.old visitor.new (λ given flow.
+            Reads (keeping_by (λ k. state S.Store k.conn)) self.old self.new (λ h. IsShare given flow (call_end result) (day_sheet (pledges_of (get h.books book)) day))) }
+        ensures errs { Errs (keeping_by (λ k. state S.Store k.conn)) self.old self.new result }
+    {
+        self.hand_sheet(book, day, visitor)?;
+        Ok(())
     }
 }
 
