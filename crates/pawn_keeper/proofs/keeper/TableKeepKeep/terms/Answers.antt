@@ -7,7 +7,7 @@ use Rattle.pawn_book.specs.Keeping.{terms_of}
 use Rattle.sqlite.specs.Held.{state}
 use Rattle.pawn_book.specs.HostStep.{Host}
 use Rattle.pawn_keeper.proofs.KeeperReads.{IsRead, errs_by}
-use Rattle.pawn_keeper.proofs.keeper.TableKeep.terms.Goals as goal
+use Rattle.pawn_keeper.proofs.keeper.TableKeepKeep.terms.Goals as goal
 
 pub returns-clause-errs : goal.returns-clause-errs
 returns-clause-errs g c =

@@ -7,7 +7,7 @@ use Rattle.pawn_book.specs.Visits.{call_end}
 use Rattle.pawn_book.proofs.Reading.{reads_as}
 use Rattle.pawn_tables.specs.Keeps.{keeping_by}
 use Rattle.pawn_keeper.proofs.Walks.{Goes, at_next, ended, failed, more, reads_none, stopped}
-use Rattle.pawn_keeper.proofs.keeper.TableKeep.entries.Goals as goal
+use Rattle.pawn_keeper.proofs.keeper.TableKeepKeep.entries.Goals as goal
 
 pub returns-in_err-entry-clause-reads : goal.returns-in_err-entry-clause-reads
 returns-in_err-entry-clause-reads g c =

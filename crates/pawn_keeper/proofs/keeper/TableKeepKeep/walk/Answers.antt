@@ -6,7 +6,7 @@ use Rattle.pawn_book.specs.Visits.{call_end}
 use Rattle.pawn_book.proofs.Reading.{reads_as}
 use Rattle.pawn_tables.specs.Keeps.{keeping_by}
 use Rattle.pawn_keeper.proofs.Walks.{Goes, ended, failed, more, pledge_at, reads_none, stopped}
-use Rattle.pawn_keeper.proofs.keeper.TableKeep.walk.Goals as goal
+use Rattle.pawn_keeper.proofs.keeper.TableKeepKeep.walk.Goals as goal
 
 pub returns-in_err-pledge-clause-reads : goal.returns-in_err-pledge-clause-reads
 returns-in_err-pledge-clause-reads g c =

@@ -3,7 +3,7 @@ use Rattle.std.specs.Prelude.{ℕ, is_ok}
 use Rattle.sqlite.specs.Held.{state}
 use Rattle.pawn_book.specs.HostStep.{Host, rows}
 use Rattle.pawn_keeper.proofs.KeeperReads.{IsRead, errs_by}
-use Rattle.pawn_keeper.proofs.keeper.TableKeep.rows.Goals as goal
+use Rattle.pawn_keeper.proofs.keeper.TableKeepKeep.rows.Goals as goal
 
 pub returns-clause-errs : goal.returns-clause-errs
 returns-clause-errs g c =

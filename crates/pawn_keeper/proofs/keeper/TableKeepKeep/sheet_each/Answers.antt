@@ -6,7 +6,7 @@ use Rattle.pawn_book.specs.Sheet.{day_sheet}
 use Rattle.pawn_book.specs.Visits.{call_end}
 use Rattle.pawn_tables.specs.Keeps.{keeping_by}
 use Rattle.pawn_keeper.proofs.Handings.{visits_of}
-use Rattle.pawn_keeper.proofs.keeper.TableKeep.sheet_each.Goals as goal
+use Rattle.pawn_keeper.proofs.keeper.TableKeepKeep.sheet_each.Goals as goal
 
 pub returns-in_err-hand_sheet-clause-reads : goal.returns-in_err-hand_sheet-clause-reads
 returns-in_err-hand_sheet-clause-reads g c =

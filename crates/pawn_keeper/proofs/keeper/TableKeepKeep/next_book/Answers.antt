@@ -4,7 +4,7 @@ use Rattle.pawn_book.specs.Keeping.{IsNextBook}
 use Rattle.sqlite.specs.Held.{state}
 use Rattle.pawn_book.specs.HostStep.{Host}
 use Rattle.pawn_keeper.proofs.KeeperReads.{IsRead, errs_by}
-use Rattle.pawn_keeper.proofs.keeper.TableKeep.next_book.Goals as goal
+use Rattle.pawn_keeper.proofs.keeper.TableKeepKeep.next_book.Goals as goal
 
 pub returns-clause-errs : goal.returns-clause-errs
 returns-clause-errs g c =
