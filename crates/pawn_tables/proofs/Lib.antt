@@ -1,4 +1,5 @@
 pub mod BookReads
+pub mod Counts
 pub mod Joins
 pub mod Lent
 pub mod LineReads

@@ -3,7 +3,6 @@ use Rattle.std.proofs.Common.{◌≡◌, ◌==◌, ℕ, ◌+◌, List, [], ◌�
 use Rattle.std.specs.List.{list_all, cons_option}
 use Rattle.std.specs.FinMap.{get}
 use Rattle.std.proofs.lemmas.List.Recursion.{is_count_by}
-use Rattle.std.proofs.lemmas.List.Sorted.{length_permutation}
 use Rattle.std.proofs.lemmas.List.{length-map}
 use Rattle.sqlite.specs.Order.{Row, column}
 use Rattle.sqlite.specs.Table.{Table}
@@ -29,13 +28,14 @@ use Rattle.pawn_tables.specs.Lines.{IsNextLine, asked_cells, asked_line, confirm
 use Rattle.pawn_tables.specs.At.{is_at, is_above}
 use Rattle.pawn_tables.specs.StandsFor.{StandsFor, of_pledges}
 use Rattle.pawn_tables.specs.declared.line.Line.{Line}
-use Rattle.one_table.proofs.Found.{shown_listed, shown_first}
+use Rattle.one_table.proofs.Found.{shown_first}
 use Rattle.pawn_tables.proofs.ReadTexts as text
 use Rattle.pawn_tables.proofs.BookReads as books
 use Rattle.pawn_tables.proofs.BookReads.{one_test}
 use Rattle.pawn_tables.proofs.Sought.{equals}
 use Rattle.pawn_tables.proofs.Searches.{confirmed_state, together}
 use Rattle.pawn_tables.proofs.OneEach.{first_told, rise_each, shown_each, tell_of}
+use Rattle.pawn_tables.proofs.Counts.{count_of, shown_count}
 use Rattle.pawn_tables.proofs.NextLines.{items_are, told_above}
 
 -- ---- what is told of a pledge
@@ -133,15 +133,15 @@ at_asked b day v = list_all (λ (x : Bool). x) (is_at (column v 0) (number b) �
 asked_passes : (b day m n : ℕ) (k : Booking) → at_asked b day (under m n (booking_cells k)) ≡ ((m == b) && (true && is_asked_at day k))
 asked_passes b day m n k = λ i. equals m b i && (equals k.day day i && (one_test (is_at (number (state_number k.state)) (number 0)) ∙ equals (state_number k.state) 0 ∙ asked_state k.state) i)
 
-pub asked_shown : (b day : ℕ) (old new : State) (h : Host) (rows : List Row) → StandsFor old.now h → Shown text.asked_text (number b ∷ number day ∷ []) old new rows → length rows ≡ length (part_items part_of.Asked day (pledges_of (get h.books b)))
+pub asked_shown : (b day : ℕ) (old new : State) (h : Host) (rows : List Row) → StandsFor old.now h → Shown text.asked_text (number b ∷ number day ∷ []) old new rows → rows ≡ count_of (length (part_items part_of.Asked day (pledges_of (get h.books b)))) ∷ []
 asked_shown b day old new h rows st shown =
     let t : Table = record bookings { tree = 11 } in
     let ps = pledges_of (get h.books b) in
-    let same = shown_listed keep_schema 11 (λ _. refl) t text.asked_tests text.confirmed_shows (number b ∷ number day ∷ []) (at_asked b day) (λ v. column v 1 ∷ []) (λ _. refl) (λ _. refl) text.asked_text _ [] text.asked_is old new (of_pledges h booking_listed) rows st.schema st.bookings shown in
-    length_permutation _ rows same
-    ∙ ap length (shown_each b booking_in booking_cells (at_asked b day) (λ n. true) (is_asked_at day) (λ n (k : Booking). (n, k.window)) (λ v. column v 1 ∷ []) (λ (a : ℕ × ℕ). number_cells a.0) (asked_passes b day) (λ m n k. refl) h)
+    let cells : Row → Row = λ v. column v 1 ∷ [] in
+    shown_count keep_schema 11 (λ _. refl) t text.asked_tests (number b ∷ number day ∷ []) (at_asked b day) (λ _. refl) text.asked_text _ text.asked_is old new (of_pledges h booking_listed) rows st.schema st.bookings shown
+    ∙ ap (λ n. count_of n ∷ []) (sym (length-map _ cells) ∙ ap length (shown_each b booking_in booking_cells (at_asked b day) (λ n. true) (is_asked_at day) (λ n (k : Booking). (n, k.window)) (λ v. column v 1 ∷ []) (λ (a : ℕ × ℕ). number_cells a.0) (asked_passes b day) (λ m n k. refl) h)
     ∙ length-map _ _ ∙ ap (λ qs. length (filter_map (asked_told day) qs)) (all_kept ps)
-    ∙ sym (ap length (items_are part_of.Asked day (asked_told day) asked_line (asked_says day) (asked_numbers day) ps) ∙ length-map _ _)
+    ∙ sym (ap length (items_are part_of.Asked day (asked_told day) asked_line (asked_says day) (asked_numbers day) ps) ∙ length-map _ _))
 
 abbrev at_end : ℕ → ℕ → Row → Bool
 at_end b day v = list_all (λ (x : Bool). x) (is_at (column v 0) (number b) ∷ is_at (column v 13) (number 0) ∷ is_at (column v 10) (number day) ∷ [])
@@ -149,15 +149,15 @@ at_end b day v = list_all (λ (x : Bool). x) (is_at (column v 0) (number b) ∷ 
 ends_passes : (b day m n : ℕ) (p : PledgeValue) → at_end b day (under m n (pledge_cells p)) ≡ ((m == b) && (true && is_ending day p))
 ends_passes b day m n p = λ i. equals m b i && ((equals (closed_number p.standing.closing) 0 ∙ open_closing p.standing.closing) i && (one_test (is_at (number (end_of p)) (number day)) ∙ equals (end_of p) day) i)
 
-pub ends_shown : (b day : ℕ) (old new : State) (h : Host) (rows : List Row) → StandsFor old.now h → Shown text.ends_text (number b ∷ number day ∷ []) old new rows → length rows ≡ length (part_items part_of.Ends day (pledges_of (get h.books b)))
+pub ends_shown : (b day : ℕ) (old new : State) (h : Host) (rows : List Row) → StandsFor old.now h → Shown text.ends_text (number b ∷ number day ∷ []) old new rows → rows ≡ count_of (length (part_items part_of.Ends day (pledges_of (get h.books b)))) ∷ []
 ends_shown b day old new h rows st shown =
     let t : Table = record pledges { tree = 3 } in
     let ps = pledges_of (get h.books b) in
-    let same = shown_listed keep_schema 3 (λ _. refl) t text.ends_tests text.ref_shows (number b ∷ number day ∷ []) (at_end b day) (λ v. column v 1 ∷ []) (λ _. refl) (λ _. refl) text.ends_text _ [] text.ends_is old new (of_pledges h pledge_listed) rows st.schema st.pledges shown in
-    length_permutation _ rows same
-    ∙ ap length (shown_each b (λ (p : PledgeValue). Some p) pledge_cells (at_end b day) (λ n. true) (is_ending day) (λ n (x : PledgeValue). n) (λ v. column v 1 ∷ []) number_cells (ends_passes b day) (λ m n k. refl) h)
+    let cells : Row → Row = λ v. column v 1 ∷ [] in
+    shown_count keep_schema 3 (λ _. refl) t text.ends_tests (number b ∷ number day ∷ []) (at_end b day) (λ _. refl) text.ends_text _ text.ends_is old new (of_pledges h pledge_listed) rows st.schema st.pledges shown
+    ∙ ap (λ n. count_of n ∷ []) (sym (length-map _ cells) ∙ ap length (shown_each b (λ (p : PledgeValue). Some p) pledge_cells (at_end b day) (λ n. true) (is_ending day) (λ n (x : PledgeValue). n) (λ v. column v 1 ∷ []) number_cells (ends_passes b day) (λ m n k. refl) h)
     ∙ length-map _ _ ∙ ap (λ qs. length (filter_map (ends_told day) qs)) (all_kept ps)
-    ∙ sym (ap length (items_are part_of.Ends day (ends_told day) ends_line (ends_says day) (ends_numbers day) ps) ∙ length-map _ _)
+    ∙ sym (ap length (items_are part_of.Ends day (ends_told day) ends_line (ends_says day) (ends_numbers day) ps) ∙ length-map _ _))
 
 -- ---- the next
 

@@ -10,6 +10,7 @@ use Rattle.sqlite.specs.declared.types.Value.TheVariants.{Int, Text}
 use Rattle.one_table.proofs.Texts.{Asks, by_column, is_param}
 use Rattle.pawn_tables.specs.Schema.{keep_schema}
 use Rattle.one_table.proofs.OneTable.{over_table, first_of_table}
+use Rattle.pawn_tables.proofs.Counts.{how_many}
 
 -- a row of a book
 abbrev pub of_book : List Term
@@ -199,22 +200,22 @@ abbrev is_over : ℕ → ℕ → Term
 is_over place param = op2 (Compare Gt Binary) (col 1 place) (col 0 param)
 
 abbrev pub asked_text : List ℕ
-asked_text = codes "SELECT number FROM bookings WHERE book = ?1 AND day = ?2 AND state = 0"
+asked_text = codes "SELECT count(*) FROM bookings WHERE book = ?1 AND day = ?2 AND state = 0"
 
 abbrev pub asked_tests : List Term
 asked_tests = is_param 1 0 ∷ is_param 3 1 ∷ is_number 5 0 ∷ []
 
-pub asked_is : Asks keep_schema asked_text (over_table 11 asked_tests confirmed_shows []) (codes "number" ∷ [])
+pub asked_is : Asks keep_schema asked_text (how_many 11 asked_tests) (codes "count(*)" ∷ [])
 unfolding understood everything
 asked_is = (refl, refl, (refl, refl))
 
 abbrev pub ends_text : List ℕ
-ends_text = codes "SELECT number FROM pledges WHERE book = ?1 AND closed = 0 AND ends = ?2"
+ends_text = codes "SELECT count(*) FROM pledges WHERE book = ?1 AND closed = 0 AND ends = ?2"
 
 abbrev pub ends_tests : List Term
 ends_tests = is_param 1 0 ∷ is_number 14 0 ∷ is_param 11 1 ∷ []
 
-pub ends_is : Asks keep_schema ends_text (over_table 3 ends_tests ref_shows []) (codes "number" ∷ [])
+pub ends_is : Asks keep_schema ends_text (how_many 3 ends_tests) (codes "count(*)" ∷ [])
 unfolding understood everything
 ends_is = (refl, refl, (refl, refl))
 

@@ -10,7 +10,7 @@ ghost use Rattle.pawn_tables.specs.Lines.{IsNextLine};
 
 use crate::books::confirmed_in;
 use crate::line::Line;
-use crate::lines::{first_asked, first_confirmed, first_end};
+use crate::lines::{first_asked, first_confirmed, first_end, only_count};
 use crate::queries::rows_of;
 use pawn_book::{Day, KeepError, Part, StoreFault};
 use sqlite::{Alter, Transaction, params};
@@ -24,10 +24,10 @@ fn asked_in<S: Alter>(tx: &mut Transaction<'_, S>, book: u32, day: Day) -> Resul
     let day = day.count();
     let rows = rows_of(
         tx,
-        "SELECT number FROM bookings WHERE book = ?1 AND day = ?2 AND state = 0",
+        "SELECT count(*) FROM bookings WHERE book = ?1 AND day = ?2 AND state = 0",
         params![book, day],
     )?;
-    Ok(rows.len() as u64)
+    only_count(&rows)
 }
 
 // How many periods end on a day, those of the redeemed and the sold aside.
@@ -39,10 +39,10 @@ fn ends_in<S: Alter>(tx: &mut Transaction<'_, S>, book: u32, day: Day) -> Result
     let day = day.count();
     let rows = rows_of(
         tx,
-        "SELECT number FROM pledges WHERE book = ?1 AND closed = 0 AND ends = ?2",
+        "SELECT count(*) FROM pledges WHERE book = ?1 AND closed = 0 AND ends = ?2",
         params![book, day],
     )?;
-    Ok(rows.len() as u64)
+    only_count(&rows)
 }
 
 /// How many items a part of a day's sheet has. A window that 32 bits can't hold is a fault.

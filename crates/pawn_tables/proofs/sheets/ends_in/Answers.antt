@@ -21,8 +21,8 @@ returns-clause-finds g c clean within h stood =
     let new = state g.S.Store c.rows_of.new.tx.conn.now in
     let rows = c.in_ok-rows.rows.items in
     let st = stood (c.in_ok-rows.ensures.lent.opened clean within refl) in
-    let shown = rw (c.params-to_sql.ensures, c.params-to_sql-2.ensures) at (c.in_ok-rows.ensures.shown clean) in
+    let shown = rw (c.params-to_sql.ensures, c.params-to_sql-2.ensures, c.count-day.ensures.value) at (c.in_ok-rows.ensures.shown clean) in
     let plain = subst (λ s. IsPlain (understood s text.ends_text)) (sym st.schema) text.ends_is.2 in
     let rests = plain_rests text.ends_text _ old new rows within plain shown in
-    let count : c.len.result ≡ length rows = search rules in
-    (count ∙ reads.ends_shown c.args.book c.count-day.result old new h rows st shown ∙ (λ i. length (part_items part_of.Ends (c.count-day.ensures.value i) (pledges_of (get h.books c.args.book)))), rests)
+    let are = c.deref.ensures.value ∙ reads.ends_shown c.args.book c.args.day old new h rows st shown in
+    sound.told c.only_count.result _ _ _ _ (c.only_count.ensures.read _ are) rests (λ bad. absurd (bad tt))
