@@ -25,8 +25,7 @@ use Rattle.sqlite_tied.specs.Listing.{counting}
 use Rattle.one_table.specs.Listing.{Holds, columns_of}
 use Rattle.one_table.proofs.OneTable.{around, over_table, passes}
 use Rattle.one_table.proofs.Texts.{Asks}
-use Rattle.pawn_tables.specs.Heads.{number_cells}
-use Rattle.pawn_tables.specs.Lines.{most_counted}
+use Rattle.pawn_tables.specs.Heads.{most_counted, number_cells}
 
 -- how many rows of a table pass
 abbrev pub how_many : ℕ → List Term → Query

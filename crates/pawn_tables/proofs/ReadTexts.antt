@@ -114,7 +114,7 @@ unfolding understood everything
 ref_is = (refl, refl, (refl, refl))
 
 abbrev pub confirmed_text : List ℕ
-confirmed_text = codes "SELECT number FROM bookings WHERE book = ?1 AND day = ?2 AND slot = ?3 AND state = 1"
+confirmed_text = codes "SELECT count(*) FROM bookings WHERE book = ?1 AND day = ?2 AND slot = ?3 AND state = 1"
 
 abbrev pub confirmed_tests : List Term
 confirmed_tests = is_param 1 0 ∷ is_param 3 1 ∷ is_param 4 2 ∷ op2 (Compare Eq Binary) (col 1 5) (lit (Int (pos 1))) ∷ []
@@ -122,7 +122,7 @@ confirmed_tests = is_param 1 0 ∷ is_param 3 1 ∷ is_param 4 2 ∷ op2 (Compar
 abbrev pub confirmed_shows : List Term
 confirmed_shows = col 1 2 ∷ []
 
-pub confirmed_is : Asks keep_schema confirmed_text (over_table 11 confirmed_tests confirmed_shows []) (codes "number" ∷ [])
+pub confirmed_is : Asks keep_schema confirmed_text (how_many 11 confirmed_tests) (codes "count(*)" ∷ [])
 unfolding understood everything
 confirmed_is = (refl, refl, (refl, refl))
 

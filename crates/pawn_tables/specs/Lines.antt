@@ -30,10 +30,6 @@ asked_line a = record { number = a.0; item = Asked a.0 a.1 }
 abbrev pub ends_line : ℕ → Line
 ends_line n = record { number = n; item = Ends n }
 
--- SQL counts no further
-abbrev pub most_counted : ℕ
-most_counted = 9223372036854775807
-
 -- a pledge's number and a window
 abbrev pub asked_cells : ℕ × ℕ → Row
 asked_cells a = number a.0 ∷ number a.1 ∷ []

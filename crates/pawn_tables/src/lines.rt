@@ -1,14 +1,14 @@
-ghost use Rattle.std.specs.Prelude.{[], ◌∷◌, ◌≡◌, ℕ, Option, IfSome, min, option_map, ⊤};
+ghost use Rattle.std.specs.Prelude.{◌≡◌, ℕ, Option, IfSome, option_map};
 ghost use Rattle.pawn_pledge.specs.Number.{IsNumber};
 ghost use Rattle.pawn_tables.specs.Rows.{at_most_one};
 ghost use Rattle.pawn_tables.specs.Heads.{number_cells};
-ghost use Rattle.pawn_tables.specs.Lines.{asked_cells, asked_line, confirmed_line, ends_line, most_counted};
+ghost use Rattle.pawn_tables.specs.Lines.{asked_cells, asked_line, confirmed_line, ends_line};
 ghost use Rattle.pawn_tables.specs.Finding.{IsRead};
 
 use crate::cells::number_at;
-use crate::heads::{first_number, number_of, only_number};
+use crate::heads::{first_number, number_of};
 use crate::line::Line;
-use pawn_book::{KeepError, SheetItem, StoreFault};
+use pawn_book::{KeepError, SheetItem};
 use sqlite::Row;
 
 /// The line of the confirmed booking of the first row, if there is a row.
@@ -51,17 +51,4 @@ pub(crate) fn first_end(rows: &[Row]) -> Result<Option<Line>, KeepError>
     };
     let item = SheetItem::Ends(number);
     Ok(Some(Line { number, item }))
-}
-
-/// How many rows SQL counted, by the first row. There is a row. So many that it counts no further
-/// are a fault.
-pub(crate) fn only_count(rows: &[Row]) -> Result<u64, KeepError>
-    ensures read { (n : ℕ) → rows.now ≡ number_cells (min n most_counted) ∷ [] → IsRead result n ⊤ }
-{
-    let count = only_number(rows)?;
-    if count < i64::MAX as u64 {
-        Ok(count)
-    } else {
-        Err(KeepError::Store(StoreFault::Database))
-    }
 }

@@ -9,8 +9,9 @@ ghost use Rattle.pawn_tables.specs.Finding.{FindsIn};
 ghost use Rattle.pawn_tables.specs.Lines.{IsNextLine};
 
 use crate::books::confirmed_in;
+use crate::heads::only_count;
 use crate::line::Line;
-use crate::lines::{first_asked, first_confirmed, first_end, only_count};
+use crate::lines::{first_asked, first_confirmed, first_end};
 use crate::queries::rows_of;
 use pawn_book::{Day, KeepError, Part, StoreFault};
 use sqlite::{Alter, Transaction, params};

@@ -1,8 +1,8 @@
 use Rattle.std.proofs.Common.{rules, min}
 use Rattle.std.specs.Prelude.{⊤}
-use Rattle.pawn_tables.specs.Lines.{most_counted}
+use Rattle.pawn_tables.specs.Heads.{most_counted}
 use Rattle.pawn_tables.proofs.Placed.{always_read}
-use Rattle.pawn_tables.proofs.lines.only_count.Goals as goal
+use Rattle.pawn_tables.proofs.heads.only_count.Goals as goal
 
 pub returns-in_err-count : goal.returns-in_err-count
 returns-in_err-count c = record {
