@@ -14,7 +14,7 @@ use Rattle.pawn_book.specs.Sheet.{window_items, windows_below, with_head}
 use Rattle.pawn_book.specs.Visits.{Handed, HandsOver}
 
 -- items at none of which it stopped, and then further ones
-handed-append : {V T : Type 0} (step : V → T → Flow → V → Type 0) (v u w : V) (xs ys : List T) (flow : Flow)
+pub handed-append : {V T : Type 0} (step : V → T → Flow → V → Type 0) (v u w : V) (xs ys : List T) (flow : Flow)
     → Handed step v xs Go u → Handed step u ys flow w → Handed step v (xs ++ ys) flow w
 handed-append step v u w [] ys flow before after = subst (λ (s : _). Handed step s ys flow w) (sym before.1) after
 handed-append step v u w (x ∷ xs) ys flow before after = elim before [

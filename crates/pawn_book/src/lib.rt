@@ -57,7 +57,7 @@ pub use replaying::replayable;
 pub use reply::Reply;
 pub use request::{BearerRequest, BrokerRequest, Caller, Name, NewBook, NewTerms, Request};
 pub use rows::{BookRows, PledgeRows};
-pub use sheet::SheetItem;
+pub use sheet::{Part, SheetItem};
 pub use visit::{Flow, Visitor};
 pub use worked::{worked_imports, worked_slots};
 

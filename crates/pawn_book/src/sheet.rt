@@ -104,8 +104,8 @@ impl Part {
             .count() as u64
     }
 
-    // The item above the others, which are so many.
-    fn heading(self, count: u64) -> SheetItem
+    /// The item above the others, which are so many.
+    pub fn heading(self, count: u64) -> SheetItem
         ensures value { result ≡ part_head self count }
     {
         match self {

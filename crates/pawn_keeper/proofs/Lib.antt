@@ -1,2 +1,3 @@
+pub mod Handings
 pub mod KeeperReads
 pub mod Walks

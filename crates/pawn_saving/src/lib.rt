@@ -10,3 +10,5 @@ mod pledges;
 mod saving;
 mod tails;
 mod writing;
+
+pub use saving::save;

@@ -1,4 +1,4 @@
-ghost use Rattle.std.specs.Prelude.{◌≡◌, ◌≢◌, is_ok};
+ghost use Rattle.std.specs.Prelude.{◌≡◌, ◌≢◌, false, is_ok};
 ghost use Rattle.sqlite.specs.Held.{state};
 ghost use Rattle.pawn_book.specs.declared.fault.SaveError.TheVariants as Save;
 ghost use Rattle.pawn_book.specs.Changes.{CanSave};
@@ -62,8 +62,9 @@ pub(crate) fn write_change<S: Alter>(
 }
 
 /// Makes a change, in one transaction, unless the rows would be above the limit.
-pub(crate) fn save<S: Alter>(conn: &mut Connection<S>, change: &Change) -> Result<(), SaveError>
+pub fn save<S: Alter>(conn: &mut Connection<S>, change: &Change) -> Result<(), SaveError>
     requires can_save { (keeping_by (λ c. state S.Store c)).serves conn.old → Of (keeping_by (λ c. state S.Store c)) conn.old conn.old (λ h. CanSave h change.now) }
+    ensures ended { conn.old.in_transaction ≡ false → conn.new.in_transaction ≡ false }
     ensures saves { Saves (keeping_by (λ c. state S.Store c)) conn.old conn.new change.now result }
 {
     if !conn.is_autocommit() {

@@ -1,6 +1,10 @@
 pub mod BookReads
+pub mod Counts
 pub mod Joins
 pub mod Lent
+pub mod LineReads
+pub mod NextLines
+pub mod OneEach
 pub mod OneHost
 pub mod PledgeReads
 pub mod Placed

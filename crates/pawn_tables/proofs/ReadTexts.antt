@@ -10,6 +10,7 @@ use Rattle.sqlite.specs.declared.types.Value.TheVariants.{Int, Text}
 use Rattle.one_table.proofs.Texts.{Asks, by_column, is_param}
 use Rattle.pawn_tables.specs.Schema.{keep_schema}
 use Rattle.one_table.proofs.OneTable.{over_table, first_of_table}
+use Rattle.pawn_tables.proofs.Counts.{how_many}
 
 -- a row of a book
 abbrev pub of_book : List Term
@@ -113,7 +114,7 @@ unfolding understood everything
 ref_is = (refl, refl, (refl, refl))
 
 abbrev pub confirmed_text : List ℕ
-confirmed_text = codes "SELECT number FROM bookings WHERE book = ?1 AND day = ?2 AND slot = ?3 AND state = 1"
+confirmed_text = codes "SELECT count(*) FROM bookings WHERE book = ?1 AND day = ?2 AND slot = ?3 AND state = 1"
 
 abbrev pub confirmed_tests : List Term
 confirmed_tests = is_param 1 0 ∷ is_param 3 1 ∷ is_param 4 2 ∷ op2 (Compare Eq Binary) (col 1 5) (lit (Int (pos 1))) ∷ []
@@ -121,7 +122,7 @@ confirmed_tests = is_param 1 0 ∷ is_param 3 1 ∷ is_param 4 2 ∷ op2 (Compar
 abbrev pub confirmed_shows : List Term
 confirmed_shows = col 1 2 ∷ []
 
-pub confirmed_is : Asks keep_schema confirmed_text (over_table 11 confirmed_tests confirmed_shows []) (codes "number" ∷ [])
+pub confirmed_is : Asks keep_schema confirmed_text (how_many 11 confirmed_tests) (codes "count(*)" ∷ [])
 unfolding understood everything
 confirmed_is = (refl, refl, (refl, refl))
 
@@ -187,3 +188,66 @@ extension_text = codes "SELECT place, day, until_day FROM extensions WHERE book 
 pub extension_is : Asks keep_schema extension_text (over_table 17 of_place extensions_shows []) (codes "place" ∷ codes "day" ∷ codes "until_day" ∷ [])
 unfolding understood everything
 extension_is = (refl, refl, (refl, refl))
+
+-- ---- the parts of a day's sheet
+
+-- SQL's = with a number of the text
+abbrev is_number : ℕ → ℕ → Term
+is_number place n = op2 (Compare Eq Binary) (col 1 place) (lit (Int (pos n)))
+
+-- above a parameter
+abbrev is_over : ℕ → ℕ → Term
+is_over place param = op2 (Compare Gt Binary) (col 1 place) (col 0 param)
+
+abbrev pub asked_text : List ℕ
+asked_text = codes "SELECT count(*) FROM bookings WHERE book = ?1 AND day = ?2 AND state = 0"
+
+abbrev pub asked_tests : List Term
+asked_tests = is_param 1 0 ∷ is_param 3 1 ∷ is_number 5 0 ∷ []
+
+pub asked_is : Asks keep_schema asked_text (how_many 11 asked_tests) (codes "count(*)" ∷ [])
+unfolding understood everything
+asked_is = (refl, refl, (refl, refl))
+
+abbrev pub ends_text : List ℕ
+ends_text = codes "SELECT count(*) FROM pledges WHERE book = ?1 AND closed = 0 AND ends = ?2"
+
+abbrev pub ends_tests : List Term
+ends_tests = is_param 1 0 ∷ is_number 14 0 ∷ is_param 11 1 ∷ []
+
+pub ends_is : Asks keep_schema ends_text (how_many 3 ends_tests) (codes "count(*)" ∷ [])
+unfolding understood everything
+ends_is = (refl, refl, (refl, refl))
+
+abbrev pub next_confirmed_text : List ℕ
+next_confirmed_text = codes "SELECT number FROM bookings WHERE book = ?1 AND number > ?2 AND day = ?3 AND slot = ?4 AND state = 1 ORDER BY number LIMIT 1"
+
+abbrev pub next_confirmed_tests : List Term
+next_confirmed_tests = is_param 1 0 ∷ is_over 2 1 ∷ is_param 3 2 ∷ is_param 4 3 ∷ is_number 5 1 ∷ []
+
+pub next_confirmed_is : Asks keep_schema next_confirmed_text (first_of_table 11 next_confirmed_tests confirmed_shows (by_column 2)) (codes "number" ∷ [])
+unfolding understood everything
+next_confirmed_is = (refl, refl, (refl, refl))
+
+abbrev pub next_asked_text : List ℕ
+next_asked_text = codes "SELECT number, slot FROM bookings WHERE book = ?1 AND number > ?2 AND day = ?3 AND state = 0 ORDER BY number LIMIT 1"
+
+abbrev pub next_asked_tests : List Term
+next_asked_tests = is_param 1 0 ∷ is_over 2 1 ∷ is_param 3 2 ∷ is_number 5 0 ∷ []
+
+abbrev pub next_asked_shows : List Term
+next_asked_shows = col 1 2 ∷ col 1 4 ∷ []
+
+pub next_asked_is : Asks keep_schema next_asked_text (first_of_table 11 next_asked_tests next_asked_shows (by_column 2)) (codes "number" ∷ codes "slot" ∷ [])
+unfolding understood everything
+next_asked_is = (refl, refl, (refl, refl))
+
+abbrev pub next_end_text : List ℕ
+next_end_text = codes "SELECT number FROM pledges WHERE book = ?1 AND number > ?2 AND closed = 0 AND ends = ?3 ORDER BY number LIMIT 1"
+
+abbrev pub next_end_tests : List Term
+next_end_tests = is_param 1 0 ∷ is_over 2 1 ∷ is_number 14 0 ∷ is_param 11 2 ∷ []
+
+pub next_end_is : Asks keep_schema next_end_text (first_of_table 3 next_end_tests ref_shows (by_column 2)) (codes "number" ∷ [])
+unfolding understood everything
+next_end_is = (refl, refl, (refl, refl))

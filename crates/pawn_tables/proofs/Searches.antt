@@ -5,8 +5,6 @@ use Rattle.std.specs.declared.cmp.Ordering.TheVariants.{Less}
 use Rattle.std.specs.FinMap.{get}
 use Rattle.std.proofs.lemmas.Bool.Decides.{nat_tests}
 use Rattle.std.proofs.lemmas.List.Elements.{filter_agree}
-use Rattle.std.proofs.lemmas.List.Sorted.{length_permutation}
-use Rattle.std.proofs.lemmas.List.{length-map}
 use Rattle.std.proofs.lemmas.List.Sums.{sum_by-cons}
 use Rattle.sqlite_trees.proofs.ListLemmas.{map-map, filter-map, ascending-filter}
 use Rattle.sqlite.specs.declared.types.Value.TheVariants.{Text}
@@ -28,7 +26,8 @@ use Rattle.pawn_tables.specs.Rows.{number, under, pledge_cells, pledge_listed, b
 use Rattle.pawn_tables.specs.Heads.{number_cells}
 use Rattle.pawn_tables.specs.At.{is_at}
 use Rattle.pawn_tables.specs.StandsFor.{StandsFor, of_pledges, AreOrdered}
-use Rattle.one_table.proofs.Found.{shown_listed, shown_first}
+use Rattle.one_table.proofs.Found.{shown_first}
+use Rattle.pawn_tables.proofs.Counts.{count_of, shown_count}
 use Rattle.pawn_tables.proofs.ReadTexts as text
 use Rattle.pawn_tables.proofs.Sought.{rows_at, of_one_book, filter-flat_map, filter-append, flat_none, equals, less}
 use Rattle.pawn_tables.proofs.BookReads.{one_test, same_texts, singles, first_one, mapped_one}
@@ -94,13 +93,13 @@ module _ (h : Host) (b : ℕ) (s : List ℕ) where
 abbrev pub at_slot : ℕ → ℕ → ℕ → Row → Bool
 at_slot b day window v = list_all (λ (x : Bool). x) (is_at (column v 0) (number b) ∷ is_at (column v 2) (number day) ∷ is_at (column v 3) (number window) ∷ is_at (column v 4) (number 1) ∷ [])
 
-confirmed_state : (s : BookingState) → (state_number s == 1) ≡ is_confirmed s
+pub confirmed_state : (s : BookingState) → (state_number s == 1) ≡ is_confirmed s
 confirmed_state Asked = refl
 confirmed_state Confirmed = refl
 confirmed_state Refused = refl
 confirmed_state Cancelled = refl
 
-together : (a b c : Bool) → (a && (b && c)) ≡ ((a && b) && c)
+pub together : (a b c : Bool) → (a && (b && c)) ≡ ((a && b) && c)
 together true b c = refl
 together false b c = refl
 
@@ -139,9 +138,9 @@ module _ (b day window : ℕ) where
   slots_in None = refl
   slots_in (Some k) = slots k.pledges
 
-  pub confirmed_shown : (old new : State) (h : Host) (rows : List Row) → StandsFor old.now h → Shown text.confirmed_text (number b ∷ number day ∷ number window ∷ []) old new rows → length rows ≡ confirmed_count (pledges_of (get h.books b)) day window
+  pub confirmed_shown : (old new : State) (h : Host) (rows : List Row) → StandsFor old.now h → Shown text.confirmed_text (number b ∷ number day ∷ number window ∷ []) old new rows → rows ≡ count_of (confirmed_count (pledges_of (get h.books b)) day window) ∷ []
   confirmed_shown old new h rows st shown =
       let t : Table = record bookings { tree = 11 } in
       let one = of_one_book h b (at_slot b day window) (λ m k. flat_map (booking_listed m) k.pledges) no_slot in
-      let same = shown_listed keep_schema 11 (λ _. refl) t text.confirmed_tests text.confirmed_shows (number b ∷ number day ∷ number window ∷ []) (at_slot b day window) (λ v. column v 1 ∷ []) (λ _. refl) (λ _. refl) text.confirmed_text _ [] text.confirmed_is old new (of_pledges h booking_listed) rows st.schema st.bookings shown in
-      length_permutation _ rows same ∙ length-map _ _ ∙ ap length one ∙ slots_in (get h.books b)
+      shown_count keep_schema 11 (λ _. refl) t text.confirmed_tests (number b ∷ number day ∷ number window ∷ []) (at_slot b day window) (λ _. refl) text.confirmed_text _ text.confirmed_is old new (of_pledges h booking_listed) rows st.schema st.bookings shown
+      ∙ ap (λ n. count_of n ∷ []) (ap length one ∙ slots_in (get h.books b))

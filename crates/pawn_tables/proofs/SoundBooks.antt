@@ -62,3 +62,10 @@ next_unsound h n bad = go (next_of h n) (is_next h n) bad
     go : (o : Option ℕ) → IsNextBook h n o → (IfSome o IsNumber → ⊥) → HasUnsoundBook h
     go None is bad = absurd (bad tt)
     go (Some b) is bad = (b, is.1.0, is.1.1, λ sound. bad sound.0)
+
+-- what was found, in other words
+pub finds_as : {A : Type 0} (r : Result A KeepError) (P Q : A → Type 0) (R U : Type 0) → ((x : A) → P x → Q x) → Finds r (λ x. P x × R) U → Finds r (λ x. Q x × R) U
+finds_as (Ok x) P Q R U as_q f = (as_q x f.0, f.1)
+finds_as (Err Keeper.Memory) P Q R U as_q f = tt
+finds_as (Err (Keeper.Store NoRecord)) P Q R U as_q f = f
+finds_as (Err (Keeper.Store Database)) P Q R U as_q f = tt

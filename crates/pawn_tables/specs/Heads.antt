@@ -21,3 +21,7 @@ pub record IsHeadTold (k : BookValue) : Type 0 where
 -- a number alone
 abbrev pub number_cells : ℕ → Row
 number_cells n = number n ∷ []
+
+-- SQL counts no further
+abbrev pub most_counted : ℕ
+most_counted = 9223372036854775807

@@ -2,6 +2,7 @@ pub mod At
 pub mod Finding
 pub mod Heads
 pub mod Keeps
+pub mod Lines
 pub mod Meta
 pub mod OneHost
 pub mod Places

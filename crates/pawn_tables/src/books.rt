@@ -8,7 +8,7 @@ ghost use Rattle.pawn_book.specs.Keeping.{IsNextBook, number_of, pledges_of};
 ghost use Rattle.one_table.specs.Lending.{IsLent};
 ghost use Rattle.pawn_tables.specs.Finding.{FindsIn};
 
-use crate::heads::{first_head, first_number, only_number};
+use crate::heads::{first_head, first_number, only_count, only_number};
 use crate::queries::rows_of;
 use pawn_book::{BookHead, Day, KeepError, Number, StoreFault};
 use sqlite::{Alter, Transaction, params};
@@ -51,7 +51,7 @@ pub fn ref_in<S: Alter>(
 }
 
 /// How many pledges of a book have a confirmed booking for a day and a window. A window that 32
-/// bits can't hold is a fault; a day has six.
+/// bits can't hold is a fault; a day has sixteen.
 pub fn confirmed_in<S: Alter>(
     tx: &mut Transaction<'_, S>,
     book: u32,
@@ -68,10 +68,10 @@ pub fn confirmed_in<S: Alter>(
     let day = day.count();
     let rows = rows_of(
         tx,
-        "SELECT number FROM bookings WHERE book = ?1 AND day = ?2 AND slot = ?3 AND state = 1",
+        "SELECT count(*) FROM bookings WHERE book = ?1 AND day = ?2 AND slot = ?3 AND state = 1",
         params![book, day, slot],
     )?;
-    Ok(rows.len() as u64)
+    only_count(&rows)
 }
 
 /// The least number of a book above one.

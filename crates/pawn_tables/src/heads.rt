@@ -1,14 +1,14 @@
-ghost use Rattle.std.specs.Prelude.{[], ◌∷◌, ◌≡◌, ℕ, Option, IfSome, option_map, ⊤};
+ghost use Rattle.std.specs.Prelude.{[], ◌∷◌, ◌≡◌, ℕ, Option, IfSome, min, option_map, ⊤};
 ghost use Rattle.pawn_pledge.specs.Number.{IsNumber};
 ghost use Rattle.pawn_book.specs.declared.change.Imported.{Imported};
 ghost use Rattle.pawn_book.specs.BookStep.{BookValue, book_head};
 ghost use Rattle.pawn_book.specs.Limits.{IsCapacity};
 ghost use Rattle.pawn_tables.specs.Rows.{at_most_one, head_cells, import_count, import_key};
-ghost use Rattle.pawn_tables.specs.Heads.{HasKeys, IsHeadTold, number_cells};
+ghost use Rattle.pawn_tables.specs.Heads.{HasKeys, IsHeadTold, most_counted, number_cells};
 ghost use Rattle.pawn_tables.specs.Finding.{IsRead};
 
 use crate::cells::{NO_RECORD, number_at, optional_at, optional_word_at, text_at, word_at};
-use pawn_book::{BookHead, Capacity, Imported, KeepError, Number, Secret};
+use pawn_book::{BookHead, Capacity, Imported, KeepError, Number, Secret, StoreFault};
 use sqlite::Row;
 use std::alloc::Global;
 
@@ -63,8 +63,8 @@ pub(crate) fn first_head(alloc: Global, rows: &[Row]) -> Result<Option<BookHead>
     Ok(Some(head_of(alloc, row)?))
 }
 
-// The number of a book or a pledge.
-fn number_of(number: u64) -> Result<Number, KeepError>
+/// The number of a book or a pledge.
+pub(crate) fn number_of(number: u64) -> Result<Number, KeepError>
     ensures read { IsRead result number (IsNumber number) }
 {
     match Number::new(number) {
@@ -91,4 +91,17 @@ pub(crate) fn only_number(rows: &[Row]) -> Result<u64, KeepError>
         return Err(NO_RECORD);
     };
     number_at(row, 0)
+}
+
+/// How many rows SQL counted, by the first row. There is a row. So many that it counts no further
+/// are a fault.
+pub(crate) fn only_count(rows: &[Row]) -> Result<u64, KeepError>
+    ensures read { (n : ℕ) → rows.now ≡ number_cells (min n most_counted) ∷ [] → IsRead result n ⊤ }
+{
+    let count = only_number(rows)?;
+    if count < i64::MAX as u64 {
+        Ok(count)
+    } else {
+        Err(KeepError::Store(StoreFault::Database))
+    }
 }

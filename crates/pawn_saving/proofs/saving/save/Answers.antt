@@ -6,42 +6,38 @@ use Rattle.pawn_tables.proofs.OneHost.{tables_stand_for_one_host}
 use Rattle.pawn_saving.proofs.Saved.{IsBegun, saves_committed, saves_refused}
 use Rattle.pawn_saving.proofs.saving.save.Goals as goal
 
-pub returns-in-Ok : goal.returns-in-Ok
-returns-in-Ok g c = record {
-  saves =
-      let begun = c.transaction-tx.ensures.begun in
-      let was : IsBegun (state g.S.Store c.args.conn.now) (state g.S.Store c.transaction-tx.result.conn.now) = record {
-        ended = search rules;
-        settled = search rules;
-        was_open = λ now. rw begun at now;
-        now = rw begun refl;
-        committed = rw begun refl;
-        within = rw begun refl;
-        clean = λ clean. rw begun at clean;
-        left = λ trees left. rw begun at left;
-      } in
-      let same : c.commit.new.self.0 ≡ c.conn-2-1.given.0 = search rules in
-      subst (λ n. Saves {T = Unit {0}} (keeping_by (λ c'. state g.S.Store c')) c.args.conn.now n c.args.change.now (Ok tt)) same
-      (saves_committed (λ c'. state g.S.Store c') c.args.conn.now c.commit.new.self.0 (state g.S.Store c.transaction-tx.result.conn.now) (state g.S.Store c.write_change.new.tx.conn.now) c.args.change.now was c.requires.can_save
-      (Unit {0}) tt tables_stand_for_one_host c.in_default.ensures.lent c.in_default.ensures.wrote c.commit.ensures.ended c.commit.ensures.survives (λ clean. (c.in-Ok.ensures.ok clean).1) (λ now trees left. g.met.S.Store.settled _ trees now left));
-}
+pub returns-in-Ok-clause-saves : goal.returns-in-Ok-clause-saves
+returns-in-Ok-clause-saves g c =
+    let begun = c.transaction-tx.ensures.begun in
+    let was : IsBegun (state g.S.Store c.args.conn.now) (state g.S.Store c.transaction-tx.result.conn.now) = record {
+      ended = search rules;
+      settled = search rules;
+      was_open = λ now. rw begun at now;
+      now = rw begun refl;
+      committed = rw begun refl;
+      within = rw begun refl;
+      clean = λ clean. rw begun at clean;
+      left = λ trees left. rw begun at left;
+    } in
+    let same : c.commit.new.self.0 ≡ c.conn-2-1.given.0 = search rules in
+    subst (λ n. Saves {T = Unit {0}} (keeping_by (λ c'. state g.S.Store c')) c.args.conn.now n c.args.change.now (Ok tt)) same
+    (saves_committed (λ c'. state g.S.Store c') c.args.conn.now c.commit.new.self.0 (state g.S.Store c.transaction-tx.result.conn.now) (state g.S.Store c.write_change.new.tx.conn.now) c.args.change.now was c.requires.can_save
+    (Unit {0}) tt tables_stand_for_one_host c.in_default.ensures.lent c.in_default.ensures.wrote c.commit.ensures.ended c.commit.ensures.survives (λ clean. (c.in-Ok.ensures.ok clean).1) (λ now trees left. g.met.S.Store.settled _ trees now left))
 
-pub returns-in-Err-commit : goal.returns-in-Err-commit
-returns-in-Err-commit g c = record {
-  saves =
-      let begun = c.transaction-tx.ensures.begun in
-      let was : IsBegun (state g.S.Store c.args.conn.now) (state g.S.Store c.transaction-tx.result.conn.now) = record {
-        ended = search rules;
-        settled = search rules;
-        was_open = λ now. rw begun at now;
-        now = rw begun refl;
-        committed = rw begun refl;
-        within = rw begun refl;
-        clean = λ clean. rw begun at clean;
-        left = λ trees left. rw begun at left;
-      } in
-      let same : c.commit.new.self.0 ≡ c.conn-2-1.given.0 = search rules in
-      subst (λ n. Saves {T = Unit {0}} (keeping_by (λ c'. state g.S.Store c')) c.args.conn.now n c.args.change.now (Err c.unsaved.result)) same
-      (saves_refused (λ c'. state g.S.Store c') c.args.conn.now c.commit.new.self.0 (state g.S.Store c.transaction-tx.result.conn.now) (state g.S.Store c.write_change.new.tx.conn.now) c.args.change.now was c.requires.can_save
-      (Unit {0}) tt tables_stand_for_one_host c.in_default.ensures.lent c.in_default.ensures.wrote c.commit.ensures.ended c.commit.ensures.survives c.unsaved.result c.unsaved.ensures.not_full c.in-Err-commit.error c.in-Err-commit.ensures.err);
-}
+pub returns-in-Err-commit-clause-saves : goal.returns-in-Err-commit-clause-saves
+returns-in-Err-commit-clause-saves g c =
+    let begun = c.transaction-tx.ensures.begun in
+    let was : IsBegun (state g.S.Store c.args.conn.now) (state g.S.Store c.transaction-tx.result.conn.now) = record {
+      ended = search rules;
+      settled = search rules;
+      was_open = λ now. rw begun at now;
+      now = rw begun refl;
+      committed = rw begun refl;
+      within = rw begun refl;
+      clean = λ clean. rw begun at clean;
+      left = λ trees left. rw begun at left;
+    } in
+    let same : c.commit.new.self.0 ≡ c.conn-2-1.given.0 = search rules in
+    subst (λ n. Saves {T = Unit {0}} (keeping_by (λ c'. state g.S.Store c')) c.args.conn.now n c.args.change.now (Err c.unsaved.result)) same
+    (saves_refused (λ c'. state g.S.Store c') c.args.conn.now c.commit.new.self.0 (state g.S.Store c.transaction-tx.result.conn.now) (state g.S.Store c.write_change.new.tx.conn.now) c.args.change.now was c.requires.can_save
+    (Unit {0}) tt tables_stand_for_one_host c.in_default.ensures.lent c.in_default.ensures.wrote c.commit.ensures.ended c.commit.ensures.survives c.unsaved.result c.unsaved.ensures.not_full c.in-Err-commit.error c.in-Err-commit.ensures.err)

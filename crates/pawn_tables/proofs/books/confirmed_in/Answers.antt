@@ -20,9 +20,9 @@ returns-clause-finds g c clean within h stood =
     let new = state g.S.Store c.rows_of.new.tx.conn.now in
     let rows = c.in_ok-rows.rows.items in
     let st = stood (c.in_ok-rows.ensures.lent.opened clean within refl) in
-    let shown = rw (c.params-to_sql.ensures, c.params-to_sql-2.ensures, c.params-to_sql-3.ensures) at (c.in_ok-rows.ensures.shown clean) in
+    let window : c.in-Ok.slot ≡ c.args.window = search rules in
+    let shown = rw (c.params-to_sql.ensures, c.params-to_sql-2.ensures, c.params-to_sql-3.ensures, c.count-day.ensures.value, window) at (c.in_ok-rows.ensures.shown clean) in
     let plain = subst (λ s. IsPlain (understood s text.confirmed_text)) (sym st.schema) text.confirmed_is.2 in
     let rests = plain_rests text.confirmed_text _ old new rows within plain shown in
-    let window : c.in-Ok.slot ≡ c.args.window = search rules in
-    let count : c.len.result ≡ length rows = search rules in
-    (count ∙ reads.confirmed_shown c.args.book c.count-day.result c.in-Ok.slot old new h rows st shown ∙ (λ i. confirmed_count (pledges_of (get h.books c.args.book)) (c.count-day.ensures.value i) (window i)), rests)
+    let are = c.deref.ensures.value ∙ reads.confirmed_shown c.args.book c.args.day c.args.window old new h rows st shown in
+    sound.told c.only_count.result _ _ _ _ (c.only_count.ensures.read _ are) rests (λ bad. absurd (bad tt))

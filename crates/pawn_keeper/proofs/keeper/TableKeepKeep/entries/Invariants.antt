@@ -1,0 +1,10 @@
+use Rattle.std.specs.FinMap.{get}
+use Rattle.sqlite.specs.Held.{state}
+use Rattle.pawn_book.specs.BookStep.{pledge_in}
+use Rattle.pawn_book.specs.Keeping.{entries_of}
+use Rattle.pawn_tables.specs.Keeps.{keeping_by}
+use Rattle.pawn_keeper.proofs.Walks.{Walked}
+use Rattle.pawn_keeper.proofs.keeper.TableKeepKeep.entries.Given as goal
+
+abbrev pub invariant-loop-place : goal.invariant-loop-place
+invariant-loop-place g l = Walked (keeping_by (λ k. state g.S.Store k.conn)) g.V.Visitor.step (λ h. entries_of (pledge_in (get h.books l.book) l.number)) l.fn.self l.self l.fn.visitor l.visitor l.place

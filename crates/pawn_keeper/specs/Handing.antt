@@ -1,0 +1,20 @@
+-- What a call hands over that answers whether the visitor wants more.
+use Rattle.std.specs.Prelude.{List, Result, Ok, Err}
+use Rattle.pawn_book.specs.declared.fault.KeepError.{KeepError}
+use Rattle.pawn_book.specs.declared.visit.Flow.{Flow}
+use Rattle.pawn_book.specs.declared.visit.Flow.TheVariants.{Go}
+use Rattle.pawn_book.specs.HostStep.{Host}
+use Rattle.pawn_book.specs.Keeping.{Errs, Keeping, Reads}
+use Rattle.pawn_book.specs.Visits.{Handed, IsShare, call_end}
+
+-- what the visitor answered last; before an error it never stopped
+abbrev pub flow_of : Result Flow KeepError → Flow
+flow_of (Ok flow) = flow
+flow_of (Err e) = Go
+
+-- the visitor was handed the items that are listed of the host, all of them unless it stopped or the call errs, and then a front
+pub record Hands {K V T : Type 0} (k : Keeping K) (step : V → T → Flow → V → Type 0) (old new : K) (v w : V) (result : Result Flow KeepError) (listed : Host → List T) : Type 0 where
+  pub given : List T
+  pub handed : Handed step v given (flow_of result) w
+  pub reads : Reads k old new (λ h. IsShare given (flow_of result) (call_end result) (listed h))
+  pub errs : Errs k old new result

@@ -1,0 +1,145 @@
+-- The lines of numbered pledges, one after another.
+use Rattle.std.proofs.Common.{◌≡◌, ◌++◌, ℕ, ◌+◌, ◌≤◌, ◌<◌, zero, suc, drop, List, [], ◌∷◌, map, filter, filter_map, length, nat_lt, slice_get, Bool, true, false, cond, Option, Some, None, refl, sym, ap, subst, ◌∙◌, arith, option_map}
+use Rattle.std.specs.Prelude.{IfSome}
+use Rattle.std.specs.List.{cons_option}
+use Rattle.std.specs.FinMap.{get}
+use Rattle.std.proofs.lemmas.Bool.Decides.{nat_tests}
+use Rattle.pawn_pledge.specs.Number.{IsNumber}
+use Rattle.pawn_pledge.specs.Pledge.{PledgeValue}
+use Rattle.pawn_book.specs.declared.sheet.Part.{Part}
+use Rattle.pawn_book.specs.declared.sheet.SheetItem.{SheetItem}
+use Rattle.pawn_book.specs.Sheet.{part_item, part_items}
+use Rattle.pawn_book.specs.BookStep.{BookValue}
+use Rattle.pawn_book.specs.HostStep.{Host}
+use Rattle.pawn_book.specs.Keeping.{pledges_of}
+use Rattle.pawn_book.specs.Rows.{AreNumberedFrom}
+use Rattle.pawn_book.specs.Sound.{HasUnsoundBook}
+use Rattle.pawn_tables.specs.Rows.{number_of}
+use Rattle.pawn_tables.specs.StandsFor.{AreOrdered}
+use Rattle.pawn_tables.specs.Lines.{items_past, IsNextLine}
+use Rattle.pawn_tables.specs.declared.line.Line.{Line}
+use Rattle.pawn_tables.proofs.SoundBooks.{unsound_book}
+
+-- the pledges above a number
+abbrev pub above : ℕ → List PledgeValue → List PledgeValue
+above n ps = filter (λ (p : PledgeValue). nat_lt n (number_of p)) ps
+
+-- what is told of them
+abbrev pub told_above : {A : Type 0} → (PledgeValue → Option A) → ℕ → List PledgeValue → List A
+told_above tell n ps = filter_map tell (above n ps)
+
+-- the pledges of a book are numbered
+pub numbered_in : (h : Host) (b : ℕ) → AreOrdered h → AreNumberedFrom 1 (pledges_of (get h.books b))
+numbered_in h b ordered = inside (get h.books b) refl
+  where
+    inside : (o : Option BookValue) → get h.books b ≡ o → AreNumberedFrom 1 (pledges_of o)
+    inside None is = tt
+    inside (Some k) is = (ordered b k is).pledges
+
+-- all are above a number below the first
+all_above : (n m : ℕ) (ps : List PledgeValue) → n < m → AreNumberedFrom m ps → above n ps ≡ ps
+all_above n m [] lt numbered = refl
+all_above n m (p ∷ ps) lt numbered =
+    let at = numbered.0 in
+    let over : nat_lt n (number_of p) ≡ true = grind (arith, nat_tests, lt, at) in
+    ap (λ c. cond c (p ∷ above n ps) (above n ps)) over ∙ ap (λ l. p ∷ l) (all_above n (m + 1) ps (omega (arith, lt)) numbered.1)
+
+-- they are those past so many
+past : (n k m : ℕ) (ps : List PledgeValue) → AreNumberedFrom k ps → m + 1 ≡ k + n → drop n ps ≡ above m ps
+past zero k m ps numbered is = sym (all_above m k ps (omega (arith, is)) numbered)
+past (suc n) k m [] numbered is = refl
+past (suc n) k m (p ∷ ps) numbered is =
+    let at = numbered.0 in
+    let under' : nat_lt m (number_of p) ≡ false = grind (arith, nat_tests, is, at) in
+    past n (k + 1) m ps numbered.1 (omega (arith, is)) ∙ sym (ap (λ c. cond c (p ∷ above m ps) (above m ps)) under')
+
+past_first : (n : ℕ) (ps : List PledgeValue) → AreNumberedFrom 1 ps → drop n ps ≡ above n ps
+past_first n ps numbered = past n 1 n ps numbered (omega arith)
+
+module _ {A : Type 0} (part : Part) (day : ℕ) (tell : PledgeValue → Option A) (line : A → Line)
+    (says : (p : PledgeValue) → part_item part day p ≡ option_map (λ a. (line a).item) (tell p)) (numbers : (p : PledgeValue) (a : A) → tell p ≡ Some a → (line a).number ≡ number_of p) where
+  abbrev item : A → SheetItem
+  item a = (line a).item
+
+  -- the items are of what is told
+  pub items_are : (ps : List PledgeValue) → part_items part day ps ≡ map item (filter_map tell ps)
+  items_are [] = refl
+  items_are (p ∷ ps) = (λ i. cons_option (says p i) (items_are ps i)) ∙ go (tell p)
+    where
+      go : (o : Option A) → cons_option (option_map item o) (map item (filter_map tell ps)) ≡ map item (cons_option o (filter_map tell ps))
+      go None = refl
+      go (Some a) = refl
+
+  -- what is told is of a pledge that stands
+  from_first : (n k : ℕ) (ps : List PledgeValue) → AreNumberedFrom k ps → (a : A) (as' : List A) → told_above tell n ps ≡ a ∷ as' → k ≤ (line a).number
+  from_first n k [] numbered a as' is = absurd (let e = is in cc)
+  from_first n k (p ∷ ps) numbered a as' is = go (from_first n (k + 1) ps numbered.1 a as') (nat_lt n (number_of p)) is
+    where
+      one : (told_above tell n ps ≡ a ∷ as' → k + 1 ≤ (line a).number) → (o : Option A) → tell p ≡ o → cons_option o (told_above tell n ps) ≡ a ∷ as' → k ≤ (line a).number
+      one rest None of is = let r = rest is in omega (arith, r)
+      one rest (Some x) of is =
+          let same : x ≡ a = (let e = is in cc) in
+          let here = sym (ap (λ y. (line y).number) same) ∙ numbers p x of ∙ numbered.0 in
+          omega (arith, here)
+
+      go : (told_above tell n ps ≡ a ∷ as' → k + 1 ≤ (line a).number) → (c : Bool) → filter_map tell (cond c (p ∷ above n ps) (above n ps)) ≡ a ∷ as' → k ≤ (line a).number
+      go rest false is = let r = rest is in omega (arith, r)
+      go rest true is = one rest (tell p) refl is
+
+  -- after the first, what is told is of the pledges above its own
+  rest_is : (n k : ℕ) (ps : List PledgeValue) → AreNumberedFrom k ps → (a : A) (as' : List A) → told_above tell n ps ≡ a ∷ as' → told_above tell (line a).number ps ≡ as'
+  rest_is n k [] numbered a as' is = absurd (let e = is in cc)
+  rest_is n k (p ∷ ps) numbered a as' is = go (rest_is n (k + 1) ps numbered.1 a as') (nat_lt n (number_of p)) refl is
+    where
+      -- it is of a later pledge
+      later : (told_above tell n ps ≡ a ∷ as' → told_above tell (line a).number ps ≡ as') → told_above tell n ps ≡ a ∷ as' → told_above tell (line a).number (p ∷ ps) ≡ as'
+      later rest is =
+          let low = from_first n (k + 1) ps numbered.1 a as' is in
+          let at = numbered.0 in
+          let under' : nat_lt (line a).number (number_of p) ≡ false = grind (arith, nat_tests, low, at) in
+          ap (λ c. filter_map tell (cond c (p ∷ above (line a).number ps) (above (line a).number ps))) under' ∙ rest is
+
+      one : (told_above tell n ps ≡ a ∷ as' → told_above tell (line a).number ps ≡ as') → nat_lt n (number_of p) ≡ true → (o : Option A) → tell p ≡ o → cons_option o (told_above tell n ps) ≡ a ∷ as' → told_above tell (line a).number (p ∷ ps) ≡ as'
+      one rest over None of is = later rest is
+      one rest over (Some x) of is =
+          let same : x ≡ a = (let e = is in cc) in
+          let left : told_above tell n ps ≡ as' = (let e = is in cc) in
+          let at = numbered.0 in
+          let here = sym (ap (λ y. (line y).number) same) ∙ numbers p x of ∙ numbered.0 in
+          let under' : nat_lt (line a).number (number_of p) ≡ false = grind (arith, nat_tests, here, at) in
+          let low : n < k + 1 = grind (arith, nat_tests, over, at) in
+          ap (λ c. filter_map tell (cond c (p ∷ above (line a).number ps) (above (line a).number ps))) under'
+          ∙ ap (filter_map tell) (all_above (line a).number (k + 1) ps (omega (arith, here)) numbered.1 ∙ sym (all_above n (k + 1) ps low numbered.1)) ∙ left
+
+      go : (told_above tell n ps ≡ a ∷ as' → told_above tell (line a).number ps ≡ as') → (c : Bool) → nat_lt n (number_of p) ≡ c → filter_map tell (cond c (p ∷ above n ps) (above n ps)) ≡ a ∷ as' → told_above tell (line a).number (p ∷ ps) ≡ as'
+      go rest false over is = later rest is
+      go rest true over is = one rest over (tell p) refl is
+
+  -- the first of what is told is the next line
+  pub is_next_line : (n : ℕ) (ps : List PledgeValue) → AreNumberedFrom 1 ps → IsNextLine part day n ps (option_map line (slice_get (told_above tell n ps) 0))
+  is_next_line n ps numbered = go (told_above tell n ps) refl
+    where
+      past_is : (m : ℕ) → items_past part day m ps ≡ map item (told_above tell m ps)
+      past_is m = ap (part_items part day) (past_first m ps numbered) ∙ items_are (above m ps)
+
+      go : (xs : List A) → told_above tell n ps ≡ xs → IsNextLine part day n ps (option_map line (slice_get xs 0))
+      go [] is = past_is n ∙ ap (map item) is
+      go (a ∷ as') is = past_is n ∙ ap (map item) is ∙ ap (λ l. item a ∷ l) (sym (past_is (line a).number ∙ ap (map item) (rest_is n 1 ps numbered a as' is)))
+
+  -- the number of a pledge of a sound book is such
+  first_number : (n k : ℕ) (ps : List PledgeValue) → AreNumberedFrom k ps → 1 ≤ k → k + length ps ≤ 1000001 → IfSome (slice_get (told_above tell n ps) 0) (λ a. IsNumber (line a).number)
+  first_number n k [] numbered low few = tt
+  first_number n k (p ∷ ps) numbered low few = go (first_number n (k + 1) ps numbered.1 (omega arith) (omega (arith, few))) (nat_lt n (number_of p))
+    where
+      one : IfSome (slice_get (told_above tell n ps) 0) (λ a. IsNumber (line a).number) → (o : Option A) → tell p ≡ o → IfSome (slice_get (cons_option o (told_above tell n ps)) 0) (λ a. IsNumber (line a).number)
+      one rest None of = rest
+      one rest (Some x) of = let at = numbers p x of ∙ numbered.0 in (omega (arith, at, low), omega (arith, at, few))
+
+      go : IfSome (slice_get (told_above tell n ps) 0) (λ a. IsNumber (line a).number) → (c : Bool) → IfSome (slice_get (filter_map tell (cond c (p ∷ above n ps) (above n ps))) 0) (λ a. IsNumber (line a).number)
+      go rest false = rest
+      go rest true = one rest (tell p) refl
+
+  pub line_unsound : (h : Host) (b n : ℕ) → (IfSome (slice_get (told_above tell n (pledges_of (get h.books b))) 0) (λ a. IsNumber (line a).number) → ⊥) → HasUnsoundBook h
+  line_unsound h b n bad =
+      unsound_book h b (λ o. IfSome (slice_get (told_above tell n (pledges_of o)) 0) (λ a. IsNumber (line a).number)) tt
+      (λ k sound. let fits = sound.1.rows.few_pledges in first_number n 1 k.pledges sound.1.rows.numbered (omega arith) (omega (arith, fits))) bad

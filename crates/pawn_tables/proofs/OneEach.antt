@@ -1,0 +1,117 @@
+-- What a query shows of a table that has one row of a pledge at most.
+use Rattle.std.proofs.Common.{◌≡◌, ◌≢◌, ◌++◌, ◌==◌, ℕ, ◌+◌, ◌<◌, List, [], ◌∷◌, map, filter, filter_map, flat_map, take, slice_get, Bool, true, false, cond, ◌&&◌, Option, Some, None, refl, sym, ap, subst, ◌∙◌, arith}
+use Rattle.std.specs.List.{AllByRecursion, cons_option}
+use Rattle.std.specs.declared.cmp.Ordering.TheVariants.{Less}
+use Rattle.std.specs.FinMap.{get}
+use Rattle.std.proofs.lemmas.Bool.Decides.{nat_tests}
+use Rattle.std.proofs.lemmas.List.{map-append}
+use Rattle.sqlite_trees.proofs.ListLemmas.{ascending-filter}
+use Rattle.sqlite.specs.Order.{Row, column, value_cmp}
+use Rattle.sqlite.specs.Tree.{IsAscending}
+use Rattle.pawn_pledge.specs.Pledge.{PledgeValue}
+use Rattle.pawn_book.specs.BookStep.{BookValue}
+use Rattle.pawn_book.specs.HostStep.{Host}
+use Rattle.pawn_book.specs.Keeping.{pledges_of}
+use Rattle.pawn_book.specs.Rows.{AreNumberedFrom}
+use Rattle.pawn_tables.specs.Rows.{number, number_of, under, at_most_one}
+use Rattle.pawn_tables.specs.StandsFor.{of_pledges, AreOrdered}
+use Rattle.pawn_tables.proofs.Sought.{rows_at, of_one_book, filter-flat_map, filter-append, flat_none, less}
+
+pub first_told : {A : Type 0} (told : A → Row) (xs : List A) → take 1 (map told xs) ≡ at_most_one told (slice_get xs 0)
+first_told told [] = refl
+first_told told (x ∷ xs) = refl
+
+-- what is told of what a pledge has, if it has it and it is such
+abbrev pub tell_of : {X A : Type 0} → (X → Bool) → (ℕ → X → A) → ℕ → Option X → Option A
+tell_of says make n None = None
+tell_of says make n (Some x) = cond (says x) (Some (make n x)) None
+
+-- the row of what a pledge has
+abbrev pub row_each : {X : Type 0} → (PledgeValue → Option X) → (X → Row) → ℕ → PledgeValue → List Row
+row_each has content m p = at_most_one (λ x. under m (number_of p) (content x)) (has p)
+
+module _ {X A : Type 0} (b : ℕ) (has : PledgeValue → Option X) (content : X → Row) (test : Row → Bool) (keeps : ℕ → Bool) (says : X → Bool) (make : ℕ → X → A) (cells : Row → Row) (told : A → Row)
+    (passes : (m n : ℕ) (x : X) → test (under m n (content x)) ≡ ((m == b) && (keeps n && says x))) (shows : (m n : ℕ) (x : X) → cells (under m n (content x)) ≡ told (make n x)) where
+  abbrev pub tell : PledgeValue → Option A
+  tell p = tell_of says make (number_of p) (has p)
+
+  abbrev pub kept : List PledgeValue → List PledgeValue
+  kept ps = filter (λ (p : PledgeValue). keeps (number_of p)) ps
+
+  abbrev rows_of : ℕ → PledgeValue → List Row
+  rows_of = row_each has content
+
+  none_of : (m : ℕ) (k : BookValue) → m ≢ b → filter test (flat_map (rows_of m) k.pledges) ≡ []
+  none_of m k apart = filter-flat_map test (rows_of m) k.pledges ∙ flat_none (λ p. filter test (rows_of m p)) k.pledges (λ p. go (number_of p) (has p))
+    where
+      go : (n : ℕ) (o : Option X) → filter test (at_most_one (λ x. under m n (content x)) o) ≡ []
+      go n None = refl
+      go n (Some x) =
+          let other : (m == b) ≡ false = grind (arith, nat_tests, apart) in
+          ap (λ c. cond c (under m n (content x) ∷ []) []) (passes m n x ∙ ap (λ c. c && (keeps n && says x)) other)
+
+  one : (n : ℕ) (o : Option X) → map cells (filter test (at_most_one (λ x. under b n (content x)) o)) ≡ at_most_one told (cond (keeps n) (tell_of says make n o) None)
+  one n None = go (keeps n)
+    where
+      go : (c : Bool) → ◌≡◌ {A = List Row} [] (at_most_one told (cond c None None))
+      go true = refl
+      go false = refl
+  one n (Some x) =
+      let this : (b == b) ≡ true = grind (arith, nat_tests) in
+      ap (λ c. map cells (cond c (under b n (content x) ∷ []) [])) (passes b n x ∙ ap (λ c. c && (keeps n && says x)) this) ∙ go (keeps n) (says x)
+    where
+      go : (c d : Bool) → map cells (cond (c && d) (under b n (content x) ∷ []) []) ≡ at_most_one told (cond c (cond d (Some (make n x)) None) None)
+      go true true = ap (λ r. r ∷ []) (shows b n x)
+      go true false = refl
+      go false d = refl
+
+  each : (ps : List PledgeValue) → map cells (filter test (flat_map (rows_of b) ps)) ≡ map told (filter_map tell (kept ps))
+  each [] = refl
+  each (p ∷ ps) =
+      ap (map cells) (filter-append test (rows_of b p) (flat_map (rows_of b) ps)) ∙ map-append cells (filter test (rows_of b p)) (filter test (flat_map (rows_of b) ps))
+      ∙ (λ i. one (number_of p) (has p) i ++ each ps i) ∙ joined (keeps (number_of p))
+    where
+      put : (o : Option A) → at_most_one told o ++ map told (filter_map tell (kept ps)) ≡ map told (cons_option o (filter_map tell (kept ps)))
+      put None = refl
+      put (Some a) = refl
+
+      joined : (c : Bool) → at_most_one told (cond c (tell p) None) ++ map told (filter_map tell (kept ps)) ≡ map told (filter_map tell (cond c (p ∷ kept ps) (kept ps)))
+      joined true = put (tell p)
+      joined false = refl
+
+  of_book : (h : Host) → filter test (of_pledges h rows_of) ≡ rows_at (get h.books b) (λ k. filter test (flat_map (rows_of b) k.pledges))
+  of_book h = of_one_book h b test (λ m k. flat_map (rows_of m) k.pledges) none_of
+
+  -- what is shown of the rows that pass is told of the pledges of the book
+  pub shown_each : (h : Host) → map cells (filter test (of_pledges h rows_of)) ≡ map told (filter_map tell (kept (pledges_of (get h.books b))))
+  shown_each h = ap (map cells) (of_book h) ∙ inside (get h.books b)
+    where
+      inside : (o : Option BookValue) → map cells (rows_at o (λ k. filter test (flat_map (rows_of b) k.pledges))) ≡ map told (filter_map tell (kept (pledges_of o)))
+      inside None = refl
+      inside (Some k) = each k.pledges
+
+  -- the rows stand in the order of the pledges' numbers
+  over : (n m : ℕ) (ps : List PledgeValue) → n < m → AreNumberedFrom m ps → AllByRecursion (λ r. value_cmp (number n) (column r 1) ≡ Less) (flat_map (rows_of b) ps)
+  over n m [] lt numbered = tt
+  over n m (p ∷ ps) lt numbered = go (over n (m + 1) ps (omega (arith, lt)) numbered.1) (has p)
+    where
+      go : AllByRecursion (λ r. value_cmp (number n) (column r 1) ≡ Less) (flat_map (rows_of b) ps) → (o : Option X)
+          → AllByRecursion (λ r. value_cmp (number n) (column r 1) ≡ Less) (at_most_one (λ x. under b (number_of p) (content x)) o ++ flat_map (rows_of b) ps)
+      go rest None = rest
+      go rest (Some x) = let at = numbered.0 in (less n (number_of p) (omega (arith, lt, at)), rest)
+
+  rise : (k : ℕ) (ps : List PledgeValue) → AreNumberedFrom k ps → IsAscending (λ v w. value_cmp (column v 1) (column w 1) ≡ Less) (flat_map (rows_of b) ps)
+  rise k [] numbered = tt
+  rise k (p ∷ ps) numbered = go (rise (k + 1) ps numbered.1) (has p)
+    where
+      go : IsAscending (λ v w. value_cmp (column v 1) (column w 1) ≡ Less) (flat_map (rows_of b) ps) → (o : Option X)
+          → IsAscending (λ v w. value_cmp (column v 1) (column w 1) ≡ Less) (at_most_one (λ x. under b (number_of p) (content x)) o ++ flat_map (rows_of b) ps)
+      go rest None = rest
+      go rest (Some x) = let at = numbered.0 in (over (number_of p) (k + 1) ps (omega (arith, at)) numbered.1, rest)
+
+  pub rise_each : (h : Host) → AreOrdered h → IsAscending (λ v w. value_cmp (column v 1) (column w 1) ≡ Less) (filter test (of_pledges h rows_of))
+  rise_each h ordered = subst (IsAscending (λ v w. value_cmp (column v 1) (column w 1) ≡ Less)) (sym (of_book h)) (inside (get h.books b) refl)
+    where
+      inside : (o : Option BookValue) → get h.books b ≡ o → IsAscending (λ v w. value_cmp (column v 1) (column w 1) ≡ Less) (rows_at o (λ k. filter test (flat_map (rows_of b) k.pledges)))
+      inside None is = tt
+      inside (Some k) is = ascending-filter (λ v w. value_cmp (column v 1) (column w 1) ≡ Less) test _ (rise 1 k.pledges (ordered b k is).pledges)
