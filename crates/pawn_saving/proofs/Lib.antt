@@ -10,4 +10,5 @@ pub mod Puts
 pub mod RowPuts
 pub mod Saved
 pub mod Tailing
+pub mod WholePuts
 pub mod WriteTexts

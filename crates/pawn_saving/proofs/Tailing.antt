@@ -1,5 +1,5 @@
 -- Rows that are put one after another.
-use Rattle.std.proofs.Common.{◌≡◌, ◌++◌, ◌==◌, false, ℕ, zero, suc, ◌+◌, ◌<◌, ◌≤◌, List, [], ◌∷◌, map, take, length, get_or, Bool, true, IsTrue, refl, sym, ap, subst, ◌∙◌, arith, append_assoc, IsPermutation}
+use Rattle.std.proofs.Common.{◌≡◌, ◌++◌, ◌==◌, false, ℕ, zero, suc, ◌+◌, ◌<◌, ◌≤◌, List, [], ◌∷◌, map, take, length, get_or, Bool, true, IsTrue, refl, sym, ap, subst, ◌∙◌, arith, append_assoc, IsPermutation, Result, Ok, Err, OnOk}
 use Rattle.std.specs.Prelude.{if◌then◌else◌}
 use Rattle.std.proofs.lemmas.Bool.Decides.{nat_tests}
 use Rattle.std.proofs.lemmas.List.Sorted.{IsPermutation-refl, IsPermutation-append, IsPermutation-append_comm}
@@ -31,7 +31,7 @@ carried_then a b c ok f s = record {
   survives = survives_then a b c _ _ (λ _. ⊥) (λ _ db none. none) (λ _ db none. none) f.survives s.survives;
 }
 
-past : (a b : State) (ok : Bool) → IsCarried a b ok → HasCleanDisk b → HasCleanDisk a
+pub past : (a b : State) (ok : Bool) → IsCarried a b ok → HasCleanDisk b → HasCleanDisk a
 past a b ok l clean = let up = l.survives.clean in omega (arith, clean, up)
 
 pub lent_carried : (a b c : State) (ok : Bool) → IsLent a b true → IsCarried b c ok → IsLent a c ok
@@ -48,6 +48,11 @@ both_carried a b c ok f s = record {
   inside = λ clean within is_ok. let was = past b c ok s clean in s.inside clean (f.inside was within refl) is_ok;
   survives = survives_then a b c _ _ (λ _. ⊥) (λ _ db none. none) (λ _ db none. none) f.survives s.survives;
 }
+
+-- what follows from a part that went well
+pub on_done : {T E : Type 0} (r : Result T E) (P Q : Type 0) → (P → Q) → OnOk r P → OnOk r Q
+on_done (Ok x) P Q f h = f h
+on_done (Err e) P Q f h = tt
 
 -- what was carried so far, where the part then fails
 pub carried_failed : (a b : State) → IsCarried a b true → IsCarried a b false

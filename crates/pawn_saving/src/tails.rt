@@ -25,8 +25,8 @@ pub(crate) fn put_entries<S: Alter>(
     Ok(())
 }
 
-// The place after this one.
-fn next_place(place: u32) -> Result<u32, KeepError>
+/// The place after this one.
+pub(crate) fn next_place(place: u32) -> Result<u32, KeepError>
     ensures value { IfOk result (λ next. next ≡ place + 1) }
 {
     match place.checked_add(1) {
