@@ -94,7 +94,7 @@ held db h st = subst (λ s. StandsFor (record { schema = s; trees = db.trees }) 
 
 -- ---- what rows cannot tell, of a host whose books are sound
 
-each_of : {A : Type 0} (P Q : A → Type 0) → ((x : A) → P x → Q x) → (xs : List A) → Each P xs → Each Q xs
+pub each_of : {A : Type 0} (P Q : A → Type 0) → ((x : A) → P x → Q x) → (xs : List A) → Each P xs → Each Q xs
 each_of P Q f [] all = tt
 each_of P Q f (x ∷ xs) all = (f x all.0, each_of P Q f xs all.1)
 

@@ -50,6 +50,11 @@ abbrev pub WritesRows : {E : Type 0} → State → State → Change → Result �
 WritesRows old new change result =
     HasCleanDisk new → IsTrue old.in_transaction → (h : Host) → IsSound h → CanSave h change → StandsFor old.now h → IfOk result (IsWritten h (with_change h change) new.now)
 
+-- of each such host of which P holds: the changed host is written
+abbrev pub WritesWhere : {E : Type 0} → State → State → (Host → Type 0) → Change → Result ℕ E → Type 0
+WritesWhere old new P change result =
+    HasCleanDisk new → IsTrue old.in_transaction → (h : Host) → IsSound h → CanSave h change → StandsFor old.now h → P h → IfOk result (IsWritten h (with_change h change) new.now)
+
 -- so many rows more are counted, and it is told whether all of them are within the limit
 abbrev pub Counts : {E : Type 0} → State → State → ℕ → Result Bool E → Type 0
 Counts old new by result =

@@ -9,6 +9,7 @@ mod entries;
 mod lengths;
 mod pledges;
 mod putting;
+mod renewing;
 mod saving;
 mod tails;
 mod writing;
