@@ -11,7 +11,7 @@ use Rattle.one_table.specs.Listing.{Holds, Lists, Listed, with_rows}
 use Rattle.pawn_tables.specs.Schema.{keep_schema}
 use Rattle.pawn_tables.specs.Rows.{at_most_one}
 use Rattle.pawn_saving.specs.declared.lengths.Lengths.{Lengths}
-use Rattle.pawn_saving.specs.Putting.{beside, booking_under, entries_past, extensions_past, lists_past, row_under, secrets_past, sides_of, totals_under, whole_pledge}
+use Rattle.pawn_saving.specs.Putting.{beside, booking_under, entries_past, extensions_past, lists_past, row_under, secrets_past, sides_of, totals_under, whole_pledge, with_sides}
 use Rattle.pawn_saving.proofs.Tailing.{nothing_put, reordered}
 
 -- the same rows, told otherwise
@@ -33,6 +33,11 @@ module _ (db : Database) (listed : Listed) (b n : ℕ) (p : PledgeValue) where
   -- both
   pub whole_put : Lists keep_schema db (beside (lists_past (record { entries = 0; secrets = 0; extensions = 0 }) b n p) (beside (sides_of b n p) listed)) → Lists keep_schema db (beside (whole_pledge b n p) listed)
   whole_put lists = told_as db _ _ lists lists.tables
+
+  -- the rows of which there is one at most, where the pledge stood
+  pub sides_set : (others : Listed) → Lists keep_schema db (with_rows (with_rows (with_rows listed 3 (row_under b n p ∷ others 3)) 15 (totals_under b n p ∷ others 15)) 11 (booking_under b n p ++ others 11))
+      → Lists keep_schema db (with_sides b n p others listed)
+  sides_set others lists = told_as db _ _ lists lists.tables
 
 -- ---- bookings
 

@@ -10,6 +10,7 @@ use Rattle.pawn_tables.specs.Schema.{keep_schema}
 use Rattle.pawn_tables.specs.At.{at_pledge}
 use Rattle.pawn_tables.specs.Rows.{at_most_one, booking_cells, entry_cells, extension_cells, placed_from, pledge_cells, secret_cells, totals_cells, under}
 use Rattle.pawn_saving.specs.declared.lengths.Lengths.{Lengths}
+use Rattle.pawn_saving.specs.Writing.{IsOnly}
 
 -- ---- the rows of pledge n of book b
 
@@ -59,6 +60,21 @@ whole_pledge b n p t =
     else if t == 17 then extensions_past 0 b n p
     else []
 
+-- what the tables list beside the rows of which a pledge has one at most, none of it the pledge's
+pub record AreSides (b n : ℕ) (p : PledgeValue) (listed others : Listed) : Type 0 where
+  pub row : IsOnly (at_pledge b n) (listed 3) (row_under b n p) (others 3)
+  pub totals : IsOnly (at_pledge b n) (listed 15) (totals_under b n p) (others 15)
+  pub bookings : IsPermutation (listed 11) (booking_under b n p ++ others 11)
+  pub no_booking : filter (at_pledge b n) (others 11) ≡ []
+
+-- those rows of a pledge beside the others
+abbrev pub with_sides : ℕ → ℕ → PledgeValue → Listed → Listed → Listed
+with_sides b n p others listed t =
+    if t == 3 then row_under b n p ∷ others 3
+    else if t == 11 then booking_under b n p ++ others 11
+    else if t == 15 then totals_under b n p ∷ others 15
+    else listed t
+
 -- ---- what the parts write
 
 -- rows stand beside those of each table
@@ -75,6 +91,12 @@ abbrev pub AddSides : {T E : Type 0} → State → State → Result T E → ℕ 
 AddSides old new result b n p =
     HasCleanDisk new → IsTrue old.in_transaction → (listed : Listed) → filter (at_pledge b n) (listed 11) ≡ [] → Lists keep_schema old.now listed
     → OnOk result (Lists keep_schema new.now (beside (sides_of b n p) listed))
+
+-- the rows of which a pledge has one at most take the place of those of the pledge as it was
+abbrev pub RenewSides : {T E : Type 0} → State → State → Result T E → ℕ → ℕ → PledgeValue → PledgeValue → Type 0
+RenewSides old new result b n before p =
+    HasCleanDisk new → IsTrue old.in_transaction → (listed others : Listed) → AreSides b n before listed others → Lists keep_schema old.now listed
+    → OnOk result (Lists keep_schema new.now (with_sides b n p others listed))
 
 -- all rows of the pledge join those of their tables, where no booking of it stands, and it is told how many of them are counted
 abbrev pub AddsPledge : {E : Type 0} → State → State → Result ℕ E → ℕ → ℕ → PledgeValue → Type 0
