@@ -1,8 +1,7 @@
-use Rattle.std.proofs.Common.{◌∷◌, ◌++◌, [], None, refl, true, is_ok, ap}
+use Rattle.std.proofs.Common.{◌∷◌, None, refl, true, is_ok}
 use Rattle.std.proofs.lemmas.List.Sorted.{IsPermutation-refl}
 use Rattle.sqlite.specs.Held.{state}
 use Rattle.one_table.specs.Listing.{with_rows}
-use Rattle.pawn_tables.specs.Rows.{at_most_one}
 use Rattle.pawn_saving.specs.Putting.{row_under, totals_under}
 use Rattle.pawn_saving.proofs.Lent.{clean_before}
 use Rattle.pawn_saving.proofs.Tailing.{past, on_done}

@@ -1,4 +1,4 @@
-use Rattle.std.proofs.Common.{rules, ◌≡◌, ◌≤◌, ◌+◌, ◌∙◌, ℕ, length, ap, arith}
+use Rattle.std.proofs.Common.{rules, ◌≤◌, ◌∙◌, ℕ, length, ap, arith}
 use Rattle.sqlite.specs.Held.{state}
 use Rattle.pawn_tables.specs.Rows.{under, placed_from, secret_cells}
 use Rattle.pawn_pledge.specs.declared.record.Issued.{Issued}
