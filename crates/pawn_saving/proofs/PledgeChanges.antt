@@ -8,14 +8,13 @@ use Rattle.std.proofs.lemmas.List.Sorted.{IsPermutation-refl, IsPermutation-cons
 use Rattle.sqlite_trees.proofs.ListLemmas.{IsPermutation-flat_map, IsPermutation-filter, IsPermutation-same}
 use Rattle.sqlite.specs.declared.types.Value.TheVariants.{Text}
 use Rattle.sqlite.specs.Order.{Row}
-use Rattle.pawn_terms.specs.Limits.{first_day}
 use Rattle.pawn_pledge.specs.Pledge.{PledgeValue}
 use Rattle.pawn_book.specs.declared.change.Change.TheVariants.{PutPledge}
 use Rattle.pawn_book.specs.BookStep.{BookValue, changed_book, pledge_from, pledge_in, put_from}
 use Rattle.pawn_book.specs.Changes.{with_change}
 use Rattle.pawn_book.specs.HostStep.{Host, book_rows, pledge_rows, rows, with_book}
 use Rattle.pawn_book.specs.Rows.{AreNumberedFrom}
-use Rattle.pawn_book.specs.Sound.{AreSound, HasTextsAndWords}
+use Rattle.pawn_book.specs.Sound.{AreSound}
 use Rattle.pawn_book.proofs.RowSums.{part, rows-with_book}
 use Rattle.pawn_book.proofs.Sounds.{get-with_book}
 use Rattle.one_table.proofs.Rowed.{swapped}
@@ -24,11 +23,10 @@ use Rattle.pawn_tables.specs.Rows.{book_row, import_count, import_key, number, o
 use Rattle.pawn_tables.specs.StandsFor.{of_books, of_pledges, AreOrdered}
 use Rattle.pawn_tables.proofs.Sought.{AreUnder, all_under, filter-append, of_one_pledge, rows_at}
 use Rattle.pawn_tables.proofs.PledgeReads.{number_in}
-use Rattle.pawn_saving.specs.Counted.{AreTaken, listed_as}
+use Rattle.pawn_saving.specs.Counted.{listed_as}
 use Rattle.pawn_saving.specs.Writing.{IsOnly}
 use Rattle.pawn_saving.proofs.BookChanges.{books_only}
 use Rattle.pawn_saving.proofs.Changing.{replaced}
-use Rattle.pawn_saving.proofs.Hosting.{each_of}
 
 -- ---- the pledges of a book
 
@@ -93,9 +91,6 @@ append_same xs ys zs same = IsPermutation-append xs ys zs zs same (IsPermutation
 no_rows : (xs : List Row) → length xs ≡ 0 → xs ≡ []
 no_rows [] h = refl
 no_rows (x ∷ xs) h = absurd (omega (arith, h))
-
-pub taken_of : (h : Host) → AreSound h → AreTaken h
-taken_of h sound b k is = each_of HasTextsAndWords (λ p. first_day ≤ p.agreement.taken) (λ p written. written.taken.0) k.pledges (sound b k is).1.written
 
 module _ (h : Host) (b n : ℕ) (k : BookValue) (p : PledgeValue) (is : get h.books b ≡ Some k) where
   abbrev pub stood : Option PledgeValue

@@ -30,7 +30,7 @@ use Rattle.pawn_saving.specs.Counted.{IsWritten, listed_as, ListsHost}
 use Rattle.pawn_saving.specs.declared.lengths.Lengths.{Lengths}
 use Rattle.pawn_saving.specs.Putting.{AreSides, beside, booking_under, entries_past, extensions_past, lists_past, row_under, secrets_past, totals_under, whole_pledge, with_sides}
 use Rattle.pawn_saving.proofs.Hosting.{AreSame, relisted}
-use Rattle.pawn_saving.proofs.PledgeChanges.{after_put, before_put, books_after, books_stay, changed, is_changed, next, none_rest, other_books, put_length, put_named, rest, rows_grown, rows_joined, rows_put, stood, taken_of, terms_stay}
+use Rattle.pawn_saving.proofs.PledgeChanges.{after_put, before_put, books_after, books_stay, changed, is_changed, next, none_rest, other_books, put_length, put_named, rest, rows_grown, rows_joined, rows_put, stood, terms_stay}
 
 module _ (h : Host) (b n : ℕ) (k : BookValue) (p : PledgeValue) (is : get h.books b ≡ Some k) where
   -- no booking of a pledge stands that doesn't
@@ -62,7 +62,6 @@ module _ (h : Host) (b n : ℕ) (k : BookValue) (p : PledgeValue) (is : get h.bo
         subst (λ x. IsWritten h x db (pledge_rows p)) (sym (is_changed h b n k p is)) (record {
           lists = subst (ListsHost db g) same (relisted db _ _ (joined_same named) lists);
           grown = let sums = rows_put h b n k p is in let before : part pledge_rows (stood h b n k p is) ≡ 0 = ap (part pledge_rows) none in omega (arith, sums, before);
-          taken = taken_of g sounds;
         })
 
 -- a pledge that follows where none stands is the next
@@ -155,14 +154,13 @@ module _ (h : Host) (b n : ℕ) (k : BookValue) (old p : PledgeValue) (is : get 
         extensions = rows_grown h b n k p is extensions_listed old _ some (extensions_are b old p l as_before it.lists extensions_so);
       }
 
-      pub renewed_written : (db : Database) (added : ℕ) → counted ≡ rows h → AreSound (with_change h (PutPledge b n p)) → pledge_rows p ≡ pledge_rows old + added
+      pub renewed_written : (db : Database) (added : ℕ) → counted ≡ rows h → pledge_rows p ≡ pledge_rows old + added
           → Lists keep_schema db (beside (lists_past l b n p) (with_sides b n p others (listed_as h counted))) → IsWritten h (with_change h (PutPledge b n p)) db added
-      renewed_written db added same sound more lists =
+      renewed_written db added same more lists =
           let g = changed h b n k p is in
           let named : p.agreement.number ≡ n = as_before ∙ old_named in
           let own = subst (λ m. Lists keep_schema db (beside (lists_past l b m p) (with_sides b m p others (listed_as h counted)))) (sym named) lists in
           subst (λ x. IsWritten h x db added) (sym (is_changed h b n k p is)) (record {
             lists = subst (ListsHost db g) same (relisted db _ _ renewed_same own);
             grown = let sums = rows_put h b n k p is in let before : part pledge_rows (stood h b n k p is) ≡ pledge_rows old = ap (part pledge_rows) some in omega (arith, sums, before, more);
-            taken = taken_of g (subst AreSound (is_changed h b n k p is) sound);
           })

@@ -30,4 +30,4 @@ returns-clause-wrote g c clean within h sound can st standing =
     let set = rw (c.get.ensures.value, c.get-2.ensures.value) at (c.in_ok-set_sides.ensures.wrote old (sym it.agreement) c.in_ok-added.ensures.booked clean1 within (listed_as h counted) rest) in
     let one = set (old_sides h b n k old p is some counted st.ordered) (as_lists _ h st) in
     let two = rw (c.get-3.ensures.value, c.get-4.ensures.value) at (c.in_ok-put_lists.ensures.wrote clean within1 (with_sides b n p rest (listed_as h counted))) in
-    renewed_written h b n k old p is some counted st.ordered l it c.in_ok-lengths.ensures.entries c.in_ok-lengths.ensures.secrets c.in_ok-lengths.ensures.extensions new.now c.in_ok-added.added refl can.sound c.in_ok-added.ensures.value (two one)
+    renewed_written h b n k old p is some counted st.ordered l it c.in_ok-lengths.ensures.entries c.in_ok-lengths.ensures.secrets c.in_ok-lengths.ensures.extensions new.now c.in_ok-added.added refl c.in_ok-added.ensures.value (two one)
