@@ -1,11 +1,12 @@
-ghost use Rattle.std.specs.Prelude.{◌≡◌, ◌+◌, IfOk, is_ok, map};
+ghost use Rattle.std.specs.Prelude.{◌≡◌, ◌+◌, ◌∷◌, IfOk, is_ok, map};
 ghost use Rattle.sqlite.specs.Held.{state};
-ghost use Rattle.pawn_tables.specs.Rows.{under, entry_cells, extension_cells, placed_from, secret_cells};
+ghost use Rattle.pawn_tables.specs.Rows.{under, entry_cells, extension_cells, number, placed_from, secret_cells, terms_cells};
 ghost use Rattle.pawn_saving.specs.Writing.{AllJoin, IsCarried};
 
+use crate::books::put_terms;
 use crate::cells::REFUSED;
 use crate::entries::{put_entry, put_extension, put_secret};
-use pawn_book::{Entry, Extension, Issued, KeepError};
+use pawn_book::{Entry, Extension, Issued, KeepError, Rates};
 use sqlite::{Alter, Transaction};
 
 /// Puts entries of a pledge.
@@ -71,6 +72,24 @@ pub(crate) fn put_extensions<S: Alter>(
     for extension in extensions {
         put_extension(tx, book, number, place, extension)?;
         place = next_place(place)?;
+    }
+    Ok(())
+}
+
+/// Puts the terms of a book, version 1 first.
+pub(crate) fn put_versions<S: Alter>(
+    tx: &mut Transaction<'_, S>,
+    book: u32,
+    terms: &[Rates],
+) -> Result<(), KeepError>
+    ensures same_reference { tx.new.conn.ghost_name ≡ tx.old.conn.ghost_name }
+    ensures wrote { AllJoin (state S.Store tx.old.conn.now) (state S.Store tx.new.conn.now) result 1 (placed_from (λ version t. number book ∷ number version ∷ terms_cells t) 1 terms.now) }
+    ensures carried { IsCarried (state S.Store tx.old.conn.now) (state S.Store tx.new.conn.now) (is_ok result) }
+{
+    let mut version = 1;
+    for rates in terms {
+        put_terms(tx, book, version, *rates)?;
+        version = next_place(version)?;
     }
     Ok(())
 }
