@@ -1,6 +1,5 @@
 -- What becomes of the rows of a host where a book is made, and where it gets terms.
-use Rattle.std.proofs.Common.{◌≡◌, ◌≢◌, ◌++◌, ◌==◌, ℕ, suc, ◌+◌, ◌≤◌, List, [], ◌∷◌, map, filter, flat_map, length, length-append, Bool, true, false, cond, ◌&&◌, Some, None, refl, sym, ap, subst, ◌∙◌, arith, IsPermutation}
-use Rattle.std.specs.Prelude.{if◌then◌else◌}
+use Rattle.std.proofs.Common.{◌≡◌, ◌≢◌, ◌++◌, ◌==◌, ℕ, suc, ◌+◌, List, [], ◌∷◌, map, filter, flat_map, length, length-append, Bool, true, false, cond, ◌&&◌, Some, None, refl, sym, ap, subst, ◌∙◌, arith, IsPermutation}
 use Rattle.std.specs.FinMap.{entries, get}
 use Rattle.std.proofs.lemmas.Bool.Decides.{nat_tests}
 use Rattle.std.proofs.lemmas.List.Sorted.{IsPermutation-refl, IsPermutation-cons, IsPermutation-trans, IsPermutation-sym, IsPermutation-map, IsPermutation-append, IsPermutation-append_comm, length_permutation}
@@ -8,34 +7,22 @@ use Rattle.sqlite_trees.proofs.ListLemmas.{IsPermutation-flat_map, IsPermutation
 use Rattle.sqlite.specs.Order.{Row}
 use Rattle.sqlite.specs.Effect.{Database}
 use Rattle.pawn_terms.specs.declared.terms.Rates.{Rates}
-use Rattle.pawn_terms.specs.Limits.{first_day}
-use Rattle.pawn_pledge.specs.Replayable.{Each}
 use Rattle.pawn_book.specs.declared.change.Change.TheVariants.{AddTerms, MakeBook}
 use Rattle.pawn_book.specs.declared.request.NewBook.{NewBook}
 use Rattle.pawn_book.specs.BookStep.{BookValue, changed_book, made_book}
 use Rattle.pawn_book.specs.Changes.{with_change}
 use Rattle.pawn_book.specs.HostStep.{Host, book_rows, rows, with_book}
 use Rattle.pawn_book.proofs.RowSums.{part, rows-with_book}
-use Rattle.pawn_book.proofs.Sounds.{get-with_book, some_is}
 use Rattle.one_table.specs.Listing.{Lists, with_rows}
 use Rattle.pawn_tables.specs.Schema.{keep_schema}
 use Rattle.pawn_tables.specs.At.{at_book}
 use Rattle.pawn_tables.specs.Rows.{number, placed_from, book_row, terms_cells, terms_listed, pledge_listed, entries_listed, secrets_listed, booking_listed, totals_listed, extensions_listed}
 use Rattle.pawn_tables.specs.StandsFor.{of_books}
 use Rattle.pawn_tables.proofs.Sought.{equals, of_one_book, rows_at}
-use Rattle.pawn_saving.specs.Counted.{listed_as, ListsHost, AreTaken, IsWritten}
+use Rattle.pawn_saving.specs.Counted.{listed_as, ListsHost, IsWritten}
 use Rattle.pawn_saving.specs.Writing.{IsOnly}
 use Rattle.pawn_saving.proofs.Hosting.{AreSame, relisted}
 use Rattle.pawn_saving.proofs.Changing.{joined, replaced}
-
--- ---- the days on which pledges were taken
-
-pub taken_with : (h : Host) (b : ℕ) (k : BookValue) → AreTaken h → Each (λ p. first_day ≤ p.agreement.taken) k.pledges → AreTaken (with_book h b (Some k))
-taken_with h b k taken own c other is = from (c == b) (sym (get-with_book h b k c) ∙ is)
-  where
-    from : (v : Bool) → (if v then Some k else get h.books c) ≡ Some other → Each (λ p. first_day ≤ p.agreement.taken) other.pledges
-    from true is = subst (λ (x : BookValue). Each (λ p. first_day ≤ p.agreement.taken) x.pledges) (some_is k other is) own
-    from false is = taken c other is
 
 -- ---- a new book
 
@@ -62,11 +49,10 @@ module _ (h : Host) (b : ℕ) (new : NewBook) (none : get h.books b ≡ None) (c
     extensions = beside (λ c k. flat_map (extensions_listed c) k.pledges);
   }
 
-  pub made_written : (db : Database) → counted ≡ rows h → AreTaken h → Lists keep_schema db (with_rows (listed_as h counted) 0 (book_row b made ∷ listed_as h counted 0)) → IsWritten h grown db 1
-  made_written db is taken l = record {
+  pub made_written : (db : Database) → counted ≡ rows h → Lists keep_schema db (with_rows (listed_as h counted) 0 (book_row b made ∷ listed_as h counted 0)) → IsWritten h grown db 1
+  made_written db is l = record {
     lists = subst (ListsHost db grown) is (relisted db _ _ made_same l);
     grown = let sums = rows-with_book h b made in let before : part book_rows (get h.books b) ≡ 0 = ap (part book_rows) none in omega (arith, sums, before);
-    taken = taken_with h b made taken tt;
   }
 
 -- ---- the row of a book, and those of the others
@@ -172,14 +158,13 @@ module _ (h : Host) (b version : ℕ) (t : Rates) (k : BookValue) (is : get h.bo
     extensions = stays (λ c x. flat_map (extensions_listed c) x.pledges) refl;
   }
 
-  pub longer_written : (db : Database) → counted ≡ rows h → AreTaken h → Lists keep_schema db (with_rows (with_rows (listed_as h counted) 1 (row ∷ listed_as h counted 1)) 0 (book_row b next ∷ others))
+  pub longer_written : (db : Database) → counted ≡ rows h → Lists keep_schema db (with_rows (with_rows (listed_as h counted) 1 (row ∷ listed_as h counted 1)) 0 (book_row b next ∷ others))
       → IsWritten h (with_change h (AddTerms b version t)) db 1
-  longer_written db same taken l = subst (λ g. IsWritten h g db 1) (sym is_longer) (record {
+  longer_written db same l = subst (λ g. IsWritten h g db 1) (sym is_longer) (record {
     lists = subst (ListsHost db longer) same (relisted db _ _ longer_same l);
     grown =
         let sums = rows-with_book h b next in
         let before : part book_rows (get h.books b) ≡ book_rows k = ap (part book_rows) is in
         let more = length-append k.terms (t ∷ []) in
         omega (arith, sums, before, more);
-    taken = taken_with h b next taken (taken b k is);
   })

@@ -1,10 +1,11 @@
 -- Tables that stand for a host, and tables that list its rows.
-use Rattle.std.proofs.Common.{◌≡◌, ℕ, List, [], ◌∷◌, codes, IsPermutation, subst, arith}
+use Rattle.std.proofs.Common.{◌≡◌, ◌≤◌, ℕ, List, [], ◌∷◌, codes, IsPermutation, subst, arith}
 use Rattle.std.proofs.lemmas.List.Sorted.{IsPermutation-trans, IsPermutation-refl}
 use Rattle.sqlite.specs.Order.{Row}
 use Rattle.sqlite.specs.Tree.{Trees}
 use Rattle.sqlite.specs.Table.{Table}
 use Rattle.sqlite.specs.Effect.{Database}
+use Rattle.pawn_terms.specs.Limits.{first_day}
 use Rattle.pawn_pledge.specs.Replayable.{Each, IsStanding, AreNumbered}
 use Rattle.pawn_book.specs.HostStep.{Host, rows}
 use Rattle.pawn_book.specs.Sound.{AreSound, HasTextsAndWords}
@@ -14,7 +15,7 @@ use Rattle.one_table.proofs.Rowed.{swapped}
 use Rattle.pawn_tables.specs.Meta.{meta_row, other_rows}
 use Rattle.pawn_tables.specs.Schema.{keep_schema}
 use Rattle.pawn_tables.specs.StandsFor.{StandsFor, HoldHost, AreOrdered, AreStorable}
-use Rattle.pawn_saving.specs.Counted.{listed_as, ListsHost, AreTaken}
+use Rattle.pawn_saving.specs.Counted.{listed_as, ListsHost}
 
 -- the tables that stand for a host list its rows, and count them
 pub as_lists : (db : Database) (h : Host) → StandsFor db h → ListsHost db h (rows h)
@@ -105,12 +106,12 @@ are_ordered h sound b k is = let s = (sound b k is).1 in record {
   under = s.rows.under;
 }
 
-pub are_storable : (h : Host) → AreSound h → AreTaken h → AreStorable h
-are_storable h sound taken b k is = let s = (sound b k is).1 in record {
+pub are_storable : (h : Host) → AreSound h → AreStorable h
+are_storable h sound b k is = let s = (sound b k is).1 in record {
   key = s.key;
   imported = s.imported;
   secrets = each_of HasTextsAndWords (λ p. AreWords p.secrets) (λ p written. written.secrets) k.pledges s.written;
-  taken = taken b k is;
+  taken = each_of HasTextsAndWords (λ p. first_day ≤ p.agreement.taken) (λ p written. written.taken.0) k.pledges s.written;
   versions = let few = s.rows.few_terms in omega (arith, few);
 }
 
@@ -127,6 +128,3 @@ recounted db h counted more told is l = subst (ListsHost db h) is (relisted db _
   totals = IsPermutation-refl _;
   extensions = IsPermutation-refl _;
 }) l)
-
-pub are_taken : (db : Database) (h : Host) → StandsFor db h → AreTaken h
-are_taken db h st b k is = (st.storable b k is).taken

@@ -26,7 +26,7 @@ module _ (h : Host) (change : Change) (mid db : Database) (added : ℕ) (fits : 
     (counts : (IsTrue fits ↔ (rows h + added ≤ (with_change h change).limit)) × ListsHost db (with_change h change) (rows h + added)) where
   pub stands_after : fits ≡ true → StandsFor db (with_change h change) × (rows (with_change h change) ≤ h.limit)
   stands_after is = (
-    as_stands db (with_change h change) (subst (ListsHost db (with_change h change)) (sym w.grown) counts.1) (are_ordered (with_change h change) can.sound) (are_storable (with_change h change) can.sound w.taken),
+    as_stands db (with_change h change) (subst (ListsHost db (with_change h change)) (sym w.grown) counts.1) (are_ordered (with_change h change) can.sound) (are_storable (with_change h change) can.sound),
     let few = counts.0.0 is in let same = limit_after h change in let grown = w.grown in omega (arith, few, same, grown),
   )
 

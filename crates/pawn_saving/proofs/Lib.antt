@@ -6,8 +6,11 @@ pub mod Hosting
 pub mod Judging
 pub mod Lent
 pub mod Places
+pub mod PledgeChanges
+pub mod PledgeWrites
 pub mod Puts
 pub mod RowPuts
 pub mod Saved
 pub mod Tailing
+pub mod WholePuts
 pub mod WriteTexts

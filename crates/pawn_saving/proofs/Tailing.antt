@@ -1,7 +1,10 @@
 -- Rows that are put one after another.
-use Rattle.std.proofs.Common.{◌≡◌, ◌++◌, ℕ, zero, suc, ◌+◌, ◌<◌, ◌≤◌, List, [], ◌∷◌, map, take, length, get_or, Bool, true, IsTrue, refl, sym, ap, subst, ◌∙◌, arith, append_assoc, IsPermutation}
+use Rattle.std.proofs.Common.{◌≡◌, ◌++◌, ◌==◌, false, ℕ, zero, suc, ◌+◌, ◌<◌, ◌≤◌, List, [], ◌∷◌, map, take, length, get_or, Bool, true, IsTrue, refl, sym, ap, subst, ◌∙◌, arith, append_assoc, IsPermutation, Result, Ok, Err, OnOk}
+use Rattle.std.specs.Prelude.{if◌then◌else◌}
+use Rattle.std.proofs.lemmas.Bool.Decides.{nat_tests}
 use Rattle.std.proofs.lemmas.List.Sorted.{IsPermutation-refl, IsPermutation-append, IsPermutation-append_comm}
 use Rattle.sqlite.specs.Order.{Row}
+use Rattle.sqlite.specs.Effect.{Database}
 use Rattle.sqlite.specs.State.{State, HasCleanDisk}
 use Rattle.sqlite.proofs.StateLemmas.{survives_then}
 use Rattle.one_table.specs.Lending.{IsLent}
@@ -9,6 +12,7 @@ use Rattle.one_table.specs.Listing.{Lists, Listed, with_rows}
 use Rattle.one_table.proofs.Lent.{clean_before}
 use Rattle.one_table.proofs.Parts.{kept_then}
 use Rattle.pawn_tables.specs.Schema.{keep_schema}
+use Rattle.pawn_tables.specs.Rows.{placed_from}
 use Rattle.pawn_saving.specs.Writing.{IsCarried}
 use Rattle.pawn_saving.proofs.Hosting.{relisted}
 
@@ -27,48 +31,115 @@ carried_then a b c ok f s = record {
   survives = survives_then a b c _ _ (λ _. ⊥) (λ _ db none. none) (λ _ db none. none) f.survives s.survives;
 }
 
--- the entries that were put so far have joined the others
-pub record ArePut (old new : State) (rows : List Row) : Type 0 where
-  pub carried : IsCarried old new true
-  pub lists : HasCleanDisk new → IsTrue old.in_transaction → (listed : Listed) → Lists keep_schema old.now listed → Lists keep_schema new.now (with_rows listed 6 (rows ++ listed 6))
+pub past : (a b : State) (ok : Bool) → IsCarried a b ok → HasCleanDisk b → HasCleanDisk a
+past a b ok l clean = let up = l.survives.clean in omega (arith, clean, up)
 
-pub none_put : (s : State) → ArePut s s []
-none_put s = record {
-  carried = carried_none s;
-  lists = λ clean within listed l. relisted s.now _ _ (record {
-    books = IsPermutation-refl _;
-    terms = IsPermutation-refl _;
-    pledges = IsPermutation-refl _;
-    entries = IsPermutation-refl _;
-    secrets = IsPermutation-refl _;
-    bookings = IsPermutation-refl _;
-    meta = IsPermutation-refl _;
-    totals = IsPermutation-refl _;
-    extensions = IsPermutation-refl _;
-  }) l;
+pub lent_carried : (a b c : State) (ok : Bool) → IsLent a b true → IsCarried b c ok → IsLent a c ok
+lent_carried a b c ok f s = record {
+  kept = λ clean within. let was = past b c ok s clean in kept_then a b c (f.kept was within) (s.kept clean (f.inside was within refl));
+  opened = λ clean within is_ok. f.opened (past b c ok s clean) within refl;
+  inside = λ clean within is_ok. let was = past b c ok s clean in s.inside clean (f.inside was within refl) is_ok;
+  survives = survives_then a b c _ _ (λ _. ⊥) (λ _ db none. none) (λ _ db none. none) f.survives s.survives;
 }
+
+pub both_carried : (a b c : State) (ok : Bool) → IsCarried a b true → IsCarried b c ok → IsCarried a c ok
+both_carried a b c ok f s = record {
+  kept = λ clean within. let was = past b c ok s clean in kept_then a b c (f.kept was within) (s.kept clean (f.inside was within refl));
+  inside = λ clean within is_ok. let was = past b c ok s clean in s.inside clean (f.inside was within refl) is_ok;
+  survives = survives_then a b c _ _ (λ _. ⊥) (λ _ db none. none) (λ _ db none. none) f.survives s.survives;
+}
+
+-- what follows from a part that went well
+pub on_done : {T E : Type 0} (r : Result T E) (P Q : Type 0) → (P → Q) → OnOk r P → OnOk r Q
+on_done (Ok x) P Q f h = f h
+on_done (Err e) P Q f h = tt
+
+-- what was carried so far, where the part then fails
+pub carried_failed : (a b : State) → IsCarried a b true → IsCarried a b false
+carried_failed a b f = record { kept = f.kept; inside = λ clean within is_ok. absurd (let e = is_ok in cc); survives = f.survives }
+
+-- the rows that were put so far have joined the others of their table
+pub record ArePut (tree : ℕ) (old new : State) (rows : List Row) : Type 0 where
+  pub carried : IsCarried old new true
+  pub lists : HasCleanDisk new → IsTrue old.in_transaction → (listed : Listed) → Lists keep_schema old.now listed → Lists keep_schema new.now (with_rows listed tree (rows ++ listed tree))
+
+same_tree : (t : ℕ) → (t == t) ≡ true
+same_tree t = grind (arith, nat_tests)
+
+-- the rows of one table, put again or in another order
+again : (b : Bool) (xs ys rest : List Row) → IsPermutation xs ys → IsPermutation (if b then xs else rest) (if b then ys else rest)
+again true xs ys rest same = same
+again false xs ys rest same = IsPermutation-refl rest
+
+pub reordered : (db : Database) (listed : Listed) (tree : ℕ) (xs ys : List Row) → IsPermutation xs ys → Lists keep_schema db (with_rows listed tree ys) → Lists keep_schema db (with_rows listed tree xs)
+reordered db listed tree xs ys same l = relisted db _ _ (record {
+  books = again (0 == tree) xs ys (listed 0) same;
+  terms = again (1 == tree) xs ys (listed 1) same;
+  pledges = again (3 == tree) xs ys (listed 3) same;
+  entries = again (6 == tree) xs ys (listed 6) same;
+  secrets = again (8 == tree) xs ys (listed 8) same;
+  bookings = again (11 == tree) xs ys (listed 11) same;
+  meta = again (13 == tree) xs ys (listed 13) same;
+  totals = again (15 == tree) xs ys (listed 15) same;
+  extensions = again (17 == tree) xs ys (listed 17) same;
+}) l
+
+-- the rows of a table are put in place of others that were put before
+over : (b : Bool) (xs ys rest : List Row) → IsPermutation (if b then xs else rest) (if b then xs else (if b then ys else rest))
+over true xs ys rest = IsPermutation-refl xs
+over false xs ys rest = IsPermutation-refl rest
+
+pub put_over : (db : Database) (listed : Listed) (tree : ℕ) (xs ys : List Row) → Lists keep_schema db (with_rows (with_rows listed tree ys) tree xs) → Lists keep_schema db (with_rows listed tree xs)
+put_over db listed tree xs ys l = relisted db _ _ (record {
+  books = over (0 == tree) xs ys (listed 0);
+  terms = over (1 == tree) xs ys (listed 1);
+  pledges = over (3 == tree) xs ys (listed 3);
+  entries = over (6 == tree) xs ys (listed 6);
+  secrets = over (8 == tree) xs ys (listed 8);
+  bookings = over (11 == tree) xs ys (listed 11);
+  meta = over (13 == tree) xs ys (listed 13);
+  totals = over (15 == tree) xs ys (listed 15);
+  extensions = over (17 == tree) xs ys (listed 17);
+}) l
+
+-- a table as it is
+as_is : (b : Bool) (t tree : ℕ) (listed : Listed) → (t == tree) ≡ b → IsPermutation (if b then listed tree else listed t) (listed t)
+as_is true t tree listed is = let same : t ≡ tree = grind (arith, nat_tests, is) in subst (λ n. IsPermutation (listed n) (listed t)) same (IsPermutation-refl _)
+as_is false t tree listed is = IsPermutation-refl _
+
+pub nothing_put : (db : Database) (listed : Listed) (tree : ℕ) → Lists keep_schema db listed → Lists keep_schema db (with_rows listed tree (listed tree))
+nothing_put db listed tree l = relisted db _ _ (record {
+  books = as_is (0 == tree) 0 tree listed refl;
+  terms = as_is (1 == tree) 1 tree listed refl;
+  pledges = as_is (3 == tree) 3 tree listed refl;
+  entries = as_is (6 == tree) 6 tree listed refl;
+  secrets = as_is (8 == tree) 8 tree listed refl;
+  bookings = as_is (11 == tree) 11 tree listed refl;
+  meta = as_is (13 == tree) 13 tree listed refl;
+  totals = as_is (15 == tree) 15 tree listed refl;
+  extensions = as_is (17 == tree) 17 tree listed refl;
+}) l
+
+pub none_put : (tree : ℕ) (s : State) → ArePut tree s s []
+none_put tree s = record { carried = carried_none s; lists = λ clean within listed l. nothing_put s.now listed tree l }
 
 at_end : (rows more : List Row) (row : Row) → IsPermutation ((rows ++ row ∷ []) ++ more) (row ∷ rows ++ more)
 at_end rows more row = IsPermutation-append _ _ more more (IsPermutation-append_comm rows (row ∷ [])) (IsPermutation-refl more)
 
-pub one_put : (old mid new : State) (rows next : List Row) (row : Row) → next ≡ rows ++ row ∷ [] → ArePut old mid rows → IsLent mid new true
-    → (HasCleanDisk new → IsTrue mid.in_transaction → (listed : Listed) → Lists keep_schema mid.now listed → Lists keep_schema new.now (with_rows listed 6 (row ∷ listed 6))) → ArePut old new next
-one_put old mid new rows next row is put lent wrote = subst (ArePut old new) (sym is) (record {
+-- what a table lists once rows were put in it
+here_put : (tree : ℕ) (listed : Listed) (rows : List Row) → with_rows listed tree rows tree ≡ rows
+here_put tree listed rows = ap (λ b. if b then rows else listed tree) (same_tree tree)
+
+pub one_put : (tree : ℕ) (old mid new : State) (rows next : List Row) (row : Row) → next ≡ rows ++ row ∷ [] → ArePut tree old mid rows → IsLent mid new true
+    → (HasCleanDisk new → IsTrue mid.in_transaction → (listed : Listed) → Lists keep_schema mid.now listed → Lists keep_schema new.now (with_rows listed tree (row ∷ listed tree))) → ArePut tree old new next
+one_put tree old mid new rows next row is put lent wrote = subst (ArePut tree old new) (sym is) (record {
   carried = carried_then old mid new true put.carried lent;
   lists = λ clean within listed l.
       let was = clean_before mid new true lent clean in
-      let one = wrote clean (put.carried.inside was within refl) (with_rows listed 6 (rows ++ listed 6)) (put.lists was within listed l) in
-      relisted new.now _ _ (record {
-        books = IsPermutation-refl _;
-        terms = IsPermutation-refl _;
-        pledges = IsPermutation-refl _;
-        entries = at_end rows (listed 6) row;
-        secrets = IsPermutation-refl _;
-        bookings = IsPermutation-refl _;
-        meta = IsPermutation-refl _;
-        totals = IsPermutation-refl _;
-        extensions = IsPermutation-refl _;
-      }) one;
+      let so_far = with_rows listed tree (rows ++ listed tree) in
+      let one = wrote clean (put.carried.inside was within refl) so_far (put.lists was within listed l) in
+      let shown = subst (λ rs. Lists keep_schema new.now (with_rows so_far tree (row ∷ rs))) (here_put tree listed (rows ++ listed tree)) one in
+      reordered new.now listed tree _ _ (at_end rows (listed tree) row) (put_over new.now listed tree _ _ shown);
 })
 
 -- ---- the elements so far
@@ -86,3 +157,13 @@ take_all [] zero h = refl
 take_all [] (suc i) h = refl
 take_all (x ∷ xs) zero h = absurd (omega (arith, h))
 take_all (x ∷ xs) (suc i) h = ap (λ l. x ∷ l) (take_all xs i (omega (arith, h)))
+
+-- ---- the elements so far, with their places
+
+pub take_placed : {A : Type 0} (f : ℕ → A → Row) (from at : ℕ) (xs : List A) (i : ℕ) (x : A) → i < length xs → x ≡ get_or xs i x → at ≡ from + i → placed_from f from (take (i + 1) xs) ≡ placed_from f from (take i xs) ++ f at x ∷ []
+take_placed f from at xs i x lt is place = let next : i + 1 ≡ suc i = omega arith in ap (λ n. placed_from f from (take n xs)) next ∙ go from xs i lt is place
+  where
+    go : (from : ℕ) (ys : List _) (i : ℕ) → i < length ys → x ≡ get_or ys i x → at ≡ from + i → placed_from f from (take (suc i) ys) ≡ placed_from f from (take i ys) ++ f at x ∷ []
+    go from [] i lt is place = absurd (omega (arith, lt))
+    go from (y ∷ ys) zero lt is place = let here : from ≡ at = omega (arith, place) in (λ j. f (here j) (sym is j) ∷ [])
+    go from (y ∷ ys) (suc i) lt is place = ap (λ l. f from y ∷ l) (go (from + 1) ys i (omega (arith, lt)) is (omega (arith, place)))

@@ -1,10 +1,8 @@
 -- Tables within a change, before its rows are counted.
-use Rattle.std.specs.Prelude.{◌≡◌, ◌==◌, ◌↔◌, ℕ, ◌+◌, ◌≤◌, ◌<◌, if◌then◌else◌, map, Bool, Some, IsTrue, Result, Ok, Err, IfOk}
-use Rattle.std.specs.FinMap.{entries, get}
+use Rattle.std.specs.Prelude.{◌≡◌, ◌==◌, ◌↔◌, ℕ, ◌+◌, ◌≤◌, ◌<◌, if◌then◌else◌, map, Bool, IsTrue, Result, Ok, Err, IfOk}
+use Rattle.std.specs.FinMap.{entries}
 use Rattle.sqlite.specs.Effect.{Database}
 use Rattle.sqlite.specs.State.{State, HasCleanDisk}
-use Rattle.pawn_terms.specs.Limits.{first_day}
-use Rattle.pawn_pledge.specs.Replayable.{Each}
 use Rattle.pawn_book.specs.BookStep.{BookValue}
 use Rattle.pawn_book.specs.Changes.{CanSave, with_change}
 use Rattle.pawn_book.specs.declared.change.Change.{Change}
@@ -35,20 +33,20 @@ listed_as h counted t =
 abbrev pub ListsHost : Database → Host → ℕ → Type 0
 ListsHost db h counted = Lists keep_schema db (listed_as h counted)
 
--- the pledges of each book were taken on a day that there is
-abbrev pub AreTaken : Host → Type 0
-AreTaken h = (b : ℕ) (k : BookValue) → get h.books b ≡ Some k → Each (λ p. first_day ≤ p.agreement.taken) k.pledges
-
 -- the tables list host g, which has so many rows more than h, and still note the count of the rows of h
 pub record IsWritten (h g : Host) (db : Database) (added : ℕ) : Type 0 where
   pub lists : ListsHost db g (rows h)
   pub grown : rows g ≡ rows h + added
-  pub taken : AreTaken g
 
 -- of each sound host that the tables stood for within the transaction, and a change that it may have: the changed host is written
 abbrev pub WritesRows : {E : Type 0} → State → State → Change → Result ℕ E → Type 0
 WritesRows old new change result =
     HasCleanDisk new → IsTrue old.in_transaction → (h : Host) → IsSound h → CanSave h change → StandsFor old.now h → IfOk result (IsWritten h (with_change h change) new.now)
+
+-- of each such host of which P holds: the changed host is written
+abbrev pub WritesWhere : {E : Type 0} → State → State → (Host → Type 0) → Change → Result ℕ E → Type 0
+WritesWhere old new P change result =
+    HasCleanDisk new → IsTrue old.in_transaction → (h : Host) → IsSound h → CanSave h change → StandsFor old.now h → P h → IfOk result (IsWritten h (with_change h change) new.now)
 
 -- so many rows more are counted, and it is told whether all of them are within the limit
 abbrev pub Counts : {E : Type 0} → State → State → ℕ → Result Bool E → Type 0

@@ -1,13 +1,16 @@
 ghost use Rattle.std.specs.Prelude.{◌≡◌, is_ok};
 ghost use Rattle.sqlite.specs.Held.{state};
-ghost use Rattle.pawn_book.specs.declared.change.Change.TheVariants.{AddTerms, MakeBook};
+ghost use Rattle.pawn_book.specs.declared.change.Change.TheVariants.{AddTerms, MakeBook, PutPledge};
 ghost use Rattle.one_table.specs.Lending.{IsLent};
 ghost use Rattle.pawn_saving.specs.Counted.{WritesRows};
 
 use crate::books::{put_book, put_terms, set_terms_count};
 use crate::cells::small;
-use pawn_book::{KeepError, NewBook, Number, Terms};
+use crate::renewing::{add_pledge, renew_pledge};
+use pawn_book::{KeepError, NewBook, Number, Pledge, Terms};
+use pawn_tables::pledge_of;
 use sqlite::{Alter, Transaction};
+use std::alloc::Global;
 
 /// Writes a new book, and tells how many rows that are counted it adds.
 #[tactic(auto, using(crate::proofs::Lent::lent_then))]
@@ -40,4 +43,24 @@ pub(crate) fn add_terms<S: Alter>(
     put_terms(tx, book.get(), version, terms.rates())?;
     set_terms_count(tx, book.get(), version)?;
     Ok(1)
+}
+
+/// Writes a pledge, the next of its book or one that stands, and tells how many rows that are counted it adds.
+#[tactic(auto, using(crate::proofs::Lent::lent_then))]
+pub(crate) fn put_pledge<S: Alter>(
+    tx: &mut Transaction<'_, S>,
+    alloc: Global,
+    book: Number,
+    number: Number,
+    pledge: &Pledge,
+) -> Result<u32, KeepError>
+    ensures same_reference { tx.new.conn.ghost_name ≡ tx.old.conn.ghost_name }
+    ensures wrote { WritesRows (state S.Store tx.old.conn.now) (state S.Store tx.new.conn.now) (PutPledge book number pledge.now) result }
+    ensures lent { IsLent (state S.Store tx.old.conn.now) (state S.Store tx.new.conn.now) (is_ok result) }
+{
+    let stood = pledge_of(tx, alloc, book.get(), number)?;
+    match stood {
+        Some(before) => renew_pledge(tx, book, number, &before, pledge),
+        None => add_pledge(tx, book, number, pledge),
+    }
 }

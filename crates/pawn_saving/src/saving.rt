@@ -8,10 +8,11 @@ ghost use Rattle.pawn_tables.specs.Keeps.{keeping_by};
 ghost use Rattle.pawn_saving.specs.Counted.{WritesChange, WritesRows};
 
 use crate::cells::{REFUSED, refused};
-use crate::changes::{add_terms, make_book};
+use crate::changes::{add_terms, make_book, put_pledge};
 use crate::counting::count_within;
 use pawn_book::{Change, KeepError, SaveError, StoreFault};
 use sqlite::{Alter, Connection, Transaction};
+use std::alloc::Global;
 
 // Why a change is not saved, where its rows are within the limit.
 fn unsaved(error: KeepError) -> SaveError
@@ -24,7 +25,11 @@ fn unsaved(error: KeepError) -> SaveError
 }
 
 // Writes a change, and tells how many rows that are counted it adds.
-fn write_rows<S: Alter>(tx: &mut Transaction<'_, S>, change: &Change) -> Result<u32, KeepError>
+fn write_rows<S: Alter>(
+    tx: &mut Transaction<'_, S>,
+    alloc: Global,
+    change: &Change,
+) -> Result<u32, KeepError>
     ensures same_reference { tx.new.conn.ghost_name ≡ tx.old.conn.ghost_name }
     ensures wrote { WritesRows (state S.Store tx.old.conn.now) (state S.Store tx.new.conn.now) change.now result }
     ensures lent { IsLent (state S.Store tx.old.conn.now) (state S.Store tx.new.conn.now) (is_ok result) }
@@ -36,6 +41,11 @@ fn write_rows<S: Alter>(tx: &mut Transaction<'_, S>, change: &Change) -> Result<
             version,
             terms,
         } => add_terms(tx, *book, *version, *terms),
+        Change::PutPledge {
+            book,
+            number,
+            pledge,
+        } => put_pledge(tx, alloc, *book, *number, pledge),
         _ => Err(REFUSED),
     }
 }
@@ -44,13 +54,14 @@ fn write_rows<S: Alter>(tx: &mut Transaction<'_, S>, change: &Change) -> Result<
 #[tactic(auto, using(crate::proofs::Lent::lent_then))]
 pub(crate) fn write_change<S: Alter>(
     tx: &mut Transaction<'_, S>,
+    alloc: Global,
     change: &Change,
 ) -> Result<(), SaveError>
     ensures same_reference { tx.new.conn.ghost_name ≡ tx.old.conn.ghost_name }
     ensures wrote { WritesChange (state S.Store tx.old.conn.now) (state S.Store tx.new.conn.now) change.now result }
     ensures lent { IsLent (state S.Store tx.old.conn.now) (state S.Store tx.new.conn.now) (is_ok result) }
 {
-    let added = match write_rows(tx, change) {
+    let added = match write_rows(tx, alloc, change) {
         Ok(added) => added,
         Err(error) => return Err(unsaved(error)),
     };
@@ -62,7 +73,11 @@ pub(crate) fn write_change<S: Alter>(
 }
 
 /// Makes a change, in one transaction, unless the rows would be above the limit.
-pub fn save<S: Alter>(conn: &mut Connection<S>, change: &Change) -> Result<(), SaveError>
+pub fn save<S: Alter>(
+    conn: &mut Connection<S>,
+    alloc: Global,
+    change: &Change,
+) -> Result<(), SaveError>
     requires can_save { (keeping_by (λ c. state S.Store c)).serves conn.old → Of (keeping_by (λ c. state S.Store c)) conn.old conn.old (λ h. CanSave h change.now) }
     ensures ended { conn.old.in_transaction ≡ false → conn.new.in_transaction ≡ false }
     ensures saves { Saves (keeping_by (λ c. state S.Store c)) conn.old conn.new change.now result }
@@ -71,7 +86,7 @@ pub fn save<S: Alter>(conn: &mut Connection<S>, change: &Change) -> Result<(), S
         return Err(SaveError::Store(StoreFault::Database));
     }
     let mut tx = conn.transaction();
-    if let Err(error) = write_change(&mut tx, change) {
+    if let Err(error) = write_change(&mut tx, alloc, change) {
         tx.rollback();
         return Err(error);
     }

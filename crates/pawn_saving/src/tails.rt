@@ -1,10 +1,12 @@
-ghost use Rattle.std.specs.Prelude.{◌≡◌, is_ok, map};
+ghost use Rattle.std.specs.Prelude.{◌≡◌, ◌+◌, ◌∷◌, IfOk, is_ok, map};
 ghost use Rattle.sqlite.specs.Held.{state};
-ghost use Rattle.pawn_tables.specs.Rows.{under, entry_cells};
+ghost use Rattle.pawn_tables.specs.Rows.{under, entry_cells, extension_cells, number, placed_from, secret_cells, terms_cells};
 ghost use Rattle.pawn_saving.specs.Writing.{AllJoin, IsCarried};
 
-use crate::entries::put_entry;
-use pawn_book::{Entry, KeepError};
+use crate::books::put_terms;
+use crate::cells::REFUSED;
+use crate::entries::{put_entry, put_extension, put_secret};
+use pawn_book::{Entry, Extension, Issued, KeepError, Rates};
 use sqlite::{Alter, Transaction};
 
 /// Puts entries of a pledge.
@@ -20,6 +22,74 @@ pub(crate) fn put_entries<S: Alter>(
 {
     for entry in entries {
         put_entry(tx, book, number, entry)?;
+    }
+    Ok(())
+}
+
+/// The place after this one.
+pub(crate) fn next_place(place: u32) -> Result<u32, KeepError>
+    ensures value { IfOk result (λ next. next ≡ place + 1) }
+{
+    match place.checked_add(1) {
+        Some(next) => Ok(next),
+        None => Err(REFUSED),
+    }
+}
+
+/// Puts secrets of a pledge, the first of them at a place.
+pub(crate) fn put_secrets<S: Alter>(
+    tx: &mut Transaction<'_, S>,
+    book: u32,
+    number: u32,
+    from: u32,
+    secrets: &[Issued],
+) -> Result<(), KeepError>
+    ensures same_reference { tx.new.conn.ghost_name ≡ tx.old.conn.ghost_name }
+    ensures wrote { AllJoin (state S.Store tx.old.conn.now) (state S.Store tx.new.conn.now) result 8 (placed_from (λ place i. under book number (secret_cells place i)) from secrets.now) }
+    ensures carried { IsCarried (state S.Store tx.old.conn.now) (state S.Store tx.new.conn.now) (is_ok result) }
+{
+    let mut place = from;
+    for issued in secrets {
+        put_secret(tx, book, number, place, issued)?;
+        place = next_place(place)?;
+    }
+    Ok(())
+}
+
+/// Puts extensions of a pledge's period, the first of them at a place.
+pub(crate) fn put_extensions<S: Alter>(
+    tx: &mut Transaction<'_, S>,
+    book: u32,
+    number: u32,
+    from: u32,
+    extensions: &[Extension],
+) -> Result<(), KeepError>
+    ensures same_reference { tx.new.conn.ghost_name ≡ tx.old.conn.ghost_name }
+    ensures wrote { AllJoin (state S.Store tx.old.conn.now) (state S.Store tx.new.conn.now) result 17 (placed_from (λ place e. under book number (extension_cells place e)) from extensions.now) }
+    ensures carried { IsCarried (state S.Store tx.old.conn.now) (state S.Store tx.new.conn.now) (is_ok result) }
+{
+    let mut place = from;
+    for extension in extensions {
+        put_extension(tx, book, number, place, extension)?;
+        place = next_place(place)?;
+    }
+    Ok(())
+}
+
+/// Puts the terms of a book, version 1 first.
+pub(crate) fn put_versions<S: Alter>(
+    tx: &mut Transaction<'_, S>,
+    book: u32,
+    terms: &[Rates],
+) -> Result<(), KeepError>
+    ensures same_reference { tx.new.conn.ghost_name ≡ tx.old.conn.ghost_name }
+    ensures wrote { AllJoin (state S.Store tx.old.conn.now) (state S.Store tx.new.conn.now) result 1 (placed_from (λ version t. number book ∷ number version ∷ terms_cells t) 1 terms.now) }
+    ensures carried { IsCarried (state S.Store tx.old.conn.now) (state S.Store tx.new.conn.now) (is_ok result) }
+{
+    let mut version = 1;
+    for rates in terms {
+        put_terms(tx, book, version, *rates)?;
+        version = next_place(version)?;
     }
     Ok(())
 }

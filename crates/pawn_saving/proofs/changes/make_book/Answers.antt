@@ -2,7 +2,7 @@ use Rattle.std.proofs.Common.{refl}
 use Rattle.sqlite.specs.Held.{state}
 use Rattle.pawn_book.specs.HostStep.{rows}
 use Rattle.pawn_saving.specs.Counted.{listed_as}
-use Rattle.pawn_saving.proofs.Hosting.{are_taken, as_lists}
+use Rattle.pawn_saving.proofs.Hosting.{as_lists}
 use Rattle.pawn_saving.proofs.BookChanges.{made_written}
 use Rattle.pawn_saving.proofs.changes.make_book.Goals as goal
 
@@ -10,4 +10,4 @@ pub returns-clause-wrote : goal.returns-clause-wrote
 returns-clause-wrote g c clean within h sound can st =
     let new = state g.S.Store c.put_book.new.tx.conn.now in
     let wrote = rw c.get.ensures.value at (c.in_ok-put_book.ensures.wrote clean within (listed_as h (rows h)) (as_lists _ h st)) in
-    made_written h c.args.book c.args.new_book.now can.follows (rows h) new.now refl (are_taken _ h st) wrote
+    made_written h c.args.book c.args.new_book.now can.follows (rows h) new.now refl wrote

@@ -8,7 +8,7 @@ use Rattle.pawn_saving.proofs.Tailing.{carried_then, none_put, one_put, take_all
 use Rattle.pawn_saving.proofs.tails.put_entries.Goals as goal
 
 pub loop-entry-init : goal.loop-entry-init
-loop-entry-init g c = (refl, none_put (state g.S.Store c.args.tx.now.conn.now))
+loop-entry-init g c = (refl, none_put 6 (state g.S.Store c.args.tx.now.conn.now))
 
 pub returns-in_err-put_entry-clause-same_reference : goal.returns-in_err-put_entry-clause-same_reference
 returns-in_err-put_entry-clause-same_reference g c = c.put_entry.ensures.same_reference ∙ c.loop-entry.invariant.0
@@ -24,7 +24,7 @@ returns-in_err-put_entry-clause-carried g c =
 pub loop-entry-preserved : goal.loop-entry-preserved
 loop-entry-preserved g c = (
   c.put_entry.ensures.same_reference ∙ c.loop-entry.invariant.0,
-  one_put (state g.S.Store c.args.tx.now.conn.now) (state g.S.Store c.loop-entry.tx.conn.now) (state g.S.Store c.put_entry.new.tx.conn.now) _ _ (under c.args.book c.args.number (entry_cells c.entry-item.result))
+  one_put 6 (state g.S.Store c.args.tx.now.conn.now) (state g.S.Store c.loop-entry.tx.conn.now) (state g.S.Store c.put_entry.new.tx.conn.now) _ _ (under c.args.book c.args.number (entry_cells c.entry-item.result))
       (take_map (λ (e : Entry). under c.args.book c.args.number (entry_cells e)) c.args.entries.now c.loop-entry.entry-index c.entry-item.result (search rules) c.entry-item.is)
       c.loop-entry.invariant.1 c.in_ok-put_entry.ensures.lent c.in_ok-put_entry.ensures.wrote,
 )

@@ -1,0 +1,27 @@
+use Rattle.std.proofs.Common.{◌∷◌, None, refl, true, is_ok}
+use Rattle.std.proofs.lemmas.List.Sorted.{IsPermutation-refl}
+use Rattle.sqlite.specs.Held.{state}
+use Rattle.one_table.specs.Listing.{with_rows}
+use Rattle.pawn_saving.specs.Putting.{row_under, totals_under}
+use Rattle.pawn_saving.proofs.Lent.{clean_before}
+use Rattle.pawn_saving.proofs.Tailing.{past, on_done}
+use Rattle.pawn_saving.proofs.WholePuts.{sides_put}
+use Rattle.pawn_saving.proofs.putting.put_sides.Goals as goal
+
+pub returns-clause-wrote : goal.returns-clause-wrote
+returns-clause-wrote g c clean within listed none l =
+    let one = state g.S.Store c.put_row.new.tx.conn.now in
+    let two = state g.S.Store c.put_totals.new.tx.conn.now in
+    let new = state g.S.Store c.put_any_booking.new.tx.conn.now in
+    let b = c.args.book in
+    let n = c.args.number in
+    let p = c.args.pledge.now in
+    let clean2 = past two new (is_ok c.put_any_booking.result) c.put_any_booking.ensures.carried clean in
+    let clean1 = clean_before one two true c.in_ok-put_totals.ensures.lent clean2 in
+    let within1 = c.in_ok-put_row.ensures.lent.inside clean1 within refl in
+    let within2 = c.in_ok-put_totals.ensures.lent.inside clean2 within1 refl in
+    let first = c.in_ok-put_row.ensures.wrote clean1 within listed l in
+    let second = rw c.totals.ensures.value at (c.in_ok-put_totals.ensures.wrote clean2 within1 (with_rows listed 3 (row_under b n p ∷ listed 3)) first) in
+    let both = with_rows (with_rows listed 3 (row_under b n p ∷ listed 3)) 15 (totals_under b n p ∷ listed 15) in
+    let third = rw c.standing.ensures.value at (c.put_any_booking.ensures.wrote None (λ is. refl) clean within2 both (listed 11) (IsPermutation-refl (listed 11)) none second) in
+    on_done c.put_any_booking.result _ _ (sides_put new.now listed b n p) third

@@ -1,0 +1,111 @@
+-- What is written where a pledge is put.
+use Rattle.std.specs.Prelude.{◌≡◌, ◌==◌, if◌then◌else◌, ℕ, ◌+◌, List, [], ◌∷◌, ◌++◌, map, drop, filter, Bool, IsPermutation, IsTrue, Result, OnOk, IfOk}
+use Rattle.sqlite.specs.Order.{Row}
+use Rattle.sqlite.specs.State.{State, HasCleanDisk}
+use Rattle.pawn_debt.specs.Kept.{totals_of}
+use Rattle.pawn_pledge.specs.Pledge.{PledgeValue, debt_of}
+use Rattle.pawn_book.specs.HostStep.{pledge_rows}
+use Rattle.one_table.specs.Listing.{Lists, Listed, with_rows}
+use Rattle.pawn_tables.specs.Schema.{keep_schema}
+use Rattle.pawn_tables.specs.At.{at_pledge}
+use Rattle.pawn_tables.specs.Rows.{at_most_one, booking_cells, entry_cells, extension_cells, placed_from, pledge_cells, secret_cells, totals_cells, under}
+use Rattle.pawn_saving.specs.declared.lengths.Lengths.{Lengths}
+use Rattle.pawn_saving.specs.Writing.{IsOnly}
+
+-- ---- the rows of pledge n of book b
+
+abbrev pub row_under : ℕ → ℕ → PledgeValue → Row
+row_under b n p = under b n (pledge_cells p)
+
+abbrev pub totals_under : ℕ → ℕ → PledgeValue → Row
+totals_under b n p = under b n (totals_cells (totals_of (debt_of p)))
+
+abbrev pub booking_under : ℕ → ℕ → PledgeValue → List Row
+booking_under b n p = at_most_one (λ k. under b n (booking_cells k)) p.standing.booking
+
+-- those of its lists that follow so many
+abbrev pub entries_past : ℕ → ℕ → ℕ → PledgeValue → List Row
+entries_past so_many b n p = map (λ e. under b n (entry_cells e)) (drop so_many p.entries)
+
+abbrev pub secrets_past : ℕ → ℕ → ℕ → PledgeValue → List Row
+secrets_past so_many b n p = placed_from (λ place i. under b n (secret_cells place i)) (so_many + 1) (drop so_many p.secrets)
+
+abbrev pub extensions_past : ℕ → ℕ → ℕ → PledgeValue → List Row
+extensions_past so_many b n p = placed_from (λ place e. under b n (extension_cells place e)) (so_many + 1) (drop so_many p.extensions)
+
+-- the rows of its lists past these lengths, by their tree
+abbrev pub lists_past : Lengths → ℕ → ℕ → PledgeValue → Listed
+lists_past l b n p t =
+    if t == 6 then entries_past l.entries b n p
+    else if t == 8 then secrets_past l.secrets b n p
+    else if t == 17 then extensions_past l.extensions b n p
+    else []
+
+-- those of which it has one at most, by their tree
+abbrev pub sides_of : ℕ → ℕ → PledgeValue → Listed
+sides_of b n p t =
+    if t == 3 then row_under b n p ∷ []
+    else if t == 11 then booking_under b n p
+    else if t == 15 then totals_under b n p ∷ []
+    else []
+
+-- all its rows, by their tree
+abbrev pub whole_pledge : ℕ → ℕ → PledgeValue → Listed
+whole_pledge b n p t =
+    if t == 3 then row_under b n p ∷ []
+    else if t == 6 then entries_past 0 b n p
+    else if t == 8 then secrets_past 0 b n p
+    else if t == 11 then booking_under b n p
+    else if t == 15 then totals_under b n p ∷ []
+    else if t == 17 then extensions_past 0 b n p
+    else []
+
+-- what the tables list beside the rows of which a pledge has one at most, none of it the pledge's
+pub record AreSides (b n : ℕ) (p : PledgeValue) (listed others : Listed) : Type 0 where
+  pub row : IsOnly (at_pledge b n) (listed 3) (row_under b n p) (others 3)
+  pub totals : IsOnly (at_pledge b n) (listed 15) (totals_under b n p) (others 15)
+  pub bookings : IsPermutation (listed 11) (booking_under b n p ++ others 11)
+  pub no_booking : filter (at_pledge b n) (others 11) ≡ []
+
+-- those rows of a pledge beside the others
+abbrev pub with_sides : ℕ → ℕ → PledgeValue → Listed → Listed → Listed
+with_sides b n p others listed t =
+    if t == 3 then row_under b n p ∷ others 3
+    else if t == 11 then booking_under b n p ++ others 11
+    else if t == 15 then totals_under b n p ∷ others 15
+    else listed t
+
+-- ---- what the parts write
+
+-- rows stand beside those of each table
+abbrev pub beside : Listed → Listed → Listed
+beside more listed t = more t ++ listed t
+
+-- the rows join those of their tables
+abbrev pub AddRows : {T E : Type 0} → State → State → Result T E → Listed → Type 0
+AddRows old new result more =
+    HasCleanDisk new → IsTrue old.in_transaction → (listed : Listed) → Lists keep_schema old.now listed → OnOk result (Lists keep_schema new.now (beside more listed))
+
+-- the rows join those of their tables, where no booking of the pledge stands
+abbrev pub AddSides : {T E : Type 0} → State → State → Result T E → ℕ → ℕ → PledgeValue → Type 0
+AddSides old new result b n p =
+    HasCleanDisk new → IsTrue old.in_transaction → (listed : Listed) → filter (at_pledge b n) (listed 11) ≡ [] → Lists keep_schema old.now listed
+    → OnOk result (Lists keep_schema new.now (beside (sides_of b n p) listed))
+
+-- the rows of which a pledge has one at most take the place of those of the pledge as it was
+abbrev pub RenewSides : {T E : Type 0} → State → State → Result T E → ℕ → ℕ → PledgeValue → PledgeValue → Type 0
+RenewSides old new result b n before p =
+    HasCleanDisk new → IsTrue old.in_transaction → (listed others : Listed) → AreSides b n before listed others → Lists keep_schema old.now listed
+    → OnOk result (Lists keep_schema new.now (with_sides b n p others listed))
+
+-- all rows of the pledge join those of their tables, where no booking of it stands, and it is told how many of them are counted
+abbrev pub AddsPledge : {E : Type 0} → State → State → Result ℕ E → ℕ → ℕ → PledgeValue → Type 0
+AddsPledge old new result b n p =
+    HasCleanDisk new → IsTrue old.in_transaction → (listed : Listed) → filter (at_pledge b n) (listed 11) ≡ [] → Lists keep_schema old.now listed
+    → IfOk result (λ added. (added ≡ pledge_rows p) × Lists keep_schema new.now (beside (whole_pledge b n p) listed))
+
+-- the rows of a table are put in place of those that pass the test
+abbrev pub PutsFor : {T E : Type 0} → State → State → Result T E → ℕ → (Row → Bool) → List Row → List Row → Type 0
+PutsFor old new result tree test before after =
+    HasCleanDisk new → IsTrue old.in_transaction → (listed : Listed) (others : List Row) → IsPermutation (listed tree) (before ++ others) → filter test others ≡ [] → Lists keep_schema old.now listed
+    → OnOk result (Lists keep_schema new.now (with_rows listed tree (after ++ others)))

@@ -1,0 +1,38 @@
+ghost use Rattle.std.specs.Prelude.{◌≡◌, IfOk, length};
+
+use crate::cells::REFUSED;
+use pawn_book::{KeepError, Pledge};
+
+/// How long the lists of a pledge are.
+#[derive(Clone, Copy, Debug, PartialEq, Eq)]
+pub(crate) struct Lengths {
+    pub(crate) entries: u32,
+    pub(crate) secrets: u32,
+    pub(crate) extensions: u32,
+}
+
+/// A length as a statement takes it.
+pub(crate) fn short(length: usize) -> Result<u32, KeepError>
+    ensures value { IfOk result (λ n. n ≡ length) }
+{
+    match u32::try_from(length) {
+        Ok(n) => Ok(n),
+        Err(_) => Err(REFUSED),
+    }
+}
+
+/// How long the lists of this pledge are.
+pub(crate) fn lengths_of(pledge: &Pledge) -> Result<Lengths, KeepError>
+    ensures entries { IfOk result (λ l. l.entries ≡ length pledge.now.entries) }
+    ensures secrets { IfOk result (λ l. l.secrets ≡ length pledge.now.secrets) }
+    ensures extensions { IfOk result (λ l. l.extensions ≡ length pledge.now.extensions) }
+{
+    let entries = short(pledge.entries().len())?;
+    let secrets = short(pledge.secrets().len())?;
+    let extensions = short(pledge.extensions().len())?;
+    Ok(Lengths {
+        entries,
+        secrets,
+        extensions,
+    })
+}

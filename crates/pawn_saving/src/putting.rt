@@ -1,0 +1,134 @@
+ghost use Rattle.std.specs.Prelude.{◌≡◌, None, Option, IfOk, drop, is_ok};
+ghost use Rattle.sqlite.specs.Held.{state};
+ghost use Rattle.pawn_pledge.specs.declared.record.Booking.{Booking};
+ghost use Rattle.pawn_book.specs.HostStep.{pledge_rows};
+ghost use Rattle.one_table.specs.Lending.{IsLent};
+ghost use Rattle.pawn_tables.specs.At.{at_pledge};
+ghost use Rattle.pawn_tables.specs.Rows.{at_most_one, booking_cells, under};
+ghost use Rattle.pawn_saving.specs.Putting.{AddRows, AddSides, AddsPledge, PutsFor, lists_past};
+ghost use Rattle.pawn_saving.specs.Writing.{IsCarried};
+
+use crate::cells::small;
+use crate::lengths::{Lengths, short};
+use crate::pledges::{put_booking, put_row, put_totals};
+use crate::tails::{next_place, put_entries, put_extensions, put_secrets};
+use pawn_book::{Booking, KeepError, Pledge};
+use sqlite::{Alter, Transaction};
+
+// What follows so many elements.
+fn past<T>(items: &[T], so_many: u32) -> &[T]
+    ensures value { result.now ≡ drop so_many items.now }
+{
+    match items.get(so_many as usize..) {
+        Some(rest) => rest,
+        None => &[],
+    }
+}
+
+/// How many rows of a pledge are counted.
+pub(crate) fn rows_of(pledge: &Pledge) -> Result<u32, KeepError>
+    ensures value { IfOk result (λ n. n ≡ pledge_rows pledge.now) }
+{
+    let entries = short(pledge.entries().len())?;
+    let secrets = short(pledge.secrets().len())?;
+    let bookings = match pledge.standing().booking {
+        Some(_) => 1,
+        None => 0,
+    };
+    small(1 + entries as u64 + secrets as u64 + bookings)
+}
+
+/// Puts the rows of a pledge's lists past these lengths.
+#[tactic(auto, using(crate::proofs::Lent::lent_then, crate::proofs::Tailing::lent_carried, crate::proofs::Tailing::both_carried))]
+pub(crate) fn put_lists<S: Alter>(
+    tx: &mut Transaction<'_, S>,
+    book: u32,
+    number: u32,
+    pledge: &Pledge,
+    lengths: Lengths,
+) -> Result<(), KeepError>
+    ensures same_reference { tx.new.conn.ghost_name ≡ tx.old.conn.ghost_name }
+    ensures wrote { AddRows (state S.Store tx.old.conn.now) (state S.Store tx.new.conn.now) result (lists_past lengths book number pledge.now) }
+    ensures carried { IsCarried (state S.Store tx.old.conn.now) (state S.Store tx.new.conn.now) (is_ok result) }
+{
+    let secrets = next_place(lengths.secrets)?;
+    let extensions = next_place(lengths.extensions)?;
+    put_entries(tx, book, number, past(pledge.entries(), lengths.entries))?;
+    put_secrets(
+        tx,
+        book,
+        number,
+        secrets,
+        past(pledge.secrets(), lengths.secrets),
+    )?;
+    put_extensions(
+        tx,
+        book,
+        number,
+        extensions,
+        past(pledge.extensions(), lengths.extensions),
+    )
+}
+
+/// Puts the booking of a pledge, if it has one, in place of the one that stands, if one does.
+pub(crate) fn put_any_booking<S: Alter>(
+    tx: &mut Transaction<'_, S>,
+    book: u32,
+    number: u32,
+    booking: Option<Booking>,
+) -> Result<(), KeepError>
+    ensures same_reference { tx.new.conn.ghost_name ≡ tx.old.conn.ghost_name }
+    ensures wrote { (before : Option Booking) → (booking ≡ None → before ≡ None)
+        → PutsFor (state S.Store tx.old.conn.now) (state S.Store tx.new.conn.now) result 11 (at_pledge book number) (at_most_one (λ k. under book number (booking_cells k)) before) (at_most_one (λ k. under book number (booking_cells k)) booking) }
+    ensures carried { IsCarried (state S.Store tx.old.conn.now) (state S.Store tx.new.conn.now) (is_ok result) }
+{
+    match booking {
+        Some(booking) => put_booking(tx, book, number, booking),
+        None => Ok(()),
+    }
+}
+
+/// Puts the rows of which a new pledge has one at most.
+#[tactic(auto, using(crate::proofs::Lent::lent_then, crate::proofs::Tailing::lent_carried, crate::proofs::Tailing::both_carried))]
+pub(crate) fn put_sides<S: Alter>(
+    tx: &mut Transaction<'_, S>,
+    book: u32,
+    number: u32,
+    pledge: &Pledge,
+) -> Result<(), KeepError>
+    ensures same_reference { tx.new.conn.ghost_name ≡ tx.old.conn.ghost_name }
+    ensures wrote { AddSides (state S.Store tx.old.conn.now) (state S.Store tx.new.conn.now) result book number pledge.now }
+    ensures lent { IsLent (state S.Store tx.old.conn.now) (state S.Store tx.new.conn.now) (is_ok result) }
+{
+    put_row(tx, book, number, pledge)?;
+    put_totals(tx, book, number, &pledge.totals())?;
+    put_any_booking(tx, book, number, pledge.standing().booking)
+}
+
+/// Puts all rows of a pledge that has none, and tells how many of them are counted.
+#[tactic(auto, using(crate::proofs::Lent::lent_then, crate::proofs::Tailing::lent_carried, crate::proofs::Tailing::both_carried))]
+pub(crate) fn put_whole<S: Alter>(
+    tx: &mut Transaction<'_, S>,
+    book: u32,
+    number: u32,
+    pledge: &Pledge,
+) -> Result<u32, KeepError>
+    ensures same_reference { tx.new.conn.ghost_name ≡ tx.old.conn.ghost_name }
+    ensures wrote { AddsPledge (state S.Store tx.old.conn.now) (state S.Store tx.new.conn.now) result book number pledge.now }
+    ensures lent { IsLent (state S.Store tx.old.conn.now) (state S.Store tx.new.conn.now) (is_ok result) }
+{
+    let added = rows_of(pledge)?;
+    put_sides(tx, book, number, pledge)?;
+    put_lists(
+        tx,
+        book,
+        number,
+        pledge,
+        Lengths {
+            entries: 0,
+            secrets: 0,
+            extensions: 0,
+        },
+    )?;
+    Ok(added)
+}

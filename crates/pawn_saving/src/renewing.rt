@@ -1,0 +1,88 @@
+ghost use Rattle.std.specs.Prelude.{◌≡◌, ◌+◌, None, Some, IfOk, is_ok};
+ghost use Rattle.std.specs.FinMap.{get};
+ghost use Rattle.sqlite.specs.Held.{state};
+ghost use Rattle.pawn_pledge.specs.Pledge.{PledgeValue};
+ghost use Rattle.pawn_book.specs.declared.change.Change.TheVariants.{PutPledge};
+ghost use Rattle.pawn_book.specs.BookStep.{pledge_in};
+ghost use Rattle.pawn_book.specs.HostStep.{pledge_rows};
+ghost use Rattle.one_table.specs.Lending.{IsLent};
+ghost use Rattle.pawn_saving.specs.Counted.{WritesWhere};
+ghost use Rattle.pawn_saving.specs.Putting.{RenewSides};
+
+use crate::books::set_pledges_count;
+use crate::cells::REFUSED;
+use crate::lengths::lengths_of;
+use crate::pledges::{set_row, set_totals};
+use crate::putting::{put_any_booking, put_lists, put_whole, rows_of};
+use pawn_book::{KeepError, Number, Pledge};
+use sqlite::{Alter, Transaction};
+
+/// Writes the next pledge of a book, and tells how many rows that are counted it adds.
+#[tactic(auto, using(crate::proofs::Lent::lent_then))]
+pub(crate) fn add_pledge<S: Alter>(
+    tx: &mut Transaction<'_, S>,
+    book: Number,
+    number: Number,
+    pledge: &Pledge,
+) -> Result<u32, KeepError>
+    ensures same_reference { tx.new.conn.ghost_name ≡ tx.old.conn.ghost_name }
+    ensures wrote { WritesWhere (state S.Store tx.old.conn.now) (state S.Store tx.new.conn.now) (λ h. pledge_in (get h.books book) number ≡ None) (PutPledge book number pledge.now) result }
+    ensures lent { IsLent (state S.Store tx.old.conn.now) (state S.Store tx.new.conn.now) (is_ok result) }
+{
+    let added = put_whole(tx, book.get(), number.get(), pledge)?;
+    set_pledges_count(tx, book.get(), number.get())?;
+    Ok(added)
+}
+
+/// Sets the rows of which a pledge that stands has one at most.
+#[tactic(auto, using(crate::proofs::Lent::lent_then, crate::proofs::Tailing::lent_carried))]
+fn set_sides<S: Alter>(
+    tx: &mut Transaction<'_, S>,
+    book: u32,
+    number: u32,
+    pledge: &Pledge,
+) -> Result<(), KeepError>
+    ensures same_reference { tx.new.conn.ghost_name ≡ tx.old.conn.ghost_name }
+    ensures wrote { (before : PledgeValue) → before.agreement ≡ pledge.now.agreement → (pledge.now.standing.booking ≡ None → before.standing.booking ≡ None)
+        → RenewSides (state S.Store tx.old.conn.now) (state S.Store tx.new.conn.now) result book number before pledge.now }
+    ensures lent { IsLent (state S.Store tx.old.conn.now) (state S.Store tx.new.conn.now) (is_ok result) }
+{
+    set_row(tx, book, number, pledge)?;
+    set_totals(tx, book, number, &pledge.totals())?;
+    put_any_booking(tx, book, number, pledge.standing().booking)
+}
+
+/// How many rows that are counted a pledge has more than before. It keeps a booking that it had.
+fn rows_added(before: &Pledge, pledge: &Pledge) -> Result<u32, KeepError>
+    ensures value { IfOk result (λ added. pledge_rows pledge.now ≡ pledge_rows before.now + added) }
+    ensures booked { IfOk result (λ added. pledge.now.standing.booking ≡ None → before.now.standing.booking ≡ None) }
+{
+    if pledge.standing().booking.is_none() && before.standing().booking.is_some() {
+        return Err(REFUSED);
+    }
+    let stood = rows_of(before)?;
+    match rows_of(pledge)?.checked_sub(stood) {
+        Some(added) => Ok(added),
+        None => Err(REFUSED),
+    }
+}
+
+/// Writes a pledge that stands as it is now, and tells how many rows that are counted it adds.
+#[tactic(auto, using(crate::proofs::Lent::lent_then, crate::proofs::Tailing::lent_carried))]
+pub(crate) fn renew_pledge<S: Alter>(
+    tx: &mut Transaction<'_, S>,
+    book: Number,
+    number: Number,
+    before: &Pledge,
+    pledge: &Pledge,
+) -> Result<u32, KeepError>
+    ensures same_reference { tx.new.conn.ghost_name ≡ tx.old.conn.ghost_name }
+    ensures wrote { WritesWhere (state S.Store tx.old.conn.now) (state S.Store tx.new.conn.now) (λ h. pledge_in (get h.books book) number ≡ Some before.now) (PutPledge book number pledge.now) result }
+    ensures lent { IsLent (state S.Store tx.old.conn.now) (state S.Store tx.new.conn.now) (is_ok result) }
+{
+    let lengths = lengths_of(before)?;
+    let added = rows_added(before, pledge)?;
+    set_sides(tx, book.get(), number.get(), pledge)?;
+    put_lists(tx, book.get(), number.get(), pledge, lengths)?;
+    Ok(added)
+}
