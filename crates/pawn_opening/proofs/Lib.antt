@@ -1,0 +1,4 @@
+pub mod Creating
+pub mod Lent
+pub mod MetaRows
+pub mod TableTexts

@@ -1,0 +1,9 @@
+//! Stores of pledge books, opened as connections whose tables stand for a host.
+#![tactic(auto)]
+
+mod fault;
+mod laying;
+mod noting;
+mod recognising;
+
+pub use fault::OpenFault;
