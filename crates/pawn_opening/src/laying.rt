@@ -8,9 +8,9 @@ ghost use Rattle.pawn_opening.specs.Laying.{Makes, first_three, first_six};
 use one_table::run;
 use sqlite::{Alter, Error, Transaction};
 
-// Makes the tables of books, terms and pledges.
+/// Makes the tables of books, terms and pledges.
 #[tactic(auto, using(crate::proofs::Lent::lent_then))]
-fn make_books<S: Alter>(tx: &mut Transaction<'_, S>) -> Result<(), Error>
+pub(crate) fn make_books<S: Alter>(tx: &mut Transaction<'_, S>) -> Result<(), Error>
     ensures same_reference { tx.new.conn.ghost_name ≡ tx.old.conn.ghost_name }
     ensures made { Makes (state S.Store tx.old.conn.now) (state S.Store tx.new.conn.now) result no_schema first_three }
     ensures lent { IsLent (state S.Store tx.old.conn.now) (state S.Store tx.new.conn.now) (is_ok result) }
@@ -32,9 +32,9 @@ fn make_books<S: Alter>(tx: &mut Transaction<'_, S>) -> Result<(), Error>
     )
 }
 
-// Makes the tables of entries, secrets and bookings.
+/// Makes the tables of entries, secrets and bookings.
 #[tactic(auto, using(crate::proofs::Lent::lent_then))]
-fn make_lists<S: Alter>(tx: &mut Transaction<'_, S>) -> Result<(), Error>
+pub(crate) fn make_lists<S: Alter>(tx: &mut Transaction<'_, S>) -> Result<(), Error>
     ensures same_reference { tx.new.conn.ghost_name ≡ tx.old.conn.ghost_name }
     ensures made { Makes (state S.Store tx.old.conn.now) (state S.Store tx.new.conn.now) result first_three first_six }
     ensures lent { IsLent (state S.Store tx.old.conn.now) (state S.Store tx.new.conn.now) (is_ok result) }
@@ -56,9 +56,9 @@ fn make_lists<S: Alter>(tx: &mut Transaction<'_, S>) -> Result<(), Error>
     )
 }
 
-// Makes the tables of what the store notes, of totals and of extensions.
+/// Makes the tables of what the store notes, of totals and of extensions.
 #[tactic(auto, using(crate::proofs::Lent::lent_then))]
-fn make_notes<S: Alter>(tx: &mut Transaction<'_, S>) -> Result<(), Error>
+pub(crate) fn make_notes<S: Alter>(tx: &mut Transaction<'_, S>) -> Result<(), Error>
     ensures same_reference { tx.new.conn.ghost_name ≡ tx.old.conn.ghost_name }
     ensures made { Makes (state S.Store tx.old.conn.now) (state S.Store tx.new.conn.now) result first_six keep_schema }
     ensures lent { IsLent (state S.Store tx.old.conn.now) (state S.Store tx.new.conn.now) (is_ok result) }

@@ -2,6 +2,7 @@
 #![tactic(auto)]
 
 mod fault;
+mod filling;
 mod laying;
 mod noting;
 mod recognising;
