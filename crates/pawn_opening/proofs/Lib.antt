@@ -1,6 +1,10 @@
+pub mod Begun
 pub mod Creating
 pub mod EmptyHost
 pub mod Filled
+pub mod LaidOut
 pub mod Lent
 pub mod MetaRows
+pub mod Recognised
+pub mod Recognition
 pub mod TableTexts

@@ -5,6 +5,7 @@ mod fault;
 mod filling;
 mod laying;
 mod noting;
+mod preparing;
 mod recognising;
 
 pub use fault::OpenFault;
