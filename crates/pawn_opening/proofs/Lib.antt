@@ -5,6 +5,8 @@ pub mod Filled
 pub mod LaidOut
 pub mod Lent
 pub mod MetaRows
+pub mod Ours
+pub mod Prepared
 pub mod Recognised
 pub mod Recognition
 pub mod TableTexts

@@ -9,3 +9,4 @@ mod preparing;
 mod recognising;
 
 pub use fault::OpenFault;
+pub use preparing::prepare;
