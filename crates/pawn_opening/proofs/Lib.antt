@@ -2,6 +2,7 @@ pub mod Begun
 pub mod Creating
 pub mod EmptyHost
 pub mod Filled
+pub mod Found
 pub mod LaidOut
 pub mod Lent
 pub mod MetaRows

@@ -29,6 +29,7 @@ module _ (old new : State) (limit : ℕ) (r : Result (Unit {0}) OpenFault) where
   when_empty empty it = record {
     new_store = it.ok;
     stands = λ clean h st. absurd (not_empty old.now h st empty);
+    bare = λ clean empty'. it.why;
     ours = λ clean h st. it.why;
     refuses = λ clean. faults r it.why;
     err = it.err;
@@ -45,6 +46,7 @@ module _ (old new : State) (limit : ℕ) (r : Result (Unit {0}) OpenFault) where
   when_other one other settled left it = record {
     new_store = λ clean empty. absurd (other empty);
     stands = λ clean h st. accepted clean h st r (it.ok clean);
+    bare = λ clean empty. absurd (other empty);
     ours = λ clean h st. alone h st r (it.err clean other);
     refuses = λ clean. it.err clean other;
     err = λ clean. kept clean r;

@@ -53,7 +53,8 @@ pub record Recognises (old new : State) (result : Result (Unit {0}) OpenFault) :
 pub record Prepares (old new : State) (limit : ℕ) (result : Result (Unit {0}) OpenFault) : Type 0 where
   pub new_store : HasCleanDisk new → IsEmptyStore old.now → OnOk result (OpensAs new (empty_host limit))
   pub stands : HasCleanDisk new → (h : Host) → StandsFor old.now h → OnOk result (OpensAs new h)
-  -- a store that stands for a host is not refused for what it holds
+  -- an empty store, or one that stands for a host, is not refused for what it holds
+  pub bare : HasCleanDisk new → IsEmptyStore old.now → IfErr result IsStoreFault
   pub ours : HasCleanDisk new → (h : Host) → StandsFor old.now h → IfErr result IsStoreFault
   pub refuses : HasCleanDisk new → IfErr result (IsRefusedFor old.now)
   pub err : HasCleanDisk new → OnErr result (IsAsBefore old new)

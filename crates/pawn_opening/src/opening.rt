@@ -1,0 +1,58 @@
+ghost use Rattle.std.specs.Prelude.{◌≡◌, ◌≤◌, false, IfErr, IfOk, IsTrue};
+ghost use Rattle.sqlite.specs.Steps.{over_memory};
+ghost use Rattle.sqlite.specs.Held.{state};
+ghost use Rattle.sqlite.specs.State.{HasCleanDisk};
+ghost use Rattle.sqlite.specs.Files.{file_state};
+ghost use Rattle.pawn_book.specs.HostStep.{Host};
+ghost use Rattle.pawn_opening.specs.FilesStand.{AreBlank, FilesStandFor};
+ghost use Rattle.pawn_opening.specs.Opened.{OpensAs, empty_host};
+ghost use Rattle.pawn_opening.specs.Refusing.{IsStoreFault};
+
+use crate::fault::{OpenFault, refused};
+use crate::preparing::prepare;
+use sqlite::{Connection, FileStore, Files, Leftover, MemStore, Options};
+use sqlite_disk::Disk;
+use std::alloc::Global;
+
+/// An empty store in memory, for the empty host with this limit. The limit on rows is 1 to 10,000,000.
+/// It is refused for a fault of the store or want of memory alone.
+pub fn open_memory(alloc: Global, limit: u32) -> Result<Connection<MemStore>, OpenFault>
+    requires least { 1 ≤ limit }
+    requires most { limit ≤ 10000000 }
+    ensures opens { IfOk result (λ conn. OpensAs (state over_memory conn) (empty_host limit)) }
+    ensures refuses { IfErr result IsStoreFault }
+{
+    let Ok(mut conn) = Connection::open_in_memory(alloc) else {
+        return Err(OpenFault::Memory);
+    };
+    match prepare(&mut conn, limit) {
+        Ok(()) => Ok(conn),
+        Err(why) => Err(why),
+    }
+}
+
+/// The store in two files. An empty one is laid out for the empty host with this limit; in another the stored limit stands.
+/// The limit on rows is 1 to 10,000,000. Where the store is refused, what is left of the files comes back.
+pub fn open_files<D: Disk + Drop>(
+    alloc: Global,
+    files: Files<D>,
+    options: Options,
+    limit: u32,
+) -> Result<Connection<FileStore<D>>, (OpenFault, Leftover<D>)>
+    requires log { IsTrue (D.Disk.is_usable files.log) }
+    requires db { IsTrue (D.Disk.is_usable files.db) }
+    requires least { 1 ≤ limit }
+    requires most { limit ≤ 10000000 }
+    ensures blank { IfOk result (λ conn. HasCleanDisk (file_state conn) → AreBlank D.Disk files → OpensAs (file_state conn) (empty_host limit)) }
+    ensures stands { IfOk result (λ conn. HasCleanDisk (file_state conn) → (h : Host) → FilesStandFor D.Disk files h → OpensAs (file_state conn) h) }
+    ensures mode { IfOk result (λ conn. conn.in_transaction ≡ false) }
+{
+    let mut conn = match Connection::open_files(alloc, files, options) {
+        Ok(conn) => conn,
+        Err((error, left)) => return Err((refused(error), left)),
+    };
+    match prepare(&mut conn, limit) {
+        Ok(()) => Ok(conn),
+        Err(why) => Err((why, Leftover::Store(conn.into_store()))),
+    }
+}
