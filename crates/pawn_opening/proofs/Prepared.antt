@@ -1,8 +1,8 @@
 -- An empty store is laid out, any other recognised.
-use Rattle.std.proofs.Common.{◌≡◌, ℕ, false, Ok, Err, Result, OnOk, OnErr, IsTrue, sym, subst, ◌∙◌}
+use Rattle.std.proofs.Common.{◌≡◌, ◌⊎◌, inl, inr, ℕ, false, Ok, Err, Result, OnOk, OnErr, IsTrue, sym, subst, ◌∙◌}
 use Rattle.std.specs.Prelude.{IfErr}
 use Rattle.sqlite.specs.Tree.{Trees}
-use Rattle.sqlite.specs.State.{State, HasCleanDisk}
+use Rattle.sqlite.specs.State.{State, HasCleanDisk, Survives}
 use Rattle.sqlite.proofs.StateLemmas.{survives_weaker}
 use Rattle.pawn_book.specs.HostStep.{Host}
 use Rattle.pawn_tables.specs.OneHost.{StandForOne}
@@ -14,7 +14,7 @@ use Rattle.pawn_opening.specs.Refusing.{IsEmptyStore, IsRefusedFor, IsStoreFault
 use Rattle.pawn_opening.proofs.Begun.{opens_as}
 use Rattle.pawn_opening.proofs.Ours.{not_empty, only_faults}
 
-module _ (old new : State) (limit : ℕ) (r : Result (Unit {0}) OpenFault) where
+module _ (old new : State) (limit : ℕ) (r : Result (Unit {0}) OpenFault) (last : IsTrue old.is_open → (trees : Trees) → old.may_leave trees → trees ≡ old.committed.trees) where
   fault_alone : (why : OpenFault) → IsStoreFault why → IsRefusedFor old.now why
   fault_alone NotOurs none = absurd none
   fault_alone (OldSchema n) none = absurd none
@@ -25,6 +25,12 @@ module _ (old new : State) (limit : ℕ) (r : Result (Unit {0}) OpenFault) where
   faults (Ok done) it = tt
   faults (Err why) it = fault_alone why it
 
+  abbrev New : Trees → Type 0
+  New trees = IsEmptyStore old.now × HoldHost trees (empty_host limit)
+
+  crashed : Survives old new New → HasCleanDisk new → IsTrue old.is_open → (trees : Trees) → new.may_leave trees → (trees ≡ old.committed.trees) ⊎ New trees
+  crashed s clean open' trees left = elim (s.crash clean trees left) [ inl before ↦ inl (last open' trees before) | inr made ↦ inr made ]
+
   pub when_empty : IsEmptyStore old.now → LaysOut old new limit r → Prepares old new limit r
   when_empty empty it = record {
     new_store = it.ok;
@@ -34,8 +40,12 @@ module _ (old new : State) (limit : ℕ) (r : Result (Unit {0}) OpenFault) where
     refuses = λ clean. faults r it.why;
     err = it.err;
     ended = it.ended;
-    survives = survives_weaker old new _ _ (λ clean trees laid. (empty, laid empty)) it.survives;
+    survives = laid;
+    crash = crashed laid;
   }
+    where
+      laid : Survives old new New
+      laid = survives_weaker old new _ New (λ clean trees holds. (empty, holds empty)) it.survives
 
   alone : (h : Host) → StandsFor old.now h → (r' : Result (Unit {0}) OpenFault) → IfErr r' (IsRefusedFor old.now) → IfErr r' IsStoreFault
   alone h st (Ok done) it = tt
@@ -51,9 +61,13 @@ module _ (old new : State) (limit : ℕ) (r : Result (Unit {0}) OpenFault) where
     refuses = λ clean. it.err clean other;
     err = λ clean. kept clean r;
     ended = it.ended;
-    survives = survives_weaker old new (λ _. ⊥) _ (λ clean trees none. absurd none) it.survives;
+    survives = same_store;
+    crash = crashed same_store;
   }
     where
+      same_store : Survives old new New
+      same_store = survives_weaker old new (λ _. ⊥) New (λ clean trees none. absurd none) it.survives
+
       accepted : HasCleanDisk new → (h : Host) → StandsFor old.now h → (r' : Result (Unit {0}) OpenFault) → OnOk r' (IsTrue new.is_open × NotesSchema old.now 3) → OnOk r' (OpensAs new h)
       accepted clean h st (Err why) ok = tt
       accepted clean h st (Ok done) ok =

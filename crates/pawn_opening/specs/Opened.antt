@@ -1,5 +1,5 @@
 -- Stores that are opened.
-use Rattle.std.specs.Prelude.{◌≡◌, false, ℕ, IsTrue, Result, Ok, Err, IfErr, OnErr, OnOk}
+use Rattle.std.specs.Prelude.{◌≡◌, ◌⊎◌, false, ℕ, IsTrue, Result, Ok, Err, IfErr, OnErr, OnOk}
 use Rattle.std.specs.FinMap.{empty}
 use Rattle.sqlite.specs.Tree.{Trees}
 use Rattle.sqlite.specs.State.{State, HasCleanDisk, Survives}
@@ -60,3 +60,5 @@ pub record Prepares (old new : State) (limit : ℕ) (result : Result (Unit {0}) 
   pub err : HasCleanDisk new → OnErr result (IsAsBefore old new)
   pub ended : new.in_transaction ≡ false
   pub survives : Survives old new (λ trees. IsEmptyStore old.now × HoldHost trees (empty_host limit))
+  -- a crash leaves the last commit or, if the store was empty, the new tables
+  pub crash : HasCleanDisk new → IsTrue old.is_open → (trees : Trees) → new.may_leave trees → (trees ≡ old.committed.trees) ⊎ (IsEmptyStore old.now × HoldHost trees (empty_host limit))

@@ -2,9 +2,9 @@ ghost use Rattle.std.specs.Prelude.{◌≡◌, ◌≤◌, false, IfErr, IfOk, Is
 ghost use Rattle.sqlite.specs.Steps.{over_memory};
 ghost use Rattle.sqlite.specs.Held.{state};
 ghost use Rattle.sqlite.specs.State.{HasCleanDisk};
-ghost use Rattle.sqlite.specs.Files.{file_state};
+ghost use Rattle.sqlite.specs.Files.{IsCleanLeft, file_state};
 ghost use Rattle.pawn_book.specs.HostStep.{Host};
-ghost use Rattle.pawn_opening.specs.FilesStand.{AreBlank, FilesStandFor};
+ghost use Rattle.pawn_opening.specs.FilesStand.{AreBlank, FilesStandFor, RefusesFiles};
 ghost use Rattle.pawn_opening.specs.Opened.{OpensAs, empty_host};
 ghost use Rattle.pawn_opening.specs.Refusing.{IsStoreFault};
 
@@ -46,6 +46,7 @@ pub fn open_files<D: Disk + Drop>(
     ensures blank { IfOk result (λ conn. HasCleanDisk (file_state conn) → AreBlank D.Disk files → OpensAs (file_state conn) (empty_host limit)) }
     ensures stands { IfOk result (λ conn. HasCleanDisk (file_state conn) → (h : Host) → FilesStandFor D.Disk files h → OpensAs (file_state conn) h) }
     ensures mode { IfOk result (λ conn. conn.in_transaction ≡ false) }
+    ensures refuses { IfErr result (λ e. IsCleanLeft e.1 → RefusesFiles files limit e.0 e.1) }
 {
     let mut conn = match Connection::open_files(alloc, files, options) {
         Ok(conn) => conn,
