@@ -10,5 +10,5 @@ mod preparing;
 mod recognising;
 
 pub use fault::OpenFault;
-pub use opening::{open_files, open_memory};
+pub use opening::{close_files, open_files, open_memory, open_path};
 pub use preparing::prepare;
