@@ -1,16 +1,15 @@
 -- The tables of the empty host.
-use Rattle.std.proofs.Common.{◌≡◌, ℕ, List, [], ◌∷◌, map, flat_map, length, codes, Some, None, Result, Ok, Err, OnOk, refl, sym, ap, subst, ◌∙◌, arith, sum_by}
+use Rattle.std.proofs.Common.{◌≡◌, ℕ, List, [], ◌∷◌, map, flat_map, length, codes, Some, refl, sym, subst, ◌∙◌, arith, sum_by}
 use Rattle.std.specs.FinMap.{entries, get, empty, get-empty, len-empty, len-entries}
 use Rattle.std.specs.Ordering.{nat_cmp}
-use Rattle.sqlite.specs.Order.{Row}
 use Rattle.sqlite.specs.Effect.{Database}
 use Rattle.one_table.specs.Listing.{Lists, Listed, with_rows, Holds}
 use Rattle.pawn_book.specs.BookStep.{BookValue}
-use Rattle.pawn_book.specs.HostStep.{Host, rows, book_rows}
+use Rattle.pawn_book.specs.HostStep.{book_rows}
 use Rattle.pawn_tables.specs.Meta.{meta_row, meta_rows}
 use Rattle.pawn_tables.specs.Schema.{keep_schema, books, terms, pledges, entries as entries_table, secrets, bookings, meta, totals, extensions}
 use Rattle.pawn_tables.specs.Rows.{book_row, terms_listed, pledge_listed, entries_listed, secrets_listed, booking_listed, totals_listed, extensions_listed}
-use Rattle.pawn_tables.specs.StandsFor.{StandsFor, of_books, of_pledges}
+use Rattle.pawn_tables.specs.StandsFor.{StandsFor}
 use Rattle.pawn_opening.specs.Laying.{no_rows}
 use Rattle.pawn_opening.specs.Opened.{empty_host}
 

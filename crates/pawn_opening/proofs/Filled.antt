@@ -1,5 +1,5 @@
 -- An empty store, table by table and note by note.
-use Rattle.std.proofs.Common.{◌≡◌, ℕ, Bool, true, [], ◌∷◌, codes, Result, Ok, Err, refl}
+use Rattle.std.proofs.Common.{ℕ, true, [], ◌∷◌, codes, Result, Ok, Err, refl}
 use Rattle.std.specs.Prelude.{is_ok}
 use Rattle.sqlite.specs.declared.error.Error.{Error}
 use Rattle.sqlite.specs.State.{State}
@@ -7,7 +7,7 @@ use Rattle.one_table.specs.Columns.{no_schema}
 use Rattle.one_table.specs.Lending.{IsLent}
 use Rattle.one_table.specs.Listing.{with_rows}
 use Rattle.one_table.proofs.Lent.{clean_before}
-use Rattle.pawn_tables.specs.Meta.{meta_row, meta_rows}
+use Rattle.pawn_tables.specs.Meta.{meta_row}
 use Rattle.pawn_tables.specs.Schema.{keep_schema}
 use Rattle.pawn_opening.specs.Laying.{Makes, Notes, no_rows}
 use Rattle.pawn_opening.specs.Opened.{Fills}

@@ -1,5 +1,5 @@
 -- What an open finds in files.
-use Rattle.std.proofs.Common.{◌≡◌, ℕ, inl, inr, [], Err, IsTrue, refl, sym, ap, subst, ◌∙◌, arith}
+use Rattle.std.proofs.Common.{◌≡◌, ℕ, inl, inr, [], Err, refl, sym, ap, subst, ◌∙◌, arith}
 use Rattle.sqlite_disk.specs.declared.Disk.{Ghosts}
 use Rattle.sqlite_disk.specs.declared.Files.{Files}
 use Rattle.sqlite_store.specs.declared.store.FileStore.{FileStore}

@@ -1,5 +1,5 @@
 -- Tables that are laid out, one after another.
-use Rattle.std.specs.Prelude.{◌≡◌, List, [], ◌∷◌, IsTrue, Result, OnOk}
+use Rattle.std.specs.Prelude.{[], ◌∷◌, IsTrue, Result, OnOk}
 use Rattle.sqlite.specs.Order.{Row}
 use Rattle.sqlite.specs.Schema.{Schema}
 use Rattle.sqlite.specs.Change.{created}

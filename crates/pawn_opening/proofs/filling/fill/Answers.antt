@@ -1,4 +1,3 @@
-use Rattle.std.proofs.Common.{Ok, Err, true, refl, codes, ◌∷◌, []}
 use Rattle.sqlite.specs.Held.{state}
 use Rattle.pawn_opening.proofs.Filled.{filled}
 use Rattle.pawn_opening.proofs.filling.fill.Goals as goal

@@ -1,4 +1,4 @@
-use Rattle.std.proofs.Common.{inr, rules, arith, ◌≡◌, refl}
+use Rattle.std.proofs.Common.{inr, arith}
 use Rattle.sqlite_trees.proofs.Doubt.{no_doubt}
 use Rattle.sqlite.specs.Files.{file_state, image_of}
 use Rattle.sqlite.specs.State.{HasCleanDisk}

@@ -1,4 +1,4 @@
-use Rattle.std.proofs.Common.{rules, ◌≡◌, Ok, Err, refl, subst}
+use Rattle.std.proofs.Common.{rules, ◌≡◌, Ok, Err, subst}
 use Rattle.sqlite.specs.Held.{state}
 use Rattle.pawn_tables.proofs.OneHost.{tables_stand_for_one_host}
 use Rattle.pawn_opening.specs.Opened.{LaysOut}

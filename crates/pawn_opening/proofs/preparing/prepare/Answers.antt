@@ -1,4 +1,4 @@
-use Rattle.std.proofs.Common.{rules, ◌≡◌, refl}
+use Rattle.std.proofs.Common.{rules}
 use Rattle.sqlite.specs.Held.{state}
 use Rattle.pawn_tables.proofs.OneHost.{tables_stand_for_one_host}
 use Rattle.pawn_opening.proofs.Prepared.{when_empty, when_other}

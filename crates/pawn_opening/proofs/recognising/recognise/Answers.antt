@@ -1,4 +1,4 @@
-use Rattle.std.proofs.Common.{rules, ◌≡◌, refl, subst}
+use Rattle.std.proofs.Common.{rules, subst}
 use Rattle.sqlite.specs.Held.{state}
 use Rattle.pawn_opening.specs.Refusing.{IsJudged}
 use Rattle.pawn_opening.proofs.Recognised.{judged, strange, failed}
