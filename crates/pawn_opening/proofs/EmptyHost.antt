@@ -1,0 +1,47 @@
+-- The tables of the empty host.
+use Rattle.std.proofs.Common.{◌≡◌, ℕ, List, [], ◌∷◌, map, flat_map, length, codes, Some, refl, sym, subst, ◌∙◌, arith, sum_by}
+use Rattle.std.specs.FinMap.{entries, get, empty, get-empty, len-empty, len-entries}
+use Rattle.std.specs.Ordering.{nat_cmp}
+use Rattle.sqlite.specs.Effect.{Database}
+use Rattle.one_table.specs.Listing.{Lists, Listed, with_rows, Holds}
+use Rattle.pawn_book.specs.BookStep.{BookValue}
+use Rattle.pawn_book.specs.HostStep.{book_rows}
+use Rattle.pawn_tables.specs.Meta.{meta_row, meta_rows}
+use Rattle.pawn_tables.specs.Schema.{keep_schema, books, terms, pledges, entries as entries_table, secrets, bookings, meta, totals, extensions}
+use Rattle.pawn_tables.specs.Rows.{book_row, terms_listed, pledge_listed, entries_listed, secrets_listed, booking_listed, totals_listed, extensions_listed}
+use Rattle.pawn_tables.specs.StandsFor.{StandsFor}
+use Rattle.pawn_opening.specs.Laying.{no_rows}
+use Rattle.pawn_opening.specs.Opened.{empty_host}
+
+no_elements : {A : Type 0} (xs : List A) → length xs ≡ 0 → xs ≡ []
+no_elements [] h = refl
+no_elements (x ∷ xs) h = absurd (omega (arith, h))
+
+no_entries : entries (empty {X = BookValue} {R = nat_cmp}) ≡ []
+no_entries = no_elements _ (sym (len-entries (empty {X = BookValue} {R = nat_cmp})) ∙ len-empty nat_cmp BookValue)
+
+no_book : {P : Type 0} (b : ℕ) (k : BookValue) → get (empty {X = BookValue} {R = nat_cmp}) b ≡ Some k → P
+no_book b k is = absurd (let e = sym (get-empty nat_cmp b) ∙ is in cc)
+
+-- what an empty store lists once its notes are made
+abbrev pub noted : ℕ → Listed
+noted limit = with_rows (with_rows (with_rows no_rows 13 (meta_row (codes "limit") limit ∷ [])) 13 (meta_row (codes "rows") 0 ∷ meta_row (codes "limit") limit ∷ [])) 13 (meta_rows 0 limit)
+
+pub stands_empty : (db : Database) (limit : ℕ) → Lists keep_schema db (noted limit) → StandsFor db (empty_host limit)
+stands_empty db limit l =
+    let none = sym no_entries in
+    record {
+      schema = l.schema_is;
+      sound = l.sound;
+      books = subst (λ es. Holds db.trees 0 (record books { tree = 0 }) (map (λ (e : ℕ × BookValue). book_row e.0 e.1) es)) none l.tables.0;
+      terms = subst (λ es. Holds db.trees 1 (record terms { tree = 1 }) (flat_map (λ (e : ℕ × BookValue). terms_listed e.0 e.1) es)) none l.tables.1.0;
+      pledges = subst (λ es. Holds db.trees 3 (record pledges { tree = 3 }) (flat_map (λ (e : ℕ × BookValue). flat_map (pledge_listed e.0) e.1.pledges) es)) none l.tables.1.1.0;
+      entries = subst (λ es. Holds db.trees 6 (record entries_table { tree = 6 }) (flat_map (λ (e : ℕ × BookValue). flat_map (entries_listed e.0) e.1.pledges) es)) none l.tables.1.1.1.0;
+      secrets = subst (λ es. Holds db.trees 8 (record secrets { tree = 8 }) (flat_map (λ (e : ℕ × BookValue). flat_map (secrets_listed e.0) e.1.pledges) es)) none l.tables.1.1.1.1.0;
+      bookings = subst (λ es. Holds db.trees 11 (record bookings { tree = 11 }) (flat_map (λ (e : ℕ × BookValue). flat_map (booking_listed e.0) e.1.pledges) es)) none l.tables.1.1.1.1.1.0;
+      meta = subst (λ es. Holds db.trees 13 (record meta { tree = 13 }) (meta_rows (sum_by book_rows (map (λ (e : ℕ × BookValue). e.1) es)) limit)) none l.tables.1.1.1.1.1.1.0;
+      totals = subst (λ es. Holds db.trees 15 (record totals { tree = 15 }) (flat_map (λ (e : ℕ × BookValue). flat_map (totals_listed e.0) e.1.pledges) es)) none l.tables.1.1.1.1.1.1.1.0;
+      extensions = subst (λ es. Holds db.trees 17 (record extensions { tree = 17 }) (flat_map (λ (e : ℕ × BookValue). flat_map (extensions_listed e.0) e.1.pledges) es)) none l.tables.1.1.1.1.1.1.1.1.0;
+      ordered = λ b k is. no_book b k is;
+      storable = λ b k is. no_book b k is;
+    }

@@ -1,0 +1,13 @@
+pub mod Begun
+pub mod Creating
+pub mod EmptyHost
+pub mod Filled
+pub mod Found
+pub mod LaidOut
+pub mod Lent
+pub mod MetaRows
+pub mod Ours
+pub mod Prepared
+pub mod Recognised
+pub mod Recognition
+pub mod TableTexts

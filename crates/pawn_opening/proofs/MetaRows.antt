@@ -1,0 +1,61 @@
+-- A row of what the store notes.
+use Rattle.std.proofs.Common.{◌≡◌, inl, inr, ℕ, pos, ◌==◌, List, [], ◌∷◌, length, false, Ok, Err, Result, OnOk, codes, refl, arith}
+use Rattle.sqlite.specs.declared.types.Value.TheVariants.{Null, Int, Text}
+use Rattle.sqlite.specs.Order.{Row}
+use Rattle.sqlite.specs.Term.{Term, lit, col}
+use Rattle.sqlite.specs.State.{State, Executes}
+use Rattle.sqlite_schema.specs.declared.schema.Keys.TheVariants.{Enforced}
+use Rattle.sqlite_rules.specs.Action.{works}
+use Rattle.sqlite_tied.specs.Compute.{everything}
+use Rattle.sqlite.specs.Listing.{understood}
+use Rattle.one_table.specs.Listing.{Lists, Listed, with_rows}
+use Rattle.one_table.proofs.Insertion.{IsPlace, inserted}
+use Rattle.one_table.proofs.Rowed.{cast_null, cast_int}
+use Rattle.one_table.proofs.Texts.{Puts}
+use Rattle.pawn_tables.specs.Meta.{meta_row}
+use Rattle.pawn_tables.specs.Schema.{meta, keep_schema}
+
+abbrev pub note_text : List ℕ
+note_text = codes "INSERT INTO meta VALUES (?1, ?2)"
+
+abbrev pub note_values : List Term
+note_values = lit Null ∷ col 0 0 ∷ col 0 1 ∷ []
+
+note_is : Puts keep_schema note_text 6 note_values 3
+unfolding understood everything
+note_is = (refl, (refl, refl))
+
+-- no foreign key of the schema acts where a row is put
+idle : (olds news : List Row) → works keep_schema Enforced 0 13 olds news ≡ []
+idle olds [] = refl
+idle olds (row ∷ news) = let e : (length (row ∷ news) == 0) ≡ false = grind arith in rw e refl
+
+meta_place : IsPlace keep_schema 6 (record meta { tree = 13 })
+meta_place = record {
+  listed = refl;
+  alone = (
+    inr (λ e. absurd (omega (arith, e))),
+    (
+      inr (λ e. absurd (omega (arith, e))),
+      (
+        inr (λ e. absurd (omega (arith, e))),
+        (
+          inr (λ e. absurd (omega (arith, e))),
+          (inr (λ e. absurd (omega (arith, e))), (inr (λ e. absurd (omega (arith, e))), (inl refl, (inr (λ e. absurd (omega (arith, e))), (inr (λ e. absurd (omega (arith, e))), tt))))),
+        ),
+      ),
+    ),
+  );
+  idle = idle;
+}
+
+pub noted : (old new : State) (name : List ℕ) (value count : ℕ) (listed : Listed) → Lists keep_schema old.now listed → Executes note_text (Text name ∷ Int (pos value) ∷ []) old new (Ok count)
+    → Lists keep_schema new.now (with_rows listed 13 (meta_row name value ∷ listed 13))
+noted old new name value count listed st h =
+    inserted keep_schema 6 (record meta { tree = 13 }) note_values 3 note_text meta_place note_is.0 note_is.1 old new (Text name ∷ Int (pos value) ∷ []) (Null ∷ meta_row name value) (Null ∷ meta_row name value) (meta_row name value) count listed st refl
+    (λ i. cast_null i ∷ Text name ∷ cast_int value i ∷ []) (λ rows. refl) h
+
+-- where a statement ran, what it wrote
+pub on_ran : {E : Type 0} (r : Result (Unit {0}) E) (P : ℕ → Type 0) (Q : Type 0) → OnOk r ((count : ℕ) × P count) → ((count : ℕ) → P count → Q) → OnOk r Q
+on_ran (Ok done) P Q ran f = f ran.0 ran.1
+on_ran (Err e) P Q ran f = tt

@@ -1,0 +1,21 @@
+use Rattle.std.proofs.Common.{true, Ok}
+use Rattle.std.specs.Prelude.{is_ok}
+use Rattle.sqlite.specs.declared.error.Error.{Error}
+use Rattle.sqlite.specs.Held.{state}
+use Rattle.one_table.specs.Columns.{no_schema}
+use Rattle.one_table.proofs.Lent.{lent_then}
+use Rattle.pawn_tables.specs.Schema.{keep_schema}
+use Rattle.pawn_opening.specs.Laying.{first_three, first_six}
+use Rattle.pawn_opening.proofs.Creating.{makes_then}
+use Rattle.pawn_opening.proofs.filling.make_tables.Goals as goal
+
+pub returns-clause-made : goal.returns-clause-made
+returns-clause-made g c =
+    let a = state g.S.Store c.args.tx.now.conn.now in
+    let b = state g.S.Store c.make_books.new.tx.conn.now in
+    let d = state g.S.Store c.make_lists.new.tx.conn.now in
+    let e = state g.S.Store c.make_notes.new.tx.conn.now in
+    let first = c.in_ok-make_books.ensures in
+    let second = c.in_ok-make_lists.ensures in
+    makes_then {E = Error} a d e c.make_notes.result (is_ok c.make_notes.result) no_schema first_six keep_schema (lent_then a b d true first.lent second.lent) c.make_notes.ensures.lent
+    (makes_then {E = Error} a b d (Ok tt) true no_schema first_three first_six first.lent second.lent first.made second.made) c.make_notes.ensures.made

@@ -1,0 +1,45 @@
+-- What files hold before an open, and what a refusal leaves of them.
+use Rattle.std.specs.Prelude.{◌≡◌, ◌⊎◌, ℕ, []}
+use Rattle.sqlite_disk.specs.declared.Disk.{Ghosts}
+use Rattle.sqlite_disk.specs.declared.Files.{Files}
+use Rattle.sqlite_wal.specs.Recovery.{Image}
+use Rattle.sqlite_store.specs.declared.store.FileStore.{FileStore}
+use Rattle.sqlite_store.specs.FileStore.{recovers}
+use Rattle.sqlite_trees.specs.Objects.{catalog_tree}
+use Rattle.sqlite.specs.Tree.{Trees}
+use Rattle.sqlite.specs.declared.file.Leftover.{Leftover}
+use Rattle.sqlite.specs.declared.file.Leftover.TheVariants as left
+use Rattle.sqlite.specs.Effect.{Database, IsDatabase}
+use Rattle.sqlite.specs.Files.{AreFoundIn, HoldsDatabase, LeavesFiles, image_of}
+use Rattle.pawn_book.specs.HostStep.{Host}
+use Rattle.pawn_tables.specs.StandsFor.{HoldHost}
+use Rattle.pawn_opening.specs.declared.fault.OpenFault.{OpenFault}
+use Rattle.pawn_opening.specs.Opened.{empty_host}
+use Rattle.pawn_opening.specs.Refusing.{IsEmptyStore, IsRefusedFor, IsStoreFault}
+
+-- the bytes of the files hold a database that stands for the host
+pub record StandsIn (image : Image) (h : Host) : Type 0 where
+  pub trees : Trees
+  pub held : ∥ HoldsDatabase image trees ∥₁
+  pub stands : HoldHost trees h
+
+-- whatever an open may find in the bytes, nothing is listed there
+abbrev pub IsBlank : Image → Type 0
+IsBlank image = (found : Trees) → AreFoundIn image found → found catalog_tree ≡ []
+
+-- The bytes held a database that is refused. A crash leaves it or, if it was empty, the tables of the empty host.
+pub record RefusesFound {D : Type 0} {g : Ghosts D} (image : Image) (limit : ℕ) (why : OpenFault) (it : FileStore D g) : Type 0 where
+  pub found : Database
+  pub reads : AreFoundIn image found.trees
+  pub holds : (db : Trees) → HoldsDatabase image db → found.trees ≡ db
+  pub sound : IsDatabase found
+  pub refused : IsRefusedFor found why
+  pub crash : (trees : Trees) → recovers it trees → (trees ≡ found.trees) ⊎ (IsEmptyStore found × HoldHost trees (empty_host limit))
+
+-- a store over the files is left, whose database is refused
+abbrev pub IsRefusedStore : {D : Type 0} {g : Ghosts D} → Image → ℕ → OpenFault → Leftover D g → Type 0
+IsRefusedStore {D} {g} image limit why rest = (it : FileStore D g) × (rest ≡ left.Store it) × RefusesFound image limit why it
+
+-- the database refused the files, or what they held is refused
+abbrev pub RefusesFiles : {D : Type 0} {g : Ghosts D} → Files D → ℕ → OpenFault → Leftover D g → Type 0
+RefusesFiles {D} {g} files limit why rest = (IsStoreFault why × LeavesFiles files rest) ⊎ IsRefusedStore (image_of g files) limit why rest

@@ -1,0 +1,35 @@
+-- Tables that are laid out, one after another.
+use Rattle.std.specs.Prelude.{[], ◌∷◌, IsTrue, Result, OnOk}
+use Rattle.sqlite.specs.Order.{Row}
+use Rattle.sqlite.specs.Schema.{Schema}
+use Rattle.sqlite.specs.Change.{created}
+use Rattle.sqlite.specs.Effect.{Database}
+use Rattle.sqlite.specs.State.{State, HasCleanDisk}
+use Rattle.one_table.specs.Columns.{no_schema}
+use Rattle.one_table.specs.Listing.{Lists, Listed, with_rows}
+use Rattle.pawn_tables.specs.Schema.{books, terms, pledges, entries, secrets, bookings, keep_schema}
+
+-- no table has a row
+abbrev pub no_rows : Listed
+no_rows tree = []
+
+-- the tables of this schema stand, without a row
+abbrev pub AreEmpty : Schema → Database → Type 0
+AreEmpty schema db = Lists schema db no_rows
+
+-- the tables of books and of what is agreed on pledges
+abbrev pub first_three : Schema
+first_three = created (created (created no_schema books) terms) pledges
+
+-- and those of what is done on them
+abbrev pub first_six : Schema
+first_six = created (created (created first_three entries) secrets) bookings
+
+-- a part of a transaction adds empty tables: of the one schema it makes the other
+abbrev pub Makes : {E : Type 0} → State → State → Result (Unit {0}) E → Schema → Schema → Type 0
+Makes old new result before after = HasCleanDisk new → IsTrue old.in_transaction → AreEmpty before old.now → OnOk result (AreEmpty after new.now)
+
+-- a part puts a row before the others of meta
+abbrev pub Notes : {E : Type 0} → State → State → Result (Unit {0}) E → Row → Type 0
+Notes old new result row =
+    HasCleanDisk new → IsTrue old.in_transaction → (listed : Listed) → Lists keep_schema old.now listed → OnOk result (Lists keep_schema new.now (with_rows listed 13 (row ∷ listed 13)))

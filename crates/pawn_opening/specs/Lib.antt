@@ -1,0 +1,4 @@
+pub mod FilesStand
+pub mod Laying
+pub mod Opened
+pub mod Refusing

@@ -1,0 +1,64 @@
+-- Stores that are opened.
+use Rattle.std.specs.Prelude.{◌≡◌, ◌⊎◌, false, ℕ, IsTrue, Result, IfErr, OnErr, OnOk}
+use Rattle.std.specs.FinMap.{empty}
+use Rattle.sqlite.specs.Tree.{Trees}
+use Rattle.sqlite.specs.State.{State, HasCleanDisk, Survives}
+use Rattle.one_table.specs.Columns.{no_schema}
+use Rattle.pawn_book.specs.HostStep.{Host}
+use Rattle.pawn_tables.specs.StandsFor.{StandsFor, HoldHost}
+use Rattle.pawn_tables.specs.Keeps.{Keeps, Leaves}
+use Rattle.pawn_opening.specs.declared.fault.OpenFault.{OpenFault}
+use Rattle.pawn_opening.specs.Laying.{AreEmpty}
+use Rattle.pawn_opening.specs.Refusing.{IsEmptyStore, IsRefusedFor, IsStoreFault, NotesSchema}
+
+-- the host without books
+abbrev pub empty_host : ℕ → Host
+empty_host limit = record { books = empty; limit = limit }
+
+-- an empty store is filled with the tables of the empty host
+abbrev pub Fills : {E : Type 0} → State → State → ℕ → Result (Unit {0}) E → Type 0
+Fills old new limit result = HasCleanDisk new → IsTrue old.in_transaction → AreEmpty no_schema old.now → OnOk result (StandsFor new.now (empty_host limit))
+
+-- an open store keeps this host, with nothing pending, and whatever a crash leaves of it holds that host
+pub record OpensAs (s : State) (h : Host) : Type 0 where
+  pub serves : IsTrue s.is_open
+  pub keeps : Keeps s h
+  pub crash : (trees : Trees) → s.may_leave trees → HoldHost trees h
+  pub alone : (left : Host) → Leaves s left → left ≡ h
+
+-- the store holds what it held, unless a fault has shut it
+pub record IsAsBefore (old new : State) : Type 0 where
+  pub was_open : IsTrue new.is_open → IsTrue old.is_open
+  pub now : IsTrue new.is_open → new.now ≡ old.now
+  pub committed : IsTrue new.is_open → new.committed ≡ old.committed
+
+-- an empty store is laid out for the empty host, or left as it was; a crash leaves it as it was or laid out
+pub record LaysOut (old new : State) (limit : ℕ) (result : Result (Unit {0}) OpenFault) : Type 0 where
+  pub ok : HasCleanDisk new → IsEmptyStore old.now → OnOk result (OpensAs new (empty_host limit))
+  pub err : HasCleanDisk new → OnErr result (IsAsBefore old new)
+  pub why : IfErr result IsStoreFault
+  pub ended : new.in_transaction ≡ false
+  pub survives : Survives old new (λ trees. IsEmptyStore old.now → HoldHost trees (empty_host limit))
+
+-- a store that is not empty is recognised, and left as it was
+pub record Recognises (old new : State) (result : Result (Unit {0}) OpenFault) : Type 0 where
+  pub same : HasCleanDisk new → IsAsBefore old new
+  pub ok : HasCleanDisk new → OnOk result (IsTrue new.is_open × NotesSchema old.now 3)
+  pub err : HasCleanDisk new → (IsEmptyStore old.now → ⊥) → IfErr result (IsRefusedFor old.now)
+  pub ended : new.in_transaction ≡ false
+  pub survives : Survives old new (λ _. ⊥)
+
+-- A store is opened. An empty one is laid out for the empty host with this limit; one that stands for a host is left as it is;
+-- any other is refused, and left as it is. A crash on the way leaves the store as it was or, if it was empty, laid out.
+pub record Prepares (old new : State) (limit : ℕ) (result : Result (Unit {0}) OpenFault) : Type 0 where
+  pub new_store : HasCleanDisk new → IsEmptyStore old.now → OnOk result (OpensAs new (empty_host limit))
+  pub stands : HasCleanDisk new → (h : Host) → StandsFor old.now h → OnOk result (OpensAs new h)
+  -- an empty store, or one that stands for a host, is not refused for what it holds
+  pub bare : HasCleanDisk new → IsEmptyStore old.now → IfErr result IsStoreFault
+  pub ours : HasCleanDisk new → (h : Host) → StandsFor old.now h → IfErr result IsStoreFault
+  pub refuses : HasCleanDisk new → IfErr result (IsRefusedFor old.now)
+  pub err : HasCleanDisk new → OnErr result (IsAsBefore old new)
+  pub ended : new.in_transaction ≡ false
+  pub survives : Survives old new (λ trees. IsEmptyStore old.now × HoldHost trees (empty_host limit))
+  -- a crash leaves the last commit or, if the store was empty, the new tables
+  pub crash : HasCleanDisk new → IsTrue old.is_open → (trees : Trees) → new.may_leave trees → (trees ≡ old.committed.trees) ⊎ (IsEmptyStore old.now × HoldHost trees (empty_host limit))

@@ -1,0 +1,42 @@
+ghost use Rattle.std.specs.Prelude.{◌≡◌};
+ghost use Rattle.sqlite.specs.declared.error.Error.TheVariants as SqlError;
+ghost use Rattle.sqlite.specs.declared.error.ErrorCode.TheVariants.{OutOfMemory};
+ghost use Rattle.pawn_opening.specs.declared.fault.OpenFault.TheVariants as Fault;
+ghost use Rattle.pawn_opening.specs.Refusing.{IsStoreFault};
+
+use sqlite::{Error, ErrorCode};
+use std::fmt;
+
+/// Why a store is not opened.
+#[derive(Clone, Copy, Debug, PartialEq, Eq)]
+pub enum OpenFault {
+    /// Another program's store, or one of a newer schema.
+    NotOurs,
+    /// A store of an older schema, which has this number.
+    OldSchema(u32),
+    /// The database refused.
+    Store,
+    Memory,
+}
+
+impl fmt::Display for OpenFault {
+    fn fmt<W: fmt::Write>(&self, f: &mut fmt::Formatter<W>) -> fmt::Result {
+        f.write_str(match self {
+            OpenFault::NotOurs => "NotOurs",
+            OpenFault::OldSchema(_) => "OldSchema",
+            OpenFault::Store => "Store",
+            OpenFault::Memory => "Memory",
+        })
+    }
+}
+
+/// Why a statement was not run.
+pub(crate) fn refused(error: Error) -> OpenFault
+    ensures memory { result ≡ Fault.Memory → error ≡ SqlError.SqliteFailure OutOfMemory }
+    ensures store { IsStoreFault result }
+{
+    match error {
+        Error::SqliteFailure(ErrorCode::OutOfMemory) => OpenFault::Memory,
+        _ => OpenFault::Store,
+    }
+}

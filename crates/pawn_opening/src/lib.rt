@@ -1,0 +1,17 @@
+//! Stores of pledge books, opened as connections whose tables stand for a host.
+#![tactic(auto)]
+
+mod fault;
+mod filling;
+mod laying;
+mod noting;
+mod opening;
+mod preparing;
+mod recognising;
+
+pub use fault::OpenFault;
+pub use opening::{close_files, open_files, open_memory, open_path};
+pub use preparing::prepare;
+
+#[cfg(test)]
+mod tests;

@@ -1,0 +1,21 @@
+ghost use Rattle.std.specs.Prelude.{◌≡◌, is_ok};
+ghost use Rattle.sqlite.specs.Held.{state};
+ghost use Rattle.one_table.specs.Lending.{IsLent};
+ghost use Rattle.pawn_tables.specs.Meta.{meta_row};
+ghost use Rattle.pawn_opening.specs.Laying.{Notes};
+
+use one_table::run;
+use sqlite::{Alter, Error, Transaction, params};
+
+/// Notes a number under a name.
+pub(crate) fn note<S: Alter>(
+    tx: &mut Transaction<'_, S>,
+    name: &str,
+    value: u32,
+) -> Result<(), Error>
+    ensures same_reference { tx.new.conn.ghost_name ≡ tx.old.conn.ghost_name }
+    ensures noted { Notes (state S.Store tx.old.conn.now) (state S.Store tx.new.conn.now) result (meta_row name.now value) }
+    ensures lent { IsLent (state S.Store tx.old.conn.now) (state S.Store tx.new.conn.now) (is_ok result) }
+{
+    run(tx, "INSERT INTO meta VALUES (?1, ?2)", params![name, value])
+}

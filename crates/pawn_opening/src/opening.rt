@@ -1,0 +1,102 @@
+ghost use Rattle.std.specs.Prelude.{◌≡◌, ◌≤◌, ◌⊎◌, false, IfErr, IfOk, IfSome, IsTrue};
+ghost use Rattle.sqlite.specs.Steps.{over_memory};
+ghost use Rattle.sqlite.specs.Held.{state};
+ghost use Rattle.sqlite.specs.State.{HasCleanDisk};
+ghost use Rattle.sqlite.specs.Files.{IsCleanLeft, file_state, image_of};
+ghost use Rattle.sqlite_wal.specs.Reads.{AreClean};
+ghost use Rattle.sqlite_wal.specs.Files.{image_at};
+ghost use Rattle.pawn_book.specs.HostStep.{Host};
+ghost use Rattle.pawn_tables.specs.Keeps.{Keeps};
+ghost use Rattle.pawn_opening.specs.FilesStand.{IsBlank, IsRefusedStore, RefusesFiles, StandsIn};
+ghost use Rattle.pawn_opening.specs.Opened.{OpensAs, empty_host};
+ghost use Rattle.pawn_opening.specs.Refusing.{IsStoreFault};
+
+use crate::fault::{OpenFault, refused};
+use crate::preparing::prepare;
+use sqlite::{Connection, FileFrom, FileStore, Files, Leftover, MemStore, Options, Start};
+use sqlite_disk::Disk;
+use std::alloc::Global;
+
+/// An empty store in memory, for the empty host with this limit. The limit on rows is 1 to 10,000,000.
+/// It is refused for a fault of the store or want of memory alone.
+pub fn open_memory(alloc: Global, limit: u32) -> Result<Connection<MemStore>, OpenFault>
+    requires least { 1 ≤ limit }
+    requires most { limit ≤ 10000000 }
+    ensures opens { IfOk result (λ conn. OpensAs (state over_memory conn) (empty_host limit)) }
+    ensures refuses { IfErr result IsStoreFault }
+{
+    let Ok(mut conn) = Connection::open_in_memory(alloc) else {
+        return Err(OpenFault::Memory);
+    };
+    match prepare(&mut conn, limit) {
+        Ok(()) => Ok(conn),
+        Err(why) => Err(why),
+    }
+}
+
+/// The store in two files. An empty one is laid out for the empty host with this limit; in another the stored limit stands.
+/// The limit on rows is 1 to 10,000,000. Where the store is refused, what is left of the files comes back.
+pub fn open_files<D: Disk + Drop>(
+    alloc: Global,
+    files: Files<D>,
+    options: Options,
+    limit: u32,
+) -> Result<Connection<FileStore<D>>, (OpenFault, Leftover<D>)>
+    requires log { IsTrue (D.Disk.is_usable files.log) }
+    requires db { IsTrue (D.Disk.is_usable files.db) }
+    requires least { 1 ≤ limit }
+    requires most { limit ≤ 10000000 }
+    ensures blank { IfOk result (λ conn. HasCleanDisk (file_state conn) → IsBlank (image_of D.Disk files) → OpensAs (file_state conn) (empty_host limit)) }
+    ensures stands { IfOk result (λ conn. HasCleanDisk (file_state conn) → (h : Host) → StandsIn (image_of D.Disk files) h → OpensAs (file_state conn) h) }
+    ensures mode { IfOk result (λ conn. conn.in_transaction ≡ false) }
+    ensures refuses { IfErr result (λ e. IsCleanLeft e.1 → RefusesFiles files limit e.0 e.1) }
+{
+    let mut conn = match Connection::open_files(alloc, files, options) {
+        Ok(conn) => conn,
+        Err((error, left)) => return Err((refused(error), left)),
+    };
+    match prepare(&mut conn, limit) {
+        Ok(()) => Ok(conn),
+        Err(why) => Err((why, Leftover::Store(conn.into_store()))),
+    }
+}
+
+/// The store in the file at a path, which is made where there is none, over whatever `start` says of its bytes. An empty one is
+/// laid out for the empty host with this limit; in another the stored limit stands. The limit on rows is 1 to 10,000,000.
+/// Where the store is refused, what is left of the files comes back, once they were opened.
+pub fn open_path<S: Start>(
+    rt: &HostRuntime,
+    path: &str,
+    start: S,
+    limit: u32,
+) -> Result<Connection<FileStore<FileFrom<S>>>, (OpenFault, Option<Leftover<FileFrom<S>>>)>
+    requires least { 1 ≤ limit }
+    requires most { limit ≤ 10000000 }
+    ensures blank { IfOk result (λ conn. HasCleanDisk (file_state conn) → IsBlank (image_at S.Start) → OpensAs (file_state conn) (empty_host limit)) }
+    ensures stands { IfOk result (λ conn. HasCleanDisk (file_state conn) → (h : Host) → StandsIn (image_at S.Start) h → OpensAs (file_state conn) h) }
+    ensures mode { IfOk result (λ conn. conn.in_transaction ≡ false) }
+    ensures refuses { IfErr result (λ e. IfSome e.1 (λ rest. IsCleanLeft rest → IsStoreFault e.0 ⊎ IsRefusedStore (image_at S.Start) limit e.0 rest)) }
+{
+    let mut conn = match Connection::open_from(rt, path, false, start) {
+        Ok(conn) => conn,
+        Err((error, rest)) => return Err((refused(error), rest)),
+    };
+    match prepare(&mut conn, limit) {
+        Ok(()) => Ok(conn),
+        Err(why) => Err((why, Some(Leftover::Store(conn.into_store())))),
+    }
+}
+
+/// Hands the files back, with the last commit in the database file.
+pub fn close_files<D: Disk + Drop>(
+    conn: Connection<FileStore<D>>,
+) -> Result<Files<D>, (OpenFault, FileStore<D>)>
+    ensures usable { IfOk result (λ files. IsTrue (D.Disk.is_usable files.log) × IsTrue (D.Disk.is_usable files.db)) }
+    ensures kept { IfOk result (λ files. AreClean D.Disk files.log files.db → (h : Host) → Keeps (file_state conn) h → StandsIn (image_of D.Disk files) h) }
+    ensures refuses { IfErr result (λ e. IsStoreFault e.0) }
+{
+    match conn.close_files() {
+        Ok(files) => Ok(files),
+        Err((error, store)) => Err((refused(error), store)),
+    }
+}

@@ -1,0 +1,51 @@
+ghost use Rattle.std.specs.Prelude.{◌≡◌, ◌↔◌, ◌≤◌, false, IsTrue};
+ghost use Rattle.sqlite.specs.Held.{state};
+ghost use Rattle.pawn_opening.specs.Opened.{LaysOut, Prepares};
+ghost use Rattle.pawn_opening.specs.Refusing.{IsEmptyStore};
+
+use crate::fault::{OpenFault, refused};
+use crate::filling::fill;
+use crate::recognising::recognise;
+use sqlite::{Alter, Connection};
+
+// Lays the tables of the empty host out, in one transaction.
+fn lay_out<S: Alter>(conn: &mut Connection<S>, limit: u32) -> Result<(), OpenFault>
+    requires rests { conn.old.in_transaction ≡ false }
+    ensures laid_out { LaysOut (state S.Store conn.old) (state S.Store conn.new) limit result }
+{
+    let _ = conn.is_autocommit();
+    let _ = conn.schema();
+    let mut tx = conn.transaction();
+    if let Err(error) = fill(&mut tx, limit) {
+        tx.rollback();
+        return Err(refused(error));
+    }
+    match tx.commit() {
+        Ok(()) => Ok(()),
+        Err(error) => Err(refused(error)),
+    }
+}
+
+// Whether no table, index or view stands in the store.
+fn is_empty<S: Alter>(conn: &Connection<S>) -> bool
+    ensures empty { IsTrue result ↔ IsEmptyStore (state S.Store conn.now).now }
+{
+    let schema = conn.schema();
+    schema.tables.is_empty() && schema.indexes.is_empty() && schema.views.is_empty()
+}
+
+/// Opens the store of a connection that is at rest. An empty store is laid out for the empty host with this limit, in one
+/// transaction; in another the stored limit stands, and nothing is written. The limit on rows is 1 to 10,000,000.
+pub fn prepare<S: Alter>(conn: &mut Connection<S>, limit: u32) -> Result<(), OpenFault>
+    requires rests { conn.old.in_transaction ≡ false }
+    requires least { 1 ≤ limit }
+    requires most { limit ≤ 10000000 }
+    ensures prepared { Prepares (state S.Store conn.old) (state S.Store conn.new) limit result }
+{
+    let _ = conn.is_autocommit();
+    if is_empty(conn) {
+        lay_out(conn, limit)
+    } else {
+        recognise(conn)
+    }
+}
