@@ -19,6 +19,3 @@ pub use laws::tables_stand_for_one;
 pub use places::{entry_in, extension_in, secret_in};
 pub use whole::{pledge_of, terms_under};
 pub use worked::worked_tables;
-
-#[cfg(test)]
-mod tests;
