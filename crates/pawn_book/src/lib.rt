@@ -60,6 +60,3 @@ pub use rows::{BookRows, PledgeRows};
 pub use sheet::{Part, SheetItem};
 pub use visit::{Flow, Visitor};
 pub use worked::{worked_imports, worked_slots};
-
-#[cfg(test)]
-mod tests;

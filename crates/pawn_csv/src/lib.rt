@@ -26,6 +26,3 @@ pub use pawn_book::{
 pub use reading::read_book;
 pub use row::{ClosingWord, PledgeColumns, Row, Version};
 pub use worked::worked_texts;
-
-#[cfg(test)]
-mod tests;

@@ -19,6 +19,3 @@ pub use pawn_terms::{Day, Rates, Terms};
 pub use replay::{owing_at, replay_entries};
 pub use rows::Rows;
 pub use worked::{worked_debts, worked_entries};
-
-#[cfg(test)]
-mod tests;

@@ -28,6 +28,3 @@ pub use pawn_view::Writing;
 pub use reading::Reading;
 pub use service::{Answer, Service};
 pub use session::{Cause, Ended, How, IoFault};
-
-#[cfg(test)]
-mod tests;

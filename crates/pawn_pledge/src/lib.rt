@@ -43,6 +43,3 @@ pub use worked::{
     worked_bookings, worked_closings, worked_entries, worked_extensions, worked_pledges,
     worked_receipts, worked_texts,
 };
-
-#[cfg(test)]
-mod tests;

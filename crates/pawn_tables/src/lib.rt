@@ -24,6 +24,3 @@ pub use places::{entry_in, extension_in, secret_in};
 pub use sheets::{count_in, next_line};
 pub use whole::{pledge_of, terms_under};
 pub use worked::worked_tables;
-
-#[cfg(test)]
-mod tests;

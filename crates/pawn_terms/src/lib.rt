@@ -14,6 +14,3 @@ pub use limits::LAST_STAMP_DAY;
 pub use request_day::RequestDay;
 pub use terms::{Rates, Terms, TermsFault};
 pub use worked::{worked_days, worked_ends, worked_terms};
-
-#[cfg(test)]
-mod tests;

@@ -16,6 +16,3 @@ pub use sheets::show_day_sheet;
 pub use statements::show_statement;
 pub use worked::{worked_lines, worked_sheets, worked_statements, worked_words};
 pub use writing::{Writing, put, put_all, send};
-
-#[cfg(test)]
-mod tests;

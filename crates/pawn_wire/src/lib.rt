@@ -42,6 +42,3 @@ pub use worked::{
     worked_bodies, worked_fields, worked_heads, worked_replies, worked_requests, worked_targets,
     worked_texts,
 };
-
-#[cfg(test)]
-mod tests;

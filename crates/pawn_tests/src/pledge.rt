@@ -1,6 +1,6 @@
 //! What takes memory is run once, and its answer compared. What the rules answer is proved, and worked out in
 //! `specs/Worked.antt`; each limit is met once by the script `tests/limits.py`.
-use crate::{
+use pawn_pledge::{
     Article, Command, Day, Done, Kind, Number, Opening, Paper, Pledge, Receipt, Reference,
     RequestDay, Secret, Stamp, Terms,
 };

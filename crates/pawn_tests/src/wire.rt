@@ -1,9 +1,9 @@
 //! What takes memory, each once with its answer, and bodies that are none.
 
-use crate::fault::WireFault;
-use crate::reply::{Out, write_reply};
-use crate::request::read_request;
-use crate::router::Router;
+use pawn_wire::WireFault;
+use pawn_wire::{Out, write_reply};
+use pawn_wire::read_request;
+use pawn_wire::Router;
 use pawn_book::{
     BrokerRequest, Caller, Kind, Number, PledgeRefusal, Receipt, Refusal, Reply, Request, Secret,
 };

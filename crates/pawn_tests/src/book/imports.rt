@@ -1,6 +1,6 @@
 //! Rows of books, and rows that are bent at one place.
 use super::number;
-use crate::{
+use pawn_book::{
     Agreement, Article, BookRows, Booking, BookingState, Closing, Day, Entry, Extension, Issue,
     Issued, Kind, Opening, Parts, PledgeRows, Rates, Reference, Rows, Secret, Sort, Standing,
     replayable,

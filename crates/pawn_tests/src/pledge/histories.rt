@@ -1,6 +1,6 @@
 //! Histories of pledges, and the parts of what became of them.
 use super::{day, is_same_again, pledge};
-use crate::{Command, Decision, Kind, Paper, Pledge, RequestDay, Stamp};
+use pawn_pledge::{Command, Decision, Kind, Paper, Pledge, RequestDay, Stamp};
 use std::alloc::Global;
 use std::test::Fail;
 

@@ -2,7 +2,7 @@
 
 use super::turns::{request, turns_of};
 use super::{service, tells};
-use crate::service::Answer;
+use pawn_host::Answer;
 use pawn_book::Stamp;
 use std::alloc::Global;
 use std::process::Abort;

@@ -1,4 +1,4 @@
-use crate::{confirmed_in, head_in, next_in, pledge_of, ref_in, rows_in, terms_under};
+use pawn_tables::{confirmed_in, head_in, next_in, pledge_of, ref_in, rows_in, terms_under};
 use pawn_book::{Day, KeepError, Number, StoreFault};
 use sqlite::{Connection, MemStore};
 use std::alloc::Global;

@@ -1,8 +1,8 @@
 //! Books that came about by requests, exported, read, imported and exported again.
 use super::EXAMPLE;
-use crate::exporting::{RowWriter, export};
-use crate::importing::import;
-use crate::reading::read_book;
+use pawn_csv::{RowWriter, export};
+use pawn_csv::import;
+use pawn_csv::read_book;
 use pawn_book::{
     Article, BearerCommand, BearerRequest, BrokerCommand, BrokerRequest, Caller, Capacity, Command,
     Decision, Keep, Kind, ListKeep, Name, NewBook, NewTerms, Number, Opening, Paper, PledgeRefusal,

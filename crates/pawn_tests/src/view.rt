@@ -1,8 +1,8 @@
 //! The texts of a book with one pledge.
-use crate::fault::ViewFault;
-use crate::receipts::show_presented;
-use crate::statements::show_statement;
-use crate::writing::Writing;
+use pawn_view::ViewFault;
+use pawn_view::show_presented;
+use pawn_view::show_statement;
+use pawn_view::Writing;
 use pawn_book::{
     Article, BrokerRequest, Caller, Capacity, Day, Kind, ListKeep, Name, NewBook, NewTerms, Number,
     Opening, Rates, Receipt, Reference, Request, RequestDay, Secret, Stamp, act,

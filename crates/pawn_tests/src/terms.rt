@@ -1,6 +1,6 @@
 //! What the library's calendar is asked for is run once. What the rules answer is proved, and worked out in
 //! `specs/Worked.antt`.
-use crate::{BadDay, Day, RequestDay, last_day};
+use pawn_terms::{BadDay, Day, RequestDay, last_day};
 
 fn end_of(text: &[u8]) -> Result<[u8; 10], BadDay> {
     let taken = RequestDay::of_text(text)?;

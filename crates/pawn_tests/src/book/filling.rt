@@ -1,7 +1,7 @@
 //! Imports into a book.
 use super::imports::{Bend, rows};
 use super::{KEY, OPERATOR, answers, asked, day, make, number, put};
-use crate::{
+use pawn_book::{
     BookRows, BookingState, BrokerRequest, Caller, Day, Imported, Keep, ListKeep, Number,
     PledgeRows, Reference, Refusal, ReplayableRows, Reply, Request, Rows, Secret, SheetItem, Stamp,
     act, day_sheet,

@@ -2,9 +2,9 @@
 ghost use Rattle.std.specs.Prelude.{Some};
 
 use super::{STATEMENT, day, number, one_pledge};
-use crate::fault::ViewFault;
-use crate::statements::show_statement;
-use crate::writing::{Writing, put, send};
+use pawn_view::ViewFault;
+use pawn_view::show_statement;
+use pawn_view::{Writing, put, send};
 use pawn_book::ListKeep;
 use std::alloc::Global;
 use std::io;

@@ -2,8 +2,8 @@
 ghost use Rattle.std.specs.Prelude.{Some};
 
 use super::{EXAMPLE, is_refused, replace};
-use crate::fault::Cause;
-use crate::reading::read_book;
+use pawn_csv::Cause;
+use pawn_csv::read_book;
 use std::alloc::Global;
 use std::io;
 use std::io::{ErrorKind, Read};

@@ -1,4 +1,4 @@
-use crate::{
+use pawn_book::{
     Article, BearerCommand, BearerRequest, Booking, BookingState, BrokerCommand, BrokerRequest,
     Caller, Capacity, Command, Decision, Done, Entry, Flow, Keep, Kind, ListKeep, Name, NewBook,
     NewTerms, Number, Opening, Paper, Pledge, PledgeRefusal, Rates, Receipt, Receipts, Reference,

@@ -1,6 +1,6 @@
 //! What takes memory is run once, and its answer compared. What the rules answer is proved, and worked out in
 //! `specs/Worked.antt`.
-use crate::{Debt, Entries, Kind};
+use pawn_debt::{Debt, Entries, Kind};
 use pawn_terms::{Day, RequestDay, Terms, last_day};
 use std::alloc::Global;
 use std::test::Fail;

@@ -4,9 +4,9 @@ mod ends;
 mod slots;
 mod turns;
 
-use crate::reading::Reading;
-use crate::service::{Answer, Service};
-use crate::session::{Cause, Ended, How, IoFault};
+use pawn_host::Reading;
+use pawn_host::{Answer, Service};
+use pawn_host::{Cause, Ended, How, IoFault};
 use ends::{Log, Sink, Source, Stamps};
 use pawn_book::{ListKeep, RequestDay, Secret, Stamp};
 use pawn_view::Writing;

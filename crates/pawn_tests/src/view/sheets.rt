@@ -2,9 +2,9 @@
 ghost use Rattle.std.specs.Prelude.{Some};
 
 use super::{WORD, acts, book, broker, number, opening};
-use crate::fault::ViewFault;
-use crate::sheets::show_day_sheet;
-use crate::writing::Writing;
+use pawn_view::ViewFault;
+use pawn_view::show_day_sheet;
+use pawn_view::Writing;
 use pawn_book::{
     BearerCommand, BearerRequest, BrokerCommand, BrokerRequest, Caller, Command, Decision,
     ListKeep, Receipt, RequestDay, Secret,
