@@ -5,6 +5,7 @@ use pawn_book::{
     Refusal, Reply, Request, RequestDay, Secret, Sort, Stamp, Status, TermsFault, Visitor, act,
     commit, find_live, gate, plan,
 };
+use pawn_check::{Counts, check};
 use pawn_debt::DebtFault;
 use std::alloc::Global;
 use std::test::Fail;
@@ -254,6 +255,19 @@ const REPAY: Command = Command::Repay {
 };
 
 // What a repayment of pledge 1 is told.
+#[test]
+fn a_store_is_judged_and_counted(rt: HostRuntime) -> Result<(), Fail> {
+    let mut keep = ListKeep::new(rt.alloc(), 1000);
+    assert!(rt; pledges(rt.alloc(), &mut keep)?);
+    let counts = Counts {
+        books: 1,
+        pledges: 2,
+        rows: 6,
+    };
+    assert_eq!(rt; check(&mut keep), Ok(counts));
+    Ok(())
+}
+
 fn repaid() -> Result<Result<Reply, Refusal>, Fail> {
     told(
         1,

@@ -1,6 +1,5 @@
 //! Texts that are books, and texts that are none.
-use pawn_csv::Cause;
-use pawn_csv::read_book;
+use pawn_csv::{Cause, read_book};
 use std::alloc::Global;
 use std::test::Fail;
 

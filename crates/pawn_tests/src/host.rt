@@ -4,11 +4,9 @@ mod ends;
 mod slots;
 mod turns;
 
-use pawn_host::Reading;
-use pawn_host::{Answer, Service};
-use pawn_host::{Cause, Ended, How, IoFault};
 use ends::{Log, Sink, Source, Stamps};
 use pawn_book::{ListKeep, RequestDay, Secret, Stamp};
+use pawn_host::{Answer, Cause, Ended, How, IoFault, Reading, Service};
 use pawn_view::Writing;
 use std::alloc::Global;
 use std::process::Abort;

@@ -1,5 +1,5 @@
-use pawn_tables::{confirmed_in, head_in, next_in, pledge_of, ref_in, rows_in, terms_under};
 use pawn_book::{Day, KeepError, Number, StoreFault};
+use pawn_tables::{confirmed_in, head_in, next_in, pledge_of, ref_in, rows_in, terms_under};
 use sqlite::{Connection, MemStore};
 use std::alloc::Global;
 use std::test::Fail;

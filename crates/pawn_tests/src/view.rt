@@ -1,12 +1,9 @@
 //! The texts of a book with one pledge.
-use pawn_view::ViewFault;
-use pawn_view::show_presented;
-use pawn_view::show_statement;
-use pawn_view::Writing;
 use pawn_book::{
     Article, BrokerRequest, Caller, Capacity, Day, Kind, ListKeep, Name, NewBook, NewTerms, Number,
     Opening, Rates, Receipt, Reference, Request, RequestDay, Secret, Stamp, act,
 };
+use pawn_view::{ViewFault, Writing, show_presented, show_statement};
 use std::alloc::Global;
 use std::test::Fail;
 

@@ -1,12 +1,9 @@
 //! What takes memory, each once with its answer, and bodies that are none.
 
-use pawn_wire::WireFault;
-use pawn_wire::{Out, write_reply};
-use pawn_wire::read_request;
-use pawn_wire::Router;
 use pawn_book::{
     BrokerRequest, Caller, Kind, Number, PledgeRefusal, Receipt, Refusal, Reply, Request, Secret,
 };
+use pawn_wire::{Out, Router, WireFault, read_request, write_reply};
 use std::alloc::{AllocError, Global};
 use std::process::Abort;
 use std::test::Fail;

@@ -2,8 +2,7 @@
 ghost use Rattle.std.specs.Prelude.{Some};
 
 use super::{EXAMPLE, is_refused, replace};
-use pawn_csv::Cause;
-use pawn_csv::read_book;
+use pawn_csv::{Cause, read_book};
 use std::alloc::Global;
 use std::io;
 use std::io::{ErrorKind, Read};

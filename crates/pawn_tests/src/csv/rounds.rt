@@ -1,14 +1,12 @@
 //! Books that came about by requests, exported, read, imported and exported again.
 use super::EXAMPLE;
-use pawn_csv::{RowWriter, export};
-use pawn_csv::import;
-use pawn_csv::read_book;
 use pawn_book::{
     Article, BearerCommand, BearerRequest, BrokerCommand, BrokerRequest, Caller, Capacity, Command,
     Decision, Keep, Kind, ListKeep, Name, NewBook, NewTerms, Number, Opening, Paper, PledgeRefusal,
     Rates, Receipt, Reference, Refusal, ReplayableRows, Reply, Request, RequestDay, Secret, Stamp,
     act,
 };
+use pawn_csv::{RowWriter, export, import, read_book};
 use pawn_terms::Day;
 use std::alloc::Global;
 use std::test::Fail;

@@ -2,8 +2,8 @@
 
 use super::turns::{request, turns_of};
 use super::{service, tells};
-use pawn_host::Answer;
 use pawn_book::Stamp;
+use pawn_host::Answer;
 use std::alloc::Global;
 use std::process::Abort;
 use std::test::Fail;

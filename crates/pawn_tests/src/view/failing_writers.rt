@@ -2,10 +2,8 @@
 ghost use Rattle.std.specs.Prelude.{Some};
 
 use super::{STATEMENT, day, number, one_pledge};
-use pawn_view::ViewFault;
-use pawn_view::show_statement;
-use pawn_view::{Writing, put, send};
 use pawn_book::ListKeep;
+use pawn_view::{ViewFault, Writing, put, send, show_statement};
 use std::alloc::Global;
 use std::io;
 use std::io::{ErrorKind, Write};

@@ -2,13 +2,11 @@
 ghost use Rattle.std.specs.Prelude.{Some};
 
 use super::{WORD, acts, book, broker, number, opening};
-use pawn_view::ViewFault;
-use pawn_view::show_day_sheet;
-use pawn_view::Writing;
 use pawn_book::{
     BearerCommand, BearerRequest, BrokerCommand, BrokerRequest, Caller, Command, Decision,
     ListKeep, Receipt, RequestDay, Secret,
 };
+use pawn_view::{ViewFault, Writing, show_day_sheet};
 use std::alloc::Global;
 use std::io;
 use std::io::{ErrorKind, Write};
