@@ -254,7 +254,6 @@ const REPAY: Command = Command::Repay {
     pence: 1000,
 };
 
-// What a repayment of pledge 1 is told.
 #[test]
 fn a_store_is_judged_and_counted(rt: HostRuntime) -> Result<(), Fail> {
     let mut keep = ListKeep::new(rt.alloc(), 1000);
@@ -268,6 +267,7 @@ fn a_store_is_judged_and_counted(rt: HostRuntime) -> Result<(), Fail> {
     Ok(())
 }
 
+// What a repayment of pledge 1 is told.
 fn repaid() -> Result<Result<Reply, Refusal>, Fail> {
     told(
         1,
