@@ -3,20 +3,20 @@
 #![tactic(auto)]
 
 #[cfg(test)]
-mod book;
+mod book_tests;
 #[cfg(test)]
-mod csv;
+mod csv_tests;
 #[cfg(test)]
-mod debt;
+mod debt_tests;
 #[cfg(test)]
-mod host;
+mod host_tests;
 #[cfg(test)]
-mod pledge;
+mod pledge_tests;
 #[cfg(test)]
-mod tables;
+mod tables_tests;
 #[cfg(test)]
-mod terms;
+mod terms_tests;
 #[cfg(test)]
-mod view;
+mod view_tests;
 #[cfg(test)]
-mod wire;
+mod wire_tests;
