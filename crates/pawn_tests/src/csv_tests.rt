@@ -3,6 +3,7 @@ use pawn_csv::{Cause, read_book};
 use std::alloc::Global;
 use std::test::Fail;
 
+mod exports;
 mod hostile;
 mod rounds;
 

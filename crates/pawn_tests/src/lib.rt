@@ -11,6 +11,8 @@ mod debt_tests;
 #[cfg(test)]
 mod host_tests;
 #[cfg(test)]
+mod opening_tests;
+#[cfg(test)]
 mod pledge_tests;
 #[cfg(test)]
 mod tables_tests;

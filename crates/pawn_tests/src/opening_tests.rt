@@ -1,4 +1,5 @@
-use crate::{OpenFault, close_files, open_files, open_memory, prepare};
+//! What becomes of a store that is opened: its limit, its schema, and one of another program.
+use pawn_opening::{OpenFault, close_files, open_files, open_memory, prepare};
 use sqlite::{Alter, Connection, Files, Options, params};
 use sqlite_disk::Memory;
 use std::test::Fail;

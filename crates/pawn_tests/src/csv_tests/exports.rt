@@ -1,10 +1,10 @@
 //! The text of a book without terms and pledges.
 ghost use Rattle.std.specs.Prelude.{Some};
 
-use super::{ExportFault, RowWriter, export};
 use pawn_book::{
     Caller, Capacity, ListKeep, Name, NewBook, Number, Request, RequestDay, Secret, Stamp, act,
 };
+use pawn_csv::{ExportFault, RowWriter, export};
 use std::alloc::Global;
 use std::io;
 use std::io::{ErrorKind, Write};
