@@ -314,6 +314,3 @@ pub fn export<K: Keep, W: Write>(
     let done = put_rows(keep, book, &head, rows);
     ending(done, &rows.sink)
 }
-
-#[cfg(test)]
-mod tests;

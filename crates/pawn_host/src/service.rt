@@ -62,6 +62,13 @@ impl<K: Keep> Service<K> {
         }
     }
 
+    /// The keeper, as the requests so far left it.
+    pub fn into_keep(self) -> K
+        ensures keep { result ≡ service_keep self }
+    {
+        self.keep
+    }
+
     // Shows what receipts stand for.
     fn show(&mut self, stamp: &Stamp, book: Number, receipts: &Receipts) -> Answer
         ensures stays { StaysOpen K.keeping self.old self.new }

@@ -38,6 +38,14 @@ impl<S: Alter> TableKeep<S> {
             Err(conn)
         }
     }
+
+    /// The connection that the keeper is over. No transaction is under way.
+    pub fn into_connection(self) -> Connection<S>
+        ensures same { result ≡ self.conn }
+        ensures rests { result.in_transaction ≡ false }
+    {
+        self.conn
+    }
 }
 
 impl<S: Alter> Keep for TableKeep<S> {

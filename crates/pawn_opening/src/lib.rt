@@ -12,6 +12,3 @@ mod recognising;
 pub use fault::OpenFault;
 pub use opening::{close_files, open_files, open_memory, open_path};
 pub use preparing::prepare;
-
-#[cfg(test)]
-mod tests;
