@@ -1,11 +1,14 @@
 #!/usr/bin/env python3
-"""What the program says on its standard error, and its exit status: usage, faults in their order, and ends that fail."""
+"""What the program says on its standard error, and its exit status: usage, faults in their order, files that are no store of its, and ends that fail."""
+import contextlib
 import os
+import shutil
 import socket
+import sqlite3
 import subprocess
 import tempfile
 
-from service import OPERATOR, PROGRAM, SEED, expect, free_port, main, request
+from service import OPERATOR, PROGRAM, SEED, TOP, expect, free_port, main, request
 
 DAY = "2024-01-31"
 USAGE = (2, "usage: pawnd answer|serve|migrate|check\n")
@@ -24,7 +27,7 @@ def fault(number, name):
 
 def the_words_are_those_of_no_command():
     for words in [(), ("reply",), ("answer",), ("answer", ":memory:", DAY, SEED), ("answer", ":memory:", DAY, SEED, OPERATOR, "x"),
-                  ("serve", ":memory:", "8080"), ("serve", ":memory:", "8080", OPERATOR, "x"), ("migrate",), ("check",)]:
+                  ("serve", ":memory:", "8080"), ("serve", ":memory:", "8080", OPERATOR, "x"), ("migrate",), ("check",), ("check", "books", "x")]:
         expect(f"{words}", ends(*words), USAGE)
 
 
@@ -37,7 +40,7 @@ def the_first_fault_of_answer_is_told():
             (("books", DAY, SEED[1:] + "g", OPERATOR), fault(801, "BadSeed")),
             (("books", DAY, SEED, "no/such/file"), fault(803, "BadKey")),
             (("books", DAY, SEED, "/"), fault(803, "BadKey")),
-            (("books", DAY, SEED, OPERATOR), fault(503, "Store"))]:
+            (("no/such/books", DAY, SEED, OPERATOR), fault(503, "Store"))]:
         expect(f"answer {words}", ends("answer", *words), wanted)
 
 
@@ -49,7 +52,7 @@ def the_first_fault_of_serve_is_told():
             (("books", "+80", "x"), fault(802, "BadPort")),
             (("books", "", "x"), fault(802, "BadPort")),
             (("books", "8080", "no/such/file"), fault(803, "BadKey")),
-            (("books", "8080", OPERATOR), fault(503, "Store"))]:
+            (("no/such/books", "8080", OPERATOR), fault(503, "Store"))]:
         expect(f"serve {words}", ends("serve", *words), wanted)
 
 
@@ -60,6 +63,153 @@ def a_key_may_stand_in_a_file():
             with open(path, "w", newline="") as it:
                 it.write(OPERATOR + end)
             expect(f"a line end {end!r}", ends("answer", ":memory:", DAY, SEED, path), (0, ""))
+
+
+def stored(name):
+    """What stands beside the program's source: the stored run's requests, or its replies."""
+    with open(os.path.join(TOP, "crates/pawnd", name), "rb") as it:
+        return it.read()
+
+
+def told_over(path):
+    """The replies to the requests of the stored run over a file."""
+    ran = subprocess.run([PROGRAM, "answer", path, DAY, SEED, OPERATOR], input=stored("stdin"), capture_output=True, timeout=30)
+    expect("how it ended", (ran.returncode, ran.stderr), (0, b""))
+    return ran.stdout
+
+
+def the_stored_run_over_a_file_is_answered_again_from_it():
+    with tempfile.TemporaryDirectory() as room:
+        path = os.path.join(room, "books")
+        for life in ("the first time", "the second time", "the third time"):
+            expect(life, told_over(path), stored("stdout"))
+            counted = subprocess.run([PROGRAM, "check", path], capture_output=True, timeout=30)
+            expect(f"its check, {life}", (counted.returncode, counted.stdout, counted.stderr), (0, b"books 1 pledges 1 rows 4\n", b""))
+    counted = subprocess.run([PROGRAM, "check", ":memory:"], capture_output=True, timeout=30)
+    expect("the check of nothing", (counted.returncode, counted.stdout, counted.stderr), (0, b"books 0 pledges 0 rows 0\n", b""))
+
+
+@contextlib.contextmanager
+def opened(path):
+    """The file by Python's sqlite3, and what is done there committed."""
+    with contextlib.closing(sqlite3.connect(path)) as tables:
+        yield tables
+        tables.commit()
+
+
+def ours_but(*statements):
+    """A store of ours, after these statements."""
+    def make(path):
+        told_over(path)
+        with opened(path) as tables:
+            for statement in statements:
+                tables.execute(statement)
+    return make
+
+
+def of_schema(number):
+    return ours_but(f"UPDATE meta SET value = {number} WHERE name = 'schema'")
+
+
+def cut_at(length):
+    def make(path):
+        told_over(path)
+        os.truncate(path, length)
+    return make
+
+
+def strange(*statements):
+    def make(path):
+        with opened(path) as tables:
+            for statement in statements:
+                tables.execute(statement)
+    return make
+
+
+def with_its_log(*statements):
+    """A store whose last commits stand in its log, as a program leaves it that is killed."""
+    def make(path):
+        with opened(path + "-open") as tables:
+            for statement in ("PRAGMA journal_mode = WAL", *statements):
+                tables.execute(statement)
+            tables.commit()
+            for end in ("", "-wal"):
+                shutil.copyfile(path + "-open" + end, path + end)
+    return make
+
+
+def against_its_own_text(table, old, new, *statements):
+    """A store with rows that its tables' own text does not allow."""
+    def make(path):
+        told_over(path)
+        with opened(path) as tables:
+            text, = tables.execute("SELECT sql FROM sqlite_schema WHERE name = ?", (table,)).fetchone()
+            tables.execute("PRAGMA writable_schema = ON")
+            tables.execute("UPDATE sqlite_schema SET sql = ? WHERE name = ?", (text.replace(old, new), table))
+        with opened(path) as tables:
+            for statement in statements:
+                tables.execute(statement)
+            tables.execute("PRAGMA writable_schema = ON")
+            tables.execute("UPDATE sqlite_schema SET sql = ? WHERE name = ?", (text, table))
+    return make
+
+
+def plain(said):
+    def make(path):
+        with open(path, "wb") as it:
+            it.write(said)
+    return make
+
+
+def found(path):
+    """The bytes of a file."""
+    with open(path, "rb") as it:
+        return it.read()
+
+
+def is_refused(path, wanted, step):
+    expect(f"answer, {step}", ends("answer", path, DAY, SEED, OPERATOR), wanted)
+    expect(f"serve, {step}", ends("serve", path, str(free_port()), OPERATOR), wanted)
+    expect(f"check, {step}", ends("check", path), wanted)
+
+
+def files_that_are_no_store_of_ours_are_refused_and_stay():
+    pledges = "CREATE TABLE pledges (id INTEGER PRIMARY KEY, owner TEXT)"
+    for step, make, wanted in [
+            ("a text", plain(b"The books of High Street.\n" * 400), fault(503, "Store")),
+            ("a short text", plain(b"books"), fault(503, "Store")),
+            ("zeros", plain(bytes(8192)), fault(503, "Store")),
+            ("a store cut in half", cut_at(20480), fault(503, "Store")),
+            ("a store cut within a page", cut_at(9000), fault(503, "Store")),
+            ("a store cut within its header", cut_at(60), fault(503, "Store")),
+            ("a NULL where none may be", against_its_own_text("pledges", "article TEXT NOT NULL", "article TEXT", "UPDATE pledges SET article = NULL"), fault(503, "Store")),
+            ("a reference to no row", ours_but("INSERT INTO entries VALUES (7, 2, 1, 19753, 1, 100)"), fault(503, "Store")),
+            ("another program's table of pledges", strange(pledges, "INSERT INTO pledges VALUES (7, 'Ann')"), fault(502, "NotOurs")),
+            ("that table in the log", with_its_log(pledges, "INSERT INTO pledges VALUES (7, 'Ann')"), fault(502, "NotOurs")),
+            ("other tables alone", strange("CREATE TABLE note (id INTEGER PRIMARY KEY, title TEXT)"), fault(502, "NotOurs")),
+            ("a view alone", strange("CREATE VIEW note AS SELECT 1"), fault(502, "NotOurs")),
+            ("a table meta without a schema", strange("CREATE TABLE meta (name TEXT PRIMARY KEY, value INTEGER)"), fault(502, "NotOurs")),
+            ("a newer schema", of_schema(4), fault(502, "NotOurs")),
+            ("the schema 0", of_schema(0), fault(502, "NotOurs")),
+            ("an older schema", of_schema(2), fault(501, "OldSchema")),
+            ("the oldest schema", of_schema(1), fault(501, "OldSchema"))]:
+        with tempfile.TemporaryDirectory() as room:
+            path = os.path.join(room, "books")
+            make(path)
+            before = found(path)
+            is_refused(path, wanted, step)
+            expect(f"the file, {step}", found(path) == before, True)
+
+
+def paths_that_are_no_file_are_refused():
+    with tempfile.TemporaryDirectory() as room:
+        path = os.path.join(room, "books")
+        is_refused(os.path.join(path, "books"), fault(503, "Store"), "no such folder")
+        is_refused(room, fault(503, "Store"), "a folder")
+        is_refused("", fault(503, "Store"), "the empty path")
+        expect("the folder", os.listdir(room), [])
+        plain(b"")(path)
+        is_refused(os.path.join(path, "books"), fault(503, "Store"), "a file in the path")
 
 
 def a_port_that_is_taken_is_not_listened_on():
@@ -87,4 +237,5 @@ def output_that_cannot_be_written_breaks_off():
 
 
 main(the_words_are_those_of_no_command, the_first_fault_of_answer_is_told, the_first_fault_of_serve_is_told, a_key_may_stand_in_a_file,
+     the_stored_run_over_a_file_is_answered_again_from_it, files_that_are_no_store_of_ours_are_refused_and_stay, paths_that_are_no_file_are_refused,
      a_port_that_is_taken_is_not_listened_on, input_that_cannot_be_read_breaks_off, output_that_cannot_be_written_breaks_off)

@@ -37,11 +37,14 @@ def free_port():
 
 
 class Server:
-    """`pawnd serve :memory:` on a free port, ended when the block is left."""
+    """`pawnd serve` of a store on a free port, killed when the block is left."""
+
+    def __init__(self, database=":memory:"):
+        self.database = database
 
     def __enter__(self):
         self.port = free_port()
-        self.program = subprocess.Popen([PROGRAM, "serve", ":memory:", str(self.port), OPERATOR],
+        self.program = subprocess.Popen([PROGRAM, "serve", self.database, str(self.port), OPERATOR],
                                         stdin=subprocess.DEVNULL, stdout=subprocess.PIPE, stderr=subprocess.PIPE)
         expect("the first line, by a pipe", self.program.stdout.readline(), f"listening {self.port}\n".encode())
         return self

@@ -1,13 +1,31 @@
--- Why the program does not start.
+-- Why the program does not do what it was asked.
 use Rattle.std.specs.Prelude.{ℕ, List, codes}
+use Rattle.pawn_opening.specs.declared.fault.OpenFault.{OpenFault}
+use Rattle.pawn_opening.specs.declared.fault.OpenFault.TheVariants as Open
+use Rattle.pawn_check.specs.declared.fault.CheckFault.{CheckFault}
+use Rattle.pawn_check.specs.declared.fault.CheckFault.TheVariants as Check
 use Rattle.pawnd.specs.declared.fault.Fault.{Fault}
-use Rattle.pawnd.specs.declared.fault.Fault.TheVariants.{BadDay, Store, Memory, BadSeed, BadPort, BadKey}
+use Rattle.pawnd.specs.declared.fault.Fault.TheVariants.{BadDay, Memory, Opening, Checking, BadSeed, BadPort, BadKey}
+
+-- the number and the name of why a database is not opened
+abbrev pub opening_line : OpenFault → List ℕ
+opening_line (Open.OldSchema schema) = codes "501 OldSchema"
+opening_line Open.NotOurs = codes "502 NotOurs"
+opening_line Open.Store = codes "503 Store"
+opening_line Open.Memory = codes "504 Memory"
+
+-- .. of why a check does not end with counts
+abbrev pub checking_line : CheckFault → List ℕ
+checking_line Check.Memory = codes "491 Memory"
+checking_line Check.Store = codes "492 Store"
+checking_line Check.Damaged = codes "513 Damaged"
 
 -- a fault's number and name
 abbrev pub line_of : Fault → List ℕ
 line_of BadDay = codes "101 BadDay"
 line_of Memory = codes "491 Memory"
-line_of Store = codes "503 Store"
+line_of (Opening why) = opening_line why
+line_of (Checking why) = checking_line why
 line_of BadSeed = codes "801 BadSeed"
 line_of BadPort = codes "802 BadPort"
 line_of BadKey = codes "803 BadKey"

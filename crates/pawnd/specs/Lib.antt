@@ -1,4 +1,5 @@
 pub mod Clock
+pub mod Counts
 pub mod Fault
 pub mod Serving
 pub mod Settings

@@ -1,14 +1,18 @@
+use pawn_check::CheckFault;
+use pawn_store::OpenFault;
 use std::fmt;
 
-/// Why the program does not start.
+/// Why the program does not do what it was asked.
 #[derive(Clone, Copy, Debug, PartialEq, Eq)]
 pub enum Fault {
     /// The day is none from 2000-01-01 to 2199-12-31.
     BadDay,
-    /// The database can't be opened.
-    Store,
-    /// Memory was wanted.
+    /// Memory was wanted, and not for the database.
     Memory,
+    /// The database is not opened, or not closed.
+    Opening(OpenFault),
+    /// A check of the database does not end with counts.
+    Checking(CheckFault),
     /// The seed is not 64 hexadecimal digits.
     BadSeed,
     /// The port is no number from 1 to 65535.
@@ -27,7 +31,13 @@ impl fmt::Display for Fault {
         f.write_str(match self {
             Fault::BadDay => "101 BadDay",
             Fault::Memory => "491 Memory",
-            Fault::Store => "503 Store",
+            Fault::Opening(OpenFault::OldSchema(_)) => "501 OldSchema",
+            Fault::Opening(OpenFault::NotOurs) => "502 NotOurs",
+            Fault::Opening(OpenFault::Store) => "503 Store",
+            Fault::Opening(OpenFault::Memory) => "504 Memory",
+            Fault::Checking(CheckFault::Memory) => "491 Memory",
+            Fault::Checking(CheckFault::Store) => "492 Store",
+            Fault::Checking(CheckFault::Damaged) => "513 Damaged",
             Fault::BadSeed => "801 BadSeed",
             Fault::BadPort => "802 BadPort",
             Fault::BadKey => "803 BadKey",

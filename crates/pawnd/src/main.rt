@@ -1,23 +1,27 @@
-//! The program. `pawnd answer :memory: DAY SEED KEY` answers requests from standard input to
-//! standard output, `pawnd serve :memory: PORT KEY` those of its connections.
+//! The program. `pawnd answer DB DAY SEED KEY` answers requests from standard input to standard output, `pawnd serve DB PORT KEY`
+//! those of its connections, and `pawnd check DB` judges and counts what a store holds.
 #![tactic(auto)]
 
 ghost use Rattle.std.specs.Prelude.{◌≡◌, IfOk};
 ghost use Rattle.pawn_host.specs.Keeps.{service_operator};
 
 mod clock;
+mod counts;
 mod fault;
 mod serving;
 mod settings;
 mod stamps;
 mod stop;
+mod store;
 #[cfg(test)]
 mod tests;
 mod words;
 
 use clock::ClockStamps;
+use counts::CountsLine;
 use fault::Fault;
-use pawn_host::{ListKeep, Reading, Secret, Service, Writing};
+use pawn_check::check;
+use pawn_host::{Keep, Reading, Secret, Service, Writing};
 use serving::serve_on;
 use settings::{ServeSettings, Settings};
 use stamps::Stamps;
@@ -26,10 +30,8 @@ use std::env::Args;
 use std::net::TcpListener;
 use std::process::ExitCode;
 use stop::{Stop, tell};
+use store::{close, file_keep, is_memory, memory_keep};
 use words::Words;
-
-/// At most as many rows are kept.
-const ROWS: u64 = 5_000_000;
 
 /// At most as many connections are served.
 const CONNECTIONS: u32 = 1_000_000;
@@ -50,6 +52,7 @@ fn obey(rt: &HostRuntime) -> Result<(), Stop> {
     match args.next() {
         Some(command) if command.as_str() == "answer" => answer(rt, args),
         Some(command) if command.as_str() == "serve" => serve(rt, args),
+        Some(command) if command.as_str() == "check" => judge(rt, args),
         _ => Err(Stop::Usage),
     }
 }
@@ -68,7 +71,22 @@ fn answer(rt: &HostRuntime, mut args: Args) -> Result<(), Stop> {
     let settings = Settings::read(rt, day.as_str(), seed.as_str(), key.as_str()).map_err(
         Stop::Fault,
     )?;
-    let mut service = open(rt, database.as_str(), settings.operator).map_err(Stop::Fault)?;
+    if is_memory(database.as_str()) {
+        let mut service = open(rt, memory_keep(rt)?, settings.operator)?;
+        answer_over(rt, &mut service, settings)
+    } else {
+        let mut service = open(rt, file_keep(rt, database.as_str())?, settings.operator)?;
+        let end = answer_over(rt, &mut service, settings);
+        close(service.into_keep(), end)
+    }
+}
+
+// Answers them by a service.
+fn answer_over<K: Keep>(
+    rt: &HostRuntime,
+    service: &mut Service<K>,
+    settings: Settings,
+) -> Result<(), Stop> {
     let mut words = Words::of_seed(settings.seed);
     let mut reader = Reading::new(rt.stdin());
     let mut writer = Writing::new(rt.stdout());
@@ -90,31 +108,64 @@ fn serve(rt: &HostRuntime, mut args: Args) -> Result<(), Stop> {
         return Err(Stop::Usage);
     };
     let settings = ServeSettings::read(rt, port.as_str(), key.as_str()).map_err(Stop::Fault)?;
-    let mut service = open(rt, database.as_str(), settings.operator).map_err(Stop::Fault)?;
+    if is_memory(database.as_str()) {
+        let mut service = open(rt, memory_keep(rt)?, settings.operator)?;
+        serve_over(rt, &mut service, settings.port)
+    } else {
+        let mut service = open(rt, file_keep(rt, database.as_str())?, settings.operator)?;
+        let end = serve_over(rt, &mut service, settings.port);
+        close(service.into_keep(), end)
+    }
+}
+
+// Answers them by a service.
+fn serve_over<K: Keep>(rt: &HostRuntime, service: &mut Service<K>, port: u16) -> Result<(), Stop> {
     let Ok(rng) = rand::make_rng(rt) else {
         return Err(Stop::Io);
     };
-    let Ok(listener) = TcpListener::bind(rt, ("127.0.0.1", settings.port)) else {
+    let Ok(listener) = TcpListener::bind(rt, ("127.0.0.1", port)) else {
         return Err(Stop::Io);
     };
-    let Ok(()) = println!(rt; "listening {}", settings.port) else {
+    let Ok(()) = println!(rt; "listening {}", port) else {
         return Err(Stop::Io);
     };
     let mut stamps = ClockStamps::new(rt, Words::new(rng));
-    serve_on(&listener, &mut service, &mut stamps, CONNECTIONS);
+    serve_on(&listener, service, &mut stamps, CONNECTIONS);
     Ok(())
 }
 
-// The service over a store. Until books are kept in files, that is memory alone.
-fn open(rt: &HostRuntime, database: &str, operator: Secret) -> Result<Service<ListKeep>, Fault>
+// Judges a store, and tells what it holds.
+fn judge(rt: &HostRuntime, mut args: Args) -> Result<(), Stop> {
+    let (Some(database), None) = (args.next(), args.next()) else {
+        return Err(Stop::Usage);
+    };
+    if is_memory(database.as_str()) {
+        let mut keep = memory_keep(rt)?;
+        judge_over(rt, &mut keep)
+    } else {
+        let mut keep = file_keep(rt, database.as_str())?;
+        let end = judge_over(rt, &mut keep);
+        close(keep, end)
+    }
+}
+
+// Judges what a keeper holds, and tells it.
+fn judge_over<K: Keep>(rt: &HostRuntime, keep: &mut K) -> Result<(), Stop> {
+    match check(keep) {
+        Ok(counts) => match println!(rt; "{}", CountsLine(counts)) {
+            Ok(()) => Ok(()),
+            Err(_) => Err(Stop::Io),
+        },
+        Err(why) => Err(Stop::Fault(Fault::Checking(why))),
+    }
+}
+
+// The service over a keeper.
+fn open<K: Keep + Drop>(rt: &HostRuntime, keep: K, operator: Secret) -> Result<Service<K>, Stop>
     ensures operator { IfOk result (λ service. service_operator service ≡ operator) }
 {
-    if database != ":memory:" {
-        return Err(Fault::Store);
-    }
-    let keep = ListKeep::new(rt.alloc(), ROWS);
     match Service::new(rt.alloc(), keep, operator) {
         Ok(service) => Ok(service),
-        Err(_) => Err(Fault::Memory),
+        Err(_) => Err(Stop::Fault(Fault::Memory)),
     }
 }

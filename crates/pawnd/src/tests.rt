@@ -5,6 +5,8 @@ use crate::fault::Fault;
 use crate::settings::{ServeSettings, Settings};
 use crate::stop::{Stop, tell};
 use crate::words::Words;
+use pawn_check::CheckFault;
+use pawn_store::OpenFault;
 use std::alloc::Global;
 use std::cell::Cell;
 use std::fmt::Display;
@@ -111,7 +113,16 @@ fn stops_are_told(rt: HostRuntime) {
     for (fault, line) in [
         (Fault::BadDay, "fault 101 BadDay"),
         (Fault::Memory, "fault 491 Memory"),
-        (Fault::Store, "fault 503 Store"),
+        (
+            Fault::Opening(OpenFault::OldSchema(2)),
+            "fault 501 OldSchema",
+        ),
+        (Fault::Opening(OpenFault::NotOurs), "fault 502 NotOurs"),
+        (Fault::Opening(OpenFault::Store), "fault 503 Store"),
+        (Fault::Opening(OpenFault::Memory), "fault 504 Memory"),
+        (Fault::Checking(CheckFault::Memory), "fault 491 Memory"),
+        (Fault::Checking(CheckFault::Store), "fault 492 Store"),
+        (Fault::Checking(CheckFault::Damaged), "fault 513 Damaged"),
         (Fault::BadSeed, "fault 801 BadSeed"),
         (Fault::BadPort, "fault 802 BadPort"),
         (Fault::BadKey, "fault 803 BadKey"),
@@ -141,7 +152,7 @@ fn the_first_stop_is_told(rt: HostRuntime) -> Result<(), Fail> {
         (&["books", "2024-02-30", "x", "x"], "fault 101 BadDay", 1),
         (&["books", day, "x", "x"], "fault 801 BadSeed", 1),
         (&["books", day, SEED, "x"], "fault 803 BadKey", 1),
-        (&["books", day, SEED, KEY], "fault 503 Store", 1),
+        (&["no/such/books", day, SEED, KEY], "fault 503 Store", 1),
     ] {
         is_told(&rt, rt.alloc(), stop_at(&rt, words)?, line, status);
     }

@@ -1,0 +1,13 @@
+//! The service over the tables of a store: a keeper over a store that is opened, and what is promised of requests that are
+//! answered over it.
+#![tactic(auto)]
+
+mod opening;
+mod running;
+
+pub use opening::{close_keep, keep_at_path, keep_in_memory};
+pub use pawn_host::{Answer, Service, Stamp};
+pub use pawn_keeper::TableKeep;
+pub use pawn_opening::OpenFault;
+pub use running::run_over_tables;
+pub use sqlite::{FileFrom, FileStore, Files, Leftover, MemStore, Start};

@@ -1,0 +1,76 @@
+//! Stores that are opened as keepers, and closed.
+ghost use Rattle.std.specs.Prelude.{◌≤◌, ◌⊎◌, IfErr, IfOk, IfSome, IsTrue};
+ghost use Rattle.sqlite.specs.Files.{IsCleanLeft, file_state, image_of};
+ghost use Rattle.sqlite.specs.Held.{state};
+ghost use Rattle.sqlite.specs.State.{HasCleanDisk};
+ghost use Rattle.sqlite.specs.Steps.{over_memory};
+ghost use Rattle.sqlite_wal.specs.Files.{image_at};
+ghost use Rattle.sqlite_wal.specs.Reads.{AreClean};
+ghost use Rattle.pawn_book.specs.HostStep.{Host};
+ghost use Rattle.pawn_tables.specs.Keeps.{Keeps};
+ghost use Rattle.pawn_opening.specs.FilesStand.{IsBlank, IsRefusedStore, StandsIn};
+ghost use Rattle.pawn_opening.specs.Opened.{OpensAs, empty_host};
+ghost use Rattle.pawn_opening.specs.Refusing.{IsStoreFault};
+
+use pawn_keeper::TableKeep;
+use pawn_opening::{OpenFault, close_files, open_memory, open_path};
+use sqlite::{FileFrom, FileStore, Files, Leftover, MemStore, Start};
+use sqlite_disk::Disk;
+use std::alloc::Global;
+
+/// A keeper over an empty store in memory, for the empty host with this limit. The limit on rows is 1 to 10,000,000.
+/// It is refused for a fault of the store or want of memory alone.
+pub fn keep_in_memory(alloc: Global, limit: u32) -> Result<TableKeep<MemStore>, OpenFault>
+    requires least { 1 ≤ limit }
+    requires most { limit ≤ 10000000 }
+    ensures opens { IfOk result (λ keep. OpensAs (state over_memory keep.conn) (empty_host limit)) }
+    ensures refuses { IfErr result IsStoreFault }
+{
+    let conn = match open_memory(alloc, limit) {
+        Ok(conn) => conn,
+        Err(why) => return Err(why),
+    };
+    match TableKeep::over(alloc, conn) {
+        Ok(keep) => Ok(keep),
+        Err(_) => Err(OpenFault::Store),
+    }
+}
+
+/// A keeper over the store in the file at a path, which is made where there is none, over whatever `start` says of its bytes.
+/// An empty one is laid out for the empty host with this limit; in another the stored limit stands. The limit on rows is 1 to
+/// 10,000,000. Where the store is refused, what is left of the files comes back, once they were opened.
+pub fn keep_at_path<S: Start>(
+    rt: &HostRuntime,
+    path: &str,
+    start: S,
+    limit: u32,
+) -> Result<TableKeep<FileStore<FileFrom<S>>>, (OpenFault, Option<Leftover<FileFrom<S>>>)>
+    requires least { 1 ≤ limit }
+    requires most { limit ≤ 10000000 }
+    ensures blank { IfOk result (λ keep. HasCleanDisk (file_state keep.conn) → IsBlank (image_at S.Start) → OpensAs (file_state keep.conn) (empty_host limit)) }
+    ensures stands { IfOk result (λ keep. HasCleanDisk (file_state keep.conn) → (h : Host) → StandsIn (image_at S.Start) h → OpensAs (file_state keep.conn) h) }
+    ensures refuses { IfErr result (λ e. IfSome e.1 (λ rest. IsCleanLeft rest → IsStoreFault e.0 ⊎ IsRefusedStore (image_at S.Start) limit e.0 rest)) }
+{
+    let conn = match open_path(rt, path, start, limit) {
+        Ok(conn) => conn,
+        Err(refused) => return Err(refused),
+    };
+    match TableKeep::over(rt.alloc(), conn) {
+        Ok(keep) => Ok(keep),
+        Err(_) => Err((OpenFault::Store, None)),
+    }
+}
+
+/// Closes the files of a keeper, with the last commit in the database file.
+pub fn close_keep<D: Disk + Drop>(
+    keep: TableKeep<FileStore<D>>,
+) -> Result<Files<D>, (OpenFault, FileStore<D>)>
+    ensures usable { IfOk result (λ files. IsTrue (D.Disk.is_usable files.log) × IsTrue (D.Disk.is_usable files.db)) }
+    ensures kept { IfOk result (λ files. AreClean D.Disk files.log files.db → (h : Host) → Keeps (file_state keep.conn) h → StandsIn (image_of D.Disk files) h) }
+    ensures refuses { IfErr result (λ e. IsStoreFault e.0) }
+{
+    match close_files(keep.into_connection()) {
+        Ok(files) => Ok(files),
+        Err(refused) => Err(refused),
+    }
+}

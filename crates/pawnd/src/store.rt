@@ -1,0 +1,58 @@
+//! The store that the command line names.
+ghost use Rattle.std.specs.Prelude.{◌≡◌, ◌↔◌, Err, IfErr, IfOk, IsTrue, codes};
+ghost use Rattle.sqlite.specs.Held.{state};
+ghost use Rattle.sqlite.specs.Steps.{over_memory};
+ghost use Rattle.pawn_opening.specs.Opened.{OpensAs, empty_host};
+
+use crate::fault::Fault;
+use crate::stop::Stop;
+use pawn_store::{
+    FileFrom, FileStore, MemStore, TableKeep, close_keep, keep_at_path, keep_in_memory,
+};
+use sqlite_disk::Wary;
+
+/// At most as many rows are kept in a store that is made here.
+const ROWS: u32 = 5_000_000;
+
+/// The keeper over a file. Nothing is supposed of its first bytes, nor of what a write leaves that a crash tears.
+pub type FileKeep = TableKeep<FileStore<FileFrom<Wary>>>;
+
+/// Whether a store in memory is named, which ends with the program.
+pub fn is_memory(database: &str) -> bool
+    ensures named { IsTrue result ↔ (database.now ≡ codes ":memory:") }
+{
+    database == ":memory:"
+}
+
+/// A keeper over a new store in memory.
+pub fn memory_keep(rt: &HostRuntime) -> Result<TableKeep<MemStore>, Stop>
+    ensures opens { IfOk result (λ keep. OpensAs (state over_memory keep.conn) (empty_host 5000000)) }
+{
+    match keep_in_memory(rt.alloc(), ROWS) {
+        Ok(keep) => Ok(keep),
+        Err(why) => Err(Stop::Fault(Fault::Opening(why))),
+    }
+}
+
+/// A keeper over the file at a path, which is made where there is none.
+pub fn file_keep(rt: &HostRuntime, path: &str) -> Result<FileKeep, Stop> {
+    match keep_at_path(rt, path, Wary, ROWS) {
+        Ok(keep) => Ok(keep),
+        Err((why, _)) => Err(Stop::Fault(Fault::Opening(why))),
+    }
+}
+
+/// Closes the file of a keeper, with the last commit in the database file. The program ends as it did before, or else by
+/// what closing is refused for.
+pub fn close(keep: FileKeep, end: Result<(), Stop>) -> Result<(), Stop>
+    ensures first { IfErr end (λ stop. result ≡ Err stop) }
+{
+    let closed = match close_keep(keep) {
+        Ok(_) => Ok(()),
+        Err((why, _)) => Err(Stop::Fault(Fault::Opening(why))),
+    };
+    match end {
+        Ok(()) => closed,
+        Err(stop) => Err(stop),
+    }
+}

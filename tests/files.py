@@ -1,0 +1,184 @@
+#!/usr/bin/env python3
+"""The file of a service as others see it: opened by Python's sqlite3 and by the shell of that name, its rows counted, and rows bent by hand, of which the program tells and by which no other book is touched."""
+import contextlib
+import json
+import os
+import shutil
+import sqlite3
+import subprocess
+import tempfile
+
+from service import BROKER, OPERATOR, PROGRAM, SEED, Failed, expect, main, request
+
+DAY = "2024-03-01"
+COUNTED = ["books", "terms", "pledges", "entries", "secrets", "bookings"]
+DAMAGED = (1, "", "fault 513 Damaged\n")
+STORE = (503, {"code": 492, "name": "Store"})
+
+
+def answer(path, *requests, seed=SEED, day=DAY):
+    """The statuses and the bodies of the replies to requests over a file."""
+    ran = subprocess.run([PROGRAM, "answer", path, day, seed, OPERATOR], input=b"".join(requests), capture_output=True, timeout=30)
+    expect("how it ended", (ran.returncode, ran.stderr), (0, b""))
+    replies, rest = [], ran.stdout
+    while rest:
+        head, rest = rest.split(b"\r\n\r\n", 1)
+        status, *fields = head.decode().split("\r\n")
+        fields = dict(field.split(": ", 1) for field in fields)
+        length = int(fields["Content-Length"])
+        body, rest = rest[:length].decode(), rest[length:]
+        replies.append((int(status.split()[1]), json.loads(body) if fields["Content-Type"] == "application/json" else body))
+    expect("how many replies", len(replies), len(requests))
+    return replies
+
+
+def keyed(method, target, body=None, key=BROKER):
+    return request(method, target, f"Pledge-Key: {key}", body="" if body is None else json.dumps(body))
+
+
+def shown(receipt, book):
+    return request("GET", f"/books/{book}/held", f"Pledge-Receipt: {receipt}")
+
+
+def opening(number, kind="fixed"):
+    return {"article": "Gold ring", "five_days": False, "kind": kind, "pence": 10000, "ref": f"A{number}"}
+
+
+def fill(path, *books):
+    """Books of two pledges each: the first with entries, a second secret, a booking and an extension. The receipts of each book."""
+    receipts = {}
+    for book in books:
+        seed = f"{book:064x}"
+        made = answer(
+            path,
+            keyed("POST", f"/books/{book}", {"capacity": 2, "key": BROKER, "name": "High Street"}, OPERATOR),
+            keyed("POST", f"/books/{book}/terms", {"keep_after": 0, "keep_before": 0, "rate": 2667, "version": 1}),
+            keyed("POST", f"/books/{book}/pledges", opening(1, "running")),
+            keyed("POST", f"/books/{book}/pledges", opening(2)),
+            keyed("POST", f"/books/{book}/pledges/1/draw", {"pence": 3000, "seq": 1}),
+            keyed("POST", f"/books/{book}/pledges/1/repay", {"pence": 500, "seq": 2}),
+            keyed("POST", f"/books/{book}/pledges/1/declare", {"paper": "sworn"}),
+            keyed("POST", f"/books/{book}/pledges/1/extend", {"until": "2024-12-31"}),
+            seed=seed)
+        expect(f"what was made in book {book}", [status for status, _ in made], [200] * len(made))
+        receipts[book] = made[6][1]["receipt"], made[3][1]["receipt"]
+        asked = request("POST", f"/books/{book}/held/ask", f"Pledge-Receipt: {receipts[book][0]}", body='{"day":"2024-03-04","window":3}')
+        expect(f"the booking of book {book}", [status for status, _ in answer(path, asked)], [200])
+    return receipts
+
+
+def check(path):
+    ran = subprocess.run([PROGRAM, "check", path], capture_output=True, timeout=30)
+    return ran.returncode, ran.stdout.decode(), ran.stderr.decode()
+
+
+@contextlib.contextmanager
+def opened(path):
+    """The file by Python's sqlite3, and what is done there committed."""
+    with contextlib.closing(sqlite3.connect(path)) as tables:
+        yield tables
+        tables.commit()
+
+
+def counts(tables):
+    """What a check of these tables is to tell."""
+    of = {name: tables.execute(f"SELECT count(*) FROM {name}").fetchone()[0] for name in COUNTED}
+    expect("the noted rows", tables.execute("SELECT value FROM meta WHERE name = 'rows'").fetchone(), (sum(of.values()),))
+    return 0, f"books {of['books']} pledges {of['pledges']} rows {sum(of.values())}\n", ""
+
+
+def others_open_the_file():
+    with tempfile.TemporaryDirectory() as room:
+        path = os.path.join(room, "books")
+        fill(path, 7, 8, 999999999)
+        told = check(path)
+        with opened(path) as tables:
+            expect("its integrity", tables.execute("PRAGMA integrity_check").fetchall(), [("ok",)])
+            expect("its references", tables.execute("PRAGMA foreign_key_check").fetchall(), [])
+            expect("its counts", told, counts(tables))
+            expect("its limit", tables.execute("SELECT value FROM meta WHERE name = 'limit'").fetchone(), (5000000,))
+            expect("entries", tables.execute("SELECT seq, sort, pence FROM entries WHERE book = 8").fetchall(), [(1, 0, 3000), (2, 1, 500)])
+        expect("its check, once it was opened by others", check(path), told)
+        if shutil.which("sqlite3"):
+            ran = subprocess.run(["sqlite3", path, "PRAGMA integrity_check; SELECT count(*) FROM pledges"], capture_output=True, timeout=30)
+            expect("by the shell", (ran.returncode, ran.stdout), (0, b"ok\n6\n"))
+
+
+def a_closed_file_is_whole_without_its_log():
+    with tempfile.TemporaryDirectory() as room:
+        path, copy = os.path.join(room, "books"), os.path.join(room, "copy")
+        receipts = fill(path, 7)
+        shutil.copyfile(path, copy)
+        told, said = check(path), answer(path, shown(receipts[7][0], 7))
+        expect("its check", check(copy), told)
+        expect("its replies", answer(copy, shown(receipts[7][0], 7)), said)
+        with opened(copy) as tables:
+            expect("its counts", told, counts(tables))
+
+
+def statement(number, book=7):
+    return keyed("GET", f"/books/{book}/pledges/{number}")
+
+
+def by(statement, *values):
+    def bend(tables):
+        changed = tables.execute(statement, values).rowcount
+        if changed < 1:
+            raise Failed(f"{statement} changed nothing")
+    return bend
+
+
+def loosened(table, old, new, *statements):
+    """The table made anew by another text, with the rows that it had, and then these statements."""
+    def bend(tables):
+        text = tables.execute("SELECT sql FROM sqlite_schema WHERE name = ?", (table,)).fetchone()[0]
+        if old not in text:
+            raise Failed(f"{old} is not in {text}")
+        tables.execute(f"ALTER TABLE {table} RENAME TO was")
+        tables.execute(text.replace(old, new))
+        tables.execute(f"INSERT INTO {table} SELECT * FROM was")
+        tables.execute("DROP TABLE was")
+        for statement in statements:
+            by(statement)(tables)
+    return bend
+
+
+# What is bent in book 7, always of pledge 1 or of all its book.
+BENT = [
+    ("an entry of nothing", by("UPDATE entries SET pence = 0 WHERE book = 7 AND seq = 1")),
+    ("an entry of an unknown sort", by("UPDATE entries SET sort = 2 WHERE book = 7 AND seq = 1")),
+    ("an entry's number left out", by("UPDATE entries SET seq = 3 WHERE book = 7 AND seq = 2")),
+    ("a secret of 15 bytes", by("UPDATE secrets SET secret = substr(secret, 1, 15) WHERE book = 7 AND place = 2")),
+    ("a day of 2300", by("UPDATE secrets SET day = 120530 WHERE book = 7 AND place = 2")),
+    ("a day taken in 2300", by("UPDATE pledges SET taken = 120530 WHERE book = 7 AND number = 1")),
+    ("an article that is not UTF-8", by("UPDATE pledges SET article = CAST(x'ff41' AS TEXT) WHERE book = 7 AND number = 1")),
+    ("an article of 81 bytes", by("UPDATE pledges SET article = ? WHERE book = 7 AND number = 1", "x" * 81)),
+    ("a name that is not UTF-8", by("UPDATE books SET title = CAST(x'ff41' AS TEXT) WHERE book = 7")),
+    ("a window above 15", by("UPDATE bookings SET slot = 16 WHERE book = 7")),
+    ("a closing day of an open pledge", by("UPDATE pledges SET closed_day = taken WHERE book = 7 AND number = 1")),
+    ("another end", by("UPDATE pledges SET ends = ends + 1 WHERE book = 7 AND number = 1")),
+    ("other totals", by("UPDATE totals SET charges = charges + 1 WHERE book = 7 AND number = 1")),
+    ("an extension into the past", by("UPDATE extensions SET until_day = day WHERE book = 7")),
+    ("terms out of their limits", by("UPDATE terms SET rate = 20001 WHERE book = 7")),
+    ("an entry's number twice", loosened("entries", ", PRIMARY KEY (book, number, seq)", "", "UPDATE entries SET seq = 1 WHERE book = 7")),
+    ("a sum that is NULL", loosened("entries", "pence INTEGER NOT NULL", "pence INTEGER", "UPDATE entries SET pence = NULL WHERE book = 7 AND seq = 2")),
+    ("a text in place of a sum", loosened("entries", ") STRICT", ")", "UPDATE entries SET pence = 'many' WHERE book = 7 AND seq = 2")),
+]
+
+
+def bent_rows_are_told_and_touch_no_other_book():
+    with tempfile.TemporaryDirectory() as room:
+        path, bent = os.path.join(room, "books"), os.path.join(room, "bent")
+        receipts = fill(path, 7, 8)
+        others = [statement(1, 8), statement(2, 8), keyed("GET", "/books/8/export"), shown(receipts[8][0], 8), keyed("GET", "/books/8/days/2024-03-04")]
+        before = answer(path, *others)
+        expect("book 8", [status for status, _ in before], [200] * len(others))
+        for step, bend in BENT:
+            shutil.copyfile(path, bent)
+            with opened(bent) as tables:
+                bend(tables)
+            expect(f"a check, {step}", check(bent), DAMAGED)
+            expect(f"the requests, {step}", answer(bent, statement(1), *others, statement(1)), [STORE, *before, STORE])
+
+
+main(others_open_the_file, a_closed_file_is_whole_without_its_log, bent_rows_are_told_and_touch_no_other_book)
