@@ -15,6 +15,8 @@ mod opening_tests;
 #[cfg(test)]
 mod pledge_tests;
 #[cfg(test)]
+mod program_tests;
+#[cfg(test)]
 mod tables_tests;
 #[cfg(test)]
 mod terms_tests;

@@ -4,10 +4,20 @@ use Rattle.pawn_opening.specs.declared.fault.OpenFault.{OpenFault}
 use Rattle.pawn_opening.specs.declared.fault.OpenFault.TheVariants as Open
 use Rattle.pawn_check.specs.declared.fault.CheckFault.{CheckFault}
 use Rattle.pawn_check.specs.declared.fault.CheckFault.TheVariants as Check
+use Rattle.pawn_program.specs.declared.fault.SettingsFault.{SettingsFault}
+use Rattle.pawn_program.specs.declared.fault.SettingsFault.TheVariants as Said
 use Rattle.pawnd.specs.declared.fault.Fault.{Fault}
-use Rattle.pawnd.specs.declared.fault.Fault.TheVariants.{BadDay, Memory, Opening, Checking, BadSeed, BadPort, BadKey}
+use Rattle.pawnd.specs.declared.fault.Fault.TheVariants.{Settings, Memory, Opening, Checking}
 
--- the number and the name of why a database is not opened
+-- the number and the name of why the words of the command line say nothing that can be done
+abbrev pub settings_line : SettingsFault → List ℕ
+settings_line Said.BadDay = codes "101 BadDay"
+settings_line Said.Memory = codes "491 Memory"
+settings_line Said.BadSeed = codes "801 BadSeed"
+settings_line Said.BadPort = codes "802 BadPort"
+settings_line Said.BadKey = codes "803 BadKey"
+
+-- .. of why a database is not opened
 abbrev pub opening_line : OpenFault → List ℕ
 opening_line (Open.OldSchema schema) = codes "501 OldSchema"
 opening_line Open.NotOurs = codes "502 NotOurs"
@@ -22,10 +32,7 @@ checking_line Check.Damaged = codes "513 Damaged"
 
 -- a fault's number and name
 abbrev pub line_of : Fault → List ℕ
-line_of BadDay = codes "101 BadDay"
+line_of (Settings why) = settings_line why
 line_of Memory = codes "491 Memory"
 line_of (Opening why) = opening_line why
 line_of (Checking why) = checking_line why
-line_of BadSeed = codes "801 BadSeed"
-line_of BadPort = codes "802 BadPort"
-line_of BadKey = codes "803 BadKey"

@@ -1,24 +1,19 @@
 use pawn_check::CheckFault;
+use pawn_program::SettingsFault;
 use pawn_store::OpenFault;
 use std::fmt;
 
 /// Why the program does not do what it was asked.
 #[derive(Clone, Copy, Debug, PartialEq, Eq)]
 pub enum Fault {
-    /// The day is none from 2000-01-01 to 2199-12-31.
-    BadDay,
+    /// The words of the command line say nothing that can be done.
+    Settings(SettingsFault),
     /// Memory was wanted, and not for the database.
     Memory,
     /// The database is not opened, or not closed.
     Opening(OpenFault),
     /// A check of the database does not end with counts.
     Checking(CheckFault),
-    /// The seed is not 64 hexadecimal digits.
-    BadSeed,
-    /// The port is no number from 1 to 65535.
-    BadPort,
-    /// The key is neither a key nor the path of a file that holds one.
-    BadKey,
 }
 
 impl fmt::Display for Fault {
@@ -29,7 +24,11 @@ impl fmt::Display for Fault {
 
     fn fmt<W: fmt::Write>(&self, f: &mut fmt::Formatter<W>) -> fmt::Result {
         f.write_str(match self {
-            Fault::BadDay => "101 BadDay",
+            Fault::Settings(SettingsFault::BadDay) => "101 BadDay",
+            Fault::Settings(SettingsFault::Memory) => "491 Memory",
+            Fault::Settings(SettingsFault::BadSeed) => "801 BadSeed",
+            Fault::Settings(SettingsFault::BadPort) => "802 BadPort",
+            Fault::Settings(SettingsFault::BadKey) => "803 BadKey",
             Fault::Memory => "491 Memory",
             Fault::Opening(OpenFault::OldSchema(_)) => "501 OldSchema",
             Fault::Opening(OpenFault::NotOurs) => "502 NotOurs",
@@ -38,9 +37,6 @@ impl fmt::Display for Fault {
             Fault::Checking(CheckFault::Memory) => "491 Memory",
             Fault::Checking(CheckFault::Store) => "492 Store",
             Fault::Checking(CheckFault::Damaged) => "513 Damaged",
-            Fault::BadSeed => "801 BadSeed",
-            Fault::BadPort => "802 BadPort",
-            Fault::BadKey => "803 BadKey",
         })
     }
 }

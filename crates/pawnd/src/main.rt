@@ -5,33 +5,22 @@
 ghost use Rattle.std.specs.Prelude.{◌≡◌, IfOk};
 ghost use Rattle.pawn_host.specs.Keeps.{service_operator};
 
-mod clock;
 mod counts;
 mod fault;
-mod serving;
-mod settings;
-mod stamps;
 mod stop;
 mod store;
-#[cfg(test)]
-mod tests;
-mod words;
 
-use clock::ClockStamps;
 use counts::CountsLine;
 use fault::Fault;
 use pawn_check::check;
 use pawn_host::{Keep, Reading, Secret, Service, Writing};
-use serving::serve_on;
-use settings::{ServeSettings, Settings};
-use stamps::Stamps;
+use pawn_program::{ClockStamps, ServeSettings, Settings, SettingsFault, Stamps, Words, serve_on};
 use std::env;
 use std::env::Args;
 use std::net::TcpListener;
 use std::process::ExitCode;
 use stop::{Stop, tell};
 use store::{close, file_keep, is_memory, memory_keep};
-use words::Words;
 
 /// At most as many connections are served.
 const CONNECTIONS: u32 = 1_000_000;
@@ -57,6 +46,11 @@ fn obey(rt: &HostRuntime) -> Result<(), Stop> {
     }
 }
 
+// The stop for words that say nothing that can be done.
+fn unsaid(why: SettingsFault) -> Stop {
+    Stop::Fault(Fault::Settings(why))
+}
+
 // Answers the requests of standard input.
 fn answer(rt: &HostRuntime, mut args: Args) -> Result<(), Stop> {
     let (Some(database), Some(day), Some(seed), Some(key), None) = (
@@ -68,9 +62,7 @@ fn answer(rt: &HostRuntime, mut args: Args) -> Result<(), Stop> {
     ) else {
         return Err(Stop::Usage);
     };
-    let settings = Settings::read(rt, day.as_str(), seed.as_str(), key.as_str()).map_err(
-        Stop::Fault,
-    )?;
+    let settings = Settings::read(rt, day.as_str(), seed.as_str(), key.as_str()).map_err(unsaid)?;
     if is_memory(database.as_str()) {
         let mut service = open(rt, memory_keep(rt)?, settings.operator)?;
         answer_over(rt, &mut service, settings)
@@ -107,7 +99,7 @@ fn serve(rt: &HostRuntime, mut args: Args) -> Result<(), Stop> {
     ) else {
         return Err(Stop::Usage);
     };
-    let settings = ServeSettings::read(rt, port.as_str(), key.as_str()).map_err(Stop::Fault)?;
+    let settings = ServeSettings::read(rt, port.as_str(), key.as_str()).map_err(unsaid)?;
     if is_memory(database.as_str()) {
         let mut service = open(rt, memory_keep(rt)?, settings.operator)?;
         serve_over(rt, &mut service, settings.port)

@@ -1,0 +1,32 @@
+use Rattle.std.proofs.Common.{arith, refl}
+use Rattle.pawn_host.specs.Keeps.{service_keep, start_of}
+use Rattle.pawn_host.proofs.CrashLemmas.{goes_none}
+use Rattle.pawn_host.proofs.SessionLemmas.{open_then, within_most}
+use Rattle.pawn_program.proofs.ServingLemmas.{served_none, served_more}
+use Rattle.pawn_program.proofs.serving.serve_on.Goals as goal
+use Rattle.pawn_program.proofs.serving.serve_on.Goals.{in-Ok, in-Err}
+
+pub loop-turn-init : goal.loop-turn-init
+loop-turn-init g c = record {
+  counted = refl;
+  stays = record { on = record { past = λ honest. honest; served = λ honest serves. serves; stays = λ steady. steady }; operator = refl };
+  served = λ honest h sound at. served_none (goes_none g.K.Keep.keeping (service_keep c.args.service.now) h at sound);
+}
+
+pub loop-turn-preserved : goal.loop-turn-preserved
+loop-turn-preserved g c =
+    elim c.match-accept.branch [
+      | in-Ok w ↦ rw (w.service-is, w.stamps-is, w.served-is) record {
+        counted = omega (arith, c.loop-turn.invariant.counted);
+        stays = open_then c.loop-turn.invariant.stays w.converse.ensures.stays;
+        served = λ honest h sound at.
+            let so = c.loop-turn.invariant.served (w.converse.ensures.stays.on.past honest) h sound at in
+            served_more _ _ (start_of g.K.Keep.keeping c.args.service.now h) c.loop-turn.served.answered _ _ _ _ _ w.converse.result so c.loop-turn.invariant.stays.on.stays c.loop-turn.invariant.stays.operator so.goes.crash refl
+            (within_most w.converse.result w.converse.ensures.room) (w.converse.ensures.session honest _ so.goes.sound so.goes.stands_for);
+      }
+      | in-Err w ↦ rw (w.service-is, w.stamps-is, w.served-is) record {
+        counted = omega (arith, c.loop-turn.invariant.counted);
+        stays = c.loop-turn.invariant.stays;
+        served = c.loop-turn.invariant.served;
+      }
+    ]

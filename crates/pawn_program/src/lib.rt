@@ -1,0 +1,17 @@
+//! What the program is made of beside its store: what its command line says, the stamps of its requests, and its
+//! connections.
+#![tactic(auto)]
+
+mod clock;
+mod fault;
+mod serving;
+mod settings;
+mod stamps;
+mod words;
+
+pub use clock::ClockStamps;
+pub use fault::SettingsFault;
+pub use serving::{Served, serve_on};
+pub use settings::{ServeSettings, Settings};
+pub use stamps::Stamps;
+pub use words::Words;
