@@ -3,6 +3,7 @@ pub mod BookPuts
 pub mod Changing
 pub mod Counter
 pub mod Hosting
+pub mod ImportWrites
 pub mod Judging
 pub mod Lent
 pub mod Places

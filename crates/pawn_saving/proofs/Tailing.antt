@@ -58,6 +58,10 @@ on_done (Err e) P Q f h = tt
 pub carried_failed : (a b : State) → IsCarried a b true → IsCarried a b false
 carried_failed a b f = record { kept = f.kept; inside = λ clean within is_ok. absurd (let e = is_ok in cc); survives = f.survives }
 
+-- what was lent and went well, whatever comes of it then
+pub lent_anyway : (a b : State) → IsLent a b true → (ok : Bool) → IsLent a b ok
+lent_anyway a b f ok = record { kept = f.kept; opened = λ clean within is_ok. f.opened clean within refl; inside = λ clean within is_ok. f.inside clean within refl; survives = f.survives }
+
 -- the rows that were put so far have joined the others of their table
 pub record ArePut (tree : ℕ) (old new : State) (rows : List Row) : Type 0 where
   pub carried : IsCarried old new true

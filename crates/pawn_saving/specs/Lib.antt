@@ -1,3 +1,4 @@
 pub mod Counted
+pub mod Importing
 pub mod Putting
 pub mod Writing

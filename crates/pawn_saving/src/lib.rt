@@ -6,6 +6,7 @@ mod cells;
 mod changes;
 mod counting;
 mod entries;
+mod importing;
 mod lengths;
 mod pledges;
 mod putting;

@@ -7,9 +7,10 @@ ghost use Rattle.one_table.specs.Lending.{IsLent};
 ghost use Rattle.pawn_tables.specs.Keeps.{keeping_by};
 ghost use Rattle.pawn_saving.specs.Counted.{WritesChange, WritesRows};
 
-use crate::cells::{REFUSED, refused};
+use crate::cells::refused;
 use crate::changes::{add_terms, make_book, put_pledge};
 use crate::counting::count_within;
+use crate::importing::import_book;
 use pawn_book::{Change, KeepError, SaveError, StoreFault};
 use sqlite::{Alter, Connection, Transaction};
 use std::alloc::Global;
@@ -46,7 +47,7 @@ fn write_rows<S: Alter>(
             number,
             pledge,
         } => put_pledge(tx, alloc, *book, *number, pledge),
-        _ => Err(REFUSED),
+        Change::ImportBook { book, key, rows } => import_book(tx, *book, *key, rows),
     }
 }
 

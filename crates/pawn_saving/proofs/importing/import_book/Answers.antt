@@ -1,0 +1,41 @@
+use Rattle.std.proofs.Common.{◌∙◌, refl, sym, true}
+use Rattle.sqlite.specs.Held.{state}
+use Rattle.pawn_book.specs.HostStep.{rows}
+use Rattle.pawn_saving.specs.Counted.{listed_as}
+use Rattle.pawn_saving.proofs.Hosting.{as_lists}
+use Rattle.pawn_saving.proofs.Tailing.{lent_anyway, lent_carried, past}
+use Rattle.pawn_saving.proofs.ImportWrites.{brought_numbered, filled_counted, only_book, other_books, unbooked, with_own_row, with_terms}
+use Rattle.pawn_saving.proofs.importing.import_book.Goals as goal
+
+pub returns-clause-wrote : goal.returns-clause-wrote
+returns-clause-wrote g c clean within h sound can st =
+    let one = state g.S.Store c.set_import.new.tx.conn.now in
+    let two = state g.S.Store c.put_versions.new.tx.conn.now in
+    let new = state g.S.Store c.put_pledges.new.tx.conn.now in
+    let b = c.args.book in
+    let key = c.args.key in
+    let brought = c.args.rows.now in
+    let k = can.follows.0 in
+    let is = can.follows.1 in
+    let empty = can.follows.2 in
+    let n = rows h in
+    let clean2 = past two new true c.in_ok-added.ensures.carried clean in
+    let clean1 = past one two true c.in_ok-put_versions.ensures.carried clean2 in
+    let within1 = c.in_ok-set_import.ensures.lent.inside clean1 within refl in
+    let within2 = c.in_ok-put_versions.ensures.carried.inside clean2 within1 refl in
+    let versions = rw c.as_slice-terms.ensures.value at c.in_ok-versions.ensures.value in
+    let so_many = rw c.as_slice-pledges.ensures.value at c.in_ok-so_many.ensures.value in
+    let noted = rw c.get.ensures.value at (c.in_ok-set_import.ensures.wrote k brought) in
+    let first = noted (sym versions) (sym so_many) clean1 within (listed_as h n) (other_books h b key k brought is empty) (only_book h b key k brought is empty n) (as_lists _ h st) in
+    let second = rw (c.get-2.ensures.value, c.as_slice-terms.ensures.value) at (c.in_ok-put_versions.ensures.wrote clean2 within1 (with_own_row h b key k brought is empty n)) in
+    let third = rw (c.get-3.ensures.value, c.as_slice-pledges.ensures.value) at (c.in_ok-added.ensures.wrote clean within2 (with_terms h b key k brought is empty n)) in
+    let all = third (unbooked h b key k brought is empty st.ordered) (brought_numbered h b key k brought is empty can.sound) (second first) in
+    filled_counted h b key k brought is empty n new.now c.in_ok-versions.versions c.in_ok-added.added c.together.result refl versions all.0 c.together.ensures.value all.1
+
+pub returns-clause-lent : goal.returns-clause-lent
+returns-clause-lent g c =
+    let old = state g.S.Store c.args.tx.now.conn.now in
+    let one = state g.S.Store c.set_import.new.tx.conn.now in
+    let two = state g.S.Store c.put_versions.new.tx.conn.now in
+    let new = state g.S.Store c.put_pledges.new.tx.conn.now in
+    lent_anyway old new (lent_carried old two new true (lent_carried old one two true c.in_ok-set_import.ensures.lent c.in_ok-put_versions.ensures.carried) c.in_ok-added.ensures.carried) _

@@ -1,0 +1,97 @@
+ghost use Rattle.std.specs.Prelude.{◌≡◌, ◌+◌, IfOk, is_ok};
+ghost use Rattle.sqlite.specs.Held.{state};
+ghost use Rattle.pawn_book.specs.declared.change.Change.TheVariants.{ImportBook};
+ghost use Rattle.one_table.specs.Lending.{IsLent};
+ghost use Rattle.pawn_tables.specs.Rows.{number_of};
+ghost use Rattle.pawn_saving.specs.Counted.{WritesRows};
+ghost use Rattle.pawn_saving.specs.Importing.{AddsPledges};
+ghost use Rattle.pawn_saving.specs.Putting.{AddsPledge};
+ghost use Rattle.pawn_saving.specs.Writing.{IsCarried};
+
+use crate::books::set_import;
+use crate::cells::REFUSED;
+use crate::lengths::short;
+use crate::putting::put_whole;
+use crate::tails::put_versions;
+use pawn_book::{BookRows, KeepError, Number, Pledge, Secret};
+use pawn_pledge::Parts;
+use sqlite::{Alter, Transaction};
+
+// The pledge of these parts.
+fn as_pledge(parts: &Parts) -> Result<Pledge, KeepError>
+    ensures value { IfOk result (λ p. p ≡ parts.now) }
+{
+    let Ok(copy) = parts.copy() else {
+        return Err(KeepError::Memory);
+    };
+    match Pledge::of_parts(copy) {
+        Ok(pledge) => Ok(pledge),
+        Err(_) => Err(REFUSED),
+    }
+}
+
+// Two counts together.
+fn together(one: u32, other: u32) -> Result<u32, KeepError>
+    ensures value { IfOk result (λ n. n ≡ one + other) }
+{
+    match one.checked_add(other) {
+        Some(n) => Ok(n),
+        None => Err(REFUSED),
+    }
+}
+
+// Puts all rows of the pledge of these parts, and tells how many of them are counted.
+#[tactic(auto, using(crate::proofs::Lent::lent_then))]
+fn put_parts<S: Alter>(
+    tx: &mut Transaction<'_, S>,
+    book: u32,
+    parts: &Parts,
+) -> Result<u32, KeepError>
+    ensures same_reference { tx.new.conn.ghost_name ≡ tx.old.conn.ghost_name }
+    ensures wrote { AddsPledge (state S.Store tx.old.conn.now) (state S.Store tx.new.conn.now) result book (number_of parts.now) parts.now }
+    ensures lent { IsLent (state S.Store tx.old.conn.now) (state S.Store tx.new.conn.now) (is_ok result) }
+{
+    let pledge = as_pledge(parts)?;
+    put_whole(tx, book, parts.agreement.number.get(), &pledge)
+}
+
+// Puts all rows of the pledges of a book that has none, and tells how many of them are counted.
+fn put_pledges<S: Alter>(
+    tx: &mut Transaction<'_, S>,
+    book: u32,
+    pledges: &[Parts],
+) -> Result<u32, KeepError>
+    ensures same_reference { tx.new.conn.ghost_name ≡ tx.old.conn.ghost_name }
+    ensures wrote { AddsPledges (state S.Store tx.old.conn.now) (state S.Store tx.new.conn.now) result book pledges.now }
+    ensures carried { IsCarried (state S.Store tx.old.conn.now) (state S.Store tx.new.conn.now) (is_ok result) }
+{
+    let mut counted = 0;
+    for parts in pledges {
+        let added = put_parts(tx, book, parts)?;
+        counted = together(counted, added)?;
+    }
+    Ok(counted)
+}
+
+/// Fills a book that has neither terms nor pledges, under the key of the import, and tells how many
+/// rows that are counted it adds.
+#[tactic(auto, using(crate::proofs::Lent::lent_then, crate::proofs::Tailing::lent_carried, crate::proofs::Tailing::both_carried))]
+pub(crate) fn import_book<S: Alter>(
+    tx: &mut Transaction<'_, S>,
+    book: Number,
+    key: Secret,
+    rows: &BookRows,
+) -> Result<u32, KeepError>
+    ensures same_reference { tx.new.conn.ghost_name ≡ tx.old.conn.ghost_name }
+    ensures wrote { WritesRows (state S.Store tx.old.conn.now) (state S.Store tx.new.conn.now) (ImportBook book key rows.now) result }
+    ensures lent { IsLent (state S.Store tx.old.conn.now) (state S.Store tx.new.conn.now) (is_ok result) }
+{
+    let terms = rows.terms.as_slice();
+    let pledges = rows.pledges.as_slice();
+    let versions = short(terms.len())?;
+    let so_many = short(pledges.len())?;
+    set_import(tx, book.get(), key, versions, so_many)?;
+    put_versions(tx, book.get(), terms)?;
+    let added = put_pledges(tx, book.get(), pledges)?;
+    together(versions, added)
+}
