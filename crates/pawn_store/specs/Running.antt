@@ -8,6 +8,7 @@ use Rattle.pawn_book.specs.HostStep.{Host}
 use Rattle.pawn_book.specs.Sound.{IsSound}
 use Rattle.pawn_tables.specs.Keeps.{Keeps, Leaves}
 use Rattle.pawn_keeper.specs.declared.keeper.TableKeep.{TableKeep}
+use Rattle.pawn_opening.specs.Opened.{empty_host}
 use Rattle.pawn_host.specs.declared.service.Service.{Service}
 use Rattle.pawn_host.specs.Crashes.{IsOneMore}
 use Rattle.pawn_host.specs.Headline.{AnswerAlone}
@@ -31,3 +32,7 @@ pub record IsRunOverTables (h : Host) (operator : ℕ) (given : List (Stamp × L
   pub sound : IsSound (host_after h operator items)
   -- a crash leaves tables of that host, or of it with one request more, which want of memory or the store refused
   pub crash : (left : Host) → Leaves store left → (left ≡ host_after h operator items) ⊎ IsOneMore (host_after h operator items) operator items left
+
+-- what a new store is opened for
+abbrev pub EmptyHostIsSound : Type 0
+EmptyHostIsSound = (limit : ℕ) → IsSound (empty_host limit)
