@@ -1,1 +1,2 @@
+pub mod OtherRows
 pub mod Running

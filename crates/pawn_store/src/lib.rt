@@ -6,7 +6,7 @@ mod laws;
 mod opening;
 mod running;
 
-pub use laws::empty_host_is_sound;
+pub use laws::{empty_host_is_sound, other_rows_stay};
 pub use opening::{close_keep, keep_at_path, keep_in_memory};
 pub use pawn_host::{Answer, Service, Stamp};
 pub use pawn_keeper::TableKeep;

@@ -1,0 +1,52 @@
+-- The rows of one book, which no request on another book changes.
+use Rattle.std.specs.Prelude.{ℕ, ◌≡◌, ◌≢◌, All, List, [], ◌∷◌, filter, map, Option, None, Some, IsPermutation}
+use Rattle.std.specs.List.{AllByRecursion}
+use Rattle.sqlite.specs.Order.{Row}
+use Rattle.sqlite.specs.Tree.{Trees}
+use Rattle.sqlite.specs.Table.{Table}
+use Rattle.sqlite.specs.Effect.{Database}
+use Rattle.one_table.specs.Listing.{columns_of}
+use Rattle.pawn_pledge.specs.declared.command.Stamp.{Stamp}
+use Rattle.pawn_book.specs.declared.request.Request.{Request}
+use Rattle.pawn_book.specs.HostStep.{Host}
+use Rattle.pawn_book.specs.Plans.{next_host}
+use Rattle.pawn_book.specs.Runs.{Event, request_in, run_host}
+use Rattle.pawn_tables.specs.At.{at_book}
+use Rattle.pawn_tables.specs.Schema.{books, terms, pledges, entries, secrets, bookings, totals, extensions}
+use Rattle.pawn_tables.specs.StandsFor.{StandsFor}
+
+-- the tables that tell of books: all but the one of notes
+abbrev pub book_tables : List Table
+book_tables =
+    record books { tree = 0 } ∷ record terms { tree = 1 } ∷ record pledges { tree = 3 } ∷ record entries { tree = 6 } ∷ record secrets { tree = 8 }
+    ∷ record bookings { tree = 11 } ∷ record totals { tree = 15 } ∷ record extensions { tree = 17 } ∷ []
+
+-- the rows of a table under a book's number, as SELECT * shows them
+abbrev pub rows_of_book : ℕ → Trees → Table → List Row
+rows_of_book b trees table = filter (at_book b) (map (columns_of table) (trees table.tree))
+
+-- each table has the same rows of the book
+abbrev pub HaveSameRows : ℕ → Trees → Trees → Type 0
+HaveSameRows b old new = AllByRecursion (λ table. IsPermutation (rows_of_book b old table) (rows_of_book b new table)) book_tables
+
+-- no request changes a row of another book
+abbrev pub OtherRowsStay : Type 0
+OtherRowsStay =
+    (old new : Database) (h : Host) (operator b : ℕ) (stamp : Stamp) (request : Request)
+    → StandsFor old h → StandsFor new (next_host h operator stamp request)
+    → request.book ≢ b → HaveSameRows b old.trees new.trees
+
+-- what was read, if anything, is no request on the book
+abbrev pub IsElsewhere : ℕ → Option Request → Type 0
+IsElsewhere b None = Unit {0}
+IsElsewhere b (Some request) = request.book ≢ b
+
+abbrev pub AreElsewhere : {F : Type 0} → ℕ → List (Event F) → Type 0
+AreElsewhere b events = AllByRecursion (λ event. IsElsewhere b (request_in event.mark)) events
+
+-- nor does a run of requests on other books
+abbrev pub OtherRowsStayInRuns : Type 0 → Type 0
+OtherRowsStayInRuns F =
+    (old new : Database) (h : Host) (operator b : ℕ) (events : List (Event F))
+    → StandsFor old h → StandsFor new (run_host h operator events)
+    → AreElsewhere b events → HaveSameRows b old.trees new.trees
