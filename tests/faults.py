@@ -218,6 +218,7 @@ def a_port_that_is_taken_is_not_listened_on():
         taken.bind(("127.0.0.1", port))
         taken.listen()
         expect("serve", ends("serve", ":memory:", str(port), OPERATOR), IO)
+        expect("serve, over no store", ends("serve", "/", str(port), OPERATOR), fault(503, "Store"))
 
 
 def input_that_cannot_be_read_breaks_off():

@@ -8,7 +8,7 @@ import sqlite3
 import subprocess
 import tempfile
 
-from service import BROKER, OPERATOR, PROGRAM, SEED, Failed, expect, main, request
+from service import BROKER, OPERATOR, PROGRAM, SEED, Failed, Server, expect, main, request
 
 DAY = "2024-03-01"
 COUNTED = ["books", "terms", "pledges", "entries", "secrets", "bookings"]
@@ -18,7 +18,7 @@ STORE = (503, {"code": 492, "name": "Store"})
 
 def answer(path, *requests, seed=SEED, day=DAY):
     """The statuses and the bodies of the replies to requests over a file."""
-    ran = subprocess.run([PROGRAM, "answer", path, day, seed, OPERATOR], input=b"".join(requests), capture_output=True, timeout=30)
+    ran = subprocess.run([PROGRAM, "answer", path, day, seed, OPERATOR], input=b"".join(requests), capture_output=True, timeout=60)
     expect("how it ended", (ran.returncode, ran.stderr), (0, b""))
     replies, rest = [], ran.stdout
     while rest:
@@ -68,7 +68,7 @@ def fill(path, *books):
 
 
 def check(path):
-    ran = subprocess.run([PROGRAM, "check", path], capture_output=True, timeout=30)
+    ran = subprocess.run([PROGRAM, "check", path], capture_output=True, timeout=60)
     return ran.returncode, ran.stdout.decode(), ran.stderr.decode()
 
 
@@ -100,7 +100,7 @@ def others_open_the_file():
             expect("entries", tables.execute("SELECT seq, sort, pence FROM entries WHERE book = 8").fetchall(), [(1, 0, 3000), (2, 1, 500)])
         expect("its check, once it was opened by others", check(path), told)
         if shutil.which("sqlite3"):
-            ran = subprocess.run(["sqlite3", path, "PRAGMA integrity_check; SELECT count(*) FROM pledges"], capture_output=True, timeout=30)
+            ran = subprocess.run(["sqlite3", path, "PRAGMA integrity_check; SELECT count(*) FROM pledges"], capture_output=True, timeout=60)
             expect("by the shell", (ran.returncode, ran.stdout), (0, b"ok\n6\n"))
 
 
@@ -114,6 +114,28 @@ def a_closed_file_is_whole_without_its_log():
         expect("its replies", answer(copy, shown(receipts[7][0], 7)), said)
         with opened(copy) as tables:
             expect("its counts", told, counts(tables))
+
+
+def a_killed_service_leaves_its_books_in_file_and_log():
+    with tempfile.TemporaryDirectory() as room:
+        path, copy = os.path.join(room, "books"), os.path.join(room, "copy")
+        with Server(path) as server:
+            client = server.session()
+            client.open_book()
+            receipts = [client.open_pledge(number) for number in (1, 2, 3)]
+            seen = [client.bearer(receipt, "GET", "/books/7/held") for receipt in receipts]
+            client.close()
+        for end in ("", "-wal"):
+            shutil.copyfile(path + end, copy + end)
+        with opened(copy) as tables:
+            expect("its integrity", tables.execute("PRAGMA integrity_check").fetchall(), [("ok",)])
+            told = counts(tables)
+        expect("its check", check(path), told)
+        with Server(path) as server:
+            client = server.session()
+            expect("its statements", [client.bearer(receipt, "GET", "/books/7/held") for receipt in receipts], seen)
+            client.open_pledge(4)
+            client.close()
 
 
 def statement(number, book=7):
@@ -181,4 +203,5 @@ def bent_rows_are_told_and_touch_no_other_book():
             expect(f"the requests, {step}", answer(bent, statement(1), *others, statement(1)), [STORE, *before, STORE])
 
 
-main(others_open_the_file, a_closed_file_is_whole_without_its_log, bent_rows_are_told_and_touch_no_other_book)
+main(others_open_the_file, a_closed_file_is_whole_without_its_log, a_killed_service_leaves_its_books_in_file_and_log,
+     bent_rows_are_told_and_touch_no_other_book)
