@@ -4,6 +4,7 @@ mod bent;
 mod ends;
 mod long;
 mod slots;
+mod stops;
 mod turns;
 
 use ends::{Log, Sink, Source, Stamps};
