@@ -25,10 +25,10 @@ if NAMED:
 from service import BROKER, OPERATOR, PROGRAM, SEED, free_port, request  # noqa: E402
 
 RUNS = 1 if SMALL else 5
-EACH = 20 if SMALL else 1_000     # the pledges of a book among others
+EACH = 6 if SMALL else 1_000      # the pledges of a book among others
 WHOLE = 40 if SMALL else 10_000   # the pledges of a book alone
 LONG = 30 if SMALL else 999       # the entries of a long list
-ASKED = 10 if SMALL else 999      # the requests of a stream
+ASKED = 6 if SMALL else 999       # the requests of a stream
 TAKEN, ENDS = 19753, 19935        # 2024-01-31 and 2024-07-31, as days since 1970-01-01
 
 

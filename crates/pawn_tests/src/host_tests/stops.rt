@@ -137,7 +137,7 @@ fn disks(alloc: Global, log: u64, db: u64) -> Disks {
     }
 }
 
-// Stops at every so manyth call of one file, from its first on, until a run meets no stop; answers how many runs there were.
+// Stops one file at its first call, and then ever so many calls later, until a run meets no stop. Tells how many runs there were.
 fn stops(rt: &impl Abort, alloc: Global, is_log: bool, step: u64) -> Result<u32, Fail> {
     let turns = turns_of(rt, alloc, LINES)?;
     let contents = contents(rt, alloc, turns.as_slice())?;
