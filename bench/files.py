@@ -95,31 +95,28 @@ def broker(target):
 
 
 def line(name, *numbers):
-    print(f"{name:58}" + "".join(f"{number:12.1f}" for number in numbers), flush=True)
+    print(f"{name:46}" + "".join(f"{number:12.1f}" for number in numbers), flush=True)
 
 
 def among_others(folder):
-    """Requests about books of 1,000 pledges in files of 1, 10 and 100 such books: what grows along a line grows with other books."""
-    columns = []
+    """Requests about books of 1,000 pledges, in files of 1, 10 and 100 such books: what grows down a column grows with other books."""
+    print(f"{f'microseconds a request, books of {EACH} pledges':46}" + "".join(f"{name:>12}" for name in ("view", "repayment", "opening", "day sheet", "export")))
     for books in (1, 10, 100):
         path = os.path.join(folder, f"{books}.db")
         fill(path, books, EACH)
-        chance = random.Random(books)
         names = [(book, number) for book in range(1, books + 1) for number in range(1, EACH + 1)]
-        chosen = chance.sample(names, min(ASKED, len(names)))
-        columns.append((each(path, [view(name) for name in chosen], b"Status inside"), each(path, [repayment(name) for name in chosen], b'"sort"'),
-                        each(path, [opening(number) for number in range(ASKED)], b'"receipt"'),
-                        each(path, [broker("days/2024-07-31")] * 3, b"Ends "), each(path, [broker("export")] * 3, b"\nP,")))
-    print(f"microseconds a request, books of {EACH} pledges:{'1 book':>23}{'10 books':>12}{'100 books':>12}")
-    for name, *row in zip(("view by receipt", "repayment", "opening", "sheet of a day with all of the book", "export of the book"), *columns):
-        line(name, *row)
+        chosen = random.Random(books).sample(names, min(ASKED, len(names)))
+        numbers = (each(path, [view(name) for name in chosen], b"Status inside"), each(path, [repayment(name) for name in chosen], b'"sort"'),
+                   each(path, [opening(number) for number in range(ASKED)], b'"receipt"'),
+                   each(path, [broker("days/2024-07-31")] * 3, b"Ends "), each(path, [broker("export")] * 3, b"\nP,"))
+        print(f"{f'{books} of them, {books * EACH} pledges':46}" + "".join(f"{number:12.1f}" for number in numbers), flush=True)
 
 
 def one_list(folder):
     path = os.path.join(folder, "lists.db")
     fill(path, 1, EACH, entries=1, long=LONG - 1)
     few, few_repaid = [(1, number) for number in range(2, EACH + 1)][:ASKED], min(ASKED, 200)
-    print(f"microseconds a request, a pledge of so many entries:{1:>18}{LONG:>12}")
+    print(f"{'microseconds a request, by entries of a pledge':46}{1:>12}{LONG:>12}")
     line("view by receipt", each(path, [view(name) for name in few], b"Entry 1"), each(path, [view((1, 1))] * few_repaid, f"Entry {LONG}".encode()))
     line("repayment", each(path, [repayment(name, 2) for name in few], b'"sort"'),
          each(path, [repayment((1, 1), LONG + n) for n in range(1, few_repaid + 1)], b'"sort"'))

@@ -2,20 +2,13 @@
 
 use super::turns::{Turn, request, turns_of};
 use super::{service_of, service_over};
-use pawn_book::Stamp;
+use crate::disks::{Disks, NEVER, crashed, disks, store_on};
 use pawn_check::{Counts, check};
 use pawn_host::Answer;
 use pawn_keeper::TableKeep;
-use pawn_opening::open_files;
-use sqlite::{Connection, FileStore, Files, Options};
-use sqlite_disk::{Crash, Disk, Fuse, Memory};
 use std::alloc::Global;
 use std::process::Abort;
 use std::test::Fail;
-
-type Disks = Files<Fuse<Memory>>;
-
-const NEVER: u64 = 1_000_000;
 
 // A ring is pawned, declared lost, its bearer asks to come, and redeems it, which cancels that.
 const LINES: &str = r#"
@@ -34,14 +27,6 @@ const LINES: &str = r#"
 "#;
 
 const EXPORT: &str = "2024-01-31|0|broker|GET /books/7/export|";
-
-// How a small store is kept, so that its log is folded in while it is used.
-const SMALL: Options = Options {
-    cache_pages: 40,
-    spill_pages: 40,
-    checkpoint_frames: 12,
-    seed: 1,
-};
 
 // What a store holds: its counts, and the answer to an export.
 #[derive(Drop)]
@@ -73,27 +58,6 @@ fn contents(rt: &impl Abort, alloc: Global, turns: &[Turn]) -> Result<Vec<Conten
     Ok(contents)
 }
 
-// The disks as a stop leaves them: what was synced, and they answer again.
-fn crashed(mut disks: Disks) -> Disks {
-    disks.log.crash();
-    disks.db.crash();
-    disks
-}
-
-// The store on the disks, or what is left of them.
-fn opened_on(alloc: Global, disks: Disks) -> Result<Connection<FileStore<Fuse<Memory>>>, Disks> {
-    if !disks.log.may_be_used() {
-        return Err(disks);
-    }
-    if !disks.db.may_be_used() {
-        return Err(disks);
-    }
-    match open_files(alloc, disks, SMALL, 100) {
-        Ok(conn) => Ok(conn),
-        Err((_, left)) => Err(left.into_files()),
-    }
-}
-
 // How many of these turns are answered over the disks before the first that is not, and what a stop then leaves of the disks.
 fn stopped(
     rt: &impl Abort,
@@ -101,7 +65,7 @@ fn stopped(
     disks: Disks,
     turns: &[Turn],
 ) -> Result<(usize, Disks), Fail> {
-    let conn = match opened_on(alloc, disks) {
+    let conn = match store_on(alloc, disks, 100) {
         Ok(conn) => conn,
         Err(left) => return Ok((0, crashed(left))),
     };
@@ -122,19 +86,11 @@ fn stopped(
 // What the disks hold when they are opened again.
 fn content(rt: &impl Abort, alloc: Global, disks: Disks) -> Result<Content, Fail> {
     let (stamp, export) = request(rt, alloc, EXPORT)?;
-    let conn = opened_on(alloc, disks).ok().ok_or("opened again")?;
+    let conn = store_on(alloc, disks, 100).ok().ok_or("opened again")?;
     let mut keep = TableKeep::over(alloc, conn).ok().ok_or("at rest")?;
     let counts = check(&mut keep).ok().ok_or("judged")?;
     let text = service_over(rt, alloc, keep).answer_one(&stamp, export.as_slice());
     Ok(Content { counts, text })
-}
-
-// Disks of which the log fails after so many calls, and the database file after so many.
-fn disks(alloc: Global, log: u64, db: u64) -> Disks {
-    Files {
-        log: Fuse::new(Memory::new(alloc), log),
-        db: Fuse::new(Memory::new(alloc), db),
-    }
 }
 
 // Stops one file at its first call, and then ever so many calls later, until a run meets no stop. Tells how many runs there were.
