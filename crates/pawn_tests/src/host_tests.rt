@@ -1,17 +1,23 @@
 //! Whole requests and their replies: by `run`, one alone, and over streams whose ends are slow or fail.
 
+mod bent;
 mod ends;
+mod long;
 mod slots;
+mod stops;
 mod turns;
 
 use ends::{Log, Sink, Source, Stamps};
-use pawn_book::{ListKeep, RequestDay, Secret, Stamp};
+use pawn_book::{Keep, ListKeep, RequestDay, Secret, Stamp};
 use pawn_host::{Answer, Cause, Ended, How, IoFault, Reading, Service};
+use pawn_keeper::TableKeep;
+use pawn_opening::{open_memory, prepare};
 use pawn_view::Writing;
+use sqlite::{Connection, MemStore};
 use std::alloc::Global;
 use std::process::Abort;
 use std::test::Fail;
-use turns::{ROWS, day_turns, export_turns, import_turns, turns};
+use turns::{ROWS, Turn, day_turns, export_turns, full_turns, import_turns, turns};
 
 const ASKED: &[u8] = b"GET /books/7/held HTTP/1.1\r\nHost: x\r\n\r\n";
 
@@ -30,11 +36,37 @@ fn service(rt: &impl Abort, alloc: Global) -> Service<ListKeep> {
 
 // A service with room for so many rows.
 fn service_of(rt: &impl Abort, alloc: Global, rows: u64) -> Service<ListKeep> {
+    service_over(rt, alloc, ListKeep::new(alloc, rows.min(2000)))
+}
+
+fn service_over<K: Keep + Drop>(rt: &impl Abort, alloc: Global, keep: K) -> Service<K> {
     let operator = Secret::of_word(0x11111111_1111_1111_1111_111111111111);
-    match Service::new(alloc, ListKeep::new(alloc, rows.min(1000)), operator) {
+    match Service::new(alloc, keep, operator) {
         Ok(service) => service,
         Err(_) => panic!(rt; "no memory"),
     }
+}
+
+// Empty tables that were made with room for so many rows, and opened again with room for more.
+fn opened(alloc: Global, rows: u32) -> Result<Connection<MemStore>, Fail> {
+    let mut conn = open_memory(alloc, rows.clamp(1, 2000))
+        .ok()
+        .ok_or("no store")?;
+    if !conn.is_autocommit() {
+        return Err(Fail::from("in a transaction"));
+    }
+    prepare(&mut conn, 3000).ok().ok_or("another's store")?;
+    Ok(conn)
+}
+
+// A service over tables.
+fn tables_over(
+    rt: &impl Abort,
+    alloc: Global,
+    conn: Connection<MemStore>,
+) -> Result<Service<TableKeep<MemStore>>, Fail> {
+    let keep = TableKeep::over(alloc, conn).ok().ok_or("in a transaction")?;
+    Ok(service_over(rt, alloc, keep))
 }
 
 fn stamp(rt: &impl Abort, day: &str, word: u128) -> Stamp {
@@ -52,6 +84,22 @@ fn tells(rt: &impl Abort, answer: &Answer, reply: &[u8]) {
     }
 }
 
+// Compares the answers to turns with their replies.
+fn plays<K: Keep>(rt: &impl Abort, service: &mut Service<K>, turns: &[Turn]) {
+    for turn in turns {
+        let answer = service.answer_one(&turn.stamp, turn.request.as_slice());
+        tells(rt, &answer, turn.reply.as_slice());
+    }
+}
+
+// The same over lists and over tables, each with room for so many rows.
+fn plays_in_both(rt: &impl Abort, alloc: Global, rows: u32, turns: &[Turn]) -> Result<(), Fail> {
+    plays(rt, &mut service_of(rt, alloc, u64::from(rows)), turns);
+    let conn = opened(alloc, rows)?;
+    plays(rt, &mut tables_over(rt, alloc, conn)?, turns);
+    Ok(())
+}
+
 #[test]
 fn two_pledges_live_through_every_request(rt: HostRuntime) -> Result<(), Fail> {
     let alloc = rt.alloc();
@@ -60,44 +108,38 @@ fn two_pledges_live_through_every_request(rt: HostRuntime) -> Result<(), Fail> {
     for turn in turns.iter() {
         items.push((turn.stamp, turn.request.clone()?))?;
     }
-    let answers = service_of(&rt, alloc, ROWS).run(items.as_slice())?;
+    let answers = service_of(&rt, alloc, u64::from(ROWS)).run(items.as_slice())?;
     assert_eq!(rt; answers.len(), turns.len());
     for (answer, turn) in answers.iter().zip(turns.as_slice()) {
         tells(&rt, answer, turn.reply.as_slice());
     }
+    let conn = opened(alloc, ROWS)?;
+    plays(&rt, &mut tables_over(&rt, alloc, conn)?, turns.as_slice());
     Ok(())
+}
+
+#[test]
+fn a_full_host_answers_what_adds_no_row(rt: HostRuntime) -> Result<(), Fail> {
+    let turns = full_turns(&rt, rt.alloc())?;
+    plays_in_both(&rt, rt.alloc(), ROWS, turns.as_slice())
 }
 
 #[test]
 fn a_day_is_shown(rt: HostRuntime) -> Result<(), Fail> {
-    let alloc = rt.alloc();
-    let mut service = service(&rt, alloc);
-    for turn in day_turns(&rt, alloc)?.iter() {
-        let answer = service.answer_one(&turn.stamp, turn.request.as_slice());
-        tells(&rt, &answer, turn.reply.as_slice());
-    }
-    Ok(())
+    let turns = day_turns(&rt, rt.alloc())?;
+    plays_in_both(&rt, rt.alloc(), 1000, turns.as_slice())
 }
 
 #[test]
 fn a_book_is_exported(rt: HostRuntime) -> Result<(), Fail> {
-    let alloc = rt.alloc();
-    let mut service = service(&rt, alloc);
-    for turn in export_turns(&rt, alloc)?.iter() {
-        let answer = service.answer_one(&turn.stamp, turn.request.as_slice());
-        tells(&rt, &answer, turn.reply.as_slice());
-    }
-    Ok(())
+    let turns = export_turns(&rt, rt.alloc())?;
+    plays_in_both(&rt, rt.alloc(), 1000, turns.as_slice())
 }
 
 #[test]
 fn the_rows_of_a_book_fill_another(rt: HostRuntime) -> Result<(), Fail> {
-    let alloc = rt.alloc();
-    let mut service = service(&rt, alloc);
-    for turn in import_turns(&rt, alloc)?.iter() {
-        let answer = service.answer_one(&turn.stamp, turn.request.as_slice());
-        tells(&rt, &answer, turn.reply.as_slice());
-    }
+    let turns = import_turns(&rt, rt.alloc())?;
+    plays(&rt, &mut service(&rt, rt.alloc()), turns.as_slice());
     Ok(())
 }
 
@@ -165,7 +207,7 @@ fn answered(
         log: &log,
     };
     let mut stamps = Stamps { stamps, log: &log };
-    let came = service_of(rt, alloc, ROWS).answer_all(
+    let came = service_of(rt, alloc, u64::from(ROWS)).answer_all(
         &mut Reading::new(&mut source),
         &mut Writing::new(&mut sink),
         &mut stamps,

@@ -9,6 +9,8 @@ mod csv_tests;
 #[cfg(test)]
 mod debt_tests;
 #[cfg(test)]
+mod disks;
+#[cfg(test)]
 mod host_tests;
 #[cfg(test)]
 mod opening_tests;

@@ -1,7 +1,7 @@
 //! What becomes of a store that is opened: its limit, its schema, and one of another program.
-use pawn_opening::{OpenFault, close_files, open_files, open_memory, prepare};
-use sqlite::{Alter, Connection, Files, Options, params};
-use sqlite_disk::Memory;
+use crate::disks::{NEVER, disks, store_on};
+use pawn_opening::{OpenFault, close_files, open_memory, prepare};
+use sqlite::{Alter, Connection, params};
 use std::test::Fail;
 
 fn limit_in<S: Alter>(conn: &mut Connection<S>) -> Result<u32, Fail> {
@@ -12,11 +12,7 @@ fn limit_in<S: Alter>(conn: &mut Connection<S>) -> Result<u32, Fail> {
 #[test]
 fn the_first_limit_stands(rt: HostRuntime) -> Result<(), Fail> {
     let alloc = rt.alloc();
-    let files = Files {
-        log: Memory::new(alloc),
-        db: Memory::new(alloc),
-    };
-    let mut conn = open_files(alloc, files, Options::new(1), 12)
+    let mut conn = store_on(alloc, disks(alloc, NEVER, NEVER), 12)
         .ok()
         .ok_or("opened")?;
     assert_eq!(rt; limit_in(&mut conn)?, 12);
@@ -27,9 +23,7 @@ fn the_first_limit_stands(rt: HostRuntime) -> Result<(), Fail> {
             return Err(Fail::from("closed"));
         }
     };
-    let mut again = open_files(alloc, files, Options::new(2), 100)
-        .ok()
-        .ok_or("opened again")?;
+    let mut again = store_on(alloc, files, 100).ok().ok_or("opened again")?;
     assert_eq!(rt; limit_in(&mut again)?, 12);
     Ok(())
 }

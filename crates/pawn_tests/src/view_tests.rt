@@ -1,7 +1,7 @@
 //! The texts of a book with one pledge.
 use pawn_book::{
-    Article, BrokerRequest, Caller, Capacity, Day, Kind, ListKeep, Name, NewBook, NewTerms, Number,
-    Opening, Rates, Receipt, Reference, Request, RequestDay, Secret, Stamp, act,
+    Article, BrokerRequest, Caller, Capacity, Day, Keep, Kind, ListKeep, Name, NewBook, NewTerms,
+    Number, Opening, Rates, Receipt, Reference, Request, RequestDay, Secret, Stamp, act,
 };
 use pawn_view::{ViewFault, Writing, show_presented, show_statement};
 use std::alloc::Global;
@@ -39,7 +39,7 @@ fn receipt(word: u128) -> Result<Receipt, Fail> {
     })
 }
 
-fn acts(alloc: Global, keep: &mut ListKeep, day: RequestDay, caller: Caller) -> Result<(), Fail> {
+fn acts<K: Keep>(alloc: Global, keep: &mut K, day: RequestDay, caller: Caller) -> Result<(), Fail> {
     let stamp = Stamp { day, word: WORD };
     let book = number(7)?;
     let request = Request { book, caller };
@@ -71,9 +71,8 @@ fn opening(alloc: Global, reference: &str, pence: u64) -> Result<BrokerRequest, 
     }))
 }
 
-// Book 7, of a capacity, under terms of no charge.
-fn book(alloc: Global, capacity: u64) -> Result<ListKeep, Fail> {
-    let mut keep = ListKeep::new(alloc, 100);
+// Makes book 7, of a capacity, under terms of no charge.
+fn make_book<K: Keep>(alloc: Global, keep: &mut K, capacity: u64) -> Result<(), Fail> {
     let key = Secret::of_word(KEY);
     let new_book = NewBook {
         key,
@@ -87,16 +86,25 @@ fn book(alloc: Global, capacity: u64) -> Result<ListKeep, Fail> {
     };
     let terms = BrokerRequest::PutTerms(NewTerms { version: 1, rates });
     let made = taken()?;
-    acts(alloc, &mut keep, made, Caller::Operator { key, new_book })?;
-    acts(alloc, &mut keep, made, broker(terms))?;
+    acts(alloc, keep, made, Caller::Operator { key, new_book })?;
+    acts(alloc, keep, made, broker(terms))
+}
+
+// Takes a ring for 100 pounds.
+fn take_ring<K: Keep>(alloc: Global, keep: &mut K) -> Result<(), Fail> {
+    let asked = opening(alloc, "A1", 10_000)?;
+    acts(alloc, keep, taken()?, broker(asked))
+}
+
+fn book(alloc: Global, capacity: u64) -> Result<ListKeep, Fail> {
+    let mut keep = ListKeep::new(alloc, 100);
+    make_book(alloc, &mut keep, capacity)?;
     Ok(keep)
 }
 
-// The same with one pledge of 100 pounds.
 fn one_pledge(alloc: Global) -> Result<ListKeep, Fail> {
     let mut keep = book(alloc, 2)?;
-    let asked = opening(alloc, "A1", 10_000)?;
-    acts(alloc, &mut keep, taken()?, broker(asked))?;
+    take_ring(alloc, &mut keep)?;
     Ok(keep)
 }
 

@@ -1,7 +1,7 @@
 //! Slots: receipts that change hands, and a bearer among strangers.
 
 use super::turns::{request, turns_of};
-use super::{service, tells};
+use super::{plays_in_both, service, tells};
 use pawn_book::Stamp;
 use pawn_host::Answer;
 use std::alloc::Global;
@@ -35,19 +35,22 @@ const LOST_TWICE: &str = r#"
 404 Not Found|{"code":402,"name":"NoSuchReceipt"}
 2024-02-05|0|1-1+1-3|GET /books/7/held|
 200 OK|Unknown receipt||Pledge 1|Article Gold ring|Kind fixed 100.00|Taken 2024-01-31|Ends 2024-07-31|Status inside|Principal 100.00|Charges 0.00|Owing 100.00|Held yes|Booking none|
+2024-02-05|0|broker|POST /books/7/pledges/1/release|
+200 OK|{"held":false}
+2024-02-06|0|1-3|POST /books/7/held/redeem|{"paid":10000}
+200 OK|{"paid":10000,"redeemed":"2024-02-06"}
+2024-02-06|0|1-3|GET /books/7/held|
+404 Not Found|{"code":402,"name":"NoSuchReceipt"}
+2024-02-06|0|1-1|GET /books/7/held|
+404 Not Found|{"code":402,"name":"NoSuchReceipt"}
 2024-08-01|0|2-9+2-9|GET /books/7/held|
 200 OK|Pledge 2|Article Violin|Kind fixed 75.00|Taken 2024-01-31|Ends 2024-07-31|Status passed|Held no|Booking none||Pledge 2|Article Violin|Kind fixed 75.00|Taken 2024-01-31|Ends 2024-07-31|Status passed|Held no|Booking none|
 "#;
 
 #[test]
 fn a_receipt_that_was_declared_away_is_unknown(rt: HostRuntime) -> Result<(), Fail> {
-    let alloc = rt.alloc();
-    let mut service = service(&rt, alloc);
-    for turn in turns_of(&rt, alloc, LOST_TWICE)?.iter() {
-        let answer = service.answer_one(&turn.stamp, turn.request.as_slice());
-        tells(&rt, &answer, turn.reply.as_slice());
-    }
-    Ok(())
+    let turns = turns_of(&rt, rt.alloc(), LOST_TWICE)?;
+    plays_in_both(&rt, rt.alloc(), 1000, turns.as_slice())
 }
 
 const SET_UP: [&str; 3] = [

@@ -158,6 +158,8 @@ const DAY: &str = r#"
 200 OK|{"booking":"confirmed","day":"2024-03-04","window":3}
 2024-03-01|0|broker|POST /books/7/pledges/2/decide|{"yes":true}
 409 Conflict|{"code":408,"name":"WindowFull"}
+2024-03-01|0|2-2|GET /books/7/held|
+200 OK|Pledge 2|Article Violin|Kind fixed 75.00|Taken 2024-03-01|Ends 2024-09-01|Status inside|Principal 75.00|Charges 0.00|Owing 75.00|Held no|Booking 2024-03-04 3 asked|
 2024-03-01|0|broker|GET /books/7/days/2024-03-04|
 200 OK|Day sheet 2024-03-04|Window 3 confirmed 1 of 1|Pledge 1|Asked 1|Pledge 2 window 3|Ends 0|
 2024-03-01|0|broker|GET /books/7/days/2024-09-01|
@@ -170,8 +172,60 @@ const DAY: &str = r#"
 404 Not Found|{"code":706,"name":"NoRoute"}
 "#;
 
-/// A host has room for so many rows where the last request of all finds none.
-pub const ROWS: u64 = 12;
+// A host of twelve rows, all taken: a book, its terms and five pledges with a receipt each.
+const FULL: &str = r#"
+2000-01-01|0|operator|POST /books/7|{"capacity":1,"key":"22222222-2222-2222-2222-222222222222","name":"High Street"}
+200 OK|{"book":7}
+2000-01-01|0|broker|POST /books/7/terms|{"keep_after":0,"keep_before":0,"rate":0,"version":1}
+200 OK|{"version":1}
+2024-01-31|1|broker|POST /books/7/pledges|{"article":"Gold ring","five_days":false,"kind":"fixed","pence":10000,"ref":"A1"}
+200 OK|{"number":1,"receipt":"1-00000000-0000-0000-0000-000000000001"}
+2024-01-31|2|broker|POST /books/7/pledges|{"article":"Gold ring","five_days":false,"kind":"fixed","pence":10000,"ref":"A2"}
+200 OK|{"number":2,"receipt":"2-00000000-0000-0000-0000-000000000002"}
+2024-01-31|3|broker|POST /books/7/pledges|{"article":"Gold ring","five_days":false,"kind":"fixed","pence":10000,"ref":"A3"}
+200 OK|{"number":3,"receipt":"3-00000000-0000-0000-0000-000000000003"}
+2024-01-31|4|broker|POST /books/7/pledges|{"article":"Gold ring","five_days":false,"kind":"fixed","pence":10000,"ref":"A4"}
+200 OK|{"number":4,"receipt":"4-00000000-0000-0000-0000-000000000004"}
+2024-01-31|5|broker|POST /books/7/pledges|{"article":"Gold ring","five_days":false,"kind":"fixed","pence":10000,"ref":"A5"}
+200 OK|{"number":5,"receipt":"5-00000000-0000-0000-0000-000000000005"}
+2024-01-31|6|broker|POST /books/7/pledges|{"article":"Gold ring","five_days":false,"kind":"fixed","pence":10000,"ref":"A6"}
+503 Service Unavailable|{"code":490,"name":"Full"}
+2024-01-31|0|broker|POST /books/7/pledges/1/repay|{"pence":100,"seq":1}
+503 Service Unavailable|{"code":490,"name":"Full"}
+2024-01-31|0|1-1|POST /books/7/held/repay|{"pence":100,"seq":1}
+503 Service Unavailable|{"code":490,"name":"Full"}
+2024-01-31|6|broker|POST /books/7/pledges/1/declare|{"paper":"sworn"}
+503 Service Unavailable|{"code":490,"name":"Full"}
+2024-01-31|0|1-1|POST /books/7/held/ask|{"day":"2024-03-04","window":3}
+503 Service Unavailable|{"code":490,"name":"Full"}
+2024-01-31|0|broker|POST /books/7/terms|{"keep_after":0,"keep_before":0,"rate":1,"version":2}
+503 Service Unavailable|{"code":490,"name":"Full"}
+2024-01-31|0|operator|POST /books/8|{"capacity":1,"key":"22222222-2222-2222-2222-222222222222","name":"High Street"}
+503 Service Unavailable|{"code":490,"name":"Full"}
+2024-01-31|0|broker|GET /books/7/export|
+200 OK|row,c1,c2,c3,c4,c5,c6,c7,c8,c9,c10,c11,c12,c13,c14|B,2,1,5,,,,,,,,,,,|T,1,0,0,0,,,,,,,,,,|P,1,A1,Gold ring,fixed,10000,2024-01-31,,no,1,no,2024-01-31,open,,|S,1,1,2024-01-31,opening,00000000-0000-0000-0000-000000000001,,,,,,,,,|P,2,A2,Gold ring,fixed,10000,2024-01-31,,no,1,no,2024-01-31,open,,|S,2,1,2024-01-31,opening,00000000-0000-0000-0000-000000000002,,,,,,,,,|P,3,A3,Gold ring,fixed,10000,2024-01-31,,no,1,no,2024-01-31,open,,|S,3,1,2024-01-31,opening,00000000-0000-0000-0000-000000000003,,,,,,,,,|P,4,A4,Gold ring,fixed,10000,2024-01-31,,no,1,no,2024-01-31,open,,|S,4,1,2024-01-31,opening,00000000-0000-0000-0000-000000000004,,,,,,,,,|P,5,A5,Gold ring,fixed,10000,2024-01-31,,no,1,no,2024-01-31,open,,|S,5,1,2024-01-31,opening,00000000-0000-0000-0000-000000000005,,,,,,,,,|
+2024-01-31|0|operator|POST /books/7|{"capacity":1,"key":"22222222-2222-2222-2222-222222222222","name":"High Street"}
+200 OK|{"book":7}
+2024-01-31|6|broker|POST /books/7/pledges|{"article":"Gold ring","five_days":false,"kind":"fixed","pence":10000,"ref":"A5"}
+200 OK|{"number":5,"receipt":"5-00000000-0000-0000-0000-000000000005"}
+2024-02-01|0|broker|POST /books/7/pledges/1/hold|
+200 OK|{"held":true}
+2024-02-01|0|broker|POST /books/7/pledges/1/extend|{"until":"2024-09-30"}
+200 OK|{"ends":"2024-09-30"}
+2024-02-02|0|1-1|GET /books/7/held|
+200 OK|Pledge 1|Article Gold ring|Kind fixed 100.00|Taken 2024-01-31|Ends 2024-09-30|Extended 2024-02-01 to 2024-09-30|Status inside|Principal 100.00|Charges 0.00|Owing 100.00|Held yes|Booking none|
+2024-02-02|0|2-2|POST /books/7/held/redeem|{"paid":10000}
+200 OK|{"paid":10000,"redeemed":"2024-02-02"}
+2024-08-01|0|broker|POST /books/7/pledges/3/sell|{"net":9000}
+200 OK|{"net":9000,"shortfall":1000,"surplus":0}
+2024-08-01|0|broker|GET /books/7/days/2024-07-31|
+200 OK|Day sheet 2024-07-31|Asked 0|Ends 2|Pledge 4|Pledge 5|
+2024-08-01|0|3-3|POST /books/7/held/ask|{"day":"2024-08-04","window":3}
+409 Conflict|{"code":305,"name":"Closed"}
+"#;
+
+/// A host has room for so many rows where the last request of two pledges' lives finds none.
+pub const ROWS: u32 = 12;
 
 /// A request with its stamp, and its reply.
 #[derive(Drop)]
@@ -265,6 +319,11 @@ pub fn turns(rt: &impl Abort, alloc: Global) -> Result<Vec<Turn>, Fail> {
 /// The turns about a day, in order.
 pub fn day_turns(rt: &impl Abort, alloc: Global) -> Result<Vec<Turn>, Fail> {
     turns_of(rt, alloc, DAY)
+}
+
+/// The turns of a full host, in order.
+pub fn full_turns(rt: &impl Abort, alloc: Global) -> Result<Vec<Turn>, Fail> {
+    turns_of(rt, alloc, FULL)
 }
 
 /// The turns about an export, in order.

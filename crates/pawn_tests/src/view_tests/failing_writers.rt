@@ -1,8 +1,10 @@
 //! Texts into writers that fail at one call alone.
 ghost use Rattle.std.specs.Prelude.{Some};
 
-use super::{STATEMENT, day, number, one_pledge};
-use pawn_book::ListKeep;
+use super::{STATEMENT, day, make_book, number, one_pledge, take_ring};
+use pawn_book::Keep;
+use pawn_keeper::TableKeep;
+use pawn_opening::open_memory;
 use pawn_view::{ViewFault, Writing, put, send, show_statement};
 use std::alloc::Global;
 use std::io;
@@ -56,7 +58,10 @@ fn failing_at(alloc: Global, failing: usize, failure: Failure) -> Writing<Flaky>
 }
 
 // Writes the statement of the only pledge.
-fn states(keep: &mut ListKeep, writer: &mut Writing<Flaky>) -> Result<Result<(), ViewFault>, Fail> {
+fn states<K: Keep>(
+    keep: &mut K,
+    writer: &mut Writing<Flaky>,
+) -> Result<Result<(), ViewFault>, Fail> {
     if writer.has_failed() {
         return Ok(Err(ViewFault::Write));
     }
@@ -64,7 +69,7 @@ fn states(keep: &mut ListKeep, writer: &mut Writing<Flaky>) -> Result<Result<(),
 }
 
 // How many calls the whole statement takes, or none if it is another.
-fn calls_of_all(alloc: Global, keep: &mut ListKeep) -> Result<usize, Fail> {
+fn calls_of_all<K: Keep>(alloc: Global, keep: &mut K) -> Result<usize, Fail> {
     let mut writer = failing_at(alloc, 0, Failure::Error);
     let came = states(keep, &mut writer)?;
     let whole = writer.into_inner();
@@ -75,7 +80,12 @@ fn calls_of_all(alloc: Global, keep: &mut ListKeep) -> Result<usize, Fail> {
 }
 
 // Whether the statement ends with the failing call, and a front of it went out.
-fn stops_at(alloc: Global, keep: &mut ListKeep, at: usize, failure: Failure) -> Result<bool, Fail> {
+fn stops_at<K: Keep>(
+    alloc: Global,
+    keep: &mut K,
+    at: usize,
+    failure: Failure,
+) -> Result<bool, Fail> {
     let mut writer = failing_at(alloc, at, failure);
     let came = states(keep, &mut writer)?;
     let failed = writer.has_failed();
@@ -93,6 +103,20 @@ fn no_failed_write_is_tried_again(rt: HostRuntime) -> Result<(), Fail> {
         assert!(rt; stops_at(rt.alloc(), &mut keep, at, Failure::Error)?);
         assert!(rt; stops_at(rt.alloc(), &mut keep, at, Failure::Nothing)?);
     }
+    Ok(())
+}
+
+#[test]
+fn a_writer_that_fails_leaves_the_tables(rt: HostRuntime) -> Result<(), Fail> {
+    let alloc = rt.alloc();
+    let conn = open_memory(alloc, 100).ok().ok_or("no store")?;
+    let mut keep = TableKeep::over(alloc, conn).ok().ok_or("in a transaction")?;
+    make_book(alloc, &mut keep, 2)?;
+    take_ring(alloc, &mut keep)?;
+    let calls = calls_of_all(alloc, &mut keep)?;
+    assert!(rt; calls > 20);
+    assert!(rt; stops_at(alloc, &mut keep, 2, Failure::Error)?);
+    assert_eq!(rt; calls_of_all(alloc, &mut keep)?, calls);
     Ok(())
 }
 

@@ -1,0 +1,184 @@
+#!/usr/bin/env python3
+"""Prints what requests over a file take, through `pawnd answer` and `pawnd serve`, beside a bare durable insert.
+
+usage: bench/files.py [--small] [PROGRAM]     (default: the program that `rt run` built in crates/pawnd)
+
+The files are made by the program and filled by Python's sqlite3, row by row as the program would. A request's time is that of a
+stream of them less that of a stream of one, over a fresh copy of the file each time; the best of some runs. With `--small` there
+are fewer pledges and runs, to try the script with a program that was built without proofs.
+"""
+import os
+import random
+import shutil
+import sqlite3
+import subprocess
+import sys
+import tempfile
+import time
+
+SMALL = "--small" in sys.argv
+NAMED = [word for word in sys.argv[1:] if not word.startswith("--")]
+sys.path.insert(0, os.path.join(os.path.dirname(os.path.abspath(__file__)), "../tests"))
+if NAMED:
+    os.environ["PAWND"] = NAMED[0]
+
+from service import BROKER, OPERATOR, PROGRAM, SEED, free_port, request  # noqa: E402
+
+RUNS = 1 if SMALL else 5
+EACH = 6 if SMALL else 1_000      # the pledges of a book among others
+WHOLE = 40 if SMALL else 10_000   # the pledges of a book alone
+LONG = 30 if SMALL else 999       # the entries of a long list
+ASKED = 6 if SMALL else 999       # the requests of a stream
+TAKEN, ENDS = 19753, 19935        # 2024-01-31 and 2024-07-31, as days since 1970-01-01
+
+
+def word(book, number):
+    return book * 10_000_000 + number
+
+
+def receipt(book, number):
+    digits = f"{word(book, number):032x}"
+    return f"{number}-{digits[:8]}-{digits[8:12]}-{digits[12:16]}-{digits[16:20]}-{digits[20:]}"
+
+
+def fill(path, books, each, entries=0, long=0):
+    """A store of so many books of so many pledges, with so many entries each and so many more on the first book's first."""
+    subprocess.run([PROGRAM, "check", path], stdout=subprocess.DEVNULL, check=True)
+    base = sqlite3.connect(path)
+    key, names = bytes.fromhex(BROKER.replace("-", "")), [(book, number) for book in range(1, books + 1) for number in range(1, each + 1)]
+    counts = {(book, number): entries + (long if (book, number) == (1, 1) else 0) for book, number in names}
+    base.executemany("INSERT INTO books VALUES (?, ?, 'High Street', 2, 1, ?, NULL, NULL)", ((book, key, each) for book in range(1, books + 1)))
+    base.executemany("INSERT INTO terms VALUES (?, 1, 0, 0, 0)", ((book,) for book in range(1, books + 1)))
+    base.executemany("INSERT INTO pledges VALUES (?, ?, ?, 'Gold ring', 0, 10000, ?, NULL, 0, 1, ?, 0, ?, 0, NULL, NULL)",
+                     ((book, number, f"A{number}", TAKEN, ENDS, TAKEN) for book, number in names))
+    base.executemany("INSERT INTO entries VALUES (?, ?, ?, ?, 1, 1)", ((*name, seq, TAKEN) for name in names for seq in range(1, counts[name] + 1)))
+    base.executemany("INSERT INTO secrets VALUES (?, ?, 1, ?, 0, ?)", ((*name, TAKEN, word(*name).to_bytes(16, "big")) for name in names))
+    base.executemany("INSERT INTO totals VALUES (?, ?, ?, ?, 0)", ((*name, TAKEN, 10000 - counts[name]) for name in names))
+    base.execute("UPDATE meta SET value = ? WHERE name = 'rows'", (2 * books + 2 * len(names) + sum(counts.values()),))
+    base.commit()
+    base.close()
+
+
+def taken(path, stream, wanted):
+    """The best time of some runs over a copy of the file."""
+    best = None
+    for _ in range(RUNS):
+        with tempfile.TemporaryDirectory(dir=os.path.dirname(path)) as folder:
+            scratch = shutil.copy(path, folder)
+            begun = time.perf_counter()
+            ran = subprocess.run([PROGRAM, "answer", scratch, "2024-01-31", SEED, OPERATOR], input=b"".join(stream), stdout=subprocess.PIPE, check=True)
+            spent = time.perf_counter() - begun
+        best = spent if best is None else min(best, spent)
+    assert ran.stdout.count(b" 200 OK\r\n") == len(stream) and ran.stdout.count(wanted) >= len(stream), ran.stdout[-400:]
+    return best
+
+
+def each(path, stream, wanted):
+    return (taken(path, stream, wanted) - taken(path, stream[:1], wanted)) / (len(stream) - 1) * 1e6
+
+
+def view(name):
+    return request("GET", f"/books/{name[0]}/held", f"Pledge-Receipt: {receipt(*name)}")
+
+
+def repayment(name, seq=1):
+    return request("POST", f"/books/{name[0]}/held/repay", f"Pledge-Receipt: {receipt(*name)}", body=f'{{"pence":1,"seq":{seq}}}')
+
+
+def opening(number):
+    return request("POST", "/books/1/pledges", f"Pledge-Key: {BROKER}",
+                   body=f'{{"article":"Gold ring","five_days":false,"kind":"fixed","pence":10000,"ref":"B{number}"}}')
+
+
+def broker(target):
+    return request("GET", f"/books/1/{target}", f"Pledge-Key: {BROKER}")
+
+
+def line(name, *numbers):
+    print(f"{name:46}" + "".join(f"{number:12.1f}" for number in numbers), flush=True)
+
+
+def among_others(folder):
+    """Requests about books of 1,000 pledges, in files of 1, 10 and 100 such books: what grows down a column grows with other books."""
+    print(f"{f'microseconds a request, books of {EACH} pledges':46}" + "".join(f"{name:>12}" for name in ("view", "repayment", "opening", "day sheet", "export")))
+    for books in (1, 10, 100):
+        path = os.path.join(folder, f"{books}.db")
+        fill(path, books, EACH)
+        names = [(book, number) for book in range(1, books + 1) for number in range(1, EACH + 1)]
+        chosen = random.Random(books).sample(names, min(ASKED, len(names)))
+        numbers = (each(path, [view(name) for name in chosen], b"Status inside"), each(path, [repayment(name) for name in chosen], b'"sort"'),
+                   each(path, [opening(number) for number in range(ASKED)], b'"receipt"'),
+                   each(path, [broker("days/2024-07-31")] * 3, b"Ends "), each(path, [broker("export")] * 3, b"\nP,"))
+        print(f"{f'{books} of them, {books * EACH} pledges':46}" + "".join(f"{number:12.1f}" for number in numbers), flush=True)
+
+
+def one_list(folder):
+    path = os.path.join(folder, "lists.db")
+    fill(path, 1, EACH, entries=1, long=LONG - 1)
+    few, few_repaid = [(1, number) for number in range(2, EACH + 1)][:ASKED], min(ASKED, 200)
+    print(f"{'microseconds a request, by entries of a pledge':46}{1:>12}{LONG:>12}")
+    line("view by receipt", each(path, [view(name) for name in few], b"Entry 1"), each(path, [view((1, 1))] * few_repaid, f"Entry {LONG}".encode()))
+    line("repayment", each(path, [repayment(name, 2) for name in few], b'"sort"'),
+         each(path, [repayment((1, 1), LONG + n) for n in range(1, few_repaid + 1)], b'"sort"'))
+
+
+def one_book(folder):
+    path = os.path.join(folder, "whole.db")
+    fill(path, 1, WHOLE)
+    print(f"milliseconds a request, a book of {WHOLE} pledges:")
+    line("sheet of a day without any", each(path, [broker("days/2024-03-04")] * 3, b"Ends 0") / 1e3)
+    line("sheet of a day with all", each(path, [broker("days/2024-07-31")] * 3, f"Ends {WHOLE}".encode()) / 1e3)
+    line("export", each(path, [broker("export")] * 3, f"\nP,{WHOLE},".encode()) / 1e3)
+
+
+def opens(folder):
+    print(f"{'`serve` until it listens':46}{'pledges':>12}{'milliseconds':>14}{'KiB of file':>13}{'peak KiB':>10}")
+    for books in (0, 10, 100):
+        path, port = os.path.join(folder, f"{books}.db") if books else ":memory:", free_port()
+        best, peak = None, 0
+        for _ in range(RUNS):
+            begun = time.perf_counter()
+            server = subprocess.Popen([PROGRAM, "serve", path, str(port), OPERATOR], stdin=subprocess.DEVNULL, stdout=subprocess.PIPE)
+            server.stdout.readline()
+            spent = time.perf_counter() - begun
+            best = spent if best is None else min(best, spent)
+            with open(f"/proc/{server.pid}/status") as it:
+                peak = next(int(word.split()[1]) for word in it if word.startswith("VmHWM:"))
+            server.kill()
+            server.communicate()
+        size = os.path.getsize(path) // 1024 if books else 0
+        print(f"{'in memory, empty' if not books else 'a file':46}{books * EACH:>12}{best * 1e3:>14.1f}{size:>13}{peak:>10}", flush=True)
+    judged = time.perf_counter()
+    subprocess.run([PROGRAM, "check", os.path.join(folder, "100.db")], stdout=subprocess.DEVNULL, check=True)
+    line(f"`check` of {100 * EACH} pledges, milliseconds", (time.perf_counter() - judged) * 1e3)
+
+
+def bare(folder):
+    """A row and its commit in SQLite, its log synced at each."""
+    base = sqlite3.connect(os.path.join(folder, "bare.db"), isolation_level=None)
+    base.execute("PRAGMA journal_mode = WAL")
+    base.execute("PRAGMA synchronous = FULL")
+    base.execute("CREATE TABLE entries (book INTEGER, number INTEGER, seq INTEGER, day INTEGER, sort INTEGER, pence INTEGER, PRIMARY KEY (book, number, seq)) STRICT")
+    times = []
+    for _ in range(5):
+        begun = time.perf_counter()
+        for seq in range(1000):
+            base.execute("INSERT INTO entries VALUES (1, ?, ?, 1, 1, 1)", (len(times), seq))
+        times.append((time.perf_counter() - begun) / 1000 * 1e6)
+    base.close()
+    line("a bare durable insert by sqlite3, microseconds", min(times))
+
+
+def main():
+    if not os.path.exists(PROGRAM):
+        sys.exit("no program: run `rt run` in crates/pawnd first, or name one")
+    with tempfile.TemporaryDirectory(dir="/var/tmp") as folder:
+        bare(folder)
+        among_others(folder)
+        one_list(folder)
+        one_book(folder)
+        opens(folder)
+
+
+if __name__ == "__main__":
+    main()

@@ -1,0 +1,137 @@
+//! Files that fail at some call, as at a stop of the machine: what is there when they are opened again.
+
+use super::turns::{Turn, request, turns_of};
+use super::{service_of, service_over};
+use crate::disks::{Disks, NEVER, crashed, disks, store_on};
+use pawn_check::{Counts, check};
+use pawn_host::Answer;
+use pawn_keeper::TableKeep;
+use std::alloc::Global;
+use std::process::Abort;
+use std::test::Fail;
+
+// A ring is pawned, declared lost, its bearer asks to come, and redeems it, which cancels that.
+const LINES: &str = r#"
+2024-01-31|0|operator|POST /books/7|{"capacity":1,"key":"22222222-2222-2222-2222-222222222222","name":"High Street"}
+200 OK|{"book":7}
+2024-01-31|0|broker|POST /books/7/terms|{"keep_after":0,"keep_before":0,"rate":0,"version":1}
+200 OK|{"version":1}
+2024-01-31|1|broker|POST /books/7/pledges|{"article":"Gold ring","five_days":false,"kind":"fixed","pence":10000,"ref":"A1"}
+200 OK|{"number":1,"receipt":"1-00000000-0000-0000-0000-000000000001"}
+2024-01-31|2|broker|POST /books/7/pledges/1/declare|{"paper":"sworn"}
+200 OK|{"receipt":"1-00000000-0000-0000-0000-000000000002"}
+2024-01-31|0|1-2|POST /books/7/held/ask|{"day":"2024-02-10","window":3}
+200 OK|{"booking":"asked","day":"2024-02-10","window":3}
+2024-01-31|0|1-2|POST /books/7/held/redeem|{"paid":10000}
+200 OK|{"paid":10000,"redeemed":"2024-01-31"}
+"#;
+
+const EXPORT: &str = "2024-01-31|0|broker|GET /books/7/export|";
+
+// What a store holds: its counts, and the answer to an export.
+#[derive(Drop)]
+struct Content {
+    counts: Counts,
+    text: Answer,
+}
+
+fn bytes_of(answer: &Answer) -> &[u8] {
+    match answer {
+        Answer::Bytes(bytes) => bytes.as_slice(),
+        Answer::Memory => b"",
+    }
+}
+
+// What a host of lists holds after each front of these turns, the empty one first.
+fn contents(rt: &impl Abort, alloc: Global, turns: &[Turn]) -> Result<Vec<Content>, Fail> {
+    let (stamp, export) = request(rt, alloc, EXPORT)?;
+    let mut contents = Vec::new(alloc);
+    for end in 0..=turns.len() {
+        let mut service = service_of(rt, alloc, 100);
+        for turn in &turns[..end] {
+            service.answer_one(&turn.stamp, turn.request.as_slice());
+        }
+        let text = service.answer_one(&stamp, export.as_slice());
+        let counts = check(&mut service.into_keep()).ok().ok_or("judged")?;
+        contents.push(Content { counts, text })?;
+    }
+    Ok(contents)
+}
+
+// How many of these turns are answered over the disks before the first that is not, and what a stop then leaves of the disks.
+fn stopped(
+    rt: &impl Abort,
+    alloc: Global,
+    disks: Disks,
+    turns: &[Turn],
+) -> Result<(usize, Disks), Fail> {
+    let conn = match store_on(alloc, disks, 100) {
+        Ok(conn) => conn,
+        Err(left) => return Ok((0, crashed(left))),
+    };
+    let keep = TableKeep::over(alloc, conn).ok().ok_or("at rest")?;
+    let mut service = service_over(rt, alloc, keep);
+    let mut answered = 0usize;
+    for turn in turns {
+        let answer = service.answer_one(&turn.stamp, turn.request.as_slice());
+        if bytes_of(&answer) != turn.reply.as_slice() {
+            break;
+        }
+        answered = answered.saturating_add(1);
+    }
+    let store = service.into_keep().into_connection().into_store();
+    Ok((answered, crashed(store.close())))
+}
+
+// What the disks hold when they are opened again.
+fn content(rt: &impl Abort, alloc: Global, disks: Disks) -> Result<Content, Fail> {
+    let (stamp, export) = request(rt, alloc, EXPORT)?;
+    let conn = store_on(alloc, disks, 100).ok().ok_or("opened again")?;
+    let mut keep = TableKeep::over(alloc, conn).ok().ok_or("at rest")?;
+    let counts = check(&mut keep).ok().ok_or("judged")?;
+    let text = service_over(rt, alloc, keep).answer_one(&stamp, export.as_slice());
+    Ok(Content { counts, text })
+}
+
+// Stops one file at its first call, and then ever so many calls later, until a run meets no stop. Tells how many runs there were.
+fn stops(rt: &impl Abort, alloc: Global, is_log: bool, step: u64) -> Result<u32, Fail> {
+    let turns = turns_of(rt, alloc, LINES)?;
+    let contents = contents(rt, alloc, turns.as_slice())?;
+    let mut runs = 0u32;
+    let mut calls = 0u64;
+    for _ in 0..1000u32 {
+        let disks = if is_log {
+            disks(alloc, calls, NEVER)
+        } else {
+            disks(alloc, NEVER, calls)
+        };
+        let (answered, left) = stopped(rt, alloc, disks, turns.as_slice())?;
+        let found = content(rt, alloc, left)?;
+        let stands = contents.iter().skip(answered).take(2).any(|one| {
+            one.counts == found.counts && bytes_of(&one.text) == bytes_of(&found.text)
+        });
+        assert!(rt; stands, "{answered} answered, {calls} calls");
+        runs = runs.saturating_add(1);
+        if answered == turns.len() {
+            return Ok(runs);
+        }
+        calls = calls.saturating_add(step);
+    }
+    Ok(0)
+}
+
+#[test]
+fn a_stop_of_the_log_leaves_what_was_answered(rt: HostRuntime) -> Result<(), Fail> {
+    let runs = stops(&rt, rt.alloc(), true, 7)?;
+    println!(rt; "{runs} runs over the log")?;
+    assert!(rt; runs > 5);
+    Ok(())
+}
+
+#[test]
+fn a_stop_of_the_database_leaves_what_was_answered(rt: HostRuntime) -> Result<(), Fail> {
+    let runs = stops(&rt, rt.alloc(), false, 4)?;
+    println!(rt; "{runs} runs over the database")?;
+    assert!(rt; runs > 5);
+    Ok(())
+}
