@@ -1,4 +1,4 @@
-//! A pledge with as many entries as an issue of its list has.
+//! A pledge with 999 entries, shown by both keepers.
 
 use super::turns::turns_of;
 use super::{opened, plays, service_of, tables_over};
