@@ -139,8 +139,7 @@ fn a_book_is_exported(rt: HostRuntime) -> Result<(), Fail> {
 #[test]
 fn the_rows_of_a_book_fill_another(rt: HostRuntime) -> Result<(), Fail> {
     let turns = import_turns(&rt, rt.alloc())?;
-    plays(&rt, &mut service(&rt, rt.alloc()), turns.as_slice());
-    Ok(())
+    plays_in_both(&rt, rt.alloc(), 1000, turns.as_slice())
 }
 
 #[test]

@@ -1,18 +1,15 @@
 //! A pledge with 999 entries, shown by both keepers.
 
+use super::plays_in_both;
 use super::turns::turns_of;
-use super::{opened, plays, service_of, tables_over};
 use std::alloc::Global;
 use std::test::Fail;
 
 const ENTRIES: u32 = 999;
 
-// The rows of a book with one pledge before its entries, as lines and as rows of tables.
+// The rows of a book with one pledge before its entries, as lines.
 const LINES: &str =
     "row,c1,c2,c3,c4,c5,c6,c7,c8,c9,c10,c11,c12,c13,c14|B,2,1,1,,,,,,,,,,,|T,1,0,0,0,,,,,,,,,,|P,1,A1,Gold ring,fixed,10000,2024-01-01,,no,1,no,2024-01-31,open,,|S,1,1,2024-01-01,opening,00000000-0000-0000-0000-000000000003,,,,,,,,,|";
-
-const ROWS: &str =
-    "INSERT INTO books VALUES (7, X'22222222222222222222222222222222', 'High Street', 2, 1, 1, NULL, NULL); INSERT INTO terms VALUES (7, 1, 0, 0, 0); INSERT INTO pledges VALUES (7, 1, 'A1', 'Gold ring', 0, 10000, 19723, NULL, 0, 1, 19905, 0, 19753, 0, NULL, NULL); INSERT INTO secrets VALUES (7, 1, 1, 19723, 0, X'00000000000000000000000000000003'); INSERT INTO totals VALUES (7, 1, 19753, 9001, 0); UPDATE meta SET value = 1003 WHERE name = 'rows'; INSERT INTO entries VALUES ";
 
 const STATEMENT: &str =
     "Pledge 1|Article Gold ring|Kind fixed 100.00|Taken 2024-01-01|Ends 2024-07-01|Status inside|Principal 90.01|Charges 0.00|Owing 90.01|Held no|Booking none|";
@@ -48,30 +45,10 @@ fn filling(alloc: Global) -> Result<String, Fail> {
 }
 
 #[test]
-fn a_long_list_in_lists_is_shown_whole(rt: HostRuntime) -> Result<(), Fail> {
+fn a_long_list_is_shown_whole(rt: HostRuntime) -> Result<(), Fail> {
     let alloc = rt.alloc();
-    let mut service = service_of(&rt, alloc, 2000);
-    for lines in [filling(alloc)?, shown(alloc)?] {
-        plays(
-            &rt,
-            &mut service,
-            turns_of(&rt, alloc, lines.as_str())?.as_slice(),
-        );
-    }
-    Ok(())
-}
-
-#[test]
-fn a_long_list_in_tables_is_shown_whole(rt: HostRuntime) -> Result<(), Fail> {
-    let alloc = rt.alloc();
-    let rows = numbered(alloc, ROWS, "(7, 1, ", ", 19753, 1, 1), ")?;
-    let mut conn = opened(alloc, 2000)?;
-    conn.execute_batch(rows.as_str().trim_end_matches(", "))?;
-    let lines = shown(alloc)?;
-    plays(
-        &rt,
-        &mut tables_over(&rt, alloc, conn)?,
-        turns_of(&rt, alloc, lines.as_str())?.as_slice(),
-    );
-    Ok(())
+    let (filling, shown) = (filling(alloc)?, shown(alloc)?);
+    let lines = format!(in alloc; "{filling}\n{shown}")?;
+    let turns = turns_of(&rt, alloc, lines.as_str())?;
+    plays_in_both(&rt, alloc, 2000, turns.as_slice())
 }

@@ -10,7 +10,7 @@ use std::alloc::Global;
 use std::process::Abort;
 use std::test::Fail;
 
-// A ring is pawned, declared lost, its bearer asks to come, and redeems it, which cancels that.
+// A ring is pawned, declared lost, its bearer asks to come, and redeems it, which cancels that. Another book is filled by an import.
 const LINES: &str = r#"
 2024-01-31|0|operator|POST /books/7|{"capacity":1,"key":"22222222-2222-2222-2222-222222222222","name":"High Street"}
 200 OK|{"book":7}
@@ -24,6 +24,10 @@ const LINES: &str = r#"
 200 OK|{"booking":"asked","day":"2024-02-10","window":3}
 2024-01-31|0|1-2|POST /books/7/held/redeem|{"paid":10000}
 200 OK|{"paid":10000,"redeemed":"2024-01-31"}
+2024-01-31|0|operator|POST /books/8|{"capacity":1,"key":"22222222-2222-2222-2222-222222222222","name":"High Street"}
+200 OK|{"book":8}
+2024-01-31|0|broker/44444444|POST /books/8/import|row,c1,c2,c3,c4,c5,c6,c7,c8,c9,c10,c11,c12,c13,c14|B,2,1,2,,,,,,,,,,,|T,1,0,0,0,,,,,,,,,,|P,1,A1,Gold ring,fixed,10000,2024-01-31,,no,1,no,2024-02-01,open,,|S,1,1,2024-01-31,opening,00000000-0000-0000-0000-000000000003,,,,,,,,,|S,1,2,2024-02-01,sworn,00000000-0000-0000-0000-000000000005,,,,,,,,,|K,1,2024-02-10,3,asked,,,,,,,,,,|P,2,A2,Clock,fixed,10000,2024-01-31,,no,1,no,2024-08-01,sold,2024-08-01,9000|S,2,1,2024-01-31,opening,00000000-0000-0000-0000-000000000004,,,,,,,,,|
+200 OK|{"imported":2}
 "#;
 
 const EXPORT: &str = "2024-01-31|0|broker|GET /books/7/export|";
