@@ -88,7 +88,7 @@ fn stopped(
 }
 
 // What the disks hold when they are opened again.
-fn content(rt: &impl Abort, alloc: Global, disks: Disks) -> Result<Content, Fail> {
+fn content_of(rt: &impl Abort, alloc: Global, disks: Disks) -> Result<Content, Fail> {
     let (stamp, export) = request(rt, alloc, EXPORT)?;
     let conn = store_on(alloc, disks, 100).ok().ok_or("opened again")?;
     let mut keep = TableKeep::over(alloc, conn).ok().ok_or("at rest")?;
@@ -110,7 +110,7 @@ fn stops(rt: &impl Abort, alloc: Global, is_log: bool, step: u64) -> Result<u32,
             disks(alloc, NEVER, calls)
         };
         let (answered, left) = stopped(rt, alloc, disks, turns.as_slice())?;
-        let found = content(rt, alloc, left)?;
+        let found = content_of(rt, alloc, left)?;
         let stands = contents.iter().skip(answered).take(2).any(|one| {
             one.counts == found.counts && bytes_of(&one.text) == bytes_of(&found.text)
         });
