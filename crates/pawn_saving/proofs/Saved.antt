@@ -1,5 +1,5 @@
 -- A change is saved: a transaction that is lent and goes well, and a commit.
-use Rattle.std.proofs.Common.{◌≡◌, ◌≢◌, ◌⊎◌, inl, inr, ◌≤◌, true, false, Ok, Err, IsTrue, refl, sym, ap, subst, ◌∙◌, arith}
+use Rattle.std.proofs.Common.{◌≡◌, ◌≢◌, ◌⊎◌, inl, inr, ◌≤◌, true, false, Result, Ok, Err, IsTrue, refl, sym, ap, subst, ◌∙◌, arith}
 use Rattle.sqlite.specs.Effect.{Database}
 use Rattle.sqlite.specs.Tree.{Trees}
 use Rattle.sqlite.specs.State.{State, HasCleanDisk, IsRolledBack, Shows, Survives}
@@ -29,6 +29,10 @@ left_fitting T h change before (Save.Store fault) left other was = was
 no_more : {P : Type 0} → P ⊎ ⊥ → P
 no_more (inl p) = p
 no_more (inr none) = absurd none
+
+-- what was saved into a connection that is given back
+pub given_back : {K : Type 0} (state : K → State) (T : Type 0) (old there : K) (change : Change) (result : Result T SaveError) → Saves {T = T} (keeping_by state) old there change result → (new : K) → there ≡ new → Saves {T = T} (keeping_by state) old new change result
+given_back state T old there change result saved new same = subst (λ n. Saves {T = T} (keeping_by state) old n change result) same saved
 
 -- a transaction that begins
 pub record IsBegun (a begun : State) : Type 0 where

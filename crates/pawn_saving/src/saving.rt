@@ -87,12 +87,14 @@ pub fn save<S: Alter>(
         return Err(SaveError::Store(StoreFault::Database));
     }
     let mut tx = conn.transaction();
-    if let Err(error) = write_change(&mut tx, alloc, change) {
-        tx.rollback();
-        return Err(error);
-    }
-    match tx.commit() {
-        Ok(()) => Ok(()),
-        Err(error) => Err(unsaved(refused(error))),
+    match write_change(&mut tx, alloc, change) {
+        Ok(()) => match tx.commit() {
+            Ok(()) => Ok(()),
+            Err(error) => Err(unsaved(refused(error))),
+        },
+        Err(error) => {
+            tx.rollback();
+            Err(error)
+        }
     }
 }

@@ -3,11 +3,11 @@ use Rattle.sqlite.specs.Held.{state}
 use Rattle.pawn_book.specs.Keeping.{Saves}
 use Rattle.pawn_tables.specs.Keeps.{keeping_by}
 use Rattle.pawn_tables.proofs.OneHost.{tables_stand_for_one_host}
-use Rattle.pawn_saving.proofs.Saved.{IsBegun, saves_committed, saves_refused}
+use Rattle.pawn_saving.proofs.Saved.{given_back, IsBegun, saves_committed, saves_refused}
 use Rattle.pawn_saving.proofs.saving.save.Goals as goal
 
-pub returns-in-Ok-clause-saves : goal.returns-in-Ok-clause-saves
-returns-in-Ok-clause-saves g c =
+pub returns-in-Ok-commit-clause-saves : goal.returns-in-Ok-commit-clause-saves
+returns-in-Ok-commit-clause-saves g c =
     let begun = c.transaction-tx.ensures.begun in
     let was : IsBegun (state g.S.Store c.args.conn.now) (state g.S.Store c.transaction-tx.result.conn.now) = record {
       ended = search rules;
@@ -19,10 +19,10 @@ returns-in-Ok-clause-saves g c =
       clean = λ clean. rw begun at clean;
       left = λ trees left. rw begun at left;
     } in
-    let same : c.commit.new.self.0 ≡ c.conn-2-1.given.0 = search rules in
-    subst (λ n. Saves {T = Unit {0}} (keeping_by (λ c'. state g.S.Store c')) c.args.conn.now n c.args.change.now (Ok tt)) same
+    given_back (λ c'. state g.S.Store c') (Unit {0}) c.args.conn.now c.commit.new.self.0 c.args.change.now (Ok tt)
     (saves_committed (λ c'. state g.S.Store c') c.args.conn.now c.commit.new.self.0 (state g.S.Store c.transaction-tx.result.conn.now) (state g.S.Store c.write_change.new.tx.conn.now) c.args.change.now was c.requires.can_save
-    (Unit {0}) tt tables_stand_for_one_host c.in_default.ensures.lent c.in_default.ensures.wrote c.commit.ensures.ended c.commit.ensures.survives (λ clean. (c.in-Ok.ensures.ok clean).1) (λ now trees left. g.met.S.Store.settled _ trees now left))
+    (Unit {0}) tt tables_stand_for_one_host c.in-Ok.ensures.lent c.in-Ok.ensures.wrote c.commit.ensures.ended c.commit.ensures.survives (λ clean. (c.in-Ok-commit.ensures.ok clean).1) (λ now trees left. g.met.S.Store.settled _ trees now left))
+    _ (search rules)
 
 pub returns-in-Err-commit-clause-saves : goal.returns-in-Err-commit-clause-saves
 returns-in-Err-commit-clause-saves g c =
@@ -37,7 +37,7 @@ returns-in-Err-commit-clause-saves g c =
       clean = λ clean. rw begun at clean;
       left = λ trees left. rw begun at left;
     } in
-    let same : c.commit.new.self.0 ≡ c.conn-2-1.given.0 = search rules in
-    subst (λ n. Saves {T = Unit {0}} (keeping_by (λ c'. state g.S.Store c')) c.args.conn.now n c.args.change.now (Err c.unsaved.result)) same
+    given_back (λ c'. state g.S.Store c') (Unit {0}) c.args.conn.now c.commit.new.self.0 c.args.change.now (Err c.unsaved.result)
     (saves_refused (λ c'. state g.S.Store c') c.args.conn.now c.commit.new.self.0 (state g.S.Store c.transaction-tx.result.conn.now) (state g.S.Store c.write_change.new.tx.conn.now) c.args.change.now was c.requires.can_save
-    (Unit {0}) tt tables_stand_for_one_host c.in_default.ensures.lent c.in_default.ensures.wrote c.commit.ensures.ended c.commit.ensures.survives c.unsaved.result c.unsaved.ensures.not_full c.in-Err-commit.error c.in-Err-commit.ensures.err)
+    (Unit {0}) tt tables_stand_for_one_host c.in-Ok.ensures.lent c.in-Ok.ensures.wrote c.commit.ensures.ended c.commit.ensures.survives c.unsaved.result c.unsaved.ensures.not_full c.in-Err-commit.error c.in-Err-commit.ensures.err)
+    _ (search rules)
