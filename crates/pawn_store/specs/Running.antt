@@ -16,7 +16,7 @@ use Rattle.pawn_host.specs.Keeps.{service_keep}
 use Rattle.pawn_host.specs.Run.{Item, IsMarked, input_of, host_after, replies}
 
 -- the store under a service
-abbrev pub store_of : {S : Type 0} → Ghosts S → Service (TableKeep S) → State
+abbrev pub store_of : {S : Type 0} (ghosts : Ghosts S) → Service (TableKeep S ghosts) → State
 store_of ghosts service = state ghosts (service_keep service).conn
 
 -- a run from the host led to these answers, and left the store so
