@@ -13,8 +13,10 @@ mod store;
 use counts::CountsLine;
 use fault::Fault;
 use pawn_check::check;
-use pawn_host::{Keep, Reading, Secret, Service, Writing};
+use pawn_host::{Reading, Secret, Service, Writing};
 use pawn_program::{ClockStamps, ServeSettings, Settings, SettingsFault, Stamps, Words, serve_on};
+use pawn_store::TableKeep;
+use sqlite::Alter;
 use std::env;
 use std::env::Args;
 use std::net::TcpListener;
@@ -64,29 +66,29 @@ fn answer(rt: &HostRuntime, mut args: Args) -> Result<(), Stop> {
     };
     let settings = Settings::read(rt, day.as_str(), seed.as_str(), key.as_str()).map_err(unsaid)?;
     if is_memory(database.as_str()) {
-        let mut service = open(rt, memory_keep(rt)?, settings.operator)?;
-        answer_over(rt, &mut service, settings)
+        answer_over(rt, memory_keep(rt)?, settings)?.1
     } else {
-        let mut service = open(rt, file_keep(rt, database.as_str())?, settings.operator)?;
-        let end = answer_over(rt, &mut service, settings);
-        close(service.into_keep(), end)
+        let (keep, end) = answer_over(rt, file_keep(rt, database.as_str())?, settings)?;
+        close(keep, end)
     }
 }
 
-// Answers them by a service.
-fn answer_over<K: Keep>(
+// Answers them over the tables of a store, and hands the keeper back, with how that ended.
+fn answer_over<S: Alter + Drop>(
     rt: &HostRuntime,
-    service: &mut Service<K>,
+    keep: TableKeep<S>,
     settings: Settings,
-) -> Result<(), Stop> {
+) -> Result<(TableKeep<S>, Result<(), Stop>), Stop> {
+    let mut service = open(rt, keep, settings.operator)?;
     let mut words = Words::of_seed(settings.seed);
     let mut reader = Reading::new(rt.stdin());
     let mut writer = Writing::new(rt.stdout());
     let mut stamps = Stamps::new(&mut words, settings.day);
-    match service.answer_all(&mut reader, &mut writer, &mut stamps) {
+    let end = match service.answer_all(&mut reader, &mut writer, &mut stamps) {
         Ok(_) => Ok(()),
         Err(_) => Err(Stop::Io),
-    }
+    };
+    Ok((service.into_keep(), end))
 }
 
 // Answers the requests of connections to a port of this machine, one connection after the other.
@@ -101,17 +103,30 @@ fn serve(rt: &HostRuntime, mut args: Args) -> Result<(), Stop> {
     };
     let settings = ServeSettings::read(rt, port.as_str(), key.as_str()).map_err(unsaid)?;
     if is_memory(database.as_str()) {
-        let mut service = open(rt, memory_keep(rt)?, settings.operator)?;
-        serve_over(rt, &mut service, settings.port)
+        serve_over(rt, memory_keep(rt)?, settings)?.1
     } else {
-        let mut service = open(rt, file_keep(rt, database.as_str())?, settings.operator)?;
-        let end = serve_over(rt, &mut service, settings.port);
-        close(service.into_keep(), end)
+        let (keep, end) = serve_over(rt, file_keep(rt, database.as_str())?, settings)?;
+        close(keep, end)
     }
 }
 
-// Answers them by a service.
-fn serve_over<K: Keep>(rt: &HostRuntime, service: &mut Service<K>, port: u16) -> Result<(), Stop> {
+// Answers them over the tables of a store, and hands the keeper back, with how that ended.
+fn serve_over<S: Alter + Drop>(
+    rt: &HostRuntime,
+    keep: TableKeep<S>,
+    settings: ServeSettings,
+) -> Result<(TableKeep<S>, Result<(), Stop>), Stop> {
+    let mut service = open(rt, keep, settings.operator)?;
+    let end = listen(rt, &mut service, settings.port);
+    Ok((service.into_keep(), end))
+}
+
+// Listens on a port, and answers by a service.
+fn listen<S: Alter + Drop>(
+    rt: &HostRuntime,
+    service: &mut Service<TableKeep<S>>,
+    port: u16,
+) -> Result<(), Stop> {
     let Ok(rng) = rand::make_rng(rt) else {
         return Err(Stop::Io);
     };
@@ -142,7 +157,7 @@ fn judge(rt: &HostRuntime, mut args: Args) -> Result<(), Stop> {
 }
 
 // Judges what a keeper holds, and tells it.
-fn judge_over<K: Keep>(rt: &HostRuntime, keep: &mut K) -> Result<(), Stop> {
+fn judge_over<S: Alter>(rt: &HostRuntime, keep: &mut TableKeep<S>) -> Result<(), Stop> {
     match check(keep) {
         Ok(counts) => match println!(rt; "{}", CountsLine(counts)) {
             Ok(()) => Ok(()),
@@ -153,7 +168,11 @@ fn judge_over<K: Keep>(rt: &HostRuntime, keep: &mut K) -> Result<(), Stop> {
 }
 
 // The service over a keeper.
-fn open<K: Keep + Drop>(rt: &HostRuntime, keep: K, operator: Secret) -> Result<Service<K>, Stop>
+fn open<S: Alter + Drop>(
+    rt: &HostRuntime,
+    keep: TableKeep<S>,
+    operator: Secret,
+) -> Result<Service<TableKeep<S>>, Stop>
     ensures operator { IfOk result (λ service. service_operator service ≡ operator) }
 {
     match Service::new(rt.alloc(), keep, operator) {
