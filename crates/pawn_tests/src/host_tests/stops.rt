@@ -6,6 +6,7 @@ use crate::disks::{Disks, NEVER, crashed, disks, store_on};
 use pawn_check::{Counts, check};
 use pawn_host::Answer;
 use pawn_keeper::TableKeep;
+use sqlite::{Alter, Connection};
 use std::alloc::Global;
 use std::process::Abort;
 use std::test::Fail;
@@ -62,6 +63,26 @@ fn contents(rt: &impl Abort, alloc: Global, turns: &[Turn]) -> Result<Vec<Conten
     Ok(contents)
 }
 
+// How many of these turns are answered over a store before the first that is not, and the store after them.
+fn played<S: Alter + Drop>(
+    rt: &impl Abort,
+    alloc: Global,
+    conn: Connection<S>,
+    turns: &[Turn],
+) -> Result<(usize, S), Fail> {
+    let keep = TableKeep::over(alloc, conn).ok().ok_or("at rest")?;
+    let mut service = service_over(rt, alloc, keep);
+    let mut answered = 0usize;
+    for turn in turns {
+        let answer = service.answer_one(&turn.stamp, turn.request.as_slice());
+        if bytes_of(&answer) != turn.reply.as_slice() {
+            break;
+        }
+        answered = answered.saturating_add(1);
+    }
+    Ok((answered, service.into_keep().into_connection().into_store()))
+}
+
 // How many of these turns are answered over the disks before the first that is not, and what a stop then leaves of the disks.
 fn stopped(
     rt: &impl Abort,
@@ -73,28 +94,27 @@ fn stopped(
         Ok(conn) => conn,
         Err(left) => return Ok((0, crashed(left))),
     };
-    let keep = TableKeep::over(alloc, conn).ok().ok_or("at rest")?;
-    let mut service = service_over(rt, alloc, keep);
-    let mut answered = 0usize;
-    for turn in turns {
-        let answer = service.answer_one(&turn.stamp, turn.request.as_slice());
-        if bytes_of(&answer) != turn.reply.as_slice() {
-            break;
-        }
-        answered = answered.saturating_add(1);
-    }
-    let store = service.into_keep().into_connection().into_store();
+    let (answered, store) = played(rt, alloc, conn, turns)?;
     Ok((answered, crashed(store.close())))
 }
 
-// What the disks hold when they are opened again.
-fn content_of(rt: &impl Abort, alloc: Global, disks: Disks) -> Result<Content, Fail> {
+// What a store holds.
+fn content_in<S: Alter + Drop>(
+    rt: &impl Abort,
+    alloc: Global,
+    conn: Connection<S>,
+) -> Result<Content, Fail> {
     let (stamp, export) = request(rt, alloc, EXPORT)?;
-    let conn = store_on(alloc, disks, 100).ok().ok_or("opened again")?;
     let mut keep = TableKeep::over(alloc, conn).ok().ok_or("at rest")?;
     let counts = check(&mut keep).ok().ok_or("judged")?;
     let text = service_over(rt, alloc, keep).answer_one(&stamp, export.as_slice());
     Ok(Content { counts, text })
+}
+
+// What the disks hold when they are opened again.
+fn content_of(rt: &impl Abort, alloc: Global, disks: Disks) -> Result<Content, Fail> {
+    let conn = store_on(alloc, disks, 100).ok().ok_or("opened again")?;
+    content_in(rt, alloc, conn)
 }
 
 // Stops one file at its first call, and then ever so many calls later, until a run meets no stop. Tells how many runs there were.
