@@ -117,12 +117,12 @@ fn content_of(rt: &impl Abort, alloc: Global, disks: Disks) -> Result<Content, F
     content_in(rt, alloc, conn)
 }
 
-// Stops one file at its first call, and then ever so many calls later, until a run meets no stop. Tells how many runs there were.
-fn stops(rt: &impl Abort, alloc: Global, is_log: bool, step: u64) -> Result<u32, Fail> {
+// Stops one file at that call, and then ever so many calls later, until a run meets no stop. Tells how many runs there were.
+fn stops(rt: &impl Abort, alloc: Global, is_log: bool, first: u64, step: u64) -> Result<u32, Fail> {
     let turns = turns_of(rt, alloc, LINES)?;
     let contents = contents(rt, alloc, turns.as_slice())?;
     let mut runs = 0u32;
-    let mut calls = 0u64;
+    let mut calls = first;
     for _ in 0..1000u32 {
         let disks = if is_log {
             disks(alloc, calls, NEVER)
@@ -144,18 +144,76 @@ fn stops(rt: &impl Abort, alloc: Global, is_log: bool, step: u64) -> Result<u32,
     Ok(0)
 }
 
-#[test]
-fn a_stop_of_the_log_leaves_what_was_answered(rt: HostRuntime) -> Result<(), Fail> {
-    let runs = stops(&rt, rt.alloc(), true, 7)?;
-    println!(rt; "{runs} runs over the log")?;
+// The log stops at its calls from that one on, in steps: with each first call below the step every call has its turn.
+fn stops_of_the_log(rt: &impl Abort, alloc: Global, first: u64) -> Result<(), Fail> {
+    let runs = stops(rt, alloc, true, first, 8)?;
+    assert!(rt; runs > 5);
+    Ok(())
+}
+
+// The same of the database file.
+fn stops_of_the_database(rt: &impl Abort, alloc: Global, first: u64) -> Result<(), Fail> {
+    let runs = stops(rt, alloc, false, first, 4)?;
     assert!(rt; runs > 5);
     Ok(())
 }
 
 #[test]
-fn a_stop_of_the_database_leaves_what_was_answered(rt: HostRuntime) -> Result<(), Fail> {
-    let runs = stops(&rt, rt.alloc(), false, 4)?;
-    println!(rt; "{runs} runs over the database")?;
-    assert!(rt; runs > 5);
-    Ok(())
+fn a_log_that_stops_leaves_what_was_answered_0(rt: HostRuntime) -> Result<(), Fail> {
+    stops_of_the_log(&rt, rt.alloc(), 0)
+}
+
+#[test]
+fn a_log_that_stops_leaves_what_was_answered_1(rt: HostRuntime) -> Result<(), Fail> {
+    stops_of_the_log(&rt, rt.alloc(), 1)
+}
+
+#[test]
+fn a_log_that_stops_leaves_what_was_answered_2(rt: HostRuntime) -> Result<(), Fail> {
+    stops_of_the_log(&rt, rt.alloc(), 2)
+}
+
+#[test]
+fn a_log_that_stops_leaves_what_was_answered_3(rt: HostRuntime) -> Result<(), Fail> {
+    stops_of_the_log(&rt, rt.alloc(), 3)
+}
+
+#[test]
+fn a_log_that_stops_leaves_what_was_answered_4(rt: HostRuntime) -> Result<(), Fail> {
+    stops_of_the_log(&rt, rt.alloc(), 4)
+}
+
+#[test]
+fn a_log_that_stops_leaves_what_was_answered_5(rt: HostRuntime) -> Result<(), Fail> {
+    stops_of_the_log(&rt, rt.alloc(), 5)
+}
+
+#[test]
+fn a_log_that_stops_leaves_what_was_answered_6(rt: HostRuntime) -> Result<(), Fail> {
+    stops_of_the_log(&rt, rt.alloc(), 6)
+}
+
+#[test]
+fn a_log_that_stops_leaves_what_was_answered_7(rt: HostRuntime) -> Result<(), Fail> {
+    stops_of_the_log(&rt, rt.alloc(), 7)
+}
+
+#[test]
+fn a_database_that_stops_leaves_what_was_answered_0(rt: HostRuntime) -> Result<(), Fail> {
+    stops_of_the_database(&rt, rt.alloc(), 0)
+}
+
+#[test]
+fn a_database_that_stops_leaves_what_was_answered_1(rt: HostRuntime) -> Result<(), Fail> {
+    stops_of_the_database(&rt, rt.alloc(), 1)
+}
+
+#[test]
+fn a_database_that_stops_leaves_what_was_answered_2(rt: HostRuntime) -> Result<(), Fail> {
+    stops_of_the_database(&rt, rt.alloc(), 2)
+}
+
+#[test]
+fn a_database_that_stops_leaves_what_was_answered_3(rt: HostRuntime) -> Result<(), Fail> {
+    stops_of_the_database(&rt, rt.alloc(), 3)
 }
