@@ -203,5 +203,23 @@ def bent_rows_are_told_and_touch_no_other_book():
             expect(f"the requests, {step}", answer(bent, statement(1), *others, statement(1)), [STORE, *before, STORE])
 
 
+def what_was_paid_is_kept_however_much():
+    # two per cent of a million pounds a day, for the 3,653 days of ten years
+    paid = 100_000_000 + 3_653 * 2_000_000
+    with tempfile.TemporaryDirectory() as room:
+        path = os.path.join(room, "books")
+        made = answer(
+            path,
+            keyed("POST", "/books/7", {"capacity": 2, "key": BROKER, "name": "High Street"}, OPERATOR),
+            keyed("POST", "/books/7/terms", {"keep_after": 0, "keep_before": 0, "rate": 20000, "version": 1}),
+            keyed("POST", "/books/7/pledges", {**opening(1), "pence": 100_000_000}),
+            day="2000-01-01",
+        )
+        redeem = request("POST", "/books/7/held/redeem", f"Pledge-Receipt: {made[2][1]['receipt']}", body=json.dumps({"paid": paid}))
+        expect("a redemption", answer(path, redeem, day="2010-01-01"), [(200, {"paid": paid, "redeemed": "2010-01-01"})])
+        expect("a statement", answer(path, statement(1))[0][1].splitlines()[-1], "Redeemed 2010-01-01 paid 74060000.00")
+        expect("a check", check(path), (0, "books 1 pledges 1 rows 4\n", ""))
+
+
 main(others_open_the_file, a_closed_file_is_whole_without_its_log, a_killed_service_leaves_its_books_in_file_and_log,
-     bent_rows_are_told_and_touch_no_other_book)
+     bent_rows_are_told_and_touch_no_other_book, what_was_paid_is_kept_however_much)

@@ -124,13 +124,23 @@ pub(crate) fn closed_day(closing: Closing) -> Value
     }
 }
 
+// A sum of pence as a statement takes it: what is paid can be more than 32 bits hold.
+fn sum_value(pence: u64) -> Result<Value, KeepError>
+    ensures value { IfOk result (λ sum. sum ≡ spec.number pence) }
+{
+    match i64::try_from(pence) {
+        Ok(sum) => Ok(Value::Int(sum)),
+        Err(_) => Err(REFUSED),
+    }
+}
+
 /// The sum of a closing.
 pub(crate) fn closed_amount(closing: Closing) -> Result<Value, KeepError>
     ensures value { IfOk result (λ amount. amount ≡ spec.or_null spec.number (spec.closed_amount closing)) }
 {
     match closing {
         Closing::Open => Ok(optional(None)),
-        Closing::Redeemed { day: _, paid } => Ok(optional(Some(small(paid)?))),
-        Closing::Sold { day: _, net } => Ok(optional(Some(small(net)?))),
+        Closing::Redeemed { day: _, paid } => sum_value(paid),
+        Closing::Sold { day: _, net } => sum_value(net),
     }
 }
