@@ -16,7 +16,7 @@ use Rattle.pawn_view.specs.declared.fault.ViewFault.{ViewFault}
 use Rattle.pawn_view.specs.Ends.{write_failed, Puts}
 use Rattle.pawn_view.specs.Fault.{ending_of}
 use Rattle.pawn_view.specs.Text.{statement_text, shown_text, further_texts, presented_text}
-use Rattle.pawn_view.specs.Shown.{PutsShare, Shows}
+use Rattle.pawn_view.specs.Shown.{PutsShare, Shows, shown_of}
 use Rattle.pawn_view.proofs.ShareLemmas.{share_puts, share_more, share_then}
 use Rattle.pawn_view.proofs.StatementLemmas.{some_same, shows_ended}
 
@@ -124,34 +124,67 @@ further_stops_in contents a b c w day f receipts i d lt first blank share =
     (share_more contents b w (further day (f x)) rest
     (share_then contents b c w (codes "\n") (shown_text day (f x)) Front (share_puts contents b c (codes "\n") blank) share)))
 
+-- all but the first
+abbrev pub rest_of : List Receipt → List Receipt
+rest_of receipts = take (length receipts - 1) (drop 1 receipts)
+
 -- the first, and then the rest
-presented_is : (f : Receipt → Option PledgeValue) (day : ℕ) (receipts : List Receipt) (x : Receipt) → 1 ≤ length receipts → x ≡ get_or receipts 0 x
-    → presented_text day (map f receipts) ≡ shown_text day (f x) ++ further_texts day (map f (take (length receipts - 1) (drop 1 receipts)))
-presented_is f day [] x some at = absurd (omega (arith, some))
-presented_is f day (r ∷ rs) x some at =
-    ap (λ (q : Receipt). shown_text day (f q) ++ further_texts day (map f rs)) (sym at)
-    ∙ ap (λ (qs : List Receipt). shown_text day (f x) ++ further_texts day (map f qs)) (sym (take_rest (r ∷ rs) 1))
+pub first_and_rest : (f : Receipt → Option PledgeValue) (receipts : List Receipt) (x : Receipt) → 1 ≤ length receipts → x ≡ get_or receipts 0 x
+    → f x ∷ map f (rest_of receipts) ≡ map f receipts
+first_and_rest f [] x some at = absurd (omega (arith, some))
+first_and_rest f (r ∷ rs) x some at =
+    ap (λ (q : Receipt). f q ∷ map f (rest_of (r ∷ rs))) at
+    ∙ ap (λ (qs : List Receipt). f r ∷ map f qs) (take_rest (r ∷ rs) 1)
 
-pub presented_goes_on : {W : Type 0} (contents : W → Option (List ℕ)) (a b w : Writing W) (day : ℕ) (f : Receipt → Option PledgeValue) (receipts : List Receipt) (x : Receipt) (end : End) → 1 ≤ length receipts → x ≡ get_or receipts 0 x
-    → PutsShare contents a (shown_text day (f x)) Whole b → PutsShare contents b (further_texts day (map f (take (length receipts - 1) (drop 1 receipts)))) end w
-    → PutsShare contents a (presented_text day (map f receipts)) end w
-presented_goes_on contents a b w day f receipts x end some at first rest =
-    subst (λ (t : List ℕ). PutsShare contents a t end w) (sym (presented_is f day receipts x some at))
-    (share_then contents a b w (shown_text day (f x)) (further_texts day (map f (take (length receipts - 1) (drop 1 receipts)))) end first rest)
+-- a statement, and what is shown for others
+pub statement_then : {W : Type 0} (contents : W → Option (List ℕ)) (a b w : Writing W) (day : ℕ) (p : PledgeValue) (others : List (Option PledgeValue)) (end : End)
+    → PutsShare contents a (statement_text day p) Whole b → PutsShare contents b (further_texts day others) end w
+    → PutsShare contents a (statement_text day p ++ further_texts day others) end w
+statement_then contents a b w day p others end first rest = share_then contents a b w (statement_text day p) (further_texts day others) end first rest
 
-pub presented_stops : {W : Type 0} (contents : W → Option (List ℕ)) (a w : Writing W) (day : ℕ) (f : Receipt → Option PledgeValue) (receipts : List Receipt) (x : Receipt) → 1 ≤ length receipts → x ≡ get_or receipts 0 x
-    → PutsShare contents a (shown_text day (f x)) Front w
-    → PutsShare contents a (presented_text day (map f receipts)) Front w
-presented_stops contents a w day f receipts x some at first =
-    subst (λ (t : List ℕ). PutsShare contents a t Front w) (sym (presented_is f day receipts x some at))
-    (share_more contents a w (shown_text day (f x)) (further_texts day (map f (take (length receipts - 1) (drop 1 receipts)))) first)
+-- a statement that was not put whole
+pub statement_stops : {W : Type 0} (contents : W → Option (List ℕ)) (a w : Writing W) (day : ℕ) (p : PledgeValue) (others : List (Option PledgeValue))
+    → PutsShare contents a (statement_text day p) Front w
+    → PutsShare contents a (statement_text day p ++ further_texts day others) Front w
+statement_stops contents a w day p others first = share_more contents a w (statement_text day p) (further_texts day others) first
 
--- the text of receipts one of which is live
-pub presented_shows : {W : Type 0} (contents : W → Option (List ℕ)) (a w : Writing W) (text : List ℕ) (unknown : Bool) (done : Result (Unit {0}) KeepError) (answer : Result (Unit {0}) ViewFault)
-    → write_failed a ≡ false → answer ≡ ending_of done (write_failed w) → true ≡ not unknown → PutsShare contents a text (call_end done) w
-    → Shows contents a (if unknown then None else Some text) answer w
-presented_shows contents a w text true done answer fine is known share = cc
-presented_shows contents a w text false done answer fine is known share = shows_ended contents a w text done answer fine is share
+-- the text where the first is live
+pub live_first_shows : {W : Type 0} (contents : W → Option (List ℕ)) (a w : Writing W) (day : ℕ) (pledges : ℕ → Option PledgeValue) (r : Receipt) (others : List (Option PledgeValue)) (brief : BriefFields) (done : Result (Unit {0}) KeepError) (answer : Result (Unit {0}) ViewFault)
+    → write_failed a ≡ false → answer ≡ ending_of done (write_failed w) → Some brief ≡ option_map brief_of (live_at pledges r)
+    → ((p : PledgeValue) → pledges r.number ≡ Some p → brief ≡ brief_of p → PutsShare contents a (statement_text day p ++ further_texts day others) (call_end done) w)
+    → Shows contents a (shown_of day (live_at pledges r ∷ others)) answer w
+live_first_shows contents a w day pledges r others brief done answer fine is live share =
+    elim (pledges r.number) as (λ (o : Option PledgeValue). pledges r.number ≡ o → Some brief ≡ option_map brief_of (only_live r.secret o) → Shows contents a (shown_of day (only_live r.secret o ∷ others)) answer w) [
+      | None ↦ λ at said. cc
+      | Some p ↦ λ at said.
+          elim (is_live r.secret p) as (λ (b : Bool). Some brief ≡ option_map brief_of (if b then Some p else None) → Shows contents a (shown_of day ((if b then Some p else None) ∷ others)) answer w) [
+            | true ↦ λ e. shows_ended contents a w (statement_text day p ++ further_texts day others) done answer fine is (share p at (some_same e))
+            | false ↦ λ e. cc
+          ] said
+    ] refl live
+
+-- the text where the first is not live, and another is
+pub dead_first_shows : {W : Type 0} (contents : W → Option (List ℕ)) (a b w : Writing W) (day : ℕ) (others : List (Option PledgeValue)) (unknown : Bool) (done : Result (Unit {0}) KeepError) (answer : Result (Unit {0}) ViewFault)
+    → write_failed a ≡ false → answer ≡ ending_of done (write_failed w) → true ≡ not unknown
+    → Puts contents a (codes "Unknown receipt\n") b → PutsShare contents b (further_texts day others) (call_end done) w
+    → Shows contents a (if unknown then None else Some (presented_text day (None ∷ others))) answer w
+dead_first_shows contents a b w day others true done answer fine is known line share = cc
+dead_first_shows contents a b w day others false done answer fine is known line share =
+    shows_ended contents a w (presented_text day (None ∷ others)) done answer fine is
+    (share_then contents a b w (codes "Unknown receipt\n") (further_texts day others) (call_end done) (share_puts contents a b (codes "Unknown receipt\n") line) share)
+
+-- the text where the first is not live, told of the first
+pub dead_first : {W : Type 0} (contents : W → Option (List ℕ)) (a w : Writing W) (day : ℕ) (p : Option PledgeValue) (others : List (Option PledgeValue)) (answer : Result (Unit {0}) ViewFault)
+    → None ≡ option_map brief_of p → Shows contents a (shown_of day (None ∷ others)) answer w → Shows contents a (shown_of day (p ∷ others)) answer w
+dead_first contents a w day p others answer is shows =
+    subst (λ (o : Option PledgeValue). Shows contents a (shown_of day (o ∷ others)) answer w) (sym (none_of p is)) shows
+
+-- what was said of the first and the rest is said of all
+pub shows_all : {W : Type 0} (contents : W → Option (List ℕ)) (a w : Writing W) (day : ℕ) (f : Receipt → Option PledgeValue) (receipts : List Receipt) (x : Receipt) (answer : Result (Unit {0}) ViewFault) → 1 ≤ length receipts → x ≡ get_or receipts 0 x
+    → Shows contents a (shown_of day (f x ∷ map f (rest_of receipts))) answer w
+    → Shows contents a (shown_of day (map f receipts)) answer w
+shows_all contents a w day f receipts x answer some at shows =
+    subst (λ (ps : List (Option PledgeValue)). Shows contents a (shown_of day ps) answer w) (first_and_rest f receipts x some at) shows
 
 pub further_goes_on : {W : Type 0} (contents : W → Option (List ℕ)) (a b c w : Writing W) (day : ℕ) (f : Receipt → Option PledgeValue) (receipts : List Receipt) (i : ℕ) (x : Receipt) → i < length receipts → x ≡ get_or receipts i x
     → PutsShare contents a (further_texts day (map f (take i receipts))) Whole b → Puts contents b (codes "\n") c → PutsShare contents c (shown_text day (f x)) Whole w

@@ -44,10 +44,13 @@ live_pledges h book receipts = map (live_at (pledge_in (get h.books book))) rece
 abbrev pub statement_of : Host → ℕ → ℕ → ℕ → Option (List ℕ)
 statement_of h book number day = option_map (statement_text day) (pledge_at h book number)
 
+-- what is shown for the pledges of receipts, if one of them is live
+abbrev pub shown_of : ℕ → List (Option PledgeValue) → Option (List ℕ)
+shown_of day pledges = if are_unknown pledges then None else Some (presented_text day pledges)
+
 -- what is shown for receipts, if one of them is live
 abbrev pub presentation_of : Host → ℕ → List Receipt → ℕ → Option (List ℕ)
-presentation_of h book receipts day =
-    if are_unknown (live_pledges h book receipts) then None else Some (presented_text day (live_pledges h book receipts))
+presentation_of h book receipts day = shown_of day (live_pledges h book receipts)
 
 -- the text went out, or why not all of it. A refusal writes nothing, and comes just where there is nothing to show;
 -- where the writer failed, or the keeper wanted memory or failed, a front of the text went out

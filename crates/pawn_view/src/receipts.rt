@@ -1,20 +1,23 @@
 //! The statements of the receipts that a bearer presents.
-ghost use Rattle.std.specs.Prelude.{◌≡◌, false, true, not, option_map, IfOk, IsErrOf, [], ◌∷◌};
+ghost use Rattle.std.specs.Prelude.{◌≡◌, ◌++◌, ◌∷◌, false, true, not, option_map, Some, None, IfOk, IsErrOf};
 ghost use Rattle.std.specs.FinMap.{get};
+ghost use Rattle.pawn_pledge.specs.Pledge.{PledgeValue};
 ghost use Rattle.pawn_pledge.specs.Brief.{brief_of};
 ghost use Rattle.pawn_book.specs.BookStep.{pledge_in, live_at, are_unknown};
 ghost use Rattle.pawn_book.specs.Sound.{IsSound};
 ghost use Rattle.pawn_book.specs.Keeping.{Reads, IsSteady};
 ghost use Rattle.pawn_book.specs.Visits.{call_end};
 ghost use Rattle.pawn_view.specs.Ends.{Puts, write_failed};
-ghost use Rattle.pawn_view.specs.Text.{shown_text, further_texts, presented_text};
-ghost use Rattle.pawn_view.specs.Shown.{PutsShare, Shows, IsQuietView, live_pledges, presentation_of};
+ghost use Rattle.pawn_view.specs.Text.{statement_text, shown_text, further_texts};
+ghost use Rattle.pawn_view.specs.Shown.{PutsShare, Shows, IsQuietView, pledge_at, live_pledges, shown_of, presentation_of};
 
 use crate::fault::{ViewFault, view_fault};
 use crate::statements::{ending, put_statement};
 use crate::writing::{Writing, put};
 use pawn_book::{Brief, Day, Keep, KeepError, Number, Receipt};
 use std::io::Write;
+
+const UNKNOWN: &[u8] = b"Unknown receipt\n";
 
 // The pledge of a receipt, if the receipt is live.
 fn live_brief<K: Keep>(
@@ -61,7 +64,7 @@ fn put_shown<K: Keep, W: Write>(
     match live_brief(keep, book, receipt) {
         Ok(Some(brief)) => put_statement(keep, book, receipt.number, &brief, day, writer),
         Ok(None) => {
-            put(writer, b"Unknown receipt\n");
+            put(writer, UNKNOWN);
             Ok(())
         }
         Err(error) => Err(error),
@@ -89,24 +92,47 @@ fn put_further<K: Keep, W: Write>(
     Ok(())
 }
 
-// Puts what is shown for these receipts, a blank line between two.
-fn put_presented<K: Keep, W: Write>(
+// Puts the statement of the pledge that this brief is of, and then what is shown for these receipts.
+fn put_from<K: Keep, W: Write>(
+    keep: &mut K,
+    book: Number,
+    number: Number,
+    brief: &Brief,
+    receipts: &[Receipt],
+    day: Day,
+    writer: &mut Writing<W>,
+) -> Result<(), KeepError>
+    ensures shares { Reads K.keeping keep.old keep.new (λ h. IsSound h → (p : PledgeValue) → pledge_at h book number ≡ Some p → brief.now ≡ brief_of p
+        → PutsShare W.contents writer.old (statement_text day p ++ further_texts day (live_pledges h book receipts.now)) (call_end result) writer.new) }
+    ensures steady { IsSteady K.keeping keep.old result }
+{
+    match put_statement(keep, book, number, brief, day, writer) {
+        Ok(()) => put_further(keep, book, receipts, day, writer),
+        Err(error) => Err(error),
+    }
+}
+
+// Writes the line of a receipt that is not live, and what is shown for these receipts, if one of them is live.
+fn show_others<K: Keep, W: Write>(
     keep: &mut K,
     book: Number,
     receipts: &[Receipt],
     day: Day,
     writer: &mut Writing<W>,
-) -> Result<(), KeepError>
-    ensures shares { Reads K.keeping keep.old keep.new (λ h. IsSound h → PutsShare W.contents writer.old (presented_text day (live_pledges h book receipts.now)) (call_end result) writer.new) }
-    ensures steady { IsSteady K.keeping keep.old result }
+) -> Result<(), ViewFault>
+    requires fine { write_failed writer.old ≡ false }
+    ensures shows { Reads K.keeping keep.old keep.new (λ h. IsSound h → Shows W.contents writer.old (shown_of day (None ∷ live_pledges h book receipts.now)) result writer.new) }
+    ensures write { IsErrOf result ViewFault.Write → write_failed writer.new ≡ true }
+    ensures steady { IsQuietView K.keeping keep.old result }
 {
-    let [first, rest @ ..] = receipts else {
-        return Ok(());
-    };
-    match put_shown(keep, book, first, day, writer) {
-        Ok(()) => put_further(keep, book, rest, day, writer),
-        Err(error) => Err(error),
+    match is_any_live(keep, book, receipts) {
+        Ok(true) => {}
+        Ok(false) => return Err(ViewFault::Unknown),
+        Err(error) => return Err(view_fault(error)),
     }
+    put(writer, UNKNOWN);
+    let done = put_further(keep, book, receipts, day, writer);
+    ending(done, writer)
 }
 
 /// Writes what is shown for each of these receipts of a book, in their order and asked for on a day: the statement of
@@ -127,11 +153,15 @@ pub fn show_presented<K: Keep, W: Write>(
     ensures write { IsErrOf result ViewFault.Write → write_failed writer.new ≡ true }
     ensures steady { IsQuietView K.keeping keep.old result }
 {
-    match is_any_live(keep, book, receipts) {
-        Ok(true) => {}
-        Ok(false) => return Err(ViewFault::Unknown),
-        Err(error) => return Err(view_fault(error)),
+    let [first, rest @ ..] = receipts else {
+        return Err(ViewFault::Unknown);
+    };
+    match live_brief(keep, book, first) {
+        Ok(Some(brief)) => {
+            let done = put_from(keep, book, first.number, &brief, rest, day, writer);
+            ending(done, writer)
+        }
+        Ok(None) => show_others(keep, book, rest, day, writer),
+        Err(error) => Err(view_fault(error)),
     }
-    let done = put_presented(keep, book, receipts, day, writer);
-    ending(done, writer)
 }
