@@ -3,6 +3,7 @@
 
 mod fault;
 mod filling;
+mod finding;
 mod laying;
 mod noting;
 mod opening;

@@ -12,6 +12,7 @@ ghost use Rattle.pawn_opening.specs.Opened.{OpensAs, empty_host};
 ghost use Rattle.pawn_opening.specs.Refusing.{IsStoreFault};
 
 use crate::fault::{OpenFault, refused};
+use crate::finding::{files_at, options};
 use crate::preparing::prepare;
 use sqlite::{Connection, FileFrom, FileStore, Files, Leftover, MemStore, Options, Start};
 use sqlite_disk::Disk;
@@ -77,13 +78,17 @@ pub fn open_path<S: Start>(
     ensures mode { IfOk result (λ conn. conn.in_transaction ≡ false) }
     ensures refuses { IfErr result (λ e. IfSome e.1 (λ rest. IsCleanLeft rest → IsStoreFault e.0 ⊎ IsRefusedStore (image_at S.Start) limit e.0 rest)) }
 {
-    let mut conn = match Connection::open_from(rt, path, false, start) {
-        Ok(conn) => conn,
-        Err((error, rest)) => return Err((refused(error), rest)),
+    let files = match files_at(rt, path, start) {
+        Ok(files) => files,
+        Err(why) => return Err((why, None)),
     };
-    match prepare(&mut conn, limit) {
-        Ok(()) => Ok(conn),
-        Err(why) => Err((why, Some(Leftover::Store(conn.into_store())))),
+    let options = match options(rt) {
+        Ok(options) => options,
+        Err(why) => return Err((why, None)),
+    };
+    match open_files(rt.alloc(), files, options, limit) {
+        Ok(conn) => Ok(conn),
+        Err((why, left)) => Err((why, Some(left))),
     }
 }
 

@@ -1,26 +1,34 @@
-use Rattle.std.proofs.Common.{inr, arith}
-use Rattle.sqlite_trees.proofs.Doubt.{no_doubt}
-use Rattle.sqlite_wal.specs.Files.{image_at}
-use Rattle.sqlite.specs.Files.{file_state}
-use Rattle.sqlite.specs.State.{HasCleanDisk}
-use Rattle.pawn_opening.proofs.Found.{finds_host, finds_none, refused}
+use Rattle.std.proofs.Common.{◌≡◌, ℕ, Bool, List, [], ◌∷◌, true, false, cond, ap₂, inl, inr, subst, sym}
+use Rattle.sqlite_disk.specs.Events.{Event, replay, settled}
+use Rattle.sqlite_wal.specs.Recovery.{Image}
+use Rattle.pawn_opening.specs.FilesStand.{IsBlank, IsRefusedStore, StandsIn}
 use Rattle.pawn_opening.proofs.opening.open_path.Goals as goal
 
-pub returns-in-Ok-prepare-clause-blank : goal.returns-in-Ok-prepare-clause-blank
-returns-in-Ok-prepare-clause-blank g c clean blank =
-    let p = c.in-Ok-prepare.ensures.prepared in
-    let early : HasCleanDisk (file_state c.in-Ok.conn) = omega (arith, clean, p.survives.clean) in
-    p.new_store clean (finds_none (image_at g.S.Start) (file_state c.in-Ok.conn) (c.in-Ok.ensures.opened early) (c.in-Ok.ensures.found early) blank)
+abbrev image : List ℕ → List ℕ → Image
+image log db = record { log = log; db = db }
 
-pub returns-in-Ok-prepare-clause-stands : goal.returns-in-Ok-prepare-clause-stands
-returns-in-Ok-prepare-clause-stands g c clean h files =
-    let p = c.in-Ok-prepare.ensures.prepared in
-    let early : HasCleanDisk (file_state c.in-Ok.conn) = omega (arith, clean, p.survives.clean) in
-    p.stands clean h (finds_host (image_at g.S.Start) (file_state c.in-Ok.conn) (c.in-Ok.ensures.opened early) (c.in-Ok.ensures.found early) h files)
+abbrev seen : List ℕ → List ℕ → Bool → List Event → List ℕ
+seen log db is_log history = (replay (cond is_log log db) history).seen
 
-pub returns-in-Err-prepare-clause-refuses : goal.returns-in-Err-prepare-clause-refuses
-returns-in-Err-prepare-clause-refuses g c clean =
-    let p = c.in-Err-prepare.ensures.prepared in
-    let early : HasCleanDisk (file_state c.in-Ok.conn) =
-    let dirt = no_doubt _ clean in let up = p.survives.clean in let past = c.into_store.ensures.quiet.clean in omega (arith, dirt, up, past) in
-    inr (refused (image_at g.S.Start) (file_state c.in-Ok.conn) (c.in-Ok.ensures.opened early) (c.in-Ok.ensures.found early) c.prepare.new.conn c.into_store.result c.args.limit c.in-Err-prepare.why p c.into_store.ensures.quiet clean)
+-- a log and a database file to which nothing was done yet hold what they began with
+untouched : (log db : List ℕ) {first second : Bool} {of_first of_second : List Event} {key other : ℕ} → (first ≡ true) × (of_first ≡ settled key ∷ []) → (second ≡ false) × (of_second ≡ settled other ∷ [])
+    → image (seen log db first of_first) (seen log db second of_second) ≡ image log db
+untouched log db a b = ap₂ image (ap₂ (seen log db) a.0 a.1) (ap₂ (seen log db) b.0 b.1)
+
+pub returns-in-Ok-open_files-clause-blank : goal.returns-in-Ok-open_files-clause-blank
+returns-in-Ok-open_files-clause-blank g c clean blank =
+    let fresh = c.in-Ok.ensures.fresh in
+    c.in-Ok-open_files.ensures.blank clean (subst IsBlank (sym (untouched g.S.Start.log g.S.Start.db fresh.0 fresh.1)) blank)
+
+pub returns-in-Ok-open_files-clause-stands : goal.returns-in-Ok-open_files-clause-stands
+returns-in-Ok-open_files-clause-stands g c clean h stands =
+    let fresh = c.in-Ok.ensures.fresh in
+    c.in-Ok-open_files.ensures.stands clean h (subst (λ i. StandsIn i h) (sym (untouched g.S.Start.log g.S.Start.db fresh.0 fresh.1)) stands)
+
+pub returns-in-Err-open_files-clause-refuses : goal.returns-in-Err-open_files-clause-refuses
+returns-in-Err-open_files-clause-refuses g c clean =
+    let fresh = c.in-Ok.ensures.fresh in
+    elim (c.in-Err-open_files.ensures.refuses clean) [
+      | inl fault ↦ inl fault.0
+      | inr refused ↦ inr (subst (λ i. IsRefusedStore i c.args.limit c.in-Err-open_files.why c.in-Err-open_files.left) (untouched g.S.Start.log g.S.Start.db fresh.0 fresh.1) refused)
+    ]
