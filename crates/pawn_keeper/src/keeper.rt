@@ -208,7 +208,7 @@ impl<S: Alter> Keep for TableKeep<S> {
     }
 
     fn save(&mut self, change: &Change) -> Result<(), SaveError> {
-        save(&mut self.conn, self.alloc, change)
+        save(&mut self.conn, change)
     }
 }
 

@@ -12,6 +12,7 @@ pub mod PledgeWrites
 pub mod Puts
 pub mod RowPuts
 pub mod Saved
+pub mod StoredReads
 pub mod Tailing
 pub mod WholePuts
 pub mod WriteTexts

@@ -1,4 +1,5 @@
 pub mod Counted
 pub mod Importing
 pub mod Putting
+pub mod Stored
 pub mod Writing

@@ -6,11 +6,11 @@ ghost use Rattle.pawn_saving.specs.Counted.{WritesRows};
 
 use crate::books::{put_book, put_terms, set_terms_count};
 use crate::cells::small;
+use crate::lengths::lengths_of;
 use crate::renewing::{add_pledge, renew_pledge};
+use crate::stored::stored_within;
 use pawn_book::{KeepError, NewBook, Number, Pledge, Terms};
-use pawn_tables::pledge_of;
 use sqlite::{Alter, Transaction};
-use std::alloc::Global;
 
 /// Writes a new book, and tells how many rows that are counted it adds.
 #[tactic(auto, using(crate::proofs::Lent::lent_then))]
@@ -49,7 +49,6 @@ pub(crate) fn add_terms<S: Alter>(
 #[tactic(auto, using(crate::proofs::Lent::lent_then))]
 pub(crate) fn put_pledge<S: Alter>(
     tx: &mut Transaction<'_, S>,
-    alloc: Global,
     book: Number,
     number: Number,
     pledge: &Pledge,
@@ -58,9 +57,10 @@ pub(crate) fn put_pledge<S: Alter>(
     ensures wrote { WritesRows (state S.Store tx.old.conn.now) (state S.Store tx.new.conn.now) (PutPledge book number pledge.now) result }
     ensures lent { IsLent (state S.Store tx.old.conn.now) (state S.Store tx.new.conn.now) (is_ok result) }
 {
-    let stood = pledge_of(tx, alloc, book.get(), number)?;
-    match stood {
-        Some(before) => renew_pledge(tx, book, number, &before, pledge),
-        None => add_pledge(tx, book, number, pledge),
+    let lengths = lengths_of(pledge)?;
+    let stored = stored_within(tx, book.get(), number.get(), lengths)?;
+    if stored.lengths.secrets == 0 {
+        return add_pledge(tx, book, number, pledge);
     }
+    renew_pledge(tx, book, number, stored, pledge)
 }

@@ -1,4 +1,5 @@
-ghost use Rattle.std.specs.Prelude.{◌≡◌, IfOk, length};
+ghost use Rattle.std.specs.Prelude.{◌≡◌, Some, IfOk};
+ghost use Rattle.pawn_saving.specs.Stored.{AreLengths};
 
 use crate::cells::REFUSED;
 use pawn_book::{KeepError, Pledge};
@@ -23,9 +24,7 @@ pub(crate) fn short(length: usize) -> Result<u32, KeepError>
 
 /// How long the lists of this pledge are.
 pub(crate) fn lengths_of(pledge: &Pledge) -> Result<Lengths, KeepError>
-    ensures entries { IfOk result (λ l. l.entries ≡ length pledge.now.entries) }
-    ensures secrets { IfOk result (λ l. l.secrets ≡ length pledge.now.secrets) }
-    ensures extensions { IfOk result (λ l. l.extensions ≡ length pledge.now.extensions) }
+    ensures value { IfOk result (λ l. AreLengths l (Some pledge.now)) }
 {
     let entries = short(pledge.entries().len())?;
     let secrets = short(pledge.secrets().len())?;

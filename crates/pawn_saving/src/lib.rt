@@ -12,6 +12,7 @@ mod pledges;
 mod putting;
 mod renewing;
 mod saving;
+mod stored;
 mod tails;
 mod writing;
 

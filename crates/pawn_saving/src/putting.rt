@@ -1,4 +1,4 @@
-ghost use Rattle.std.specs.Prelude.{◌≡◌, None, Option, IfOk, drop, is_ok};
+ghost use Rattle.std.specs.Prelude.{◌≡◌, ◌+◌, if◌then◌else◌, None, Option, IfOk, drop, is_ok};
 ghost use Rattle.sqlite.specs.Held.{state};
 ghost use Rattle.pawn_pledge.specs.declared.record.Booking.{Booking};
 ghost use Rattle.pawn_book.specs.HostStep.{pledge_rows};
@@ -9,7 +9,7 @@ ghost use Rattle.pawn_saving.specs.Putting.{AddRows, AddSides, AddsPledge, PutsF
 ghost use Rattle.pawn_saving.specs.Writing.{IsCarried};
 
 use crate::cells::small;
-use crate::lengths::{Lengths, short};
+use crate::lengths::{Lengths, lengths_of};
 use crate::pledges::{put_booking, put_row, put_totals};
 use crate::tails::{next_place, put_entries, put_extensions, put_secrets};
 use pawn_book::{Booking, KeepError, Pledge};
@@ -25,17 +25,20 @@ fn past<T>(items: &[T], so_many: u32) -> &[T]
     }
 }
 
+/// How many rows are counted of a pledge with lists so long.
+pub(crate) fn rows_within(lengths: Lengths, is_booked: bool) -> Result<u32, KeepError>
+    ensures value { IfOk result (λ n. n ≡ 1 + lengths.entries + lengths.secrets + (if is_booked then 1 else 0)) }
+{
+    let bookings = if is_booked { 1 } else { 0 };
+    small(1 + lengths.entries as u64 + lengths.secrets as u64 + bookings)
+}
+
 /// How many rows of a pledge are counted.
 pub(crate) fn rows_of(pledge: &Pledge) -> Result<u32, KeepError>
     ensures value { IfOk result (λ n. n ≡ pledge_rows pledge.now) }
 {
-    let entries = short(pledge.entries().len())?;
-    let secrets = short(pledge.secrets().len())?;
-    let bookings = match pledge.standing().booking {
-        Some(_) => 1,
-        None => 0,
-    };
-    small(1 + entries as u64 + secrets as u64 + bookings)
+    let lengths = lengths_of(pledge)?;
+    rows_within(lengths, pledge.standing().booking.is_some())
 }
 
 /// Puts the rows of a pledge's lists past these lengths.

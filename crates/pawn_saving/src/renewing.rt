@@ -8,12 +8,13 @@ ghost use Rattle.pawn_book.specs.HostStep.{pledge_rows};
 ghost use Rattle.one_table.specs.Lending.{IsLent};
 ghost use Rattle.pawn_saving.specs.Counted.{WritesWhere};
 ghost use Rattle.pawn_saving.specs.Putting.{RenewSides};
+ghost use Rattle.pawn_saving.specs.Stored.{IsStored};
 
 use crate::books::set_pledges_count;
 use crate::cells::REFUSED;
-use crate::lengths::lengths_of;
 use crate::pledges::{set_row, set_totals};
-use crate::putting::{put_any_booking, put_lists, put_whole, rows_of};
+use crate::putting::{put_any_booking, put_lists, put_whole, rows_of, rows_within};
+use crate::stored::Stored;
 use pawn_book::{KeepError, Number, Pledge};
 use sqlite::{Alter, Transaction};
 
@@ -53,14 +54,14 @@ fn set_sides<S: Alter>(
 }
 
 /// How many rows that are counted a pledge has more than before. It keeps a booking that it had.
-fn rows_added(before: &Pledge, pledge: &Pledge) -> Result<u32, KeepError>
-    ensures value { IfOk result (λ added. pledge_rows pledge.now ≡ pledge_rows before.now + added) }
-    ensures booked { IfOk result (λ added. pledge.now.standing.booking ≡ None → before.now.standing.booking ≡ None) }
+fn rows_added(stored: Stored, pledge: &Pledge) -> Result<u32, KeepError>
+    ensures value { IfOk result (λ added. (before : PledgeValue) → IsStored stored (Some before) → pledge_rows pledge.now ≡ pledge_rows before + added) }
+    ensures booked { IfOk result (λ added. (before : PledgeValue) → IsStored stored (Some before) → pledge.now.standing.booking ≡ None → before.standing.booking ≡ None) }
 {
-    if pledge.standing().booking.is_none() && before.standing().booking.is_some() {
+    if stored.is_booked && pledge.standing().booking.is_none() {
         return Err(REFUSED);
     }
-    let stood = rows_of(before)?;
+    let stood = rows_within(stored.lengths, stored.is_booked)?;
     match rows_of(pledge)?.checked_sub(stood) {
         Some(added) => Ok(added),
         None => Err(REFUSED),
@@ -73,16 +74,16 @@ pub(crate) fn renew_pledge<S: Alter>(
     tx: &mut Transaction<'_, S>,
     book: Number,
     number: Number,
-    before: &Pledge,
+    stored: Stored,
     pledge: &Pledge,
 ) -> Result<u32, KeepError>
     ensures same_reference { tx.new.conn.ghost_name ≡ tx.old.conn.ghost_name }
-    ensures wrote { WritesWhere (state S.Store tx.old.conn.now) (state S.Store tx.new.conn.now) (λ h. pledge_in (get h.books book) number ≡ Some before.now) (PutPledge book number pledge.now) result }
+    ensures wrote { (before : PledgeValue) → IsStored stored (Some before)
+        → WritesWhere (state S.Store tx.old.conn.now) (state S.Store tx.new.conn.now) (λ h. pledge_in (get h.books book) number ≡ Some before) (PutPledge book number pledge.now) result }
     ensures lent { IsLent (state S.Store tx.old.conn.now) (state S.Store tx.new.conn.now) (is_ok result) }
 {
-    let lengths = lengths_of(before)?;
-    let added = rows_added(before, pledge)?;
+    let added = rows_added(stored, pledge)?;
     set_sides(tx, book.get(), number.get(), pledge)?;
-    put_lists(tx, book.get(), number.get(), pledge, lengths)?;
+    put_lists(tx, book.get(), number.get(), pledge, stored.lengths)?;
     Ok(added)
 }

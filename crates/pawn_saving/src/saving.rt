@@ -13,7 +13,6 @@ use crate::counting::count_within;
 use crate::importing::import_book;
 use pawn_book::{Change, KeepError, SaveError, StoreFault};
 use sqlite::{Alter, Connection, Transaction};
-use std::alloc::Global;
 
 // Why a change is not saved, where its rows are within the limit.
 fn unsaved(error: KeepError) -> SaveError
@@ -26,11 +25,7 @@ fn unsaved(error: KeepError) -> SaveError
 }
 
 // Writes a change, and tells how many rows that are counted it adds.
-fn write_rows<S: Alter>(
-    tx: &mut Transaction<'_, S>,
-    alloc: Global,
-    change: &Change,
-) -> Result<u32, KeepError>
+fn write_rows<S: Alter>(tx: &mut Transaction<'_, S>, change: &Change) -> Result<u32, KeepError>
     ensures same_reference { tx.new.conn.ghost_name ≡ tx.old.conn.ghost_name }
     ensures wrote { WritesRows (state S.Store tx.old.conn.now) (state S.Store tx.new.conn.now) change.now result }
     ensures lent { IsLent (state S.Store tx.old.conn.now) (state S.Store tx.new.conn.now) (is_ok result) }
@@ -46,7 +41,7 @@ fn write_rows<S: Alter>(
             book,
             number,
             pledge,
-        } => put_pledge(tx, alloc, *book, *number, pledge),
+        } => put_pledge(tx, *book, *number, pledge),
         Change::ImportBook { book, key, rows } => import_book(tx, *book, *key, rows),
     }
 }
@@ -55,14 +50,13 @@ fn write_rows<S: Alter>(
 #[tactic(auto, using(crate::proofs::Lent::lent_then))]
 pub(crate) fn write_change<S: Alter>(
     tx: &mut Transaction<'_, S>,
-    alloc: Global,
     change: &Change,
 ) -> Result<(), SaveError>
     ensures same_reference { tx.new.conn.ghost_name ≡ tx.old.conn.ghost_name }
     ensures wrote { WritesChange (state S.Store tx.old.conn.now) (state S.Store tx.new.conn.now) change.now result }
     ensures lent { IsLent (state S.Store tx.old.conn.now) (state S.Store tx.new.conn.now) (is_ok result) }
 {
-    let added = match write_rows(tx, alloc, change) {
+    let added = match write_rows(tx, change) {
         Ok(added) => added,
         Err(error) => return Err(unsaved(error)),
     };
@@ -74,11 +68,7 @@ pub(crate) fn write_change<S: Alter>(
 }
 
 /// Makes a change, in one transaction, unless the rows would be above the limit.
-pub fn save<S: Alter>(
-    conn: &mut Connection<S>,
-    alloc: Global,
-    change: &Change,
-) -> Result<(), SaveError>
+pub fn save<S: Alter>(conn: &mut Connection<S>, change: &Change) -> Result<(), SaveError>
     requires can_save { (keeping_by (λ c. state S.Store c)).serves conn.old → Of (keeping_by (λ c. state S.Store c)) conn.old conn.old (λ h. CanSave h change.now) }
     ensures ended { conn.old.in_transaction ≡ false → conn.new.in_transaction ≡ false }
     ensures saves { Saves (keeping_by (λ c. state S.Store c)) conn.old conn.new change.now result }
@@ -87,7 +77,7 @@ pub fn save<S: Alter>(
         return Err(SaveError::Store(StoreFault::Database));
     }
     let mut tx = conn.transaction();
-    match write_change(&mut tx, alloc, change) {
+    match write_change(&mut tx, change) {
         Ok(()) => match tx.commit() {
             Ok(()) => Ok(()),
             Err(error) => Err(unsaved(refused(error))),

@@ -99,7 +99,7 @@ pub(crate) fn extensions_in<S: Alter>(
 }
 
 /// The booking of a pledge.
-pub(crate) fn booking_in<S: Alter>(
+pub fn booking_in<S: Alter>(
     tx: &mut Transaction<'_, S>,
     book: u32,
     number: u32,

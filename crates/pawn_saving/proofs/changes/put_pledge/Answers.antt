@@ -1,21 +1,29 @@
-use Rattle.std.proofs.Common.{◌∙◌, sym, subst, is_ok}
+use Rattle.std.proofs.Common.{rules, sym, subst, is_ok}
 use Rattle.sqlite.specs.Held.{state}
 use Rattle.pawn_tables.specs.StandsFor.{StandsFor}
 use Rattle.pawn_saving.proofs.Lent.{clean_before}
+use Rattle.pawn_saving.proofs.StoredReads.{can_within, none_stored, some_stored}
 use Rattle.pawn_saving.proofs.changes.put_pledge.Goals as goal
 
-pub returns-in-Some-clause-wrote : goal.returns-in-Some-clause-wrote
-returns-in-Some-clause-wrote g c clean within h sound can st =
-    let mid = state g.S.Store c.pledge_of.new.tx.conn.now in
-    let new = state g.S.Store c.renew_pledge.new.tx.conn.now in
-    let clean1 = clean_before mid new (is_ok c.renew_pledge.result) c.renew_pledge.ensures.lent clean in
-    let found = rw c.get.ensures.value at (c.in_ok-stood.ensures.finds clean1 within h (λ now. st)) in
-    c.renew_pledge.ensures.wrote clean found.1.inside h sound can (subst (λ d. StandsFor d h) (sym found.1.now_is) st) (sym found.0 ∙ c.in-Some.is)
-
-pub returns-in-None-clause-wrote : goal.returns-in-None-clause-wrote
-returns-in-None-clause-wrote g c clean within h sound can st =
-    let mid = state g.S.Store c.pledge_of.new.tx.conn.now in
+pub returns-then-stored-eq0-clause-wrote : goal.returns-then-stored-eq0-clause-wrote
+returns-then-stored-eq0-clause-wrote g c clean within h sound can st =
+    let mid = state g.S.Store c.stored_within.new.tx.conn.now in
     let new = state g.S.Store c.add_pledge.new.tx.conn.now in
+    let b = c.args.book in
+    let n = c.args.number in
     let clean1 = clean_before mid new (is_ok c.add_pledge.result) c.add_pledge.ensures.lent clean in
-    let found = rw c.get.ensures.value at (c.in_ok-stood.ensures.finds clean1 within h (λ now. st)) in
-    c.add_pledge.ensures.wrote clean found.1.inside h sound can (subst (λ d. StandsFor d h) (sym found.1.now_is) st) (sym found.0 ∙ c.in-None.is)
+    let read = rw (c.get.ensures.value, c.get-2.ensures.value) at (c.in_ok-stored.ensures.reads clean1 within h st) in
+    let few = can_within c.in_ok-lengths.lengths c.args.pledge.now c.in_ok-lengths.ensures.value h b n can in
+    c.add_pledge.ensures.wrote clean read.1.inside h sound can (subst (λ d. StandsFor d h) (sym read.1.now_is) st) (none_stored h b n c.in_ok-stored.stored sound (read.0 few) (search rules))
+
+pub returns-clause-wrote : goal.returns-clause-wrote
+returns-clause-wrote g c clean within h sound can st =
+    let mid = state g.S.Store c.stored_within.new.tx.conn.now in
+    let new = state g.S.Store c.renew_pledge.new.tx.conn.now in
+    let b = c.args.book in
+    let n = c.args.number in
+    let clean1 = clean_before mid new (is_ok c.renew_pledge.result) c.renew_pledge.ensures.lent clean in
+    let read = rw (c.get.ensures.value, c.get-2.ensures.value) at (c.in_ok-stored.ensures.reads clean1 within h st) in
+    let few = can_within c.in_ok-lengths.lengths c.args.pledge.now c.in_ok-lengths.ensures.value h b n can in
+    let one = some_stored h b n c.in_ok-stored.stored (read.0 few) (search rules) in
+    c.renew_pledge.ensures.wrote one.0 one.2 clean read.1.inside h sound can (subst (λ d. StandsFor d h) (sym read.1.now_is) st) one.1

@@ -1,8 +1,8 @@
-use Rattle.std.proofs.Common.{rules, ◌≡◌, ◌≤◌, ◌∙◌, length, refl, sym, ap, subst, false, List, Result, Err, is_ok, ℕ}
+use Rattle.std.proofs.Common.{rules, ◌≡◌, ◌≤◌, ◌∙◌, length, refl, sym, subst, false, Result, Err, is_ok, ℕ}
 use Rattle.sqlite.specs.Held.{state}
 use Rattle.pawn_book.specs.declared.fault.KeepError.{KeepError}
 use Rattle.pawn_saving.specs.Writing.{IsCarried}
-use Rattle.pawn_saving.proofs.Tailing.{carried_failed, carried_then}
+use Rattle.pawn_saving.proofs.Tailing.{carried_then}
 use Rattle.pawn_saving.proofs.ImportWrites.{all_pledges_put, no_pledge_put, one_pledge_put}
 use Rattle.pawn_saving.proofs.importing.put_pledges.Goals as goal
 

@@ -11,14 +11,13 @@ use Rattle.pawn_saving.proofs.PledgeWrites.{continues_it, old_sides, others, ren
 use Rattle.pawn_saving.proofs.renewing.renew_pledge.Goals as goal
 
 pub returns-clause-wrote : goal.returns-clause-wrote
-returns-clause-wrote g c clean within h sound can st standing =
+returns-clause-wrote g c old stored clean within h sound can st standing =
     let mid = state g.S.Store c.set_sides.new.tx.conn.now in
     let new = state g.S.Store c.put_lists.new.tx.conn.now in
     let b = c.args.book in
     let n = c.args.number in
-    let old = c.args.before.now in
     let p = c.args.pledge.now in
-    let l = c.in_ok-lengths.lengths in
+    let l = c.args.stored.lengths in
     let k = can.follows.0 in
     let is = can.follows.1 in
     let some : stood h b n k p is ≡ Some old = ap (λ o. pledge_in o n) (sym is) ∙ standing in
@@ -27,7 +26,7 @@ returns-clause-wrote g c clean within h sound can st standing =
     let clean1 = past mid new true c.in_ok-put_lists.ensures.carried clean in
     let within1 = c.in_ok-set_sides.ensures.lent.inside clean1 within refl in
     let rest = others h b n k old p is some in
-    let set = rw (c.get.ensures.value, c.get-2.ensures.value) at (c.in_ok-set_sides.ensures.wrote old (sym it.agreement) c.in_ok-added.ensures.booked clean1 within (listed_as h counted) rest) in
+    let set = rw (c.get.ensures.value, c.get-2.ensures.value) at (c.in_ok-set_sides.ensures.wrote old (sym it.agreement) (c.in_ok-added.ensures.booked old stored) clean1 within (listed_as h counted) rest) in
     let one = set (old_sides h b n k old p is some counted st.ordered) (as_lists _ h st) in
     let two = rw (c.get-3.ensures.value, c.get-4.ensures.value) at (c.in_ok-put_lists.ensures.wrote clean within1 (with_sides b n p rest (listed_as h counted))) in
-    renewed_written h b n k old p is some counted st.ordered l it c.in_ok-lengths.ensures.entries c.in_ok-lengths.ensures.secrets c.in_ok-lengths.ensures.extensions new.now c.in_ok-added.added refl c.in_ok-added.ensures.value (two one)
+    renewed_written h b n k old p is some counted st.ordered l it stored.lengths.entries stored.lengths.secrets stored.lengths.extensions new.now c.in_ok-added.added refl (c.in_ok-added.ensures.value old stored) (two one)

@@ -1,7 +1,5 @@
-use Rattle.std.proofs.Common.{rules, ◌≡◌, Ok, Err, refl, subst}
+use Rattle.std.proofs.Common.{rules, Ok, Err, refl}
 use Rattle.sqlite.specs.Held.{state}
-use Rattle.pawn_book.specs.Keeping.{Saves}
-use Rattle.pawn_tables.specs.Keeps.{keeping_by}
 use Rattle.pawn_tables.proofs.OneHost.{tables_stand_for_one_host}
 use Rattle.pawn_saving.proofs.Saved.{given_back, IsBegun, saves_committed, saves_refused}
 use Rattle.pawn_saving.proofs.saving.save.Goals as goal

@@ -1,0 +1,152 @@
+-- How much of a pledge stands, as it is looked up.
+use Rattle.std.proofs.Common.{◌≡◌, ◌⊎◌, inl, inr, ◌↔◌, ℕ, zero, suc, ◌+◌, ◌-◌, ◌≤◌, ◌<◌, List, [], ◌∷◌, Option, Some, None, Bool, true, false, length, IsTrue, refl, sym, ap, subst, ◌∙◌, arith}
+use Rattle.std.specs.Prelude.{◌++◌, if◌then◌else◌, is_some, slice_get}
+use Rattle.std.proofs.Math.Nat.{eq-or-lt_of_le}
+use Rattle.sqlite.specs.State.{State, HasCleanDisk}
+use Rattle.std.specs.FinMap.{get}
+use Rattle.pawn_pledge.specs.declared.record.Booking.{Booking}
+use Rattle.pawn_pledge.specs.declared.record.Issued.{Issued}
+use Rattle.pawn_pledge.specs.Growth.{Grows}
+use Rattle.pawn_pledge.specs.Pledge.{PledgeValue}
+use Rattle.pawn_pledge.specs.Replayable.{AreIssued}
+use Rattle.pawn_book.specs.BookStep.{BookValue, pledge_from, pledge_in}
+use Rattle.pawn_book.specs.declared.change.Change.TheVariants.{PutPledge}
+use Rattle.pawn_book.specs.Changes.{CanSave, Continues}
+use Rattle.pawn_book.specs.HostStep.{Host, booking_rows, pledge_rows}
+use Rattle.pawn_book.specs.Sound.{IsSound}
+use Rattle.pawn_book.proofs.Sounds.{standing_at}
+use Rattle.one_table.specs.Lending.{IsLent, Rests}
+use Rattle.pawn_tables.specs.Places.{at_place}
+use Rattle.pawn_tables.specs.StandsFor.{StandsFor}
+use Rattle.pawn_saving.specs.declared.lengths.Lengths.{Lengths}
+use Rattle.pawn_saving.specs.declared.stored.Stored.{Stored}
+use Rattle.pawn_saving.specs.Stored.{AreLengths, IsStored, IsWithin}
+use Rattle.pawn_saving.specs.Writing.{IsCarried}
+use Rattle.pawn_saving.proofs.Lent.{clean_before, rests_then}
+use Rattle.pawn_saving.proofs.PledgeWrites.{continues_it}
+use Rattle.pawn_saving.proofs.Tailing.{carried_none, carried_then}
+
+-- ---- an element stands at each place up to the length of a list
+
+within_length : {A : Type 0} (xs : List A) (i : ℕ) → IsTrue (is_some (slice_get xs i)) ↔ (suc i ≤ length xs)
+within_length [] i = ((λ is. absurd (let e = is in cc)), (λ le. absurd (omega (arith, le))))
+within_length (x ∷ xs) zero = ((λ is. omega arith), (λ le. refl))
+within_length (x ∷ xs) (suc i) = ((λ is. let le = (within_length xs i).0 is in omega (arith, le)), (λ le. (within_length xs i).1 (omega (arith, le))))
+
+pub tells_place : {A : Type 0} (xs : List A) (place : ℕ) (x : Option A) → x ≡ at_place xs place → 1 ≤ place → IsTrue (is_some x) ↔ (place ≤ length xs)
+tells_place xs zero x is low = absurd (omega (arith, low))
+tells_place xs (suc i) x is low = subst (λ o. IsTrue (is_some o) ↔ (suc i ≤ length xs)) (sym is) (within_length xs i)
+
+-- ---- the places of a list, from above
+
+lower : (n at : ℕ) → n ≤ at → (at ≤ n → false ≡ true) → 1 ≤ at → n ≤ at - 1
+lower n at le not low = go (eq-or-lt_of_le le)
+  where
+    go : (n ≡ at) ⊎ (n < at) → n ≤ at - 1
+    go (inl same) = absurd (let e = not (omega (arith, same)) in cc)
+    go (inr less) = omega (arith, less, low)
+
+-- nothing stands above a place, and the tables rest
+pub record IsSoFar (old new : State) (long : Host → ℕ) (most at : ℕ) : Type 0 where
+  pub carried : IsCarried old new true
+  pub reads : HasCleanDisk new → IsTrue old.in_transaction → (h : Host) → StandsFor old.now h → (long h ≤ most → long h ≤ at) × Rests old new
+
+pub none_seen : (s : State) (long : Host → ℕ) (most : ℕ) → IsSoFar s s long most most
+none_seen s long most = record { carried = carried_none s; reads = λ clean within h st. ((λ le. le), record { now_is = refl; inside = within }) }
+
+module _ (a b c : State) (long : Host → ℕ) (most at : ℕ) (so_far : IsSoFar a b long most at) (lent : IsLent b c true) (low : 1 ≤ at) where
+  seen : (stands : Bool) → HasCleanDisk c → IsTrue a.in_transaction → (h : Host) → StandsFor a.now h
+      → (HasCleanDisk c → IsTrue b.in_transaction → (h : Host) → StandsFor b.now h → (1 ≤ at → IsTrue stands ↔ (at ≤ long h)) × Rests b c)
+      → (long h ≤ most → long h ≤ at) × (IsTrue stands ↔ (at ≤ long h)) × Rests a c
+  seen stands clean within h st reads =
+      let clean1 = clean_before b c true lent clean in
+      let one = so_far.reads clean1 within h st in
+      let two = reads clean one.1.inside h (subst (λ d. StandsFor d h) (sym one.1.now_is) st) in
+      (one.0, two.0 low, rests_then a b c one.1 two.1)
+
+  pub next_seen : (HasCleanDisk c → IsTrue b.in_transaction → (h : Host) → StandsFor b.now h → (1 ≤ at → IsTrue false ↔ (at ≤ long h)) × Rests b c) → IsSoFar a c long most (at - 1)
+  next_seen reads = record {
+    carried = carried_then a b c true so_far.carried lent;
+    reads = λ clean within h st. let it = seen false clean within h st reads in ((λ le. lower (long h) at (it.0 le) it.1.1 low), it.2);
+  }
+
+  pub last_seen : (HasCleanDisk c → IsTrue b.in_transaction → (h : Host) → StandsFor b.now h → (1 ≤ at → IsTrue true ↔ (at ≤ long h)) × Rests b c)
+      → HasCleanDisk c → IsTrue a.in_transaction → (h : Host) → StandsFor a.now h → (long h ≤ most → at ≡ long h) × Rests a c
+  last_seen reads clean within h st = let it = seen true clean within h st reads in ((λ le. let few = it.0 le in let many = it.1.0 refl in omega (arith, few, many)), it.2)
+
+-- ---- a pledge that is to be put, and what stands of it
+
+pub stands_or_not : (o : Option PledgeValue) → (o ≡ None) ⊎ ((p : PledgeValue) × (o ≡ Some p))
+stands_or_not None = inl refl
+stands_or_not (Some p) = inr (p, refl)
+
+longer : {A : Type 0} (old more new : List A) → new ≡ old ++ more → length old ≤ length new
+longer [] more new is = omega arith
+longer (x ∷ xs) more [] is = absurd (let e = is in cc)
+longer (x ∷ xs) more (y ∷ ys) is = let le = longer xs more ys (let e = is in cc) in omega (arith, le)
+
+-- the lists of the pledge that the next follows are no longer
+module _ (l : Lengths) (next : PledgeValue) (are : AreLengths l (Some next)) where
+  grown_within : (old : PledgeValue) → Grows old next → IsWithin (Some old) l
+  grown_within old lists = record {
+    entries = let le = longer old.entries lists.entries.0 next.entries lists.entries.1 in let e = are.entries in omega (arith, le, e);
+    secrets = let le = longer old.secrets lists.secrets.0 next.secrets lists.secrets.1 in let e = are.secrets in omega (arith, le, e);
+    extensions = let le = longer old.extensions lists.extensions.0 next.extensions lists.extensions.1 in let e = are.extensions in omega (arith, le, e);
+  }
+
+  follows_within : (k : BookValue) (n : ℕ) → (n ≡ length k.pledges + 1) ⊎ ((old : PledgeValue) × (pledge_from 1 k.pledges n ≡ Some old) × Continues old next) → IsWithin (pledge_from 1 k.pledges n) l
+  follows_within k n follows = go (stands_or_not (pledge_from 1 k.pledges n))
+    where
+      go : (pledge_from 1 k.pledges n ≡ None) ⊎ ((old : PledgeValue) × (pledge_from 1 k.pledges n ≡ Some old)) → IsWithin (pledge_from 1 k.pledges n) l
+      go (inl none) = subst (λ o. IsWithin o l) (sym none) (record { entries = omega arith; secrets = omega arith; extensions = omega arith })
+      go (inr some) = subst (λ o. IsWithin o l) (sym some.1) (grown_within some.0 (continues_it k n some.0 next some.1 follows).lists)
+
+  pub can_within : (h : Host) (b n : ℕ) → CanSave h (PutPledge b n next) → IsWithin (pledge_in (get h.books b) n) l
+  can_within h b n can = subst (λ o. IsWithin (pledge_in o n) l) (sym can.follows.1) (follows_within can.follows.0 n can.follows.2)
+
+issued_some : (taken credit : ℕ) (is : List Issued) → AreIssued taken credit is → 1 ≤ length is
+issued_some taken credit [] issued = absurd issued
+issued_some taken credit (i ∷ is) issued = omega arith
+
+-- a pledge that stands has a secret
+pub has_secret : (h : Host) (b n : ℕ) (p : PledgeValue) → IsSound h → pledge_in (get h.books b) n ≡ Some p → 1 ≤ length p.secrets
+has_secret h b n p sound is = issued_some _ _ p.secrets (standing_at h b n p sound is).0.replayable.issued.sorts
+
+-- ---- the rows that are counted
+
+pub booking_counted : (b : Option Booking) → (if is_some b then 1 else 0) ≡ booking_rows b
+booking_counted None = refl
+booking_counted (Some b) = refl
+
+pub not_booked : (b : Option Booking) → is_some b ≡ false → b ≡ None
+not_booked None is = refl
+not_booked (Some b) is = absurd (let e = is in cc)
+
+-- those of the pledge that stands
+pub rows_stored : (s : Stored) (p : PledgeValue) (stood : ℕ) → IsStored s (Some p) → stood ≡ 1 + s.lengths.entries + s.lengths.secrets + (if s.is_booked then 1 else 0) → stood ≡ pledge_rows p
+rows_stored s p stood is sum =
+    let entries = is.lengths.entries in
+    let secrets = is.lengths.secrets in
+    let bookings = ap (λ (b : Bool). if b then 1 else 0) is.booked ∙ booking_counted p.standing.booking in
+    omega (arith, sum, entries, secrets, bookings)
+
+-- ---- whether a pledge stands
+
+-- none does where none of its secrets is there
+pub none_stored : (h : Host) (b n : ℕ) (s : Stored) → IsSound h → IsStored s (pledge_in (get h.books b) n) → s.lengths.secrets ≡ 0 → pledge_in (get h.books b) n ≡ None
+none_stored h b n s sound stored none = go (stands_or_not (pledge_in (get h.books b) n))
+  where
+    go : (pledge_in (get h.books b) n ≡ None) ⊎ ((p : PledgeValue) × (pledge_in (get h.books b) n ≡ Some p)) → pledge_in (get h.books b) n ≡ None
+    go (inl is) = is
+    go (inr is) =
+        let as_many = (subst (IsStored s) is.1 stored).lengths.secrets in
+        let low = has_secret h b n is.0 sound is.1 in
+        absurd (omega (arith, as_many, low, none))
+
+-- one does where one is
+pub some_stored : (h : Host) (b n : ℕ) (s : Stored) → IsStored s (pledge_in (get h.books b) n) → (s.lengths.secrets ≡ 0 → ⊥) → (p : PledgeValue) × (pledge_in (get h.books b) n ≡ Some p) × IsStored s (Some p)
+some_stored h b n s stored some = go (stands_or_not (pledge_in (get h.books b) n))
+  where
+    go : (pledge_in (get h.books b) n ≡ None) ⊎ ((p : PledgeValue) × (pledge_in (get h.books b) n ≡ Some p)) → (p : PledgeValue) × (pledge_in (get h.books b) n ≡ Some p) × IsStored s (Some p)
+    go (inl is) = absurd (some (subst (IsStored s) is stored).lengths.secrets)
+    go (inr is) = (is.0, is.1, subst (IsStored s) is.1 stored)

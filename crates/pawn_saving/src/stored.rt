@@ -1,0 +1,108 @@
+//! How much of a pledge stands in the tables before it is put.
+ghost use Rattle.std.specs.Prelude.{◌≡◌, ◌≤◌, ◌↔◌, IsTrue, is_ok};
+ghost use Rattle.std.specs.FinMap.{get};
+ghost use Rattle.sqlite.specs.Held.{state};
+ghost use Rattle.pawn_book.specs.BookStep.{pledge_in};
+ghost use Rattle.one_table.specs.Lending.{IsLent};
+ghost use Rattle.pawn_saving.specs.Stored.{AreLengths, IsStored, IsWithin, ReadsIn, length_in};
+ghost use Rattle.pawn_saving.specs.Writing.{IsCarried};
+
+use crate::lengths::Lengths;
+use pawn_book::KeepError;
+use pawn_tables::{booking_in, entry_in, extension_in, secret_in};
+use sqlite::{Alter, Transaction};
+
+/// A list of a pledge, which grows at its end alone.
+#[derive(Clone, Copy, Debug, PartialEq, Eq)]
+pub(crate) enum PledgeList {
+    Entries,
+    Secrets,
+    Extensions,
+}
+
+/// How much of a pledge stands: how long its lists are, and whether it has a booking. A pledge that stands has a secret.
+#[derive(Clone, Copy, Debug, PartialEq, Eq)]
+pub(crate) struct Stored {
+    pub(crate) lengths: Lengths,
+    pub(crate) is_booked: bool,
+}
+
+/// Whether an element stands at a place of a pledge's list. The first place is 1.
+fn stands_at<S: Alter>(
+    tx: &mut Transaction<'_, S>,
+    list: PledgeList,
+    book: u32,
+    number: u32,
+    place: u32,
+) -> Result<bool, KeepError>
+    ensures same_reference { tx.new.conn.ghost_name ≡ tx.old.conn.ghost_name }
+    ensures reads { ReadsIn (state S.Store tx.old.conn.now) (state S.Store tx.new.conn.now) result (λ h stands. 1 ≤ place → (IsTrue stands ↔ place ≤ length_in list (pledge_in (get h.books book) number))) }
+    ensures lent { IsLent (state S.Store tx.old.conn.now) (state S.Store tx.new.conn.now) (is_ok result) }
+{
+    match list {
+        PledgeList::Entries => Ok(entry_in(tx, book, number, place)?.is_some()),
+        PledgeList::Secrets => Ok(secret_in(tx, book, number, place)?.is_some()),
+        PledgeList::Extensions => Ok(extension_in(tx, book, number, place)?.is_some()),
+    }
+}
+
+/// How long a pledge's list is that stands, where it is no longer than this. Only its last places are looked at.
+fn length_within<S: Alter>(
+    tx: &mut Transaction<'_, S>,
+    list: PledgeList,
+    book: u32,
+    number: u32,
+    most: u32,
+) -> Result<u32, KeepError>
+    ensures same_reference { tx.new.conn.ghost_name ≡ tx.old.conn.ghost_name }
+    ensures reads { ReadsIn (state S.Store tx.old.conn.now) (state S.Store tx.new.conn.now) result (λ h length. length_in list (pledge_in (get h.books book) number) ≤ most → length ≡ length_in list (pledge_in (get h.books book) number)) }
+    ensures carried { IsCarried (state S.Store tx.old.conn.now) (state S.Store tx.new.conn.now) (is_ok result) }
+{
+    let mut length = most;
+    while length > 0 {
+        if stands_at(tx, list, book, number, length)? {
+            return Ok(length);
+        }
+        length -= 1;
+    }
+    Ok(0)
+}
+
+/// How long the lists of a pledge are that stand, where they are no longer than these.
+#[tactic(auto, using(crate::proofs::Tailing::both_carried))]
+fn lengths_within<S: Alter>(
+    tx: &mut Transaction<'_, S>,
+    book: u32,
+    number: u32,
+    most: Lengths,
+) -> Result<Lengths, KeepError>
+    ensures same_reference { tx.new.conn.ghost_name ≡ tx.old.conn.ghost_name }
+    ensures reads { ReadsIn (state S.Store tx.old.conn.now) (state S.Store tx.new.conn.now) result (λ h lengths. IsWithin (pledge_in (get h.books book) number) most → AreLengths lengths (pledge_in (get h.books book) number)) }
+    ensures carried { IsCarried (state S.Store tx.old.conn.now) (state S.Store tx.new.conn.now) (is_ok result) }
+{
+    let entries = length_within(tx, PledgeList::Entries, book, number, most.entries)?;
+    let secrets = length_within(tx, PledgeList::Secrets, book, number, most.secrets)?;
+    let extensions = length_within(tx, PledgeList::Extensions, book, number, most.extensions)?;
+    Ok(Lengths {
+        entries,
+        secrets,
+        extensions,
+    })
+}
+
+/// How much of a pledge stands, where its lists are no longer than these.
+#[tactic(auto, using(crate::proofs::Lent::lent_then, crate::proofs::Tailing::lent_carried))]
+pub(crate) fn stored_within<S: Alter>(
+    tx: &mut Transaction<'_, S>,
+    book: u32,
+    number: u32,
+    most: Lengths,
+) -> Result<Stored, KeepError>
+    ensures same_reference { tx.new.conn.ghost_name ≡ tx.old.conn.ghost_name }
+    ensures reads { ReadsIn (state S.Store tx.old.conn.now) (state S.Store tx.new.conn.now) result (λ h stored. IsWithin (pledge_in (get h.books book) number) most → IsStored stored (pledge_in (get h.books book) number)) }
+    ensures lent { IsLent (state S.Store tx.old.conn.now) (state S.Store tx.new.conn.now) (is_ok result) }
+{
+    let is_booked = booking_in(tx, book, number)?.is_some();
+    let lengths = lengths_within(tx, book, number, most)?;
+    Ok(Stored { lengths, is_booked })
+}
