@@ -3,9 +3,9 @@
 
 usage: bench/files.py [--small] [PROGRAM]     (default: the program that `rt run` built in crates/pawnd)
 
-The files are made by the program and filled by Python's sqlite3, row by row as the program would. A request's time is that of a
-stream of them less that of a stream of one, over a fresh copy of the file each time; the best of some runs. With `--small` there
-are fewer pledges and runs, to try the script with a program that was built without proofs.
+The files are made by the program and filled by Python's sqlite3, row by row as the program would. A request's time is that from
+the first reply of a stream to the last, over a fresh copy of the file each time; the best of some runs. With `--small` there are
+fewer pledges and runs, to try the script with a program that was built without proofs.
 """
 import os
 import random
@@ -29,6 +29,7 @@ EACH = 6 if SMALL else 1_000      # the pledges of a book among others
 WHOLE = 40 if SMALL else 10_000   # the pledges of a book alone
 LONG = 30 if SMALL else 999       # the entries of a long list
 ASKED = 6 if SMALL else 999       # the requests of a stream
+OK = b"HTTP/1.1 200 OK\r\n"
 TAKEN, ENDS = 19753, 19935        # 2024-01-31 and 2024-07-31, as days since 1970-01-01
 
 
@@ -59,22 +60,34 @@ def fill(path, books, each, entries=0, long=0):
     base.close()
 
 
-def taken(path, stream, wanted):
-    """The best time of some runs over a copy of the file."""
-    best = None
-    for _ in range(RUNS):
-        with tempfile.TemporaryDirectory(dir=os.path.dirname(path)) as folder:
-            scratch = shutil.copy(path, folder)
-            begun = time.perf_counter()
-            ran = subprocess.run([PROGRAM, "answer", scratch, "2024-01-31", SEED, OPERATOR], input=b"".join(stream), stdout=subprocess.PIPE, check=True)
-            spent = time.perf_counter() - begun
-        best = spent if best is None else min(best, spent)
-    assert ran.stdout.count(b" 200 OK\r\n") == len(stream) and ran.stdout.count(wanted) >= len(stream), ran.stdout[-400:]
-    return best
+def replies(ran):
+    """The replies of a run, and the seconds that each took, from the first that was read to the last."""
+    whole, found, first, begun, ended = bytearray(), 0, 0, None, None
+    while piece := os.read(ran.stdout.fileno(), 1 << 16):
+        now, edge = time.perf_counter(), len(whole) - len(OK) + 1
+        whole += piece
+        more = whole.count(OK, max(edge, 0))
+        if more:
+            ended = now
+            if begun is None:
+                begun, first = now, more
+        found += more
+    return whole, (ended - begun) / max(found - first, 1)
 
 
 def each(path, stream, wanted):
-    return (taken(path, stream, wanted) - taken(path, stream[:1], wanted)) / (len(stream) - 1) * 1e6
+    """The best time of a request of the stream, in microseconds, of some runs over a copy of the file."""
+    best = None
+    for _ in range(RUNS):
+        with tempfile.TemporaryDirectory(dir=os.path.dirname(path)) as folder, tempfile.TemporaryFile() as asked:
+            asked.write(b"".join(stream))
+            asked.seek(0)
+            scratch = shutil.copy(path, folder)
+            ran = subprocess.Popen([PROGRAM, "answer", scratch, "2024-01-31", SEED, OPERATOR], stdin=asked, stdout=subprocess.PIPE)
+            whole, spent = replies(ran)
+            assert ran.wait() == 0 and whole.count(OK) == len(stream) and whole.count(wanted) >= len(stream), whole[-400:]
+        best = spent if best is None else min(best, spent)
+    return best * 1e6
 
 
 def view(name):
