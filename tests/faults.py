@@ -1,18 +1,20 @@
 #!/usr/bin/env python3
 """What the program says on its standard error, and its exit status: usage, faults in their order, files that are no store of its, and ends that fail."""
-import contextlib
 import os
 import shutil
 import socket
-import sqlite3
 import subprocess
 import tempfile
 
-from service import OPERATOR, PROGRAM, SEED, TOP, expect, free_port, main, request
+from service import OPERATOR, PROGRAM, SEED, TOP, Server, check, counted, expect, free_port, main, opened, request, tells
 
 DAY = "2024-01-31"
 USAGE = (2, "usage: pawnd answer|serve|migrate|check\n")
 IO = (3, "fault io\n")
+
+# What an opening writes behind all that a log holds, and the length of a log that is a head and this mark alone.
+MARK = bytes(9)
+NO_PAGE = 32 + len(MARK)
 
 
 def ends(*words, stdin=subprocess.DEVNULL, stdout=subprocess.DEVNULL):
@@ -83,18 +85,15 @@ def the_stored_run_over_a_file_is_answered_again_from_it():
         path = os.path.join(room, "books")
         for life in ("the first time", "the second time", "the third time"):
             expect(life, told_over(path), stored("stdout"))
-            counted = subprocess.run([PROGRAM, "check", path], capture_output=True, timeout=30)
-            expect(f"its check, {life}", (counted.returncode, counted.stdout, counted.stderr), (0, b"books 1 pledges 1 rows 4\n", b""))
-    counted = subprocess.run([PROGRAM, "check", ":memory:"], capture_output=True, timeout=30)
-    expect("the check of nothing", (counted.returncode, counted.stdout, counted.stderr), (0, b"books 0 pledges 0 rows 0\n", b""))
+            expect(f"its check, {life}", check(path), (0, "books 1 pledges 1 rows 4\n", ""))
 
 
-@contextlib.contextmanager
-def opened(path):
-    """The file by Python's sqlite3, and what is done there committed."""
-    with contextlib.closing(sqlite3.connect(path)) as tables:
-        yield tables
-        tables.commit()
+def a_check_where_nothing_is_makes_an_empty_store():
+    with tempfile.TemporaryDirectory() as room:
+        path, empty = os.path.join(room, "books"), [0] * 6
+        for step, of in [("in memory", ":memory:"), ("where nothing is", path), ("of what that made", path)]:
+            expect(f"a check {step}", check(of), tells(empty))
+        expect("what it made", counted(path), empty)
 
 
 def ours_but(*statements):
@@ -162,15 +161,30 @@ def plain(said):
 
 
 def found(path):
-    """The bytes of a file."""
-    with open(path, "rb") as it:
-        return it.read()
+    """The bytes of each file in a store's folder, and those of its log apart: none where there is no log."""
+    room, store = os.path.split(path)
+    files = {}
+    for name in os.listdir(room):
+        with open(os.path.join(room, name), "rb") as it:
+            files[name] = it.read()
+    log = files.pop(store + "-wal", b"")
+    return files, log
 
 
 def is_refused(path, wanted, step):
     expect(f"answer, {step}", ends("answer", path, DAY, SEED, OPERATOR), wanted)
     expect(f"serve, {step}", ends("serve", path, str(free_port()), OPERATOR), wanted)
     expect(f"check, {step}", ends("check", path), wanted)
+
+
+def is_refused_and_stays(path, wanted, step):
+    """Each file keeps its bytes. A log that holds pages keeps its own, with the mark behind them; one that holds none may be made, or begun anew."""
+    files, log = found(path)
+    is_refused(path, wanted, step)
+    after, log_after = found(path)
+    expect(f"the files that changed, {step}", [name for name in files | after if files.get(name) != after.get(name)], [])
+    stays = log_after in (log, log + MARK) or max(len(log), len(log_after)) <= NO_PAGE
+    expect(f"the log stays, of {len(log)} bytes and now of {len(log_after)}, {step}", stays, True)
 
 
 def files_that_are_no_store_of_ours_are_refused_and_stay():
@@ -196,9 +210,25 @@ def files_that_are_no_store_of_ours_are_refused_and_stay():
         with tempfile.TemporaryDirectory() as room:
             path = os.path.join(room, "books")
             make(path)
-            before = found(path)
-            is_refused(path, wanted, step)
-            expect(f"the file, {step}", found(path) == before, True)
+            is_refused_and_stays(path, wanted, step)
+
+
+def a_file_that_another_program_has_open_is_refused():
+    with tempfile.TemporaryDirectory() as room:
+        path = os.path.join(room, "books")
+        with Server(path) as server:
+            client = server.session()
+            client.open_book()
+            for number in (1, 2):
+                receipt = client.open_pledge(number)
+                client.close()
+                before = found(path)
+                is_refused(path, fault(503, "Store"), f"{number} pledges are served")
+                expect(f"the files of {number} pledges stay", found(path) == before, True)
+                status, said = client.bearer(receipt, "GET", "/books/7/held")
+                expect(f"the statement of pledge {number}", (status, said.splitlines()[0]), (200, f"Pledge {number}"))
+            client.close()
+        expect("a check, once it was killed", check(path), (0, "books 1 pledges 2 rows 6\n", ""))
 
 
 def paths_that_are_no_file_are_refused():
@@ -238,5 +268,6 @@ def output_that_cannot_be_written_breaks_off():
 
 
 main(the_words_are_those_of_no_command, the_first_fault_of_answer_is_told, the_first_fault_of_serve_is_told, a_key_may_stand_in_a_file,
-     the_stored_run_over_a_file_is_answered_again_from_it, files_that_are_no_store_of_ours_are_refused_and_stay, paths_that_are_no_file_are_refused,
+     the_stored_run_over_a_file_is_answered_again_from_it, a_check_where_nothing_is_makes_an_empty_store,
+     files_that_are_no_store_of_ours_are_refused_and_stay, a_file_that_another_program_has_open_is_refused, paths_that_are_no_file_are_refused,
      a_port_that_is_taken_is_not_listened_on, input_that_cannot_be_read_breaks_off, output_that_cannot_be_written_breaks_off)

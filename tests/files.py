@@ -1,17 +1,14 @@
 #!/usr/bin/env python3
 """The file of a service as others see it: opened by Python's sqlite3 and by the shell of that name, its rows counted, and rows bent by hand, of which the program tells and by which no other book is touched."""
-import contextlib
 import json
 import os
 import shutil
-import sqlite3
 import subprocess
 import tempfile
 
-from service import BROKER, OPERATOR, PROGRAM, SEED, Failed, Server, expect, main, request
+from service import BROKER, OPERATOR, PROGRAM, SEED, Failed, Server, by_python, by_the_shell, check, counted, expect, main, opened, request, tells
 
 DAY = "2024-03-01"
-COUNTED = ["books", "terms", "pledges", "entries", "secrets", "bookings"]
 DAMAGED = (1, "", "fault 513 Damaged\n")
 STORE = (503, {"code": 492, "name": "Store"})
 
@@ -67,41 +64,17 @@ def fill(path, *books):
     return receipts
 
 
-def check(path):
-    ran = subprocess.run([PROGRAM, "check", path], capture_output=True, timeout=60)
-    return ran.returncode, ran.stdout.decode(), ran.stderr.decode()
-
-
-@contextlib.contextmanager
-def opened(path):
-    """The file by Python's sqlite3, and what is done there committed."""
-    with contextlib.closing(sqlite3.connect(path)) as tables:
-        yield tables
-        tables.commit()
-
-
-def counts(tables):
-    """What a check of these tables is to tell."""
-    of = {name: tables.execute(f"SELECT count(*) FROM {name}").fetchone()[0] for name in COUNTED}
-    expect("the noted rows", tables.execute("SELECT value FROM meta WHERE name = 'rows'").fetchone(), (sum(of.values()),))
-    return 0, f"books {of['books']} pledges {of['pledges']} rows {sum(of.values())}\n", ""
-
-
 def others_open_the_file():
     with tempfile.TemporaryDirectory() as room:
         path = os.path.join(room, "books")
         fill(path, 7, 8, 999999999)
-        told = check(path)
+        told, rows = check(path), by_python(path)
+        expect("its counts", told, tells(rows))
+        by_the_shell(path, rows)
         with opened(path) as tables:
-            expect("its integrity", tables.execute("PRAGMA integrity_check").fetchall(), [("ok",)])
-            expect("its references", tables.execute("PRAGMA foreign_key_check").fetchall(), [])
-            expect("its counts", told, counts(tables))
             expect("its limit", tables.execute("SELECT value FROM meta WHERE name = 'limit'").fetchone(), (5000000,))
             expect("entries", tables.execute("SELECT seq, sort, pence FROM entries WHERE book = 8").fetchall(), [(1, 0, 3000), (2, 1, 500)])
         expect("its check, once it was opened by others", check(path), told)
-        if shutil.which("sqlite3"):
-            ran = subprocess.run(["sqlite3", path, "PRAGMA integrity_check; SELECT count(*) FROM pledges"], capture_output=True, timeout=60)
-            expect("by the shell", (ran.returncode, ran.stdout), (0, b"ok\n6\n"))
 
 
 def a_closed_file_is_whole_without_its_log():
@@ -112,25 +85,20 @@ def a_closed_file_is_whole_without_its_log():
         told, said = check(path), answer(path, shown(receipts[7][0], 7))
         expect("its check", check(copy), told)
         expect("its replies", answer(copy, shown(receipts[7][0], 7)), said)
-        with opened(copy) as tables:
-            expect("its counts", told, counts(tables))
+        expect("its counts", told, tells(counted(copy)))
 
 
 def a_killed_service_leaves_its_books_in_file_and_log():
     with tempfile.TemporaryDirectory() as room:
-        path, copy = os.path.join(room, "books"), os.path.join(room, "copy")
+        path = os.path.join(room, "books")
         with Server(path) as server:
             client = server.session()
             client.open_book()
             receipts = [client.open_pledge(number) for number in (1, 2, 3)]
             seen = [client.bearer(receipt, "GET", "/books/7/held") for receipt in receipts]
             client.close()
-        for end in ("", "-wal"):
-            shutil.copyfile(path + end, copy + end)
-        with opened(copy) as tables:
-            expect("its integrity", tables.execute("PRAGMA integrity_check").fetchall(), [("ok",)])
-            told = counts(tables)
-        expect("its check", check(path), told)
+        rows = counted(path)
+        expect("its check", check(path), tells(rows))
         with Server(path) as server:
             client = server.session()
             expect("its statements", [client.bearer(receipt, "GET", "/books/7/held") for receipt in receipts], seen)

@@ -1,11 +1,15 @@
 """What the scripts of this folder share: the built program, requests by a socket or by HTTP, and checks that say which step failed."""
+import contextlib
 import datetime
 import http.client
 import json
 import os
+import shutil
 import socket
+import sqlite3
 import subprocess
 import sys
+import tempfile
 import time
 
 TOP = os.path.dirname(os.path.dirname(os.path.abspath(__file__)))
@@ -19,6 +23,9 @@ SEED = "0" * 64
 PATIENCE = 5
 MARGIN = 10
 WAIT = 4 * PATIENCE + MARGIN
+
+# The tables whose rows a store counts.
+COUNTED = ("books", "terms", "pledges", "entries", "secrets", "bookings")
 
 
 class Failed(Exception):
@@ -130,6 +137,63 @@ def read_all(connection):
         said += piece
 
 
+def check(path):
+    """How a check of a file ends, and what it says."""
+    ran = subprocess.run([PROGRAM, "check", path], capture_output=True, timeout=60)
+    return ran.returncode, ran.stdout.decode(), ran.stderr.decode()
+
+
+def tells(rows):
+    """The same of a sound store with so many rows in each counted table."""
+    return 0, f"books {rows[0]} pledges {rows[2]} rows {sum(rows)}\n", ""
+
+
+@contextlib.contextmanager
+def opened(path):
+    """The file by Python's sqlite3, and what is done there committed."""
+    with contextlib.closing(sqlite3.connect(path)) as tables:
+        yield tables
+        tables.commit()
+
+
+@contextlib.contextmanager
+def copied(path):
+    """The path of a copy of the file and its log."""
+    with tempfile.TemporaryDirectory() as room:
+        copy = os.path.join(room, "copy")
+        for end in ("", "-wal"):
+            if os.path.exists(path + end):
+                shutil.copyfile(path + end, copy + end)
+        yield copy
+
+
+def by_python(path):
+    """How many rows each counted table of the file holds, which is sound to Python's sqlite3."""
+    with opened(path) as tables:
+        expect("its integrity", tables.execute("PRAGMA integrity_check").fetchall(), [("ok",)])
+        expect("its references", tables.execute("PRAGMA foreign_key_check").fetchall(), [])
+        rows = [tables.execute(f"SELECT count(*) FROM {table}").fetchone()[0] for table in COUNTED]
+        expect("the noted rows", tables.execute("SELECT value FROM meta WHERE name = 'rows'").fetchall(), [(sum(rows),)])
+    return rows
+
+
+def by_the_shell(path, rows):
+    """The file is sound to the shell sqlite3 too, and holds so many rows there, if the shell is installed."""
+    if shutil.which("sqlite3"):
+        asked = ["PRAGMA integrity_check", "PRAGMA foreign_key_check", *(f"SELECT count(*) FROM {table}" for table in COUNTED)]
+        ran = subprocess.run(["sqlite3", path, "; ".join(asked)], capture_output=True, timeout=60)
+        expect("by the shell", (ran.returncode, ran.stdout.decode().split(), ran.stderr), (0, ["ok", *map(str, rows)], b""))
+
+
+def counted(path):
+    """How many rows each counted table holds, by others that open the file with its log, each a copy of its own."""
+    with copied(path) as copy:
+        rows = by_python(copy)
+    with copied(path) as copy:
+        by_the_shell(copy, rows)
+    return rows
+
+
 def today():
     return datetime.datetime.now(datetime.timezone.utc).date()
 
@@ -154,7 +218,7 @@ def main(*tests):
         try:
             test()
             print(f"ok      {name} ({time.monotonic() - begun:.1f} s)", flush=True)
-        except (Failed, OSError, http.client.HTTPException, subprocess.SubprocessError) as why:
+        except (Failed, OSError, http.client.HTTPException, sqlite3.Error, subprocess.SubprocessError) as why:
             failed += 1
             print(f"FAILED  {name}: {why}", flush=True)
     print(f"{len(tests) - failed} passed, {failed} failed")

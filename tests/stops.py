@@ -8,19 +8,15 @@ import http.client
 import io
 import os
 import random
-import shutil
-import sqlite3
 import subprocess
 import tempfile
 import threading
 import time
 
-from service import OPERATOR, PROGRAM, Failed, Server, expect, free_port, main, today
+from service import OPERATOR, PROGRAM, Failed, Server, check, counted, expect, free_port, main, tells, today
 
-# So many stops, as long as they take no more seconds.
-STOPS, FIRST_STOPS, SPAN = 40, 20, 35
-
-TABLES = ("books", "terms", "pledges", "entries", "secrets", "bookings")
+# So many stops at most, and so many at least: fewer than the most where they take more than SPAN seconds, and the least within LIMIT seconds.
+STOPS, FIRST_STOPS, SPAN, LIMIT = (40, 24), (20, 12), 35, 600
 
 
 class FileServer(Server):
@@ -159,18 +155,9 @@ def live(server, account, chance, span):
 
 def judge_file(path, counts):
     """The file opens in SQLite as it was left, and holds so much."""
-    with tempfile.TemporaryDirectory() as folder:
-        for name in os.listdir(os.path.dirname(path)):
-            shutil.copy(os.path.join(os.path.dirname(path), name), folder)
-        base = sqlite3.connect(os.path.join(folder, os.path.basename(path)))
-        expect("integrity", base.execute("PRAGMA integrity_check").fetchall(), [("ok",)])
-        expect("references", base.execute("PRAGMA foreign_key_check").fetchall(), [])
-        numbers = [base.execute(f"SELECT count(*) FROM {table}").fetchone()[0] for table in TABLES]
-        expect("rows noted", base.execute("SELECT value FROM meta WHERE name = 'rows'").fetchone()[0], sum(numbers))
-        base.close()
-    told = subprocess.run([PROGRAM, "check", path], stdout=subprocess.PIPE, timeout=60).stdout.decode()
-    expect("counts", told, f"books {numbers[0]} pledges {numbers[2]} rows {sum(numbers)}\n")
-    expect("rows", sum(numbers) in counts, True)
+    rows = counted(path)
+    expect("counts", check(path), tells(rows))
+    expect("rows", sum(rows) in counts, True)
 
 
 def goes_on(server, account, asked):
@@ -196,31 +183,41 @@ def goes_on(server, account, asked):
     return held
 
 
+def stops(most, least):
+    """Counts the stops that are to be made, from 1."""
+    begun = time.monotonic()
+    for done in range(most):
+        taken = time.monotonic() - begun
+        if done >= least and taken > SPAN:
+            break
+        if taken > LIMIT:
+            raise Failed(f"{done} stops in {taken:.0f} seconds, and {least} are wanted in {LIMIT}")
+        yield done + 1
+
+
 def what_was_answered_outlives_a_kill():
     chance, account, asked = random.Random(7), Account(), None
     with tempfile.TemporaryDirectory() as folder:
         path = os.path.join(folder, "books.db")
-        begun, stops = time.monotonic(), 0
         with FileServer(path) as server:
             session, first = server.session(), time.monotonic()
             session.open_book()
             span = 40 * (time.monotonic() - first)
             session.close()
-        while stops < STOPS and time.monotonic() - begun < SPAN:
+        for stop in stops(*STOPS):
             with FileServer(path) as server:
                 if asked:
                     account = goes_on(server, account, asked)
                 account, asked = live(server, account, chance, span)
             judge_file(path, (account.rows(), account.after(asked).rows()))
-            stops += 1
         with FileServer(path) as server:
             account = goes_on(server, account, asked)
-        print(f"        {stops} stops, {len(account.pledges)} pledges, {account.rows()} rows")
+        print(f"        {stop} stops, {len(account.pledges)} pledges, {account.rows()} rows")
 
 
 def a_kill_while_a_file_is_made_leaves_it_to_be_made():
-    chance, begun, span = random.Random(8), time.monotonic(), None
-    for _ in range(FIRST_STOPS):
+    chance, span = random.Random(8), None
+    for _ in stops(*FIRST_STOPS):
         with tempfile.TemporaryDirectory() as folder:
             path = os.path.join(folder, "books.db")
             server, first = FileServer(path), time.monotonic()
@@ -230,13 +227,10 @@ def a_kill_while_a_file_is_made_leaves_it_to_be_made():
                 span = time.monotonic() - first
             threading.Timer(chance.uniform(0, span), server.stop).start()
             server.program.communicate()
-            told = subprocess.run([PROGRAM, "check", path], stdout=subprocess.PIPE, timeout=60).stdout
-            expect("an empty store", told, b"books 0 pledges 0 rows 0\n")
+            expect("an empty store", check(path), tells([0] * 6))
             judge_file(path, (0,))
             with server:
                 server.session().open_book()
-        if time.monotonic() - begun > SPAN:
-            break
 
 
 main(what_was_answered_outlives_a_kill, a_kill_while_a_file_is_made_leaves_it_to_be_made)
