@@ -1,24 +1,66 @@
--- Rows worked out: those of a ring that was pawned in book 7, and of what can come of it.
-use Rattle.std.specs.Prelude.{◌≡◌, [], ◌∷◌, Some, pos, codes}
-use Rattle.sqlite.specs.declared.types.Value.TheVariants.{Null, Int, Text}
+-- Tables worked out: those of a host with one book, in which a ring is pawned.
+use Rattle.std.specs.Prelude.{◌≡◌, ℕ, false, [], ◌∷◌, Some, None, map, pos, codes}
+use Rattle.std.specs.FinMap.{empty, entries, insert}
+use Rattle.sqlite.specs.declared.types.Value.{Value}
+use Rattle.sqlite.specs.declared.types.Value.TheVariants.{Null, Int, Text, Blob}
+use Rattle.pawn_terms.specs.Worked.{date}
+use Rattle.pawn_debt.specs.declared.entry.Kind.TheVariants.{Fixed}
 use Rattle.pawn_debt.specs.declared.entry.Sort.TheVariants.{Repay}
+use Rattle.pawn_terms.specs.Terms.{rates_of}
 use Rattle.pawn_pledge.specs.declared.record.BookingState.TheVariants.{Confirmed}
-use Rattle.pawn_pledge.specs.declared.record.Closing.TheVariants.{Redeemed}
-use Rattle.pawn_pledge.specs.Worked.{ring}
-use Rattle.pawn_tables.specs.Rows.{word, pledge_listed, secrets_listed, totals_listed, booking_listed, entry_cells, booking_cells, closed_number, closed_day, closed_amount}
+use Rattle.pawn_pledge.specs.declared.record.Closing.TheVariants.{Open, Redeemed}
+use Rattle.pawn_pledge.specs.declared.record.Issue.{Issue}
+use Rattle.pawn_pledge.specs.Pledge.{PledgeValue}
+use Rattle.pawn_pledge.specs.Worked.{ring, ring_opening}
+use Rattle.pawn_book.specs.BookStep.{BookValue}
+use Rattle.pawn_book.specs.HostStep.{Host, rows}
+use Rattle.pawn_tables.specs.Meta.{meta_rows}
+use Rattle.pawn_tables.specs.Rows.{word, book_row, terms_listed, pledge_listed, entries_listed, secrets_listed, booking_listed, totals_listed, extensions_listed, closed_number, closed_day, closed_amount}
+use Rattle.pawn_tables.specs.StandsFor.{of_books, of_pledges}
+
+-- A ring, pawned for 100 pounds on 2024-01-01 (day 19723) at 2,667 millionths a day. On 2024-01-31 (day 19753) ten pounds are
+-- repaid, the receipt is declared lost, window 2 of 2024-02-07 (day 19760) is confirmed, and 2024-09-30 (day 19996) is agreed.
+abbrev pub used_ring : PledgeValue
+used_ring = record {
+  agreement = record { number = 1; opening = ring_opening (Fixed 10000) false None; taken = date 2024 1 1; version = 1; terms = rates_of 2667 0 0 };
+  entries = record { seq = 1; day = date 2024 1 31; sort = Repay; pence = 1000 } ∷ [];
+  secrets = record { day = date 2024 1 1; sort = Issue.Opening; secret = 3 } ∷ record { day = date 2024 1 31; sort = Issue.Sworn; secret = 4 } ∷ [];
+  extensions = record { day = date 2024 1 31; until = date 2024 9 30 } ∷ [];
+  standing = record { held = false; booking = Some (record { day = date 2024 2 7; window = 2; state = Confirmed }); last = date 2024 1 31; closing = Open };
+}
+
+-- book 7, run by the key 5
+abbrev pub one_book : BookValue
+one_book = record { key = 5; name = codes "High Street"; capacity = 2; terms = rates_of 2667 0 0 ∷ []; pledges = used_ring ∷ []; imported = None }
+
+-- the host of that book alone, with room for 1,000 rows
+abbrev pub one_host : Host
+one_host = record { books = insert empty 7 one_book; limit = 1000 }
+
+-- a column that is a number
+abbrev pub n : ℕ → Value
+n number = Int (pos number)
 
 pub record WorkedTables : Type 0 where
-  -- the ring, pawned for 100 pounds on 2024-01-31 (day 19753) until 2024-07-31 (day 19935)
-  pub pledge : pledge_listed 7 (ring 10000) ≡ (
-      Int (pos 7) ∷ Int (pos 1) ∷ Text (codes "A1") ∷ Text (codes "Gold ring") ∷ Int (pos 0) ∷ Int (pos 10000) ∷ Int (pos 19753) ∷ Null ∷ Int (pos 0) ∷ Int (pos 1)
-      ∷ Int (pos 19935) ∷ Int (pos 0) ∷ Int (pos 19753) ∷ Int (pos 0) ∷ Null ∷ Null ∷ []) ∷ []
-  -- its secret, and what is owed on the day taken
-  pub secret : secrets_listed 7 (ring 10000) ≡ (Int (pos 7) ∷ Int (pos 1) ∷ Int (pos 1) ∷ Int (pos 19753) ∷ Int (pos 0) ∷ word 1 ∷ []) ∷ []
-  pub totals : totals_listed 7 (ring 10000) ≡ (Int (pos 7) ∷ Int (pos 1) ∷ Int (pos 19753) ∷ Int (pos 10000) ∷ Int (pos 0) ∷ []) ∷ []
+  pub books : map (λ (e : ℕ × BookValue). book_row e.0 e.1) (entries one_host.books) ≡ (n 7 ∷ word 5 ∷ Text (codes "High Street") ∷ n 2 ∷ n 1 ∷ n 1 ∷ Null ∷ Null ∷ []) ∷ []
+  pub terms : of_books one_host terms_listed ≡ (n 7 ∷ n 1 ∷ n 2667 ∷ n 0 ∷ n 0 ∷ []) ∷ []
+  -- until the end that was agreed last
+  pub pledges : of_pledges one_host pledge_listed ≡ (
+      n 7 ∷ n 1 ∷ Text (codes "A1") ∷ Text (codes "Gold ring") ∷ n 0 ∷ n 10000 ∷ n 19723 ∷ Null ∷ n 0 ∷ n 1
+      ∷ n 19996 ∷ n 0 ∷ n 19753 ∷ n 0 ∷ Null ∷ Null ∷ []) ∷ []
+  pub entries_are : of_pledges one_host entries_listed ≡ (n 7 ∷ n 1 ∷ n 1 ∷ n 19753 ∷ n 1 ∷ n 1000 ∷ []) ∷ []
+  pub secrets : of_pledges one_host secrets_listed ≡ (n 7 ∷ n 1 ∷ n 1 ∷ n 19723 ∷ n 0 ∷ word 3 ∷ []) ∷ (n 7 ∷ n 1 ∷ n 2 ∷ n 19753 ∷ n 1 ∷ word 4 ∷ []) ∷ []
+  pub bookings : of_pledges one_host booking_listed ≡ (n 7 ∷ n 1 ∷ n 19760 ∷ n 2 ∷ n 1 ∷ []) ∷ []
+  pub extensions : of_pledges one_host extensions_listed ≡ (n 7 ∷ n 1 ∷ n 1 ∷ n 19753 ∷ n 19996 ∷ []) ∷ []
+  -- of thirty days' charges, 800.1 pence, the repayment takes eight pounds; a tenth of a penny stays
+  pub totals : of_pledges one_host totals_listed ≡ (n 7 ∷ n 1 ∷ n 19753 ∷ n 9800 ∷ n 100000 ∷ []) ∷ []
+  -- a book, a version of terms, a pledge, an entry, two secrets and a booking are counted
+  pub notes : meta_rows (rows one_host) one_host.limit ≡ (Text (codes "schema") ∷ n 3 ∷ []) ∷ (Text (codes "rows") ∷ n 7 ∷ []) ∷ (Text (codes "limit") ∷ n 1000 ∷ []) ∷ []
+  -- a key is sixteen bytes
+  pub key : word 5 ≡ Blob (0 ∷ 0 ∷ 0 ∷ 0 ∷ 0 ∷ 0 ∷ 0 ∷ 0 ∷ 0 ∷ 0 ∷ 0 ∷ 0 ∷ 0 ∷ 0 ∷ 0 ∷ 5 ∷ [])
+  -- a ring that nothing was done with has no such row
+  pub no_entry : entries_listed 7 (ring 10000) ≡ []
   pub no_booking : booking_listed 7 (ring 10000) ≡ []
-  -- ten pounds are repaid
-  pub entry : entry_cells (record { seq = 1; day = 19754; sort = Repay; pence = 1000 }) ≡ Int (pos 1) ∷ Int (pos 19754) ∷ Int (pos 1) ∷ Int (pos 1000) ∷ []
-  -- window 3 of a day is confirmed
-  pub booking : booking_cells (record { day = 19763; window = 3; state = Confirmed }) ≡ Int (pos 19763) ∷ Int (pos 3) ∷ Int (pos 1) ∷ []
+  pub no_extension : extensions_listed 7 (ring 10000) ≡ []
   -- 90 pounds are paid
   pub redeemed : (closed_number (Redeemed 19763 9000) ≡ 1) × (closed_day (Redeemed 19763 9000) ≡ Some 19763) × (closed_amount (Redeemed 19763 9000) ≡ Some 9000)
