@@ -12,6 +12,7 @@ use pawn_book::{Keep, ListKeep, RequestDay, Secret, Stamp};
 use pawn_host::{Answer, Cause, Ended, How, IoFault, Reading, Service};
 use pawn_keeper::TableKeep;
 use pawn_opening::{open_memory, prepare};
+use pawn_store::{keep_in_memory, run_over_tables};
 use pawn_view::Writing;
 use sqlite::{Connection, MemStore};
 use std::alloc::Global;
@@ -84,6 +85,14 @@ fn tells(rt: &impl Abort, answer: &Answer, reply: &[u8]) {
     }
 }
 
+// Compares the answers of a run with the replies to its turns.
+fn tells_each(rt: &impl Abort, answers: &[Answer], turns: &[Turn]) {
+    assert_eq!(rt; answers.len(), turns.len());
+    for (answer, turn) in answers.iter().zip(turns) {
+        tells(rt, answer, turn.reply.as_slice());
+    }
+}
+
 // Compares the answers to turns with their replies.
 fn plays<K: Keep>(rt: &impl Abort, service: &mut Service<K>, turns: &[Turn]) {
     for turn in turns {
@@ -109,12 +118,11 @@ fn two_pledges_live_through_every_request(rt: HostRuntime) -> Result<(), Fail> {
         items.push((turn.stamp, turn.request.clone()?))?;
     }
     let answers = service_of(&rt, alloc, u64::from(ROWS)).run(items.as_slice())?;
-    assert_eq!(rt; answers.len(), turns.len());
-    for (answer, turn) in answers.iter().zip(turns.as_slice()) {
-        tells(&rt, answer, turn.reply.as_slice());
-    }
-    let conn = opened(alloc, ROWS)?;
-    plays(&rt, &mut tables_over(&rt, alloc, conn)?, turns.as_slice());
+    tells_each(&rt, answers.as_slice(), turns.as_slice());
+    let keep = keep_in_memory(alloc, ROWS).ok().ok_or("no store")?;
+    let mut service = service_over(&rt, alloc, keep);
+    let answers = run_over_tables(&mut service, items.as_slice())?;
+    tells_each(&rt, answers.as_slice(), turns.as_slice());
     Ok(())
 }
 
@@ -181,9 +189,21 @@ struct Came {
     calls: u64,
 }
 
-// Answers a stream with a stamp for each of these.
+// What comes of a stream over lists, with a stamp for each of these.
 fn answered(
     rt: &impl Abort,
+    alloc: Global,
+    stream: &[u8],
+    stamps: &[Stamp],
+    behaviour: Behaviour,
+) -> Came {
+    let mut service = service_of(rt, alloc, u64::from(ROWS));
+    answered_by(&mut service, alloc, stream, stamps, behaviour)
+}
+
+// What comes of it by a service.
+fn answered_by<K: Keep>(
+    service: &mut Service<K>,
     alloc: Global,
     stream: &[u8],
     stamps: &[Stamp],
@@ -206,7 +226,7 @@ fn answered(
         log: &log,
     };
     let mut stamps = Stamps { stamps, log: &log };
-    let came = service_of(rt, alloc, u64::from(ROWS)).answer_all(
+    let came = service.answer_all(
         &mut Reading::new(&mut source),
         &mut Writing::new(&mut sink),
         &mut stamps,
@@ -242,10 +262,15 @@ fn slow_ends_change_no_reply(rt: HostRuntime) -> Result<(), Fail> {
         stamps.push(turn.stamp)?;
         replies.extend_from_slice(turn.reply.as_slice())?;
     }
-    let all = answered(&rt, alloc, stream.as_slice(), stamps.as_slice(), SLOW);
+    let (stream, stamps) = (stream.as_slice(), stamps.as_slice());
+    let in_lists = answered(&rt, alloc, stream, stamps, SLOW);
+    let mut tables = tables_over(&rt, alloc, opened(alloc, ROWS)?)?;
+    let in_tables = answered_by(&mut tables, alloc, stream, stamps, SLOW);
     let how = How::End;
-    assert_eq!(rt; all.came, Ok(Ended { how, acted: 28 }));
-    assert!(rt; all.written.as_slice() == replies.as_slice());
+    for all in [in_lists, in_tables] {
+        assert_eq!(rt; all.came, Ok(Ended { how, acted: 28 }));
+        assert!(rt; all.written.as_slice() == replies.as_slice());
+    }
     Ok(())
 }
 

@@ -1,6 +1,8 @@
 //! What becomes of a store that is opened: its limit, its schema, and one of another program.
 use crate::disks::{NEVER, disks, store_on};
-use pawn_opening::{OpenFault, close_files, open_memory, prepare};
+use pawn_keeper::TableKeep;
+use pawn_opening::{OpenFault, open_memory, prepare};
+use pawn_store::close_keep;
 use sqlite::{Alter, Connection, params};
 use std::test::Fail;
 
@@ -16,7 +18,8 @@ fn the_first_limit_stands(rt: HostRuntime) -> Result<(), Fail> {
         .ok()
         .ok_or("opened")?;
     assert_eq!(rt; limit_in(&mut conn)?, 12);
-    let files = match close_files(conn) {
+    let keep = TableKeep::over(alloc, conn).ok().ok_or("in a transaction")?;
+    let files = match close_keep(keep) {
         Ok(files) => files,
         Err((_, store)) => {
             drop(store.close());

@@ -1,9 +1,9 @@
 //! Slots: receipts that change hands, and a bearer among strangers.
 
 use super::turns::{request, turns_of};
-use super::{plays_in_both, service, tells};
-use pawn_book::Stamp;
-use pawn_host::Answer;
+use super::{opened, plays_in_both, service, tables_over, tells};
+use pawn_book::{Keep, Stamp};
+use pawn_host::{Answer, Service};
 use std::alloc::Global;
 use std::process::Abort;
 use std::test::Fail;
@@ -100,8 +100,13 @@ fn push_stranger(
     push_line(rt, items, alloc, confirmed.as_str())
 }
 
-// The replies to the bearer of pledge 1, with so many strangers before each of its requests.
-fn replies(rt: &impl Abort, alloc: Global, strangers: u64) -> Result<Vec<Answer>, Fail> {
+// The replies of a service to the bearer of pledge 1, with so many strangers before each of its requests.
+fn replies<K: Keep>(
+    rt: &impl Abort,
+    alloc: Global,
+    service: &mut Service<K>,
+    strangers: u64,
+) -> Result<Vec<Answer>, Fail> {
     let mut items = Vec::new(alloc);
     let mut bearers = Vec::new(alloc);
     for line in SET_UP {
@@ -116,7 +121,7 @@ fn replies(rt: &impl Abort, alloc: Global, strangers: u64) -> Result<Vec<Answer>
         bearers.push(items.len())?;
         push_line(rt, &mut items, alloc, line)?;
     }
-    let answers = service(rt, alloc).run(items.as_slice())?;
+    let answers = service.run(items.as_slice())?;
     let mut own = Vec::new(alloc);
     for (place, answer) in answers.into_iter().enumerate() {
         if bearers.as_slice().contains(&place) {
@@ -126,17 +131,26 @@ fn replies(rt: &impl Abort, alloc: Global, strangers: u64) -> Result<Vec<Answer>
     Ok(own)
 }
 
-#[test]
-fn strangers_change_no_reply_to_a_bearer(rt: HostRuntime) -> Result<(), Fail> {
-    let alloc = rt.alloc();
-    let alone = replies(&rt, alloc, 0)?;
-    let among_strangers = replies(&rt, alloc, 6)?;
-    assert_eq!(rt; alone.len(), BEARERS.len());
-    for (one, other) in alone.iter().zip(among_strangers.as_slice()) {
+// Compares replies with those to the bearer alone.
+fn are_alike(rt: &impl Abort, alone: &[Answer], replies: &[Answer]) {
+    assert_eq!(rt; replies.len(), BEARERS.len());
+    for (one, other) in alone.iter().zip(replies) {
         match one {
-            Answer::Bytes(bytes) => tells(&rt, other, bytes.as_slice()),
+            Answer::Bytes(bytes) => tells(rt, other, bytes.as_slice()),
             Answer::Memory => panic!(rt; "no memory"),
         }
     }
+}
+
+#[test]
+fn strangers_change_no_reply_to_a_bearer(rt: HostRuntime) -> Result<(), Fail> {
+    let alloc = rt.alloc();
+    let alone = replies(&rt, alloc, &mut service(&rt, alloc), 0)?;
+    let in_lists = replies(&rt, alloc, &mut service(&rt, alloc), 6)?;
+    let conn = opened(alloc, 1000)?;
+    let in_tables = replies(&rt, alloc, &mut tables_over(&rt, alloc, conn)?, 6)?;
+    assert_eq!(rt; alone.len(), BEARERS.len());
+    are_alike(&rt, alone.as_slice(), in_lists.as_slice());
+    are_alike(&rt, alone.as_slice(), in_tables.as_slice());
     Ok(())
 }

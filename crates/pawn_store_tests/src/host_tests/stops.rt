@@ -3,15 +3,16 @@
 use super::turns::{Turn, request, turns_of};
 use super::{service_of, service_over};
 use crate::disks::{Disks, NEVER, crashed, disks, store_on};
+use pawn_book::Keep;
 use pawn_check::{Counts, check};
-use pawn_host::Answer;
+use pawn_host::{Answer, Service};
 use pawn_keeper::TableKeep;
 use sqlite::{Alter, Connection};
 use std::alloc::Global;
 use std::process::Abort;
 use std::test::Fail;
 
-// A ring is pawned, declared lost, its bearer asks to come, and redeems it, which cancels that. Another book is filled by an import.
+// A ring is pawned, seen by its receipt, declared lost, its bearer asks to come, and redeems it, which cancels that. Another book is filled by an import.
 const LINES: &str = r#"
 2024-01-31|0|operator|POST /books/7|{"capacity":1,"key":"22222222-2222-2222-2222-222222222222","name":"High Street"}
 200 OK|{"book":7}
@@ -19,6 +20,8 @@ const LINES: &str = r#"
 200 OK|{"version":1}
 2024-01-31|1|broker|POST /books/7/pledges|{"article":"Gold ring","five_days":false,"kind":"fixed","pence":10000,"ref":"A1"}
 200 OK|{"number":1,"receipt":"1-00000000-0000-0000-0000-000000000001"}
+2024-01-31|0|1-1|GET /books/7/held|
+200 OK|Pledge 1|Article Gold ring|Kind fixed 100.00|Taken 2024-01-31|Ends 2024-07-31|Status inside|Principal 100.00|Charges 0.00|Owing 100.00|Held no|Booking none|
 2024-01-31|2|broker|POST /books/7/pledges/1/declare|{"paper":"sworn"}
 200 OK|{"receipt":"1-00000000-0000-0000-0000-000000000002"}
 2024-01-31|0|1-2|POST /books/7/held/ask|{"day":"2024-02-10","window":3}
@@ -31,13 +34,18 @@ const LINES: &str = r#"
 200 OK|{"imported":2}
 "#;
 
-const EXPORT: &str = "2024-01-31|0|broker|GET /books/7/export|";
+// What shows the books: the text of each, and the ring to whoever has its receipts.
+const SHOWN: [&str; 3] = [
+    "2024-01-31|0|broker|GET /books/7/export|",
+    "2024-01-31|0|broker|GET /books/8/export|",
+    "2024-01-31|0|1-1+1-2|GET /books/7/held|",
+];
 
-// What a store holds: its counts, and the answer to an export.
+// What a store holds: its counts, and what shows its books.
 #[derive(Drop)]
 struct Content {
     counts: Counts,
-    text: Answer,
+    texts: Vec<Answer>,
 }
 
 fn bytes_of(answer: &Answer) -> &[u8] {
@@ -47,18 +55,41 @@ fn bytes_of(answer: &Answer) -> &[u8] {
     }
 }
 
+// What a service shows of its books.
+fn texts_of<K: Keep>(
+    rt: &impl Abort,
+    alloc: Global,
+    service: &mut Service<K>,
+) -> Result<Vec<Answer>, Fail> {
+    let mut texts = Vec::new(alloc);
+    for line in SHOWN {
+        let (stamp, asked) = request(rt, alloc, line)?;
+        texts.push(service.answer_one(&stamp, asked.as_slice()))?;
+    }
+    Ok(texts)
+}
+
+// Whether two stores hold the same.
+fn is_same(one: &Content, other: &Content) -> bool {
+    for (ours, theirs) in one.texts.iter().zip(other.texts.as_slice()) {
+        if bytes_of(ours) != bytes_of(theirs) {
+            return false;
+        }
+    }
+    one.counts == other.counts
+}
+
 // What a host of lists holds after each front of these turns, the empty one first.
 fn contents(rt: &impl Abort, alloc: Global, turns: &[Turn]) -> Result<Vec<Content>, Fail> {
-    let (stamp, export) = request(rt, alloc, EXPORT)?;
     let mut contents = Vec::new(alloc);
     for end in 0..=turns.len() {
         let mut service = service_of(rt, alloc, 100);
         for turn in &turns[..end] {
             service.answer_one(&turn.stamp, turn.request.as_slice());
         }
-        let text = service.answer_one(&stamp, export.as_slice());
+        let texts = texts_of(rt, alloc, &mut service)?;
         let counts = check(&mut service.into_keep()).ok().ok_or("judged")?;
-        contents.push(Content { counts, text })?;
+        contents.push(Content { counts, texts })?;
     }
     Ok(contents)
 }
@@ -104,11 +135,10 @@ fn content_in<S: Alter + Drop>(
     alloc: Global,
     conn: Connection<S>,
 ) -> Result<Content, Fail> {
-    let (stamp, export) = request(rt, alloc, EXPORT)?;
     let mut keep = TableKeep::over(alloc, conn).ok().ok_or("at rest")?;
     let counts = check(&mut keep).ok().ok_or("judged")?;
-    let text = service_over(rt, alloc, keep).answer_one(&stamp, export.as_slice());
-    Ok(Content { counts, text })
+    let texts = texts_of(rt, alloc, &mut service_over(rt, alloc, keep))?;
+    Ok(Content { counts, texts })
 }
 
 // What the disks hold when they are opened again.
@@ -131,9 +161,11 @@ fn stops(rt: &impl Abort, alloc: Global, is_log: bool, first: u64, step: u64) ->
         };
         let (answered, left) = stopped(rt, alloc, disks, turns.as_slice())?;
         let found = content_of(rt, alloc, left)?;
-        let stands = contents.iter().skip(answered).take(2).any(|one| {
-            one.counts == found.counts && bytes_of(&one.text) == bytes_of(&found.text)
-        });
+        let stands = contents
+            .iter()
+            .skip(answered)
+            .take(2)
+            .any(|one| is_same(one, &found));
         assert!(rt; stands, "{answered} answered, {calls} calls");
         runs = runs.saturating_add(1);
         if answered == turns.len() {

@@ -1,7 +1,9 @@
 //! Texts into writers that fail at one call alone.
 ghost use Rattle.std.specs.Prelude.{Some};
 
-use super::{STATEMENT, day, make_book, number, one_pledge, take_ring};
+use super::{
+    STATEMENT, acts, broker, day, make_book, number, one_pledge, opening, take_ring, taken,
+};
 use pawn_book::Keep;
 use pawn_keeper::TableKeep;
 use pawn_opening::open_memory;
@@ -18,10 +20,11 @@ enum Failure {
     Nothing,
 }
 
-// A writer that takes seven bytes a call, fails at one call alone, and counts its calls.
+// A writer that takes so many bytes a call, fails at one call alone, and counts its calls.
 #[derive(Drop)]
 struct Flaky {
     taken: Vec<u8>,
+    most: usize,
     calls: usize,
     failing: usize,
     failure: Failure,
@@ -38,7 +41,7 @@ impl Write for Flaky {
                 Failure::Nothing => Ok(0),
             };
         }
-        let most = buf.len().min(7);
+        let most = buf.len().min(self.most);
         self.taken.extend_from_slice(&buf[..most])?;
         Ok(most)
     }
@@ -51,6 +54,7 @@ impl Write for Flaky {
 fn failing_at(alloc: Global, failing: usize, failure: Failure) -> Writing<Flaky> {
     Writing::new(Flaky {
         taken: Vec::new(alloc),
+        most: 7,
         calls: 0,
         failing,
         failure,
@@ -115,7 +119,17 @@ fn a_writer_that_fails_leaves_the_tables(rt: HostRuntime) -> Result<(), Fail> {
     take_ring(alloc, &mut keep)?;
     let calls = calls_of_all(alloc, &mut keep)?;
     assert!(rt; calls > 20);
-    assert!(rt; stops_at(alloc, &mut keep, 2, Failure::Error)?);
+    let mut writer = Writing::new(Flaky {
+        taken: Vec::new(alloc),
+        most: 1,
+        calls: 0,
+        failing: 2,
+        failure: Failure::Error,
+    });
+    assert_eq!(rt; states(&mut keep, &mut writer)?, Err(ViewFault::Write));
+    assert_eq!(rt; writer.into_inner().taken.as_slice(), b"P".as_slice());
+    let second = broker(opening(alloc, "A2", 7_500)?);
+    acts(alloc, &mut keep, taken()?, second)?;
     assert_eq!(rt; calls_of_all(alloc, &mut keep)?, calls);
     Ok(())
 }
