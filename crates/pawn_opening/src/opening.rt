@@ -1,4 +1,4 @@
-ghost use Rattle.std.specs.Prelude.{◌≡◌, ◌≤◌, ◌⊎◌, false, IfErr, IfOk, IfSome, IsTrue};
+ghost use Rattle.std.specs.Prelude.{◌≡◌, ◌≤◌, ◌⊎◌, None, false, IfErr, IfOk, IfSome, IsTrue};
 ghost use Rattle.sqlite.specs.Steps.{over_memory};
 ghost use Rattle.sqlite.specs.Held.{state};
 ghost use Rattle.sqlite.specs.State.{HasCleanDisk};
@@ -76,6 +76,7 @@ pub fn open_path<S: Start>(
     ensures blank { IfOk result (λ conn. HasCleanDisk (file_state conn) → IsBlank (image_at S.Start) → OpensAs (file_state conn) (empty_host limit)) }
     ensures stands { IfOk result (λ conn. HasCleanDisk (file_state conn) → (h : Host) → StandsIn (image_at S.Start) h → OpensAs (file_state conn) h) }
     ensures mode { IfOk result (λ conn. conn.in_transaction ≡ false) }
+    ensures unopened { IfErr result (λ e. e.1 ≡ None → IsStoreFault e.0) }
     ensures refuses { IfErr result (λ e. IfSome e.1 (λ rest. IsCleanLeft rest → IsStoreFault e.0 ⊎ IsRefusedStore (image_at S.Start) limit e.0 rest)) }
 {
     let files = match files_at(rt, path, start) {

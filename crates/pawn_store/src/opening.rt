@@ -1,5 +1,5 @@
 //! Stores that are opened as keepers, and closed.
-ghost use Rattle.std.specs.Prelude.{◌≤◌, ◌⊎◌, IfErr, IfOk, IfSome, IsTrue};
+ghost use Rattle.std.specs.Prelude.{◌≡◌, ◌≤◌, ◌⊎◌, None, IfErr, IfOk, IfSome, IsTrue};
 ghost use Rattle.sqlite.specs.Files.{IsCleanLeft, file_state, image_of};
 ghost use Rattle.sqlite.specs.Held.{state};
 ghost use Rattle.sqlite.specs.State.{HasCleanDisk};
@@ -49,6 +49,7 @@ pub fn keep_at_path<S: Start>(
     requires most { limit ≤ 10000000 }
     ensures blank { IfOk result (λ keep. HasCleanDisk (file_state keep.conn) → IsBlank (image_at S.Start) → OpensAs (file_state keep.conn) (empty_host limit)) }
     ensures stands { IfOk result (λ keep. HasCleanDisk (file_state keep.conn) → (h : Host) → StandsIn (image_at S.Start) h → OpensAs (file_state keep.conn) h) }
+    ensures unopened { IfErr result (λ e. e.1 ≡ None → IsStoreFault e.0) }
     ensures refuses { IfErr result (λ e. IfSome e.1 (λ rest. IsCleanLeft rest → IsStoreFault e.0 ⊎ IsRefusedStore (image_at S.Start) limit e.0 rest)) }
 {
     let conn = match open_path(rt, path, start, limit) {
