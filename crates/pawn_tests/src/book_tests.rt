@@ -1,9 +1,10 @@
+use crate::asking::acted;
 use pawn_book::{
     Article, BearerCommand, BearerRequest, Booking, BookingState, BrokerCommand, BrokerRequest,
     Caller, Capacity, Command, Decision, Done, Entry, Flow, Keep, Kind, ListKeep, Name, NewBook,
     NewTerms, Number, Opening, Paper, Pledge, PledgeRefusal, Rates, Receipt, Receipts, Reference,
-    Refusal, Reply, Request, RequestDay, Secret, Sort, Stamp, Status, TermsFault, Visitor, act,
-    commit, find_live, gate, plan,
+    Refusal, Reply, Request, RequestDay, Secret, Sort, Stamp, Status, TermsFault, Visitor, commit,
+    find_live, gate, plan,
 };
 use pawn_check::{Counts, check};
 use pawn_debt::DebtFault;
@@ -154,11 +155,8 @@ fn answers(alloc: Global, keep: &mut ListKeep, turn: &Turn) -> Result<bool, Fail
         word: turn.word,
     };
     let request = request_of(alloc, turn)?;
-    if !request.caller.writes() {
-        return Ok(false);
-    }
-    let answer = act(alloc, keep, Secret::of_word(OPERATOR), &stamp, &request);
-    Ok(answer == turn.answer)
+    let operator = Secret::of_word(OPERATOR);
+    Ok(acted(alloc, keep, operator, &stamp, &request) == Some(turn.answer))
 }
 
 // Whether it answers each turn so.
@@ -205,7 +203,7 @@ fn told(n: u64, done: Done) -> Result<Result<Reply, Refusal>, Fail> {
     }))
 }
 
-fn books_are_made(alloc: Global, mut keep: ListKeep) -> Result<bool, Fail> {
+fn books_are_made(alloc: Global, keep: &mut ListKeep) -> Result<bool, Fail> {
     let made = Ok(Reply::BookMade(number(7)?));
     let terms = Ok(Reply::TermsPut(1));
     let stranger = Ask::Make {
@@ -229,12 +227,13 @@ fn books_are_made(alloc: Global, mut keep: ListKeep) -> Result<bool, Fail> {
         asked(1, put(1, 5), Err(Refusal::TermsSeq)),
         asked(1, put(2, 20_001), rate),
     ];
-    plays(alloc, &mut keep, &turns)
+    plays(alloc, keep, &turns)
 }
 
 #[test]
 fn a_book_and_its_terms_are_made_once(rt: HostRuntime) -> Result<(), Fail> {
-    assert!(rt; books_are_made(rt.alloc(), ListKeep::new(rt.alloc(), 1000))?);
+    let mut keep = ListKeep::new(rt.alloc(), 1000);
+    assert!(rt; books_are_made(rt.alloc(), &mut keep)?);
     Ok(())
 }
 
@@ -281,7 +280,7 @@ fn repaid() -> Result<Result<Reply, Refusal>, Fail> {
 }
 
 // An opening and a repayment are told again to whoever passes, and by a receipt that was replaced to nobody.
-fn repeats_are_told(alloc: Global, mut keep: ListKeep) -> Result<bool, Fail> {
+fn repeats_are_told(alloc: Global, keep: &mut ListKeep) -> Result<bool, Fail> {
     let amount = Err(Refusal::Pledge(PledgeRefusal::Debt(DebtFault::BadAmount)));
     let declared = told(1, Done::Declared(Secret::of_word(99)))?;
     let turns = [
@@ -293,12 +292,13 @@ fn repeats_are_told(alloc: Global, mut keep: ListKeep) -> Result<bool, Fail> {
         asked(3, bearer(1, 33, REPAY), Err(Refusal::NoSuchReceipt)),
         asked(3, bearer(1, 99, REPAY), repaid()?),
     ];
-    Ok(pledges(alloc, &mut keep)? && plays(alloc, &mut keep, &turns)?)
+    Ok(pledges(alloc, keep)? && plays(alloc, keep, &turns)?)
 }
 
 #[test]
 fn a_repeat_is_told_to_whoever_passes(rt: HostRuntime) -> Result<(), Fail> {
-    assert!(rt; repeats_are_told(rt.alloc(), ListKeep::new(rt.alloc(), 1000))?);
+    let mut keep = ListKeep::new(rt.alloc(), 1000);
+    assert!(rt; repeats_are_told(rt.alloc(), &mut keep)?);
     Ok(())
 }
 
@@ -346,7 +346,7 @@ fn booked(n: u64, state: BookingState) -> Result<Result<Reply, Refusal>, Fail> {
 const CONFIRM: Command = Command::DecideBooking(Decision::Confirm);
 
 // Whether a booking that was confirmed is counted, and books and pledges are found.
-fn bookings_are_counted(alloc: Global, mut keep: ListKeep) -> Result<bool, Fail> {
+fn bookings_are_counted(alloc: Global, keep: &mut ListKeep) -> Result<bool, Fail> {
     let (book, wanted) = (number(7)?, day()?);
     let ask = Command::AskBooking {
         day: wanted,
@@ -356,19 +356,39 @@ fn bookings_are_counted(alloc: Global, mut keep: ListKeep) -> Result<bool, Fail>
         asked(3, bearer(1, 33, ask), booked(1, BookingState::Asked)?),
         asked(3, broker(1, CONFIRM), booked(1, BookingState::Confirmed)?),
     ];
-    if !pledges(alloc, &mut keep)? || !plays(alloc, &mut keep, &turns)? {
+    if !pledges(alloc, keep)? || !plays(alloc, keep, &turns)? {
         return Ok(false);
     }
     let count = keep.confirmed_count(book, wanted.day(), 3)?;
     let books = (keep.next_book(None)?, keep.next_book(Some(book))?);
-    let sums = (sum_of(&mut keep, 9)?, sum_of(&mut keep, 1)?);
+    let sums = (sum_of(keep, 9)?, sum_of(keep, 1)?);
     Ok(count == 1 && books == (Some(book), None) && sums == (3, 1))
 }
 
 #[test]
 fn a_window_is_counted_over_all_pledges(rt: HostRuntime) -> Result<(), Fail> {
-    assert!(rt; bookings_are_counted(rt.alloc(), ListKeep::new(rt.alloc(), 1000))?);
+    let mut keep = ListKeep::new(rt.alloc(), 1000);
+    assert!(rt; bookings_are_counted(rt.alloc(), &mut keep)?);
     Ok(())
+}
+
+// What comes of a request that is planned and then made. Nothing does where the plan is refused.
+fn made_of(
+    alloc: Global,
+    keep: &mut ListKeep,
+    stamp: &Stamp,
+    request: &Request,
+) -> Option<Result<Reply, Refusal>> {
+    if !request.caller.writes() {
+        return None;
+    }
+    match plan(alloc, keep, Secret::of_word(OPERATOR), stamp, request) {
+        Err(_) => None,
+        Ok(planned) => match commit(keep, &planned) {
+            Err(refusal) => Some(Err(refusal)),
+            Ok(()) => Some(Ok(planned.reply)),
+        },
+    }
 }
 
 // Whether a turn's plan is committed as the turn is to be answered.
@@ -378,56 +398,49 @@ fn commits(alloc: Global, keep: &mut ListKeep, turn: &Turn) -> Result<bool, Fail
         word: turn.word,
     };
     let request = request_of(alloc, turn)?;
-    if !request.caller.writes() {
-        return Ok(false);
-    }
-    match plan(alloc, keep, Secret::of_word(OPERATOR), &stamp, &request) {
-        Err(_) => Ok(false),
-        Ok(planned) => match commit(keep, &planned) {
-            Err(refusal) => Ok(turn.answer == Err(refusal)),
-            Ok(()) => Ok(turn.answer == Ok(planned.reply)),
-        },
-    }
+    Ok(made_of(alloc, keep, &stamp, &request) == Some(turn.answer))
 }
 
 // Whether the last row is a repayment's, and what is planned and finds no row is not made.
-fn rows_run_out(alloc: Global, mut keep: ListKeep) -> Result<bool, Fail> {
+fn rows_run_out(alloc: Global, keep: &mut ListKeep) -> Result<bool, Fail> {
     let last = asked(3, bearer(1, 33, REPAY), repaid()?);
     let full = asked(3, bearer(2, 44, REPAY), Err(Refusal::Full));
     let ahead = asked(3, put(3, 0), Err(Refusal::TermsSeq));
     Ok(
-        pledges(alloc, &mut keep)?
-            && commits(alloc, &mut keep, &last)?
-            && commits(alloc, &mut keep, &full)?
-            && plays(alloc, &mut keep, &[full, ahead])?,
+        pledges(alloc, keep)?
+            && commits(alloc, keep, &last)?
+            && commits(alloc, keep, &full)?
+            && plays(alloc, keep, &[full, ahead])?,
     )
 }
 
 #[test]
 fn the_row_limit_comes_last(rt: HostRuntime) -> Result<(), Fail> {
-    assert!(rt; rows_run_out(rt.alloc(), ListKeep::new(rt.alloc(), 7))?);
+    let mut keep = ListKeep::new(rt.alloc(), 7);
+    assert!(rt; rows_run_out(rt.alloc(), &mut keep)?);
     Ok(())
 }
 
 // Whether the versions from 1 to 99 can be put, and no further one.
-fn versions_follow(alloc: Global, mut keep: ListKeep) -> Result<bool, Fail> {
+fn versions_follow(alloc: Global, keep: &mut ListKeep) -> Result<bool, Fail> {
     let made = asked(1, make(), Ok(Reply::BookMade(number(7)?)));
-    if !answers(alloc, &mut keep, &made)? {
+    if !answers(alloc, keep, &made)? {
         return Ok(false);
     }
     for version in 1..100u64 {
         let next = asked(2, put(version, version), Ok(Reply::TermsPut(version)));
-        if !answers(alloc, &mut keep, &next)? {
+        if !answers(alloc, keep, &next)? {
             return Ok(false);
         }
     }
     let past = asked(2, put(100, 0), Err(Refusal::TermsFull));
-    answers(alloc, &mut keep, &past)
+    answers(alloc, keep, &past)
 }
 
 #[test]
 fn a_book_has_99_versions_of_terms(rt: HostRuntime) -> Result<(), Fail> {
-    assert!(rt; versions_follow(rt.alloc(), ListKeep::new(rt.alloc(), 1000))?);
+    let mut keep = ListKeep::new(rt.alloc(), 1000);
+    assert!(rt; versions_follow(rt.alloc(), &mut keep)?);
     Ok(())
 }
 
@@ -448,11 +461,11 @@ fn opens(keep: &mut ListKeep, key: u128) -> Result<bool, Fail> {
 }
 
 // Whether the book opens by its key, a receipt is live in its book, and the pledge is inside its period.
-fn reads(alloc: Global, mut keep: ListKeep) -> Result<bool, Fail> {
-    if !pledges(alloc, &mut keep)? || !opens(&mut keep, KEY)? || opens(&mut keep, OPERATOR)? {
+fn reads(alloc: Global, keep: &mut ListKeep) -> Result<bool, Fail> {
+    if !pledges(alloc, keep)? || !opens(keep, KEY)? || opens(keep, OPERATOR)? {
         return Ok(false);
     }
-    if !is_live(&mut keep, 7, 44)? || is_live(&mut keep, 7, 33)? || is_live(&mut keep, 8, 44)? {
+    if !is_live(keep, 7, 44)? || is_live(keep, 7, 33)? || is_live(keep, 8, 44)? {
         return Ok(false);
     }
     match keep.brief(number(7)?, number(2)?) {
@@ -463,7 +476,8 @@ fn reads(alloc: Global, mut keep: ListKeep) -> Result<bool, Fail> {
 
 #[test]
 fn a_receipt_is_live_in_its_book_alone(rt: HostRuntime) -> Result<(), Fail> {
-    assert!(rt; reads(rt.alloc(), ListKeep::new(rt.alloc(), 1000))?);
+    let mut keep = ListKeep::new(rt.alloc(), 1000);
+    assert!(rt; reads(rt.alloc(), &mut keep)?);
     Ok(())
 }
 

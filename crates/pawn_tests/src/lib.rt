@@ -4,6 +4,8 @@
 #![tactic(auto)]
 
 #[cfg(test)]
+mod asking;
+#[cfg(test)]
 mod book_tests;
 #[cfg(test)]
 mod csv_tests;

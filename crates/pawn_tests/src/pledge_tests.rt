@@ -42,21 +42,26 @@ fn answer(pledge: &mut Pledge, text: &[u8], command: Command) -> Result<Done, Fa
     Ok(pledge.apply(&Stamp { day, word: 2 }, &command)?)
 }
 
+// A declaration, a longer period and a repayment.
+fn uses(pledge: &mut Pledge) -> Result<(), Fail> {
+    let until = request_day(b"2024-09-30")?;
+    let repay = Command::Repay {
+        seq: 1,
+        pence: 1000,
+    };
+    answer(pledge, b"2024-03-01", Command::Declare(Paper::Sworn))?;
+    answer(pledge, b"2024-04-01", Command::Extend { until })?;
+    answer(pledge, b"2024-04-02", repay)?;
+    Ok(())
+}
+
 // A pledge with a second secret, a longer period and a repayment.
 fn used(alloc: Global) -> Result<Pledge, Fail> {
     let mut pledge = pledge(alloc, Kind::Fixed(10_000))?;
-    let until = request_day(b"2024-09-30")?;
-    answer(&mut pledge, b"2024-03-01", Command::Declare(Paper::Sworn))?;
-    answer(&mut pledge, b"2024-04-01", Command::Extend { until })?;
-    answer(
-        &mut pledge,
-        b"2024-04-02",
-        Command::Repay {
-            seq: 1,
-            pence: 1000,
-        },
-    )?;
-    Ok(pledge)
+    match uses(&mut pledge) {
+        Ok(()) => Ok(pledge),
+        Err(fail) => Err(fail),
+    }
 }
 
 #[test]

@@ -1,10 +1,11 @@
 //! Imports into a book.
 use super::imports::{Bend, rows};
 use super::{KEY, OPERATOR, answers, asked, day, make, number, put};
+use crate::asking::acted;
 use pawn_book::{
     BookRows, BookingState, BrokerRequest, Caller, Day, Imported, Keep, ListKeep, Number,
     PledgeRows, Reference, Refusal, ReplayableRows, Reply, Request, Rows, Secret, SheetItem, Stamp,
-    act, day_sheet,
+    day_sheet,
 };
 use std::alloc::Global;
 use std::test::Fail;
@@ -37,26 +38,18 @@ fn imports(
     key: u128,
     rows: BookRows,
 ) -> Result<Result<Reply, Refusal>, Fail> {
-    let key = Secret::of_word(key);
+    let (book, day) = (number(7)?, day()?);
+    let (key, operator) = (Secret::of_word(key), Secret::of_word(OPERATOR));
     let rows = ReplayableRows::of_rows(rows).ok().ok_or("rows of no book")?;
-    let request = Request {
-        book: number(7)?,
-        caller: Caller::Broker {
-            key: Secret::of_word(KEY),
-            asked: BrokerRequest::Import { key, rows },
-        },
+    let caller = Caller::Broker {
+        key: Secret::of_word(KEY),
+        asked: BrokerRequest::Import { key, rows },
     };
-    if !request.caller.writes() {
-        return Err("no write")?;
+    let request = Request { book, caller };
+    match acted(alloc, keep, operator, &Stamp { day, word: 1 }, &request) {
+        Some(answer) => Ok(answer),
+        None => Err(Fail::from("no write")),
     }
-    let day = day()?;
-    Ok(act(
-        alloc,
-        keep,
-        Secret::of_word(OPERATOR),
-        &Stamp { day, word: 1 },
-        &request,
-    ))
 }
 
 // A keeper with book 7 and room for so many rows.
@@ -90,20 +83,24 @@ fn finds(alloc: Global, keep: &mut ListKeep, reference: &str) -> Result<Option<N
     Ok(keep.find_ref(number(7)?, &reference)?)
 }
 
+// How many entries and secrets a pledge has.
+fn lengths(keep: &mut ListKeep, n: u64) -> Result<Option<(usize, usize)>, Fail> {
+    match keep.pledge(number(7)?, number(n)?)? {
+        Some(pledge) => Ok(Some((pledge.entries().len(), pledge.secrets().len()))),
+        None => Ok(None),
+    }
+}
+
 // Whether what was imported is read as it was.
 fn is_read(alloc: Global, keep: &mut ListKeep) -> Result<bool, Fail> {
     let imported = Imported {
         key: Secret::of_word(IMPORT),
         pledges: 3,
     };
-    let Some(second) = keep.pledge(number(7)?, number(2)?)? else {
-        return Ok(false);
-    };
     Ok(
         has(keep, 3, 3, Some(imported))?
             && finds(alloc, keep, "A3")? == Some(number(3)?)
-            && second.entries().len() == 2
-            && second.secrets().len() == 2,
+            && lengths(keep, 2)? == Some((2, 2)),
     )
 }
 

@@ -246,24 +246,32 @@ fn terms(alloc: Global, third: Rates) -> Result<Rows<Rates>, Fail> {
     Ok(terms)
 }
 
+// Bends a pledge, and bends it again.
+fn bend_twice(alloc: Global, parts: &mut Parts, first: &[Bend], then: &[Bend]) -> Result<(), Fail> {
+    bend_parts(alloc, parts, first)?;
+    bend_parts(alloc, parts, then)
+}
+
+// A pledge to which these things happened, and that is then bent.
+fn bent(alloc: Global, reference: &str, happened: &[Bend], bends: &[Bend]) -> Result<Parts, Fail> {
+    let mut parts = plain(alloc, reference)?;
+    match bend_twice(alloc, &mut parts, happened, bends) {
+        Ok(()) => Ok(parts),
+        Err(fail) => Err(fail),
+    }
+}
+
 // The book's three pledges, one of them bent.
 fn pledges(alloc: Global, number: usize, bends: &[Bend]) -> Result<Vec<Parts>, Fail> {
-    let mut first = plain(alloc, "A1")?;
-    let mut second = plain(alloc, "A2")?;
-    let mut third = plain(alloc, "A3")?;
-    bend_parts(alloc, &mut first, &USED)?;
-    bend_parts(alloc, &mut second, &REDEEMED)?;
-    bend_parts(alloc, &mut third, &SOLD)?;
-    match number {
-        1 => bend_parts(alloc, &mut first, bends)?,
-        2 => bend_parts(alloc, &mut second, bends)?,
-        3 => bend_parts(alloc, &mut third, bends)?,
-        _ => {}
-    }
     let mut pledges = Vec::new(alloc);
-    pledges.push(first)?;
-    pledges.push(second)?;
-    pledges.push(third)?;
+    for (pledge, reference, happened) in [
+        (1usize, "A1", USED.as_slice()),
+        (2, "A2", REDEEMED.as_slice()),
+        (3, "A3", SOLD.as_slice()),
+    ] {
+        let bends = if pledge == number { bends } else { &[] };
+        pledges.push(bent(alloc, reference, happened, bends)?)?;
+    }
     Ok(pledges)
 }
 

@@ -1,8 +1,9 @@
 //! The text of a book without terms and pledges.
 ghost use Rattle.std.specs.Prelude.{Some};
 
+use crate::asking::acted;
 use pawn_book::{
-    Caller, Capacity, ListKeep, Name, NewBook, Number, Request, RequestDay, Secret, Stamp, act,
+    Caller, Capacity, ListKeep, Name, NewBook, Number, Request, RequestDay, Secret, Stamp,
 };
 use pawn_csv::{ExportFault, RowWriter, export};
 use std::alloc::Global;
@@ -39,25 +40,26 @@ fn number(n: u64) -> Result<Number, Fail> {
     Ok(Number::new(n).ok_or("no number")?)
 }
 
-// A keeper of book 7.
-fn one_book(alloc: Global) -> Result<ListKeep, Fail> {
-    let mut keep = ListKeep::new(alloc, 100);
-    let key = Secret::of_word(2);
+// That book 7 be made, by the operator's key.
+fn making(alloc: Global, key: Secret) -> Result<Request, Fail> {
+    let (book, capacity) = (number(7)?, Capacity::new(1).ok_or("no capacity")?);
     let new_book = NewBook {
         key,
         name: Name::of_str(alloc, "High Street")?.ok_or("no name")?,
-        capacity: Capacity::new(1).ok_or("no capacity")?,
+        capacity,
     };
-    let day = RequestDay::of_text(b"2024-01-31")?;
     let caller = Caller::Operator { key, new_book };
-    let book = number(7)?;
-    let request = Request { book, caller };
-    if !request.caller.writes() {
-        return Err(Fail::from("a request that writes nothing"));
-    }
-    match act(alloc, &mut keep, key, &Stamp { day, word: 3 }, &request) {
-        Ok(_) => Ok(keep),
-        Err(_) => Err(Fail::from("refused")),
+    Ok(Request { book, caller })
+}
+
+// A keeper of book 7.
+fn one_book(alloc: Global) -> Result<ListKeep, Fail> {
+    let (key, day) = (Secret::of_word(2), RequestDay::of_text(b"2024-01-31")?);
+    let request = making(alloc, key)?;
+    let mut keep = ListKeep::new(alloc, 100);
+    match acted(alloc, &mut keep, key, &Stamp { day, word: 3 }, &request) {
+        Some(Ok(_)) => Ok(keep),
+        _ => Err(Fail::from("no book")),
     }
 }
 

@@ -1,10 +1,10 @@
 //! Books that came about by requests, exported, read, imported and exported again.
 use super::EXAMPLE;
+use crate::asking::acted;
 use pawn_book::{
     Article, BearerCommand, BearerRequest, BrokerCommand, BrokerRequest, Caller, Capacity, Command,
     Decision, Keep, Kind, ListKeep, Name, NewBook, NewTerms, Number, Opening, Paper, PledgeRefusal,
     Rates, Receipt, Reference, Refusal, ReplayableRows, Reply, Request, RequestDay, Secret, Stamp,
-    act,
 };
 use pawn_csv::{RowWriter, export, import, read_book};
 use pawn_terms::Day;
@@ -54,28 +54,23 @@ fn day_after(days: u64) -> Result<RequestDay, Fail> {
 impl Story {
     // Whether a book does what a caller asks.
     fn ask(&mut self, alloc: Global, book: u64, caller: Caller) -> Result<bool, Fail> {
-        let request = Request {
-            book: number(book)?,
-            caller,
-        };
-        if !request.caller.writes() {
-            return Err(Fail::from("a request that writes nothing"));
-        }
+        let (book, day) = (number(book)?, day_after(self.day)?);
         self.word = self
             .word
             .wrapping_add(0x9E37_79B9_7F4A_7C15_F39C_C060_5CED_C835);
         let stamp = Stamp {
-            day: day_after(self.day)?,
+            day,
             word: self.word,
         };
-        let operator = Secret::of_word(KEY);
-        match act(alloc, &mut self.keep, operator, &stamp, &request) {
-            Ok(_) => Ok(true),
-            Err(Refusal::Pledge(PledgeRefusal::WrongAmount { total })) => {
+        let (operator, request) = (Secret::of_word(KEY), Request { book, caller });
+        match acted(alloc, &mut self.keep, operator, &stamp, &request) {
+            Some(Ok(_)) => Ok(true),
+            Some(Err(Refusal::Pledge(PledgeRefusal::WrongAmount { total }))) => {
                 self.owing = total;
                 Ok(false)
             }
-            Err(_) => Ok(false),
+            Some(Err(_)) => Ok(false),
+            None => Err(Fail::from("a request that writes nothing")),
         }
     }
 

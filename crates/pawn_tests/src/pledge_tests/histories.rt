@@ -65,11 +65,12 @@ fn is_handed_back(pledge: &Pledge) -> Result<bool, Fail> {
 
 // Whether the parts of what became of a pledge make it again, and bent parts don't.
 fn is_kept(alloc: Global, pence: u64, chosen: u32) -> Result<bool, Fail> {
+    let day = day(b"2024-12-31")?;
     let pledge = pledge_of(alloc, pence, chosen)?;
-    if !is_same_again(&pledge, day(b"2024-12-31")?)? {
-        return Ok(false);
+    match is_same_again(&pledge, day) {
+        Ok(true) => is_handed_back(&pledge),
+        other => other,
     }
-    is_handed_back(&pledge)
 }
 
 #[test]

@@ -1,0 +1,18 @@
+//! What comes of a request that changes something.
+use pawn_book::{ListKeep, Refusal, Reply, Request, Secret, Stamp, act};
+use std::alloc::Global;
+
+/// What a keeper answers to a request, unless the request only reads.
+pub fn acted(
+    alloc: Global,
+    keep: &mut ListKeep,
+    operator: Secret,
+    stamp: &Stamp,
+    request: &Request,
+) -> Option<Result<Reply, Refusal>> {
+    if request.caller.writes() {
+        Some(act(alloc, keep, operator, stamp, request))
+    } else {
+        None
+    }
+}
