@@ -4,8 +4,9 @@
 usage: bench/files.py [--small] [PROGRAM]     (default: the program that `rt run` built in crates/pawnd)
 
 The files are made by the program and filled by Python's sqlite3, row by row as the program would. A request's time is that from
-the first reply of a stream to the last, over a fresh copy of the file each time; the best of some runs. With `--small` there are
-fewer pledges and runs, to try the script with a program that was built without proofs.
+the first reply of a stream to the last, over a fresh copy of the file each time; the best of some runs. A repayment and a bare
+insert are measured in turns, since both wait for the disk, and the repayment once more over a file in memory, where nothing does.
+With `--small` there are fewer pledges and runs, to try the script with a program that was built without proofs.
 """
 import os
 import random
@@ -25,6 +26,7 @@ if NAMED:
 from service import BROKER, OPERATOR, PROGRAM, SEED, free_port, request  # noqa: E402
 
 RUNS = 1 if SMALL else 5
+TURNS = 1 if SMALL else 15        # the runs of a stream beside bare inserts
 EACH = 6 if SMALL else 1_000      # the pledges of a book among others
 WHOLE = 40 if SMALL else 10_000   # the pledges of a book alone
 LONG = 30 if SMALL else 999       # the entries of a long list
@@ -75,19 +77,42 @@ def replies(ran):
     return whole, (ended - begun) / max(found - first, 1)
 
 
+def once(path, stream, wanted, place=None):
+    """The time of a request of the stream, in microseconds, over a copy of the file, beside it or in another place."""
+    with tempfile.TemporaryDirectory(dir=place or os.path.dirname(path)) as folder, tempfile.TemporaryFile() as asked:
+        asked.write(b"".join(stream))
+        asked.seek(0)
+        scratch = shutil.copy(path, folder)
+        ran = subprocess.Popen([PROGRAM, "answer", scratch, "2024-01-31", SEED, OPERATOR], stdin=asked, stdout=subprocess.PIPE)
+        whole, spent = replies(ran)
+        assert ran.wait() == 0 and whole.count(OK) == len(stream) and whole.count(wanted) >= len(stream), whole[-400:]
+    return spent * 1e6
+
+
 def each(path, stream, wanted):
-    """The best time of a request of the stream, in microseconds, of some runs over a copy of the file."""
-    best = None
-    for _ in range(RUNS):
-        with tempfile.TemporaryDirectory(dir=os.path.dirname(path)) as folder, tempfile.TemporaryFile() as asked:
-            asked.write(b"".join(stream))
-            asked.seek(0)
-            scratch = shutil.copy(path, folder)
-            ran = subprocess.Popen([PROGRAM, "answer", scratch, "2024-01-31", SEED, OPERATOR], stdin=asked, stdout=subprocess.PIPE)
-            whole, spent = replies(ran)
-            assert ran.wait() == 0 and whole.count(OK) == len(stream) and whole.count(wanted) >= len(stream), whole[-400:]
-        best = spent if best is None else min(best, spent)
-    return best * 1e6
+    """The best time of some runs."""
+    return min(once(path, stream, wanted) for _ in range(RUNS))
+
+
+def bare(folder):
+    """The time of a row and its commit in SQLite, its log synced at each, in microseconds."""
+    with tempfile.TemporaryDirectory(dir=folder) as scratch:
+        base = sqlite3.connect(os.path.join(scratch, "bare.db"), isolation_level=None)
+        base.execute("PRAGMA journal_mode = WAL")
+        base.execute("PRAGMA synchronous = FULL")
+        base.execute("CREATE TABLE entries (book INTEGER, number INTEGER, seq INTEGER, day INTEGER, sort INTEGER, pence INTEGER, PRIMARY KEY (book, number, seq)) STRICT")
+        begun = time.perf_counter()
+        for seq in range(1000):
+            base.execute("INSERT INTO entries VALUES (1, 1, ?, 1, 1, 1)", (seq,))
+        spent = time.perf_counter() - begun
+        base.close()
+    return spent * 1e3
+
+
+def beside_bare(path, stream, wanted):
+    """The best time of a request that changes a book, and that of a bare insert, run in turns."""
+    runs = [(once(path, stream, wanted), bare(os.path.dirname(path))) for _ in range(TURNS)]
+    return tuple(min(spent) for spent in zip(*runs))
 
 
 def view(name):
@@ -113,16 +138,24 @@ def line(name, *numbers):
 
 def among_others(folder):
     """Requests about books of 1,000 pledges, in files of 1, 10 and 100 such books: what grows down a column grows with other books."""
-    print(f"{f'microseconds a request, books of {EACH} pledges':46}" + "".join(f"{name:>12}" for name in ("view", "repayment", "opening", "day sheet", "export")))
+    print(f"{f'microseconds a request, books of {EACH} pledges':46}" + "".join(f"{name:>12}" for name in ("view", "repayment", "bare insert", "opening", "day sheet", "export")))
     for books in (1, 10, 100):
         path = os.path.join(folder, f"{books}.db")
         fill(path, books, EACH)
         names = [(book, number) for book in range(1, books + 1) for number in range(1, EACH + 1)]
         chosen = random.Random(books).sample(names, min(ASKED, len(names)))
-        numbers = (each(path, [view(name) for name in chosen], b"Status inside"), each(path, [repayment(name) for name in chosen], b'"sort"'),
+        numbers = (each(path, [view(name) for name in chosen], b"Status inside"), *beside_bare(path, [repayment(name) for name in chosen], b'"sort"'),
                    each(path, [opening(number) for number in range(ASKED)], b'"receipt"'),
                    each(path, [broker("days/2024-07-31")] * 3, b"Ends "), each(path, [broker("export")] * 3, b"\nP,"))
-        print(f"{f'{books} of them, {books * EACH} pledges':46}" + "".join(f"{number:12.1f}" for number in numbers), flush=True)
+        line(f"{books} of them, {books * EACH} pledges", *numbers)
+
+
+def in_memory(folder):
+    """The same repayments over a file in memory: what the program takes itself."""
+    path = os.path.join(folder, "10.db")
+    names = [(book, number) for book in range(1, 11) for number in range(1, EACH + 1)]
+    chosen = random.Random(10).sample(names, min(ASKED, len(names)))
+    line("a repayment among 10 of them, without a disk", min(once(path, [repayment(name) for name in chosen], b'"sort"', "/dev/shm") for _ in range(TURNS)))
 
 
 def one_list(folder):
@@ -166,28 +199,12 @@ def opens(folder):
     line(f"`check` of {100 * EACH} pledges, milliseconds", (time.perf_counter() - judged) * 1e3)
 
 
-def bare(folder):
-    """A row and its commit in SQLite, its log synced at each."""
-    base = sqlite3.connect(os.path.join(folder, "bare.db"), isolation_level=None)
-    base.execute("PRAGMA journal_mode = WAL")
-    base.execute("PRAGMA synchronous = FULL")
-    base.execute("CREATE TABLE entries (book INTEGER, number INTEGER, seq INTEGER, day INTEGER, sort INTEGER, pence INTEGER, PRIMARY KEY (book, number, seq)) STRICT")
-    times = []
-    for _ in range(5):
-        begun = time.perf_counter()
-        for seq in range(1000):
-            base.execute("INSERT INTO entries VALUES (1, ?, ?, 1, 1, 1)", (len(times), seq))
-        times.append((time.perf_counter() - begun) / 1000 * 1e6)
-    base.close()
-    line("a bare durable insert by sqlite3, microseconds", min(times))
-
-
 def main():
     if not os.path.exists(PROGRAM):
         sys.exit("no program: run `rt run` in crates/pawnd first, or name one")
     with tempfile.TemporaryDirectory(dir="/var/tmp") as folder:
-        bare(folder)
         among_others(folder)
+        in_memory(folder)
         one_list(folder)
         one_book(folder)
         opens(folder)
