@@ -136,14 +136,19 @@ def line(name, *numbers):
     print(f"{name:46}" + "".join(f"{number:12.1f}" for number in numbers), flush=True)
 
 
+def chosen_among(books):
+    """The pledges that a stream asks about, drawn from so many books."""
+    names = [(book, number) for book in range(1, books + 1) for number in range(1, EACH + 1)]
+    return random.Random(books).sample(names, min(ASKED, len(names)))
+
+
 def among_others(folder):
     """Requests about books of 1,000 pledges, in files of 1, 10 and 100 such books: what grows down a column grows with other books."""
     print(f"{f'microseconds a request, books of {EACH} pledges':46}" + "".join(f"{name:>12}" for name in ("view", "repayment", "bare insert", "opening", "day sheet", "export")))
     for books in (1, 10, 100):
         path = os.path.join(folder, f"{books}.db")
         fill(path, books, EACH)
-        names = [(book, number) for book in range(1, books + 1) for number in range(1, EACH + 1)]
-        chosen = random.Random(books).sample(names, min(ASKED, len(names)))
+        chosen = chosen_among(books)
         numbers = (each(path, [view(name) for name in chosen], b"Status inside"), *beside_bare(path, [repayment(name) for name in chosen], b'"sort"'),
                    each(path, [opening(number) for number in range(ASKED)], b'"receipt"'),
                    each(path, [broker("days/2024-07-31")] * 3, b"Ends "), each(path, [broker("export")] * 3, b"\nP,"))
@@ -152,10 +157,8 @@ def among_others(folder):
 
 def in_memory(folder):
     """The same repayments over a file in memory: what the program takes itself."""
-    path = os.path.join(folder, "10.db")
-    names = [(book, number) for book in range(1, 11) for number in range(1, EACH + 1)]
-    chosen = random.Random(10).sample(names, min(ASKED, len(names)))
-    line("a repayment among 10 of them, without a disk", min(once(path, [repayment(name) for name in chosen], b'"sort"', "/dev/shm") for _ in range(TURNS)))
+    path, stream = os.path.join(folder, "10.db"), [repayment(name) for name in chosen_among(10)]
+    line("a repayment among 10 of them, without a disk", min(once(path, stream, b'"sort"', "/dev/shm") for _ in range(TURNS)))
 
 
 def one_list(folder):
