@@ -226,7 +226,7 @@ unfound h b n k is low high none = there 1 k.pledges n low (omega (arith, high))
 -- ---- a book that is not sound
 
 pub unsound_at : (h : Host) (b : ℕ) (k : BookValue) → get h.books b ≡ Some k → (IsSoundBook k → ⊥) → HasUnsoundBook h
-unsound_at h b k is refuted = (b, k, is, λ sound. refuted sound.1)
+unsound_at h b k is refuted = (b, (k, is, λ sound. refuted sound.1))
 
 -- a pledge that does not fit
 pub unfit_at : (h : Host) (b n : ℕ) (k : BookValue) (p : PledgeValue) → get h.books b ≡ Some k → pledge_from 1 k.pledges n ≡ Some p → (FitsAt k n p → ⊥) → HasUnsoundBook h

@@ -295,7 +295,7 @@ pub one_is_left : (h : Host) (a books pledges left : ℕ) → AreMet h a books p
 one_is_left h a books pledges left before last some = go (get h.books 0) refl
   where
     go : (o : Option BookValue) → get h.books 0 ≡ o → HasUnsoundBook h
-    go (Some k) is = (0, k, is, λ sound. absurd (let low = sound.0.0 in omega (arith, low)))
+    go (Some k) is = (0, (k, is, λ sound. absurd (let low = sound.0.0 in omega (arith, low))))
     go None none =
         let all = all_met book_rows a (entries h.books) (entries_sorted h.books) (λ b x at. last b x (there h b x at)) (sym (get-entries h.books 0) ∙ none) in
         let sum = rows_are h in
