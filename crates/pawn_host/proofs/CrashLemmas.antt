@@ -10,7 +10,7 @@ use Rattle.pawn_book.specs.Plans.{IsLeftByStep, next_host}
 use Rattle.pawn_book.specs.Runs.{Mark, read_as, no_memory, no_store, host_after_event, host_after_mark}
 use Rattle.pawn_wire.specs.declared.fault.WireFault.{WireFault}
 use Rattle.pawn_host.specs.Run.{Item, event_of, host_after}
-use Rattle.pawn_host.specs.Crashes.{IsDone, IsLeftByMark, IsLeftByRun, IsOneMore, CrashLeavesWhole}
+use Rattle.pawn_host.specs.Crashes.{IsDone, IsLeftByMark, IsLeftByRun, IsLeftWhole, IsOneMore}
 use Rattle.pawn_host.specs.Keeps.{Start, Kept, GoesTo, GoesBy, start_after}
 
 -- ---- where a crash might have left more before
@@ -66,7 +66,7 @@ pub host_after-append : (h : Host) (operator : ℕ) (a b : List Item) → host_a
 host_after-append h operator [] b = refl
 host_after-append h operator (x ∷ a) b = host_after-append (host_after_event h operator (event_of x)) operator a b
 
-left_by-append : (h : Host) (operator : ℕ) (a b : List Item) (before : Host → Type 0) (left : Host)
+pub left_by-append : (h : Host) (operator : ℕ) (a b : List Item) (before : Host → Type 0) (left : Host)
     → IsLeftByRun (host_after h operator a) operator b (IsLeftByRun h operator a before) left → IsLeftByRun h operator (a ++ b) before left
 left_by-append h operator [] b before left by = by
 left_by-append h operator (x ∷ a) b before left by =
@@ -128,8 +128,9 @@ whole_run h operator (x ∷ items) before left by = from (whole_run next operato
     from (inr (inl is)) = inr (inl is)
     from (inr (inr m)) = inr (inr record { place = suc m.place; item = m.item; there = m.there; unwell = m.unwell; done = m.done })
 
-pub crash_leaves_whole : CrashLeavesWhole
-crash_leaves_whole h operator items left by = elim (whole_run h operator items (λ g. g ≡ h) left by) [
-  | inl s ↦ inl (s.0 ∙ sym s.1)
+pub crash_leaves_whole : (h : Host) (operator : ℕ) (items : List Item) (before : Host → Type 0) → ((g : Host) → before g → g ≡ h) → (left : Host)
+    → IsLeftByRun h operator items before left → IsLeftWhole h operator items left
+crash_leaves_whole h operator items before alone left by = elim (whole_run h operator items before left by) [
+  | inl s ↦ inl (alone left s.0 ∙ sym s.1)
   | inr whole ↦ whole
 ]

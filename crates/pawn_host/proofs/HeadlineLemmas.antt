@@ -9,8 +9,8 @@ use Rattle.pawn_book.specs.declared.request.Request.{Request}
 use Rattle.pawn_book.specs.BookStep.{Out, Told, Denied, Shown, Listed, Exported, out_of}
 use Rattle.pawn_book.specs.HostStep.{Host, host_step}
 use Rattle.pawn_book.specs.Runs.{Mark, read_as, no_memory, no_store, host_after_event, mark_reply, is_settled}
-use Rattle.pawn_book.specs.Traces.{slot_trace}
-use Rattle.pawn_book.specs.Machines.{solo_reply}
+use Rattle.pawn_book.specs.Traces.{book_trace, slot_trace}
+use Rattle.pawn_book.specs.Machines.{reply_alone, solo_reply}
 use Rattle.pawn_book.proofs.Sounds.{absurd_none, some_is}
 use Rattle.pawn_book.proofs.SlotRuns.{books_answer_alone, slots_answer_alone}
 use Rattle.pawn_wire.specs.Request.{Reads}
@@ -19,7 +19,7 @@ use Rattle.pawn_wire.proofs.RequestLemmas.{reads_unique}
 use Rattle.pawn_host.specs.Run.{Item, IsMarkOf, IsMarked, event_of, events, host_after, replies, said_text}
 use Rattle.pawn_host.specs.Keeps.{Start, Kept, IsRun}
 use Rattle.pawn_host.specs.Headline.{AnswerAlone, IsRunOfSlots, IsSettled, by_bearer, reply_bytes}
-use Rattle.pawn_host.specs.Laws.{EqualTracesAnswerAlike, RunsAnswerAlone}
+use Rattle.pawn_host.specs.Laws.{EqualBookTracesAnswerAlike, EqualTracesAnswerAlike, RunsAnswerAlone}
 use Rattle.pawn_host.proofs.RunMore.{marked_all}
 
 -- the answer at a place is what its item was told
@@ -103,6 +103,14 @@ equal_traces_answer_alike h g operator items others marked also i j item twin an
     ∙ ap (λ trace. reply_bytes (solo_reply slot trace b item.stamp asked)) same
     ∙ ap (λ (stamp : Stamp). reply_bytes (solo_reply slot (slot_trace b slot g operator (events (take j others))) b stamp asked)) stamps
     ∙ sym ((runs_answer_alone g operator others also).slots j twin other twin_is twin_told b slot asked twin_read mine twin_settled)
+
+pub equal_book_traces_answer_alike : EqualBookTracesAnswerAlike
+equal_book_traces_answer_alike h g operator items others marked also i j item twin answer other is told twin_is twin_told request read twin_read stamps settled twin_settled start same =
+    (runs_answer_alone h operator items marked).books i item answer is told request read settled
+    ∙ ap (λ book. reply_bytes (reply_alone book operator request.book (book_trace request.book h operator (events (take i items))) item.stamp request.caller)) start
+    ∙ ap (λ trace. reply_bytes (reply_alone (get g.books request.book) operator request.book trace item.stamp request.caller)) same
+    ∙ ap (λ (stamp : Stamp). reply_bytes (reply_alone (get g.books request.book) operator request.book (book_trace request.book g operator (events (take j others))) stamp request.caller)) stamps
+    ∙ sym ((runs_answer_alone g operator others also).books j twin other twin_is twin_told request twin_read twin_settled)
 
 pub run_of_slots : (start : Start) (given : List (Stamp × List ℕ)) (answers : List (List ℕ)) (kept : Kept) → IsRun start given answers kept → IsRunOfSlots start given answers kept
 run_of_slots start given answers kept run =

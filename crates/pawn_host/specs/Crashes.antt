@@ -1,8 +1,9 @@
 -- What a crash may leave after a run.
-use Rattle.std.specs.Prelude.{◌≡◌, ◌⊎◌, ℕ, List, [], ◌∷◌, slice_get, Some, Ok, Err}
+use Rattle.std.specs.Prelude.{◌≡◌, ◌⊎◌, ◌++◌, ℕ, List, [], ◌∷◌, slice_get, Some, Ok, Err}
 use Rattle.pawn_pledge.specs.declared.command.Stamp.{Stamp}
 use Rattle.pawn_book.specs.declared.request.Request.{Request}
 use Rattle.pawn_book.specs.HostStep.{Host, host_step}
+use Rattle.pawn_book.specs.Keeping.{Keeping}
 use Rattle.pawn_book.specs.Plans.{IsLeftByStep, next_host}
 use Rattle.pawn_book.specs.Runs.{Mark, read_as, no_memory, no_store, host_after_event}
 use Rattle.pawn_wire.specs.Request.{Reads}
@@ -36,8 +37,19 @@ pub record IsOneMore (h : Host) (operator : ℕ) (items : List Item) (left : Hos
   pub unwell : (item.mark ≡ no_memory) ⊎ (item.mark ≡ no_store)
   pub done : IsDone h operator item.stamp item.bytes left
 
--- where a crash could have left the host alone before a run, it leaves the host after it, or that one with one request more
-abbrev pub CrashLeavesWhole : Type 0
-CrashLeavesWhole =
-    (h : Host) (operator : ℕ) (items : List Item) (left : Host) → IsLeftByRun h operator items (λ g. g ≡ h) left
-    → (left ≡ host_after h operator items) ⊎ IsOneMore (host_after h operator items) operator items left
+-- a host that a crash may leave once these items were answered from the host: the one after them, or that one with one request more
+abbrev pub IsLeftWhole : Host → ℕ → List Item → Host → Type 0
+IsLeftWhole h operator items left = (left ≡ host_after h operator items) ⊎ IsOneMore (host_after h operator items) operator items left
+
+-- where a crash could have left no host but this one of a keeper before a run, it leaves no others than these
+abbrev pub CrashLeavesWhole : {K : Type 0} → Keeping K → Type 0
+CrashLeavesWhole {K} k =
+    (keep : K) (h : Host) (operator : ℕ) (items : List Item) (left : Host) → ((g : Host) → k.leaves keep g → g ≡ h)
+    → IsLeftByRun h operator items (k.leaves keep) left → IsLeftWhole h operator items left
+
+-- what a crash may leave after two runs in turn is what it may leave after both as one
+abbrev pub CrashesJoin : {K : Type 0} → Keeping K → Type 0
+CrashesJoin {K} k =
+    (keep : K) (h : Host) (operator : ℕ) (a b : List Item) (left : Host)
+    → IsLeftByRun (host_after h operator a) operator b (IsLeftByRun h operator a (k.leaves keep)) left
+    → IsLeftByRun h operator (a ++ b) (k.leaves keep) left

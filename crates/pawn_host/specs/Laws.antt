@@ -1,11 +1,13 @@
 -- Laws of the split, of runs, and of the slots in them.
 use Rattle.std.specs.Prelude.{◌≡◌, ℕ, ◌<◌, ◌≤◌, ◌⊎◌, All, Bool, true, List, [], ◌∷◌, ◌++◌, Some, Ok, length, map, slice_get, take}
+use Rattle.std.specs.FinMap.{get}
 use Rattle.std.specs.List.{concat}
 use Rattle.httparse.specs.Grammar.{RequestHead, ReadsRequest, EndsInTarget, HasNoRequest}
 use Rattle.httparse.specs.Spans.{RequestOverflows}
 use Rattle.pawn_pledge.specs.declared.receipt.Receipt.{Receipt}
 use Rattle.pawn_book.specs.declared.request.BearerRequest.{BearerRequest}
-use Rattle.pawn_book.specs.Traces.{slot_trace}
+use Rattle.pawn_book.specs.declared.request.Request.{Request}
+use Rattle.pawn_book.specs.Traces.{book_trace, slot_trace}
 use Rattle.pawn_book.specs.Machines.{is_slots}
 use Rattle.pawn_wire.specs.Limits.{max_fields, max_head}
 use Rattle.pawn_wire.specs.Request.{Reads}
@@ -116,6 +118,21 @@ FaultIsExact =
 -- each answer to the items of a run, and so of one conversation, is that of a machine alone
 abbrev pub RunsAnswerAlone : Type 0
 RunsAnswerAlone = (h : Host) (operator : ℕ) (items : List Item) → All (IsMarked ⊥) items → AnswerAlone h operator items (replies h operator items)
+
+-- after runs under one operator's key, from two hosts that had the same book, or none, of a number, that left it one trace, its
+-- next request is answered alike
+abbrev pub EqualBookTracesAnswerAlike : Type 0
+EqualBookTracesAnswerAlike =
+    (h g : Host) (operator : ℕ) (items others : List Item) → All (IsMarked ⊥) items → All (IsMarked ⊥) others
+    → (i j : ℕ) (item twin : Item) (answer other : List ℕ)
+    → slice_get items i ≡ Some item → slice_get (replies h operator items) i ≡ Some answer
+    → slice_get others j ≡ Some twin → slice_get (replies g operator others) j ≡ Some other
+    → (request : Request)
+    → Reads item.bytes (Ok request) → Reads twin.bytes (Ok request) → item.stamp ≡ twin.stamp
+    → IsSettled answer → IsSettled other
+    → get h.books request.book ≡ get g.books request.book
+    → book_trace request.book h operator (events (take i items)) ≡ book_trace request.book g operator (events (take j others))
+    → answer ≡ other
 
 -- after runs from two hosts, under one operator's key, that left a slot one trace, its next request is answered alike
 abbrev pub EqualTracesAnswerAlike : Type 0

@@ -1,6 +1,8 @@
 //! Laws of the definitions.
-ghost use Rattle.pawn_host.specs.Crashes.{CrashLeavesWhole};
-ghost use Rattle.pawn_host.specs.Laws.{SplitIsUnique, EqualTracesAnswerAlike, OpenEnds, SplitEndsEarly, SplitBegins, SplitIsFront, ItemsAreUnique, RunReadsEvents, RunsAnswerAlone, RunsJoin, FaultIsExact, NothingIsWanted};
+ghost use Rattle.pawn_host.specs.Crashes.{CrashLeavesWhole, CrashesJoin};
+ghost use Rattle.pawn_host.specs.Laws.{SplitIsUnique, EqualBookTracesAnswerAlike, EqualTracesAnswerAlike, OpenEnds, SplitEndsEarly, SplitBegins, SplitIsFront, ItemsAreUnique, RunReadsEvents, RunsAnswerAlone, RunsJoin, FaultIsExact, NothingIsWanted};
+
+use pawn_book::Keep;
 
 /// A stream has one split, but for its ending in a head that can't be completed.
 pub fn split_is_unique()
@@ -52,13 +54,16 @@ pub fn fault_is_exact()
     ensures law { FaultIsExact }
 {}
 
-/// Each answer of a run is that of one slot alone, and slots with equal traces are answered alike.
+/// Each answer of a run is that of one slot alone, and slots with equal traces are answered alike, and so are books.
 pub fn runs_answer_alone()
     ensures alone { RunsAnswerAlone }
     ensures alike { EqualTracesAnswerAlike }
+    ensures books_alike { EqualBookTracesAnswerAlike }
 {}
 
-/// What a crash may leave is the host after all items, with or without one request that want of memory or the store refused.
-pub fn crash_leaves_whole()
-    ensures law { CrashLeavesWhole }
+/// Where a crash could have left no host but the one before a run, it leaves the host after all items, with or without one
+/// request that want of memory or the store refused; and two runs in turn leave what they leave as one.
+pub fn crash_leaves_whole<K: Keep>()
+    ensures law { CrashLeavesWhole K.keeping }
+    ensures joins { CrashesJoin K.keeping }
 {}

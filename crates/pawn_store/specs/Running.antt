@@ -1,38 +1,102 @@
--- Runs over the tables of a store.
-use Rattle.std.specs.Prelude.{◌≡◌, ◌⊎◌, ℕ, All, List, map}
+-- Requests that are answered over the tables of a store.
+use Rattle.std.specs.Prelude.{◌≡◌, ◌++◌, ℕ, All, List, [], Option, Result, Ok, Err}
+use Rattle.sqlite.specs.Tree.{Trees}
 use Rattle.sqlite_trees.specs.declared.store.Store.{Ghosts}
 use Rattle.sqlite.specs.Held.{state}
-use Rattle.sqlite.specs.State.{State}
+use Rattle.sqlite.specs.State.{State, HasCleanDisk}
+use Rattle.sqlite.specs.Files.{HoldsDatabase}
+use Rattle.sqlite_wal.specs.Recovery.{Image}
 use Rattle.pawn_pledge.specs.declared.command.Stamp.{Stamp}
 use Rattle.pawn_book.specs.HostStep.{Host}
 use Rattle.pawn_book.specs.Sound.{IsSound}
+use Rattle.pawn_tables.specs.StandsFor.{HoldHost}
 use Rattle.pawn_tables.specs.Keeps.{Keeps, Leaves}
 use Rattle.pawn_keeper.specs.declared.keeper.TableKeep.{TableKeep}
-use Rattle.pawn_opening.specs.Opened.{empty_host}
+use Rattle.pawn_opening.specs.Opened.{OpensAs, empty_host}
 use Rattle.pawn_host.specs.declared.service.Service.{Service}
-use Rattle.pawn_host.specs.Crashes.{IsOneMore}
+use Rattle.pawn_host.specs.declared.session.Ended.{Ended}
+use Rattle.pawn_host.specs.declared.session.IoFault.{IoFault}
+use Rattle.pawn_host.specs.Crashes.{IsLeftByRun, IsLeftWhole}
 use Rattle.pawn_host.specs.Headline.{AnswerAlone}
-use Rattle.pawn_host.specs.Keeps.{service_keep}
-use Rattle.pawn_host.specs.Run.{Item, IsMarked, input_of, host_after, replies}
+use Rattle.pawn_host.specs.Keeps.{Start, Kept, IsRun, service_keep}
+use Rattle.pawn_host.specs.Run.{Item, IsMarked, host_after, replies}
+use Rattle.pawn_host.specs.Session.{Given, IsSession}
+use Rattle.pawn_program.specs.Serving.{AreServed, items_of}
 
 -- the store under a service
 abbrev pub store_of : {S : Type 0} (ghosts : Ghosts S) → Service (TableKeep S ghosts) → State
 store_of ghosts service = state ghosts (service_keep service).conn
 
--- a run from the host led to these answers, and left the store so
-pub record IsRunOverTables (h : Host) (operator : ℕ) (given : List (Stamp × List ℕ)) (answers : List (List ℕ)) (store : State) : Type 0 where
-  pub items : List Item
+-- The trees hold a sound host. It is one that a crash may leave once these items were answered from the host: so it is the
+-- host after all of them, or that one with one request more, which want of memory or the store refused.
+pub record HoldOneLeft (h : Host) (operator : ℕ) (items : List Item) (trees : Trees) : Type 0 where
+  pub host : Host
+  pub sound : IsSound host
+  pub held : HoldHost trees host
+  pub exact : IsLeftByRun h operator items (λ g. g ≡ h) host
+  pub whole : IsLeftWhole h operator items host
+
+-- These items were answered over a store since it was opened for the host: its tables stand for the host after all of them,
+-- which is sound, and whatever trees a crash leaves hold that host, or that one with one request more.
+pub record HasAnswered (store : State) (h : Host) (operator : ℕ) (items : List Item) : Type 0 where
   pub marked : All (IsMarked ⊥) items
-  pub given_is : map input_of items ≡ given
-  pub answers_are : answers ≡ replies h operator items
-  -- each answer is that of one book, or of presented receipts, alone
-  pub alone : AnswerAlone h operator items answers
-  -- the tables stand for the host after all items, which is sound
   pub keeps : Keeps store (host_after h operator items)
   pub sound : IsSound (host_after h operator items)
-  -- a crash leaves tables of that host, or of it with one request more, which want of memory or the store refused
-  pub crash : (left : Host) → Leaves store left → (left ≡ host_after h operator items) ⊎ IsOneMore (host_after h operator items) operator items left
+  pub crash : (trees : Trees) → store.may_leave trees → HoldOneLeft h operator items trees
+
+-- where a call over a store starts, and where it ends
+abbrev pub start_at : State → Host → ℕ → Start
+start_at store h operator = record { Steady = ⊥; operator = operator; host = h; leaves = Leaves store }
+
+abbrev pub kept_in : State → Kept
+kept_in store = record { stands = Keeps store; leaves = Leaves store }
+
+-- A call over a store that has answered these items before did this over further ones, each of which was answered as one book,
+-- or presented receipts, alone. The store has then answered all of them.
+pub record ActsOverTables (old new : State) (h : Host) (operator : ℕ) (before : List Item) (Did : Start → Kept → List Item → Type 0) : Type 0 where
+  pub items : List Item
+  pub did : Did (start_at old (host_after h operator before) operator) (kept_in new) items
+  pub alone : AnswerAlone (host_after h operator before) operator items (replies (host_after h operator before) operator items)
+  pub answered : HasAnswered new h operator (before ++ items)
+
+-- the same from each host that the store was opened for, whatever was answered since, while the disk returns what was written
+abbrev pub OverTables : State → State → ℕ → (Start → Kept → List Item → Type 0) → Type 0
+OverTables old new operator Did =
+    (h : Host) (before : List Item) → HasAnswered old h operator before → HasCleanDisk new → ActsOverTables old new h operator before Did
+
+-- a run of these items led to these answers
+abbrev pub RunsItems : List (Stamp × List ℕ) → List (List ℕ) → Start → Kept → List Item → Type 0
+RunsItems given answers start kept items = (run : IsRun start given answers kept) × (run.items ≡ items)
+
+module _ {S : Type 0} (steps : S → Option Stamp → S → Type 0) where
+  -- the items that a session acted on
+  abbrev pub acted_items : (given : Given S) (stamps : S) (written : Option (List ℕ)) (result : Result Ended IoFault) (kept : Kept)
+      → IsSession steps given stamps written result kept → List Item
+  acted_items given stamps written (Ok ended) kept session = session.items
+  acted_items given stamps written (Err fault) kept session = session.items
+
+  -- what a session did, from where it was given these stamps, this stream and what was written before
+  abbrev pub HoldsSession : S → Option (List ℕ) → Option (List ℕ) → S → Option (List ℕ) → Result Ended IoFault → Start → Kept → List Item → Type 0
+  HoldsSession from stream before stamps written result start kept items =
+      (session : IsSession steps (record { start = start; stamps = from; stream = stream; written = before }) stamps written result kept)
+      × (acted_items (record { start = start; stamps = from; stream = stream; written = before }) stamps written result kept session ≡ items)
+
+  -- so many connections were answered
+  abbrev pub ServesConnections : S → S → ℕ → Start → Kept → List Item → Type 0
+  ServesConnections from to answered start kept items = (served : AreServed steps from to start answered kept) × (items_of served.sessions ≡ items)
 
 -- what a new store is opened for
 abbrev pub EmptyHostIsSound : Type 0
 EmptyHostIsSound = (limit : ℕ) → IsSound (empty_host limit)
+
+-- over a store that was opened for a sound host nothing was answered yet
+abbrev pub OpenedHasAnsweredNothing : {S : Type 0} → Ghosts S → Type 0
+OpenedHasAnsweredNothing {S} ghosts =
+    (service : Service (TableKeep S ghosts)) (h : Host) (operator : ℕ) → IsSound h → OpensAs (store_of ghosts service) h → HasAnswered (store_of ghosts service) h operator []
+
+-- where files hold trees that a crash may leave once these items were answered, what is opened of them has answered nothing yet
+-- over the host after all of them, or over that one with one request more
+abbrev pub Reopens : Image → State → Type 0
+Reopens image store =
+    (h : Host) (operator : ℕ) (items : List Item) (trees : Trees) → ∥ HoldsDatabase image trees ∥₁ → HoldOneLeft h operator items trees
+    → (left : Host) × IsLeftWhole h operator items left × ((key : ℕ) → HasAnswered store left key [])

@@ -11,6 +11,7 @@ ghost use Rattle.pawn_tables.specs.Keeps.{Keeps};
 ghost use Rattle.pawn_opening.specs.FilesStand.{IsBlank, IsRefusedStore, StandsIn};
 ghost use Rattle.pawn_opening.specs.Opened.{OpensAs, empty_host};
 ghost use Rattle.pawn_opening.specs.Refusing.{IsStoreFault};
+ghost use Rattle.pawn_store.specs.Running.{Reopens};
 
 use pawn_keeper::TableKeep;
 use pawn_opening::{OpenFault, close_files, open_memory, open_path};
@@ -38,7 +39,9 @@ pub fn keep_in_memory(alloc: Global, limit: u32) -> Result<TableKeep<MemStore>, 
 
 /// A keeper over the store in the file at a path, which is made where there is none, over whatever `start` says of its bytes.
 /// An empty one is laid out for the empty host with this limit; in another the stored limit stands. The limit on rows is 1 to
-/// 10,000,000. Where the store is refused, what is left of the files comes back, once they were opened.
+/// 10,000,000. Where the files hold what a crash left of a store that had answered requests, it is opened for the host of all
+/// of them, or for that one with one request more. Where the store is refused, what is left of the files comes back, once they
+/// were opened.
 pub fn keep_at_path<S: Start>(
     rt: &HostRuntime,
     path: &str,
@@ -49,6 +52,7 @@ pub fn keep_at_path<S: Start>(
     requires most { limit ≤ 10000000 }
     ensures blank { IfOk result (λ keep. HasCleanDisk (file_state keep.conn) → IsBlank (image_at S.Start) → OpensAs (file_state keep.conn) (empty_host limit)) }
     ensures stands { IfOk result (λ keep. HasCleanDisk (file_state keep.conn) → (h : Host) → StandsIn (image_at S.Start) h → OpensAs (file_state keep.conn) h) }
+    ensures reopens { IfOk result (λ keep. HasCleanDisk (file_state keep.conn) → Reopens (image_at S.Start) (file_state keep.conn)) }
     ensures unopened { IfErr result (λ e. e.1 ≡ None → IsStoreFault e.0) }
     ensures refuses { IfErr result (λ e. IfSome e.1 (λ rest. IsCleanLeft rest → IsStoreFault e.0 ⊎ IsRefusedStore (image_at S.Start) limit e.0 rest)) }
 {

@@ -1,30 +1,67 @@
-//! Requests that are answered over the tables of a store.
-ghost use Rattle.std.specs.Prelude.{◌≡◌, IfOk, OnErr, map};
-ghost use Rattle.sqlite.specs.State.{HasCleanDisk};
-ghost use Rattle.pawn_book.specs.HostStep.{Host};
-ghost use Rattle.pawn_book.specs.Sound.{IsSound};
+//! Requests that are answered over the tables of a store: a list of them, a stream, or connections.
+ghost use Rattle.std.specs.Prelude.{◌≡◌, ◌+◌, false, IfOk, OnErr, map};
+ghost use Rattle.pawn_host.specs.Ends.{left_of, reads};
 ghost use Rattle.pawn_host.specs.Keeps.{answer_bytes, service_operator};
-ghost use Rattle.pawn_opening.specs.Opened.{OpensAs};
-ghost use Rattle.pawn_store.specs.Running.{IsRunOverTables, store_of};
+ghost use Rattle.pawn_program.specs.Clock.{GivesDated};
+ghost use Rattle.pawn_view.specs.Ends.{write_failed, written_bytes};
+ghost use Rattle.pawn_store.specs.Running.{HoldsSession, OverTables, RunsItems, ServesConnections, store_of};
 
-use pawn_host::{Answer, Service, Stamp};
+use pawn_host::{Answer, Ended, IoFault, Reading, Service, Stamp, Writing};
 use pawn_keeper::TableKeep;
+use pawn_program::{ClockStamps, Served, serve_on};
 use sqlite::Alter;
 use std::alloc::AllocError;
+use std::io::{Read, Write};
+use std::net::TcpListener;
+use std::time::Clock;
 
-/// Answers these items in their order, over the tables of a store that was opened for a sound host. While the disk returns
-/// what was written, each answer to a request on a book, or to who presents receipts, is that of the book or of those
-/// receipts alone; the tables then stand for the host after all items, and a crash leaves tables of that host, or of
-/// it with one request more that was answered by want of memory or by a fault of the store. Where there is no room for the
-/// answers, nothing was done.
+/// Answers these items in their order, over the tables of a store that was opened for a sound host and has answered some
+/// items since. While the disk returns what was written, each answer to a request on a book, or to who presents receipts, is
+/// that of the book or of those receipts alone; the tables then stand for the host after all items, and whatever a crash leaves
+/// holds that host, or it with one request more that was answered by want of memory or by a fault of the store. Where there is
+/// no room for the answers, nothing was done.
 pub fn run_over_tables<S: Alter>(
     service: &mut Service<TableKeep<S>>,
     items: &[(Stamp, Vec<u8>)],
 ) -> Result<Vec<Answer>, AllocError>
-    ensures headline { IfOk result (λ answers. (h : Host) → IsSound h → OpensAs (store_of S.Store service.old) h → HasCleanDisk (store_of S.Store service.new)
-        → IsRunOverTables h (service_operator service.old) (map (λ p. (p.0, p.1.items)) items.now) (map answer_bytes answers.items) (store_of S.Store service.new)) }
+    ensures headline { IfOk result (λ answers. OverTables (store_of S.Store service.old) (store_of S.Store service.new) (service_operator service.old)
+        (RunsItems (map (λ p. (p.0, p.1.items)) items.now) (map answer_bytes answers.items))) }
     ensures operator { service_operator service.new ≡ service_operator service.old }
     ensures err { OnErr result (service.new ≡ service.old) }
 {
     service.run(items)
+}
+
+/// Answers the requests of a stream as `Service::answer_all` does, over the tables of such a store. What is said of a run is so
+/// of its requests, however the session ended or was broken off.
+pub fn answer_over_tables<S: Alter, R: Read, W: Write, I: Iterator<Item = Stamp>>(
+    service: &mut Service<TableKeep<S>>,
+    reader: &mut Reading<R>,
+    writer: &mut Writing<W>,
+    stamps: &mut I,
+) -> Result<Ended, IoFault>
+    requires fresh { reads reader.old ≡ 0 }
+    requires fine { write_failed writer.old ≡ false }
+    requires can { I.can_next stamps.old }
+    ensures session { OverTables (store_of S.Store service.old) (store_of S.Store service.new) (service_operator service.old)
+        (HoldsSession I.next_gives stamps.old (left_of R.remaining reader.old) (written_bytes W.contents writer.old) stamps.new (written_bytes W.contents writer.new) result) }
+    ensures operator { service_operator service.new ≡ service_operator service.old }
+{
+    service.answer_all(reader, writer, stamps)
+}
+
+/// Answers the requests of so many connections as `serve_on` does, over the tables of such a store. What is said of a run is so
+/// of the requests of all connections.
+pub fn serve_over_tables<S: Alter, C: Clock>(
+    listener: &TcpListener,
+    service: &mut Service<TableKeep<S>>,
+    stamps: &mut ClockStamps<'_, C>,
+    connections: u32,
+) -> Served
+    ensures served { OverTables (store_of S.Store service.old) (store_of S.Store service.new) (service_operator service.old)
+        (ServesConnections GivesDated stamps.old stamps.new result.answered) }
+    ensures counted { result.answered + result.failed ≡ connections }
+    ensures operator { service_operator service.new ≡ service_operator service.old }
+{
+    serve_on(listener, service, stamps, connections)
 }

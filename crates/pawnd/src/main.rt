@@ -14,8 +14,8 @@ use counts::CountsLine;
 use fault::Fault;
 use pawn_check::check;
 use pawn_host::{Reading, Secret, Service, Writing};
-use pawn_program::{ClockStamps, ServeSettings, Settings, SettingsFault, Stamps, Words, serve_on};
-use pawn_store::TableKeep;
+use pawn_program::{ClockStamps, ServeSettings, Settings, SettingsFault, Stamps, Words};
+use pawn_store::{TableKeep, answer_over_tables, serve_over_tables};
 use sqlite::Alter;
 use std::env;
 use std::env::Args;
@@ -84,7 +84,7 @@ fn answer_over<S: Alter + Drop>(
     let mut reader = Reading::new(rt.stdin());
     let mut writer = Writing::new(rt.stdout());
     let mut stamps = Stamps::new(&mut words, settings.day);
-    let end = match service.answer_all(&mut reader, &mut writer, &mut stamps) {
+    let end = match answer_over_tables(&mut service, &mut reader, &mut writer, &mut stamps) {
         Ok(_) => Ok(()),
         Err(_) => Err(Stop::Io),
     };
@@ -137,7 +137,7 @@ fn listen<S: Alter + Drop>(
         return Err(Stop::Io);
     };
     let mut stamps = ClockStamps::new(rt, Words::new(rng));
-    serve_on(&listener, service, &mut stamps, CONNECTIONS);
+    serve_over_tables(&listener, service, &mut stamps, CONNECTIONS);
     Ok(())
 }
 

@@ -5,6 +5,8 @@ use Rattle.sqlite_wal.specs.Files.{image_at}
 use Rattle.pawn_book.specs.HostStep.{Host}
 use Rattle.pawn_opening.specs.FilesStand.{IsBlank, StandsIn}
 use Rattle.pawn_opening.specs.Opened.{OpensAs, empty_host}
+use Rattle.pawn_store.specs.Running.{Reopens}
+use Rattle.pawn_store.proofs.Runs.{reopens}
 use Rattle.pawn_store.proofs.opening.keep_at_path.Goals as goal
 
 pub returns-in-Ok-over-clause-blank : goal.returns-in-Ok-over-clause-blank
@@ -16,3 +18,7 @@ pub returns-in-Ok-over-clause-stands : goal.returns-in-Ok-over-clause-stands
 returns-in-Ok-over-clause-stands g c = subst
     (λ conn. HasCleanDisk (file_state conn) → (h : Host) → StandsIn (image_at g.S.Start) h → OpensAs (file_state conn) h)
     (sym c.in-Ok-over.ensures.same) c.in-Ok.ensures.stands
+
+pub returns-in-Ok-over-clause-reopens : goal.returns-in-Ok-over-clause-reopens
+returns-in-Ok-over-clause-reopens g c = subst (λ conn. HasCleanDisk (file_state conn) → Reopens (image_at g.S.Start) (file_state conn)) (sym c.in-Ok-over.ensures.same)
+    (λ clean. reopens (image_at g.S.Start) _ (c.in-Ok.ensures.stands clean))
