@@ -25,7 +25,7 @@ use Rattle.pawn_tables.specs.Rows.{number, book_row, head_cells, at_most_one}
 use Rattle.pawn_tables.specs.Meta.{meta_row, meta_rows}
 use Rattle.pawn_tables.specs.Heads.{number_cells}
 use Rattle.pawn_tables.specs.At.{is_at, is_above, at_book}
-use Rattle.pawn_tables.specs.StandsFor.{StandsFor}
+use Rattle.pawn_tables.specs.StandsFor.{StandsFor, ListDebts}
 use Rattle.one_table.proofs.Found.{shown_listed, shown_first}
 use Rattle.pawn_tables.proofs.ReadTexts as text
 use Rattle.pawn_tables.proofs.PledgeReads.{short, few}
@@ -140,7 +140,7 @@ pub mapped_one : {A : Type 0} (f : A → ℕ) (o : Option A) → at_most_one (λ
 mapped_one f None = refl
 mapped_one f (Some x) = refl
 
-pub next_shown : (old new : State) (h : Host) (n : ℕ) (rows : List Row) → StandsFor old.now h → Shown text.next_text (number n ∷ []) old new rows → rows ≡ at_most_one number_cells (next_of h n)
+pub next_shown : (old new : State) (h : Host) (n : ℕ) (rows : List Row) → ListDebts old.now h → Shown text.next_text (number n ∷ []) old new rows → rows ≡ at_most_one number_cells (next_of h n)
 next_shown old new h n rows st shown =
     let t : Table = record books { tree = 0 } in
     let cells : Row → Row = λ v. column v 0 ∷ [] in

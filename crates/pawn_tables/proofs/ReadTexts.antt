@@ -60,6 +60,16 @@ pub pledge_is : Asks keep_schema pledge_text (over_table 3 of_pledge pledge_show
 unfolding understood everything
 pledge_is = (refl, refl, (refl, refl))
 
+abbrev pub credit_text : List ℕ
+credit_text = codes "SELECT kind, credit, taken, agreed, version FROM pledges WHERE book = ?1 AND number = ?2"
+
+abbrev pub credit_shows : List Term
+credit_shows = col 1 5 ∷ col 1 6 ∷ col 1 7 ∷ col 1 8 ∷ col 1 10 ∷ []
+
+pub credit_is : Asks keep_schema credit_text (over_table 3 of_pledge credit_shows []) (codes "kind" ∷ codes "credit" ∷ codes "taken" ∷ codes "agreed" ∷ codes "version" ∷ [])
+unfolding understood everything
+credit_is = (refl, refl, (refl, refl))
+
 abbrev pub secrets_text : List ℕ
 secrets_text = codes "SELECT place, day, sort, secret FROM secrets WHERE book = ?1 AND number = ?2 ORDER BY place"
 

@@ -44,6 +44,16 @@ AreOrdered h = (b : ℕ) (k : BookValue) → get h.books b ≡ Some k → IsOrde
 abbrev pub AreStorable : Host → Type 0
 AreStorable h = (b : ℕ) (k : BookValue) → get h.books b ≡ Some k → IsStorable k
 
+-- The tables of books, of terms, of pledges and of entries list the host, whatever the others hold.
+pub record ListDebts (db : Database) (h : Host) : Type 0 where
+  pub schema : db.schema ≡ keep_schema
+  pub books : Holds db.trees 0 (record books { tree = 0 }) (map (λ (e : ℕ × BookValue). book_row e.0 e.1) (entries h.books))
+  pub terms : Holds db.trees 1 (record terms { tree = 1 }) (of_books h terms_listed)
+  pub pledges : Holds db.trees 3 (record pledges { tree = 3 }) (of_pledges h pledge_listed)
+  pub entries : Holds db.trees 6 (record entries_table { tree = 6 }) (of_pledges h entries_listed)
+  pub ordered : AreOrdered h
+  pub storable : AreStorable h
+
 -- The tables list the host, and note the number of their schema, how many rows are counted, and the limit.
 pub record StandsFor (db : Database) (h : Host) : Type 0 where
   pub schema : db.schema ≡ keep_schema
