@@ -13,14 +13,13 @@ use Rattle.pawn_book.specs.declared.fault.KeepError.TheVariants as Keeper
 use Rattle.pawn_book.specs.declared.fault.StoreFault.TheVariants.{NoRecord, Database}
 use Rattle.pawn_opening.proofs.Begun.{opens_as}
 use Rattle.pawn_opening.specs.Opened.{IsAsBefore, OpensAs}
-use Rattle.pawn_opening.specs.Refusing.{NotesSchema}
 use Rattle.pawn_tables.specs.Finding.{Finds}
 use Rattle.pawn_tables.specs.OneHost.{StandForOne}
-use Rattle.pawn_tables.specs.StandsFor.{StandsFor, HoldHost}
+use Rattle.pawn_tables.specs.StandsFor.{StandsFor}
 use Rattle.pawn_move.proofs.Told.{third_is_ours}
 use Rattle.pawn_move.specs.declared.fault.MoveFault.{MoveFault}
 use Rattle.pawn_move.specs.declared.fault.MoveFault.TheVariants.{NotOurs, NewerSchema, Damaged, Store, Memory}
-use Rattle.pawn_move.specs.Migrating.{HoldMoved, HoldSameHost, IsFailure, IsMoved, IsUnmovable, Migrates, MovesStore, StandsForNoSound, TellsNumber, fault_of}
+use Rattle.pawn_move.specs.Migrating.{HoldMoved, HoldSameHost, IsFailure, IsMoved, IsUnmovable, Migrates, MovesStore, TellsNumber, fault_of}
 use Rattle.pawn_move.specs.StandsUnder.{IsSchema, StandsUnder}
 
 -- an older schema is the first or the second

@@ -1,6 +1,5 @@
 -- Tables of an older schema, moved to the program's.
-use Rattle.std.proofs.Common.{◌≡◌, ◌++◌, ℕ, List, [], Option, Some, None, Result, Ok, Err, Bool, true, false, OnOk, IsTrue, refl, sym, ap, subst, ◌∙◌, arith, append-nil}
-use Rattle.std.specs.FinMap.{get}
+use Rattle.std.proofs.Common.{◌≡◌, ◌++◌, ℕ, List, [], Some, Result, Ok, Err, Bool, true, false, IsTrue, refl, sym, ap, subst, ◌∙◌, arith, append-nil}
 use Rattle.std.proofs.Common.{T, flat_map, ◌∷◌}
 use Rattle.std.specs.FinMap.{entries, entries_sorted, get-entries, is_sorted, find as find_key}
 use Rattle.std.specs.Ordering.{nat_cmp}
@@ -22,16 +21,17 @@ use Rattle.pawn_book.specs.declared.fault.KeepError.{KeepError}
 use Rattle.pawn_book.specs.declared.fault.KeepError.TheVariants as Keeper
 use Rattle.pawn_book.specs.declared.fault.StoreFault.TheVariants.{NoRecord, Database}
 use Rattle.one_table.specs.Lending.{IsLent}
-use Rattle.one_table.specs.Listing.{Lists, Listed, with_rows}
-use Rattle.one_table.proofs.Lent.{clean_before, lent_then}
+use Rattle.one_table.specs.Listing.{Lists, with_rows}
+use Rattle.one_table.proofs.Lent.{clean_before}
 use Rattle.pawn_saving.specs.Writing.{IsCarried}
-use Rattle.pawn_saving.proofs.Tailing.{lent_carried, past}
+use Rattle.pawn_saving.proofs.Tailing.{past}
 use Rattle.pawn_tables.specs.Finding.{Finds}
 use Rattle.pawn_tables.specs.Rows.{totals_listed}
 use Rattle.pawn_tables.specs.Schema.{keep_schema}
 use Rattle.pawn_tables.specs.StandsFor.{StandsFor, of_pledges}
-use Rattle.pawn_move.specs.Moving.{AddsTable, IsMoving, Moves, NotesProgram, PutsAll, listed_with}
-use Rattle.pawn_move.specs.StandsUnder.{HasNoExtension, StandsUnder, listed_under}
+use Rattle.pawn_opening.specs.Laying.{AddsTable}
+use Rattle.pawn_move.specs.Moving.{IsMoving, Moves, NotesProgram, PutsAll, listed_with}
+use Rattle.pawn_move.specs.StandsUnder.{HasNoExtension, StandsUnder}
 
 -- ---- what the tables list
 
@@ -85,7 +85,7 @@ noted old new n (Err e) h not clean within notes m = untold e (λ done. StandsFo
 
 -- ---- from the first schema
 
-module _ (s0 s1 s2 : State) (l1 : IsLent s0 s1 true) (l2 : IsLent s1 s2 true) (made1 : AddsTable s0 s1 (Ok tt) first_schema second_schema 15) (made2 : AddsTable s1 s2 (Ok tt) second_schema keep_schema 17) where
+module _ (s0 s1 s2 : State) (l1 : IsLent s0 s1 true) (l2 : IsLent s1 s2 true) (made1 : AddsTable {E = KeepError} s0 s1 (Ok tt) first_schema second_schema 15) (made2 : AddsTable {E = KeepError} s1 s2 (Ok tt) second_schema keep_schema 17) where
   made_first : HasCleanDisk s2 → IsTrue s0.in_transaction → (h : Host) → StandsUnder 1 s0.now h → IsMoving 1 [] s2.now h × IsTrue s2.in_transaction
   made_first clean within h st =
       let clean1 = clean_before s1 s2 true l2 clean in
@@ -113,7 +113,7 @@ module _ (s0 s1 s2 : State) (l1 : IsLent s0 s1 true) (l2 : IsLent s1 s2 true) (m
 
 -- ---- from the second
 
-pub second_moved : (s0 s1 s2 : State) (r : Result (Unit {0}) KeepError) (ok : Bool) → IsLent s0 s1 true → IsLent s1 s2 ok → AddsTable s0 s1 (Ok tt) second_schema keep_schema 17 → r ≢ Err (Keeper.Store NoRecord) → NotesProgram s1 s2 r → Moves 2 s0 s2 r
+pub second_moved : (s0 s1 s2 : State) (r : Result (Unit {0}) KeepError) (ok : Bool) → IsLent s0 s1 true → IsLent s1 s2 ok → AddsTable {E = KeepError} s0 s1 (Ok tt) second_schema keep_schema 17 → r ≢ Err (Keeper.Store NoRecord) → NotesProgram s1 s2 r → Moves 2 s0 s2 r
 second_moved s0 s1 s2 r ok l1 l2 made not notes clean within h none st =
     let clean1 = clean_before s1 s2 ok l2 clean in
     let b = made clean1 within (listed_with 2 (of_pledges h totals_listed) h) (second_lists s0.now h st) in

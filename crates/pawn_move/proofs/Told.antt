@@ -14,7 +14,6 @@ use Rattle.pawn_opening.proofs.Ours as ours
 use Rattle.pawn_saving.proofs.Hosting.{as_lists, as_stands}
 use Rattle.pawn_tables.specs.Meta.{notes}
 use Rattle.pawn_tables.specs.Schema.{first_schema, second_schema, keep_schema, meta}
-use Rattle.pawn_tables.specs.StandsFor.{StandsFor}
 use Rattle.pawn_move.specs.declared.fault.MoveFault.{MoveFault}
 use Rattle.pawn_move.specs.declared.fault.MoveFault.TheVariants.{NotOurs, NewerSchema, Damaged, Store, Memory}
 use Rattle.pawn_move.specs.Migrating.{IsFailure, IsNumberJudged, IsTold, IsUnmovable, TellsNumber}

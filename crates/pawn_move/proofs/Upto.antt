@@ -1,5 +1,5 @@
 -- The books of a host up to a number.
-use Rattle.std.proofs.Common.{◌≡◌, ◌≢◌, ◌==◌, ◌≤◌, ◌<◌, ◌++◌, ℕ, [], ◌∷◌, List, Bool, true, false, cond, ◌&&◌, Option, Some, None, T, filter, flat_map, nat_le, refl, sym, ap, subst, ◌∙◌, arith, append_assoc, append-nil}
+use Rattle.std.proofs.Common.{◌≡◌, ◌≢◌, ◌==◌, ◌≤◌, ◌<◌, ◌++◌, ℕ, [], ◌∷◌, List, Bool, true, false, cond, ◌&&◌, Some, None, T, filter, flat_map, nat_le, refl, sym, ap, subst, ◌∙◌, arith, append_assoc, append-nil}
 use Rattle.std.specs.Ordering.{is_eq, is_lt, nat_cmp}
 use Rattle.std.specs.FinMap.{entries, entries_sorted, get, get-entries, is_sorted, find as find_key}
 use Rattle.std.specs.FinMap.Entries.{below_all}

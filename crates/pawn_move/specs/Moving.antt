@@ -1,7 +1,6 @@
 -- Tables on their way from an older schema.
 use Rattle.std.specs.Prelude.{◌≡◌, ◌++◌, ℕ, [], List, OnOk, Option, Some, None, IsTrue, Result, flat_map}
 use Rattle.std.specs.FinMap.{get}
-use Rattle.sqlite.specs.Schema.{Schema}
 use Rattle.sqlite.specs.Order.{Row}
 use Rattle.sqlite.specs.Effect.{Database as Tables}
 use Rattle.sqlite.specs.State.{State, HasCleanDisk}
@@ -51,11 +50,6 @@ abbrev pub PutsAll : State → State → Result (Unit {0}) KeepError → Type 0
 PutsAll old new result =
     HasCleanDisk new → IsTrue old.in_transaction → (n : ℕ) (owed : List Row) (h : Host) → get h.books 0 ≡ None → IsMoving n owed old.now h
     → Finds result (λ done. IsMoving n (of_pledges h totals_listed ++ owed) new.now h) (HasUnsoundBook h)
-
--- a part of the transaction adds an empty table under this tree: of the one schema it makes the other
-abbrev pub AddsTable : State → State → Result (Unit {0}) KeepError → Schema → Schema → ℕ → Type 0
-AddsTable old new result before after tree =
-    HasCleanDisk new → IsTrue old.in_transaction → (listed : Listed) → Lists before old.now listed → OnOk result (Lists after new.now (with_rows listed tree []))
 
 -- a part of the transaction notes the number of the program's schema
 abbrev pub NotesProgram : State → State → Result (Unit {0}) KeepError → Type 0

@@ -6,8 +6,10 @@ ghost use Rattle.pawn_book.specs.declared.fault.KeepError.TheVariants as Keeper;
 ghost use Rattle.pawn_book.specs.declared.fault.StoreFault.TheVariants.{NoRecord};
 ghost use Rattle.one_table.specs.Lending.{IsLent};
 ghost use Rattle.pawn_tables.specs.Schema.{first_schema, second_schema, keep_schema};
-ghost use Rattle.pawn_move.specs.Moving.{AddsTable, NotesProgram};
+ghost use Rattle.pawn_opening.specs.Laying.{AddsTable};
+ghost use Rattle.pawn_move.specs.Moving.{NotesProgram};
 
+use crate::telling::SCHEMA;
 use one_table::run;
 use pawn_book::{KeepError, StoreFault};
 use sqlite::{Alter, Error, ErrorCode, Transaction, params};
@@ -40,32 +42,30 @@ fn write<S: Alter>(
     }
 }
 
-/// Makes the table of totals.
+/// Makes the table of totals, beside those of the first schema.
 pub(crate) fn make_totals<S: Alter>(tx: &mut Transaction<'_, S>) -> Result<(), KeepError>
     ensures same_reference { tx.new.conn.ghost_name ≡ tx.old.conn.ghost_name }
     ensures made { AddsTable (state S.Store tx.old.conn.now) (state S.Store tx.new.conn.now) result first_schema second_schema 15 }
     ensures no_row { result ≢ Err (Keeper.Store NoRecord) }
     ensures lent { IsLent (state S.Store tx.old.conn.now) (state S.Store tx.new.conn.now) (is_ok result) }
 {
-    write(
-        tx,
-        "CREATE TABLE totals (book INTEGER NOT NULL, number INTEGER NOT NULL, day INTEGER NOT NULL, principal INTEGER NOT NULL, charges INTEGER NOT NULL, PRIMARY KEY (book, number), FOREIGN KEY (book, number) REFERENCES pledges) STRICT",
-        &[],
-    )
+    match pawn_opening::make_totals(tx) {
+        Ok(()) => Ok(()),
+        Err(error) => Err(refused(error)),
+    }
 }
 
-/// Makes the table of extensions.
+/// Makes the table of extensions, beside those of the second schema.
 pub(crate) fn make_extensions<S: Alter>(tx: &mut Transaction<'_, S>) -> Result<(), KeepError>
     ensures same_reference { tx.new.conn.ghost_name ≡ tx.old.conn.ghost_name }
     ensures made { AddsTable (state S.Store tx.old.conn.now) (state S.Store tx.new.conn.now) result second_schema keep_schema 17 }
     ensures no_row { result ≢ Err (Keeper.Store NoRecord) }
     ensures lent { IsLent (state S.Store tx.old.conn.now) (state S.Store tx.new.conn.now) (is_ok result) }
 {
-    write(
-        tx,
-        "CREATE TABLE extensions (book INTEGER NOT NULL, number INTEGER NOT NULL, place INTEGER NOT NULL, day INTEGER NOT NULL, until_day INTEGER NOT NULL, PRIMARY KEY (book, number, place), FOREIGN KEY (book, number) REFERENCES pledges) STRICT",
-        &[],
-    )
+    match pawn_opening::make_extensions(tx) {
+        Ok(()) => Ok(()),
+        Err(error) => Err(refused(error)),
+    }
 }
 
 /// Notes the number of the program's schema.
@@ -75,10 +75,9 @@ pub(crate) fn note_schema<S: Alter>(tx: &mut Transaction<'_, S>) -> Result<(), K
     ensures no_row { result ≢ Err (Keeper.Store NoRecord) }
     ensures lent { IsLent (state S.Store tx.old.conn.now) (state S.Store tx.new.conn.now) (is_ok result) }
 {
-    let schema: u32 = 3;
     write(
         tx,
         "UPDATE meta SET value = ?1 WHERE name = 'schema'",
-        params![schema],
+        params![SCHEMA],
     )
 }

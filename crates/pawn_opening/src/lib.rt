@@ -13,6 +13,7 @@ mod recognising;
 
 pub use connecting::connect_path;
 pub use fault::OpenFault;
+pub use laying::{make_extensions, make_totals};
 pub use opening::{close_files, open_files, open_memory, open_path};
 pub use preparing::prepare;
 pub use recognising::schema_noted;
