@@ -138,7 +138,7 @@ module _ (s0 s1 : State) (last : IsTrue s0.is_open → (trees : Trees) → s0.ma
 
       no_sound : (h : Host) (o : Option BookValue) → get h.books 0 ≡ o → (get h.books 0 ≡ None → HasUnsoundBook h) → HasUnsoundBook h
       no_sound h None at found = found at
-      no_sound h (Some k) at found = (0, k, at, λ sound. absurd (let least = sound.0.0 in omega (arith, least)))
+      no_sound h (Some k) at found = (0, (k, at, λ sound. absurd (let least = sound.0.0 in omega (arith, least))))
 
       refuses : (x : KeepError) → ((n : ℕ) (h : Host) → IsSchema n → get h.books 0 ≡ None → StandsUnder n s0.now h → Finds {A = Unit {0}} (Err x) (λ done. OpensAs s2 h) (HasUnsoundBook h)) → IsUnmovable s0.now (fault_of x)
       refuses Keeper.Memory it = tt

@@ -1,5 +1,5 @@
 -- A change is saved: a transaction that is lent and goes well, and a commit.
-use Rattle.std.proofs.Common.{◌≡◌, ◌≢◌, ◌⊎◌, inl, inr, ◌≤◌, true, false, Result, Ok, Err, IsTrue, refl, sym, ap, subst, ◌∙◌, arith}
+use Rattle.std.proofs.Common.{◌≡◌, ◌≢◌, ◌⊎◌, inl, inr, ◌≤◌, ◌<◌, true, false, Result, Ok, Err, IsTrue, refl, sym, ap, subst, ◌∙◌, arith}
 use Rattle.sqlite.specs.Effect.{Database}
 use Rattle.sqlite.specs.Tree.{Trees}
 use Rattle.sqlite.specs.State.{State, HasCleanDisk, IsRolledBack, Shows, Survives}
@@ -14,12 +14,13 @@ use Rattle.pawn_book.specs.declared.fault.SaveError.{SaveError}
 use Rattle.pawn_book.specs.declared.fault.SaveError.TheVariants as Save
 use Rattle.one_table.specs.Lending.{IsLent}
 use Rattle.one_table.proofs.Lent.{clean_before}
-use Rattle.one_table.proofs.Parts.{committed_rests}
+use Rattle.one_table.proofs.Parts.{committed_rests, rests_open}
 use Rattle.pawn_tables.specs.StandsFor.{StandsFor, HoldHost}
 use Rattle.pawn_tables.specs.OneHost.{StandForOne}
-use Rattle.pawn_tables.specs.Keeps.{Keeps, Leaves, keeping_by}
-use Rattle.pawn_saving.specs.Counted.{WritesChange}
+use Rattle.pawn_tables.specs.Keeps.{HoldSound, IsWhole, Keeps, Leaves, keeping_by}
+use Rattle.pawn_saving.specs.Counted.{Judged, WritesChange}
 use Rattle.pawn_saving.proofs.Hosting.{held}
+use Rattle.pawn_saving.proofs.Judging.{limit_after}
 
 left_fitting : (T : Type 0) (h : Host) (change : Change) (before : Host → Type 0) (e : SaveError) (left : Host) → e ≢ Save.Full → before left ⊎ IsFitting h change left → IsLeftBy {T = T} h change before (Err e) left
 left_fitting T h change before Save.Full left other was = absurd (other refl)
@@ -63,8 +64,20 @@ module _ {K : Type 0} (state : K → State) (old new : K) (begun lent : State) (
     written : HasCleanDisk (state new) → (h : Host) → IsSound h → Keeps (state old) h → StandsFor lent.now (with_change h change) × (rows (with_change h change) ≤ h.limit)
     written clean h sound k = wrote (clean_past clean) was.within h sound (may (clean_first clean) h sound k)
 
-    on_past : GoesOn (keeping_by state) old new
-    on_past = record { past = λ clean. was.clean (clean_first clean); served = λ clean now. was_served clean; stays = λ steady. steady }
+    on_past : (HasCleanDisk (state new) → IsWhole (state old) → IsWhole (state new)) → GoesOn (keeping_by state) old new
+    on_past whole = record { past = λ clean. was.clean (clean_first clean); served = λ clean now. was_served clean; stays = λ steady. steady; whole = whole }
+
+    -- the changed host is sound
+    changed_sound : HasCleanDisk (state new) → (h : Host) → IsSound h → Keeps (state old) h → IsSound (with_change h change)
+    changed_sound clean h sound k = record {
+      books = (can (was_served clean) (was.clean (clean_first clean)) h sound k).sound;
+      fits = let few = (written clean h sound k).1 in let same = limit_after h change in omega (arith, few, same);
+    }
+
+    -- trees that are those of what was written hold it
+    written_held : HasCleanDisk (state new) → (h : Host) → IsSound h → Keeps (state old) h → (trees : Trees) → trees ≡ lent.now.trees → HoldSound trees
+    written_held clean h sound k trees made =
+        (with_change h change, changed_sound clean h sound k, subst (λ ts. HoldHost ts (with_change h change)) (sym made) (held lent.now (with_change h change) (written clean h sound k).0))
 
     -- trees that stand for a host and are those of a database of these tables that stands for another
     one_left : (db : Database) (left g : Host) (trees : Trees) → trees ≡ db.trees → HoldHost trees left → StandsFor db g → left ≡ g
@@ -73,22 +86,28 @@ module _ {K : Type 0} (state : K → State) (old new : K) (begun lent : State) (
     pub saves_committed : (HasCleanDisk (state new) → Shows lent (state new) lent.now lent.now false)
         → (IsTrue (state new).is_open → (trees : Trees) → (state new).may_leave trees → trees ≡ (state new).committed.trees) → Saves {T = T} (keeping_by state) old new change (Ok done)
     saves_committed shows settled = record {
-      on = on_past;
-      ok = λ clean h sound k. (
-        record {
+      on = on_past (λ clean w. record {
+        host = with_change w.host change;
+        sound = changed_sound clean w.host w.sound w.keeps;
+        keeps = keeps_changed clean w.host w.sound w.keeps;
+        crash = λ trees left. written_held clean w.host w.sound w.keeps trees (made clean trees left);
+      });
+      ok = λ clean h sound k. (keeps_changed clean h sound k, (written clean h sound k).1);
+      full = λ same. absurd (let e = same in cc);
+      err = tt;
+      crash = λ clean h sound k left l. one_left lent.now left (with_change h change) l.trees (made clean l.trees l.left) l.stands (written clean h sound k).0;
+      never = λ steady. absurd steady;
+    }
+      where
+        keeps_changed : HasCleanDisk (state new) → (h : Host) → IsSound h → Keeps (state old) h → Keeps (state new) (with_change h change)
+        keeps_changed clean h sound k = record {
           autocommit = ended;
           committed = λ now. (shows clean).now_is ∙ sym (shows clean).committed_is;
           stands = λ now. subst (λ d. StandsFor d (with_change h change)) (sym (shows clean).now_is) (written clean h sound k).0;
-        },
-        (written clean h sound k).1,
-      );
-      full = λ same. absurd (let e = same in cc);
-      err = tt;
-      crash = λ clean h sound k left l.
-          let s = shows clean in
-          one_left lent.now left (with_change h change) l.trees (settled s.is_open l.trees l.left ∙ ap (λ (d : Database). d.trees) s.committed_is) l.stands (written clean h sound k).0;
-      never = λ steady. absurd steady;
-    }
+        }
+
+        made : HasCleanDisk (state new) → (trees : Trees) → (state new).may_leave trees → trees ≡ lent.now.trees
+        made clean trees left = settled (shows clean).is_open trees left ∙ ap (λ (d : Database). d.trees) (shows clean).committed_is
 
     -- the commit fails
     module _ (e : SaveError) (other : e ≢ Save.Full) (error : Error) (failed : HasCleanDisk (state new) → FailsToCommit lent (state new) error) where
@@ -107,21 +126,83 @@ module _ {K : Type 0} (state : K → State) (old new : K) (begun lent : State) (
 
       pub saves_refused : Saves {T = T} (keeping_by state) old new change (Err e)
       saves_refused = record {
-        on = on_past;
+        on = on_past (λ clean w. record {
+          host = w.host;
+          sound = w.sound;
+          keeps = keeps_back clean w.host w.keeps;
+          crash = λ trees left. whole clean w trees (after.crash clean trees left);
+        });
         ok = tt;
         full = λ same. absurd (other (let s = same in cc));
-        err = λ clean h sound k. record {
-          autocommit = ended;
-          committed = λ now. ((rolled clean).undone now).0 ∙ sym ((rolled clean).undone now).1;
-          stands = λ now. subst (λ d. StandsFor d h) (sym (back_open clean now)) (k.stands (was_served clean));
-        };
+        err = λ clean h sound k. keeps_back clean h k;
         crash = λ clean h sound k left l. left_fitting T h change (Leaves (state old)) e left other (go clean h sound k left l (after.crash clean l.trees l.left));
         never = λ steady. absurd steady;
       }
         where
+          keeps_back : HasCleanDisk (state new) → (h : Host) → Keeps (state old) h → Keeps (state new) h
+          keeps_back clean h k = record {
+            autocommit = ended;
+            committed = λ now. ((rolled clean).undone now).0 ∙ sym ((rolled clean).undone now).1;
+            stands = λ now. subst (λ d. StandsFor d h) (sym (back_open clean now)) (k.stands (was_served clean));
+          }
+
+          whole : HasCleanDisk (state new) → (w : IsWhole (state old)) → (trees : Trees) → lent.may_leave trees ⊎ (trees ≡ lent.now.trees) → HoldSound trees
+          whole clean w trees (inl before) = w.crash trees (was.left trees (no_more (part.survives.crash (clean_past clean) trees before)))
+          whole clean w trees (inr made) = written_held clean w.host w.sound w.keeps trees made
+
           go : HasCleanDisk (state new) → (h : Host) → IsSound h → Keeps (state old) h → (left : Host) (l : Leaves (state new) left) → lent.may_leave l.trees ⊎ (l.trees ≡ lent.now.trees)
               → Leaves (state old) left ⊎ IsFitting h change left
           go clean h sound k left l (inl before) = inl (record { trees = l.trees; left = was.left l.trees (no_more (part.survives.crash (clean_past clean) l.trees before)); stands = l.stands })
           go clean h sound k left l (inr made) =
               let w = written clean h sound k in
               inr (one_left lent.now left (with_change h change) l.trees made l.stands w.0, w.1)
+
+  -- what was written is rolled back
+  module _ (T : Type 0) (e : SaveError) (part : IsLent begun lent false) (wrote : WritesChange {T = T} begun lent change (Err e)) (undone : HasCleanDisk (state new) → IsRolledBack lent (state new)) (after : Survives lent (state new) (λ _. ⊥)) where
+    clean_lent : HasCleanDisk (state new) → HasCleanDisk lent
+    clean_lent clean = let up = after.clean in omega (arith, clean, up)
+
+    clean_begun : HasCleanDisk (state new) → HasCleanDisk begun
+    clean_begun clean = clean_before begun lent false part (clean_lent clean)
+
+    opened : HasCleanDisk (state new) → IsTrue (state new).is_open → IsTrue (state old).is_open
+    opened clean now = rests_open (state old) begun lent (state new) was.was_open was.committed (part.kept (clean_lent clean) was.within) (undone clean) now
+
+    as_it_was : HasCleanDisk (state new) → IsTrue (state new).is_open → (state new).now ≡ (state old).now
+    as_it_was clean now =
+        let u = undone clean in
+        (u.undone now).0 ∙ sym (u.undone now).1 ∙ committed_rests (state old) begun lent (state new) was.was_open was.committed (part.kept (clean_lent clean) was.within) u now
+        ∙ sym (was.settled (opened clean now))
+
+    keeps_same : HasCleanDisk (state new) → (h : Host) → Keeps (state old) h → Keeps (state new) h
+    keeps_same clean h k = record {
+      autocommit = (undone clean).autocommit;
+      committed = λ now. ((undone clean).undone now).0 ∙ sym ((undone clean).undone now).1;
+      stands = λ now. subst (λ d. StandsFor d h) (sym (as_it_was clean now)) (k.stands (opened clean now));
+    }
+
+    left_before : HasCleanDisk (state new) → (trees : Trees) → (state new).may_leave trees → (state old).may_leave trees
+    left_before clean trees left = was.left trees (no_more (part.survives.crash (clean_lent clean) trees (no_more (after.crash clean trees left))))
+
+    left_as : (h : Host) (left : Host) (x : SaveError) → Leaves (state old) left → IsLeftBy {T = T} h change (Leaves (state old)) (Err x) left
+    left_as h left Save.Full before = before
+    left_as h left Save.Memory before = inl before
+    left_as h left (Save.Store fault) before = inl before
+
+    pub saves_undone : Saves {T = T} (keeping_by state) old new change (Err e)
+    saves_undone = record {
+      on = record {
+        past = λ clean. was.clean (clean_begun clean);
+        served = opened;
+        stays = λ steady. steady;
+        whole = λ clean w. record { host = w.host; sound = w.sound; keeps = keeps_same clean w.host w.keeps; crash = λ trees left. w.crash trees (left_before clean trees left) };
+      };
+      ok = tt;
+      full = λ same clean h sound k.
+          let is : e ≡ Save.Full = (let s = same in cc) in
+          subst (λ x. Judged {T = T} (Err x) (StandsFor lent.now (with_change h change) × (rows (with_change h change) ≤ h.limit)) (h.limit < rows (with_change h change))) is
+          (wrote (clean_lent clean) was.within h sound (may (clean_begun clean) h sound k));
+      err = λ clean h sound k. keeps_same clean h k;
+      crash = λ clean h sound k left l. left_as h left e (record { trees = l.trees; left = left_before clean l.trees l.left; stands = l.stands });
+      never = λ steady. absurd steady;
+    }

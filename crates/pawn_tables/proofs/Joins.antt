@@ -3,7 +3,7 @@ use Rattle.std.proofs.Common.{◌≡◌, ◌≤◌, ◌<◌, ◌^◌, ℕ, zero,
 use Rattle.std.specs.Prelude.{IfSome, option_map, is_ok}
 use Rattle.sqlite.specs.State.{State}
 use Rattle.one_table.specs.Lending.{IsLent, Rests}
-use Rattle.pawn_book.specs.Sound.{HasUnsoundBook}
+use Rattle.pawn_book.specs.Sound.{IsUnsoundAt}
 use Rattle.pawn_tables.proofs.Lent.{unfound}
 use Rattle.std.specs.FinMap.{get}
 use Rattle.pawn_terms.specs.declared.terms.Rates.{Rates}
@@ -90,10 +90,10 @@ past_terms (t ∷ ts) (suc zero) lt = absurd (omega (arith, lt))
 past_terms (t ∷ ts) (suc (suc v)) lt = past_terms ts (suc v) (omega (arith, lt))
 
 -- no terms stand under a version that 32 bits can't hold
-pub none_under : (s0 s1 : State) (r : Result (Option Rates) KeepError) (b v : ℕ) → 2 ^ 32 ≤ v → IsLent s0 s1 (is_ok r) → FindsIn s0 s1 r (λ h x. x ≡ terms_at (terms_of (get h.books b)) 0)
-    → FindsIn s0 s1 r (λ h x. x ≡ terms_at (terms_of (get h.books b)) v)
+pub none_under : (s0 s1 : State) (r : Result (Option Rates) KeepError) (b v : ℕ) → 2 ^ 32 ≤ v → IsLent s0 s1 (is_ok r) → FindsIn (IsUnsoundAt b) s0 s1 r (λ h x. x ≡ terms_at (terms_of (get h.books b)) 0)
+    → FindsIn (IsUnsoundAt b) s0 s1 r (λ h x. x ≡ terms_at (terms_of (get h.books b)) v)
 none_under s0 s1 (Err e) b v big lent f clean within h stood =
-    unfound e (Err e) (λ x. (x ≡ terms_at (terms_of (get h.books b)) 0) × Rests s0 s1) (λ x. (x ≡ terms_at (terms_of (get h.books b)) v) × Rests s0 s1) (HasUnsoundBook h) refl (f clean within h stood)
+    unfound e (Err e) (λ x. (x ≡ terms_at (terms_of (get h.books b)) 0) × Rests s0 s1) (λ x. (x ≡ terms_at (terms_of (get h.books b)) v) × Rests s0 s1) (IsUnsoundAt b h) refl (f clean within h stood)
 none_under s0 s1 (Ok x) b v big lent f clean within h stood =
     let found = f clean within h stood in
     let st = stood (lent.opened clean within refl) in

@@ -10,7 +10,7 @@ use Rattle.pawn_book.specs.declared.fault.StoreFault.TheVariants.{NoRecord, Data
 use Rattle.one_table.specs.Lending.{IsLent, Rests}
 pub use Rattle.one_table.proofs.Lent.{clean_before, lent_then, rests_then}
 use Rattle.pawn_tables.specs.StandsFor.{StandsFor, ListDebts}
-use Rattle.pawn_tables.specs.Finding.{Finds, FindsIn, FindsOf, Stood}
+use Rattle.pawn_tables.specs.Finding.{Finds, FindsIn, Stood}
 
 -- the tables of a part that found stood for the host, and do after it
 pub stood_then : (a b : State) (h : Host) → IsLent a b true → HasCleanDisk b → IsTrue a.in_transaction → Stood a h → Rests a b → StandsFor b.now h
@@ -27,30 +27,30 @@ unfound e s P Q U same f = subst (λ x. Finds x Q U) (sym same) (go e f)
 
 -- ---- a part that fails ends the others
 
-pub first_unfound : {A D : Type 0} (s0 s1 : State) (e : KeepError) (P : Host → A → Type 0) (r : Result D KeepError) (W : Host → D → Type 0) → r ≡ Err e → FindsIn s0 s1 (Err e) P → FindsIn s0 s1 r W
-first_unfound s0 s1 e P r W same f clean within h stood =
-    unfound e r (λ x. P h x × Rests s0 s1) (λ x. W h x × Rests s0 s1) (HasUnsoundBook h) same (f clean within h stood)
+pub first_unfound : {A D : Type 0} (IsUnsound : Host → Type 0) (s0 s1 : State) (e : KeepError) (P : Host → A → Type 0) (r : Result D KeepError) (W : Host → D → Type 0) → r ≡ Err e → FindsIn IsUnsound s0 s1 (Err e) P → FindsIn IsUnsound s0 s1 r W
+first_unfound IsUnsound s0 s1 e P r W same f clean within h stood =
+    unfound e r (λ x. P h x × Rests s0 s1) (λ x. W h x × Rests s0 s1) (IsUnsound h) same (f clean within h stood)
 
-pub second_unfound : {A B D : Type 0} (s0 s1 s2 : State) (x : A) (P : Host → A → Type 0) (e : KeepError) (Q : Host → B → Type 0) (r : Result D KeepError) (W : Host → D → Type 0) → r ≡ Err e
-    → IsLent s0 s1 true → IsLent s1 s2 false → FindsIn s0 s1 (Ok x) P → FindsIn s1 s2 (Err e) Q → FindsIn s0 s2 r W
-second_unfound s0 s1 s2 x P e Q r W same l1 l2 f1 f2 clean within h stood =
+pub second_unfound : {A B D : Type 0} (IsUnsound : Host → Type 0) (s0 s1 s2 : State) (x : A) (P : Host → A → Type 0) (e : KeepError) (Q : Host → B → Type 0) (r : Result D KeepError) (W : Host → D → Type 0) → r ≡ Err e
+    → IsLent s0 s1 true → IsLent s1 s2 false → FindsIn IsUnsound s0 s1 (Ok x) P → FindsIn IsUnsound s1 s2 (Err e) Q → FindsIn IsUnsound s0 s2 r W
+second_unfound IsUnsound s0 s1 s2 x P e Q r W same l1 l2 f1 f2 clean within h stood =
     let clean1 = clean_before s1 s2 false l2 clean in
     let one = f1 clean1 within h stood in
-    unfound e r (λ y. Q h y × Rests s1 s2) (λ y. W h y × Rests s0 s2) (HasUnsoundBook h) same (f2 clean one.1.inside h (λ _. stood_then s0 s1 h l1 clean1 within stood one.1))
+    unfound e r (λ y. Q h y × Rests s1 s2) (λ y. W h y × Rests s0 s2) (IsUnsound h) same (f2 clean one.1.inside h (λ _. stood_then s0 s1 h l1 clean1 within stood one.1))
 
-pub third_unfound : {A B C D : Type 0} (s0 s1 s2 s3 : State) (x : A) (P : Host → A → Type 0) (y : B) (Q : Host → B → Type 0) (e : KeepError) (R : Host → C → Type 0) (r : Result D KeepError) (W : Host → D → Type 0) → r ≡ Err e
-    → IsLent s0 s1 true → IsLent s1 s2 true → IsLent s2 s3 false → FindsIn s0 s1 (Ok x) P → FindsIn s1 s2 (Ok y) Q → FindsIn s2 s3 (Err e) R → FindsIn s0 s3 r W
-third_unfound s0 s1 s2 s3 x P y Q e R r W same l1 l2 l3 f1 f2 f3 clean within h stood =
+pub third_unfound : {A B C D : Type 0} (IsUnsound : Host → Type 0) (s0 s1 s2 s3 : State) (x : A) (P : Host → A → Type 0) (y : B) (Q : Host → B → Type 0) (e : KeepError) (R : Host → C → Type 0) (r : Result D KeepError) (W : Host → D → Type 0) → r ≡ Err e
+    → IsLent s0 s1 true → IsLent s1 s2 true → IsLent s2 s3 false → FindsIn IsUnsound s0 s1 (Ok x) P → FindsIn IsUnsound s1 s2 (Ok y) Q → FindsIn IsUnsound s2 s3 (Err e) R → FindsIn IsUnsound s0 s3 r W
+third_unfound IsUnsound s0 s1 s2 s3 x P y Q e R r W same l1 l2 l3 f1 f2 f3 clean within h stood =
     let clean2 = clean_before s2 s3 false l3 clean in
     let clean1 = clean_before s1 s2 true l2 clean2 in
     let one = f1 clean1 within h stood in
     let st1 = stood_then s0 s1 h l1 clean1 within stood one.1 in
     let two = f2 clean2 one.1.inside h (λ _. st1) in
-    unfound e r (λ z. R h z × Rests s2 s3) (λ z. W h z × Rests s0 s3) (HasUnsoundBook h) same (f3 clean two.1.inside h (λ _. stood_then s1 s2 h l2 clean2 one.1.inside (λ _. st1) two.1))
+    unfound e r (λ z. R h z × Rests s2 s3) (λ z. W h z × Rests s0 s3) (IsUnsound h) same (f3 clean two.1.inside h (λ _. stood_then s1 s2 h l2 clean2 one.1.inside (λ _. st1) two.1))
 
 -- what three parts find
 pub three_found : {A B C : Type 0} (s0 s1 s2 s3 : State) (x : A) (P : Host → A → Type 0) (y : B) (Q : Host → B → Type 0) (z : C) (R : Host → C → Type 0)
-    → IsLent s0 s1 true → IsLent s1 s2 true → IsLent s2 s3 true → FindsIn s0 s1 (Ok x) P → FindsIn s1 s2 (Ok y) Q → FindsIn s2 s3 (Ok z) R
+    → IsLent s0 s1 true → IsLent s1 s2 true → IsLent s2 s3 true → FindsIn HasUnsoundBook s0 s1 (Ok x) P → FindsIn HasUnsoundBook s1 s2 (Ok y) Q → FindsIn HasUnsoundBook s2 s3 (Ok z) R
     → HasCleanDisk s3 → IsTrue s0.in_transaction → (h : Host) → Stood s0 h → StandsFor s0.now h × P h x × Q h y × R h z × Rests s0 s3
 three_found s0 s1 s2 s3 x P y Q z R l1 l2 l3 f1 f2 f3 clean within h stood =
     let clean2 = clean_before s2 s3 true l3 clean in
@@ -66,6 +66,3 @@ three_found s0 s1 s2 s3 x P y Q z R l1 l2 l3 f1 f2 f3 clean within h stood =
 
 pub debts_of : (db : Tables) (h : Host) → StandsFor db h → ListDebts db h
 debts_of db h st = record { schema = st.schema; books = st.books; terms = st.terms; pledges = st.pledges; entries = st.entries; ordered = st.ordered; storable = st.storable }
-
-pub found_standing : {A : Type 0} (a b : State) (r : Result A KeepError) (P : Host → A → Type 0) → FindsOf ListDebts a b r P → FindsIn a b r P
-found_standing a b r P f clean within h stood = f clean within h (λ now. debts_of a.now h (stood now))

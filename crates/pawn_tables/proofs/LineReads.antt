@@ -20,7 +20,7 @@ use Rattle.pawn_book.specs.Sheet.{is_open, part_item, part_items}
 use Rattle.pawn_book.specs.Bookings.{confirmed_count, is_asked, is_confirmed, is_confirmed_for}
 use Rattle.pawn_book.specs.HostStep.{Host}
 use Rattle.pawn_book.specs.Keeping.{pledges_of}
-use Rattle.pawn_book.specs.Sound.{HasUnsoundBook}
+use Rattle.pawn_book.specs.Sound.{IsUnsoundAt}
 use Rattle.pawn_tables.specs.Schema.{keep_schema, pledges, bookings}
 use Rattle.pawn_tables.specs.Rows.{number, number_of, under, pledge_cells, pledge_listed, booking_cells, booking_listed, state_number, closed_number, at_most_one}
 use Rattle.pawn_tables.specs.Heads.{number_cells}

@@ -13,7 +13,7 @@ use Rattle.pawn_book.specs.BookStep.{BookValue}
 use Rattle.pawn_book.specs.HostStep.{Host}
 use Rattle.pawn_book.specs.Keeping.{pledges_of}
 use Rattle.pawn_book.specs.Rows.{AreNumberedFrom}
-use Rattle.pawn_book.specs.Sound.{HasUnsoundBook}
+use Rattle.pawn_book.specs.Sound.{IsUnsoundAt}
 use Rattle.pawn_tables.specs.Rows.{number_of}
 use Rattle.pawn_tables.specs.StandsFor.{AreOrdered}
 use Rattle.pawn_tables.specs.Lines.{items_past, IsNextLine}
@@ -139,7 +139,7 @@ module _ {A : Type 0} (part : Part) (day : ℕ) (tell : PledgeValue → Option A
       go rest false = rest
       go rest true = one rest (tell p) refl
 
-  pub line_unsound : (h : Host) (b n : ℕ) → (IfSome (slice_get (told_above tell n (pledges_of (get h.books b))) 0) (λ a. IsNumber (line a).number) → ⊥) → HasUnsoundBook h
+  pub line_unsound : (h : Host) (b n : ℕ) → (IfSome (slice_get (told_above tell n (pledges_of (get h.books b))) 0) (λ a. IsNumber (line a).number) → ⊥) → IsUnsoundAt b h
   line_unsound h b n bad =
       unsound_book h b (λ o. IfSome (slice_get (told_above tell n (pledges_of o)) 0) (λ a. IsNumber (line a).number)) tt
       (λ k sound. let fits = sound.1.rows.few_pledges in first_number n 1 k.pledges sound.1.rows.numbered (omega arith) (omega (arith, fits))) bad

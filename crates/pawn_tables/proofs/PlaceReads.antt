@@ -15,7 +15,7 @@ use Rattle.pawn_pledge.specs.Replayable.{Each, AreNumbered}
 use Rattle.pawn_book.specs.BookStep.{pledge_in}
 use Rattle.pawn_book.specs.HostStep.{Host}
 use Rattle.pawn_book.specs.Keeping.{entries_of, extensions_of, secrets_of}
-use Rattle.pawn_book.specs.Sound.{HasUnsoundBook}
+use Rattle.pawn_book.specs.Sound.{IsUnsoundAt}
 use Rattle.pawn_tables.specs.Schema.{keep_schema, entries, secrets, extensions}
 use Rattle.pawn_tables.specs.Rows.{number, under, at_most_one, placed_from, entry_cells, entries_listed, secret_cells, secrets_listed, extension_cells, extensions_listed}
 use Rattle.pawn_tables.specs.At.{is_at, at_pledge}
@@ -175,11 +175,11 @@ module _ (old new : State) (h : Host) (b n s : ℕ) (rows : List Row) (st : Stan
       shows (Some p) = shown_placed (λ place e. under b p.agreement.number (extension_cells place e)) extension_cells (λ v. column v 2 ∷ column v 3 ∷ column v 4 ∷ []) (λ place e. refl) s p.extensions
 
 module _ (h : Host) (storable : AreStorable h) (b n s : ℕ) where
-  pub entry_unsound : (IfSome (at_place (entries_of (pledge_in (get h.books b) n)) s) (λ e. IsDayNumber e.day) → ⊥) → HasUnsoundBook h
+  pub entry_unsound : (IfSome (at_place (entries_of (pledge_in (get h.books b) n)) s) (λ e. IsDayNumber e.day) → ⊥) → IsUnsoundAt b h
   entry_unsound bad = entries_unsound h storable b n (λ all. bad (at_each (λ e. IsDayNumber e.day) _ s all))
 
-  pub secret_unsound : (IfSome (at_place (secrets_of (pledge_in (get h.books b) n)) s) (λ i. IsDayNumber i.day) → ⊥) → HasUnsoundBook h
+  pub secret_unsound : (IfSome (at_place (secrets_of (pledge_in (get h.books b) n)) s) (λ i. IsDayNumber i.day) → ⊥) → IsUnsoundAt b h
   secret_unsound bad = secrets_unsound h storable b n (λ all. bad (at_each (λ i. IsDayNumber i.day) _ s all))
 
-  pub extension_unsound : (IfSome (at_place (extensions_of (pledge_in (get h.books b) n)) s) (λ e. IsDayNumber e.day × IsDayNumber e.until) → ⊥) → HasUnsoundBook h
+  pub extension_unsound : (IfSome (at_place (extensions_of (pledge_in (get h.books b) n)) s) (λ e. IsDayNumber e.day × IsDayNumber e.until) → ⊥) → IsUnsoundAt b h
   extension_unsound bad = extensions_unsound h storable b n (λ all. bad (at_each (λ e. IsDayNumber e.day × IsDayNumber e.until) _ s all))

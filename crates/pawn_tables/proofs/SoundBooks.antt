@@ -8,7 +8,7 @@ use Rattle.pawn_book.specs.BookStep.{BookValue, with_reference}
 use Rattle.pawn_book.specs.HostStep.{Host}
 use Rattle.pawn_book.specs.Keeping.{IsNextBook, number_of}
 use Rattle.pawn_book.specs.Rows.{AreNumberedFrom, is_same_text}
-use Rattle.pawn_book.specs.Sound.{IsSoundAt, HasUnsoundBook}
+use Rattle.pawn_book.specs.Sound.{IsSoundAt, HasUnsoundBook, IsUnsoundAt}
 use Rattle.pawn_book.specs.declared.fault.KeepError.{KeepError}
 use Rattle.pawn_book.specs.declared.fault.KeepError.TheVariants as Keeper
 use Rattle.pawn_book.specs.declared.fault.StoreFault.TheVariants.{NoRecord, Database}
@@ -26,14 +26,14 @@ told_as (Err (Keeper.Store Database)) x P Q R U read fact rests bad = tt
 
 module _ (h : Host) (b : ℕ) where
   -- where a fact that sound books have fails of this one, it is not sound
-  pub unsound_book : (Q : Option BookValue → Type 0) → Q None → ((k : BookValue) → IsSoundAt b k → Q (Some k)) → (Q (get h.books b) → ⊥) → HasUnsoundBook h
+  pub unsound_book : (Q : Option BookValue → Type 0) → Q None → ((k : BookValue) → IsSoundAt b k → Q (Some k)) → (Q (get h.books b) → ⊥) → IsUnsoundAt b h
   unsound_book Q none some bad = inside (get h.books b) refl bad
     where
-      inside : (o : Option BookValue) → get h.books b ≡ o → (Q o → ⊥) → HasUnsoundBook h
+      inside : (o : Option BookValue) → get h.books b ≡ o → (Q o → ⊥) → IsUnsoundAt b h
       inside None is bad = absurd (bad none)
-      inside (Some k) is bad = (b, k, is, λ sound. bad (some k sound))
+      inside (Some k) is bad = (k, is, λ sound. bad (some k sound))
 
-  pub head_unsound : (IfSome (get h.books b) IsHeadTold → ⊥) → HasUnsoundBook h
+  pub head_unsound : (IfSome (get h.books b) IsHeadTold → ⊥) → IsUnsoundAt b h
   head_unsound bad = unsound_book (λ o. IfSome o IsHeadTold) tt (λ k sound. record { name = (sound.1.name, sound.1.utf8); capacity = sound.1.capacity }) bad
 
   -- the number of a pledge that stands is such
@@ -45,7 +45,7 @@ module _ (h : Host) (b : ℕ) where
       go rest true = let at = numbered.0 in (omega (arith, at, low), omega (arith, at, few))
       go rest false = rest
 
-  pub ref_unsound : (s : List ℕ) → (IfSome (number_of (get h.books b) s) IsNumber → ⊥) → HasUnsoundBook h
+  pub ref_unsound : (s : List ℕ) → (IfSome (number_of (get h.books b) s) IsNumber → ⊥) → IsUnsoundAt b h
   ref_unsound s bad = unsound_book (λ o. IfSome (number_of o s) IsNumber) tt (λ k sound. let fits = sound.1.rows.few_pledges in numbers_in s 1 k.pledges sound.1.rows.numbered (omega arith) (omega (arith, fits))) bad
 
   -- the keys of books are words
@@ -61,7 +61,7 @@ next_unsound h n bad = go (next_of h n) (is_next h n) bad
   where
     go : (o : Option ℕ) → IsNextBook h n o → (IfSome o IsNumber → ⊥) → HasUnsoundBook h
     go None is bad = absurd (bad tt)
-    go (Some b) is bad = (b, is.1.0, is.1.1, λ sound. bad sound.0)
+    go (Some b) is bad = (b, (is.1.0, is.1.1, λ sound. bad sound.0))
 
 -- what was found, in other words
 pub finds_as : {A : Type 0} (r : Result A KeepError) (P Q : A → Type 0) (R U : Type 0) → ((x : A) → P x → Q x) → Finds r (λ x. P x × R) U → Finds r (λ x. Q x × R) U

@@ -20,7 +20,7 @@ use Rattle.pawn_book.specs.BookStep.{BookValue, pledge_from, pledge_in}
 use Rattle.pawn_book.specs.HostStep.{Host}
 use Rattle.pawn_book.specs.Rows.{terms_at}
 use Rattle.pawn_book.specs.Keeping.{entries_of, extensions_of, secrets_of, terms_of}
-use Rattle.pawn_book.specs.Sound.{IsSoundBook, HasUnsoundBook}
+use Rattle.pawn_book.specs.Sound.{IsSoundBook, IsUnsoundAt}
 use Rattle.pawn_book.specs.Written.{HasTextsAndWords, AreWords}
 use Rattle.pawn_book.specs.declared.fault.KeepError.{KeepError}
 use Rattle.pawn_book.specs.declared.fault.KeepError.TheVariants as Keeper
@@ -62,16 +62,16 @@ unjoined e x s P V U same read bad = subst (λ r. Finds r P U) (sym same) (go e 
 
 -- where a fact that sound books have of their pledges fails of this one, its book is not sound
 pub unsound_pledge : (h : Host) (b n : ℕ) (Q : Option PledgeValue → Type 0) → Q None
-    → ((k : BookValue) (p : PledgeValue) → get h.books b ≡ Some k → IsSoundBook k → pledge_from 1 k.pledges n ≡ Some p → Q (Some p)) → (Q (pledge_in (get h.books b) n) → ⊥) → HasUnsoundBook h
+    → ((k : BookValue) (p : PledgeValue) → get h.books b ≡ Some k → IsSoundBook k → pledge_from 1 k.pledges n ≡ Some p → Q (Some p)) → (Q (pledge_in (get h.books b) n) → ⊥) → IsUnsoundAt b h
 unsound_pledge h b n Q none some bad = inside (get h.books b) refl bad
   where
     in_book : (k : BookValue) → get h.books b ≡ Some k → IsSoundBook k → (o : Option PledgeValue) → pledge_from 1 k.pledges n ≡ o → Q o
     in_book k is sound None at = none
     in_book k is sound (Some p) at = some k p is sound at
 
-    inside : (o : Option BookValue) → get h.books b ≡ o → (Q (pledge_in o n) → ⊥) → HasUnsoundBook h
+    inside : (o : Option BookValue) → get h.books b ≡ o → (Q (pledge_in o n) → ⊥) → IsUnsoundAt b h
     inside None is bad = absurd (bad none)
-    inside (Some k) is bad = (b, k, is, λ sound. bad (in_book k is sound.1 (pledge_from 1 k.pledges n) refl))
+    inside (Some k) is bad = (k, is, λ sound. bad (in_book k is sound.1 (pledge_from 1 k.pledges n) refl))
 
 standing_of : (k : BookValue) (n : ℕ) (p : PledgeValue) → IsSoundBook k → pledge_from 1 k.pledges n ≡ Some p → IsStanding p
 standing_of k n p sound at = each_at IsStanding 1 k.pledges n p sound.rows.standing at
@@ -107,17 +107,17 @@ module _ (h : Host) (storable : AreStorable h) (b n : ℕ) where
   abbrev found : Option PledgeValue
   found = pledge_in (get h.books b) n
 
-  pub entries_unsound : (Each (λ e. IsDayNumber e.day) (entries_of found) → ⊥) → HasUnsoundBook h
+  pub entries_unsound : (Each (λ e. IsDayNumber e.day) (entries_of found) → ⊥) → IsUnsoundAt b h
   entries_unsound bad = unsound_pledge h b n (λ o. Each (λ e. IsDayNumber e.day) (entries_of o)) tt
       (λ k p is sound at. let s = standing_of k n p sound at in
       days_in (λ e. e.day) p.agreement.taken p.standing.last p.entries (taken_of h storable b n k p is at) s.replayable.entered.ordered s.replayable.entered.before s.within.last) bad
 
-  pub secrets_unsound : (Each (λ i. IsDayNumber i.day) (secrets_of found) → ⊥) → HasUnsoundBook h
+  pub secrets_unsound : (Each (λ i. IsDayNumber i.day) (secrets_of found) → ⊥) → IsUnsoundAt b h
   secrets_unsound bad = unsound_pledge h b n (λ o. Each (λ i. IsDayNumber i.day) (secrets_of o)) tt
       (λ k p is sound at. let s = standing_of k n p sound at in
       days_in (λ i. i.day) p.agreement.taken p.standing.last p.secrets (taken_of h storable b n k p is at) s.replayable.issued.ordered s.replayable.issued.before s.within.last) bad
 
-  pub extensions_unsound : (Each (λ e. IsDayNumber e.day × IsDayNumber e.until) (extensions_of found) → ⊥) → HasUnsoundBook h
+  pub extensions_unsound : (Each (λ e. IsDayNumber e.day × IsDayNumber e.until) (extensions_of found) → ⊥) → IsUnsoundAt b h
   extensions_unsound bad = unsound_pledge h b n (λ o. Each (λ e. IsDayNumber e.day × IsDayNumber e.until) (extensions_of o)) tt
       (λ k p is sound at. let s = standing_of k n p sound at in
       days_extended p.agreement.taken _ p.extensions (taken_of h storable b n k p is at) s.replayable.extended.each s.within.untils) bad
@@ -126,11 +126,11 @@ module _ (h : Host) (storable : AreStorable h) (b n : ℕ) where
   booked_day p None first booked named = tt
   booked_day p (Some k) first booked named = let a = booked.0 in (omega (arith, first, a), omega (arith, named))
 
-  pub booking_unsound : (IfSome (booking_of found) (λ k. IsDayNumber k.day) → ⊥) → HasUnsoundBook h
+  pub booking_unsound : (IfSome (booking_of found) (λ k. IsDayNumber k.day) → ⊥) → IsUnsoundAt b h
   booking_unsound bad = unsound_pledge h b n (λ o. IfSome (booking_of o) (λ k. IsDayNumber k.day)) tt
       (λ k p is sound at. let s = standing_of k n p sound at in booked_day p p.standing.booking (taken_of h storable b n k p is at) s.replayable.booked s.within.booking) bad
 
-  pub totals_unsound : (IfSome (totals_in found) (λ t. IsDayNumber t.day) → ⊥) → HasUnsoundBook h
+  pub totals_unsound : (IfSome (totals_in found) (λ t. IsDayNumber t.day) → ⊥) → IsUnsoundAt b h
   totals_unsound bad = unsound_pledge h b n (λ o. IfSome (totals_in o) (λ t. IsDayNumber t.day)) tt
       (λ k p is sound at.
       let s = standing_of k n p sound at in
@@ -160,11 +160,11 @@ module _ (h : Host) (storable : AreStorable h) (b n : ℕ) where
         closed = closed_in p p.standing.closing first low high s.replayable.closed;
       }
 
-  pub row_unsound : (IfSome found IsRowTold → ⊥) → HasUnsoundBook h
+  pub row_unsound : (IfSome found IsRowTold → ⊥) → IsUnsoundAt b h
   row_unsound bad = unsound_pledge h b n (λ o. IfSome o IsRowTold) tt row_told bad
 
 -- what the row of a pledge tells of its debt
-pub credit_unsound : (h : Host) → AreStorable h → (b n : ℕ) → (IfSome (pledge_in (get h.books b) n) IsCreditTold → ⊥) → HasUnsoundBook h
+pub credit_unsound : (h : Host) → AreStorable h → (b n : ℕ) → (IfSome (pledge_in (get h.books b) n) IsCreditTold → ⊥) → IsUnsoundAt b h
 credit_unsound h storable b n bad = unsound_pledge h b n (λ o. IfSome o IsCreditTold) tt
     (λ k p is sound at.
     let s = standing_of k n p sound at in
@@ -173,7 +173,7 @@ credit_unsound h storable b n bad = unsound_pledge h b n (λ o. IfSome o IsCredi
     record { taken = (taken_of h storable b n k p is at, omega (arith, low, high)); agreed = s.within.opening.agreed }) bad
 
 -- a pledge that can't stand is of a book that is not sound
-pub standing_unsound : (h : Host) (b n : ℕ) (p : PledgeValue) → pledge_in (get h.books b) n ≡ Some p → (IsStanding p → ⊥) → HasUnsoundBook h
+pub standing_unsound : (h : Host) (b n : ℕ) (p : PledgeValue) → pledge_in (get h.books b) n ≡ Some p → (IsStanding p → ⊥) → IsUnsoundAt b h
 standing_unsound h b n p at bad = unsound_pledge h b n (λ o. IfSome o IsStanding) tt (λ k q is sound here. standing_of k n q sound here) (λ all. bad (subst (λ o. IfSome o IsStanding) at all))
 
 -- the secrets of a pledge are words
@@ -189,7 +189,7 @@ words_in h storable b n = inside (get h.books b) refl
     inside (Some k) is = at k is (pledge_from 1 k.pledges n) refl
 
 -- the terms of a version
-pub terms_unsound : (h : Host) (b v : ℕ) → (IfSome (terms_at (terms_of (get h.books b)) v) IsChecked → ⊥) → HasUnsoundBook h
+pub terms_unsound : (h : Host) (b v : ℕ) → (IfSome (terms_at (terms_of (get h.books b)) v) IsChecked → ⊥) → IsUnsoundAt b h
 terms_unsound h b v bad = inside (get h.books b) refl bad
   where
     at : (ts : List Rates) (n : ℕ) → Each IsChecked ts → IfSome (slice_get ts n) IsChecked
@@ -201,6 +201,6 @@ terms_unsound h b v bad = inside (get h.books b) refl bad
     under ts zero all = tt
     under ts (suc n) all = at ts n all
 
-    inside : (o : Option BookValue) → get h.books b ≡ o → (IfSome (terms_at (terms_of o) v) IsChecked → ⊥) → HasUnsoundBook h
+    inside : (o : Option BookValue) → get h.books b ≡ o → (IfSome (terms_at (terms_of o) v) IsChecked → ⊥) → IsUnsoundAt b h
     inside None is bad = absurd (bad (under [] v tt))
-    inside (Some k) is bad = (b, k, is, λ sound. bad (under k.terms v sound.1.rows.checked))
+    inside (Some k) is bad = (k, is, λ sound. bad (under k.terms v sound.1.rows.checked))

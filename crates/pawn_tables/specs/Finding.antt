@@ -2,7 +2,6 @@
 use Rattle.std.specs.Prelude.{◌≡◌, IsTrue, Result, Ok, Err}
 use Rattle.sqlite.specs.State.{State, HasCleanDisk}
 use Rattle.pawn_book.specs.HostStep.{Host}
-use Rattle.pawn_book.specs.Sound.{HasUnsoundBook}
 use Rattle.pawn_book.specs.declared.fault.KeepError.{KeepError}
 use Rattle.pawn_book.specs.declared.fault.KeepError.TheVariants as Keeper
 use Rattle.pawn_book.specs.declared.fault.StoreFault.TheVariants.{NoRecord, Database}
@@ -26,12 +25,12 @@ abbrev pub Stood : State → Host → Type 0
 Stood s h = IsTrue s.is_open → StandsFor s.now h
 
 -- of each host that the tables stood for within the transaction: P of what was read, and the tables rest; a row is no record
--- only of a host with a book that is not sound
-abbrev pub FindsIn : {A : Type 0} → State → State → Result A KeepError → (Host → A → Type 0) → Type 0
-FindsIn old new result P =
-    HasCleanDisk new → IsTrue old.in_transaction → (h : Host) → Stood old h → Finds result (λ x. P h x × Rests old new) (HasUnsoundBook h)
+-- only of a host that is unsound in this way
+abbrev pub FindsIn : {A : Type 0} → (Host → Type 0) → State → State → Result A KeepError → (Host → A → Type 0) → Type 0
+FindsIn IsUnsound old new result P =
+    HasCleanDisk new → IsTrue old.in_transaction → (h : Host) → Stood old h → Finds result (λ x. P h x × Rests old new) (IsUnsound h)
 
 -- the same of each host that the tables had this to tell of
-abbrev pub FindsOf : {A : Type 0} → (Tables → Host → Type 0) → State → State → Result A KeepError → (Host → A → Type 0) → Type 0
-FindsOf Tell old new result P =
-    HasCleanDisk new → IsTrue old.in_transaction → (h : Host) → (IsTrue old.is_open → Tell old.now h) → Finds result (λ x. P h x × Rests old new) (HasUnsoundBook h)
+abbrev pub FindsOf : {A : Type 0} → (Tables → Host → Type 0) → (Host → Type 0) → State → State → Result A KeepError → (Host → A → Type 0) → Type 0
+FindsOf Tell IsUnsound old new result P =
+    HasCleanDisk new → IsTrue old.in_transaction → (h : Host) → (IsTrue old.is_open → Tell old.now h) → Finds result (λ x. P h x × Rests old new) (IsUnsound h)

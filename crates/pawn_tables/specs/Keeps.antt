@@ -4,6 +4,7 @@ use Rattle.sqlite.specs.Tree.{Trees}
 use Rattle.sqlite.specs.State.{State, HasCleanDisk}
 use Rattle.pawn_book.specs.HostStep.{Host}
 use Rattle.pawn_book.specs.Keeping.{Keeping}
+use Rattle.pawn_book.specs.Sound.{IsSound}
 use Rattle.pawn_tables.specs.StandsFor.{StandsFor, HoldHost}
 
 -- no transaction is under way, and what is committed stands for the host; a store that a fault has shut stands for any
@@ -18,6 +19,17 @@ pub record Leaves (s : State) (h : Host) : Type 0 where
   pub left : s.may_leave trees
   pub stands : HoldHost trees h
 
+-- trees that hold a sound host
+abbrev pub HoldSound : Trees → Type 0
+HoldSound trees = (h : Host) × IsSound h × HoldHost trees h
+
+-- a sound host is kept, and whatever trees a crash now may leave hold one
+pub record IsWhole (s : State) : Type 0 where
+  pub host : Host
+  pub sound : IsSound host
+  pub keeps : Keeps s host
+  pub crash : (trees : Trees) → s.may_leave trees → HoldSound trees
+
 -- a keeper over a connection: honest while the disk has returned what was written; its store may always fail
 abbrev pub keeping_by : {K : Type 0} → (K → State) → Keeping K
 keeping_by state = record {
@@ -26,4 +38,5 @@ keeping_by state = record {
   serves = λ k. IsTrue (state k).is_open;
   steady = λ k. ⊥;
   leaves = λ k. Leaves (state k);
+  whole = λ k. IsWhole (state k);
 }

@@ -5,6 +5,7 @@ ghost use Rattle.pawn_book.specs.Bookings.{confirmed_count};
 ghost use Rattle.pawn_book.specs.BookStep.{book_head};
 ghost use Rattle.pawn_book.specs.HostStep.{rows};
 ghost use Rattle.pawn_book.specs.Keeping.{IsNextBook, number_of, pledges_of};
+ghost use Rattle.pawn_book.specs.Sound.{HasUnsoundBook, IsUnsoundAt};
 ghost use Rattle.one_table.specs.Lending.{IsLent};
 ghost use Rattle.pawn_tables.specs.Finding.{FindsIn, FindsOf};
 ghost use Rattle.pawn_tables.specs.StandsFor.{ListDebts};
@@ -22,7 +23,7 @@ pub fn head_in<S: Alter>(
     book: u32,
 ) -> Result<Option<BookHead>, KeepError>
     ensures same_reference { tx.new.conn.ghost_name ≡ tx.old.conn.ghost_name }
-    ensures finds { FindsIn (state S.Store tx.old.conn.now) (state S.Store tx.new.conn.now) result (λ h head. head ≡ option_map book_head (get h.books book)) }
+    ensures finds { FindsIn (IsUnsoundAt book) (state S.Store tx.old.conn.now) (state S.Store tx.new.conn.now) result (λ h head. head ≡ option_map book_head (get h.books book)) }
     ensures lent { IsLent (state S.Store tx.old.conn.now) (state S.Store tx.new.conn.now) (is_ok result) }
 {
     let rows = rows_of(
@@ -40,7 +41,7 @@ pub fn ref_in<S: Alter>(
     reference: &str,
 ) -> Result<Option<Number>, KeepError>
     ensures same_reference { tx.new.conn.ghost_name ≡ tx.old.conn.ghost_name }
-    ensures finds { FindsIn (state S.Store tx.old.conn.now) (state S.Store tx.new.conn.now) result (λ h number. number ≡ number_of (get h.books book) reference.now) }
+    ensures finds { FindsIn (IsUnsoundAt book) (state S.Store tx.old.conn.now) (state S.Store tx.new.conn.now) result (λ h number. number ≡ number_of (get h.books book) reference.now) }
     ensures lent { IsLent (state S.Store tx.old.conn.now) (state S.Store tx.new.conn.now) (is_ok result) }
 {
     let rows = rows_of(
@@ -60,7 +61,7 @@ pub fn confirmed_in<S: Alter>(
     window: u64,
 ) -> Result<u64, KeepError>
     ensures same_reference { tx.new.conn.ghost_name ≡ tx.old.conn.ghost_name }
-    ensures finds { FindsIn (state S.Store tx.old.conn.now) (state S.Store tx.new.conn.now) result (λ h count. count ≡ confirmed_count (pledges_of (get h.books book)) day window) }
+    ensures finds { FindsIn (IsUnsoundAt book) (state S.Store tx.old.conn.now) (state S.Store tx.new.conn.now) result (λ h count. count ≡ confirmed_count (pledges_of (get h.books book)) day window) }
     ensures lent { IsLent (state S.Store tx.old.conn.now) (state S.Store tx.new.conn.now) (is_ok result) }
 {
     let Ok(slot) = u32::try_from(window) else {
@@ -81,8 +82,8 @@ pub fn next_in<S: Alter>(
     above: u32,
 ) -> Result<Option<Number>, KeepError>
     ensures same_reference { tx.new.conn.ghost_name ≡ tx.old.conn.ghost_name }
-    ensures finds { FindsIn (state S.Store tx.old.conn.now) (state S.Store tx.new.conn.now) result (λ h next. IsNextBook h above next) }
-    ensures told { FindsOf ListDebts (state S.Store tx.old.conn.now) (state S.Store tx.new.conn.now) result (λ h next. IsNextBook h above next) }
+    ensures finds { FindsIn HasUnsoundBook (state S.Store tx.old.conn.now) (state S.Store tx.new.conn.now) result (λ h next. IsNextBook h above next) }
+    ensures told { FindsOf ListDebts HasUnsoundBook (state S.Store tx.old.conn.now) (state S.Store tx.new.conn.now) result (λ h next. IsNextBook h above next) }
     ensures lent { IsLent (state S.Store tx.old.conn.now) (state S.Store tx.new.conn.now) (is_ok result) }
 {
     let rows = rows_of(
@@ -96,7 +97,7 @@ pub fn next_in<S: Alter>(
 /// The rows of all books that are counted.
 pub fn rows_in<S: Alter>(tx: &mut Transaction<'_, S>) -> Result<u64, KeepError>
     ensures same_reference { tx.new.conn.ghost_name ≡ tx.old.conn.ghost_name }
-    ensures finds { FindsIn (state S.Store tx.old.conn.now) (state S.Store tx.new.conn.now) result (λ h count. count ≡ rows h) }
+    ensures finds { FindsIn HasUnsoundBook (state S.Store tx.old.conn.now) (state S.Store tx.new.conn.now) result (λ h count. count ≡ rows h) }
     ensures lent { IsLent (state S.Store tx.old.conn.now) (state S.Store tx.new.conn.now) (is_ok result) }
 {
     let rows = rows_of(tx, "SELECT value FROM meta WHERE name = 'rows'", &[])?;

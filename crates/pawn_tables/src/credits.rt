@@ -4,6 +4,7 @@ ghost use Rattle.sqlite.specs.Held.{state};
 ghost use Rattle.pawn_terms.specs.Calendar.{IsStampDay};
 ghost use Rattle.pawn_pledge.specs.Pledge.{PledgeValue};
 ghost use Rattle.pawn_book.specs.BookStep.{pledge_in};
+ghost use Rattle.pawn_book.specs.Sound.{IsUnsoundAt};
 ghost use Rattle.one_table.specs.Lending.{IsLent};
 ghost use Rattle.pawn_tables.specs.Rows.{at_most_one, credit_cells};
 ghost use Rattle.pawn_tables.specs.Finding.{FindsOf, IsRead};
@@ -71,7 +72,7 @@ pub fn credit_in<S: Alter>(
     number: u32,
 ) -> Result<Option<Credit>, KeepError>
     ensures same_reference { tx.new.conn.ghost_name ≡ tx.old.conn.ghost_name }
-    ensures finds { FindsOf ListDebts (state S.Store tx.old.conn.now) (state S.Store tx.new.conn.now) result (λ h x. x ≡ option_map credit_told (pledge_in (get h.books book) number)) }
+    ensures finds { FindsOf ListDebts (IsUnsoundAt book) (state S.Store tx.old.conn.now) (state S.Store tx.new.conn.now) result (λ h x. x ≡ option_map credit_told (pledge_in (get h.books book) number)) }
     ensures lent { IsLent (state S.Store tx.old.conn.now) (state S.Store tx.new.conn.now) (is_ok result) }
 {
     let rows = rows_of(

@@ -8,6 +8,7 @@ ghost use Rattle.pawn_book.specs.declared.fault.StoreFault.TheVariants.{NoRecord
 ghost use Rattle.pawn_book.specs.Rows.{terms_at};
 ghost use Rattle.pawn_book.specs.BookStep.{pledge_in};
 ghost use Rattle.pawn_book.specs.Keeping.{entries_of, extensions_of, secrets_of, terms_of};
+ghost use Rattle.pawn_book.specs.Sound.{IsUnsoundAt};
 ghost use Rattle.one_table.specs.Lending.{IsLent};
 ghost use Rattle.pawn_tables.specs.Finding.{FindsIn, FindsOf};
 ghost use Rattle.pawn_tables.specs.StandsFor.{ListDebts};
@@ -50,8 +51,8 @@ pub fn entries_in<S: Alter>(
     number: u32,
 ) -> Result<Entries, KeepError>
     ensures same_reference { tx.new.conn.ghost_name ≡ tx.old.conn.ghost_name }
-    ensures finds { FindsIn (state S.Store tx.old.conn.now) (state S.Store tx.new.conn.now) result (λ h x. x ≡ entries_of (pledge_in (get h.books book) number)) }
-    ensures told { FindsOf ListDebts (state S.Store tx.old.conn.now) (state S.Store tx.new.conn.now) result (λ h x. x ≡ entries_of (pledge_in (get h.books book) number)) }
+    ensures finds { FindsIn (IsUnsoundAt book) (state S.Store tx.old.conn.now) (state S.Store tx.new.conn.now) result (λ h x. x ≡ entries_of (pledge_in (get h.books book) number)) }
+    ensures told { FindsOf ListDebts (IsUnsoundAt book) (state S.Store tx.old.conn.now) (state S.Store tx.new.conn.now) result (λ h x. x ≡ entries_of (pledge_in (get h.books book) number)) }
     ensures lent { IsLent (state S.Store tx.old.conn.now) (state S.Store tx.new.conn.now) (is_ok result) }
 {
     let rows = rows_of(
@@ -70,7 +71,7 @@ pub(crate) fn secrets_in<S: Alter>(
     number: u32,
 ) -> Result<Secrets, KeepError>
     ensures same_reference { tx.new.conn.ghost_name ≡ tx.old.conn.ghost_name }
-    ensures finds { FindsIn (state S.Store tx.old.conn.now) (state S.Store tx.new.conn.now) result (λ h x. x ≡ secrets_of (pledge_in (get h.books book) number)) }
+    ensures finds { FindsIn (IsUnsoundAt book) (state S.Store tx.old.conn.now) (state S.Store tx.new.conn.now) result (λ h x. x ≡ secrets_of (pledge_in (get h.books book) number)) }
     ensures lent { IsLent (state S.Store tx.old.conn.now) (state S.Store tx.new.conn.now) (is_ok result) }
 {
     let rows = rows_of(
@@ -89,7 +90,7 @@ pub(crate) fn extensions_in<S: Alter>(
     number: u32,
 ) -> Result<Extensions, KeepError>
     ensures same_reference { tx.new.conn.ghost_name ≡ tx.old.conn.ghost_name }
-    ensures finds { FindsIn (state S.Store tx.old.conn.now) (state S.Store tx.new.conn.now) result (λ h x. x ≡ extensions_of (pledge_in (get h.books book) number)) }
+    ensures finds { FindsIn (IsUnsoundAt book) (state S.Store tx.old.conn.now) (state S.Store tx.new.conn.now) result (λ h x. x ≡ extensions_of (pledge_in (get h.books book) number)) }
     ensures lent { IsLent (state S.Store tx.old.conn.now) (state S.Store tx.new.conn.now) (is_ok result) }
 {
     let rows = rows_of(
@@ -107,7 +108,7 @@ pub fn booking_in<S: Alter>(
     number: u32,
 ) -> Result<Option<Booking>, KeepError>
     ensures same_reference { tx.new.conn.ghost_name ≡ tx.old.conn.ghost_name }
-    ensures finds { FindsIn (state S.Store tx.old.conn.now) (state S.Store tx.new.conn.now) result (λ h x. x ≡ booking_of (pledge_in (get h.books book) number)) }
+    ensures finds { FindsIn (IsUnsoundAt book) (state S.Store tx.old.conn.now) (state S.Store tx.new.conn.now) result (λ h x. x ≡ booking_of (pledge_in (get h.books book) number)) }
     ensures lent { IsLent (state S.Store tx.old.conn.now) (state S.Store tx.new.conn.now) (is_ok result) }
 {
     let rows = rows_of(
@@ -125,7 +126,7 @@ pub(crate) fn totals_in<S: Alter>(
     number: u32,
 ) -> Result<Option<Totals>, KeepError>
     ensures same_reference { tx.new.conn.ghost_name ≡ tx.old.conn.ghost_name }
-    ensures finds { FindsIn (state S.Store tx.old.conn.now) (state S.Store tx.new.conn.now) result (λ h x. x ≡ totals_in (pledge_in (get h.books book) number)) }
+    ensures finds { FindsIn (IsUnsoundAt book) (state S.Store tx.old.conn.now) (state S.Store tx.new.conn.now) result (λ h x. x ≡ totals_in (pledge_in (get h.books book) number)) }
     ensures lent { IsLent (state S.Store tx.old.conn.now) (state S.Store tx.new.conn.now) (is_ok result) }
 {
     let rows = rows_of(
@@ -143,8 +144,8 @@ pub fn terms_in<S: Alter>(
     version: u32,
 ) -> Result<Option<Terms>, KeepError>
     ensures same_reference { tx.new.conn.ghost_name ≡ tx.old.conn.ghost_name }
-    ensures finds { FindsIn (state S.Store tx.old.conn.now) (state S.Store tx.new.conn.now) result (λ h x. x ≡ terms_at (terms_of (get h.books book)) version) }
-    ensures told { FindsOf ListDebts (state S.Store tx.old.conn.now) (state S.Store tx.new.conn.now) result (λ h x. x ≡ terms_at (terms_of (get h.books book)) version) }
+    ensures finds { FindsIn (IsUnsoundAt book) (state S.Store tx.old.conn.now) (state S.Store tx.new.conn.now) result (λ h x. x ≡ terms_at (terms_of (get h.books book)) version) }
+    ensures told { FindsOf ListDebts (IsUnsoundAt book) (state S.Store tx.old.conn.now) (state S.Store tx.new.conn.now) result (λ h x. x ≡ terms_at (terms_of (get h.books book)) version) }
     ensures lent { IsLent (state S.Store tx.old.conn.now) (state S.Store tx.new.conn.now) (is_ok result) }
 {
     let rows = rows_of(
@@ -163,7 +164,7 @@ pub(crate) fn row_in<S: Alter>(
     number: u32,
 ) -> Result<Option<PledgeRow>, KeepError>
     ensures same_reference { tx.new.conn.ghost_name ≡ tx.old.conn.ghost_name }
-    ensures finds { FindsIn (state S.Store tx.old.conn.now) (state S.Store tx.new.conn.now) result (λ h x. x ≡ option_map row_of (pledge_in (get h.books book) number)) }
+    ensures finds { FindsIn (IsUnsoundAt book) (state S.Store tx.old.conn.now) (state S.Store tx.new.conn.now) result (λ h x. x ≡ option_map row_of (pledge_in (get h.books book) number)) }
     ensures lent { IsLent (state S.Store tx.old.conn.now) (state S.Store tx.new.conn.now) (is_ok result) }
 {
     let rows = rows_of(

@@ -4,6 +4,7 @@ ghost use Rattle.sqlite.specs.Held.{state};
 ghost use Rattle.pawn_book.specs.declared.sheet.Part.TheVariants as part_of;
 ghost use Rattle.pawn_book.specs.Keeping.{pledges_of};
 ghost use Rattle.pawn_book.specs.Sheet.{part_items};
+ghost use Rattle.pawn_book.specs.Sound.{IsUnsoundAt};
 ghost use Rattle.one_table.specs.Lending.{IsLent};
 ghost use Rattle.pawn_tables.specs.Finding.{FindsIn};
 ghost use Rattle.pawn_tables.specs.Lines.{IsNextLine};
@@ -19,7 +20,7 @@ use sqlite::{Alter, Transaction, params};
 // How many bookings are asked for a day.
 fn asked_in<S: Alter>(tx: &mut Transaction<'_, S>, book: u32, day: Day) -> Result<u64, KeepError>
     ensures same_reference { tx.new.conn.ghost_name ≡ tx.old.conn.ghost_name }
-    ensures finds { FindsIn (state S.Store tx.old.conn.now) (state S.Store tx.new.conn.now) result (λ h count. count ≡ length (part_items part_of.Asked day (pledges_of (get h.books book)))) }
+    ensures finds { FindsIn (IsUnsoundAt book) (state S.Store tx.old.conn.now) (state S.Store tx.new.conn.now) result (λ h count. count ≡ length (part_items part_of.Asked day (pledges_of (get h.books book)))) }
     ensures lent { IsLent (state S.Store tx.old.conn.now) (state S.Store tx.new.conn.now) (is_ok result) }
 {
     let day = day.count();
@@ -34,7 +35,7 @@ fn asked_in<S: Alter>(tx: &mut Transaction<'_, S>, book: u32, day: Day) -> Resul
 // How many periods end on a day, those of the redeemed and the sold aside.
 fn ends_in<S: Alter>(tx: &mut Transaction<'_, S>, book: u32, day: Day) -> Result<u64, KeepError>
     ensures same_reference { tx.new.conn.ghost_name ≡ tx.old.conn.ghost_name }
-    ensures finds { FindsIn (state S.Store tx.old.conn.now) (state S.Store tx.new.conn.now) result (λ h count. count ≡ length (part_items part_of.Ends day (pledges_of (get h.books book)))) }
+    ensures finds { FindsIn (IsUnsoundAt book) (state S.Store tx.old.conn.now) (state S.Store tx.new.conn.now) result (λ h count. count ≡ length (part_items part_of.Ends day (pledges_of (get h.books book)))) }
     ensures lent { IsLent (state S.Store tx.old.conn.now) (state S.Store tx.new.conn.now) (is_ok result) }
 {
     let day = day.count();
@@ -54,7 +55,7 @@ pub fn count_in<S: Alter>(
     part: Part,
 ) -> Result<u64, KeepError>
     ensures same_reference { tx.new.conn.ghost_name ≡ tx.old.conn.ghost_name }
-    ensures finds { FindsIn (state S.Store tx.old.conn.now) (state S.Store tx.new.conn.now) result (λ h count. count ≡ length (part_items part day (pledges_of (get h.books book)))) }
+    ensures finds { FindsIn (IsUnsoundAt book) (state S.Store tx.old.conn.now) (state S.Store tx.new.conn.now) result (λ h count. count ≡ length (part_items part day (pledges_of (get h.books book)))) }
     ensures lent { IsLent (state S.Store tx.old.conn.now) (state S.Store tx.new.conn.now) (is_ok result) }
 {
     match part {
@@ -73,7 +74,7 @@ fn next_confirmed<S: Alter>(
     above: u32,
 ) -> Result<Option<Line>, KeepError>
     ensures same_reference { tx.new.conn.ghost_name ≡ tx.old.conn.ghost_name }
-    ensures finds { FindsIn (state S.Store tx.old.conn.now) (state S.Store tx.new.conn.now) result (λ h line. IsNextLine (part_of.Confirmed window) day above (pledges_of (get h.books book)) line) }
+    ensures finds { FindsIn (IsUnsoundAt book) (state S.Store tx.old.conn.now) (state S.Store tx.new.conn.now) result (λ h line. IsNextLine (part_of.Confirmed window) day above (pledges_of (get h.books book)) line) }
     ensures lent { IsLent (state S.Store tx.old.conn.now) (state S.Store tx.new.conn.now) (is_ok result) }
 {
     let Ok(slot) = u32::try_from(window) else {
@@ -96,7 +97,7 @@ fn next_asked<S: Alter>(
     above: u32,
 ) -> Result<Option<Line>, KeepError>
     ensures same_reference { tx.new.conn.ghost_name ≡ tx.old.conn.ghost_name }
-    ensures finds { FindsIn (state S.Store tx.old.conn.now) (state S.Store tx.new.conn.now) result (λ h line. IsNextLine part_of.Asked day above (pledges_of (get h.books book)) line) }
+    ensures finds { FindsIn (IsUnsoundAt book) (state S.Store tx.old.conn.now) (state S.Store tx.new.conn.now) result (λ h line. IsNextLine part_of.Asked day above (pledges_of (get h.books book)) line) }
     ensures lent { IsLent (state S.Store tx.old.conn.now) (state S.Store tx.new.conn.now) (is_ok result) }
 {
     let day = day.count();
@@ -116,7 +117,7 @@ fn next_end<S: Alter>(
     above: u32,
 ) -> Result<Option<Line>, KeepError>
     ensures same_reference { tx.new.conn.ghost_name ≡ tx.old.conn.ghost_name }
-    ensures finds { FindsIn (state S.Store tx.old.conn.now) (state S.Store tx.new.conn.now) result (λ h line. IsNextLine part_of.Ends day above (pledges_of (get h.books book)) line) }
+    ensures finds { FindsIn (IsUnsoundAt book) (state S.Store tx.old.conn.now) (state S.Store tx.new.conn.now) result (λ h line. IsNextLine part_of.Ends day above (pledges_of (get h.books book)) line) }
     ensures lent { IsLent (state S.Store tx.old.conn.now) (state S.Store tx.new.conn.now) (is_ok result) }
 {
     let day = day.count();
@@ -138,7 +139,7 @@ pub fn next_line<S: Alter>(
     above: u32,
 ) -> Result<Option<Line>, KeepError>
     ensures same_reference { tx.new.conn.ghost_name ≡ tx.old.conn.ghost_name }
-    ensures finds { FindsIn (state S.Store tx.old.conn.now) (state S.Store tx.new.conn.now) result (λ h line. IsNextLine part day above (pledges_of (get h.books book)) line) }
+    ensures finds { FindsIn (IsUnsoundAt book) (state S.Store tx.old.conn.now) (state S.Store tx.new.conn.now) result (λ h line. IsNextLine part day above (pledges_of (get h.books book)) line) }
     ensures lent { IsLent (state S.Store tx.old.conn.now) (state S.Store tx.new.conn.now) (is_ok result) }
 {
     match part {

@@ -4,6 +4,7 @@ ghost use Rattle.sqlite.specs.Held.{state};
 ghost use Rattle.pawn_book.specs.Rows.{terms_at};
 ghost use Rattle.pawn_book.specs.BookStep.{pledge_in};
 ghost use Rattle.pawn_book.specs.Keeping.{terms_of};
+ghost use Rattle.pawn_book.specs.Sound.{IsUnsoundAt};
 ghost use Rattle.one_table.specs.Lending.{IsLent};
 ghost use Rattle.pawn_tables.specs.Finding.{FindsIn};
 ghost use Rattle.pawn_tables.specs.Told.{AreLists, AreSides};
@@ -25,7 +26,7 @@ pub fn terms_under<S: Alter>(
     version: u64,
 ) -> Result<Option<Terms>, KeepError>
     ensures same_reference { tx.new.conn.ghost_name ≡ tx.old.conn.ghost_name }
-    ensures finds { FindsIn (state S.Store tx.old.conn.now) (state S.Store tx.new.conn.now) result (λ h terms. terms ≡ terms_at (terms_of (get h.books book)) version) }
+    ensures finds { FindsIn (IsUnsoundAt book) (state S.Store tx.old.conn.now) (state S.Store tx.new.conn.now) result (λ h terms. terms ≡ terms_at (terms_of (get h.books book)) version) }
     ensures lent { IsLent (state S.Store tx.old.conn.now) (state S.Store tx.new.conn.now) (is_ok result) }
 {
     let Ok(short) = u32::try_from(version) else {
@@ -43,7 +44,7 @@ pub(crate) fn lists_in<S: Alter>(
     number: u32,
 ) -> Result<Lists, KeepError>
     ensures same_reference { tx.new.conn.ghost_name ≡ tx.old.conn.ghost_name }
-    ensures finds { FindsIn (state S.Store tx.old.conn.now) (state S.Store tx.new.conn.now) result (λ h l. IfSome (pledge_in (get h.books book) number) (AreLists l)) }
+    ensures finds { FindsIn (IsUnsoundAt book) (state S.Store tx.old.conn.now) (state S.Store tx.new.conn.now) result (λ h l. IfSome (pledge_in (get h.books book) number) (AreLists l)) }
     ensures lent { IsLent (state S.Store tx.old.conn.now) (state S.Store tx.new.conn.now) (is_ok result) }
 {
     let entries = entries_in(tx, alloc, book, number)?;
@@ -65,7 +66,7 @@ pub(crate) fn sides_in<S: Alter>(
     version: u32,
 ) -> Result<Sides, KeepError>
     ensures same_reference { tx.new.conn.ghost_name ≡ tx.old.conn.ghost_name }
-    ensures finds { FindsIn (state S.Store tx.old.conn.now) (state S.Store tx.new.conn.now) result (λ h s. IfSome (pledge_in (get h.books book) number) (λ p. version ≡ p.agreement.version → AreSides s p)) }
+    ensures finds { FindsIn (IsUnsoundAt book) (state S.Store tx.old.conn.now) (state S.Store tx.new.conn.now) result (λ h s. IfSome (pledge_in (get h.books book) number) (λ p. version ≡ p.agreement.version → AreSides s p)) }
     ensures lent { IsLent (state S.Store tx.old.conn.now) (state S.Store tx.new.conn.now) (is_ok result) }
 {
     let terms = terms_in(tx, book, version)?;
@@ -87,7 +88,7 @@ pub fn pledge_of<S: Alter>(
     number: Number,
 ) -> Result<Option<Pledge>, KeepError>
     ensures same_reference { tx.new.conn.ghost_name ≡ tx.old.conn.ghost_name }
-    ensures finds { FindsIn (state S.Store tx.old.conn.now) (state S.Store tx.new.conn.now) result (λ h pledge. pledge ≡ pledge_in (get h.books book) number) }
+    ensures finds { FindsIn (IsUnsoundAt book) (state S.Store tx.old.conn.now) (state S.Store tx.new.conn.now) result (λ h pledge. pledge ≡ pledge_in (get h.books book) number) }
     ensures lent { IsLent (state S.Store tx.old.conn.now) (state S.Store tx.new.conn.now) (is_ok result) }
 {
     let n = number.get();

@@ -1,7 +1,7 @@
 use Rattle.std.proofs.Common.{rules, Ok, Err, refl}
 use Rattle.sqlite.specs.Held.{state}
 use Rattle.pawn_tables.proofs.OneHost.{tables_stand_for_one_host}
-use Rattle.pawn_saving.proofs.Saved.{given_back, IsBegun, saves_committed, saves_refused}
+use Rattle.pawn_saving.proofs.Saved.{given_back, IsBegun, saves_committed, saves_refused, saves_undone}
 use Rattle.pawn_saving.proofs.saving.save.Goals as goal
 
 pub returns-in-Ok-commit-clause-saves : goal.returns-in-Ok-commit-clause-saves
@@ -38,4 +38,22 @@ returns-in-Err-commit-clause-saves g c =
     given_back (λ c'. state g.S.Store c') (Unit {0}) c.args.conn.now c.commit.new.self.0 c.args.change.now (Err c.unsaved.result)
     (saves_refused (λ c'. state g.S.Store c') c.args.conn.now c.commit.new.self.0 (state g.S.Store c.transaction-tx.result.conn.now) (state g.S.Store c.write_change.new.tx.conn.now) c.args.change.now was c.requires.can_save
     (Unit {0}) tt tables_stand_for_one_host c.in-Ok.ensures.lent c.in-Ok.ensures.wrote c.commit.ensures.ended c.commit.ensures.survives c.unsaved.result c.unsaved.ensures.not_full c.in-Err-commit.error c.in-Err-commit.ensures.err)
+    _ (search rules)
+
+pub returns-in-Err-clause-saves : goal.returns-in-Err-clause-saves
+returns-in-Err-clause-saves g c =
+    let begun = c.transaction-tx.ensures.begun in
+    let was : IsBegun (state g.S.Store c.args.conn.now) (state g.S.Store c.transaction-tx.result.conn.now) = record {
+      ended = search rules;
+      settled = search rules;
+      was_open = λ now. rw begun at now;
+      now = rw begun refl;
+      committed = rw begun refl;
+      within = rw begun refl;
+      clean = λ clean. rw begun at clean;
+      left = λ trees left. rw begun at left;
+    } in
+    given_back (λ c'. state g.S.Store c') (Unit {0}) c.args.conn.now c.rollback.new.self.0 c.args.change.now (Err c.in-Err.error)
+    (saves_undone (λ c'. state g.S.Store c') c.args.conn.now c.rollback.new.self.0 (state g.S.Store c.transaction-tx.result.conn.now) (state g.S.Store c.write_change.new.tx.conn.now) c.args.change.now was c.requires.can_save
+    (Unit {0}) c.in-Err.error c.in-Err.ensures.lent c.in-Err.ensures.wrote c.rollback.ensures.undone c.rollback.ensures.survives)
     _ (search rules)

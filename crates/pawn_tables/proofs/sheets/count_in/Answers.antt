@@ -4,7 +4,7 @@ use Rattle.sqlite.specs.Held.{state}
 use Rattle.pawn_book.specs.Bookings.{confirmed_count}
 use Rattle.pawn_book.specs.Keeping.{pledges_of}
 use Rattle.pawn_book.specs.Sheet.{part_items}
-use Rattle.pawn_book.specs.Sound.{HasUnsoundBook}
+use Rattle.pawn_book.specs.Sound.{IsUnsoundAt}
 use Rattle.pawn_book.specs.declared.sheet.Part.TheVariants as part_of
 use Rattle.one_table.specs.Lending.{Rests}
 use Rattle.pawn_tables.proofs.LineReads.{confirmed_items}
@@ -17,7 +17,7 @@ returns-in-Confirmed-clause-finds g c clean within h stood =
     let window = c.in-Confirmed.window in
     let counted : ℕ → Type 0 = λ count. count ≡ confirmed_count ps c.args.day window in
     let listed : ℕ → Type 0 = λ count. count ≡ length (part_items (part_of.Confirmed window) c.args.day ps) in
-    rw c.in-Confirmed.is (finds_as c.confirmed_in.result counted listed (Rests (state g.S.Store c.args.tx.now.conn.now) (state g.S.Store c.confirmed_in.new.tx.conn.now)) (HasUnsoundBook h) (λ count is. is ∙ confirmed_items ps c.args.day window) (c.confirmed_in.ensures.finds clean within h stood))
+    rw c.in-Confirmed.is (finds_as c.confirmed_in.result counted listed (Rests (state g.S.Store c.args.tx.now.conn.now) (state g.S.Store c.confirmed_in.new.tx.conn.now)) (IsUnsoundAt c.args.book h) (λ count is. is ∙ confirmed_items ps c.args.day window) (c.confirmed_in.ensures.finds clean within h stood))
 
 pub returns-in-Asked-clause-finds : goal.returns-in-Asked-clause-finds
 returns-in-Asked-clause-finds g c = rw c.in-Asked.is c.asked_in.ensures.finds

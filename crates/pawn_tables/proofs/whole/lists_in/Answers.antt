@@ -15,13 +15,13 @@ use Rattle.pawn_tables.proofs.whole.lists_in.Goals as goal
 pub returns-in_err-entries-clause-finds : goal.returns-in_err-entries-clause-finds
 returns-in_err-entries-clause-finds g c =
     let P : Host → List Entry → Type 0 = λ h x. x ≡ entries_of (pledge_in (get h.books c.args.book) c.args.number) in
-    first_unfound (state g.S.Store c.args.tx.now.conn.now) (state g.S.Store c.entries_in.new.tx.conn.now) c.in_err-entries.field-0.0 P c.from_residual.result _ (search rules) c.in_err-entries.ensures.finds
+    first_unfound _ (state g.S.Store c.args.tx.now.conn.now) (state g.S.Store c.entries_in.new.tx.conn.now) c.in_err-entries.field-0.0 P c.from_residual.result _ (search rules) c.in_err-entries.ensures.finds
 
 pub returns-in_err-secrets-clause-finds : goal.returns-in_err-secrets-clause-finds
 returns-in_err-secrets-clause-finds g c =
     let P : Host → List Entry → Type 0 = λ h x. x ≡ entries_of (pledge_in (get h.books c.args.book) c.args.number) in
     let Q : Host → List Issued → Type 0 = λ h x. x ≡ secrets_of (pledge_in (get h.books c.args.book) c.args.number) in
-    second_unfound (state g.S.Store c.args.tx.now.conn.now) (state g.S.Store c.entries_in.new.tx.conn.now) (state g.S.Store c.secrets_in.new.tx.conn.now)
+    second_unfound _ (state g.S.Store c.args.tx.now.conn.now) (state g.S.Store c.entries_in.new.tx.conn.now) (state g.S.Store c.secrets_in.new.tx.conn.now)
     c.in_ok-entries.entries P c.in_err-secrets.field-0.0 Q c.from_residual-in_err-secrets.result _ (search rules) c.in_ok-entries.ensures.lent c.in_err-secrets.ensures.lent c.in_ok-entries.ensures.finds c.in_err-secrets.ensures.finds
 
 pub returns-in_err-extensions-clause-finds : goal.returns-in_err-extensions-clause-finds
@@ -29,7 +29,7 @@ returns-in_err-extensions-clause-finds g c =
     let P : Host → List Entry → Type 0 = λ h x. x ≡ entries_of (pledge_in (get h.books c.args.book) c.args.number) in
     let Q : Host → List Issued → Type 0 = λ h x. x ≡ secrets_of (pledge_in (get h.books c.args.book) c.args.number) in
     let R : Host → List Extension → Type 0 = λ h x. x ≡ extensions_of (pledge_in (get h.books c.args.book) c.args.number) in
-    third_unfound (state g.S.Store c.args.tx.now.conn.now) (state g.S.Store c.entries_in.new.tx.conn.now) (state g.S.Store c.secrets_in.new.tx.conn.now) (state g.S.Store c.extensions_in.new.tx.conn.now)
+    third_unfound _ (state g.S.Store c.args.tx.now.conn.now) (state g.S.Store c.entries_in.new.tx.conn.now) (state g.S.Store c.secrets_in.new.tx.conn.now) (state g.S.Store c.extensions_in.new.tx.conn.now)
     c.in_ok-entries.entries P c.in_ok-secrets.secrets Q c.in_err-extensions.field-0.0 R c.from_residual-in_err-extensions.result _ (search rules) c.in_ok-entries.ensures.lent c.in_ok-secrets.ensures.lent c.in_err-extensions.ensures.lent
     c.in_ok-entries.ensures.finds c.in_ok-secrets.ensures.finds c.in_err-extensions.ensures.finds
 

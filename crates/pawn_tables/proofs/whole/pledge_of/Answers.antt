@@ -16,7 +16,7 @@ use Rattle.pawn_tables.proofs.whole.pledge_of.Goals as goal
 pub returns-in_err-row-clause-finds : goal.returns-in_err-row-clause-finds
 returns-in_err-row-clause-finds g c =
     let P : Host → Option PledgeRow → Type 0 = λ h x. x ≡ option_map row_of (pledge_in (get h.books c.args.book) c.get-n.result) in
-    first_unfound (state g.S.Store c.args.tx.now.conn.now) (state g.S.Store c.row_in.new.tx.conn.now) c.in_err-row.field-0.0 P c.from_residual.result _ (search rules) c.in_err-row.ensures.finds
+    first_unfound _ (state g.S.Store c.args.tx.now.conn.now) (state g.S.Store c.row_in.new.tx.conn.now) c.in_err-row.field-0.0 P c.from_residual.result _ (search rules) c.in_err-row.ensures.finds
 
 pub returns-in_default-try_from-clause-finds : goal.returns-in_default-try_from-clause-finds
 returns-in_default-try_from-clause-finds g c clean within h stood =

@@ -17,13 +17,13 @@ use Rattle.pawn_tables.proofs.whole.sides_in.Goals as goal
 pub returns-in_err-terms-clause-finds : goal.returns-in_err-terms-clause-finds
 returns-in_err-terms-clause-finds g c =
     let P : Host → Option Rates → Type 0 = λ h x. x ≡ terms_at (terms_of (get h.books c.args.book)) c.args.version in
-    first_unfound (state g.S.Store c.args.tx.now.conn.now) (state g.S.Store c.terms_in.new.tx.conn.now) c.in_err-terms.field-0.0 P c.from_residual.result _ (search rules) c.in_err-terms.ensures.finds
+    first_unfound _ (state g.S.Store c.args.tx.now.conn.now) (state g.S.Store c.terms_in.new.tx.conn.now) c.in_err-terms.field-0.0 P c.from_residual.result _ (search rules) c.in_err-terms.ensures.finds
 
 pub returns-in_err-booking-clause-finds : goal.returns-in_err-booking-clause-finds
 returns-in_err-booking-clause-finds g c =
     let P : Host → Option Rates → Type 0 = λ h x. x ≡ terms_at (terms_of (get h.books c.args.book)) c.args.version in
     let Q : Host → Option Booking → Type 0 = λ h x. x ≡ booking_of (pledge_in (get h.books c.args.book) c.args.number) in
-    second_unfound (state g.S.Store c.args.tx.now.conn.now) (state g.S.Store c.terms_in.new.tx.conn.now) (state g.S.Store c.booking_in.new.tx.conn.now)
+    second_unfound _ (state g.S.Store c.args.tx.now.conn.now) (state g.S.Store c.terms_in.new.tx.conn.now) (state g.S.Store c.booking_in.new.tx.conn.now)
     c.in_ok-terms.terms P c.in_err-booking.field-0.0 Q c.from_residual-in_err-booking.result _ (search rules) c.in_ok-terms.ensures.lent c.in_err-booking.ensures.lent c.in_ok-terms.ensures.finds c.in_err-booking.ensures.finds
 
 pub returns-in_err-totals-clause-finds : goal.returns-in_err-totals-clause-finds
@@ -31,7 +31,7 @@ returns-in_err-totals-clause-finds g c =
     let P : Host → Option Rates → Type 0 = λ h x. x ≡ terms_at (terms_of (get h.books c.args.book)) c.args.version in
     let Q : Host → Option Booking → Type 0 = λ h x. x ≡ booking_of (pledge_in (get h.books c.args.book) c.args.number) in
     let R : Host → Option Totals → Type 0 = λ h x. x ≡ totals_in (pledge_in (get h.books c.args.book) c.args.number) in
-    third_unfound (state g.S.Store c.args.tx.now.conn.now) (state g.S.Store c.terms_in.new.tx.conn.now) (state g.S.Store c.booking_in.new.tx.conn.now) (state g.S.Store c.totals_in.new.tx.conn.now)
+    third_unfound _ (state g.S.Store c.args.tx.now.conn.now) (state g.S.Store c.terms_in.new.tx.conn.now) (state g.S.Store c.booking_in.new.tx.conn.now) (state g.S.Store c.totals_in.new.tx.conn.now)
     c.in_ok-terms.terms P c.in_ok-booking.booking Q c.in_err-totals.field-0.0 R c.from_residual-in_err-totals.result _ (search rules) c.in_ok-terms.ensures.lent c.in_ok-booking.ensures.lent c.in_err-totals.ensures.lent
     c.in_ok-terms.ensures.finds c.in_ok-booking.ensures.finds c.in_err-totals.ensures.finds
 
