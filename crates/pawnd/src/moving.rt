@@ -36,17 +36,18 @@ fn refused(why: OpenFault) -> Stop {
     unmoved(MoveFault::of_opening(why))
 }
 
-// Whether there is a file at a path.
+// Whether there is something at a path that is no empty file.
 fn is_there(rt: &HostRuntime, path: &str) -> Result<bool, Stop> {
-    match fs::exists(rt, path) {
-        Ok(there) => Ok(there),
+    match fs::metadata(rt, path) {
+        Ok(found) => Ok(!found.is_file() || found.len() > 0),
+        Err(error) if error.kind() == ErrorKind::NotFound => Ok(false),
         Err(error) if error.kind() == ErrorKind::OutOfMemory => Err(unmoved(MoveFault::Memory)),
         Err(_) => Err(unmoved(MoveFault::Store)),
     }
 }
 
-/// Moves the store in the file at a path to the program's schema, and closes it. Where there is no file none is made: it is
-/// refused as an empty store is, and so is a store in memory.
+/// Moves the store in the file at a path to the program's schema, and closes it. Where there is no file none is made, and an empty
+/// one is left so: it is refused as an empty store is, and so is a store in memory.
 pub fn move_file(rt: &HostRuntime, path: &str) -> Result<Schemas, Stop> {
     if is_memory(path) || !is_there(rt, path)? {
         return Err(unmoved(MoveFault::NotOurs));
