@@ -4,7 +4,6 @@ use Rattle.std.specs.Prelude.{IfOk, is_ok}
 use Rattle.sqlite.specs.State.{State, HasCleanDisk, IsRolledBack, Survives}
 use Rattle.pawn_book.specs.HostStep.{Host}
 use Rattle.pawn_book.specs.Keeping.{Reads, Errs}
-use Rattle.pawn_book.specs.Sound.{HasUnsoundBook}
 use Rattle.pawn_book.specs.declared.fault.KeepError.{KeepError}
 use Rattle.pawn_book.specs.declared.fault.KeepError.TheVariants as Keeper
 use Rattle.pawn_book.specs.declared.fault.StoreFault.TheVariants.{NoRecord}
@@ -12,7 +11,7 @@ use Rattle.one_table.specs.Lending.{IsLent, Rests}
 use Rattle.one_table.proofs.Lent.{clean_before}
 use Rattle.one_table.proofs.Parts.{rests_open, committed_rests}
 use Rattle.pawn_tables.specs.StandsFor.{StandsFor}
-use Rattle.pawn_tables.specs.Keeps.{Keeps, keeping_by}
+use Rattle.pawn_tables.specs.Keeps.{IsWhole, Keeps, keeping_by}
 use Rattle.pawn_tables.specs.Finding.{Finds, FindsIn, Stood}
 
 -- what was found, alone
@@ -61,29 +60,34 @@ module _ {K : Type 0} (state : K → State) (old new : K) (begun lent : State) {
   no_more (inl p) = p
   no_more (inr none) = absurd none
 
-  pub read_by : (P : Host → A → Type 0) → FindsIn begun lent r P → Reads (keeping_by state) old new (λ h. IfOk r (P h))
-  read_by P finds = record {
-    on = record { past = λ clean. was.clean (clean_begun clean); served = opened; stays = λ steady. steady };
-    same = λ clean h k. record {
-      autocommit = (was.undone clean).autocommit;
-      committed = λ now. ((was.undone clean).undone now).0 ∙ sym ((was.undone clean).undone now).1;
-      stands = λ now. subst (λ d. StandsFor d h) (sym (as_it_was clean now)) (k.stands (opened clean now));
-    };
+  kept : HasCleanDisk (state new) → (h : Host) → Keeps (state old) h → Keeps (state new) h
+  kept clean h k = record {
+    autocommit = (was.undone clean).autocommit;
+    committed = λ now. ((was.undone clean).undone now).0 ∙ sym ((was.undone clean).undone now).1;
+    stands = λ now. subst (λ d. StandsFor d h) (sym (as_it_was clean now)) (k.stands (opened clean now));
+  }
+
+  left_before : HasCleanDisk (state new) → (trees : _) → (state new).may_leave trees → (state old).may_leave trees
+  left_before clean trees left = was.left trees (no_more (was.part.survives.crash (clean_lent clean) trees (no_more (was.after.crash clean trees left))))
+
+  whole : HasCleanDisk (state new) → IsWhole (state old) → IsWhole (state new)
+  whole clean w = record { host = w.host; sound = w.sound; keeps = kept clean w.host w.keeps; crash = λ trees left. w.crash trees (left_before clean trees left) }
+
+  pub read_by : (IsUnsound : Host → Type 0) (P : Host → A → Type 0) → FindsIn IsUnsound begun lent r P → Reads (keeping_by state) old new (λ h. IfOk r (P h))
+  read_by IsUnsound P finds = record {
+    on = record { past = λ clean. was.clean (clean_begun clean); served = opened; stays = λ steady. steady; whole = whole };
+    same = kept;
     back = λ clean now h k. record {
       autocommit = was.ended;
       committed = was.settled;
       stands = λ before. subst (λ d. StandsFor d h) (as_it_was clean now) (k.stands now);
     };
-    tells = λ clean h k. found r (P h) (Rests begun lent) (HasUnsoundBook h) (finds (clean_lent clean) was.within h (stood clean h k));
-    crash = λ clean left l. record {
-      trees = l.trees;
-      left = was.left l.trees (no_more (was.part.survives.crash (clean_lent clean) l.trees (no_more (was.after.crash clean l.trees l.left))));
-      stands = l.stands;
-    };
+    tells = λ clean h k. found r (P h) (Rests begun lent) (IsUnsound h) (finds (clean_lent clean) was.within h (stood clean h k));
+    crash = λ clean left l. record { trees = l.trees; left = left_before clean l.trees l.left; stands = l.stands };
   }
 
-  pub errs_by : (P : Host → A → Type 0) → FindsIn begun lent r P → Errs (keeping_by state) old new r
-  errs_by P finds = record {
+  pub errs_by : {IsUnsound : Host → Type 0} (P : Host → A → Type 0) → FindsIn IsUnsound begun lent r P → Errs (keeping_by state) old new IsUnsound r
+  errs_by {IsUnsound = IsUnsound} P finds = record {
     never = λ steady. absurd steady;
-    no_record = λ is clean h k. unfound r (λ x. P h x × Rests begun lent) (HasUnsoundBook h) is (finds (clean_lent clean) was.within h (stood clean h k));
+    no_record = λ is clean h k. unfound r (λ x. P h x × Rests begun lent) (IsUnsound h) is (finds (clean_lent clean) was.within h (stood clean h k));
   }

@@ -34,7 +34,7 @@ take_past (y ∷ xs) (suc i) none = ap (λ l. y ∷ l) (take_past xs i none)
 -- a call that read nothing
 pub reads_none : {K : Type 0} (k : Keeping K) (s : K) (P : Host → Type 0) → ((h : Host) → P h) → Reads k s s P
 reads_none k s P all = record {
-  on = record { past = λ honest. honest; served = λ honest now. now; stays = λ steady. steady };
+  on = record { past = λ honest. honest; served = λ honest now. now; stays = λ steady. steady; whole = λ honest whole. whole };
   same = λ honest h at. at;
   back = λ honest now h at. at;
   tells = λ honest h at. all h;
@@ -82,23 +82,23 @@ module _ {K V T : Type 0} (k : Keeping K) (step : V → T → Flow → V → Typ
 
 -- ---- errors
 
-module _ {K : Type 0} (k : Keeping K) (old now new : K) {P Q : Host → Type 0} (before : Reads k old now P) (read : Reads k now new Q) where
+module _ {K : Type 0} (k : Keeping K) (old now new : K) {P Q : Host → Type 0} (before : Reads k old now P) (read : Reads k now new Q) {IsUnsound : Host → Type 0} where
   -- an error that is handed on
-  pub errs_then : {A B : Type 0} (r : Result A KeepError) (s : Result B KeepError) (e : KeepError) → r ≡ Err e → s ≡ Err e → Errs k now new r → Errs k old new s
+  pub errs_then : {A B : Type 0} (r : Result A KeepError) (s : Result B KeepError) (e : KeepError) → r ≡ Err e → s ≡ Err e → Errs k now new IsUnsound r → Errs k old new IsUnsound s
   errs_then r s e is same errs = record {
     never = λ steady. subst (λ x. IfErr x (λ f. f ≡ Keeper.Memory)) (sym same) (subst (λ x. IfErr x (λ f. f ≡ Keeper.Memory)) is (errs.never (before.on.stays steady)));
     no_record = λ bad honest h at. errs.no_record (is ∙ ap Err (let x = sym same ∙ bad in cc)) honest h (before.same (read.on.past honest) h at);
   }
 
 -- no error
-pub errs_ok : {K A : Type 0} (k : Keeping K) (old new : K) (r : Result A KeepError) (x : A) → r ≡ Ok x → Errs k old new r
+pub errs_ok : {K A : Type 0} {IsUnsound : Host → Type 0} (k : Keeping K) (old new : K) (r : Result A KeepError) (x : A) → r ≡ Ok x → Errs k old new IsUnsound r
 errs_ok k old new r x is = record {
   never = λ steady. subst (λ y. IfErr y (λ f. f ≡ Keeper.Memory)) (sym is) tt;
   no_record = λ bad. absurd (let e = sym is ∙ bad in cc);
 }
 
 -- a store that may fail, and tells of no row
-pub errs_database : {K A : Type 0} (k : Keeping K) (old new : K) (r : Result A KeepError) → (k.steady old → ⊥) → r ≡ Err (Keeper.Store Database) → Errs k old new r
+pub errs_database : {K A : Type 0} {IsUnsound : Host → Type 0} (k : Keeping K) (old new : K) (r : Result A KeepError) → (k.steady old → ⊥) → r ≡ Err (Keeper.Store Database) → Errs k old new IsUnsound r
 errs_database k old new r may is = record {
   never = λ steady. absurd (may steady);
   no_record = λ bad. absurd (let e = sym is ∙ bad in cc);

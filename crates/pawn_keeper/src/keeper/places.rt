@@ -3,6 +3,7 @@ ghost use Rattle.std.specs.FinMap.{get};
 ghost use Rattle.sqlite.specs.Held.{state};
 ghost use Rattle.pawn_book.specs.BookStep.{pledge_in};
 ghost use Rattle.pawn_book.specs.Keeping.{Errs, Reads, entries_of, extensions_of, secrets_of};
+ghost use Rattle.pawn_book.specs.Sound.{IsUnsoundAt};
 ghost use Rattle.pawn_tables.specs.Keeps.{keeping_by};
 ghost use Rattle.pawn_tables.specs.Places.{at_place};
 
@@ -20,7 +21,7 @@ impl<S: Alter> TableKeep<S> {
         place: u32,
     ) -> Result<Option<Entry>, KeepError>
         ensures reads { Reads (keeping_by (λ k. state S.Store k.conn)) self.old self.new (λ h. IfOk result (λ x. x ≡ at_place (entries_of (pledge_in (get h.books book) number)) place)) }
-        ensures errs { Errs (keeping_by (λ k. state S.Store k.conn)) self.old self.new result }
+        ensures errs { Errs (keeping_by (λ k. state S.Store k.conn)) self.old self.new (IsUnsoundAt book) result }
     {
         let _ = self.conn.is_autocommit();
         let mut tx = self.conn.transaction();
@@ -37,7 +38,7 @@ impl<S: Alter> TableKeep<S> {
         place: u32,
     ) -> Result<Option<Issued>, KeepError>
         ensures reads { Reads (keeping_by (λ k. state S.Store k.conn)) self.old self.new (λ h. IfOk result (λ x. x ≡ at_place (secrets_of (pledge_in (get h.books book) number)) place)) }
-        ensures errs { Errs (keeping_by (λ k. state S.Store k.conn)) self.old self.new result }
+        ensures errs { Errs (keeping_by (λ k. state S.Store k.conn)) self.old self.new (IsUnsoundAt book) result }
     {
         let _ = self.conn.is_autocommit();
         let mut tx = self.conn.transaction();
@@ -54,7 +55,7 @@ impl<S: Alter> TableKeep<S> {
         place: u32,
     ) -> Result<Option<Extension>, KeepError>
         ensures reads { Reads (keeping_by (λ k. state S.Store k.conn)) self.old self.new (λ h. IfOk result (λ x. x ≡ at_place (extensions_of (pledge_in (get h.books book) number)) place)) }
-        ensures errs { Errs (keeping_by (λ k. state S.Store k.conn)) self.old self.new result }
+        ensures errs { Errs (keeping_by (λ k. state S.Store k.conn)) self.old self.new (IsUnsoundAt book) result }
     {
         let _ = self.conn.is_autocommit();
         let mut tx = self.conn.transaction();

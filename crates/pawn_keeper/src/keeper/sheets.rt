@@ -3,6 +3,7 @@ ghost use Rattle.std.specs.FinMap.{get};
 ghost use Rattle.sqlite.specs.Held.{state};
 ghost use Rattle.pawn_book.specs.Keeping.{Errs, Reads, pledges_of};
 ghost use Rattle.pawn_book.specs.Sheet.{part_head, part_items, window_sheet, windows_sheet, with_head, day_sheet};
+ghost use Rattle.pawn_book.specs.Sound.{IsUnsoundAt};
 ghost use Rattle.pawn_tables.specs.Keeps.{keeping_by};
 ghost use Rattle.pawn_tables.specs.Lines.{IsNextLine};
 ghost use Rattle.pawn_keeper.specs.Handing.{Hands};
@@ -17,7 +18,7 @@ impl<S: Alter> TableKeep<S> {
     // How many items a part of a day's sheet has.
     fn count_part(&mut self, book: Number, day: Day, part: Part) -> Result<u64, KeepError>
         ensures reads { Reads (keeping_by (λ k. state S.Store k.conn)) self.old self.new (λ h. IfOk result (λ count. count ≡ length (part_items part day (pledges_of (get h.books book))))) }
-        ensures errs { Errs (keeping_by (λ k. state S.Store k.conn)) self.old self.new result }
+        ensures errs { Errs (keeping_by (λ k. state S.Store k.conn)) self.old self.new (IsUnsoundAt book) result }
     {
         let _ = self.conn.is_autocommit();
         let mut tx = self.conn.transaction();
@@ -35,7 +36,7 @@ impl<S: Alter> TableKeep<S> {
         above: u32,
     ) -> Result<Option<Line>, KeepError>
         ensures reads { Reads (keeping_by (λ k. state S.Store k.conn)) self.old self.new (λ h. IfOk result (λ line. IsNextLine part day above (pledges_of (get h.books book)) line)) }
-        ensures errs { Errs (keeping_by (λ k. state S.Store k.conn)) self.old self.new result }
+        ensures errs { Errs (keeping_by (λ k. state S.Store k.conn)) self.old self.new (IsUnsoundAt book) result }
     {
         let _ = self.conn.is_autocommit();
         let mut tx = self.conn.transaction();
@@ -52,7 +53,7 @@ impl<S: Alter> TableKeep<S> {
         part: Part,
         visitor: &mut V,
     ) -> Result<Flow, KeepError>
-        ensures hands { Hands (keeping_by (λ k. state S.Store k.conn)) V.step self.old self.new visitor.old visitor.new result (λ h. part_items part day (pledges_of (get h.books book))) }
+        ensures hands { Hands (keeping_by (λ k. state S.Store k.conn)) (IsUnsoundAt book) V.step self.old self.new visitor.old visitor.new result (λ h. part_items part day (pledges_of (get h.books book))) }
     {
         let mut above = 0;
         for _ in 0..NUMBERS {
@@ -76,7 +77,7 @@ impl<S: Alter> TableKeep<S> {
         count: u64,
         visitor: &mut V,
     ) -> Result<Flow, KeepError>
-        ensures hands { Hands (keeping_by (λ k. state S.Store k.conn)) V.step self.old self.new visitor.old visitor.new result (λ h. part_head part count ∷ part_items part day (pledges_of (get h.books book))) }
+        ensures hands { Hands (keeping_by (λ k. state S.Store k.conn)) (IsUnsoundAt book) V.step self.old self.new visitor.old visitor.new result (λ h. part_head part count ∷ part_items part day (pledges_of (get h.books book))) }
     {
         let heading = part.heading(count);
         match visitor.visit(&heading) {
@@ -93,7 +94,7 @@ impl<S: Alter> TableKeep<S> {
         part: Part,
         visitor: &mut V,
     ) -> Result<Flow, KeepError>
-        ensures hands { Hands (keeping_by (λ k. state S.Store k.conn)) V.step self.old self.new visitor.old visitor.new result (λ h. with_head part (part_items part day (pledges_of (get h.books book)))) }
+        ensures hands { Hands (keeping_by (λ k. state S.Store k.conn)) (IsUnsoundAt book) V.step self.old self.new visitor.old visitor.new result (λ h. with_head part (part_items part day (pledges_of (get h.books book)))) }
     {
         let count = self.count_part(book, day, part)?;
         self.hand_under(book, day, part, count, visitor)
@@ -107,7 +108,7 @@ impl<S: Alter> TableKeep<S> {
         window: u64,
         visitor: &mut V,
     ) -> Result<Flow, KeepError>
-        ensures hands { Hands (keeping_by (λ k. state S.Store k.conn)) V.step self.old self.new visitor.old visitor.new result (λ h. window_sheet (pledges_of (get h.books book)) day window) }
+        ensures hands { Hands (keeping_by (λ k. state S.Store k.conn)) (IsUnsoundAt book) V.step self.old self.new visitor.old visitor.new result (λ h. window_sheet (pledges_of (get h.books book)) day window) }
     {
         let part = Part::Confirmed { window };
         let count = self.count_part(book, day, part)?;
@@ -124,7 +125,7 @@ impl<S: Alter> TableKeep<S> {
         day: Day,
         visitor: &mut V,
     ) -> Result<Flow, KeepError>
-        ensures hands { Hands (keeping_by (λ k. state S.Store k.conn)) V.step self.old self.new visitor.old visitor.new result (λ h. windows_sheet (pledges_of (get h.books book)) day) }
+        ensures hands { Hands (keeping_by (λ k. state S.Store k.conn)) (IsUnsoundAt book) V.step self.old self.new visitor.old visitor.new result (λ h. windows_sheet (pledges_of (get h.books book)) day) }
     {
         for window in 0..LAST_WINDOW + 1 {
             match self.hand_window(book, day, window, visitor)? {
@@ -142,7 +143,7 @@ impl<S: Alter> TableKeep<S> {
         day: Day,
         visitor: &mut V,
     ) -> Result<Flow, KeepError>
-        ensures hands { Hands (keeping_by (λ k. state S.Store k.conn)) V.step self.old self.new visitor.old visitor.new result (λ h. day_sheet (pledges_of (get h.books book)) day) }
+        ensures hands { Hands (keeping_by (λ k. state S.Store k.conn)) (IsUnsoundAt book) V.step self.old self.new visitor.old visitor.new result (λ h. day_sheet (pledges_of (get h.books book)) day) }
     {
         match self.hand_windows(book, day, visitor)? {
             Flow::Go => {}

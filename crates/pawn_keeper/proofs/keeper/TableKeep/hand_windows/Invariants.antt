@@ -6,11 +6,12 @@ use Rattle.pawn_book.specs.declared.visit.Flow.TheVariants.{Go}
 use Rattle.pawn_book.specs.Keeping.{pledges_of}
 use Rattle.pawn_book.specs.Sheet.{window_sheet, windows_below}
 use Rattle.pawn_tables.specs.Keeps.{keeping_by}
+use Rattle.pawn_book.specs.Sound.{IsUnsoundAt}
 use Rattle.pawn_keeper.specs.Handing.{Hands}
 use Rattle.pawn_keeper.proofs.keeper.TableKeep.hand_windows.Given as goal
 
 abbrev pub invariant-loop-window : goal.invariant-loop-window
 invariant-loop-window g l = record {
   within : l.window ≤ 16;
-  handed : Hands (keeping_by (λ k. state g.S.Store k.conn)) g.V.Visitor.step l.fn.self l.self l.fn.visitor l.visitor (Ok Go) (λ h. flat_map (window_sheet (pledges_of (get h.books l.book)) l.day) (windows_below l.window));
+  handed : Hands (keeping_by (λ k. state g.S.Store k.conn)) (IsUnsoundAt l.book) g.V.Visitor.step l.fn.self l.self l.fn.visitor l.visitor (Ok Go) (λ h. flat_map (window_sheet (pledges_of (get h.books l.book)) l.day) (windows_below l.window));
 }

@@ -7,11 +7,11 @@ use Rattle.pawn_book.specs.BookStep.{pledge_in}
 use Rattle.pawn_book.specs.HostStep.{Host}
 use Rattle.pawn_book.specs.Keeping.{secrets_of}
 use Rattle.pawn_tables.specs.Places.{at_place}
-use Rattle.pawn_keeper.proofs.KeeperReads.{IsRead, errs_by}
+use Rattle.pawn_keeper.proofs.KeeperReads.{IsRead, errs_by, read_by}
 use Rattle.pawn_keeper.proofs.keeper.TableKeep.secret_at.Goals as goal
 
-pub returns-clause-errs : goal.returns-clause-errs
-returns-clause-errs g c =
+pub returns : goal.returns
+returns g c =
     let begun = c.transaction-tx.ensures.begun in
     let P : Host → Option Issued → Type 0 = λ h x. x ≡ at_place (secrets_of (pledge_in (get h.books c.args.book) c.args.number)) c.args.place in
     let was : IsRead (state g.S.Store c.args.self.now.conn) (state g.S.Store c.transaction-tx.result.conn.now) (state g.S.Store c.secret_in-secret.new.tx.conn.now) (state g.S.Store c.rollback.new.self.0) (is_ok c.secret_in-secret.result) = record {
@@ -27,4 +27,7 @@ returns-clause-errs g c =
       undone = c.rollback.ensures.undone;
       after = c.rollback.ensures.survives;
     } in
-    errs_by (λ k. state g.S.Store k.conn) _ _ (state g.S.Store c.transaction-tx.result.conn.now) (state g.S.Store c.secret_in-secret.new.tx.conn.now) c.secret_in-secret.result was P (rw (c.get.ensures.value, c.get-2.ensures.value) at c.secret_in-secret.ensures.finds)
+    record {
+      reads = read_by (λ k. state g.S.Store k.conn) _ _ (state g.S.Store c.transaction-tx.result.conn.now) (state g.S.Store c.secret_in-secret.new.tx.conn.now) c.secret_in-secret.result was _ P (rw (c.get.ensures.value, c.get-2.ensures.value) at c.secret_in-secret.ensures.finds);
+      errs = errs_by (λ k. state g.S.Store k.conn) _ _ (state g.S.Store c.transaction-tx.result.conn.now) (state g.S.Store c.secret_in-secret.new.tx.conn.now) c.secret_in-secret.result was P (rw (c.get.ensures.value, c.get-2.ensures.value) at c.secret_in-secret.ensures.finds);
+    }

@@ -5,11 +5,11 @@ use Rattle.pawn_book.specs.Bookings.{confirmed_count}
 use Rattle.pawn_book.specs.Keeping.{pledges_of}
 use Rattle.sqlite.specs.Held.{state}
 use Rattle.pawn_book.specs.HostStep.{Host}
-use Rattle.pawn_keeper.proofs.KeeperReads.{IsRead, errs_by}
+use Rattle.pawn_keeper.proofs.KeeperReads.{IsRead, errs_by, read_by}
 use Rattle.pawn_keeper.proofs.keeper.TableKeepKeep.confirmed_count.Goals as goal
 
-pub returns-clause-errs : goal.returns-clause-errs
-returns-clause-errs g c =
+pub returns : goal.returns
+returns g c =
     let begun = c.transaction-tx.ensures.begun in
     let P : Host → ℕ → Type 0 = λ h count. count ≡ confirmed_count (pledges_of (get h.books c.args.book)) c.args.day c.args.window in
     let was : IsRead (state g.S.Store c.args.self.now.conn) (state g.S.Store c.transaction-tx.result.conn.now) (state g.S.Store c.confirmed_in-count.new.tx.conn.now) (state g.S.Store c.rollback.new.self.0) (is_ok c.confirmed_in-count.result) = record {
@@ -25,4 +25,7 @@ returns-clause-errs g c =
       undone = c.rollback.ensures.undone;
       after = c.rollback.ensures.survives;
     } in
-    errs_by (λ k. state g.S.Store k.conn) _ _ (state g.S.Store c.transaction-tx.result.conn.now) (state g.S.Store c.confirmed_in-count.new.tx.conn.now) c.confirmed_in-count.result was P (rw c.get.ensures.value at c.confirmed_in-count.ensures.finds)
+    record {
+      reads = read_by (λ k. state g.S.Store k.conn) _ _ (state g.S.Store c.transaction-tx.result.conn.now) (state g.S.Store c.confirmed_in-count.new.tx.conn.now) c.confirmed_in-count.result was _ P (rw c.get.ensures.value at c.confirmed_in-count.ensures.finds);
+      errs = errs_by (λ k. state g.S.Store k.conn) _ _ (state g.S.Store c.transaction-tx.result.conn.now) (state g.S.Store c.confirmed_in-count.new.tx.conn.now) c.confirmed_in-count.result was P (rw c.get.ensures.value at c.confirmed_in-count.ensures.finds);
+    }

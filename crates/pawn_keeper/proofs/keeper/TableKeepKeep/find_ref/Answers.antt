@@ -4,11 +4,11 @@ use Rattle.std.specs.FinMap.{get}
 use Rattle.pawn_book.specs.Keeping.{number_of}
 use Rattle.sqlite.specs.Held.{state}
 use Rattle.pawn_book.specs.HostStep.{Host}
-use Rattle.pawn_keeper.proofs.KeeperReads.{IsRead, errs_by}
+use Rattle.pawn_keeper.proofs.KeeperReads.{IsRead, errs_by, read_by}
 use Rattle.pawn_keeper.proofs.keeper.TableKeepKeep.find_ref.Goals as goal
 
-pub returns-clause-errs : goal.returns-clause-errs
-returns-clause-errs g c =
+pub returns : goal.returns
+returns g c =
     let begun = c.transaction-tx.ensures.begun in
     let P : Host → Option ℕ → Type 0 = λ h number. number ≡ number_of (get h.books c.args.book) c.args.reference.now in
     let was : IsRead (state g.S.Store c.args.self.now.conn) (state g.S.Store c.transaction-tx.result.conn.now) (state g.S.Store c.ref_in-number.new.tx.conn.now) (state g.S.Store c.rollback.new.self.0) (is_ok c.ref_in-number.result) = record {
@@ -24,4 +24,7 @@ returns-clause-errs g c =
       undone = c.rollback.ensures.undone;
       after = c.rollback.ensures.survives;
     } in
-    errs_by (λ k. state g.S.Store k.conn) _ _ (state g.S.Store c.transaction-tx.result.conn.now) (state g.S.Store c.ref_in-number.new.tx.conn.now) c.ref_in-number.result was P (rw (c.get.ensures.value, c.as_str-text.ensures.value) at c.ref_in-number.ensures.finds)
+    record {
+      reads = read_by (λ k. state g.S.Store k.conn) _ _ (state g.S.Store c.transaction-tx.result.conn.now) (state g.S.Store c.ref_in-number.new.tx.conn.now) c.ref_in-number.result was _ P (rw (c.get.ensures.value, c.as_str-text.ensures.value) at c.ref_in-number.ensures.finds);
+      errs = errs_by (λ k. state g.S.Store k.conn) _ _ (state g.S.Store c.transaction-tx.result.conn.now) (state g.S.Store c.ref_in-number.new.tx.conn.now) c.ref_in-number.result was P (rw (c.get.ensures.value, c.as_str-text.ensures.value) at c.ref_in-number.ensures.finds);
+    }

@@ -5,11 +5,11 @@ use Rattle.pawn_pledge.specs.Pledge.{PledgeValue}
 use Rattle.pawn_book.specs.BookStep.{pledge_in}
 use Rattle.sqlite.specs.Held.{state}
 use Rattle.pawn_book.specs.HostStep.{Host}
-use Rattle.pawn_keeper.proofs.KeeperReads.{IsRead, errs_by}
+use Rattle.pawn_keeper.proofs.KeeperReads.{IsRead, errs_by, read_by}
 use Rattle.pawn_keeper.proofs.keeper.TableKeepKeep.pledge.Goals as goal
 
-pub returns-clause-errs : goal.returns-clause-errs
-returns-clause-errs g c =
+pub returns : goal.returns
+returns g c =
     let begun = c.transaction-tx.ensures.begun in
     let P : Host → Option PledgeValue → Type 0 = λ h pledge. pledge ≡ pledge_in (get h.books c.args.book) c.args.number in
     let was : IsRead (state g.S.Store c.args.self.now.conn) (state g.S.Store c.transaction-tx.result.conn.now) (state g.S.Store c.pledge_of-pledge.new.tx.conn.now) (state g.S.Store c.rollback.new.self.0) (is_ok c.pledge_of-pledge.result) = record {
@@ -25,4 +25,7 @@ returns-clause-errs g c =
       undone = c.rollback.ensures.undone;
       after = c.rollback.ensures.survives;
     } in
-    errs_by (λ k. state g.S.Store k.conn) _ _ (state g.S.Store c.transaction-tx.result.conn.now) (state g.S.Store c.pledge_of-pledge.new.tx.conn.now) c.pledge_of-pledge.result was P (rw c.get.ensures.value at c.pledge_of-pledge.ensures.finds)
+    record {
+      reads = read_by (λ k. state g.S.Store k.conn) _ _ (state g.S.Store c.transaction-tx.result.conn.now) (state g.S.Store c.pledge_of-pledge.new.tx.conn.now) c.pledge_of-pledge.result was _ P (rw c.get.ensures.value at c.pledge_of-pledge.ensures.finds);
+      errs = errs_by (λ k. state g.S.Store k.conn) _ _ (state g.S.Store c.transaction-tx.result.conn.now) (state g.S.Store c.pledge_of-pledge.new.tx.conn.now) c.pledge_of-pledge.result was P (rw c.get.ensures.value at c.pledge_of-pledge.ensures.finds);
+    }

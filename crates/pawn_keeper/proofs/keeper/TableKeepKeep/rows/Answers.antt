@@ -2,11 +2,11 @@ use Rattle.std.proofs.Common.{rules, ◌≡◌, refl}
 use Rattle.std.specs.Prelude.{ℕ, is_ok}
 use Rattle.sqlite.specs.Held.{state}
 use Rattle.pawn_book.specs.HostStep.{Host, rows}
-use Rattle.pawn_keeper.proofs.KeeperReads.{IsRead, errs_by}
+use Rattle.pawn_keeper.proofs.KeeperReads.{IsRead, errs_by, read_by}
 use Rattle.pawn_keeper.proofs.keeper.TableKeepKeep.rows.Goals as goal
 
-pub returns-clause-errs : goal.returns-clause-errs
-returns-clause-errs g c =
+pub returns : goal.returns
+returns g c =
     let begun = c.transaction-tx.ensures.begun in
     let P : Host → ℕ → Type 0 = λ h count. count ≡ rows h in
     let was : IsRead (state g.S.Store c.args.self.now.conn) (state g.S.Store c.transaction-tx.result.conn.now) (state g.S.Store c.rows_in-count.new.tx.conn.now) (state g.S.Store c.rollback.new.self.0) (is_ok c.rows_in-count.result) = record {
@@ -22,4 +22,7 @@ returns-clause-errs g c =
       undone = c.rollback.ensures.undone;
       after = c.rollback.ensures.survives;
     } in
-    errs_by (λ k. state g.S.Store k.conn) _ _ (state g.S.Store c.transaction-tx.result.conn.now) (state g.S.Store c.rows_in-count.new.tx.conn.now) c.rows_in-count.result was P (c.rows_in-count.ensures.finds)
+    record {
+      reads = read_by (λ k. state g.S.Store k.conn) _ _ (state g.S.Store c.transaction-tx.result.conn.now) (state g.S.Store c.rows_in-count.new.tx.conn.now) c.rows_in-count.result was _ P (c.rows_in-count.ensures.finds);
+      errs = errs_by (λ k. state g.S.Store k.conn) _ _ (state g.S.Store c.transaction-tx.result.conn.now) (state g.S.Store c.rows_in-count.new.tx.conn.now) c.rows_in-count.result was P (c.rows_in-count.ensures.finds);
+    }
