@@ -6,15 +6,15 @@ use Rattle.pawn_debt.specs.declared.entry.Entry.{Entry}
 use Rattle.pawn_book.specs.BookStep.{pledge_in}
 use Rattle.pawn_book.specs.HostStep.{Host}
 use Rattle.pawn_book.specs.Keeping.{entries_of}
-use Rattle.pawn_tables.specs.Places.{at_place}
+use Rattle.pawn_tables.specs.Entries.{IsNextEntry}
 use Rattle.pawn_keeper.proofs.KeeperReads.{IsRead, errs_by}
-use Rattle.pawn_keeper.proofs.keeper.TableKeep.entry_at.Goals as goal
+use Rattle.pawn_keeper.proofs.keeper.TableKeep.entry_from.Goals as goal
 
 pub returns-clause-errs : goal.returns-clause-errs
 returns-clause-errs g c =
     let begun = c.transaction-tx.ensures.begun in
-    let P : Host → Option Entry → Type 0 = λ h x. x ≡ at_place (entries_of (pledge_in (get h.books c.args.book) c.args.number)) c.args.place in
-    let was : IsRead (state g.S.Store c.args.self.now.conn) (state g.S.Store c.transaction-tx.result.conn.now) (state g.S.Store c.entry_in-entry.new.tx.conn.now) (state g.S.Store c.rollback.new.self.0) (is_ok c.entry_in-entry.result) = record {
+    let P : Host → Option Entry → Type 0 = λ h x. IsNextEntry c.args.from (entries_of (pledge_in (get h.books c.args.book) c.args.number)) x in
+    let was : IsRead (state g.S.Store c.args.self.now.conn) (state g.S.Store c.transaction-tx.result.conn.now) (state g.S.Store c.next_entry-entry.new.tx.conn.now) (state g.S.Store c.rollback.new.self.0) (is_ok c.next_entry-entry.result) = record {
       ended = c.args.self.now.rests;
       settled = search rules;
       was_open = λ now. rw begun at now;
@@ -23,8 +23,8 @@ returns-clause-errs g c =
       within = rw begun refl;
       clean = λ clean. rw begun at clean;
       left = λ trees left. rw begun at left;
-      part = c.entry_in-entry.ensures.lent;
+      part = c.next_entry-entry.ensures.lent;
       undone = c.rollback.ensures.undone;
       after = c.rollback.ensures.survives;
     } in
-    errs_by (λ k. state g.S.Store k.conn) _ _ (state g.S.Store c.transaction-tx.result.conn.now) (state g.S.Store c.entry_in-entry.new.tx.conn.now) c.entry_in-entry.result was P (rw (c.get.ensures.value, c.get-2.ensures.value) at c.entry_in-entry.ensures.finds)
+    errs_by (λ k. state g.S.Store k.conn) _ _ (state g.S.Store c.transaction-tx.result.conn.now) (state g.S.Store c.next_entry-entry.new.tx.conn.now) c.next_entry-entry.result was P (rw (c.get.ensures.value, c.get-2.ensures.value) at c.next_entry-entry.ensures.finds)
