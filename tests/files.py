@@ -82,6 +82,7 @@ BENT = [
     ("an entry of nothing", by("UPDATE entries SET pence = 0 WHERE book = 7 AND seq = 1")),
     ("an entry of an unknown sort", by("UPDATE entries SET sort = 2 WHERE book = 7 AND seq = 1")),
     ("an entry's number left out", by("UPDATE entries SET seq = 3 WHERE book = 7 AND seq = 2")),
+    ("an entry deleted before another", by("DELETE FROM entries WHERE book = 7 AND seq = 1")),
     ("a secret of 15 bytes", by("UPDATE secrets SET secret = substr(secret, 1, 15) WHERE book = 7 AND place = 2")),
     ("a day of 2300", by("UPDATE secrets SET day = 120530 WHERE book = 7 AND place = 2")),
     ("a day taken in 2300", by("UPDATE pledges SET taken = 120530 WHERE book = 7 AND number = 1")),

@@ -15,11 +15,12 @@ use Rattle.sqlite.proofs.Callers.{one_permutation}
 use Rattle.pawn_terms.specs.declared.terms.Rates.{Rates}
 use Rattle.pawn_pledge.specs.declared.record.Booking.{Booking}
 use Rattle.pawn_pledge.specs.Pledge.{PledgeValue}
-use Rattle.pawn_pledge.specs.Replayable.{Each, AreNumbered}
+use Rattle.pawn_pledge.specs.Replayable.{Each}
 use Rattle.pawn_book.specs.BookStep.{BookValue, pledge_from, pledge_in}
 use Rattle.pawn_book.specs.HostStep.{Host}
 use Rattle.pawn_book.specs.Rows.{AreNumberedFrom, IsUnder, terms_at}
 use Rattle.pawn_book.specs.Keeping.{entries_of, extensions_of, secrets_of, terms_of}
+use Rattle.pawn_tables.specs.Entries.{RiseFrom}
 use Rattle.pawn_tables.specs.Schema.{keep_schema, terms, pledges, entries, secrets, bookings, totals, extensions}
 use Rattle.pawn_tables.specs.Rows.{number, under, placed_from, pledge_listed, pledge_cells, credit_cells, entries_listed, entry_cells, secrets_listed, secret_cells, extensions_listed, extension_cells, booking_listed, at_most_one, booking_cells, totals_listed, totals_cells, terms_listed, terms_cells}
 use Rattle.pawn_tables.specs.Told.{booking_of, totals_in}
@@ -116,7 +117,7 @@ module _ (old new : State) (h : Host) (b n : ℕ) (rows : List Row) (st : ListDe
   entries_shown shown =
       let t : Table = record entries { tree = 6 } in
       let one = of_one_pledge h b n entries_listed st.ordered (λ m p. under_map m p.agreement.number entry_cells p.entries) in
-      let up = rises_at its (entries_listed b) (λ v. column v 2) (λ p is. entries_rise (λ e. under b p.agreement.number (entry_cells e)) (λ v. column v 2) (λ e. refl) 1 p.entries (holds_in h (λ (q : PledgeValue). AreNumbered 1 q.entries) (λ c k at. (st.ordered c k at).entries) b n p is)) in
+      let up = rises_at its (entries_listed b) (λ v. column v 2) (λ p is. entries_rise (λ e. under b p.agreement.number (entry_cells e)) (λ v. column v 2) (λ e. refl) 0 p.entries (holds_in h (λ (q : PledgeValue). RiseFrom 0 q.entries) (λ c k at. (st.ordered c k at).entries) b n p is)) in
       shown_in_order keep_schema 6 (λ _. refl) t text.of_pledge text.entries_shows (number b ∷ number n ∷ []) (at_pledge b n) (λ v. column v 2 ∷ column v 3 ∷ column v 4 ∷ column v 5 ∷ []) (λ _. refl) (λ _. refl) 3 (λ v. column v 2) (λ _. refl)
       text.entries_text _ text.entries_is old new (of_pledges h entries_listed) rows st.schema st.entries (subst (IsAscending (λ a c. value_cmp (column a 2) (column c 2) ≡ Less)) (sym one) up) shown
       ∙ ap (map (λ v. column v 2 ∷ column v 3 ∷ column v 4 ∷ column v 5 ∷ [])) one ∙ cells its

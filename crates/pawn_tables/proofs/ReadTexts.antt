@@ -5,7 +5,7 @@ use Rattle.sqlite.specs.Listing.{understood}
 use Rattle.sqlite.specs.Collation.TheVariants.{Binary}
 use Rattle.sqlite.specs.Term.{Term, lit, col, op2}
 use Rattle.sqlite_sql.specs.declared.ops.BinaryOp.TheVariants.{Compare}
-use Rattle.sqlite_sql.specs.declared.ops.CompareOp.TheVariants.{Eq, Gt}
+use Rattle.sqlite_sql.specs.declared.ops.CompareOp.TheVariants.{Eq, Ge, Gt}
 use Rattle.sqlite.specs.declared.types.Value.TheVariants.{Int, Text}
 use Rattle.one_table.proofs.Texts.{Asks, by_column, is_param}
 use Rattle.pawn_tables.specs.Schema.{keep_schema}
@@ -149,16 +149,16 @@ pub next_is : Asks keep_schema next_text (first_of_table 0 next_tests next_shows
 unfolding understood everything
 next_is = (refl, refl, (refl, refl))
 
--- the entries past one, in order
-abbrev pub more_text : List ℕ
-more_text = codes "SELECT seq, day, sort, pence FROM entries WHERE book = ?1 AND number = ?2 AND seq > ?3 ORDER BY seq LIMIT 1"
+-- the first of the entries from a number on
+abbrev pub from_text : List ℕ
+from_text = codes "SELECT seq, day, sort, pence FROM entries WHERE book = ?1 AND number = ?2 AND seq >= ?3 ORDER BY seq LIMIT 1"
 
-abbrev pub more_tests : List Term
-more_tests = is_param 1 0 ∷ is_param 2 1 ∷ op2 (Compare Gt Binary) (col 1 3) (col 0 2) ∷ []
+abbrev pub from_tests : List Term
+from_tests = is_param 1 0 ∷ is_param 2 1 ∷ op2 (Compare Ge Binary) (col 1 3) (col 0 2) ∷ []
 
-pub more_is : Asks keep_schema more_text (first_of_table 6 more_tests entries_shows (by_column 3)) (codes "seq" ∷ codes "day" ∷ codes "sort" ∷ codes "pence" ∷ [])
+pub from_is : Asks keep_schema from_text (first_of_table 6 from_tests entries_shows (by_column 3)) (codes "seq" ∷ codes "day" ∷ codes "sort" ∷ codes "pence" ∷ [])
 unfolding understood everything
-more_is = (refl, refl, (refl, refl))
+from_is = (refl, refl, (refl, refl))
 
 -- the count of rows
 abbrev pub rows_text : List ℕ

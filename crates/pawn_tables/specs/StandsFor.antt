@@ -6,13 +6,14 @@ use Rattle.sqlite.specs.Tree.{Trees}
 use Rattle.sqlite.specs.Effect.{Database, IsDatabase}
 use Rattle.pawn_terms.specs.Limits.{first_day}
 use Rattle.pawn_pledge.specs.Pledge.{PledgeValue}
-use Rattle.pawn_pledge.specs.Replayable.{Each, AreNumbered}
+use Rattle.pawn_pledge.specs.Replayable.{Each}
 use Rattle.pawn_book.specs.Rows.{AreNumberedFrom, IsUnder}
 use Rattle.pawn_book.specs.Written.{IsWord, AreWords}
 use Rattle.pawn_book.specs.BookStep.{BookValue}
 use Rattle.pawn_book.specs.HostStep.{Host, rows}
 use Rattle.one_table.specs.Listing.{Holds}
 use Rattle.pawn_tables.specs.Schema.{books, terms, pledges, entries as entries_table, secrets, bookings, meta, totals, extensions, keep_schema}
+use Rattle.pawn_tables.specs.Entries.{RiseFrom}
 use Rattle.pawn_tables.specs.Meta.{meta_rows}
 use Rattle.pawn_tables.specs.Rows.{book_row, terms_listed, pledge_listed, entries_listed, secrets_listed, booking_listed, totals_listed, extensions_listed}
 
@@ -24,10 +25,10 @@ of_books h rows_of = flat_map (λ (e : ℕ × BookValue). rows_of e.0 e.1) (entr
 abbrev pub of_pledges : Host → (ℕ → PledgeValue → List Row) → List Row
 of_pledges h rows_of = of_books h (λ b k. flat_map (rows_of b) k.pledges)
 
--- What the order of rows tells of a book: its pledges are numbered 1, 2, .., the entries of each too, and the terms of each stand under its version.
+-- What the order of rows tells of a book: its pledges are numbered 1, 2, .., the numbers of each pledge's entries rise, and the terms of each stand under its version.
 pub record IsOrdered (k : BookValue) : Type 0 where
   pub pledges : AreNumberedFrom 1 k.pledges
-  pub entries : Each (λ p. AreNumbered 1 p.entries) k.pledges
+  pub entries : Each (λ p. RiseFrom 0 p.entries) k.pledges
   pub under : Each (IsUnder k.terms) k.pledges
 
 -- What rows can hold: keys and secrets of 128 bits, no pledge taken before the first day that there is, and versions of 32 bits.
