@@ -202,6 +202,31 @@ def opens(folder):
     line(f"`check` of {100 * EACH} pledges, milliseconds", (time.perf_counter() - judged) * 1e3)
 
 
+def moves(folder):
+    """`migrate` of files of the first schema, and of the second, which adds a table alone."""
+    print(f"{'milliseconds, by pledges of one entry each':46}{10 * EACH:>12}{100 * EACH:>12}")
+    spent = {1: [], 2: []}
+    for books in (10, 100):
+        path = os.path.join(folder, f"old{books}.db")
+        fill(path, books, EACH, entries=1)
+        for schema, times in spent.items():
+            old = shutil.copy(path, os.path.join(folder, "moved.db"))
+            base = sqlite3.connect(old)
+            for table in ("extensions", "totals")[:3 - schema]:
+                base.execute(f"DROP TABLE {table}")
+            base.execute("UPDATE meta SET value = ? WHERE name = 'schema'", (schema,))
+            base.commit()
+            base.close()
+            begun = time.perf_counter()
+            subprocess.run([PROGRAM, "migrate", old], stdout=subprocess.DEVNULL, check=True)
+            times.append((time.perf_counter() - begun) * 1e3)
+            for end in ("", "-wal"):
+                if os.path.exists(old + end):
+                    os.remove(old + end)
+    for schema, times in spent.items():
+        line(f"`migrate` from schema {schema}", *times)
+
+
 def main():
     if not os.path.exists(PROGRAM):
         sys.exit("no program: run `rt run` in crates/pawnd first, or name one")
@@ -211,6 +236,7 @@ def main():
         one_list(folder)
         one_book(folder)
         opens(folder)
+        moves(folder)
 
 
 if __name__ == "__main__":

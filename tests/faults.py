@@ -1,30 +1,16 @@
 #!/usr/bin/env python3
 """What the program says on its standard error, and its exit status: usage, faults in their order, files that are no store of its, and ends that fail."""
 import os
-import shutil
 import socket
 import subprocess
 import tempfile
 
 from service import OPERATOR, PROGRAM, SEED, TOP, Server, check, counted, expect, free_port, main, opened, request, tells
+from stores import ends, fault, found, plain, stays, strange, with_its_log
 
 DAY = "2024-01-31"
 USAGE = (2, "usage: pawnd answer|serve|migrate|check\n")
 IO = (3, "fault io\n")
-
-# What an opening writes behind all that a log holds, and the length of a log that is a head and this mark alone.
-MARK = bytes(9)
-NO_PAGE = 32 + len(MARK)
-
-
-def ends(*words, stdin=subprocess.DEVNULL, stdout=subprocess.DEVNULL):
-    """The status and what went to the standard error."""
-    ran = subprocess.run([PROGRAM, *words], stdin=stdin, stdout=stdout, stderr=subprocess.PIPE, timeout=30)
-    return ran.returncode, ran.stderr.decode()
-
-
-def fault(number, name):
-    return 1, f"fault {number} {name}\n"
 
 
 def the_words_are_those_of_no_command():
@@ -117,26 +103,6 @@ def cut_at(length):
     return make
 
 
-def strange(*statements):
-    def make(path):
-        with opened(path) as tables:
-            for statement in statements:
-                tables.execute(statement)
-    return make
-
-
-def with_its_log(*statements):
-    """A store whose last commits stand in its log, as a program leaves it that is killed."""
-    def make(path):
-        with opened(path + "-open") as tables:
-            for statement in ("PRAGMA journal_mode = WAL", *statements):
-                tables.execute(statement)
-            tables.commit()
-            for end in ("", "-wal"):
-                shutil.copyfile(path + "-open" + end, path + end)
-    return make
-
-
 def against_its_own_text(table, old, new, *statements):
     """A store with rows that its tables' own text does not allow."""
     def make(path):
@@ -153,24 +119,6 @@ def against_its_own_text(table, old, new, *statements):
     return make
 
 
-def plain(said):
-    def make(path):
-        with open(path, "wb") as it:
-            it.write(said)
-    return make
-
-
-def found(path):
-    """The bytes of each file in a store's folder, and those of its log apart: none where there is no log."""
-    room, store = os.path.split(path)
-    files = {}
-    for name in os.listdir(room):
-        with open(os.path.join(room, name), "rb") as it:
-            files[name] = it.read()
-    log = files.pop(store + "-wal", b"")
-    return files, log
-
-
 def is_refused(path, wanted, step):
     expect(f"answer, {step}", ends("answer", path, DAY, SEED, OPERATOR), wanted)
     expect(f"serve, {step}", ends("serve", path, str(free_port()), OPERATOR), wanted)
@@ -178,13 +126,7 @@ def is_refused(path, wanted, step):
 
 
 def is_refused_and_stays(path, wanted, step):
-    """Each file keeps its bytes. A log that holds pages keeps its own, with the mark behind them; one that holds none may be made, or begun anew."""
-    files, log = found(path)
-    is_refused(path, wanted, step)
-    after, log_after = found(path)
-    expect(f"the files that changed, {step}", [name for name in files | after if files.get(name) != after.get(name)], [])
-    stays = log_after in (log, log + MARK) or max(len(log), len(log_after)) <= NO_PAGE
-    expect(f"the log stays, of {len(log)} bytes and now of {len(log_after)}, {step}", stays, True)
+    stays(path, step, lambda: is_refused(path, wanted, step))
 
 
 def files_that_are_no_store_of_ours_are_refused_and_stay():

@@ -3,42 +3,13 @@
 import json
 import os
 import shutil
-import subprocess
 import tempfile
 
-from service import BROKER, OPERATOR, PROGRAM, SEED, Failed, Server, by_python, by_the_shell, check, counted, expect, main, opened, request, tells
+from service import BROKER, OPERATOR, Server, by_python, by_the_shell, check, counted, expect, main, opened, request, tells
+from stores import answer, by, keyed, loosened, opening, shown, statement
 
-DAY = "2024-03-01"
 DAMAGED = (1, "", "fault 513 Damaged\n")
 STORE = (503, {"code": 492, "name": "Store"})
-
-
-def answer(path, *requests, seed=SEED, day=DAY):
-    """The statuses and the bodies of the replies to requests over a file."""
-    ran = subprocess.run([PROGRAM, "answer", path, day, seed, OPERATOR], input=b"".join(requests), capture_output=True, timeout=60)
-    expect("how it ended", (ran.returncode, ran.stderr), (0, b""))
-    replies, rest = [], ran.stdout
-    while rest:
-        head, rest = rest.split(b"\r\n\r\n", 1)
-        status, *fields = head.decode().split("\r\n")
-        fields = dict(field.split(": ", 1) for field in fields)
-        length = int(fields["Content-Length"])
-        body, rest = rest[:length].decode(), rest[length:]
-        replies.append((int(status.split()[1]), json.loads(body) if fields["Content-Type"] == "application/json" else body))
-    expect("how many replies", len(replies), len(requests))
-    return replies
-
-
-def keyed(method, target, body=None, key=BROKER):
-    return request(method, target, f"Pledge-Key: {key}", body="" if body is None else json.dumps(body))
-
-
-def shown(receipt, book):
-    return request("GET", f"/books/{book}/held", f"Pledge-Receipt: {receipt}")
-
-
-def opening(number, kind="fixed"):
-    return {"article": "Gold ring", "five_days": False, "kind": kind, "pence": 10000, "ref": f"A{number}"}
 
 
 def fill(path, *books):
@@ -106,38 +77,12 @@ def a_killed_service_leaves_its_books_in_file_and_log():
             client.close()
 
 
-def statement(number, book=7):
-    return keyed("GET", f"/books/{book}/pledges/{number}")
-
-
-def by(statement, *values):
-    def bend(tables):
-        changed = tables.execute(statement, values).rowcount
-        if changed < 1:
-            raise Failed(f"{statement} changed nothing")
-    return bend
-
-
-def loosened(table, old, new, *statements):
-    """The table made anew by another text, with the rows that it had, and then these statements."""
-    def bend(tables):
-        text = tables.execute("SELECT sql FROM sqlite_schema WHERE name = ?", (table,)).fetchone()[0]
-        if old not in text:
-            raise Failed(f"{old} is not in {text}")
-        tables.execute(f"ALTER TABLE {table} RENAME TO was")
-        tables.execute(text.replace(old, new))
-        tables.execute(f"INSERT INTO {table} SELECT * FROM was")
-        tables.execute("DROP TABLE was")
-        for statement in statements:
-            by(statement)(tables)
-    return bend
-
-
 # What is bent in book 7, always of pledge 1 or of all its book.
 BENT = [
     ("an entry of nothing", by("UPDATE entries SET pence = 0 WHERE book = 7 AND seq = 1")),
     ("an entry of an unknown sort", by("UPDATE entries SET sort = 2 WHERE book = 7 AND seq = 1")),
     ("an entry's number left out", by("UPDATE entries SET seq = 3 WHERE book = 7 AND seq = 2")),
+    ("an entry deleted before another", by("DELETE FROM entries WHERE book = 7 AND seq = 1")),
     ("a secret of 15 bytes", by("UPDATE secrets SET secret = substr(secret, 1, 15) WHERE book = 7 AND place = 2")),
     ("a day of 2300", by("UPDATE secrets SET day = 120530 WHERE book = 7 AND place = 2")),
     ("a day taken in 2300", by("UPDATE pledges SET taken = 120530 WHERE book = 7 AND number = 1")),

@@ -141,16 +141,8 @@ impl<S: Alter> Keep for TableKeep<S> {
         number: Number,
         visitor: &mut V,
     ) -> Result<(), KeepError> {
-        for place in 0..u32::MAX {
-            let Some(entry) = self.entry_at(book, number, place + 1)? else {
-                return Ok(());
-            };
-            match visitor.visit(&entry) {
-                Flow::Go => {}
-                Flow::Stop => return Ok(()),
-            }
-        }
-        Err(BEYOND)
+        self.hand_entries(book, number, visitor)?;
+        Ok(())
     }
 
     fn secrets<V: Visitor<Issued>>(

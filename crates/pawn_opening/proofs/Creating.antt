@@ -8,17 +8,18 @@ use Rattle.sqlite.specs.Does.{Tally, lacks_sequence}
 use Rattle.sqlite.specs.Table.{Table}
 use Rattle.sqlite.specs.Tree.{Trees}
 use Rattle.sqlite.specs.Schema.{Schema}
-use Rattle.sqlite.specs.Effect.{Database}
+use Rattle.sqlite.specs.Effect.{Database, IsDatabase}
 use Rattle.sqlite.specs.State.{State, HasCleanDisk, Writes, Executes}
 use Rattle.sqlite_catalog.specs.Change.{KeepsRows}
 use Rattle.sqlite_trees.proofs.ListLemmas.{all-append}
 use Rattle.sqlite.proofs.Callers.{runs_as}
 use Rattle.one_table.specs.Lending.{IsLent}
-use Rattle.one_table.specs.Listing.{Holds, IsNumbered, columns_of}
+use Rattle.one_table.specs.Listing.{Holds, IsNumbered, Listed, Lists, columns_of, with_rows}
 use Rattle.one_table.proofs.Insertion.{went, same_value}
 use Rattle.one_table.proofs.Lent.{clean_before}
-use Rattle.pawn_opening.specs.Laying.{AreEmpty, Makes}
-use Rattle.pawn_opening.proofs.TableTexts.{IsCreation}
+use Rattle.pawn_tables.specs.Schema.{extensions, first_schema, keep_schema, second_schema, totals}
+use Rattle.pawn_opening.specs.Laying.{AddsTable, AreEmpty, Makes, no_rows}
+use Rattle.pawn_opening.proofs.TableTexts.{IsCreation, extensions_is, extensions_text, totals_is, totals_text}
 
 -- a tree without rows
 empty_tree : (db : Trees) (tree : ℕ) (table : Table) → db tree ≡ [] → Holds db tree table []
@@ -27,19 +28,26 @@ empty_tree db tree table none = record {
   numbered = subst IsNumbered (sym none) (tt, tt);
 }
 
--- tables whose trees are kept are as empty as they were
-as_empty : (tables : List Table) (old new : Trees) → KeepsRows tables old new → AllByRecursion (λ (t : Table). Holds old t.tree t []) tables → AllByRecursion (λ (t : Table). Holds new t.tree t []) tables
-as_empty [] old new kept holds = tt
-as_empty (t ∷ ts) old new kept holds = (
+-- tables whose trees are kept hold what they held
+as_kept : (tables : List Table) (old new : Trees) (listed : Listed) → KeepsRows tables old new → AllByRecursion (λ (t : Table). Holds old t.tree t (listed t.tree)) tables → AllByRecursion (λ (t : Table). Holds new t.tree t (listed t.tree)) tables
+as_kept [] old new listed kept holds = tt
+as_kept (t ∷ ts) old new listed kept holds = (
   record {
-    same = subst (λ rows. IsPermutation [] (map (columns_of t) rows)) (sym kept.0) holds.0.same;
+    same = subst (λ rows. IsPermutation (listed t.tree) (map (columns_of t) rows)) (sym kept.0) holds.0.same;
     numbered = subst IsNumbered (sym kept.0) holds.0.numbered;
   },
-  as_empty ts old new kept.1 holds.1,
+  as_kept ts old new listed kept.1 holds.1,
 )
 
-pub creates : (schema : Schema) (text : List ℕ) (table : Table) → IsCreation schema text table → (old new : State) (count : ℕ) → AreEmpty schema old.now → Executes text [] old new (Ok count) → AreEmpty (created schema table) new.now
-creates schema text table m old new count st h =
+-- what is made of tables that list these rows: the others are kept, and the new one is empty
+pub record IsAdded (schema : Schema) (table : Table) (new : Database) (listed : Listed) : Type 0 where
+  pub schema_is : new.schema ≡ created schema table
+  pub sound : IsDatabase new
+  pub others : AllByRecursion (λ (t : Table). Holds new.trees t.tree t (listed t.tree)) schema.tables
+  pub empty : Holds new.trees (next_tree schema) (record table { tree = next_tree schema }) []
+
+pub adds : (schema : Schema) (text : List ℕ) (table : Table) → IsCreation schema text table → (old new : State) (count : ℕ) (listed : Listed) → Lists schema old.now listed → Executes text [] old new (Ok count) → IsAdded schema table new.now listed
+adds schema text table m old new count listed st h =
     let has = st.schema_is in
     let w = subst (λ t. Writes old new None CreateTable t [] count) m.whole (runs_as text [] old new schema has CreateTable m.command m.plain count h) in
     let all = went w.changed in
@@ -56,8 +64,17 @@ creates schema text table m old new count st h =
     record {
       schema_is = ap (λ (d : Database). d.schema) now ∙ is;
       sound = w.sound;
-      tables = all-append (λ (t : Table). Holds new.now.trees t.tree t []) schema.tables (record table { tree = next_tree schema } ∷ [])
-          (as_empty schema.tables old.now.trees new.now.trees others st.tables) (empty_tree new.now.trees (next_tree schema) (record table { tree = next_tree schema }) empty, tt);
+      others = as_kept schema.tables old.now.trees new.now.trees listed others st.tables;
+      empty = empty_tree new.now.trees (next_tree schema) (record table { tree = next_tree schema }) empty;
+    }
+
+creates : (schema : Schema) (text : List ℕ) (table : Table) → IsCreation schema text table → (old new : State) (count : ℕ) → AreEmpty schema old.now → Executes text [] old new (Ok count) → AreEmpty (created schema table) new.now
+creates schema text table m old new count st h =
+    let a = adds schema text table m old new count no_rows st h in
+    record {
+      schema_is = a.schema_is;
+      sound = a.sound;
+      tables = all-append (λ (t : Table). Holds new.now.trees t.tree t []) schema.tables (record table { tree = next_tree schema } ∷ []) a.others (a.empty, tt);
     }
 
 -- the text ran, where no error came
@@ -72,3 +89,40 @@ pub makes_then : {E : Type 0} (a b c : State) (r : Result (Unit {0}) E) (ok : Bo
 makes_then a b c r ok s t u first second f g clean within st =
     let was = clean_before b c ok second clean in
     g clean (first.inside was within refl) (f was within st)
+
+-- ---- the tables of the later schemas
+
+totals_added : (old new : State) (count : ℕ) (listed : Listed) → Lists first_schema old.now listed → Executes totals_text [] old new (Ok count) → Lists second_schema new.now (with_rows listed 15 [])
+totals_added old new count listed st h =
+    let a = adds first_schema totals_text totals totals_is old new count listed st h in
+    record {
+      schema_is = a.schema_is;
+      sound = a.sound;
+      tables = all-append (λ (t : Table). Holds new.now.trees t.tree t (with_rows listed 15 [] t.tree)) first_schema.tables (record totals { tree = 15 } ∷ []) a.others (a.empty, tt);
+    }
+
+extensions_added : (old new : State) (count : ℕ) (listed : Listed) → Lists second_schema old.now listed → Executes extensions_text [] old new (Ok count) → Lists keep_schema new.now (with_rows listed 17 [])
+extensions_added old new count listed st h =
+    let a = adds second_schema extensions_text extensions extensions_is old new count listed st h in
+    record {
+      schema_is = a.schema_is;
+      sound = a.sound;
+      tables = all-append (λ (t : Table). Holds new.now.trees t.tree t (with_rows listed 17 [] t.tree)) second_schema.tables (record extensions { tree = 17 } ∷ []) a.others (a.empty, tt);
+    }
+
+pub adds_totals : {E : Type 0} (old new : State) (r : Result (Unit {0}) E) → Ran totals_text old new r → AddsTable old new r first_schema second_schema 15
+adds_totals old new (Ok done) ran clean within listed st = let it = ran clean within in totals_added old new it.0 listed st it.1
+adds_totals old new (Err e) ran clean within listed st = tt
+
+pub adds_extensions : {E : Type 0} (old new : State) (r : Result (Unit {0}) E) → Ran extensions_text old new r → AddsTable old new r second_schema keep_schema 17
+adds_extensions old new (Ok done) ran clean within listed st = let it = ran clean within in extensions_added old new it.0 listed st it.1
+adds_extensions old new (Err e) ran clean within listed st = tt
+
+-- an empty store stays empty beside them
+pub makes_totals : {E : Type 0} (old new : State) (r : Result (Unit {0}) E) → AddsTable old new r first_schema second_schema 15 → Makes old new r first_schema second_schema
+makes_totals old new (Ok done) it clean within st = let l = it clean within no_rows st in record { schema_is = l.schema_is; sound = l.sound; tables = l.tables }
+makes_totals old new (Err e) it clean within st = tt
+
+pub makes_extensions : {E : Type 0} (old new : State) (r : Result (Unit {0}) E) → AddsTable old new r second_schema keep_schema 17 → Makes old new r second_schema keep_schema
+makes_extensions old new (Ok done) it clean within st = let l = it clean within no_rows st in record { schema_is = l.schema_is; sound = l.sound; tables = l.tables }
+makes_extensions old new (Err e) it clean within st = tt

@@ -28,7 +28,7 @@ use Rattle.pawn_tables.specs.Schema.{keep_schema}
 use Rattle.pawn_tables.specs.StandsFor.{StandsFor, HoldHost}
 use Rattle.pawn_tables.specs.Keeps.{Keeps}
 use Rattle.pawn_opening.proofs.Begun.{held}
-use Rattle.pawn_opening.specs.FilesStand.{IsBlank, IsRefusedStore, StandsIn}
+use Rattle.pawn_opening.specs.FilesStand.{HoldsIn, IsBlank, IsRefusedStore, StandsIn}
 use Rattle.pawn_opening.specs.declared.fault.OpenFault.{OpenFault}
 use Rattle.pawn_opening.specs.Opened.{Prepares}
 use Rattle.pawn_opening.specs.Refusing.{IsEmptyStore, IsRefusedFor}
@@ -42,6 +42,11 @@ found_again now db h is sound left =
     let same : now.schema ≡ keep_schema = schema_once now.schema keep_schema db (subst (IsSound now.schema) is sound) left.sound in
     subst (λ (d : Database). StandsFor d h) (λ i. record { schema = sym same i; trees = sym is i }) left
 
+database_again : (now db : Database) → now.trees ≡ db.trees → IsDatabase now → IsDatabase db → now ≡ db
+database_again now db is sound sound' =
+    let same : now.schema ≡ db.schema = schema_once now.schema db.schema db.trees (subst (IsSound now.schema) is sound) sound' in
+    λ i. record { schema = same i; trees = is i }
+
 -- an open store of what these bytes hold
 module _ (image : Image) (s : State) (opened : Opens s × IsLive s) (found : FindsIn image s) where
   trees_are : s.now.trees ≡ s.committed.trees
@@ -52,6 +57,9 @@ module _ (image : Image) (s : State) (opened : Opens s × IsLive s) (found : Fin
 
   pub finds_host : (h : Host) → StandsIn image h → StandsFor s.now h
   finds_host h it = found_again s.now it.trees h (trees_are ∙ ∥∥₁_elim it.held (Trees-set _ _) (found.holds it.trees)) sound it.stands
+
+  pub finds_database : (db : Database) → HoldsIn image db → s.now ≡ db
+  finds_database db it = database_again s.now db (trees_are ∙ ∥∥₁_elim it.0 (Trees-set _ _) (found.holds db.trees)) sound it.1
 
   pub finds_none : IsBlank image → IsEmptyStore s.now
   finds_none blank =

@@ -10,4 +10,5 @@ pub mod Ours
 pub mod Prepared
 pub mod Recognised
 pub mod Recognition
+pub mod Seen
 pub mod TableTexts

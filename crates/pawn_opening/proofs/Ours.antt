@@ -7,6 +7,7 @@ use Rattle.sqlite.specs.Ops.{binary, is_true}
 use Rattle.sqlite.specs.Collation.TheVariants.{Binary}
 use Rattle.sqlite.specs.Command.TheVariants.{Select}
 use Rattle.sqlite.specs.Query.{IsAnswer}
+use Rattle.sqlite.specs.Schema.{Schema}
 use Rattle.sqlite.specs.Program.{overlay}
 use Rattle.sqlite.specs.Term.{Term, lit, col, op2}
 use Rattle.sqlite.specs.Effect.{Database, Reads}
@@ -17,70 +18,81 @@ use Rattle.sqlite_tied.specs.Compute.{everything}
 use Rattle.sqlite_trees.proofs.ListLemmas.{map-map, filter-map, IsPermutation-filter}
 use Rattle.std.proofs.lemmas.List.Sorted.{IsPermutation-map}
 use Rattle.sqlite.proofs.Callers.{IsPlain, command_of, one_permutation}
-use Rattle.one_table.specs.Listing.{columns_of}
+use Rattle.one_table.specs.Listing.{Holds, columns_of}
 use Rattle.one_table.proofs.OneTable.{over_table, passes, shows_of, found}
 use Rattle.one_table.proofs.Texts.{Asks}
-use Rattle.pawn_book.specs.HostStep.{Host}
+use Rattle.pawn_book.specs.HostStep.{Host, rows}
 use Rattle.pawn_tables.specs.Schema.{keep_schema, meta}
-use Rattle.pawn_tables.specs.Meta.{meta_rows}
+use Rattle.pawn_tables.specs.Meta.{notes}
 use Rattle.pawn_tables.specs.StandsFor.{StandsFor}
 use Rattle.pawn_opening.specs.declared.fault.OpenFault.{OpenFault}
 use Rattle.pawn_opening.specs.declared.fault.OpenFault.TheVariants.{NotOurs, OldSchema, Store, Memory}
-use Rattle.pawn_opening.specs.Refusing.{Answers, HasNoAnswer, IsEmptyStore, IsNumber, IsRefusedFor, IsStoreFault, schema_text}
+use Rattle.pawn_opening.specs.Refusing.{Answers, HasNoAnswer, IsEmptyStore, IsNumber, IsRefusedFor, IsStoreFault, NotesNoSchema, NotesSchema, schema_text}
 
-schema_is : Asks keep_schema schema_text (over_table 13 (op2 (Compare Eq Binary) (col 1 1) (lit (Text (codes "schema"))) ∷ []) (col 1 2 ∷ []) []) (codes "value" ∷ [])
+-- the text asks meta of a schema, where it stands in tree 13
+abbrev pub AsksMeta : Schema → Type 0
+AsksMeta s = Asks s schema_text (over_table 13 (op2 (Compare Eq Binary) (col 1 1) (lit (Text (codes "schema"))) ∷ []) (col 1 2 ∷ []) []) (codes "value" ∷ [])
+
+pub schema_is : AsksMeta keep_schema
 unfolding understood everything
 schema_is = (refl, refl, (refl, refl))
 
 abbrev is_schema : Row → Bool
 is_schema v = list_all (λ (x : Bool). x) (is_true (binary (Compare Eq Binary) (column v 0) (Text (codes "schema"))) ∷ [])
 
-alone : (counted limit : ℕ) → map (λ v. column v 1 ∷ []) (filter is_schema (meta_rows counted limit)) ≡ (Int (pos 3) ∷ []) ∷ []
+alone : (n counted limit : ℕ) → map (λ v. column v 1 ∷ []) (filter is_schema (notes n counted limit)) ≡ (Int (pos n) ∷ []) ∷ []
 unfolding binary value_cmp lib.Ieee.is_nan lib.Ieee.lt
-alone counted limit = refl
+alone n counted limit = refl
 
-module _ (db : Database) (h : Host) (st : StandsFor db h) where
-  known : understood db.schema schema_text ≡ understood keep_schema schema_text
-  known = ap (λ s. understood s schema_text) st.schema
+-- tables of a schema, of which meta notes a number
+module _ (db : Database) (s : Schema) (asks : AsksMeta s) (n counted limit : ℕ) (schema : db.schema ≡ s) (noted : Holds db.trees 13 (record meta { tree = 13 }) (notes n counted limit)) where
+  known : understood db.schema schema_text ≡ understood s schema_text
+  known = ap (λ s. understood s schema_text) schema
 
   pub is_understood : HasNoAnswer db → ⊥
-  is_understood none = subst IsPlain (sym known ∙ none.1) schema_is.2
+  is_understood none = subst IsPlain (sym known ∙ none.1) asks.2
 
-  pub answers_three : (rows : List Row) → Answers db rows → rows ≡ (Int (pos 3) ∷ []) ∷ []
-  answers_three rows a =
+  answers_number : (rows : List Row) → Answers db rows → rows ≡ (Int (pos n) ∷ []) ∷ []
+  answers_number rows a =
       let tests : List Term = op2 (Compare Eq Binary) (col 1 1) (lit (Text (codes "schema"))) ∷ [] in
       let shows : List Term = col 1 2 ∷ [] in
-      let same : a.source ≡ db = subst (λ b. IsSourceOf b db a.source) (ap (λ s. reads_listing s schema_text) st.schema ∙ schema_is.1) a.from in
-      let command = sym (ap command_of (sym known ∙ a.is_understood)) ∙ schema_is.0 in
+      let same : a.source ≡ db = subst (λ b. IsSourceOf b db a.source) (ap (λ s. reads_listing s schema_text) schema ∙ asks.1) a.from in
+      let command = sym (ap command_of (sym known ∙ a.is_understood)) ∙ asks.0 in
       let read = subst (λ d. Reads (Select (record { lets = []; body = over_table 13 tests shows [] }) (codes "value" ∷ [])) d [] rows) same (subst (λ k. Reads k a.source [] rows) command a.reads) in
       let answer : IsAnswer (over_table 13 tests shows []) (overlay db.trees []) [] rows = read.answer Null in
       let by_rows = found 13 tests shows [] (overlay db.trees []) [] rows answer in
       let cells = λ (v : Row). column v 1 ∷ [] in
       let by_columns : map (shows_of shows []) (filter (passes tests []) (db.trees 13)) ≡ map cells (filter is_schema (map (columns_of meta) (db.trees 13))) =
       sym (ap (map cells) (filter-map is_schema (columns_of meta) (db.trees 13)) ∙ map-map cells (columns_of meta) _) in
-      let one = one_permutation _ _ (subst (λ xs. IsPermutation xs (map cells (filter is_schema (map (columns_of meta) (db.trees 13))))) (alone _ h.limit) (IsPermutation-map cells _ _ (IsPermutation-filter is_schema _ _ st.meta.same))) in
+      let one = one_permutation _ _ (subst (λ xs. IsPermutation xs (map cells (filter is_schema (map (columns_of meta) (db.trees 13))))) (alone n counted limit) (IsPermutation-map cells _ _ (IsPermutation-filter is_schema _ _ noted.same))) in
       one_permutation _ rows (subst (λ xs. IsPermutation xs rows) (by_columns ∙ one) by_rows)
 
-  three : (rows : List Row) (n : ℕ) → Answers db rows → IsNumber rows n → n ≡ 3
-  three rows n a it =
-      let first : (Int (pos 3) ∷ []) ∷ [] ≡ it.0 ∷ [] = sym (answers_three rows a) ∙ it.1 in
-      let row : Int (pos 3) ∷ [] ≡ it.0 = cc in
-      let value : Int (pos n) ≡ Int (pos 3) = sym it.2 ∙ ap (λ r. column r 0) (sym row) in
+  pub is_number : (rows : List Row) → Answers db rows → IsNumber rows n
+  is_number rows a = (Int (pos n) ∷ [], answers_number rows a, refl)
+
+  -- no other number is noted
+  pub only_number : (m : ℕ) → NotesSchema db m → m ≡ n
+  only_number m it =
+      let first : (Int (pos n) ∷ []) ∷ [] ≡ it.2.0 ∷ [] = sym (answers_number it.0 it.1) ∙ it.2.1 in
+      let row : Int (pos n) ∷ [] ≡ it.2.0 = cc in
+      let value : Int (pos m) ≡ Int (pos n) = sym it.2.2 ∙ ap (λ r. column r 0) (sym row) in
       cc
 
-  noted : (rows : List Row) → Answers db rows → IsNumber rows 3
-  noted rows a = (Int (pos 3) ∷ [], answers_three rows a, refl)
+  pub notes_some : NotesNoSchema db → ⊥
+  notes_some (inl none) = is_understood none
+  notes_some (inr (rows, a, none)) = none n (is_number rows a)
 
+module _ (db : Database) (h : Host) (st : StandsFor db h) where
   pub not_empty : IsEmptyStore db → ⊥
-  not_empty none = absurd (let e : keep_schema.tables ≡ [] = ap (λ (s : Rattle.sqlite.specs.Schema.Schema). s.tables) (sym st.schema ∙ none) in cc)
+  not_empty none = absurd (let e : keep_schema.tables ≡ [] = ap (λ (s : Schema). s.tables) (sym st.schema ∙ none) in cc)
+
+  only : (n : ℕ) → NotesSchema db n → n ≡ 3
+  only = only_number db keep_schema schema_is 3 (rows h) h.limit st.schema st.meta
 
   -- so a store that stands for a host is refused for a fault alone
   pub only_faults : (why : OpenFault) → IsRefusedFor db why → IsStoreFault why
-  only_faults NotOurs (other, strange) = go strange
-    where
-      go : HasNoAnswer db ⊎ ((rows : List Row) × Answers db rows × ((n : ℕ) → IsNumber rows n → (n ≡ 0) ⊎ (3 < n))) → IsStoreFault NotOurs
-      go (inl none) = is_understood none
-      go (inr (rows, a, far)) = elim (far 3 (noted rows a)) [ inl zero' ↦ absurd (omega (arith, zero')) | inr above ↦ absurd (omega (arith, above)) ]
-  only_faults (OldSchema n) it = absurd (let is = three it.0.0 n it.0.1 it.0.2 in let below = it.2 in omega (arith, is, below))
+  only_faults NotOurs (other, inl none) = notes_some db keep_schema schema_is 3 (rows h) h.limit st.schema st.meta none
+  only_faults NotOurs (other, inr (n, noted, far)) = elim far [ inl zero' ↦ absurd (let is = only n noted in omega (arith, is, zero')) | inr above ↦ absurd (let is = only n noted in omega (arith, is, above)) ]
+  only_faults (OldSchema n) it = absurd (let is = only n it.0 in let below = it.2 in omega (arith, is, below))
   only_faults Store it = tt
   only_faults Memory it = tt

@@ -1,6 +1,6 @@
 -- What the answer of a store makes of it.
-use Rattle.std.proofs.Common.{◌≡◌, inl, inr, false, List, [], Ok, Err, Result, OnOk, IsTrue, subst}
-use Rattle.std.specs.Prelude.{IfErr}
+use Rattle.std.proofs.Common.{◌≡◌, inl, inr, ℕ, false, List, [], Option, Some, None, Ok, Err, Result, OnOk, IsTrue, sym, subst}
+use Rattle.std.specs.Prelude.{IfErr, IfOk, IfSome}
 use Rattle.sqlite.specs.declared.error.Error.{Error}
 use Rattle.sqlite.specs.declared.error.Error.TheVariants.{SqlInputError}
 use Rattle.sqlite.specs.Order.{Row}
@@ -8,52 +8,100 @@ use Rattle.sqlite.specs.State.{State, HasCleanDisk, CommitsShowing, FailsToQuery
 use Rattle.sqlite_resolve.specs.declared.error.CompileError.{CompileError}
 use Rattle.pawn_opening.specs.declared.fault.OpenFault.{OpenFault}
 use Rattle.pawn_opening.specs.declared.fault.OpenFault.TheVariants.{NotOurs, OldSchema, Store, Memory}
-use Rattle.pawn_opening.specs.Opened.{Recognises}
-use Rattle.pawn_opening.specs.Refusing.{IsEmptyStore, IsJudged, IsRefusedFor, IsStoreFault, NotesSchema, schema_text}
+use Rattle.pawn_opening.specs.Opened.{Recognises, TellsSchema}
+use Rattle.pawn_opening.specs.Refusing.{IsEmptyStore, IsJudged, IsNoted, IsNumberRead, IsRefusedFor, IsStoreFault, IsStrangeNumber, NotesSchema, schema_text}
 use Rattle.pawn_opening.proofs.Recognition.{answered, asks_alone, left_as_before, unanswered, unchanged}
 
+-- ---- what is noted of the schema
+
 module _ (old new : State) (ended : new.in_transaction ≡ false) (survives : Survives old new (CommitsShowing schema_text [] old)) where
-  pub judged : (rows : List Row) (r : Result (Unit {0}) OpenFault) → (HasCleanDisk new → Shown schema_text [] old new rows) → IsJudged rows r → Recognises old new r
-  judged rows r shown verdict = record {
+  pub told : (rows : List Row) (r : Result (Option ℕ) OpenFault) → (HasCleanDisk new → Shown schema_text [] old new rows) → IsNumberRead rows r → TellsSchema old new r
+  told rows r shown read = record {
     same = λ clean. unchanged old new (answered old new rows (shown clean)).unchanged;
-    ok = λ clean. accepted r verdict clean;
-    err = λ clean other. told r verdict clean other;
+    ok = λ clean. noted r read clean;
+    serves = λ clean. serving r clean;
+    why = faults r read;
     ended = ended;
     survives = asks_alone old new survives;
   }
     where
-      accepted : (r' : Result (Unit {0}) OpenFault) → IsJudged rows r' → HasCleanDisk new → OnOk r' (IsTrue new.is_open × NotesSchema old.now 3)
-      accepted (Ok done) v clean = let it = answered old new rows (shown clean) in (it.unchanged.0.is_open, (rows, it.answers, v))
-      accepted (Err e) v clean = tt
+      noted : (r' : Result (Option ℕ) OpenFault) → IsNumberRead rows r' → HasCleanDisk new → IfOk r' (IsNoted old.now)
+      noted (Ok None) it clean = inr (rows, (answered old new rows (shown clean)).answers, it)
+      noted (Ok (Some n)) it clean = (rows, (answered old new rows (shown clean)).answers, it)
+      noted (Err why) it clean = tt
 
-      told : (r' : Result (Unit {0}) OpenFault) → IsJudged rows r' → HasCleanDisk new → (IsEmptyStore old.now → ⊥) → IfErr r' (IsRefusedFor old.now)
-      told (Ok done) v clean other = tt
-      told (Err NotOurs) v clean other = (other, inr (rows, (answered old new rows (shown clean)).answers, v))
-      told (Err (OldSchema n)) v clean other = ((rows, (answered old new rows (shown clean)).answers, v.0), v.1, v.2)
-      told (Err Store) v clean other = tt
-      told (Err Memory) v clean other = tt
+      serving : (r' : Result (Option ℕ) OpenFault) → HasCleanDisk new → IfOk r' (λ noted. IfSome noted (λ n. IsTrue new.is_open))
+      serving (Ok None) clean = tt
+      serving (Ok (Some n)) clean = (answered old new rows (shown clean)).unchanged.0.is_open
+      serving (Err why) clean = tt
+
+      faults : (r' : Result (Option ℕ) OpenFault) → IsNumberRead rows r' → IfErr r' IsStoreFault
+      faults (Ok None) it = tt
+      faults (Ok (Some n)) it = tt
+      faults (Err why) it = it
 
   module _ (settled : IsTrue old.is_open → old.now ≡ old.committed) (error : Error) (fails : HasCleanDisk new → FailsToQuery schema_text [] old new error) where
-    pub strange : (f : CompileError) → error ≡ SqlInputError f → Recognises old new (Err NotOurs)
-    strange f is = record {
+    pub untold : (f : CompileError) → error ≡ SqlInputError f → TellsSchema old new (Ok None)
+    untold f is = record {
       same = λ clean. left_as_before old new error settled (fails clean);
-      ok = λ clean. tt;
-      err = λ clean other. (other, inl (unanswered f old new (subst (FailsToQuery schema_text [] old new) is (fails clean))));
+      ok = λ clean. inl (unanswered f old new (subst (FailsToQuery schema_text [] old new) is (fails clean)));
+      serves = λ clean. tt;
+      why = tt;
       ended = ended;
       survives = asks_alone old new survives;
     }
 
-    pub failed : (why : OpenFault) → IsStoreFault why → Recognises old new (Err why)
+    pub failed : (why : OpenFault) → IsStoreFault why → TellsSchema old new (Err why)
     failed why store = record {
       same = λ clean. left_as_before old new error settled (fails clean);
       ok = λ clean. tt;
-      err = λ clean other. no_more why store;
+      serves = λ clean. tt;
+      why = store;
       ended = ended;
       survives = asks_alone old new survives;
     }
-      where
-        no_more : (why' : OpenFault) → IsStoreFault why' → IsRefusedFor old.now why'
-        no_more NotOurs none = absurd none
-        no_more (OldSchema n) none = absurd none
-        no_more Store it = tt
-        no_more Memory it = tt
+
+-- ---- what is made of it
+
+module _ (old new : State) (noted : Option ℕ) (r : Result (Unit {0}) OpenFault) where
+  accepted : (r' : Result (Unit {0}) OpenFault) (o : Option ℕ) → IsJudged o r' → IsNoted old.now o → IfSome o (λ n. IsTrue new.is_open) → OnOk r' (IsTrue new.is_open × NotesSchema old.now 3)
+  accepted (Err why) o v is serves = tt
+  accepted (Ok done) None v is serves = absurd (let e = v in cc)
+  accepted (Ok done) (Some n) v is serves = let same : n ≡ 3 = (let e = v in cc) in (serves, subst (NotesSchema old.now) same is)
+
+  refused : (r' : Result (Unit {0}) OpenFault) (o : Option ℕ) → IsJudged o r' → IsNoted old.now o → (IsEmptyStore old.now → ⊥) → IfErr r' (IsRefusedFor old.now)
+  refused (Ok done) o v is other = tt
+  refused (Err NotOurs) None v is other = (other, inl is)
+  refused (Err NotOurs) (Some n) (inl none) is other = absurd (let e = none in cc)
+  refused (Err NotOurs) (Some n) (inr (m, same', far)) is other =
+      let same : n ≡ m = (let e = same' in cc) in
+      (other, inr (n, is, subst IsStrangeNumber (sym same) far))
+  refused (Err (OldSchema m)) None v is other = absurd (let e = v.0 in cc)
+  refused (Err (OldSchema m)) (Some n) v is other = let same : n ≡ m = (let e = v.0 in cc) in (subst (NotesSchema old.now) same is, v.1, v.2)
+  refused (Err Store) o v is other = tt
+  refused (Err Memory) o v is other = tt
+
+  pub judged : TellsSchema old new (Ok noted) → IsJudged noted r → Recognises old new r
+  judged it verdict = record {
+    same = it.same;
+    ok = λ clean. accepted r noted verdict (it.ok clean) (it.serves clean);
+    err = λ clean other. refused r noted verdict (it.ok clean) other;
+    ended = it.ended;
+    survives = it.survives;
+  }
+
+-- a store that did not answer
+pub unjudged : (old new : State) (why : OpenFault) → TellsSchema old new (Err why) → Recognises old new (Err why)
+unjudged old new why it = record {
+  same = it.same;
+  ok = λ clean. tt;
+  err = λ clean other. no_more why it.why;
+  ended = it.ended;
+  survives = it.survives;
+}
+  where
+    no_more : (why' : OpenFault) → IsStoreFault why' → IsRefusedFor old.now why'
+    no_more NotOurs none = absurd none
+    no_more (OldSchema n) none = absurd none
+    no_more Store it = tt
+    no_more Memory it = tt

@@ -23,6 +23,10 @@ pub record StandsIn (image : Image) (h : Host) : Type 0 where
   pub held : ∥ HoldsDatabase image trees ∥₁
   pub stands : HoldHost trees h
 
+-- the bytes of the files hold this database
+abbrev pub HoldsIn : Image → Database → Type 0
+HoldsIn image db = ∥ HoldsDatabase image db.trees ∥₁ × IsDatabase db
+
 -- whatever an open may find in the bytes, nothing is listed there
 abbrev pub IsBlank : Image → Type 0
 IsBlank image = (found : Trees) → AreFoundIn image found → found catalog_tree ≡ []

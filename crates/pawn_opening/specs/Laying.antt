@@ -1,5 +1,5 @@
 -- Tables that are laid out, one after another.
-use Rattle.std.specs.Prelude.{[], ◌∷◌, IsTrue, Result, OnOk}
+use Rattle.std.specs.Prelude.{ℕ, [], ◌∷◌, IsTrue, Result, OnOk}
 use Rattle.sqlite.specs.Order.{Row}
 use Rattle.sqlite.specs.Schema.{Schema}
 use Rattle.sqlite.specs.Change.{created}
@@ -28,6 +28,11 @@ first_six = created (created (created first_three entries) secrets) bookings
 -- a part of a transaction adds empty tables: of the one schema it makes the other
 abbrev pub Makes : {E : Type 0} → State → State → Result (Unit {0}) E → Schema → Schema → Type 0
 Makes old new result before after = HasCleanDisk new → IsTrue old.in_transaction → AreEmpty before old.now → OnOk result (AreEmpty after new.now)
+
+-- a part of a transaction adds an empty table under this tree to tables that may have rows: of the one schema it makes the other
+abbrev pub AddsTable : {E : Type 0} → State → State → Result (Unit {0}) E → Schema → Schema → ℕ → Type 0
+AddsTable old new result before after tree =
+    HasCleanDisk new → IsTrue old.in_transaction → (listed : Listed) → Lists before old.now listed → OnOk result (Lists after new.now (with_rows listed tree []))
 
 -- a part puts a row before the others of meta
 abbrev pub Notes : {E : Type 0} → State → State → Result (Unit {0}) E → Row → Type 0

@@ -1,5 +1,5 @@
 -- Stores that are opened.
-use Rattle.std.specs.Prelude.{◌≡◌, ◌⊎◌, false, ℕ, IsTrue, Result, IfErr, OnErr, OnOk}
+use Rattle.std.specs.Prelude.{◌≡◌, ◌⊎◌, false, ℕ, IsTrue, Option, IfSome, Result, IfErr, IfOk, OnErr, OnOk}
 use Rattle.std.specs.FinMap.{empty}
 use Rattle.sqlite.specs.Tree.{Trees}
 use Rattle.sqlite.specs.State.{State, HasCleanDisk, Survives}
@@ -9,7 +9,7 @@ use Rattle.pawn_tables.specs.StandsFor.{StandsFor, HoldHost}
 use Rattle.pawn_tables.specs.Keeps.{Keeps, Leaves}
 use Rattle.pawn_opening.specs.declared.fault.OpenFault.{OpenFault}
 use Rattle.pawn_opening.specs.Laying.{AreEmpty}
-use Rattle.pawn_opening.specs.Refusing.{IsEmptyStore, IsRefusedFor, IsStoreFault, NotesSchema}
+use Rattle.pawn_opening.specs.Refusing.{IsEmptyStore, IsNoted, IsRefusedFor, IsStoreFault, NotesSchema}
 
 -- the host without books
 abbrev pub empty_host : ℕ → Host
@@ -39,6 +39,16 @@ pub record LaysOut (old new : State) (limit : ℕ) (result : Result (Unit {0}) O
   pub why : IfErr result IsStoreFault
   pub ended : new.in_transaction ≡ false
   pub survives : Survives old new (λ trees. IsEmptyStore old.now → HoldHost trees (empty_host limit))
+
+-- a store tells what it notes of its schema, and is left as it was
+pub record TellsSchema (old new : State) (result : Result (Option ℕ) OpenFault) : Type 0 where
+  pub same : HasCleanDisk new → IsAsBefore old new
+  pub ok : HasCleanDisk new → IfOk result (IsNoted old.now)
+  -- only an open store tells a number
+  pub serves : HasCleanDisk new → IfOk result (λ noted. IfSome noted (λ n. IsTrue new.is_open))
+  pub why : IfErr result IsStoreFault
+  pub ended : new.in_transaction ≡ false
+  pub survives : Survives old new (λ _. ⊥)
 
 -- a store that is not empty is recognised, and left as it was
 pub record Recognises (old new : State) (result : Result (Unit {0}) OpenFault) : Type 0 where

@@ -1,5 +1,5 @@
 -- Why a store is not opened.
-use Rattle.std.specs.Prelude.{◌≡◌, ◌⊎◌, ◌<◌, ℕ, pos, List, [], ◌∷◌, Result, Ok, Err, codes}
+use Rattle.std.specs.Prelude.{◌≡◌, ◌⊎◌, ◌<◌, ℕ, pos, List, [], ◌∷◌, Option, Some, None, Result, Ok, Err, codes}
 use Rattle.sqlite.specs.declared.types.Value.TheVariants.{Int}
 use Rattle.sqlite.specs.Order.{Row, column}
 use Rattle.sqlite.specs.Effect.{Database, Reads}
@@ -34,9 +34,22 @@ IsNumber rows n = (row : Row) × (rows ≡ row ∷ []) × (column row 0 ≡ Int 
 abbrev pub NotesSchema : Database → ℕ → Type 0
 NotesSchema db n = (rows : List Row) × Answers db rows × IsNumber rows n
 
--- it notes none, or a newer one
+-- it notes no number
+abbrev pub NotesNoSchema : Database → Type 0
+NotesNoSchema db = HasNoAnswer db ⊎ ((rows : List Row) × Answers db rows × ((n : ℕ) → IsNumber rows n → ⊥))
+
+-- the number that the store notes, if it notes one
+abbrev pub IsNoted : Database → Option ℕ → Type 0
+IsNoted db None = NotesNoSchema db
+IsNoted db (Some n) = NotesSchema db n
+
+-- a number of no schema, or of a newer one
+abbrev pub IsStrangeNumber : ℕ → Type 0
+IsStrangeNumber n = (n ≡ 0) ⊎ (3 < n)
+
+-- it notes none, or such a number
 abbrev pub IsStrange : Database → Type 0
-IsStrange db = HasNoAnswer db ⊎ ((rows : List Row) × Answers db rows × ((n : ℕ) → IsNumber rows n → (n ≡ 0) ⊎ (3 < n)))
+IsStrange db = NotesNoSchema db ⊎ ((n : ℕ) × NotesSchema db n × IsStrangeNumber n)
 
 -- no table, index or view stands in it
 abbrev pub IsEmptyStore : Database → Type 0
@@ -56,18 +69,16 @@ IsRefusedFor db (OldSchema n) = NotesSchema db n × (0 < n) × (n < 3)
 IsRefusedFor db Store = Unit {0}
 IsRefusedFor db Memory = Unit {0}
 
--- what is made of a number
-abbrev pub IsNumberJudged : ℕ → Result (Unit {0}) OpenFault → Type 0
-IsNumberJudged n (Ok ours) = n ≡ 3
-IsNumberJudged n (Err NotOurs) = (n ≡ 0) ⊎ (3 < n)
-IsNumberJudged n (Err (OldSchema m)) = (m ≡ n) × (0 < n) × (n < 3)
-IsNumberJudged n (Err Store) = ⊥
-IsNumberJudged n (Err Memory) = ⊥
+-- what is read of an answer
+abbrev pub IsNumberRead : List Row → Result (Option ℕ) OpenFault → Type 0
+IsNumberRead rows (Ok None) = (n : ℕ) → IsNumber rows n → ⊥
+IsNumberRead rows (Ok (Some n)) = IsNumber rows n
+IsNumberRead rows (Err why) = IsStoreFault why
 
--- what is made of an answer
-abbrev pub IsJudged : List Row → Result (Unit {0}) OpenFault → Type 0
-IsJudged rows (Ok ours) = IsNumber rows 3
-IsJudged rows (Err NotOurs) = (n : ℕ) → IsNumber rows n → (n ≡ 0) ⊎ (3 < n)
-IsJudged rows (Err (OldSchema n)) = IsNumber rows n × (0 < n) × (n < 3)
-IsJudged rows (Err Store) = Unit {0}
-IsJudged rows (Err Memory) = Unit {0}
+-- what is made of a number
+abbrev pub IsJudged : Option ℕ → Result (Unit {0}) OpenFault → Type 0
+IsJudged noted (Ok ours) = noted ≡ Some 3
+IsJudged noted (Err NotOurs) = (noted ≡ None) ⊎ ((n : ℕ) × (noted ≡ Some n) × IsStrangeNumber n)
+IsJudged noted (Err (OldSchema n)) = (noted ≡ Some n) × (0 < n) × (n < 3)
+IsJudged noted (Err Store) = ⊥
+IsJudged noted (Err Memory) = ⊥

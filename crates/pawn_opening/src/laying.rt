@@ -2,8 +2,8 @@ ghost use Rattle.std.specs.Prelude.{◌≡◌, is_ok};
 ghost use Rattle.sqlite.specs.Held.{state};
 ghost use Rattle.one_table.specs.Columns.{no_schema};
 ghost use Rattle.one_table.specs.Lending.{IsLent};
-ghost use Rattle.pawn_tables.specs.Schema.{keep_schema};
-ghost use Rattle.pawn_opening.specs.Laying.{Makes, first_three, first_six};
+ghost use Rattle.pawn_tables.specs.Schema.{first_schema, keep_schema, second_schema};
+ghost use Rattle.pawn_opening.specs.Laying.{AddsTable, Makes, first_three, first_six};
 
 use one_table::run;
 use sqlite::{Alter, Error, Transaction};
@@ -68,11 +68,29 @@ pub(crate) fn make_notes<S: Alter>(tx: &mut Transaction<'_, S>) -> Result<(), Er
         "CREATE TABLE meta (name TEXT PRIMARY KEY NOT NULL, value INTEGER NOT NULL) STRICT",
         &[],
     )?;
+    make_totals(tx)?;
+    make_extensions(tx)
+}
+
+/// Makes the table of totals, beside those of the first schema.
+pub fn make_totals<S: Alter>(tx: &mut Transaction<'_, S>) -> Result<(), Error>
+    ensures same_reference { tx.new.conn.ghost_name ≡ tx.old.conn.ghost_name }
+    ensures made { AddsTable (state S.Store tx.old.conn.now) (state S.Store tx.new.conn.now) result first_schema second_schema 15 }
+    ensures lent { IsLent (state S.Store tx.old.conn.now) (state S.Store tx.new.conn.now) (is_ok result) }
+{
     run(
         tx,
         "CREATE TABLE totals (book INTEGER NOT NULL, number INTEGER NOT NULL, day INTEGER NOT NULL, principal INTEGER NOT NULL, charges INTEGER NOT NULL, PRIMARY KEY (book, number), FOREIGN KEY (book, number) REFERENCES pledges) STRICT",
         &[],
-    )?;
+    )
+}
+
+/// Makes the table of extensions, beside those of the second schema.
+pub fn make_extensions<S: Alter>(tx: &mut Transaction<'_, S>) -> Result<(), Error>
+    ensures same_reference { tx.new.conn.ghost_name ≡ tx.old.conn.ghost_name }
+    ensures made { AddsTable (state S.Store tx.old.conn.now) (state S.Store tx.new.conn.now) result second_schema keep_schema 17 }
+    ensures lent { IsLent (state S.Store tx.old.conn.now) (state S.Store tx.new.conn.now) (is_ok result) }
+{
     run(
         tx,
         "CREATE TABLE extensions (book INTEGER NOT NULL, number INTEGER NOT NULL, place INTEGER NOT NULL, day INTEGER NOT NULL, until_day INTEGER NOT NULL, PRIMARY KEY (book, number, place), FOREIGN KEY (book, number) REFERENCES pledges) STRICT",

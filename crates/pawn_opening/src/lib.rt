@@ -1,6 +1,7 @@
 //! Stores of pledge books, opened as connections whose tables stand for a host.
 #![tactic(auto)]
 
+mod connecting;
 mod fault;
 mod filling;
 mod finding;
@@ -10,6 +11,9 @@ mod opening;
 mod preparing;
 mod recognising;
 
+pub use connecting::connect_path;
 pub use fault::OpenFault;
+pub use laying::{make_extensions, make_totals};
 pub use opening::{close_files, open_files, open_memory, open_path};
 pub use preparing::prepare;
+pub use recognising::schema_noted;

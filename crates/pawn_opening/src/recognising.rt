@@ -1,7 +1,7 @@
 ghost use Rattle.std.specs.Prelude.{◌≡◌, false};
 ghost use Rattle.sqlite.specs.Held.{state};
-ghost use Rattle.pawn_opening.specs.Opened.{Recognises};
-ghost use Rattle.pawn_opening.specs.Refusing.{IsJudged, IsNumberJudged};
+ghost use Rattle.pawn_opening.specs.Opened.{Recognises, TellsSchema};
+ghost use Rattle.pawn_opening.specs.Refusing.{IsJudged, IsNumberRead};
 
 use crate::fault::{OpenFault, refused};
 use sqlite::{Alter, Connection, Error, ErrorCode, Row};
@@ -9,10 +9,41 @@ use sqlite::{Alter, Connection, Error, ErrorCode, Row};
 // The number of the schema that this program reads and writes.
 const SCHEMA: u64 = 3;
 
-// What a store is that notes this number.
-fn judge_number(number: u64) -> Result<(), OpenFault>
-    ensures judged { IsNumberJudged number result }
+// The number that an answer tells, if it tells one.
+fn number_of(rows: &[Row]) -> Result<Option<u64>, OpenFault>
+    ensures read { IsNumberRead rows.now result }
 {
+    let [row] = rows else {
+        return Ok(None);
+    };
+    match row.get(0) {
+        Ok(number) => Ok(Some(number)),
+        Err(Error::SqliteFailure(ErrorCode::OutOfMemory)) => Err(OpenFault::Memory),
+        Err(_) => Ok(None),
+    }
+}
+
+/// The number of its schema that a store notes, if it notes one. The store is left as it was. It is told of a fault of the store,
+/// or of want of memory, alone.
+pub fn schema_noted<S: Alter>(conn: &mut Connection<S>) -> Result<Option<u64>, OpenFault>
+    requires rests { conn.old.in_transaction ≡ false }
+    ensures tells { TellsSchema (state S.Store conn.old) (state S.Store conn.new) result }
+{
+    let _ = conn.is_autocommit();
+    match conn.query_all("SELECT value FROM meta WHERE name = 'schema'", &[]) {
+        Ok(rows) => number_of(&rows),
+        Err(Error::SqlInputError(_)) => Ok(None),
+        Err(error) => Err(refused(error)),
+    }
+}
+
+// What a store is that notes this number.
+fn judge(noted: Option<u64>) -> Result<(), OpenFault>
+    ensures judged { IsJudged noted result }
+{
+    let Some(number) = noted else {
+        return Err(OpenFault::NotOurs);
+    };
     if number == SCHEMA {
         Ok(())
     } else if 0 < number && number < SCHEMA {
@@ -22,29 +53,13 @@ fn judge_number(number: u64) -> Result<(), OpenFault>
     }
 }
 
-// Whether a store is ours that answers so.
-fn judge(rows: &[Row]) -> Result<(), OpenFault>
-    ensures judged { IsJudged rows.now result }
-{
-    let [row] = rows else {
-        return Err(OpenFault::NotOurs);
-    };
-    match row.get(0) {
-        Ok(number) => judge_number(number),
-        Err(Error::SqliteFailure(ErrorCode::OutOfMemory)) => Err(OpenFault::Memory),
-        Err(_) => Err(OpenFault::NotOurs),
-    }
-}
-
 /// Whether a store that is not empty is ours.
 pub(crate) fn recognise<S: Alter>(conn: &mut Connection<S>) -> Result<(), OpenFault>
     requires rests { conn.old.in_transaction ≡ false }
     ensures recognised { Recognises (state S.Store conn.old) (state S.Store conn.new) result }
 {
-    let _ = conn.is_autocommit();
-    match conn.query_all("SELECT value FROM meta WHERE name = 'schema'", &[]) {
-        Ok(rows) => judge(&rows),
-        Err(Error::SqlInputError(_)) => Err(OpenFault::NotOurs),
-        Err(error) => Err(refused(error)),
+    match schema_noted(conn) {
+        Ok(noted) => judge(noted),
+        Err(why) => Err(why),
     }
 }

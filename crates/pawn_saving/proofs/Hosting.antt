@@ -6,15 +6,17 @@ use Rattle.sqlite.specs.Tree.{Trees}
 use Rattle.sqlite.specs.Table.{Table}
 use Rattle.sqlite.specs.Effect.{Database}
 use Rattle.pawn_terms.specs.Limits.{first_day}
-use Rattle.pawn_pledge.specs.Replayable.{Each, IsStanding, AreNumbered}
+use Rattle.pawn_pledge.specs.Replayable.{Each, IsStanding}
 use Rattle.pawn_book.specs.HostStep.{Host, rows}
 use Rattle.pawn_book.specs.Sound.{AreSound, HasTextsAndWords}
 use Rattle.pawn_book.specs.Written.{AreWords}
 use Rattle.one_table.specs.Listing.{Holds, Lists, Listed, with_rows}
 use Rattle.one_table.proofs.Rowed.{swapped}
+use Rattle.pawn_tables.specs.Entries.{RiseFrom}
 use Rattle.pawn_tables.specs.Meta.{meta_row, other_rows}
 use Rattle.pawn_tables.specs.Schema.{keep_schema}
 use Rattle.pawn_tables.specs.StandsFor.{StandsFor, HoldHost, AreOrdered, AreStorable}
+use Rattle.pawn_tables.proofs.NextEntries.{numbered_rise}
 use Rattle.pawn_saving.specs.Counted.{listed_as, ListsHost}
 
 -- the tables that stand for a host list its rows, and count them
@@ -102,7 +104,7 @@ each_of P Q f (x ∷ xs) all = (f x all.0, each_of P Q f xs all.1)
 pub are_ordered : (h : Host) → AreSound h → AreOrdered h
 are_ordered h sound b k is = let s = (sound b k is).1 in record {
   pledges = s.rows.numbered;
-  entries = each_of IsStanding (λ p. AreNumbered 1 p.entries) (λ p standing. standing.replayable.entered.numbered) k.pledges s.rows.standing;
+  entries = each_of IsStanding (λ p. RiseFrom 0 p.entries) (λ p standing. numbered_rise 1 0 p.entries (omega arith) standing.replayable.entered.numbered) k.pledges s.rows.standing;
   under = s.rows.under;
 }
 

@@ -13,11 +13,14 @@ use Rattle.pawn_book.specs.BookStep.{BookValue, pledge_from, pledge_in}
 use Rattle.pawn_book.specs.declared.change.Change.TheVariants.{PutPledge}
 use Rattle.pawn_book.specs.Changes.{CanSave, Continues}
 use Rattle.pawn_book.specs.HostStep.{Host, booking_rows, pledge_rows}
+use Rattle.pawn_book.specs.Keeping.{entries_of}
 use Rattle.pawn_book.specs.Sound.{IsSound}
 use Rattle.pawn_book.proofs.Sounds.{standing_at}
 use Rattle.one_table.specs.Lending.{IsLent, Rests}
+use Rattle.pawn_tables.specs.Entries.{with_seq}
 use Rattle.pawn_tables.specs.Places.{at_place}
 use Rattle.pawn_tables.specs.StandsFor.{StandsFor}
+use Rattle.pawn_tables.proofs.NextEntries.{at_seq}
 use Rattle.pawn_saving.specs.declared.lengths.Lengths.{Lengths}
 use Rattle.pawn_saving.specs.declared.stored.Stored.{Stored}
 use Rattle.pawn_saving.specs.Stored.{AreLengths, IsStored, IsWithin}
@@ -37,6 +40,14 @@ pub tells_place : {A : Type 0} (xs : List A) (place : ℕ) (x : Option A) → x 
 tells_place xs zero x is low = absurd (omega (arith, low))
 tells_place xs (suc i) x is low = subst (λ o. IsTrue (is_some o) ↔ (suc i ≤ length xs)) (sym is) (within_length xs i)
 
+-- the entry of a number stands at that place, in a sound host
+pub entry_placed : (h : Host) (b n s : ℕ) → IsSound h → with_seq (entries_of (pledge_in (get h.books b) n)) s ≡ at_place (entries_of (pledge_in (get h.books b) n)) s
+entry_placed h b n s sound = go (pledge_in (get h.books b) n) refl
+  where
+    go : (o : Option PledgeValue) → pledge_in (get h.books b) n ≡ o → with_seq (entries_of o) s ≡ at_place (entries_of o) s
+    go None is = at_seq [] s tt
+    go (Some p) is = at_seq p.entries s (standing_at h b n p sound is).0.replayable.entered.numbered
+
 -- ---- the places of a list, from above
 
 lower : (n at : ℕ) → n ≤ at → (at ≤ n → false ≡ true) → 1 ≤ at → n ≤ at - 1
@@ -49,30 +60,30 @@ lower n at le not low = go (eq-or-lt_of_le le)
 -- nothing stands above a place, and the tables rest
 pub record IsSoFar (old new : State) (long : Host → ℕ) (most at : ℕ) : Type 0 where
   pub carried : IsCarried old new true
-  pub reads : HasCleanDisk new → IsTrue old.in_transaction → (h : Host) → StandsFor old.now h → (long h ≤ most → long h ≤ at) × Rests old new
+  pub reads : HasCleanDisk new → IsTrue old.in_transaction → (h : Host) → IsSound h → StandsFor old.now h → (long h ≤ most → long h ≤ at) × Rests old new
 
 pub none_seen : (s : State) (long : Host → ℕ) (most : ℕ) → IsSoFar s s long most most
-none_seen s long most = record { carried = carried_none s; reads = λ clean within h st. ((λ le. le), record { now_is = refl; inside = within }) }
+none_seen s long most = record { carried = carried_none s; reads = λ clean within h sound st. ((λ le. le), record { now_is = refl; inside = within }) }
 
 module _ (a b c : State) (long : Host → ℕ) (most at : ℕ) (so_far : IsSoFar a b long most at) (lent : IsLent b c true) (low : 1 ≤ at) where
-  seen : (stands : Bool) → HasCleanDisk c → IsTrue a.in_transaction → (h : Host) → StandsFor a.now h
-      → (HasCleanDisk c → IsTrue b.in_transaction → (h : Host) → StandsFor b.now h → (1 ≤ at → IsTrue stands ↔ (at ≤ long h)) × Rests b c)
+  seen : (stands : Bool) → HasCleanDisk c → IsTrue a.in_transaction → (h : Host) → IsSound h → StandsFor a.now h
+      → (HasCleanDisk c → IsTrue b.in_transaction → (h : Host) → IsSound h → StandsFor b.now h → (1 ≤ at → IsTrue stands ↔ (at ≤ long h)) × Rests b c)
       → (long h ≤ most → long h ≤ at) × (IsTrue stands ↔ (at ≤ long h)) × Rests a c
-  seen stands clean within h st reads =
+  seen stands clean within h sound st reads =
       let clean1 = clean_before b c true lent clean in
-      let one = so_far.reads clean1 within h st in
-      let two = reads clean one.1.inside h (subst (λ d. StandsFor d h) (sym one.1.now_is) st) in
+      let one = so_far.reads clean1 within h sound st in
+      let two = reads clean one.1.inside h sound (subst (λ d. StandsFor d h) (sym one.1.now_is) st) in
       (one.0, two.0 low, rests_then a b c one.1 two.1)
 
-  pub next_seen : (HasCleanDisk c → IsTrue b.in_transaction → (h : Host) → StandsFor b.now h → (1 ≤ at → IsTrue false ↔ (at ≤ long h)) × Rests b c) → IsSoFar a c long most (at - 1)
+  pub next_seen : (HasCleanDisk c → IsTrue b.in_transaction → (h : Host) → IsSound h → StandsFor b.now h → (1 ≤ at → IsTrue false ↔ (at ≤ long h)) × Rests b c) → IsSoFar a c long most (at - 1)
   next_seen reads = record {
     carried = carried_then a b c true so_far.carried lent;
-    reads = λ clean within h st. let it = seen false clean within h st reads in ((λ le. lower (long h) at (it.0 le) it.1.1 low), it.2);
+    reads = λ clean within h sound st. let it = seen false clean within h sound st reads in ((λ le. lower (long h) at (it.0 le) it.1.1 low), it.2);
   }
 
-  pub last_seen : (HasCleanDisk c → IsTrue b.in_transaction → (h : Host) → StandsFor b.now h → (1 ≤ at → IsTrue true ↔ (at ≤ long h)) × Rests b c)
-      → HasCleanDisk c → IsTrue a.in_transaction → (h : Host) → StandsFor a.now h → (long h ≤ most → at ≡ long h) × Rests a c
-  last_seen reads clean within h st = let it = seen true clean within h st reads in ((λ le. let few = it.0 le in let many = it.1.0 refl in omega (arith, few, many)), it.2)
+  pub last_seen : (HasCleanDisk c → IsTrue b.in_transaction → (h : Host) → IsSound h → StandsFor b.now h → (1 ≤ at → IsTrue true ↔ (at ≤ long h)) × Rests b c)
+      → HasCleanDisk c → IsTrue a.in_transaction → (h : Host) → IsSound h → StandsFor a.now h → (long h ≤ most → at ≡ long h) × Rests a c
+  last_seen reads clean within h sound st = let it = seen true clean within h sound st reads in ((λ le. let few = it.0 le in let many = it.1.0 refl in omega (arith, few, many)), it.2)
 
 -- ---- a pledge that is to be put, and what stands of it
 

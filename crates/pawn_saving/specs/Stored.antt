@@ -4,6 +4,7 @@ use Rattle.sqlite.specs.State.{State, HasCleanDisk}
 use Rattle.pawn_pledge.specs.Pledge.{PledgeValue}
 use Rattle.pawn_book.specs.HostStep.{Host}
 use Rattle.pawn_book.specs.Keeping.{entries_of, extensions_of, secrets_of}
+use Rattle.pawn_book.specs.Sound.{IsSound}
 use Rattle.one_table.specs.Lending.{Rests}
 use Rattle.pawn_tables.specs.StandsFor.{StandsFor}
 use Rattle.pawn_tables.specs.Told.{booking_of}
@@ -35,7 +36,7 @@ pub record IsStored (s : Stored) (p : Option PledgeValue) : Type 0 where
   pub lengths : AreLengths s.lengths p
   pub booked : s.is_booked ≡ is_some (booking_of p)
 
--- of each host that the tables stood for within the transaction: P of what was read, and the tables rest
+-- of each sound host that the tables stood for within the transaction: P of what was read, and the tables rest
 abbrev pub ReadsIn : {A E : Type 0} → State → State → Result A E → (Host → A → Type 0) → Type 0
 ReadsIn old new result P =
-    HasCleanDisk new → IsTrue old.in_transaction → (h : Host) → StandsFor old.now h → IfOk result (λ x. P h x × Rests old new)
+    HasCleanDisk new → IsTrue old.in_transaction → (h : Host) → IsSound h → StandsFor old.now h → IfOk result (λ x. P h x × Rests old new)

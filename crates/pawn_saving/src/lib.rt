@@ -16,4 +16,5 @@ mod stored;
 mod tails;
 mod writing;
 
+pub use pledges::put_totals;
 pub use saving::save;

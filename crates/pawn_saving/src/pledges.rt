@@ -114,7 +114,7 @@ fn charges_of(millionths: u64) -> Result<i64, KeepError>
 }
 
 /// Puts the totals of a new pledge.
-pub(crate) fn put_totals<S: Alter>(
+pub fn put_totals<S: Alter>(
     tx: &mut Transaction<'_, S>,
     book: u32,
     number: u32,

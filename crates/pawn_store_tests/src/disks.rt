@@ -51,3 +51,14 @@ pub fn store_on(
         Err((_, left)) => Err(left.into_files()),
     }
 }
+
+/// A connection to the database on the disks, whatever it holds.
+pub fn connected(alloc: Global, disks: Disks) -> Option<Connection<FileStore<Fuse<Memory>>>> {
+    if !disks.log.may_be_used() {
+        return None;
+    }
+    if !disks.db.may_be_used() {
+        return None;
+    }
+    Connection::open_files(alloc, disks, SMALL).ok()
+}

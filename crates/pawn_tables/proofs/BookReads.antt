@@ -1,7 +1,8 @@
 -- What the queries of a book show, where the tables stand for a host.
 use Rattle.std.proofs.Common.{◌≡◌, ◌==◌, ℕ, ◌≤◌, ◌<◌, List, [], ◌∷◌, map, filter, flat_map, take, codes, Bool, true, false, cond, ◌&&◌, Option, Some, None, T, refl, sym, ap, subst, ◌∙◌, arith, IsPermutation, nat_lt, find, option_map}
+use Rattle.std.specs.Prelude.{nat_le}
 use Rattle.std.specs.List.{list_all, AllByRecursion}
-use Rattle.std.specs.Ordering.{is_eq, is_gt, is_lt, nat_cmp}
+use Rattle.std.specs.Ordering.{is_eq, is_ge, is_gt, is_lt, nat_cmp}
 use Rattle.std.specs.declared.cmp.Ordering.TheVariants.{Less}
 use Rattle.std.specs.FinMap.{entries, entries_sorted, get, get-entries, is_sorted, find as find_key}
 use Rattle.std.specs.FinMap.Entries.{below_all}
@@ -24,8 +25,8 @@ use Rattle.pawn_tables.specs.Schema.{keep_schema, books, meta}
 use Rattle.pawn_tables.specs.Rows.{number, book_row, head_cells, at_most_one}
 use Rattle.pawn_tables.specs.Meta.{meta_row, meta_rows}
 use Rattle.pawn_tables.specs.Heads.{number_cells}
-use Rattle.pawn_tables.specs.At.{is_at, is_above, at_book}
-use Rattle.pawn_tables.specs.StandsFor.{StandsFor}
+use Rattle.pawn_tables.specs.At.{is_at, is_above, is_from, at_book}
+use Rattle.pawn_tables.specs.StandsFor.{StandsFor, ListDebts}
 use Rattle.one_table.proofs.Found.{shown_listed, shown_first}
 use Rattle.pawn_tables.proofs.ReadTexts as text
 use Rattle.pawn_tables.proofs.PledgeReads.{short, few}
@@ -43,6 +44,11 @@ one_test false = refl
 pub above : (m n : ℕ) → is_above (number m) (number n) ≡ nat_lt n m
 unfolding binary
 above m n = truth_of _ ∙ ap is_gt (value_cmp-Int (Rattle.std.specs.Prelude.pos m) (Rattle.std.specs.Prelude.pos n)) ∙ grind (arith, nat_tests)
+
+-- SQL's >= on numbers
+pub at_least : (m n : ℕ) → is_from (number m) (number n) ≡ nat_le n m
+unfolding binary
+at_least m n = truth_of _ ∙ ap is_ge (value_cmp-Int (Rattle.std.specs.Prelude.pos m) (Rattle.std.specs.Prelude.pos n)) ∙ grind (arith, nat_tests)
 
 -- SQL's = on texts
 pub same_texts : (s t : List ℕ) → is_at (Text s) (Text t) ≡ is_same_text s t
@@ -140,7 +146,7 @@ pub mapped_one : {A : Type 0} (f : A → ℕ) (o : Option A) → at_most_one (λ
 mapped_one f None = refl
 mapped_one f (Some x) = refl
 
-pub next_shown : (old new : State) (h : Host) (n : ℕ) (rows : List Row) → StandsFor old.now h → Shown text.next_text (number n ∷ []) old new rows → rows ≡ at_most_one number_cells (next_of h n)
+pub next_shown : (old new : State) (h : Host) (n : ℕ) (rows : List Row) → ListDebts old.now h → Shown text.next_text (number n ∷ []) old new rows → rows ≡ at_most_one number_cells (next_of h n)
 next_shown old new h n rows st shown =
     let t : Table = record books { tree = 0 } in
     let cells : Row → Row = λ v. column v 0 ∷ [] in

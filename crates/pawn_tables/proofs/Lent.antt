@@ -1,5 +1,6 @@
 -- One part of a transaction after another, and what they find together.
 use Rattle.std.proofs.Common.{◌≡◌, true, false, Result, Ok, Err, IsTrue, refl, sym, subst}
+use Rattle.sqlite.specs.Effect.{Database as Tables}
 use Rattle.sqlite.specs.State.{State, HasCleanDisk}
 use Rattle.pawn_book.specs.HostStep.{Host}
 use Rattle.pawn_book.specs.Sound.{HasUnsoundBook}
@@ -8,7 +9,7 @@ use Rattle.pawn_book.specs.declared.fault.KeepError.TheVariants as Keeper
 use Rattle.pawn_book.specs.declared.fault.StoreFault.TheVariants.{NoRecord, Database}
 use Rattle.one_table.specs.Lending.{IsLent, Rests}
 pub use Rattle.one_table.proofs.Lent.{clean_before, lent_then, rests_then}
-use Rattle.pawn_tables.specs.StandsFor.{StandsFor}
+use Rattle.pawn_tables.specs.StandsFor.{StandsFor, ListDebts}
 use Rattle.pawn_tables.specs.Finding.{Finds, FindsIn, Stood}
 
 -- the tables of a part that found stood for the host, and do after it
@@ -60,3 +61,8 @@ three_found s0 s1 s2 s3 x P y Q z R l1 l2 l3 f1 f2 f3 clean within h stood =
     let st2 = stood_then s1 s2 h l2 clean2 one.1.inside (λ _. st1) two.1 in
     let last = f3 clean two.1.inside h (λ _. st2) in
     (stood (l1.opened clean1 within refl), one.0, two.0, last.0, rests_then s0 s2 s3 (rests_then s0 s1 s2 one.1 two.1) last.1)
+
+-- ---- tables that stand for a host list its debts
+
+pub debts_of : (db : Tables) (h : Host) → StandsFor db h → ListDebts db h
+debts_of db h st = record { schema = st.schema; books = st.books; terms = st.terms; pledges = st.pledges; entries = st.entries; ordered = st.ordered; storable = st.storable }

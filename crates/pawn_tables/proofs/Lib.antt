@@ -3,6 +3,7 @@ pub mod Counts
 pub mod Joins
 pub mod Lent
 pub mod LineReads
+pub mod NextEntries
 pub mod NextLines
 pub mod OneEach
 pub mod OneHost

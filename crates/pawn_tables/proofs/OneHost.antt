@@ -15,13 +15,13 @@ use Rattle.sqlite.proofs.Callers.{one_permutation}
 use Rattle.pawn_terms.specs.declared.terms.Rates.{Rates}
 use Rattle.pawn_pledge.specs.declared.record.Booking.{Booking}
 use Rattle.pawn_pledge.specs.Pledge.{PledgeValue}
-use Rattle.pawn_pledge.specs.Replayable.{AreNumbered}
 use Rattle.pawn_book.specs.BookStep.{BookValue, pledge_from, pledge_in}
 use Rattle.pawn_book.specs.HostStep.{Host, rows}
 use Rattle.pawn_book.specs.Keeping.{entries_of, extensions_of, secrets_of, terms_of}
 use Rattle.pawn_book.specs.Rows.{terms_at}
 use Rattle.pawn_book.specs.Written.{IsWord, AreWords}
 use Rattle.pawn_tables.specs.Rows.{under, at_most_one, placed_from, head_cells, terms_cells, pledge_cells, pledge_listed, entry_cells, entries_listed, secret_cells, secrets_listed, extension_cells, extensions_listed, booking_cells, booking_listed}
+use Rattle.pawn_tables.specs.Entries.{RiseFrom}
 use Rattle.pawn_tables.specs.Meta.{meta_row, meta_rows}
 use Rattle.pawn_tables.specs.Told.{booking_of}
 use Rattle.pawn_tables.specs.At.{is_at, at_book, at_pledge}
@@ -63,7 +63,7 @@ module _ (h g : Host) (b n : ℕ) (of_h : AreOrdered h) (of_g : AreOrdered g) wh
     where
       up : (k : Host) → AreOrdered k → SameRows.Rise (λ v. column v 2) (rows_at (pledge_in (get k.books b) n) (entries_listed b))
       up k ordered = rises_at (pledge_in (get k.books b) n) (entries_listed b) (λ v. column v 2)
-          (λ p is. entries_rise (λ e. under b p.agreement.number (entry_cells e)) (λ v. column v 2) (λ e. refl) 1 p.entries (holds_in k (λ (q : PledgeValue). AreNumbered 1 q.entries) (λ c x at. (ordered c x at).entries) b n p is))
+          (λ p is. entries_rise (λ e. under b p.agreement.number (entry_cells e)) (λ v. column v 2) (λ e. refl) 0 p.entries (holds_in k (λ (q : PledgeValue). RiseFrom 0 q.entries) (λ c x at. (ordered c x at).entries) b n p is))
 
       cells : (o : Option PledgeValue) → map (λ v. column v 2 ∷ column v 3 ∷ column v 4 ∷ column v 5 ∷ []) (rows_at o (entries_listed b)) ≡ map entry_cells (entries_of o)
       cells None = refl

@@ -1,37 +1,50 @@
 -- What the queries of a pledge's lists show at a place, where the tables stand for a host.
-use Rattle.std.proofs.Common.{◌≡◌, ◌==◌, ℕ, zero, suc, ◌+◌, ◌<◌, List, [], ◌∷◌, map, filter, Bool, true, false, cond, ◌&&◌, Option, Some, None, refl, sym, ap, subst, ◌∙◌, arith, IsPermutation, slice_get}
-use Rattle.std.specs.Prelude.{IfSome}
+use Rattle.std.proofs.Common.{◌≡◌, ◌==◌, ℕ, zero, suc, ◌+◌, ◌<◌, List, [], ◌∷◌, map, filter, take, Bool, true, false, cond, ◌&&◌, Option, Some, None, refl, sym, ap, subst, ◌∙◌, arith, IsPermutation, slice_get}
+use Rattle.std.specs.Prelude.{IfSome, nat_le}
 use Rattle.std.specs.List.{list_all}
+use Rattle.std.specs.declared.cmp.Ordering.TheVariants.{Less}
 use Rattle.std.specs.FinMap.{get}
 use Rattle.std.proofs.lemmas.Bool.Decides.{nat_tests}
 use Rattle.std.proofs.lemmas.List.Elements.{filter_agree}
-use Rattle.sqlite.specs.Order.{Row, column}
+use Rattle.sqlite_trees.proofs.ListLemmas.{map-map, filter-map, ascending-filter}
+use Rattle.sqlite.specs.Order.{Row, column, value_cmp}
+use Rattle.sqlite.specs.Tree.{IsAscending}
 use Rattle.sqlite.specs.Table.{Table}
 use Rattle.sqlite.specs.State.{State, Shown}
 use Rattle.pawn_terms.specs.Calendar.{IsDayNumber}
 use Rattle.pawn_debt.specs.declared.entry.Entry.{Entry}
 use Rattle.pawn_pledge.specs.Pledge.{PledgeValue}
-use Rattle.pawn_pledge.specs.Replayable.{Each, AreNumbered}
+use Rattle.pawn_pledge.specs.Replayable.{Each}
 use Rattle.pawn_book.specs.BookStep.{pledge_in}
 use Rattle.pawn_book.specs.HostStep.{Host}
 use Rattle.pawn_book.specs.Keeping.{entries_of, extensions_of, secrets_of}
 use Rattle.pawn_book.specs.Sound.{IsUnsoundAt}
 use Rattle.pawn_tables.specs.Schema.{keep_schema, entries, secrets, extensions}
 use Rattle.pawn_tables.specs.Rows.{number, under, at_most_one, placed_from, entry_cells, entries_listed, secret_cells, secrets_listed, extension_cells, extensions_listed}
-use Rattle.pawn_tables.specs.At.{is_at, at_pledge}
+use Rattle.pawn_tables.specs.At.{is_at, is_from, at_pledge}
+use Rattle.pawn_tables.specs.Entries.{RiseFrom, with_seq, entries_from}
 use Rattle.pawn_tables.specs.Places.{at_place}
 use Rattle.pawn_tables.specs.StandsFor.{StandsFor, of_pledges, AreStorable}
-use Rattle.one_table.proofs.Found.{shown_listed}
+use Rattle.one_table.proofs.Found.{shown_first, shown_listed}
 use Rattle.pawn_tables.proofs.ReadTexts as text
-use Rattle.pawn_tables.proofs.PledgeReads.{short, few, holds_in, under_map, under_placed}
+use Rattle.pawn_tables.proofs.BookReads.{at_least}
+use Rattle.pawn_tables.proofs.NextEntries.{one_with, first_each, found_each}
+use Rattle.pawn_tables.proofs.OneEach.{first_told}
+use Rattle.pawn_tables.proofs.PledgeReads.{short, few, holds_in, rises_at, under_map, under_placed}
 use Rattle.pawn_tables.proofs.SoundReads.{entries_unsound, secrets_unsound, extensions_unsound}
-use Rattle.pawn_tables.proofs.Sought.{AreUnder, rows_at, of_one_pledge, equals}
+use Rattle.pawn_tables.proofs.Sought.{AreUnder, rows_at, of_one_pledge, entries_rise, equals}
 
 abbrev pub at_third : ℕ → ℕ → ℕ → Row → Bool
 at_third b n s v = list_all (λ (x : Bool). x) (is_at (column v 0) (number b) ∷ is_at (column v 1) (number n) ∷ is_at (column v 2) (number s) ∷ [])
 
 abbrev has_place : ℕ → Row → Bool
 has_place s v = is_at (column v 2) (number s)
+
+abbrev at_from : ℕ → ℕ → ℕ → Row → Bool
+at_from b n s v = list_all (λ (x : Bool). x) (is_at (column v 0) (number b) ∷ is_at (column v 1) (number n) ∷ is_from (column v 2) (number s) ∷ [])
+
+abbrev has_from : ℕ → Row → Bool
+has_from s v = is_from (column v 2) (number s)
 
 regroup : (a b c : Bool) → (a && (b && (c && true))) ≡ ((a && (b && true)) && c)
 regroup true true true = refl
@@ -77,10 +90,6 @@ counts_placed : {A : Type 0} (g : ℕ → A → Row) → ((at : ℕ) (x : A) →
 counts_placed g is k [] = tt
 counts_placed g is k (x ∷ xs) = (is k x, counts_placed g is (k + 1) xs)
 
-counts_entries : (g : Entry → Row) → ((e : Entry) → column (g e) 2 ≡ number e.seq) → (k : ℕ) (es : List Entry) → AreNumbered k es → CountFrom k (map g es)
-counts_entries g is k [] numbered = tt
-counts_entries g is k (e ∷ es) numbered = (is e ∙ ap number numbered.0, counts_entries g is (k + 1) es numbered.1)
-
 -- the row at a place
 one_placed : {A : Type 0} (g told : ℕ → A → Row) (cells : Row → Row) → ((at : ℕ) (x : A) → cells (g at x) ≡ told at x) → (k n s : ℕ) (xs : List A) → s ≡ k + n
     → map cells (at_most_one (λ r. r) (slice_get (placed_from g k xs) n)) ≡ at_most_one (told s) (slice_get xs n)
@@ -92,15 +101,6 @@ shown_placed : {A : Type 0} (g told : ℕ → A → Row) (cells : Row → Row) �
     → map cells (at_most_one (λ r. r) (at_place (placed_from g 1 xs) s)) ≡ at_most_one (told s) (at_place xs s)
 shown_placed g told cells is zero xs = refl
 shown_placed g told cells is (suc n) xs = one_placed g told cells is 1 n (suc n) xs (omega arith)
-
-one_entry : (g : Entry → Row) (cells : Row → Row) → ((e : Entry) → cells (g e) ≡ entry_cells e) → (n : ℕ) (es : List Entry) → map cells (at_most_one (λ r. r) (slice_get (map g es) n)) ≡ at_most_one entry_cells (slice_get es n)
-one_entry g cells is n [] = refl
-one_entry g cells is zero (e ∷ es) = ap (λ r. r ∷ []) (is e)
-one_entry g cells is (suc n) (e ∷ es) = one_entry g cells is n es
-
-shown_entry : (g : Entry → Row) (cells : Row → Row) → ((e : Entry) → cells (g e) ≡ entry_cells e) → (s : ℕ) (es : List Entry) → map cells (at_most_one (λ r. r) (at_place (map g es) s)) ≡ at_most_one entry_cells (at_place es s)
-shown_entry g cells is zero es = refl
-shown_entry g cells is (suc n) es = one_entry g cells is n es
 
 -- what holds of each element holds at a place
 pub at_each : {A : Type 0} (P : A → Type 0) (xs : List A) (s : ℕ) → Each P xs → IfSome (at_place xs s) P
@@ -116,31 +116,60 @@ module _ (old new : State) (h : Host) (b n s : ℕ) (rows : List Row) (st : Stan
   abbrev found : Option PledgeValue
   found = pledge_in (get h.books b) n
 
+  -- the rows that pass a test, of those of all pledges
+  passing : (test : Row → Bool) (f : ℕ → PledgeValue → List Row) → ((m : ℕ) (p : PledgeValue) → AreUnder m p.agreement.number (f m p)) → filter (λ v. at_pledge b n v && test v) (of_pledges h f) ≡ filter test (rows_at found (f b))
+  passing test f under' = sym (filter_both (at_pledge b n) test (of_pledges h f)) ∙ ap (filter test) (of_one_pledge h b n f st.ordered under')
+
   -- the row at a place, among those of all pledges
   one_row : (f : ℕ → PledgeValue → List Row) → ((m : ℕ) (p : PledgeValue) → AreUnder m p.agreement.number (f m p)) → CountFrom 1 (rows_at found (f b)) → filter (at_third b n s) (of_pledges h f) ≡ at_most_one (λ r. r) (at_place (rows_at found (f b)) s)
   one_row f under' counts =
       filter_agree (at_third b n s) (λ v. at_pledge b n v && has_place s v) (λ v. regroup (is_at (column v 0) (number b)) (is_at (column v 1) (number n)) (has_place s v)) (of_pledges h f)
-      ∙ sym (filter_both (at_pledge b n) (has_place s) (of_pledges h f)) ∙ ap (filter (has_place s)) (of_one_pledge h b n f st.ordered under') ∙ placed_alone s _ counts
+      ∙ passing (has_place s) f under' ∙ placed_alone s _ counts
 
   nothing : {A : Type 0} (m : ℕ) → ◌≡◌ {A = Option A} (at_place [] m) None
   nothing zero = refl
   nothing (suc m) = refl
 
-  pub entry_shown : Shown text.entry_text params old new rows → rows ≡ at_most_one entry_cells (at_place (entries_of found) s)
+  -- the entries of a pledge rise
+  pub entries_rising : RiseFrom 0 (entries_of found)
+  entries_rising = go found refl
+    where
+      go : (o : Option PledgeValue) → pledge_in (get h.books b) n ≡ o → RiseFrom 0 (entries_of o)
+      go None is = tt
+      go (Some p) is = holds_in h (λ (q : PledgeValue). RiseFrom 0 q.entries) (λ c k at. (st.ordered c k at).entries) b n p is
+
+  abbrev entry_shows : Row → Row
+  entry_shows v = column v 2 ∷ column v 3 ∷ column v 4 ∷ column v 5 ∷ []
+
+  -- what is shown of those that pass a test of their numbers
+  entries_passing : (test : Row → Bool) (keeps : ℕ → Bool) → ((m : ℕ) (e : Entry) → test (under b m (entry_cells e)) ≡ keeps e.seq) → (o : Option PledgeValue)
+      → map entry_shows (filter test (rows_at o (entries_listed b))) ≡ map entry_cells (filter (λ (e : Entry). keeps e.seq) (entries_of o))
+  entries_passing test keeps any None = refl
+  entries_passing test keeps any (Some p) =
+      let g : Entry → Row = λ e. under b p.agreement.number (entry_cells e) in
+      ap (map entry_shows) (filter-map test g p.entries ∙ ap (map g) (filter_agree (λ e. test (g e)) (λ (e : Entry). keeps e.seq) (any p.agreement.number) p.entries)) ∙ map-map entry_shows g _
+
+  pub entry_shown : Shown text.entry_text params old new rows → rows ≡ at_most_one entry_cells (with_seq (entries_of found) s)
   entry_shown shown =
       let t : Table = record entries { tree = 6 } in
-      let cells : Row → Row = λ v. column v 2 ∷ column v 3 ∷ column v 4 ∷ column v 5 ∷ [] in
-      let one = one_row entries_listed (λ m p. under_map m p.agreement.number entry_cells p.entries) (counts found refl) in
-      short rows _ (few entry_cells (at_place (entries_of found) s)) (subst (λ xs. IsPermutation xs rows) (ap (map cells) one ∙ shows found)
-      (shown_listed keep_schema 6 (λ _. refl) t text.of_place text.entries_shows params (at_third b n s) cells (λ _. refl) (λ _. refl) text.entry_text _ [] text.entry_is old new (of_pledges h entries_listed) rows st.schema st.entries shown))
-    where
-      counts : (o : Option PledgeValue) → pledge_in (get h.books b) n ≡ o → CountFrom 1 (rows_at o (entries_listed b))
-      counts None is = tt
-      counts (Some p) is = counts_entries (λ e. under b p.agreement.number (entry_cells e)) (λ e. refl) 1 p.entries (holds_in h (λ (q : PledgeValue). AreNumbered 1 q.entries) (λ c k at. (st.ordered c k at).entries) b n p is)
+      let one =
+      filter_agree (at_third b n s) (λ v. at_pledge b n v && has_place s v) (λ v. regroup (is_at (column v 0) (number b)) (is_at (column v 1) (number n)) (has_place s v)) (of_pledges h entries_listed)
+      ∙ passing (has_place s) entries_listed (λ m p. under_map m p.agreement.number entry_cells p.entries) in
+      let shows = ap (map entry_shows) one ∙ entries_passing (has_place s) (λ q. q == s) (λ m e. equals e.seq s) found ∙ one_with entry_cells s 0 (entries_of found) entries_rising in
+      short rows _ (few entry_cells (with_seq (entries_of found) s)) (subst (λ xs. IsPermutation xs rows) shows
+      (shown_listed keep_schema 6 (λ _. refl) t text.of_place text.entries_shows params (at_third b n s) entry_shows (λ _. refl) (λ _. refl) text.entry_text _ [] text.entry_is old new (of_pledges h entries_listed) rows st.schema st.entries shown))
 
-      shows : (o : Option PledgeValue) → map (λ v. column v 2 ∷ column v 3 ∷ column v 4 ∷ column v 5 ∷ []) (at_most_one (λ r. r) (at_place (rows_at o (entries_listed b)) s)) ≡ at_most_one entry_cells (at_place (entries_of o) s)
-      shows None = ap (λ x. map (λ v. column v 2 ∷ column v 3 ∷ column v 4 ∷ column v 5 ∷ []) (at_most_one (λ r. r) x)) (nothing s) ∙ ap (at_most_one entry_cells) (sym (nothing s))
-      shows (Some p) = shown_entry (λ e. under b p.agreement.number (entry_cells e)) (λ v. column v 2 ∷ column v 3 ∷ column v 4 ∷ column v 5 ∷ []) (λ e. refl) s p.entries
+  pub next_entry_shown : Shown text.from_text params old new rows → rows ≡ at_most_one entry_cells (slice_get (entries_from s (entries_of found)) 0)
+  next_entry_shown shown =
+      let t : Table = record entries { tree = 6 } in
+      let one =
+      filter_agree (at_from b n s) (λ v. at_pledge b n v && has_from s v) (λ v. regroup (is_at (column v 0) (number b)) (is_at (column v 1) (number n)) (has_from s v)) (of_pledges h entries_listed)
+      ∙ passing (has_from s) entries_listed (λ m p. under_map m p.agreement.number entry_cells p.entries) in
+      let up = rises_at found (entries_listed b) (λ v. column v 2) (λ p is. entries_rise (λ e. under b p.agreement.number (entry_cells e)) (λ v. column v 2) (λ e. refl) 0 p.entries (holds_in h (λ (q : PledgeValue). RiseFrom 0 q.entries) (λ c k at. (st.ordered c k at).entries) b n p is)) in
+      let rises = subst (IsAscending (λ v w. value_cmp (column v 2) (column w 2) ≡ Less)) (sym one) (ascending-filter (λ v w. value_cmp (column v 2) (column w 2) ≡ Less) (has_from s) _ up) in
+      let shows = ap (map entry_shows) one ∙ entries_passing (has_from s) (λ q. nat_le s q) (λ m e. at_least e.seq s) found in
+      shown_first keep_schema 6 (λ _. refl) t text.from_tests text.entries_shows params (at_from b n s) entry_shows (λ _. refl) (λ _. refl) 3 (λ v. column v 2) (λ _. refl) text.from_text _ text.from_is old new (of_pledges h entries_listed) rows st.schema st.entries rises shown
+      ∙ ap (take 1) shows ∙ first_told entry_cells _
 
   pub secret_shown : Shown text.secret_text params old new rows → rows ≡ at_most_one (secret_cells s) (at_place (secrets_of found) s)
   secret_shown shown =
@@ -175,8 +204,11 @@ module _ (old new : State) (h : Host) (b n s : ℕ) (rows : List Row) (st : Stan
       shows (Some p) = shown_placed (λ place e. under b p.agreement.number (extension_cells place e)) extension_cells (λ v. column v 2 ∷ column v 3 ∷ column v 4 ∷ []) (λ place e. refl) s p.extensions
 
 module _ (h : Host) (storable : AreStorable h) (b n s : ℕ) where
-  pub entry_unsound : (IfSome (at_place (entries_of (pledge_in (get h.books b) n)) s) (λ e. IsDayNumber e.day) → ⊥) → IsUnsoundAt b h
-  entry_unsound bad = entries_unsound h storable b n (λ all. bad (at_each (λ e. IsDayNumber e.day) _ s all))
+  pub entry_unsound : (IfSome (with_seq (entries_of (pledge_in (get h.books b) n)) s) (λ e. IsDayNumber e.day) → ⊥) → IsUnsoundAt b h
+  entry_unsound bad = entries_unsound h storable b n (λ all. bad (found_each (λ e. IsDayNumber e.day) (λ (e : Entry). e.seq == s) _ all))
+
+  pub next_entry_unsound : (IfSome (slice_get (entries_from s (entries_of (pledge_in (get h.books b) n))) 0) (λ e. IsDayNumber e.day) → ⊥) → IsUnsoundAt b h
+  next_entry_unsound bad = entries_unsound h storable b n (λ all. bad (first_each (λ e. IsDayNumber e.day) (λ (e : Entry). nat_le s e.seq) _ all))
 
   pub secret_unsound : (IfSome (at_place (secrets_of (pledge_in (get h.books b) n)) s) (λ i. IsDayNumber i.day) → ⊥) → IsUnsoundAt b h
   secret_unsound bad = secrets_unsound h storable b n (λ all. bad (at_each (λ i. IsDayNumber i.day) _ s all))

@@ -15,15 +15,16 @@ use Rattle.sqlite.proofs.Callers.{one_permutation}
 use Rattle.pawn_terms.specs.declared.terms.Rates.{Rates}
 use Rattle.pawn_pledge.specs.declared.record.Booking.{Booking}
 use Rattle.pawn_pledge.specs.Pledge.{PledgeValue}
-use Rattle.pawn_pledge.specs.Replayable.{Each, AreNumbered}
+use Rattle.pawn_pledge.specs.Replayable.{Each}
 use Rattle.pawn_book.specs.BookStep.{BookValue, pledge_from, pledge_in}
 use Rattle.pawn_book.specs.HostStep.{Host}
 use Rattle.pawn_book.specs.Rows.{AreNumberedFrom, IsUnder, terms_at}
 use Rattle.pawn_book.specs.Keeping.{entries_of, extensions_of, secrets_of, terms_of}
+use Rattle.pawn_tables.specs.Entries.{RiseFrom}
 use Rattle.pawn_tables.specs.Schema.{keep_schema, terms, pledges, entries, secrets, bookings, totals, extensions}
-use Rattle.pawn_tables.specs.Rows.{number, under, placed_from, pledge_listed, pledge_cells, entries_listed, entry_cells, secrets_listed, secret_cells, extensions_listed, extension_cells, booking_listed, at_most_one, booking_cells, totals_listed, totals_cells, terms_listed, terms_cells}
+use Rattle.pawn_tables.specs.Rows.{number, under, placed_from, pledge_listed, pledge_cells, credit_cells, entries_listed, entry_cells, secrets_listed, secret_cells, extensions_listed, extension_cells, booking_listed, at_most_one, booking_cells, totals_listed, totals_cells, terms_listed, terms_cells}
 use Rattle.pawn_tables.specs.Told.{booking_of, totals_in}
-use Rattle.pawn_tables.specs.StandsFor.{StandsFor, of_books, of_pledges, AreOrdered}
+use Rattle.pawn_tables.specs.StandsFor.{StandsFor, ListDebts, of_books, of_pledges, AreOrdered}
 use Rattle.one_table.proofs.Found.{shown_listed, shown_in_order}
 use Rattle.pawn_tables.proofs.ReadTexts as text
 use Rattle.pawn_tables.proofs.Sought.{at_pledge, AreUnder, rows_at, of_one_pledge, of_one_book, placed_rise, entries_rise, equals}
@@ -107,25 +108,44 @@ pub few : {A : Type 0} (f : A → Row) (o : Option A) → length (at_most_one f 
 few f None = omega arith
 few f (Some x) = omega arith
 
+-- the entries of a pledge, where the tables list them
+module _ (old new : State) (h : Host) (b n : ℕ) (rows : List Row) (st : ListDebts old.now h) where
+  abbrev its : Option PledgeValue
+  its = pledge_in (get h.books b) n
+
+  pub entries_shown : Shown text.entries_text (number b ∷ number n ∷ []) old new rows → rows ≡ map entry_cells (entries_of its)
+  entries_shown shown =
+      let t : Table = record entries { tree = 6 } in
+      let one = of_one_pledge h b n entries_listed st.ordered (λ m p. under_map m p.agreement.number entry_cells p.entries) in
+      let up = rises_at its (entries_listed b) (λ v. column v 2) (λ p is. entries_rise (λ e. under b p.agreement.number (entry_cells e)) (λ v. column v 2) (λ e. refl) 0 p.entries (holds_in h (λ (q : PledgeValue). RiseFrom 0 q.entries) (λ c k at. (st.ordered c k at).entries) b n p is)) in
+      shown_in_order keep_schema 6 (λ _. refl) t text.of_pledge text.entries_shows (number b ∷ number n ∷ []) (at_pledge b n) (λ v. column v 2 ∷ column v 3 ∷ column v 4 ∷ column v 5 ∷ []) (λ _. refl) (λ _. refl) 3 (λ v. column v 2) (λ _. refl)
+      text.entries_text _ text.entries_is old new (of_pledges h entries_listed) rows st.schema st.entries (subst (IsAscending (λ a c. value_cmp (column a 2) (column c 2) ≡ Less)) (sym one) up) shown
+      ∙ ap (map (λ v. column v 2 ∷ column v 3 ∷ column v 4 ∷ column v 5 ∷ [])) one ∙ cells its
+    where
+      cells : (o : Option PledgeValue) → map (λ v. column v 2 ∷ column v 3 ∷ column v 4 ∷ column v 5 ∷ []) (rows_at o (entries_listed b)) ≡ map entry_cells (entries_of o)
+      cells None = refl
+      cells (Some p) = map-map _ (λ e. under b p.agreement.number (entry_cells e)) p.entries
+
+  pub credit_shown : Shown text.credit_text (number b ∷ number n ∷ []) old new rows → rows ≡ at_most_one credit_cells its
+  credit_shown shown =
+      let t : Table = record pledges { tree = 3 } in
+      let one = of_one_pledge h b n pledge_listed st.ordered (λ m p. ((refl, refl), tt)) in
+      short rows _ (few credit_cells its) (subst (λ xs. IsPermutation xs rows) (ap (map cells) one ∙ shows its)
+      (shown_listed keep_schema 3 (λ _. refl) t text.of_pledge text.credit_shows (number b ∷ number n ∷ []) (at_pledge b n) cells (λ _. refl) (λ _. refl) text.credit_text _ [] text.credit_is old new (of_pledges h pledge_listed) rows st.schema st.pledges shown))
+    where
+      cells : Row → Row
+      cells v = column v 4 ∷ column v 5 ∷ column v 6 ∷ column v 7 ∷ column v 9 ∷ []
+
+      shows : (o : Option PledgeValue) → map cells (rows_at o (pledge_listed b)) ≡ at_most_one credit_cells o
+      shows None = refl
+      shows (Some p) = refl
+
 module _ (old new : State) (h : Host) (b n : ℕ) (rows : List Row) (st : StandsFor old.now h) where
   abbrev params : Row
   params = number b ∷ number n ∷ []
 
   abbrev found : Option PledgeValue
   found = pledge_in (get h.books b) n
-
-  pub entries_shown : Shown text.entries_text params old new rows → rows ≡ map entry_cells (entries_of found)
-  entries_shown shown =
-      let t : Table = record entries { tree = 6 } in
-      let one = of_one_pledge h b n entries_listed st.ordered (λ m p. under_map m p.agreement.number entry_cells p.entries) in
-      let up = rises_at found (entries_listed b) (λ v. column v 2) (λ p is. entries_rise (λ e. under b p.agreement.number (entry_cells e)) (λ v. column v 2) (λ e. refl) 1 p.entries (holds_in h (λ (q : PledgeValue). AreNumbered 1 q.entries) (λ c k at. (st.ordered c k at).entries) b n p is)) in
-      shown_in_order keep_schema 6 (λ _. refl) t text.of_pledge text.entries_shows params (at_pledge b n) (λ v. column v 2 ∷ column v 3 ∷ column v 4 ∷ column v 5 ∷ []) (λ _. refl) (λ _. refl) 3 (λ v. column v 2) (λ _. refl)
-      text.entries_text _ text.entries_is old new (of_pledges h entries_listed) rows st.schema st.entries (subst (IsAscending (λ a c. value_cmp (column a 2) (column c 2) ≡ Less)) (sym one) up) shown
-      ∙ ap (map (λ v. column v 2 ∷ column v 3 ∷ column v 4 ∷ column v 5 ∷ [])) one ∙ cells found
-    where
-      cells : (o : Option PledgeValue) → map (λ v. column v 2 ∷ column v 3 ∷ column v 4 ∷ column v 5 ∷ []) (rows_at o (entries_listed b)) ≡ map entry_cells (entries_of o)
-      cells None = refl
-      cells (Some p) = map-map _ (λ e. under b p.agreement.number (entry_cells e)) p.entries
 
   pub secrets_shown : Shown text.secrets_text params old new rows → rows ≡ placed_from secret_cells 1 (secrets_of found)
   secrets_shown shown =
@@ -253,7 +273,7 @@ one_version h b v =
     shows None = refl
     shows (Some t) = refl
 
-pub terms_shown : (old new : State) (h : Host) (b v : ℕ) (rows : List Row) → StandsFor old.now h → Shown text.terms_text (number b ∷ number v ∷ []) old new rows
+pub terms_shown : (old new : State) (h : Host) (b v : ℕ) (rows : List Row) → ListDebts old.now h → Shown text.terms_text (number b ∷ number v ∷ []) old new rows
     → rows ≡ at_most_one terms_cells (terms_at (terms_of (get h.books b)) v)
 terms_shown old new h b v rows st shown =
     let t : Table = record terms { tree = 1 } in

@@ -5,7 +5,7 @@ use Rattle.sqlite.specs.Listing.{understood}
 use Rattle.sqlite.specs.Collation.TheVariants.{Binary}
 use Rattle.sqlite.specs.Term.{Term, lit, col, op2}
 use Rattle.sqlite_sql.specs.declared.ops.BinaryOp.TheVariants.{Compare}
-use Rattle.sqlite_sql.specs.declared.ops.CompareOp.TheVariants.{Eq, Gt}
+use Rattle.sqlite_sql.specs.declared.ops.CompareOp.TheVariants.{Eq, Ge, Gt}
 use Rattle.sqlite.specs.declared.types.Value.TheVariants.{Int, Text}
 use Rattle.one_table.proofs.Texts.{Asks, by_column, is_param}
 use Rattle.pawn_tables.specs.Schema.{keep_schema}
@@ -59,6 +59,16 @@ pledge_shows = col 1 3 ∷ col 1 4 ∷ col 1 5 ∷ col 1 6 ∷ col 1 7 ∷ col 1
 pub pledge_is : Asks keep_schema pledge_text (over_table 3 of_pledge pledge_shows []) (codes "ref" ∷ codes "article" ∷ codes "kind" ∷ codes "credit" ∷ codes "taken" ∷ codes "agreed" ∷ codes "five" ∷ codes "version" ∷ codes "ends" ∷ codes "held" ∷ codes "last_day" ∷ codes "closed" ∷ codes "closed_day" ∷ codes "amount" ∷ [])
 unfolding understood everything
 pledge_is = (refl, refl, (refl, refl))
+
+abbrev pub credit_text : List ℕ
+credit_text = codes "SELECT kind, credit, taken, agreed, version FROM pledges WHERE book = ?1 AND number = ?2"
+
+abbrev pub credit_shows : List Term
+credit_shows = col 1 5 ∷ col 1 6 ∷ col 1 7 ∷ col 1 8 ∷ col 1 10 ∷ []
+
+pub credit_is : Asks keep_schema credit_text (over_table 3 of_pledge credit_shows []) (codes "kind" ∷ codes "credit" ∷ codes "taken" ∷ codes "agreed" ∷ codes "version" ∷ [])
+unfolding understood everything
+credit_is = (refl, refl, (refl, refl))
 
 abbrev pub secrets_text : List ℕ
 secrets_text = codes "SELECT place, day, sort, secret FROM secrets WHERE book = ?1 AND number = ?2 ORDER BY place"
@@ -139,16 +149,16 @@ pub next_is : Asks keep_schema next_text (first_of_table 0 next_tests next_shows
 unfolding understood everything
 next_is = (refl, refl, (refl, refl))
 
--- the entries past one, in order
-abbrev pub more_text : List ℕ
-more_text = codes "SELECT seq, day, sort, pence FROM entries WHERE book = ?1 AND number = ?2 AND seq > ?3 ORDER BY seq LIMIT 1"
+-- the first of the entries from a number on
+abbrev pub from_text : List ℕ
+from_text = codes "SELECT seq, day, sort, pence FROM entries WHERE book = ?1 AND number = ?2 AND seq >= ?3 ORDER BY seq LIMIT 1"
 
-abbrev pub more_tests : List Term
-more_tests = is_param 1 0 ∷ is_param 2 1 ∷ op2 (Compare Gt Binary) (col 1 3) (col 0 2) ∷ []
+abbrev pub from_tests : List Term
+from_tests = is_param 1 0 ∷ is_param 2 1 ∷ op2 (Compare Ge Binary) (col 1 3) (col 0 2) ∷ []
 
-pub more_is : Asks keep_schema more_text (first_of_table 6 more_tests entries_shows (by_column 3)) (codes "seq" ∷ codes "day" ∷ codes "sort" ∷ codes "pence" ∷ [])
+pub from_is : Asks keep_schema from_text (first_of_table 6 from_tests entries_shows (by_column 3)) (codes "seq" ∷ codes "day" ∷ codes "sort" ∷ codes "pence" ∷ [])
 unfolding understood everything
-more_is = (refl, refl, (refl, refl))
+from_is = (refl, refl, (refl, refl))
 
 -- the count of rows
 abbrev pub rows_text : List ℕ

@@ -14,10 +14,10 @@ use Rattle.sqlite.specs.Ops.{binary, is_true, from_truth}
 use Rattle.sqlite_value.proofs.OrderLemmas.{value_cmp-Int}
 use Rattle.pawn_debt.specs.declared.entry.Entry.{Entry}
 use Rattle.pawn_pledge.specs.Pledge.{PledgeValue}
-use Rattle.pawn_pledge.specs.Replayable.{AreNumbered}
 use Rattle.pawn_book.specs.BookStep.{BookValue, pledge_from, pledge_in}
 use Rattle.pawn_book.specs.HostStep.{Host}
 use Rattle.pawn_book.specs.Rows.{AreNumberedFrom}
+use Rattle.pawn_tables.specs.Entries.{RiseFrom}
 use Rattle.pawn_tables.specs.Rows.{number, placed_from}
 use Rattle.pawn_tables.specs.StandsFor.{of_books, of_pledges, AreOrdered}
 pub use Rattle.pawn_tables.specs.At.{is_at, at_book, at_pledge}
@@ -185,11 +185,11 @@ placed_rise {A} f key is at (x ∷ xs) = (above (at + 1) xs (omega arith), place
     above m [] h = tt
     above m (y ∷ ys) h = ((λ i. value_cmp (is at x i) (is m y i)) ∙ less at m h, above (m + 1) ys (omega (arith, h)))
 
-pub entries_rise : (f : Entry → Row) (key : Row → Value) → ((e : Entry) → key (f e) ≡ number e.seq) → (n : ℕ) (es : List Entry) → AreNumbered n es
+pub entries_rise : (f : Entry → Row) (key : Row → Value) → ((e : Entry) → key (f e) ≡ number e.seq) → (n : ℕ) (es : List Entry) → RiseFrom n es
     → IsAscending (λ a b. value_cmp (key a) (key b) ≡ Less) (map f es)
-entries_rise f key is n [] numbered = tt
-entries_rise f key is n (e ∷ es) numbered = (above (n + 1) es (omega arith) numbered.1, entries_rise f key is (n + 1) es numbered.1)
+entries_rise f key is n [] rise = tt
+entries_rise f key is n (e ∷ es) rise = (above (e.seq + 1) es (omega arith) rise.1, entries_rise f key is (e.seq + 1) es rise.1)
   where
-    above : (m : ℕ) (ys : List Entry) → n < m → AreNumbered m ys → AllByRecursion (λ r. value_cmp (key (f e)) (key r) ≡ Less) (map f ys)
+    above : (m : ℕ) (ys : List Entry) → e.seq < m → RiseFrom m ys → AllByRecursion (λ r. value_cmp (key (f e)) (key r) ≡ Less) (map f ys)
     above m [] h at = tt
-    above m (y ∷ ys) h at = let s = numbered.0 in let s2 = at.0 in ((λ i. value_cmp (is e i) (is y i)) ∙ less e.seq y.seq (omega (arith, h, s, s2)), above (m + 1) ys (omega (arith, h)) at.1)
+    above m (y ∷ ys) h at = let low = at.0 in ((λ i. value_cmp (is e i) (is y i)) ∙ less e.seq y.seq (omega (arith, h, low)), above (y.seq + 1) ys (omega (arith, h, low)) at.1)

@@ -27,7 +27,7 @@ use Rattle.pawn_book.specs.declared.fault.KeepError.TheVariants as Keeper
 use Rattle.pawn_book.specs.declared.fault.StoreFault.TheVariants.{NoRecord, Database}
 use Rattle.pawn_book.proofs.Sounds.{each_at}
 use Rattle.pawn_tables.specs.Rows.{closed_day}
-use Rattle.pawn_tables.specs.Told.{IsRowTold, booking_of, totals_in}
+use Rattle.pawn_tables.specs.Told.{IsCreditTold, IsRowTold, booking_of, totals_in}
 use Rattle.pawn_tables.specs.StandsFor.{AreStorable}
 use Rattle.pawn_tables.specs.Finding.{Finds, IsRead}
 
@@ -162,6 +162,15 @@ module _ (h : Host) (storable : AreStorable h) (b n : ℕ) where
 
   pub row_unsound : (IfSome found IsRowTold → ⊥) → IsUnsoundAt b h
   row_unsound bad = unsound_pledge h b n (λ o. IfSome o IsRowTold) tt row_told bad
+
+-- what the row of a pledge tells of its debt
+pub credit_unsound : (h : Host) → AreStorable h → (b n : ℕ) → (IfSome (pledge_in (get h.books b) n) IsCreditTold → ⊥) → IsUnsoundAt b h
+credit_unsound h storable b n bad = unsound_pledge h b n (λ o. IfSome o IsCreditTold) tt
+    (λ k p is sound at.
+    let s = standing_of k n p sound at in
+    let low = s.replayable.last_in in
+    let high = s.within.last in
+    record { taken = (taken_of h storable b n k p is at, omega (arith, low, high)); agreed = s.within.opening.agreed }) bad
 
 -- a pledge that can't stand is of a book that is not sound
 pub standing_unsound : (h : Host) (b n : ℕ) (p : PledgeValue) → pledge_in (get h.books b) n ≡ Some p → (IsStanding p → ⊥) → IsUnsoundAt b h

@@ -6,6 +6,7 @@ use Rattle.pawn_book.specs.declared.fault.KeepError.{KeepError}
 use Rattle.pawn_book.specs.declared.fault.KeepError.TheVariants as Keeper
 use Rattle.pawn_book.specs.declared.fault.StoreFault.TheVariants.{NoRecord, Database}
 use Rattle.one_table.specs.Lending.{Rests}
+use Rattle.sqlite.specs.Effect.{Database as Tables}
 use Rattle.pawn_tables.specs.StandsFor.{StandsFor}
 
 -- P of what was read; where it was told that a row is no record, Q
@@ -28,3 +29,8 @@ Stood s h = IsTrue s.is_open → StandsFor s.now h
 abbrev pub FindsIn : {A : Type 0} → (Host → Type 0) → State → State → Result A KeepError → (Host → A → Type 0) → Type 0
 FindsIn IsUnsound old new result P =
     HasCleanDisk new → IsTrue old.in_transaction → (h : Host) → Stood old h → Finds result (λ x. P h x × Rests old new) (IsUnsound h)
+
+-- the same of each host that the tables had this to tell of
+abbrev pub FindsOf : {A : Type 0} → (Tables → Host → Type 0) → (Host → Type 0) → State → State → Result A KeepError → (Host → A → Type 0) → Type 0
+FindsOf Tell IsUnsound old new result P =
+    HasCleanDisk new → IsTrue old.in_transaction → (h : Host) → (IsTrue old.is_open → Tell old.now h) → Finds result (λ x. P h x × Rests old new) (IsUnsound h)

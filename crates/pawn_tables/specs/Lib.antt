@@ -1,4 +1,5 @@
 pub mod At
+pub mod Entries
 pub mod Finding
 pub mod Heads
 pub mod Keeps

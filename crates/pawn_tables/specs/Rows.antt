@@ -105,6 +105,12 @@ pledge_cells p =
     ∷ flag o.five_days ∷ number p.agreement.version ∷ number (end_of p) ∷ flag p.standing.held ∷ number p.standing.last
     ∷ number (closed_number p.standing.closing) ∷ or_null number (closed_day p.standing.closing) ∷ or_null number (closed_amount p.standing.closing) ∷ []
 
+-- those of them that its debt begins with
+abbrev pub credit_cells : PledgeValue → Row
+credit_cells p =
+    let o = p.agreement.opening in
+    number (kind_number o.kind) ∷ number (credit_of o.kind) ∷ number p.agreement.taken ∷ or_null number o.agreed ∷ number p.agreement.version ∷ []
+
 abbrev pub entry_cells : Entry → Row
 entry_cells e = number e.seq ∷ number e.day ∷ number (sort_number e.sort) ∷ number e.pence ∷ []
 

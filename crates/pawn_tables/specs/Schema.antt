@@ -64,6 +64,13 @@ extensions = record (keyed (codes "extensions")
     (1 ∷ 2 ∷ 3 ∷ []) ((1 ∷ 2 ∷ 3 ∷ []) ∷ []) (refers (1 ∷ 2 ∷ []) (codes "pledges") ∷ [])) { orders = plain ∷ [] }
 
 -- made in this order, the tables have the trees 0, 1, 3, 6, 8, 11, 13, 15 and 17, and the trees between are their indexes
+abbrev pub first_schema : Schema
+first_schema = created (created (created (created (created (created (created no_schema books) terms) pledges) entries) secrets) bookings) meta
+
+-- the second schema has totals beside them
+abbrev pub second_schema : Schema
+second_schema = created first_schema totals
+
+-- the third, which is the program's, has extensions too
 abbrev pub keep_schema : Schema
-keep_schema =
-    created (created (created (created (created (created (created (created (created no_schema books) terms) pledges) entries) secrets) bookings) meta) totals) extensions
+keep_schema = created second_schema extensions

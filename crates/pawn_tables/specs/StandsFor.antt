@@ -6,13 +6,14 @@ use Rattle.sqlite.specs.Tree.{Trees}
 use Rattle.sqlite.specs.Effect.{Database, IsDatabase}
 use Rattle.pawn_terms.specs.Limits.{first_day}
 use Rattle.pawn_pledge.specs.Pledge.{PledgeValue}
-use Rattle.pawn_pledge.specs.Replayable.{Each, AreNumbered}
+use Rattle.pawn_pledge.specs.Replayable.{Each}
 use Rattle.pawn_book.specs.Rows.{AreNumberedFrom, IsUnder}
 use Rattle.pawn_book.specs.Written.{IsWord, AreWords}
 use Rattle.pawn_book.specs.BookStep.{BookValue}
 use Rattle.pawn_book.specs.HostStep.{Host, rows}
 use Rattle.one_table.specs.Listing.{Holds}
 use Rattle.pawn_tables.specs.Schema.{books, terms, pledges, entries as entries_table, secrets, bookings, meta, totals, extensions, keep_schema}
+use Rattle.pawn_tables.specs.Entries.{RiseFrom}
 use Rattle.pawn_tables.specs.Meta.{meta_rows}
 use Rattle.pawn_tables.specs.Rows.{book_row, terms_listed, pledge_listed, entries_listed, secrets_listed, booking_listed, totals_listed, extensions_listed}
 
@@ -24,10 +25,10 @@ of_books h rows_of = flat_map (λ (e : ℕ × BookValue). rows_of e.0 e.1) (entr
 abbrev pub of_pledges : Host → (ℕ → PledgeValue → List Row) → List Row
 of_pledges h rows_of = of_books h (λ b k. flat_map (rows_of b) k.pledges)
 
--- What the order of rows tells of a book: its pledges are numbered 1, 2, .., the entries of each too, and the terms of each stand under its version.
+-- What the order of rows tells of a book: its pledges are numbered 1, 2, .., the numbers of each pledge's entries rise, and the terms of each stand under its version.
 pub record IsOrdered (k : BookValue) : Type 0 where
   pub pledges : AreNumberedFrom 1 k.pledges
-  pub entries : Each (λ p. AreNumbered 1 p.entries) k.pledges
+  pub entries : Each (λ p. RiseFrom 0 p.entries) k.pledges
   pub under : Each (IsUnder k.terms) k.pledges
 
 -- What rows can hold: keys and secrets of 128 bits, no pledge taken before the first day that there is, and versions of 32 bits.
@@ -43,6 +44,16 @@ AreOrdered h = (b : ℕ) (k : BookValue) → get h.books b ≡ Some k → IsOrde
 
 abbrev pub AreStorable : Host → Type 0
 AreStorable h = (b : ℕ) (k : BookValue) → get h.books b ≡ Some k → IsStorable k
+
+-- The tables of books, of terms, of pledges and of entries list the host, whatever the others hold.
+pub record ListDebts (db : Database) (h : Host) : Type 0 where
+  pub schema : db.schema ≡ keep_schema
+  pub books : Holds db.trees 0 (record books { tree = 0 }) (map (λ (e : ℕ × BookValue). book_row e.0 e.1) (entries h.books))
+  pub terms : Holds db.trees 1 (record terms { tree = 1 }) (of_books h terms_listed)
+  pub pledges : Holds db.trees 3 (record pledges { tree = 3 }) (of_pledges h pledge_listed)
+  pub entries : Holds db.trees 6 (record entries_table { tree = 6 }) (of_pledges h entries_listed)
+  pub ordered : AreOrdered h
+  pub storable : AreStorable h
 
 -- The tables list the host, and note the number of their schema, how many rows are counted, and the limit.
 pub record StandsFor (db : Database) (h : Host) : Type 0 where

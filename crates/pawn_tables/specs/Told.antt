@@ -10,6 +10,7 @@ use Rattle.pawn_pledge.specs.Text.{IsText}
 use Rattle.pawn_pledge.specs.Limits.{most_article_bytes, most_reference_bytes}
 use Rattle.pawn_pledge.specs.Pledge.{PledgeValue, end_of, debt_of}
 use Rattle.pawn_tables.specs.Rows.{closed_day}
+use Rattle.pawn_tables.specs.declared.credits.Credit.{Credit}
 use Rattle.pawn_tables.specs.declared.joining.Lists.{Lists}
 use Rattle.pawn_tables.specs.declared.joining.Sides.{Sides}
 use Rattle.pawn_tables.specs.declared.records.PledgeRow.{PledgeRow}
@@ -38,6 +39,15 @@ pub record IsRowTold (p : PledgeValue) : Type 0 where
   pub taken : IsDayNumber p.agreement.taken
   pub last : IsDayNumber p.standing.last
   pub closed : IfSome (closed_day p.standing.closing) IsDayNumber
+
+-- what the row of a pledge tells of its debt
+abbrev pub credit_told : PledgeValue → Credit
+credit_told p = record { kind = p.agreement.opening.kind; taken = p.agreement.taken; agreed = p.agreement.opening.agreed; version = p.agreement.version }
+
+-- its days are such that a request may name them
+pub record IsCreditTold (p : PledgeValue) : Type 0 where
+  pub taken : IsStampDay p.agreement.taken
+  pub agreed : IfSome p.agreement.opening.agreed IsStampDay
 
 -- the booking of a pledge
 abbrev pub booking_of : Option PledgeValue → Option Booking

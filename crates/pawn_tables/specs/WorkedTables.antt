@@ -4,6 +4,7 @@ use Rattle.std.specs.FinMap.{empty, entries, insert}
 use Rattle.sqlite.specs.declared.types.Value.{Value}
 use Rattle.sqlite.specs.declared.types.Value.TheVariants.{Null, Int, Text, Blob}
 use Rattle.pawn_terms.specs.Worked.{date}
+use Rattle.pawn_debt.specs.declared.entry.Entry.{Entry}
 use Rattle.pawn_debt.specs.declared.entry.Kind.TheVariants.{Fixed}
 use Rattle.pawn_debt.specs.declared.entry.Sort.TheVariants.{Repay}
 use Rattle.pawn_terms.specs.Terms.{rates_of}
@@ -11,9 +12,11 @@ use Rattle.pawn_pledge.specs.declared.record.BookingState.TheVariants.{Confirmed
 use Rattle.pawn_pledge.specs.declared.record.Closing.TheVariants.{Open, Redeemed}
 use Rattle.pawn_pledge.specs.declared.record.Issue.{Issue}
 use Rattle.pawn_pledge.specs.Pledge.{PledgeValue}
+use Rattle.pawn_pledge.specs.Replayable.{AreNumbered}
 use Rattle.pawn_pledge.specs.Worked.{ring, ring_opening}
 use Rattle.pawn_book.specs.BookStep.{BookValue}
 use Rattle.pawn_book.specs.HostStep.{Host, rows}
+use Rattle.pawn_tables.specs.Entries.{IsNextEntry, RiseFrom}
 use Rattle.pawn_tables.specs.Meta.{meta_rows}
 use Rattle.pawn_tables.specs.Rows.{word, book_row, terms_listed, pledge_listed, entries_listed, secrets_listed, booking_listed, totals_listed, extensions_listed, closed_number, closed_day, closed_amount}
 use Rattle.pawn_tables.specs.StandsFor.{of_books, of_pledges}
@@ -41,6 +44,10 @@ one_host = record { books = insert empty 7 one_book; limit = 1000 }
 abbrev pub n : ℕ → Value
 n number = Int (pos number)
 
+-- ten pounds repaid on 2024-01-31, under a number
+abbrev pub entry : ℕ → Entry
+entry number = record { seq = number; day = date 2024 1 31; sort = Repay; pence = 1000 }
+
 pub record WorkedTables : Type 0 where
   pub books : map (λ (e : ℕ × BookValue). book_row e.0 e.1) (entries one_host.books) ≡ (n 7 ∷ word 5 ∷ Text (codes "High Street") ∷ n 2 ∷ n 1 ∷ n 1 ∷ Null ∷ Null ∷ []) ∷ []
   pub terms : of_books one_host terms_listed ≡ (n 7 ∷ n 1 ∷ n 2667 ∷ n 0 ∷ n 0 ∷ []) ∷ []
@@ -62,5 +69,9 @@ pub record WorkedTables : Type 0 where
   pub no_entry : entries_listed 7 (ring 10000) ≡ []
   pub no_booking : booking_listed 7 (ring 10000) ≡ []
   pub no_extension : extensions_listed 7 (ring 10000) ≡ []
+  -- entries 1 and 3 are in order, though 2 is left out: rows with a gap still tell of a ring, and of one that can't be sound
+  pub gap : RiseFrom 0 (entry 1 ∷ entry 3 ∷ []) × (AreNumbered 1 (entry 1 ∷ entry 3 ∷ []) → ⊥)
+  -- the next from 2 on is entry 3
+  pub over_gap : IsNextEntry 2 (entry 1 ∷ entry 3 ∷ []) (Some (entry 3))
   -- 90 pounds are paid
   pub redeemed : (closed_number (Redeemed 19763 9000) ≡ 1) × (closed_day (Redeemed 19763 9000) ≡ Some 19763) × (closed_amount (Redeemed 19763 9000) ≡ Some 9000)

@@ -7,7 +7,8 @@ ghost use Rattle.pawn_book.specs.HostStep.{rows};
 ghost use Rattle.pawn_book.specs.Keeping.{IsNextBook, number_of, pledges_of};
 ghost use Rattle.pawn_book.specs.Sound.{HasUnsoundBook, IsUnsoundAt};
 ghost use Rattle.one_table.specs.Lending.{IsLent};
-ghost use Rattle.pawn_tables.specs.Finding.{FindsIn};
+ghost use Rattle.pawn_tables.specs.Finding.{FindsIn, FindsOf};
+ghost use Rattle.pawn_tables.specs.StandsFor.{ListDebts};
 
 use crate::heads::{first_head, first_number, only_count, only_number};
 use crate::queries::rows_of;
@@ -82,6 +83,7 @@ pub fn next_in<S: Alter>(
 ) -> Result<Option<Number>, KeepError>
     ensures same_reference { tx.new.conn.ghost_name ≡ tx.old.conn.ghost_name }
     ensures finds { FindsIn HasUnsoundBook (state S.Store tx.old.conn.now) (state S.Store tx.new.conn.now) result (λ h next. IsNextBook h above next) }
+    ensures told { FindsOf ListDebts HasUnsoundBook (state S.Store tx.old.conn.now) (state S.Store tx.new.conn.now) result (λ h next. IsNextBook h above next) }
     ensures lent { IsLent (state S.Store tx.old.conn.now) (state S.Store tx.new.conn.now) (is_ok result) }
 {
     let rows = rows_of(

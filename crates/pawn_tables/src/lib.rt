@@ -3,6 +3,7 @@
 
 mod books;
 mod cells;
+mod credits;
 mod heads;
 mod joining;
 mod laws;
@@ -18,10 +19,11 @@ mod whole;
 mod worked;
 
 pub use books::{confirmed_in, head_in, next_in, ref_in, rows_in};
+pub use credits::{Credit, credit_in};
 pub use laws::tables_stand_for_one;
 pub use line::Line;
-pub use places::{entry_in, extension_in, secret_in};
-pub use queries::booking_in;
+pub use places::{entry_in, extension_in, next_entry, secret_in};
+pub use queries::{booking_in, entries_in, terms_in};
 pub use sheets::{count_in, next_line};
 pub use whole::{pledge_of, terms_under};
 pub use worked::worked_tables;

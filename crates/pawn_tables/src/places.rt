@@ -5,6 +5,7 @@ ghost use Rattle.pawn_book.specs.BookStep.{pledge_in};
 ghost use Rattle.pawn_book.specs.Keeping.{entries_of, extensions_of, secrets_of};
 ghost use Rattle.pawn_book.specs.Sound.{IsUnsoundAt};
 ghost use Rattle.one_table.specs.Lending.{IsLent};
+ghost use Rattle.pawn_tables.specs.Entries.{IsNextEntry, with_seq};
 ghost use Rattle.pawn_tables.specs.Finding.{FindsIn};
 ghost use Rattle.pawn_tables.specs.Places.{at_place};
 
@@ -13,21 +14,40 @@ use crate::queries::rows_of;
 use pawn_book::{Entry, Extension, Issued, KeepError};
 use sqlite::{Alter, Transaction, params};
 
-/// The entry of a pledge at a place. The first place is 1.
+/// The entry of a pledge that has a number.
 pub fn entry_in<S: Alter>(
     tx: &mut Transaction<'_, S>,
     book: u32,
     number: u32,
-    place: u32,
+    seq: u32,
 ) -> Result<Option<Entry>, KeepError>
     ensures same_reference { tx.new.conn.ghost_name ≡ tx.old.conn.ghost_name }
-    ensures finds { FindsIn (IsUnsoundAt book) (state S.Store tx.old.conn.now) (state S.Store tx.new.conn.now) result (λ h x. x ≡ at_place (entries_of (pledge_in (get h.books book) number)) place) }
+    ensures finds { FindsIn (IsUnsoundAt book) (state S.Store tx.old.conn.now) (state S.Store tx.new.conn.now) result (λ h x. x ≡ with_seq (entries_of (pledge_in (get h.books book) number)) seq) }
     ensures lent { IsLent (state S.Store tx.old.conn.now) (state S.Store tx.new.conn.now) (is_ok result) }
 {
     let rows = rows_of(
         tx,
         "SELECT seq, day, sort, pence FROM entries WHERE book = ?1 AND number = ?2 AND seq = ?3",
-        params![book, number, place],
+        params![book, number, seq],
+    )?;
+    first_entry(&rows)
+}
+
+/// The first entry of a pledge from a number on.
+pub fn next_entry<S: Alter>(
+    tx: &mut Transaction<'_, S>,
+    book: u32,
+    number: u32,
+    from: u32,
+) -> Result<Option<Entry>, KeepError>
+    ensures same_reference { tx.new.conn.ghost_name ≡ tx.old.conn.ghost_name }
+    ensures finds { FindsIn (IsUnsoundAt book) (state S.Store tx.old.conn.now) (state S.Store tx.new.conn.now) result (λ h x. IsNextEntry from (entries_of (pledge_in (get h.books book) number)) x) }
+    ensures lent { IsLent (state S.Store tx.old.conn.now) (state S.Store tx.new.conn.now) (is_ok result) }
+{
+    let rows = rows_of(
+        tx,
+        "SELECT seq, day, sort, pence FROM entries WHERE book = ?1 AND number = ?2 AND seq >= ?3 ORDER BY seq LIMIT 1",
+        params![book, number, from],
     )?;
     first_entry(&rows)
 }

@@ -10,7 +10,8 @@ ghost use Rattle.pawn_book.specs.BookStep.{pledge_in};
 ghost use Rattle.pawn_book.specs.Keeping.{entries_of, extensions_of, secrets_of, terms_of};
 ghost use Rattle.pawn_book.specs.Sound.{IsUnsoundAt};
 ghost use Rattle.one_table.specs.Lending.{IsLent};
-ghost use Rattle.pawn_tables.specs.Finding.{FindsIn};
+ghost use Rattle.pawn_tables.specs.Finding.{FindsIn, FindsOf};
+ghost use Rattle.pawn_tables.specs.StandsFor.{ListDebts};
 ghost use Rattle.pawn_tables.specs.Told.{row_of, booking_of, totals_in};
 
 use crate::cells::refused;
@@ -43,7 +44,7 @@ pub(crate) fn rows_of<S: Alter>(
 }
 
 /// The entries of a pledge.
-pub(crate) fn entries_in<S: Alter>(
+pub fn entries_in<S: Alter>(
     tx: &mut Transaction<'_, S>,
     alloc: Global,
     book: u32,
@@ -51,6 +52,7 @@ pub(crate) fn entries_in<S: Alter>(
 ) -> Result<Entries, KeepError>
     ensures same_reference { tx.new.conn.ghost_name ≡ tx.old.conn.ghost_name }
     ensures finds { FindsIn (IsUnsoundAt book) (state S.Store tx.old.conn.now) (state S.Store tx.new.conn.now) result (λ h x. x ≡ entries_of (pledge_in (get h.books book) number)) }
+    ensures told { FindsOf ListDebts (IsUnsoundAt book) (state S.Store tx.old.conn.now) (state S.Store tx.new.conn.now) result (λ h x. x ≡ entries_of (pledge_in (get h.books book) number)) }
     ensures lent { IsLent (state S.Store tx.old.conn.now) (state S.Store tx.new.conn.now) (is_ok result) }
 {
     let rows = rows_of(
@@ -136,13 +138,14 @@ pub(crate) fn totals_in<S: Alter>(
 }
 
 /// The terms of a version.
-pub(crate) fn terms_in<S: Alter>(
+pub fn terms_in<S: Alter>(
     tx: &mut Transaction<'_, S>,
     book: u32,
     version: u32,
 ) -> Result<Option<Terms>, KeepError>
     ensures same_reference { tx.new.conn.ghost_name ≡ tx.old.conn.ghost_name }
     ensures finds { FindsIn (IsUnsoundAt book) (state S.Store tx.old.conn.now) (state S.Store tx.new.conn.now) result (λ h x. x ≡ terms_at (terms_of (get h.books book)) version) }
+    ensures told { FindsOf ListDebts (IsUnsoundAt book) (state S.Store tx.old.conn.now) (state S.Store tx.new.conn.now) result (λ h x. x ≡ terms_at (terms_of (get h.books book)) version) }
     ensures lent { IsLent (state S.Store tx.old.conn.now) (state S.Store tx.new.conn.now) (is_ok result) }
 {
     let rows = rows_of(

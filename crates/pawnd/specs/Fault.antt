@@ -4,10 +4,12 @@ use Rattle.pawn_opening.specs.declared.fault.OpenFault.{OpenFault}
 use Rattle.pawn_opening.specs.declared.fault.OpenFault.TheVariants as Open
 use Rattle.pawn_check.specs.declared.fault.CheckFault.{CheckFault}
 use Rattle.pawn_check.specs.declared.fault.CheckFault.TheVariants as Check
+use Rattle.pawn_move.specs.declared.fault.MoveFault.{MoveFault}
+use Rattle.pawn_move.specs.declared.fault.MoveFault.TheVariants as Move
 use Rattle.pawn_program.specs.declared.fault.SettingsFault.{SettingsFault}
 use Rattle.pawn_program.specs.declared.fault.SettingsFault.TheVariants as Said
 use Rattle.pawnd.specs.declared.fault.Fault.{Fault}
-use Rattle.pawnd.specs.declared.fault.Fault.TheVariants.{Settings, Memory, Opening, Checking}
+use Rattle.pawnd.specs.declared.fault.Fault.TheVariants.{Settings, Memory, Opening, Checking, Moving}
 
 -- the number and the name of why the words of the command line say nothing that can be done
 abbrev pub settings_line : SettingsFault → List ℕ
@@ -30,9 +32,18 @@ checking_line Check.Memory = codes "491 Memory"
 checking_line Check.Store = codes "492 Store"
 checking_line Check.Damaged = codes "513 Damaged"
 
+-- .. of why a database is not moved to the program's schema
+abbrev pub moving_line : MoveFault → List ℕ
+moving_line Move.NewerSchema = codes "511 NewerSchema"
+moving_line Move.NotOurs = codes "512 NotOurs"
+moving_line Move.Damaged = codes "513 Damaged"
+moving_line Move.Store = codes "514 Store"
+moving_line Move.Memory = codes "515 Memory"
+
 -- a fault's number and name
 abbrev pub line_of : Fault → List ℕ
 line_of (Settings why) = settings_line why
 line_of Memory = codes "491 Memory"
 line_of (Opening why) = opening_line why
 line_of (Checking why) = checking_line why
+line_of (Moving why) = moving_line why

@@ -1,4 +1,5 @@
 use pawn_check::CheckFault;
+use pawn_move::MoveFault;
 use pawn_program::SettingsFault;
 use pawn_store::OpenFault;
 use std::fmt;
@@ -14,6 +15,8 @@ pub enum Fault {
     Opening(OpenFault),
     /// A check of the database does not end with counts.
     Checking(CheckFault),
+    /// The database is not moved to the program's schema.
+    Moving(MoveFault),
 }
 
 impl fmt::Display for Fault {
@@ -37,6 +40,11 @@ impl fmt::Display for Fault {
             Fault::Checking(CheckFault::Memory) => "491 Memory",
             Fault::Checking(CheckFault::Store) => "492 Store",
             Fault::Checking(CheckFault::Damaged) => "513 Damaged",
+            Fault::Moving(MoveFault::NewerSchema) => "511 NewerSchema",
+            Fault::Moving(MoveFault::NotOurs) => "512 NotOurs",
+            Fault::Moving(MoveFault::Damaged) => "513 Damaged",
+            Fault::Moving(MoveFault::Store) => "514 Store",
+            Fault::Moving(MoveFault::Memory) => "515 Memory",
         })
     }
 }

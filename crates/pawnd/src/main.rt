@@ -1,5 +1,6 @@
 //! The program. `pawnd answer DB DAY SEED KEY` answers requests from standard input to standard output, `pawnd serve DB PORT KEY`
-//! those of its connections, and `pawnd check DB` judges and counts what a store holds.
+//! those of its connections, `pawnd migrate DB` moves an older store to the program's schema, and `pawnd check DB` judges and counts
+//! what a store holds.
 #![tactic(auto)]
 
 ghost use Rattle.std.specs.Prelude.{◌≡◌, IfOk};
@@ -7,11 +8,13 @@ ghost use Rattle.pawn_host.specs.Keeps.{service_operator};
 
 mod counts;
 mod fault;
+mod moving;
 mod stop;
 mod store;
 
 use counts::CountsLine;
 use fault::Fault;
+use moving::move_file;
 use pawn_check::check;
 use pawn_host::{Reading, Secret, Service, Writing};
 use pawn_program::{ClockStamps, ServeSettings, Settings, SettingsFault, Stamps, Words};
@@ -43,6 +46,7 @@ fn obey(rt: &HostRuntime) -> Result<(), Stop> {
     match args.next() {
         Some(command) if command.as_str() == "answer" => answer(rt, args),
         Some(command) if command.as_str() == "serve" => serve(rt, args),
+        Some(command) if command.as_str() == "migrate" => migrate(rt, args),
         Some(command) if command.as_str() == "check" => judge(rt, args),
         _ => Err(Stop::Usage),
     }
@@ -139,6 +143,18 @@ fn listen<S: Alter + Drop>(
     let mut stamps = ClockStamps::new(rt, Words::new(rng));
     serve_over_tables(&listener, service, &mut stamps, CONNECTIONS);
     Ok(())
+}
+
+// Moves a store to the program's schema, and tells which it had.
+fn migrate(rt: &HostRuntime, mut args: Args) -> Result<(), Stop> {
+    let (Some(database), None) = (args.next(), args.next()) else {
+        return Err(Stop::Usage);
+    };
+    let schemas = move_file(rt, database.as_str())?;
+    match println!(rt; "{schemas}") {
+        Ok(()) => Ok(()),
+        Err(_) => Err(Stop::Io),
+    }
 }
 
 // Judges a store, and tells what it holds.

@@ -1,33 +1,60 @@
-ghost use Rattle.std.specs.Prelude.{◌≡◌, IfOk};
+ghost use Rattle.std.specs.Prelude.{◌≡◌, ◌+◌, IfErr, IfOk};
 ghost use Rattle.std.specs.FinMap.{get};
 ghost use Rattle.sqlite.specs.Held.{state};
+ghost use Rattle.pawn_book.specs.declared.fault.KeepError.TheVariants as Keeper;
+ghost use Rattle.pawn_book.specs.declared.fault.StoreFault.TheVariants.{Database};
 ghost use Rattle.pawn_book.specs.BookStep.{pledge_in};
 ghost use Rattle.pawn_book.specs.Keeping.{Errs, Reads, entries_of, extensions_of, secrets_of};
 ghost use Rattle.pawn_book.specs.Sound.{IsUnsoundAt};
+ghost use Rattle.pawn_tables.specs.Entries.{IsNextEntry};
 ghost use Rattle.pawn_tables.specs.Keeps.{keeping_by};
 ghost use Rattle.pawn_tables.specs.Places.{at_place};
+ghost use Rattle.pawn_keeper.specs.Handing.{Hands};
 
-use super::TableKeep;
-use pawn_book::{Entry, Extension, Issued, KeepError, Number};
-use pawn_tables::{entry_in, extension_in, secret_in};
+use super::{BEYOND, TableKeep};
+use pawn_book::{Entry, Extension, Flow, Issued, KeepError, Number, Visitor};
+use pawn_tables::{extension_in, next_entry, secret_in};
 use sqlite::Alter;
 
 impl<S: Alter> TableKeep<S> {
-    // The entry of a pledge at a place.
-    pub(super) fn entry_at(
+    // The first entry of a pledge from a number on.
+    fn entry_from(
         &mut self,
         book: Number,
         number: Number,
-        place: u32,
+        from: u32,
     ) -> Result<Option<Entry>, KeepError>
-        ensures reads { Reads (keeping_by (λ k. state S.Store k.conn)) self.old self.new (λ h. IfOk result (λ x. x ≡ at_place (entries_of (pledge_in (get h.books book) number)) place)) }
+        ensures reads { Reads (keeping_by (λ k. state S.Store k.conn)) self.old self.new (λ h. IfOk result (λ x. IsNextEntry from (entries_of (pledge_in (get h.books book) number)) x)) }
         ensures errs { Errs (keeping_by (λ k. state S.Store k.conn)) self.old self.new (IsUnsoundAt book) result }
     {
         let _ = self.conn.is_autocommit();
         let mut tx = self.conn.transaction();
-        let entry = entry_in(&mut tx, book.get(), number.get(), place);
+        let entry = next_entry(&mut tx, book.get(), number.get(), from);
         tx.rollback();
         entry
+    }
+
+    // Hands the entries of a pledge to the visitor until it wants no more. Each is looked for behind the
+    // number of the one before, so a number that is left out ends nothing.
+    pub(super) fn hand_entries<V: Visitor<Entry>>(
+        &mut self,
+        book: Number,
+        number: Number,
+        visitor: &mut V,
+    ) -> Result<Flow, KeepError>
+        ensures hands { Hands (keeping_by (λ k. state S.Store k.conn)) (IsUnsoundAt book) V.step self.old self.new visitor.old visitor.new result (λ h. entries_of (pledge_in (get h.books book) number)) }
+    {
+        let mut from = 0;
+        for _ in 0..u32::MAX {
+            let Some(entry) = self.entry_from(book, number, from)? else {
+                return Ok(Flow::Go);
+            };
+            match visitor.visit(&entry) {
+                Flow::Go => from = behind(entry.seq)?,
+                Flow::Stop => return Ok(Flow::Stop),
+            }
+        }
+        Err(BEYOND)
     }
 
     // The secret of a pledge at a place.
@@ -62,5 +89,19 @@ impl<S: Alter> TableKeep<S> {
         let extension = extension_in(&mut tx, book.get(), number.get(), place);
         tx.rollback();
         extension
+    }
+}
+
+// The number behind one. There is none where 32 bits can't hold it.
+fn behind(seq: u64) -> Result<u32, KeepError>
+    ensures value { IfOk result (λ n. n ≡ seq + 1) }
+    ensures beyond { IfErr result (λ e. e ≡ Keeper.Store Database) }
+{
+    let Some(next) = seq.checked_add(1) else {
+        return Err(BEYOND);
+    };
+    match u32::try_from(next) {
+        Ok(n) => Ok(n),
+        Err(_) => Err(BEYOND),
     }
 }

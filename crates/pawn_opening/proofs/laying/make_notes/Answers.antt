@@ -1,23 +1,22 @@
 use Rattle.std.proofs.Common.{true, Ok}
-use Rattle.sqlite.specs.Change.{created}
 use Rattle.sqlite.specs.declared.error.Error.{Error}
 use Rattle.sqlite.specs.Held.{state}
 use Rattle.std.specs.Prelude.{is_ok}
-use Rattle.pawn_tables.specs.Schema.{meta, totals, extensions, keep_schema}
+use Rattle.pawn_tables.specs.Schema.{first_schema, keep_schema, meta, second_schema}
 use Rattle.pawn_opening.specs.Laying.{first_six}
 use Rattle.one_table.proofs.Lent.{lent_then}
-use Rattle.pawn_opening.proofs.Creating.{makes_one, makes_then}
-use Rattle.pawn_opening.proofs.TableTexts.{meta_text, totals_text, extensions_text, meta_is, totals_is, extensions_is}
+use Rattle.pawn_opening.proofs.Creating.{makes_extensions, makes_one, makes_then, makes_totals}
+use Rattle.pawn_opening.proofs.TableTexts.{meta_text, meta_is}
 use Rattle.pawn_opening.proofs.laying.make_notes.Goals as goal
 
 pub returns-clause-made : goal.returns-clause-made
 returns-clause-made g c =
     let a = state g.S.Store c.args.tx.now.conn.now in
     let b = state g.S.Store c.run.new.tx.conn.now in
-    let d = state g.S.Store c.run-2.new.tx.conn.now in
-    let e = state g.S.Store c.run-3.new.tx.conn.now in
+    let d = state g.S.Store c.make_totals.new.tx.conn.now in
+    let e = state g.S.Store c.make_extensions.new.tx.conn.now in
     let first = makes_one {E = Error} first_six meta_text meta meta_is a b (Ok tt) c.in_ok-run.ensures.ran in
-    let second = makes_one {E = Error} (created first_six meta) totals_text totals totals_is b d (Ok tt) c.in_ok-run-2.ensures.ran in
-    let third = makes_one {E = Error} (created (created first_six meta) totals) extensions_text extensions extensions_is d e c.run-3.result c.run-3.ensures.ran in
-    makes_then {E = Error} a d e c.run-3.result (is_ok c.run-3.result) first_six (created (created first_six meta) totals) keep_schema (lent_then a b d true c.in_ok-run.ensures.lent c.in_ok-run-2.ensures.lent) c.run-3.ensures.lent
-    (makes_then {E = Error} a b d (Ok tt) true first_six (created first_six meta) (created (created first_six meta) totals) c.in_ok-run.ensures.lent c.in_ok-run-2.ensures.lent first second) third
+    let second = makes_totals {E = Error} b d (Ok tt) c.in_ok-make_totals.ensures.made in
+    let third = makes_extensions {E = Error} d e c.make_extensions.result c.make_extensions.ensures.made in
+    makes_then {E = Error} a d e c.make_extensions.result (is_ok c.make_extensions.result) first_six second_schema keep_schema (lent_then a b d true c.in_ok-run.ensures.lent c.in_ok-make_totals.ensures.lent) c.make_extensions.ensures.lent
+    (makes_then {E = Error} a b d (Ok tt) true first_six first_schema second_schema c.in_ok-run.ensures.lent c.in_ok-make_totals.ensures.lent first second) third

@@ -1,21 +1,13 @@
-use Rattle.std.proofs.Common.{rules, subst}
 use Rattle.sqlite.specs.Held.{state}
-use Rattle.pawn_opening.specs.Refusing.{IsJudged}
-use Rattle.pawn_opening.proofs.Recognised.{judged, strange, failed}
+use Rattle.pawn_opening.proofs.Recognised.{judged, unjudged}
 use Rattle.pawn_opening.proofs.recognising.recognise.Goals as goal
 
 pub returns-in-Ok : goal.returns-in-Ok
 returns-in-Ok g c = record {
-  recognised = judged (state g.S.Store c.args.conn.now) (state g.S.Store c.query_all.new.self) (c.query_all.ensures.mode c.requires.rests) c.query_all.ensures.survives c.in-Ok.rows.items c.judge.result c.in-Ok.ensures.ok
-      (subst (λ rows. IsJudged rows c.judge.result) c.deref.ensures.value c.judge.ensures.judged);
+  recognised = judged (state g.S.Store c.args.conn.now) (state g.S.Store c.schema_noted.new.conn) c.in-Ok.noted c.judge.result c.in-Ok.ensures.tells c.judge.ensures.judged;
 }
 
 pub returns-in-Err : goal.returns-in-Err
 returns-in-Err g c = record {
-  recognised = failed (state g.S.Store c.args.conn.now) (state g.S.Store c.query_all.new.self) (c.query_all.ensures.mode c.requires.rests) c.query_all.ensures.survives (search rules) c.in-Err.error c.in-Err.ensures.err c.refused.result c.refused.ensures.store;
-}
-
-pub returns-in-Err-SqlInputError : goal.returns-in-Err-SqlInputError
-returns-in-Err-SqlInputError g c = record {
-  recognised = strange (state g.S.Store c.args.conn.now) (state g.S.Store c.query_all.new.self) (c.query_all.ensures.mode c.requires.rests) c.query_all.ensures.survives (search rules) _ c.in-Err-SqlInputError.ensures.err c.in-Err-SqlInputError.field-0-0 c.in-Err-SqlInputError.field-0-is;
+  recognised = unjudged (state g.S.Store c.args.conn.now) (state g.S.Store c.schema_noted.new.conn) c.in-Err.why c.in-Err.ensures.tells;
 }

@@ -20,5 +20,5 @@ returns-clause-finds g c clean within h stood =
     let shown = rw (c.params-to_sql.ensures, c.params-to_sql-2.ensures, c.params-to_sql-3.ensures) at (c.in_ok-rows.ensures.shown clean) in
     let plain = subst (λ s. IsPlain (understood s text.entry_text)) (sym st.schema) text.entry_is.2 in
     let rests = plain_rests text.entry_text _ old new rows within plain shown in
-    let are = c.deref.ensures.value ∙ reads.entry_shown old new h c.args.book c.args.number c.args.place rows st shown in
-    sound.told c.first_entry.result _ _ _ _ (c.first_entry.ensures.read _ are) rests (reads.entry_unsound h st.storable c.args.book c.args.number c.args.place)
+    let are = c.deref.ensures.value ∙ reads.entry_shown old new h c.args.book c.args.number c.args.seq rows st shown in
+    sound.told c.first_entry.result _ _ _ _ (c.first_entry.ensures.read _ are) rests (reads.entry_unsound h st.storable c.args.book c.args.number c.args.seq)

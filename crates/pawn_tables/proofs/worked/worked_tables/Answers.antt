@@ -49,6 +49,8 @@ returns c = record {
     no_entry = refl;
     no_booking = refl;
     no_extension = refl;
+    gap = ((omega arith, (omega arith, tt)), λ numbered. let two = numbered.1.0 in absurd (omega (arith, two)));
+    over_gap = refl;
     redeemed = (refl, refl, refl);
   };
 }

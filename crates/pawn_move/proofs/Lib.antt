@@ -1,0 +1,11 @@
+pub mod AllFilled
+pub mod Filled
+pub mod Lent
+pub mod Made
+pub mod Migrated
+pub mod Migrates
+pub mod Moved
+pub mod Owed
+pub mod Reading
+pub mod Told
+pub mod Upto

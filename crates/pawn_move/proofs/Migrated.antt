@@ -1,0 +1,77 @@
+-- A store is moved: a transaction that moves its tables, and a commit.
+use Rattle.std.proofs.Common.{◌≡◌, ◌≢◌, inl, inr, ℕ, true, false, None, Ok, Err, IsTrue, refl, sym, subst, ◌∙◌, arith}
+use Rattle.std.specs.FinMap.{get}
+use Rattle.sqlite.specs.Tree.{Trees}
+use Rattle.sqlite.specs.State.{State, HasCleanDisk, IsRolledBack, Shows, Survives}
+use Rattle.sqlite.specs.Steps.{FailsToCommit}
+use Rattle.sqlite.specs.declared.error.Error.{Error}
+use Rattle.sqlite.proofs.StateLemmas.{survives_then}
+use Rattle.pawn_book.specs.HostStep.{Host}
+use Rattle.pawn_book.specs.Sound.{HasUnsoundBook}
+use Rattle.pawn_book.specs.declared.fault.KeepError.{KeepError}
+use Rattle.pawn_book.specs.declared.fault.KeepError.TheVariants as Keeper
+use Rattle.pawn_book.specs.declared.fault.StoreFault.TheVariants.{NoRecord, Database}
+use Rattle.one_table.specs.Lending.{IsLent}
+use Rattle.pawn_opening.proofs.Begun.{IsBegun, held, opens_as, rolled_back}
+use Rattle.pawn_opening.specs.Opened.{OpensAs}
+use Rattle.pawn_tables.specs.Finding.{Finds}
+use Rattle.pawn_tables.specs.OneHost.{StandForOne}
+use Rattle.pawn_tables.specs.StandsFor.{StandsFor, HoldHost}
+use Rattle.pawn_move.proofs.Filled.{untold}
+use Rattle.pawn_move.specs.Migrating.{HoldMoved, MovesStore}
+use Rattle.pawn_move.specs.Moving.{Moves}
+use Rattle.pawn_move.specs.StandsUnder.{StandsUnder}
+
+module _ (n : ℕ) (old new begun lent : State) (was : IsBegun old begun) (ended : new.in_transaction ≡ false) where
+  -- the transaction failed, and is rolled back
+  pub not_moved_store : (e : KeepError) → IsLent begun lent false → Moves n begun lent (Err e) → (HasCleanDisk new → IsRolledBack lent new) → Survives lent new (λ _. ⊥) → MovesStore n old new (Err e)
+  not_moved_store e part moves undone after = record {
+    moved = λ clean h none st. go h e (moves (let up = after.clean in omega (arith, clean, up)) was.within h none (subst (λ d. StandsUnder n d h) (sym was.now) st));
+    err = λ clean. rolled_back old begun lent new false was part (let up = after.clean in omega (arith, clean, up)) (undone clean);
+    ended = ended;
+    survives = survives_then old begun new (λ _. ⊥) (λ _. ⊥) (HoldMoved n old) (λ clean db none. absurd none) (λ clean db none. absurd none) was.survives
+        (survives_then begun lent new (λ _. ⊥) (λ _. ⊥) (λ _. ⊥) (λ clean db none. none) (λ clean db none. none) part.survives after);
+  }
+    where
+      go : (h : Host) (x : KeepError) → Finds {A = Unit {0}} (Err x) (λ done. StandsFor lent.now h) (HasUnsoundBook h) → Finds {A = Unit {0}} (Err x) (λ done. OpensAs new h) (HasUnsoundBook h)
+      go h Keeper.Memory it = tt
+      go h (Keeper.Store NoRecord) it = it
+      go h (Keeper.Store Database) it = tt
+
+  module _ (part : IsLent begun lent true) (moves : Moves n begun lent (Ok tt)) (after : Survives lent new (λ db. db ≡ lent.now.trees)) where
+    clean_past : HasCleanDisk new → HasCleanDisk lent
+    clean_past clean = let up = after.clean in omega (arith, clean, up)
+
+    written : HasCleanDisk lent → (h : Host) → get h.books 0 ≡ None → StandsUnder n old.now h → StandsFor lent.now h
+    written clean h none st = moves clean was.within h none (subst (λ d. StandsUnder n d h) (sym was.now) st)
+
+    survived : Survives old new (HoldMoved n old)
+    survived =
+        survives_then old begun new (λ _. ⊥) (HoldMoved n old) (HoldMoved n old) (λ clean db none. absurd none) (λ clean db moved. moved) was.survives
+        (survives_then begun lent new (λ _. ⊥) (λ db. db ≡ lent.now.trees) (HoldMoved n old) (λ clean db none. absurd none)
+        (λ clean db is h none st. subst (λ ts. HoldHost ts h) (sym is) (held lent.now h (written (clean_past clean) h none st))) part.survives after)
+
+    pub moved_store : StandForOne → (HasCleanDisk new → Shows lent new lent.now lent.now false) → (IsTrue new.is_open → (trees : Trees) → new.may_leave trees → trees ≡ new.committed.trees) → MovesStore n old new (Ok tt)
+    moved_store one shows settled = record {
+      moved = λ clean h none st.
+          let s = shows clean in
+          opens_as new h one s.is_open ended (s.now_is ∙ sym s.committed_is) (settled s.is_open) (subst (λ d. StandsFor d h) (sym s.now_is) (written (clean_past clean) h none st));
+      err = λ clean. tt;
+      ended = ended;
+      survives = survived;
+    }
+
+    pub not_committed : (e : KeepError) → e ≢ Keeper.Store NoRecord → (error : Error) → (HasCleanDisk new → FailsToCommit lent new error) → MovesStore n old new (Err e)
+    not_committed e not error failed = record {
+      moved = λ clean h none st. untold e (λ done. OpensAs new h) (HasUnsoundBook h) not;
+      err = λ clean. rolled_back old begun lent new true was part (clean_past clean) (rolled clean);
+      ended = ended;
+      survives = survived;
+    }
+      where
+        rolled : HasCleanDisk new → IsRolledBack lent new
+        rolled clean = go (failed clean)
+          where
+            go : FailsToCommit lent new error → IsRolledBack lent new
+            go (inl f) = f.3
+            go (inr f) = absurd (let yes' = part.inside (clean_past clean) was.within refl in let no' = f.1 in cc)

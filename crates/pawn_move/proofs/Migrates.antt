@@ -1,0 +1,146 @@
+-- A store tells its schema, and is moved where that is an older one.
+use Rattle.std.proofs.Common.{◌≡◌, ◌==◌, ◌⊎◌, inl, inr, ℕ, Bool, true, false, Option, Some, None, Ok, Err, Result, IsTrue, refl, sym, subst, ◌∙◌, arith}
+use Rattle.std.proofs.lemmas.Bool.Decides.{nat_tests}
+use Rattle.std.specs.FinMap.{get}
+use Rattle.sqlite.specs.Tree.{Trees}
+use Rattle.sqlite.specs.State.{State, HasCleanDisk, Survives}
+use Rattle.sqlite.proofs.StateLemmas.{survives_then, survives_weaker}
+use Rattle.pawn_book.specs.BookStep.{BookValue}
+use Rattle.pawn_book.specs.HostStep.{Host}
+use Rattle.pawn_book.specs.Sound.{HasUnsoundBook}
+use Rattle.pawn_book.specs.declared.fault.KeepError.{KeepError}
+use Rattle.pawn_book.specs.declared.fault.KeepError.TheVariants as Keeper
+use Rattle.pawn_book.specs.declared.fault.StoreFault.TheVariants.{NoRecord, Database}
+use Rattle.pawn_opening.proofs.Begun.{opens_as}
+use Rattle.pawn_opening.specs.Opened.{IsAsBefore, OpensAs}
+use Rattle.pawn_tables.specs.Finding.{Finds}
+use Rattle.pawn_tables.specs.OneHost.{StandForOne}
+use Rattle.pawn_tables.specs.StandsFor.{StandsFor}
+use Rattle.pawn_move.proofs.Told.{third_is_ours}
+use Rattle.pawn_move.specs.declared.fault.MoveFault.{MoveFault}
+use Rattle.pawn_move.specs.declared.fault.MoveFault.TheVariants.{NotOurs, NewerSchema, Damaged, Store, Memory}
+use Rattle.pawn_move.specs.Migrating.{HoldMoved, HoldSameHost, IsFailure, IsMoved, IsUnmovable, Migrates, MovesStore, TellsNumber, fault_of}
+use Rattle.pawn_move.specs.StandsUnder.{IsSchema, StandsUnder}
+
+-- an older schema is the first or the second
+pub older : (n : ℕ) → IsSchema n → (n ≡ 3 → ⊥) → (n ≡ 1) ⊎ (n ≡ 2)
+older n schema not = go (n == 1) refl
+  where
+    go : (first : Bool) → (n == 1) ≡ first → (n ≡ 1) ⊎ (n ≡ 2)
+    go true is = inl (grind (arith, nat_tests, is))
+    go false is =
+        let least = schema.0 in
+        let most = schema.1 in
+        inr (grind (arith, nat_tests, is, least, most, not))
+
+-- after one call that left the store as it was, another
+then_as_before : (a b c : State) → (IsTrue b.is_open → IsAsBefore a b) → IsAsBefore b c → IsAsBefore a c
+then_as_before a b c first it = record {
+  was_open = λ now. (first (it.was_open now)).was_open (it.was_open now);
+  now = λ now. it.now now ∙ (first (it.was_open now)).now (it.was_open now);
+  committed = λ now. it.committed now ∙ (first (it.was_open now)).committed (it.was_open now);
+}
+
+-- what a crash leaves, where before the call it left the last commit
+crashed : (old new : State) → (IsTrue old.is_open → (trees : Trees) → old.may_leave trees → trees ≡ old.committed.trees) → Survives old new (HoldSameHost old.now)
+    → HasCleanDisk new → IsTrue old.is_open → (trees : Trees) → new.may_leave trees → (trees ≡ old.committed.trees) ⊎ HoldSameHost old.now trees
+crashed old new last s clean open' trees left = elim (s.crash clean trees left) [ inl before ↦ inl (last open' trees before) | inr made ↦ inr made ]
+
+module _ (s0 s1 : State) (last : IsTrue s0.is_open → (trees : Trees) → s0.may_leave trees → trees ≡ s0.committed.trees) where
+  quiet : Survives s0 s1 (λ _. ⊥) → Survives s0 s1 (HoldSameHost s0.now)
+  quiet s = survives_weaker s0 s1 (λ _. ⊥) (HoldSameHost s0.now) (λ clean trees none. absurd none) s
+
+  -- ---- a schema that is not told
+
+  failing : (n : ℕ) (h : Host) (why : MoveFault) → IsFailure why → IsMoved n h s1 (Err why)
+  failing n h NotOurs none = none
+  failing n h NewerSchema none = none
+  failing n h Damaged none = absurd none
+  failing n h Store it = tt
+  failing n h Memory it = tt
+
+  pub not_told : (why : MoveFault) → TellsNumber s0 s1 (Err why) → Migrates s0 s1 (Err why)
+  not_told why it = record {
+    found = λ clean. tt;
+    moved = λ clean n h schema none st. failing n h why (it.stands clean n h schema st);
+    refuses = it.refuses;
+    err = it.same;
+    ended = it.ended;
+    survives = quiet it.survives;
+    crash = crashed s0 s1 last (quiet it.survives);
+  }
+
+  -- ---- the program's
+
+  pub stays : StandForOne → (IsTrue s0.is_open → s0.now ≡ s0.committed) → (IsTrue s1.is_open → (trees : Trees) → s1.may_leave trees → trees ≡ s1.committed.trees) → (from : ℕ) → from ≡ 3 → TellsNumber s0 s1 (Ok from) → Migrates s0 s1 (Ok (from, 3))
+  stays one settled left from three it = record {
+    found = λ clean. ((it.ok clean).0, it.known, refl);
+    moved = λ clean n h schema none st.
+        let serves = (it.ok clean).1 in
+        let same = it.same clean in
+        let told : from ≡ n = it.stands clean n h schema st in
+        let stands : StandsFor s0.now h = third_is_ours.third s0.now h (subst (λ k. StandsUnder k s0.now h) (sym told ∙ three) st) in (
+          λ i. (told i, 3),
+          opens_as s1 h one serves it.ended (same.now serves ∙ settled (same.was_open serves) ∙ sym (same.committed serves)) (left serves) (subst (λ d. StandsFor d h) (sym (same.now serves)) stands),
+        );
+    refuses = λ clean. tt;
+    err = λ clean. tt;
+    ended = it.ended;
+    survives = quiet it.survives;
+    crash = crashed s0 s1 last (quiet it.survives);
+  }
+
+  -- ---- an older one
+
+  module _ (s2 : State) (from : ℕ) (it : TellsNumber s0 s1 (Ok from)) (r : Result (Unit {0}) KeepError) (mv : MovesStore from s1 s2 r) where
+    early : HasCleanDisk s2 → HasCleanDisk s1
+    early clean = let up = mv.survives.clean in omega (arith, clean, up)
+
+    -- the tables stand under the schema that was told still
+    on : HasCleanDisk s1 → (n : ℕ) (h : Host) → IsSchema n → StandsUnder n s0.now h → (from ≡ n) × StandsUnder from s1.now h
+    on clean n h schema st =
+        let told : from ≡ n = it.stands clean n h schema st in
+        (told, subst (λ d. StandsUnder from d h) (sym ((it.same clean).now (it.ok clean).1)) (subst (λ k. StandsUnder k s0.now h) (sym told) st))
+
+    survived : Survives s0 s2 (HoldSameHost s0.now)
+    survived = survives_then s0 s1 s2 (λ _. ⊥) (HoldMoved from s1) (HoldSameHost s0.now) (λ clean trees none. absurd none)
+        (λ clean trees held n h schema none st. held h none (on (early clean) n h schema st).1) it.survives mv.survives
+
+    moves : HasCleanDisk s2 → (n : ℕ) (h : Host) → IsSchema n → get h.books 0 ≡ None → StandsUnder n s0.now h → Finds r (λ done. OpensAs s2 h) (HasUnsoundBook h)
+    moves clean n h schema none st = mv.moved clean h none (on (early clean) n h schema st).1
+
+  pub went : (s2 : State) (from : ℕ) → TellsNumber s0 s1 (Ok from) → MovesStore from s1 s2 (Ok tt) → Migrates s0 s2 (Ok (from, 3))
+  went s2 from it mv = record {
+    found = λ clean. ((it.ok (early s2 from it (Ok tt) mv clean)).0, it.known, refl);
+    moved = λ clean n h schema none st. let told = (on s2 from it (Ok tt) mv (early s2 from it (Ok tt) mv clean) n h schema st).0 in (λ i. (told i, 3), moves s2 from it (Ok tt) mv clean n h schema none st);
+    refuses = λ clean. tt;
+    err = λ clean. tt;
+    ended = mv.ended;
+    survives = survived s2 from it (Ok tt) mv;
+    crash = crashed s0 s2 last (survived s2 from it (Ok tt) mv);
+  }
+
+  pub failed : (s2 : State) (from : ℕ) (e : KeepError) → TellsNumber s0 s1 (Ok from) → MovesStore from s1 s2 (Err e) → Migrates s0 s2 (Err (fault_of e))
+  failed s2 from e it mv = record {
+    found = λ clean. tt;
+    moved = λ clean n h schema none st. unmoved n h e (moves s2 from it (Err e) mv clean n h schema none st);
+    refuses = λ clean. refuses e (λ n h schema none st. moves s2 from it (Err e) mv clean n h schema none st);
+    err = λ clean. then_as_before s0 s1 s2 (λ now. it.same (early s2 from it (Err e) mv clean)) (mv.err clean);
+    ended = mv.ended;
+    survives = survived s2 from it (Err e) mv;
+    crash = crashed s0 s2 last (survived s2 from it (Err e) mv);
+  }
+    where
+      unmoved : (n : ℕ) (h : Host) (x : KeepError) → Finds {A = Unit {0}} (Err x) (λ done. OpensAs s2 h) (HasUnsoundBook h) → IsMoved n h s2 (Err (fault_of x))
+      unmoved n h Keeper.Memory it = tt
+      unmoved n h (Keeper.Store NoRecord) it = it
+      unmoved n h (Keeper.Store Database) it = tt
+
+      no_sound : (h : Host) (o : Option BookValue) → get h.books 0 ≡ o → (get h.books 0 ≡ None → HasUnsoundBook h) → HasUnsoundBook h
+      no_sound h None at found = found at
+      no_sound h (Some k) at found = (0, (k, at, λ sound. absurd (let least = sound.0.0 in omega (arith, least))))
+
+      refuses : (x : KeepError) → ((n : ℕ) (h : Host) → IsSchema n → get h.books 0 ≡ None → StandsUnder n s0.now h → Finds {A = Unit {0}} (Err x) (λ done. OpensAs s2 h) (HasUnsoundBook h)) → IsUnmovable s0.now (fault_of x)
+      refuses Keeper.Memory it = tt
+      refuses (Keeper.Store NoRecord) it = λ n h schema st. no_sound h (get h.books 0) refl (λ none. it n h schema none st)
+      refuses (Keeper.Store Database) it = tt

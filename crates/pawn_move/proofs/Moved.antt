@@ -1,0 +1,122 @@
+-- Tables of an older schema, moved to the program's.
+use Rattle.std.proofs.Common.{◌≡◌, ◌++◌, ℕ, List, [], Some, Result, Ok, Err, Bool, true, false, IsTrue, refl, sym, ap, subst, ◌∙◌, arith, append-nil}
+use Rattle.std.proofs.Common.{T, flat_map, ◌∷◌}
+use Rattle.std.specs.FinMap.{entries, entries_sorted, get-entries, is_sorted, find as find_key}
+use Rattle.std.specs.Ordering.{nat_cmp}
+use Rattle.std.specs.Prelude.{◌≢◌}
+use Rattle.pawn_pledge.specs.Pledge.{PledgeValue}
+use Rattle.pawn_pledge.specs.Replayable.{Each}
+use Rattle.pawn_book.specs.BookStep.{BookValue}
+use Rattle.pawn_tables.specs.Schema.{extensions, first_schema, second_schema}
+use Rattle.pawn_tables.specs.Rows.{extension_cells, extensions_listed, number_of, placed_from, under}
+use Rattle.one_table.specs.Listing.{Holds}
+use Rattle.pawn_move.proofs.Filled.{untold}
+use Rattle.pawn_move.proofs.Upto.{Entry, below_key, here_found, low, past_head}
+use Rattle.sqlite.specs.Order.{Row}
+use Rattle.sqlite.specs.Effect.{Database as Tables}
+use Rattle.sqlite.specs.State.{State, HasCleanDisk}
+use Rattle.pawn_book.specs.HostStep.{Host}
+use Rattle.pawn_book.specs.Sound.{HasUnsoundBook}
+use Rattle.pawn_book.specs.declared.fault.KeepError.{KeepError}
+use Rattle.pawn_book.specs.declared.fault.KeepError.TheVariants as Keeper
+use Rattle.pawn_book.specs.declared.fault.StoreFault.TheVariants.{NoRecord, Database}
+use Rattle.one_table.specs.Lending.{IsLent}
+use Rattle.one_table.specs.Listing.{Lists, with_rows}
+use Rattle.one_table.proofs.Lent.{clean_before}
+use Rattle.pawn_saving.specs.Writing.{IsCarried}
+use Rattle.pawn_saving.proofs.Tailing.{past}
+use Rattle.pawn_tables.specs.Finding.{Finds}
+use Rattle.pawn_tables.specs.Rows.{totals_listed}
+use Rattle.pawn_tables.specs.Schema.{keep_schema}
+use Rattle.pawn_tables.specs.StandsFor.{StandsFor, of_pledges}
+use Rattle.pawn_opening.specs.Laying.{AddsTable}
+use Rattle.pawn_move.specs.Moving.{IsMoving, Moves, NotesProgram, PutsAll, listed_with}
+use Rattle.pawn_move.specs.StandsUnder.{HasNoExtension, StandsUnder}
+
+-- ---- what the tables list
+
+first_lists : (db : Tables) (h : Host) → StandsUnder 1 db h → Lists first_schema db (listed_with 1 [] h)
+first_lists db h st = record { schema_is = st.lists.schema_is; sound = st.lists.sound; tables = st.lists.tables }
+
+second_lists : (db : Tables) (h : Host) → StandsUnder 2 db h → Lists second_schema db (listed_with 2 (of_pledges h totals_listed) h)
+second_lists db h st = record { schema_is = st.lists.schema_is; sound = st.lists.sound; tables = st.lists.tables }
+
+-- ---- a host without extensions has no rows of them
+
+none_of_pledges : (b : ℕ) (ps : List PledgeValue) → Each (λ p. p.extensions ≡ []) ps → flat_map (extensions_listed b) ps ≡ []
+none_of_pledges b [] none = refl
+none_of_pledges b (p ∷ ps) none =
+    ap (λ es. placed_from (λ place e. under b (number_of p) (extension_cells place e)) 1 es ++ flat_map (extensions_listed b) ps) none.0 ∙ none_of_pledges b ps none.1
+
+none_of_books : (f : ℕ → BookValue → List Row) (es : List Entry) → T (is_sorted nat_cmp es) → ((c : ℕ) (x : BookValue) → find_key nat_cmp c es ≡ Some x → f c x ≡ []) → flat_map (λ (e : Entry). f e.0 e.1) es ≡ []
+none_of_books f [] sorted none = refl
+none_of_books f (e ∷ es) sorted none =
+    ap (λ l. l ++ flat_map (λ (e : Entry). f e.0 e.1) es) (none e.0 e.1 (here_found e es))
+    ∙ none_of_books f es (low _ _ sorted).1 (λ c x there. let behind = below_key e.0 es (low _ _ sorted).0 c x there in none c x (past_head e es c (λ same. absurd (omega (arith, same, behind))) ∙ there))
+
+no_rows : (h : Host) → HasNoExtension h → of_pledges h extensions_listed ≡ []
+no_rows h none = none_of_books (λ b k. flat_map (extensions_listed b) k.pledges) (entries h.books) (entries_sorted h.books) (λ c x there. none_of_pledges c x.pledges (none c x (get-entries h.books c ∙ there)))
+
+-- ---- tables that were moved stand for the host
+
+pub stands : (db : Tables) (h : Host) → IsMoving 3 (of_pledges h totals_listed) db h → StandsFor db h
+stands db h m = record {
+  schema = m.lists.schema_is;
+  sound = m.lists.sound;
+  books = m.lists.tables.0;
+  terms = m.lists.tables.1.0;
+  pledges = m.lists.tables.1.1.0;
+  entries = m.lists.tables.1.1.1.0;
+  secrets = m.lists.tables.1.1.1.1.0;
+  bookings = m.lists.tables.1.1.1.1.1.0;
+  meta = m.lists.tables.1.1.1.1.1.1.0;
+  totals = m.lists.tables.1.1.1.1.1.1.1.0;
+  extensions = subst (Holds db.trees 17 (record extensions { tree = 17 })) (sym (no_rows h m.unextended)) m.lists.tables.1.1.1.1.1.1.1.1.0;
+  ordered = m.ordered;
+  storable = m.storable;
+}
+
+-- ---- what the last statement leaves
+
+noted : (old new : State) (n : ℕ) (r : Result (Unit {0}) KeepError) (h : Host) → r ≢ Err (Keeper.Store NoRecord) → HasCleanDisk new → IsTrue old.in_transaction → NotesProgram old new r → IsMoving n (of_pledges h totals_listed) old.now h
+    → Finds r (λ done. StandsFor new.now h) (HasUnsoundBook h)
+noted old new n (Ok done) h not clean within notes m = stands new.now h (notes clean within n (of_pledges h totals_listed) h m)
+noted old new n (Err e) h not clean within notes m = untold e (λ done. StandsFor new.now h) (HasUnsoundBook h) (λ same. not (ap Err same))
+
+-- ---- from the first schema
+
+module _ (s0 s1 s2 : State) (l1 : IsLent s0 s1 true) (l2 : IsLent s1 s2 true) (made1 : AddsTable {E = KeepError} s0 s1 (Ok tt) first_schema second_schema 15) (made2 : AddsTable {E = KeepError} s1 s2 (Ok tt) second_schema keep_schema 17) where
+  made_first : HasCleanDisk s2 → IsTrue s0.in_transaction → (h : Host) → StandsUnder 1 s0.now h → IsMoving 1 [] s2.now h × IsTrue s2.in_transaction
+  made_first clean within h st =
+      let clean1 = clean_before s1 s2 true l2 clean in
+      let within1 = l1.inside clean1 within refl in
+      let a = made1 clean1 within (listed_with 1 [] h) (first_lists s0.now h st) in
+      let b = made2 clean within1 (with_rows (listed_with 1 [] h) 15 []) a in
+      (record { lists = record { schema_is = b.schema_is; sound = b.sound; tables = b.tables }; ordered = st.ordered; storable = st.storable; unextended = st.unextended (omega arith) }, l2.inside clean within1 refl)
+
+  pub first_not_put : (s3 : State) (e : KeepError) → IsCarried s2 s3 false → PutsAll s2 s3 (Err e) → Moves 1 s0 s3 (Err e)
+  first_not_put s3 e carried puts clean within h none st =
+      let mid = made_first (past s2 s3 false carried clean) within h st in
+      go e (puts clean mid.1 1 [] h none mid.0)
+    where
+      go : (x : KeepError) → Finds {A = Unit {0}} (Err x) (λ done. IsMoving 1 (of_pledges h totals_listed ++ []) s3.now h) (HasUnsoundBook h) → Finds {A = Unit {0}} (Err x) (λ done. StandsFor s3.now h) (HasUnsoundBook h)
+      go Keeper.Memory it = tt
+      go (Keeper.Store NoRecord) it = it
+      go (Keeper.Store Database) it = tt
+
+  pub first_moved : (s3 s4 : State) (r : Result (Unit {0}) KeepError) (ok : Bool) → IsCarried s2 s3 true → IsLent s3 s4 ok → PutsAll s2 s3 (Ok tt) → r ≢ Err (Keeper.Store NoRecord) → NotesProgram s3 s4 r → Moves 1 s0 s4 r
+  first_moved s3 s4 r ok carried l4 puts not notes clean within h none st =
+      let clean3 = clean_before s3 s4 ok l4 clean in
+      let mid = made_first (past s2 s3 true carried clean3) within h st in
+      let put = puts clean3 mid.1 1 [] h none mid.0 in
+      noted s3 s4 1 r h not clean (carried.inside clean3 mid.1 refl) notes (subst (λ rows. IsMoving 1 rows s3.now h) (append-nil _) put)
+
+-- ---- from the second
+
+pub second_moved : (s0 s1 s2 : State) (r : Result (Unit {0}) KeepError) (ok : Bool) → IsLent s0 s1 true → IsLent s1 s2 ok → AddsTable {E = KeepError} s0 s1 (Ok tt) second_schema keep_schema 17 → r ≢ Err (Keeper.Store NoRecord) → NotesProgram s1 s2 r → Moves 2 s0 s2 r
+second_moved s0 s1 s2 r ok l1 l2 made not notes clean within h none st =
+    let clean1 = clean_before s1 s2 ok l2 clean in
+    let b = made clean1 within (listed_with 2 (of_pledges h totals_listed) h) (second_lists s0.now h st) in
+    let m : IsMoving 2 (of_pledges h totals_listed) s1.now h =
+    record { lists = record { schema_is = b.schema_is; sound = b.sound; tables = b.tables }; ordered = st.ordered; storable = st.storable; unextended = st.unextended (omega arith) } in
+    noted s1 s2 2 r h not clean (l1.inside clean1 within refl) notes m

@@ -1,0 +1,133 @@
+-- Tables that stand for a host under a schema note its number, and it is told.
+use Rattle.std.proofs.Common.{◌≡◌, ◌==◌, inl, inr, ℕ, Bool, true, false, Option, Some, None, Ok, Err, Result, IsTrue, refl, sym, subst, ◌∙◌, arith}
+use Rattle.std.specs.Prelude.{if◌then◌else◌, IfErr, IfOk, IfSome}
+use Rattle.sqlite.specs.Effect.{Database}
+use Rattle.sqlite.specs.Listing.{understood}
+use Rattle.sqlite.specs.State.{State}
+use Rattle.sqlite_tied.specs.Compute.{everything}
+use Rattle.pawn_book.specs.HostStep.{Host, rows}
+use Rattle.one_table.specs.Listing.{Holds, Lists}
+use Rattle.pawn_opening.specs.declared.fault.OpenFault.{OpenFault}
+use Rattle.pawn_opening.specs.Opened.{TellsSchema}
+use Rattle.pawn_opening.specs.Refusing.{IsNoted, NotesNoSchema, NotesSchema}
+use Rattle.pawn_opening.proofs.Ours as ours
+use Rattle.pawn_saving.proofs.Hosting.{as_lists, as_stands}
+use Rattle.pawn_tables.specs.Meta.{notes}
+use Rattle.pawn_tables.specs.Schema.{first_schema, second_schema, keep_schema, meta}
+use Rattle.pawn_move.specs.declared.fault.MoveFault.{MoveFault}
+use Rattle.pawn_move.specs.declared.fault.MoveFault.TheVariants.{NotOurs, NewerSchema, Damaged, Store, Memory}
+use Rattle.pawn_move.specs.Migrating.{IsFailure, IsNumberJudged, IsTold, IsUnmovable, TellsNumber}
+use Rattle.pawn_move.specs.StandsUnder.{IsSchema, StandsUnder, ThirdIsOurs, listed_under, schema_numbered}
+
+-- ---- the third schema is the program's
+
+pub third_is_ours : ThirdIsOurs
+third_is_ours = record {
+  ours = λ db h st. record {
+    lists = record { schema_is = st.schema; sound = st.sound; tables = (as_lists db h st).tables };
+    unextended = λ below. absurd (omega (arith, below));
+    ordered = st.ordered;
+    storable = st.storable;
+  };
+  third = λ db h st. as_stands db h (record { schema_is = st.lists.schema_is; sound = st.lists.sound; tables = st.lists.tables }) st.ordered st.storable;
+}
+
+-- ---- the number is noted
+
+asks_first : ours.AsksMeta first_schema
+unfolding understood everything
+asks_first = (refl, refl, (refl, refl))
+
+asks_second : ours.AsksMeta second_schema
+unfolding understood everything
+asks_second = (refl, refl, (refl, refl))
+
+asks : (first second : Bool) → ours.AsksMeta (if first then first_schema else if second then second_schema else keep_schema)
+asks true second = asks_first
+asks false true = asks_second
+asks false false = ours.schema_is
+
+meta_held : (first second : Bool) (n : ℕ) (db : Database) (h : Host) → Lists (if first then first_schema else if second then second_schema else keep_schema) db (listed_under n h) → Holds db.trees 13 (record meta { tree = 13 }) (notes n (rows h) h.limit)
+meta_held true second n db h l = l.tables.1.1.1.1.1.1.0
+meta_held false true n db h l = l.tables.1.1.1.1.1.1.0
+meta_held false false n db h l = l.tables.1.1.1.1.1.1.0
+
+module _ (n : ℕ) (db : Database) (h : Host) (st : StandsUnder n db h) where
+  pub only_number : (m : ℕ) → NotesSchema db m → m ≡ n
+  only_number = ours.only_number db (schema_numbered n) (asks (n == 1) (n == 2)) n (rows h) h.limit st.lists.schema_is (meta_held (n == 1) (n == 2) n db h st.lists)
+
+  pub notes_some : NotesNoSchema db → ⊥
+  notes_some = ours.notes_some db (schema_numbered n) (asks (n == 1) (n == 2)) n (rows h) h.limit st.lists.schema_is (meta_held (n == 1) (n == 2) n db h st.lists)
+
+-- ---- and told
+
+module _ (old new : State) where
+  accepted : (r : Result ℕ MoveFault) (o : Option ℕ) → IsNumberJudged o r → IsNoted old.now o → IfSome o (λ n. IsTrue new.is_open) → IfOk r (λ n. NotesSchema old.now n × IsTrue new.is_open)
+  accepted (Err why) o v is serves = tt
+  accepted (Ok n) None v is serves = absurd (let e = v.0 in cc)
+  accepted (Ok n) (Some m) v is serves = let same : m ≡ n = (let e = v.0 in cc) in (subst (NotesSchema old.now) same is, serves)
+
+  known : (r : Result ℕ MoveFault) (o : Option ℕ) → IsNumberJudged o r → IfOk r IsSchema
+  known (Ok n) o v = v.1
+  known (Err why) o v = tt
+
+  standing : (n : ℕ) (h : Host) → IsSchema n → StandsUnder n old.now h → (r : Result ℕ MoveFault) (o : Option ℕ) → IsNumberJudged o r → IsNoted old.now o → IsTold n r
+  standing n h schema st (Ok m) None v is = absurd (let e = v.0 in cc)
+  standing n h schema st (Ok m) (Some k) v is = let same : k ≡ m = (let e = v.0 in cc) in sym same ∙ only_number n old.now h st k is
+  standing n h schema st (Err NotOurs) None v is = notes_some n old.now h st is
+  standing n h schema st (Err NotOurs) (Some k) (inl none) is = absurd (let e = none in cc)
+  standing n h schema st (Err NotOurs) (Some k) (inr zero') is =
+      let same : k ≡ 0 = (let e = zero' in cc) in
+      let only = only_number n old.now h st k is in
+      let least = schema.0 in
+      absurd (omega (arith, same, only, least))
+  standing n h schema st (Err NewerSchema) None v is = absurd (let e = v.1 in cc)
+  standing n h schema st (Err NewerSchema) (Some k) v is =
+      let same : k ≡ v.0 = (let e = v.1 in cc) in
+      let far = v.2 in
+      let only = only_number n old.now h st k is in
+      let most = schema.1 in
+      absurd (omega (arith, same, far, only, most))
+  standing n h schema st (Err Damaged) o v is = v
+  standing n h schema st (Err Store) o v is = tt
+  standing n h schema st (Err Memory) o v is = tt
+
+  refused : (r : Result ℕ MoveFault) (o : Option ℕ) → IsNumberJudged o r → IsNoted old.now o → IfErr r (IsUnmovable old.now)
+  refused (Ok n) o v is = tt
+  refused (Err NotOurs) None v is = inl is
+  refused (Err NotOurs) (Some k) (inl none) is = absurd (let e = none in cc)
+  refused (Err NotOurs) (Some k) (inr zero') is = let same : k ≡ 0 = (let e = zero' in cc) in inr (subst (NotesSchema old.now) same is)
+  refused (Err NewerSchema) None v is = absurd (let e = v.1 in cc)
+  refused (Err NewerSchema) (Some k) v is = let same : k ≡ v.0 = (let e = v.1 in cc) in (v.0, subst (NotesSchema old.now) same is, v.2)
+  refused (Err Damaged) o v is = absurd v
+  refused (Err Store) o v is = tt
+  refused (Err Memory) o v is = tt
+
+  pub told : (noted : Option ℕ) (r : Result ℕ MoveFault) → TellsSchema old new (Ok noted) → IsNumberJudged noted r → TellsNumber old new r
+  told noted r it verdict = record {
+    known = known r noted verdict;
+    ok = λ clean. accepted r noted verdict (it.ok clean) (it.serves clean);
+    stands = λ clean n h schema st. standing n h schema st r noted verdict (it.ok clean);
+    refuses = λ clean. refused r noted verdict (it.ok clean);
+    same = it.same;
+    ended = it.ended;
+    survives = it.survives;
+  }
+
+  unmovable : (why : MoveFault) → IsFailure why → IsUnmovable old.now why
+  unmovable NotOurs none = absurd none
+  unmovable NewerSchema none = absurd none
+  unmovable Damaged none = absurd none
+  unmovable Store it = tt
+  unmovable Memory it = tt
+
+  pub not_told : (cause : OpenFault) (why : MoveFault) → TellsSchema old new (Err cause) → IsFailure why → TellsNumber old new (Err why)
+  not_told cause why it failure = record {
+    known = tt;
+    ok = λ clean. tt;
+    stands = λ clean n h schema st. failure;
+    refuses = λ clean. unmovable why failure;
+    same = it.same;
+    ended = it.ended;
+    survives = it.survives;
+  }

@@ -1,0 +1,5 @@
+use Rattle.pawn_move.proofs.Told.{third_is_ours}
+use Rattle.pawn_move.proofs.laws.the_third_is_ours.Goals as goal
+
+pub returns : goal.returns
+returns c = record { law = third_is_ours }

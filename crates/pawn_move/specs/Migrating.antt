@@ -1,0 +1,114 @@
+-- Stores whose schema is told, and that are moved to the program's.
+use Rattle.std.specs.Prelude.{◌≡◌, ◌⊎◌, ◌<◌, false, ℕ, Option, Some, None, IsTrue, Result, Ok, Err, IfErr, IfOk, OnErr}
+use Rattle.std.specs.FinMap.{get}
+use Rattle.sqlite.specs.Effect.{Database as Tables}
+use Rattle.sqlite.specs.Tree.{Trees}
+use Rattle.sqlite.specs.State.{State, HasCleanDisk, Survives}
+use Rattle.pawn_book.specs.HostStep.{Host}
+use Rattle.pawn_book.specs.Sound.{HasUnsoundBook}
+use Rattle.pawn_book.specs.declared.fault.KeepError.{KeepError}
+use Rattle.pawn_book.specs.declared.fault.KeepError.TheVariants as Keeper
+use Rattle.pawn_book.specs.declared.fault.StoreFault.TheVariants.{NoRecord, Database}
+use Rattle.pawn_opening.specs.Opened.{IsAsBefore, OpensAs}
+use Rattle.pawn_opening.specs.Refusing.{NotesNoSchema, NotesSchema}
+use Rattle.pawn_tables.specs.Finding.{Finds}
+use Rattle.pawn_tables.specs.StandsFor.{HoldHost}
+use Rattle.pawn_move.specs.declared.fault.MoveFault.{MoveFault}
+use Rattle.pawn_move.specs.declared.fault.MoveFault.TheVariants.{NotOurs, NewerSchema, Damaged, Store, Memory}
+use Rattle.pawn_move.specs.StandsUnder.{IsSchema, StandsUnder}
+
+-- ---- why a store is not moved
+
+-- each host that the tables stand for, under whichever schema, has a book that is not sound
+abbrev pub StandsForNoSound : Tables → Type 0
+StandsForNoSound db = (n : ℕ) (h : Host) → IsSchema n → StandsUnder n db h → HasUnsoundBook h
+
+-- a store is refused as another's, as a newer one, or as damaged only where it is
+abbrev pub IsUnmovable : Tables → MoveFault → Type 0
+IsUnmovable db NotOurs = NotesNoSchema db ⊎ NotesSchema db 0
+IsUnmovable db NewerSchema = (n : ℕ) × NotesSchema db n × (3 < n)
+IsUnmovable db Damaged = StandsForNoSound db
+IsUnmovable db Store = Unit {0}
+IsUnmovable db Memory = Unit {0}
+
+-- the store failed, and nothing is said of what it holds
+abbrev pub IsFailure : MoveFault → Type 0
+IsFailure NotOurs = ⊥
+IsFailure NewerSchema = ⊥
+IsFailure Damaged = ⊥
+IsFailure Store = Unit {0}
+IsFailure Memory = Unit {0}
+
+-- what is told where the transaction failed
+abbrev pub fault_of : KeepError → MoveFault
+fault_of Keeper.Memory = Memory
+fault_of (Keeper.Store NoRecord) = Damaged
+fault_of (Keeper.Store Database) = Store
+
+-- ---- the schema that is told
+
+-- of tables that stand for a host under a schema, its number is told, unless the store failed
+abbrev pub IsTold : ℕ → Result ℕ MoveFault → Type 0
+IsTold n (Ok m) = m ≡ n
+IsTold n (Err why) = IsFailure why
+
+-- what is made of the number that a store notes
+abbrev pub IsNumberJudged : Option ℕ → Result ℕ MoveFault → Type 0
+IsNumberJudged noted (Ok n) = (noted ≡ Some n) × IsSchema n
+IsNumberJudged noted (Err NotOurs) = (noted ≡ None) ⊎ (noted ≡ Some 0)
+IsNumberJudged noted (Err NewerSchema) = (n : ℕ) × (noted ≡ Some n) × (3 < n)
+IsNumberJudged noted (Err Damaged) = ⊥
+IsNumberJudged noted (Err Store) = ⊥
+IsNumberJudged noted (Err Memory) = ⊥
+
+-- a store tells the number of its schema, and is left as it was
+pub record TellsNumber (old new : State) (result : Result ℕ MoveFault) : Type 0 where
+  pub known : IfOk result IsSchema
+  pub ok : HasCleanDisk new → IfOk result (λ n. NotesSchema old.now n × IsTrue new.is_open)
+  pub stands : HasCleanDisk new → (n : ℕ) (h : Host) → IsSchema n → StandsUnder n old.now h → IsTold n result
+  pub refuses : HasCleanDisk new → IfErr result (IsUnmovable old.now)
+  pub same : HasCleanDisk new → IsAsBefore old new
+  pub ended : new.in_transaction ≡ false
+  pub survives : Survives old new (λ _. ⊥)
+
+-- ---- the store that is moved
+
+-- of tables that stand for a host under schema n: the store is open, with nothing pending, for the same host under the program's, and
+-- n and 3 are told; or the store failed, or the host has a book that is not sound
+abbrev pub IsMoved : ℕ → Host → State → Result (ℕ × ℕ) MoveFault → Type 0
+IsMoved n h new (Ok told) = (told ≡ (n, 3)) × OpensAs new h
+IsMoved n h new (Err NotOurs) = ⊥
+IsMoved n h new (Err NewerSchema) = ⊥
+IsMoved n h new (Err Damaged) = HasUnsoundBook h
+IsMoved n h new (Err Store) = Unit {0}
+IsMoved n h new (Err Memory) = Unit {0}
+
+-- the trees stand under the program's schema for each host that the old tables stood for, whatever their schema was
+abbrev pub HoldSameHost : Tables → Trees → Type 0
+HoldSameHost old trees = (n : ℕ) (h : Host) → IsSchema n → get h.books 0 ≡ None → StandsUnder n old h → HoldHost trees h
+
+-- A store of schema 1, 2 or 3 is moved to 3, in one transaction: then it is open, with nothing pending, for the host that its tables
+-- stood for, of which no book has the number 0. Else it is as it was. A crash leaves the old tables or the new ones.
+pub record Migrates (old new : State) (result : Result (ℕ × ℕ) MoveFault) : Type 0 where
+  pub found : HasCleanDisk new → IfOk result (λ told. NotesSchema old.now told.0 × IsSchema told.0 × (told.1 ≡ 3))
+  pub moved : HasCleanDisk new → (n : ℕ) (h : Host) → IsSchema n → get h.books 0 ≡ None → StandsUnder n old.now h → IsMoved n h new result
+  pub refuses : HasCleanDisk new → IfErr result (IsUnmovable old.now)
+  pub err : HasCleanDisk new → OnErr result (IsAsBefore old new)
+  pub ended : new.in_transaction ≡ false
+  pub survives : Survives old new (HoldSameHost old.now)
+  -- a crash leaves the last commit, or tables of the program's schema for the same host
+  pub crash : HasCleanDisk new → IsTrue old.is_open → (trees : Trees) → new.may_leave trees → (trees ≡ old.committed.trees) ⊎ HoldSameHost old.now trees
+
+-- ---- the transaction
+
+-- a crash leaves the program's tables, for each host that the tables of this schema stood for
+abbrev pub HoldMoved : ℕ → State → Trees → Type 0
+HoldMoved n old trees = (h : Host) → get h.books 0 ≡ None → StandsUnder n old.now h → HoldHost trees h
+
+-- A store of this schema is moved, in one transaction: then it is open, with nothing pending, for the host that its tables stood for.
+-- Else it is as it was; a row is no record only of a host with a book that is not sound. A crash leaves the old tables or the new ones.
+pub record MovesStore (n : ℕ) (old new : State) (result : Result (Unit {0}) KeepError) : Type 0 where
+  pub moved : HasCleanDisk new → (h : Host) → get h.books 0 ≡ None → StandsUnder n old.now h → Finds result (λ done. OpensAs new h) (HasUnsoundBook h)
+  pub err : HasCleanDisk new → OnErr result (IsAsBefore old new)
+  pub ended : new.in_transaction ≡ false
+  pub survives : Survives old new (HoldMoved n old)

@@ -1,0 +1,62 @@
+-- Tables on their way from an older schema.
+use Rattle.std.specs.Prelude.{◌≡◌, ◌++◌, ℕ, [], List, OnOk, Option, Some, None, IsTrue, Result, flat_map}
+use Rattle.std.specs.FinMap.{get}
+use Rattle.sqlite.specs.Order.{Row}
+use Rattle.sqlite.specs.Effect.{Database as Tables}
+use Rattle.sqlite.specs.State.{State, HasCleanDisk}
+use Rattle.pawn_book.specs.HostStep.{Host}
+use Rattle.pawn_book.specs.Keeping.{pledges_of}
+use Rattle.pawn_book.specs.Sound.{HasUnsoundBook}
+use Rattle.pawn_book.specs.declared.fault.KeepError.{KeepError}
+use Rattle.one_table.specs.Listing.{Lists, Listed, with_rows}
+use Rattle.pawn_tables.specs.Finding.{Finds}
+use Rattle.pawn_tables.specs.Rows.{totals_listed}
+use Rattle.pawn_tables.specs.Schema.{keep_schema}
+use Rattle.pawn_tables.specs.StandsFor.{AreOrdered, AreStorable, ListDebts, StandsFor, of_pledges}
+use Rattle.pawn_move.specs.StandsUnder.{HasNoExtension, StandsUnder, listed_under}
+
+-- the rows of a host, where this number of a schema is noted, these rows of totals stand, and none of extensions
+abbrev pub listed_with : ℕ → List Row → Host → Listed
+listed_with n owed h = with_rows (with_rows (listed_under n h) 15 owed) 17 []
+
+-- the program's tables list a host without extensions, but for its totals and the number of the schema
+pub record IsMoving (n : ℕ) (owed : List Row) (db : Tables) (h : Host) : Type 0 where
+  pub lists : Lists keep_schema db (listed_with n owed h)
+  pub ordered : AreOrdered h
+  pub storable : AreStorable h
+  pub unextended : HasNoExtension h
+
+-- the tables list the debts of a host that has no extension
+pub record ListFirstDebts (db : Tables) (h : Host) : Type 0 where
+  pub debts : ListDebts db h
+  pub unextended : HasNoExtension h
+
+-- the rows of something, if it is there
+abbrev pub rows_of : {X : Type 0} → Option X → (X → List Row) → List Row
+rows_of None f = []
+rows_of (Some x) f = f x
+
+-- the rows of totals of the pledges of a book
+abbrev pub totals_of_book : Host → ℕ → List Row
+totals_of_book h b = flat_map (totals_listed b) (pledges_of (get h.books b))
+
+-- a part of the transaction puts these rows of totals, and is told P; a row is no record only of a host with a book that is not sound
+abbrev pub PutsTotals : {A : Type 0} → State → State → Result A KeepError → (Host → A → List Row) → (Host → A → Type 0) → Type 0
+PutsTotals old new result put P =
+    HasCleanDisk new → IsTrue old.in_transaction → (n : ℕ) (owed : List Row) (h : Host) → IsMoving n owed old.now h → Finds result (λ x. P h x × IsMoving n (put h x ++ owed) new.now h) (HasUnsoundBook h)
+
+-- a part of the transaction puts the totals of each pledge of each book, where no book has the number 0
+abbrev pub PutsAll : State → State → Result (Unit {0}) KeepError → Type 0
+PutsAll old new result =
+    HasCleanDisk new → IsTrue old.in_transaction → (n : ℕ) (owed : List Row) (h : Host) → get h.books 0 ≡ None → IsMoving n owed old.now h
+    → Finds result (λ done. IsMoving n (of_pledges h totals_listed ++ owed) new.now h) (HasUnsoundBook h)
+
+-- a part of the transaction notes the number of the program's schema
+abbrev pub NotesProgram : State → State → Result (Unit {0}) KeepError → Type 0
+NotesProgram old new result =
+    HasCleanDisk new → IsTrue old.in_transaction → (n : ℕ) (owed : List Row) (h : Host) → IsMoving n owed old.now h → OnOk result (IsMoving 3 owed new.now h)
+
+-- a part of the transaction moves tables of this schema to the program's; where a row is no record, a book of the host is not sound
+abbrev pub Moves : ℕ → State → State → Result (Unit {0}) KeepError → Type 0
+Moves n old new result =
+    HasCleanDisk new → IsTrue old.in_transaction → (h : Host) → get h.books 0 ≡ None → StandsUnder n old.now h → Finds result (λ done. StandsFor new.now h) (HasUnsoundBook h)

@@ -1,0 +1,46 @@
+-- When tables of an older schema, or of the program's, stand for a host.
+use Rattle.std.specs.Prelude.{◌≡◌, ◌≤◌, ◌<◌, ◌==◌, if◌then◌else◌, ℕ, [], Some}
+use Rattle.std.specs.FinMap.{get}
+use Rattle.sqlite.specs.Schema.{Schema}
+use Rattle.sqlite.specs.Effect.{Database}
+use Rattle.pawn_pledge.specs.Replayable.{Each}
+use Rattle.pawn_book.specs.BookStep.{BookValue}
+use Rattle.pawn_book.specs.HostStep.{Host, rows}
+use Rattle.one_table.specs.Listing.{Lists, Listed, with_rows}
+use Rattle.pawn_saving.specs.Counted.{listed_as}
+use Rattle.pawn_tables.specs.Meta.{notes}
+use Rattle.pawn_tables.specs.Schema.{first_schema, second_schema, keep_schema}
+use Rattle.pawn_tables.specs.StandsFor.{AreOrdered, AreStorable, StandsFor}
+
+-- the number of a schema; the program's is the third
+abbrev pub IsSchema : ℕ → Type 0
+IsSchema n = (1 ≤ n) × (n ≤ 3)
+
+-- the schema of a number
+abbrev pub schema_numbered : ℕ → Schema
+schema_numbered n =
+    if n == 1 then first_schema
+    else if n == 2 then second_schema
+    else keep_schema
+
+-- the rows of a host by their tree, where this number of a schema is noted
+abbrev pub listed_under : ℕ → Host → Listed
+listed_under n h = with_rows (listed_as h (rows h)) 13 (notes n (rows h) h.limit)
+
+-- the period of no pledge was extended
+abbrev pub HasNoExtension : Host → Type 0
+HasNoExtension h = (b : ℕ) (k : BookValue) → get h.books b ≡ Some k → Each (λ p. p.extensions ≡ []) k.pledges
+
+-- The tables of the schema of this number list the host, and note that number, how many rows are counted, and the limit.
+pub record StandsUnder (n : ℕ) (db : Database) (h : Host) : Type 0 where
+  pub lists : Lists (schema_numbered n) db (listed_under n h)
+  -- what the tables of an older schema can't tell of
+  pub unextended : n < 3 → HasNoExtension h
+  -- what no row tells
+  pub ordered : AreOrdered h
+  pub storable : AreStorable h
+
+-- so the tables that stand for a host stand for it under the third schema, and none else do
+pub record ThirdIsOurs : Type 0 where
+  pub ours : (db : Database) (h : Host) → StandsFor db h → StandsUnder 3 db h
+  pub third : (db : Database) (h : Host) → StandsUnder 3 db h → StandsFor db h

@@ -1,0 +1,16 @@
+//! Stores of an older schema, moved to the program's: they stand for the same host before and after.
+#![tactic(auto)]
+
+mod debts;
+mod fault;
+mod filling;
+mod laws;
+mod making;
+mod migrating;
+mod moving;
+mod telling;
+
+pub use fault::MoveFault;
+pub use laws::the_third_is_ours;
+pub use migrating::migrate;
+pub use telling::schema_of;

@@ -1,0 +1,38 @@
+ghost use Rattle.std.specs.Prelude.{◌≡◌, false};
+ghost use Rattle.sqlite.specs.Held.{state};
+ghost use Rattle.pawn_move.specs.Migrating.{IsNumberJudged, TellsNumber};
+
+use crate::fault::MoveFault;
+use pawn_opening::schema_noted;
+use sqlite::{Alter, Connection};
+
+/// The number of the schema that the program reads and writes.
+pub(crate) const SCHEMA: u32 = 3;
+
+// The number of a schema that a store notes.
+fn judge(noted: Option<u64>) -> Result<u32, MoveFault>
+    ensures judged { IsNumberJudged noted result }
+{
+    let Some(number) = noted else {
+        return Err(MoveFault::NotOurs);
+    };
+    if number == 0 {
+        return Err(MoveFault::NotOurs);
+    }
+    if number > u64::from(SCHEMA) {
+        return Err(MoveFault::NewerSchema);
+    }
+    Ok(number as u32)
+}
+
+/// The number of the schema that a store notes, from 1 to the program's. An empty store, and another program's, are `NotOurs`, a
+/// newer one `NewerSchema`; a store that stands for a host under its schema is neither. The store is left as it was.
+pub fn schema_of<S: Alter>(conn: &mut Connection<S>) -> Result<u32, MoveFault>
+    requires rests { conn.old.in_transaction ≡ false }
+    ensures tells { TellsNumber (state S.Store conn.old) (state S.Store conn.new) result }
+{
+    match schema_noted(conn) {
+        Ok(noted) => judge(noted),
+        Err(why) => Err(MoveFault::of_opening(why)),
+    }
+}

@@ -1,0 +1,6 @@
+use Rattle.sqlite.specs.Held.{state}
+use Rattle.pawn_opening.proofs.Creating.{adds_totals}
+use Rattle.pawn_opening.proofs.laying.make_totals.Goals as goal
+
+pub returns-clause-made : goal.returns-clause-made
+returns-clause-made g c = adds_totals (state g.S.Store c.args.tx.now.conn.now) (state g.S.Store c.run.new.tx.conn.now) c.run.result c.run.ensures.ran

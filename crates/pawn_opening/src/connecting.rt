@@ -1,0 +1,31 @@
+ghost use Rattle.std.specs.Prelude.{◌≡◌, false, true, IfErr, IfOk, IsTrue};
+ghost use Rattle.sqlite.specs.Effect.{Database};
+ghost use Rattle.sqlite.specs.Files.{file_state};
+ghost use Rattle.sqlite.specs.State.{HasCleanDisk};
+ghost use Rattle.sqlite_wal.specs.Files.{image_at};
+ghost use Rattle.pawn_opening.specs.FilesStand.{HoldsIn};
+ghost use Rattle.pawn_opening.specs.Refusing.{IsStoreFault};
+
+use crate::fault::{OpenFault, refused};
+use crate::finding::{files_at, options};
+use sqlite::{Connection, FileFrom, FileStore, Start};
+
+/// A connection to the database in the file at a path, over whatever `start` says of its bytes, for whoever moves an older store or
+/// looks into another. It is not asked what store it is, and no table is laid out; an empty file is made where there is none.
+pub fn connect_path<S: Start>(
+    rt: &HostRuntime,
+    path: &str,
+    start: S,
+) -> Result<Connection<FileStore<FileFrom<S>>>, OpenFault>
+    ensures holds { IfOk result (λ conn. HasCleanDisk (file_state conn) → (db : Database) → HoldsIn (image_at S.Start) db → (file_state conn).now ≡ db) }
+    ensures serves { IfOk result (λ conn. HasCleanDisk (file_state conn) → IsTrue (file_state conn).is_open) }
+    ensures mode { IfOk result (λ conn. conn.in_transaction ≡ false) }
+    ensures refuses { IfErr result IsStoreFault }
+{
+    let files = files_at(rt, path, start)?;
+    let options = options(rt)?;
+    match Connection::open_files(rt.alloc(), files, options) {
+        Ok(conn) => Ok(conn),
+        Err((error, _)) => Err(refused(error)),
+    }
+}

@@ -1,0 +1,84 @@
+ghost use Rattle.std.specs.Prelude.{◌≡◌, Option, IfSome, is_ok, option_map};
+ghost use Rattle.std.specs.FinMap.{get};
+ghost use Rattle.sqlite.specs.Held.{state};
+ghost use Rattle.pawn_terms.specs.Calendar.{IsStampDay};
+ghost use Rattle.pawn_pledge.specs.Pledge.{PledgeValue};
+ghost use Rattle.pawn_book.specs.BookStep.{pledge_in};
+ghost use Rattle.pawn_book.specs.Sound.{IsUnsoundAt};
+ghost use Rattle.one_table.specs.Lending.{IsLent};
+ghost use Rattle.pawn_tables.specs.Rows.{at_most_one, credit_cells};
+ghost use Rattle.pawn_tables.specs.Finding.{FindsOf, IsRead};
+ghost use Rattle.pawn_tables.specs.StandsFor.{ListDebts};
+ghost use Rattle.pawn_tables.specs.Told.{IsCreditTold, credit_told};
+
+use crate::cells::{NO_RECORD, day_of, number_at, optional_at, request_day};
+use crate::queries::rows_of;
+use crate::records::kind_of;
+use pawn_book::{KeepError, Kind, RequestDay};
+use sqlite::{Alter, Row, Transaction, params};
+
+/// What was agreed on a pledge, as far as its debt goes.
+#[derive(Clone, Copy)]
+pub struct Credit {
+    pub kind: Kind,
+    pub taken: RequestDay,
+    pub agreed: Option<RequestDay>,
+    pub version: u64,
+}
+
+// The day of a number that a request may name.
+fn named_day(number: u64) -> Result<RequestDay, KeepError>
+    ensures read { IsRead result number (IsStampDay number) }
+{
+    match RequestDay::of_day(day_of(number)?) {
+        Ok(day) => Ok(day),
+        Err(_) => Err(NO_RECORD),
+    }
+}
+
+// What a row tells of its pledge's debt.
+fn credit_of(row: &Row) -> Result<Credit, KeepError>
+    ensures read { (p : PledgeValue) → row.now ≡ credit_cells p → IsRead result (credit_told p) (IsCreditTold p) }
+{
+    let number = number_at(row, 0)?;
+    let credit = number_at(row, 1)?;
+    let kind = kind_of(number, credit)?;
+    let day = number_at(row, 2)?;
+    let taken = named_day(day)?;
+    let agreed = request_day(optional_at(row, 3)?)?;
+    let version = number_at(row, 4)?;
+    Ok(Credit {
+        kind,
+        taken,
+        agreed,
+        version,
+    })
+}
+
+// What the first row tells of its pledge's debt, if there is a row.
+fn first_credit(rows: &[Row]) -> Result<Option<Credit>, KeepError>
+    ensures read { (p : Option PledgeValue) → rows.now ≡ at_most_one credit_cells p → IsRead result (option_map credit_told p) (IfSome p IsCreditTold) }
+{
+    let [row, ..] = rows else {
+        return Ok(None);
+    };
+    Ok(Some(credit_of(row)?))
+}
+
+/// What was agreed on a pledge, as far as its debt goes.
+pub fn credit_in<S: Alter>(
+    tx: &mut Transaction<'_, S>,
+    book: u32,
+    number: u32,
+) -> Result<Option<Credit>, KeepError>
+    ensures same_reference { tx.new.conn.ghost_name ≡ tx.old.conn.ghost_name }
+    ensures finds { FindsOf ListDebts (IsUnsoundAt book) (state S.Store tx.old.conn.now) (state S.Store tx.new.conn.now) result (λ h x. x ≡ option_map credit_told (pledge_in (get h.books book) number)) }
+    ensures lent { IsLent (state S.Store tx.old.conn.now) (state S.Store tx.new.conn.now) (is_ok result) }
+{
+    let rows = rows_of(
+        tx,
+        "SELECT kind, credit, taken, agreed, version FROM pledges WHERE book = ?1 AND number = ?2",
+        params![book, number],
+    )?;
+    first_credit(&rows)
+}

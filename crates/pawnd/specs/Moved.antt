@@ -1,0 +1,7 @@
+-- How the schemas of a store that was moved are told.
+use Rattle.std.specs.Prelude.{ℕ, List, ◌++◌, codes, decimal}
+use Rattle.pawnd.specs.declared.moving.Schemas.{Schemas}
+
+-- the line on the standard output
+abbrev pub line_of : Schemas → List ℕ
+line_of schemas = codes "schema " ++ decimal schemas.found ++ codes " to " ++ decimal schemas.program
