@@ -1,14 +1,16 @@
 //! Stores that are opened as keepers, and closed.
-ghost use Rattle.std.specs.Prelude.{◌≡◌, ◌≤◌, ◌⊎◌, None, IfErr, IfOk, IfSome, IsTrue};
-ghost use Rattle.sqlite.specs.Files.{IsCleanLeft, file_state, image_of};
+ghost use Rattle.std.specs.Prelude.{◌≡◌, ◌≤◌, None, false, true, IfErr, IfOk, IfSome, IsTrue};
+ghost use Rattle.sqlite.specs.Files.{IsCleanLeft, file_state};
 ghost use Rattle.sqlite.specs.Held.{state};
 ghost use Rattle.sqlite.specs.State.{HasCleanDisk};
 ghost use Rattle.sqlite.specs.Steps.{over_memory};
+ghost use Rattle.sqlite_std_file.specs.File.{IsFresh};
 ghost use Rattle.sqlite_wal.specs.Files.{image_at};
 ghost use Rattle.sqlite_wal.specs.Reads.{AreClean};
 ghost use Rattle.pawn_book.specs.HostStep.{Host};
 ghost use Rattle.pawn_tables.specs.Keeps.{Keeps};
-ghost use Rattle.pawn_opening.specs.FilesStand.{IsBlank, IsRefusedStore, StandsIn};
+ghost use Rattle.pawn_opening.specs.Closed.{AreClosedFor, IsLeftUnclosed};
+ghost use Rattle.pawn_opening.specs.FilesStand.{IsBlank, RefusesHeld, StandsIn};
 ghost use Rattle.pawn_opening.specs.Opened.{OpensAs, empty_host};
 ghost use Rattle.pawn_opening.specs.Refusing.{IsStoreFault};
 
@@ -38,7 +40,8 @@ pub fn keep_in_memory(alloc: Global, limit: u32) -> Result<TableKeep<MemStore>, 
 
 /// A keeper over the store in the file at a path, which is made where there is none, over whatever `start` says of its bytes.
 /// An empty one is laid out for the empty host with this limit; in another the stored limit stands. The limit on rows is 1 to
-/// 10,000,000. Where the store is refused, what is left of the files comes back, once they were opened.
+/// 10,000,000. Where the store is refused, what is left of the files comes back, once they were opened: of those that were, to
+/// which nothing had been done.
 pub fn keep_at_path<S: Start>(
     rt: &HostRuntime,
     path: &str,
@@ -50,7 +53,7 @@ pub fn keep_at_path<S: Start>(
     ensures blank { IfOk result (λ keep. HasCleanDisk (file_state keep.conn) → IsBlank (image_at S.Start) → OpensAs (file_state keep.conn) (empty_host limit)) }
     ensures stands { IfOk result (λ keep. HasCleanDisk (file_state keep.conn) → (h : Host) → StandsIn (image_at S.Start) h → OpensAs (file_state keep.conn) h) }
     ensures unopened { IfErr result (λ e. e.1 ≡ None → IsStoreFault e.0) }
-    ensures refuses { IfErr result (λ e. IfSome e.1 (λ rest. IsCleanLeft rest → IsStoreFault e.0 ⊎ IsRefusedStore (image_at S.Start) limit e.0 rest)) }
+    ensures refuses { IfErr result (λ e. IfSome e.1 (λ rest. (files : _) × IsFresh true files.log × IsFresh false files.db × (IsCleanLeft rest → RefusesHeld (image_at S.Start) files limit e.0 rest))) }
 {
     let conn = match open_path(rt, path, start, limit) {
         Ok(conn) => conn,
@@ -67,8 +70,8 @@ pub fn close_keep<D: Disk + Drop>(
     keep: TableKeep<FileStore<D>>,
 ) -> Result<Files<D>, (OpenFault, FileStore<D>)>
     ensures usable { IfOk result (λ files. IsTrue (D.Disk.is_usable files.log) × IsTrue (D.Disk.is_usable files.db)) }
-    ensures kept { IfOk result (λ files. AreClean D.Disk files.log files.db → (h : Host) → Keeps (file_state keep.conn) h → StandsIn (image_of D.Disk files) h) }
-    ensures refuses { IfErr result (λ e. IsStoreFault e.0) }
+    ensures kept { IfOk result (λ files. AreClean D.Disk files.log files.db → (h : Host) → Keeps (file_state keep.conn) h → AreClosedFor D.Disk files h) }
+    ensures refuses { IfErr result (λ e. IsLeftUnclosed keep.conn e.0 e.1) }
 {
     match close_files(keep.into_connection()) {
         Ok(files) => Ok(files),
