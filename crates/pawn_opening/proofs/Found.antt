@@ -1,13 +1,19 @@
 -- What an open finds in files.
-use Rattle.std.proofs.Common.{◌≡◌, ℕ, inl, inr, [], Err, refl, sym, ap, subst, ◌∙◌, arith}
+use Rattle.std.proofs.Common.{◌≡◌, ◌⊎◌, ℕ, inl, inr, false, [], Err, refl, sym, ap, subst, ◌∙◌, arith}
 use Rattle.sqlite_disk.specs.declared.Disk.{Ghosts}
 use Rattle.sqlite_disk.specs.declared.Files.{Files}
 use Rattle.sqlite_store.specs.declared.store.FileStore.{FileStore}
 use Rattle.sqlite_store.specs.FileStore.{faults, is_shielded, recovers, view}
 use Rattle.sqlite_trees.proofs.Doubt.{no_doubt}
-use Rattle.sqlite_trees.specs.View.{IsQuiet, doubt}
+use Rattle.sqlite_disk.specs.Disk.{MoreFaults}
+use Rattle.sqlite_trees.specs.View.{IsClean, IsQuiet, doubt}
+use Rattle.sqlite_trees.specs.declared.error.StoreError.{StoreError}
+use Rattle.sqlite_trees.specs.declared.error.StoreError.TheVariants as stored
 use Rattle.sqlite.specs.declared.file.Leftover.TheVariants as left
-use Rattle.sqlite.specs.State.{HasCleanDisk, IsLive, Opens, State}
+use Rattle.sqlite.specs.declared.error.Error.{Error}
+use Rattle.sqlite.specs.declared.error.Error.TheVariants.{SqliteFailure}
+use Rattle.sqlite.specs.declared.error.ErrorCode.TheVariants as code
+use Rattle.sqlite.specs.State.{HasCleanDisk, IsLive, Opens, State, store_error}
 use Rattle.sqlite_trees.specs.Objects.{catalog_tree}
 use Rattle.sqlite_catalog.specs.Listing.{IsSound}
 use Rattle.sqlite_catalog.proofs.ReadLemmas.{lists_once}
@@ -15,9 +21,9 @@ use Rattle.sqlite.proofs.ListingLemmas.{empty_is_sound}
 use Rattle.std.proofs.Math.Logic.{∥∥₁_elim}
 use Rattle.sqlite_trees.specs.Props.{Trees-set}
 use Rattle.sqlite.specs.Effect.{Database, IsDatabase}
-use Rattle.sqlite.specs.Files.{Finds, IsCleanLeft, file_state, image_of}
+use Rattle.sqlite.specs.Files.{ExcusesClose, FailsToClose, Finds, IsCleanLeft, IsClosed, file_state, image_of}
 use Rattle.sqlite.specs.Start.{FindsIn}
-use Rattle.sqlite.specs.Closing.{IsCopied}
+use Rattle.sqlite.specs.Closing.{HoldsAlone, IsCopied}
 use Rattle.sqlite_wal.specs.Recovery.{Image}
 use Rattle.sqlite.specs.Held.{Held}
 use Rattle.sqlite.specs.Schema.{Schema}
@@ -26,12 +32,13 @@ use Rattle.one_table.specs.Columns.{no_schema}
 use Rattle.pawn_book.specs.HostStep.{Host}
 use Rattle.pawn_tables.specs.Schema.{keep_schema}
 use Rattle.pawn_tables.specs.StandsFor.{StandsFor, HoldHost}
-use Rattle.pawn_tables.specs.Keeps.{Keeps}
 use Rattle.pawn_opening.proofs.Begun.{held}
+use Rattle.pawn_opening.specs.Closed.{AreClosedFor, HasCommitted, IsLeftUnclosed, StandsAlone}
 use Rattle.pawn_opening.specs.FilesStand.{HoldsIn, IsBlank, IsRefusedStore, StandsIn}
 use Rattle.pawn_opening.specs.declared.fault.OpenFault.{OpenFault}
 use Rattle.pawn_opening.specs.Opened.{Prepares}
-use Rattle.pawn_opening.specs.Refusing.{IsEmptyStore, IsRefusedFor}
+use Rattle.pawn_opening.specs.Refusing.{IsEmptyStore, IsRefusedFor, IsStoreFault}
+use Rattle.pawn_opening.specs.declared.fault.OpenFault.TheVariants as Fault
 
 -- the trees list one schema
 schema_once : (s t : Schema) (db : Trees) → IsSound s db → IsSound t db → s ≡ t
@@ -89,10 +96,31 @@ module _ (image : Image) (s : State) (opened : Opens s × IsLive s) (found : Fin
 pub as_found : {D : Type 0} {g : Ghosts D} (files : Files D) (c : Held (FileStore D g)) → Finds files c → FindsIn (image_of g files) (file_state c)
 as_found files c found = record { holds = found.holds; reads = found.reads }
 
--- the files that a close hands back stand for what its store kept
-pub closes : {D : Type 0} {g : Ghosts D} (c : Held (FileStore D g)) (files : Files D) (h : Host) → IsCopied c files → Keeps (file_state c) h → StandsIn (image_of g files) h
-closes c files h copied kept = record {
-  trees = (file_state c).committed.trees;
-  held = copied.seen.both;
-  stands = held (file_state c).committed h (subst (λ d. StandsFor d h) (kept.committed copied.was_open) (kept.stands copied.was_open));
-}
+-- the files that a close hands back stand for what was committed
+pub closes : {D : Type 0} {g : Ghosts D} (c : Held (FileStore D g)) (files : Files D) (h : Host) → IsCopied c files → HasCommitted (file_state c) h → AreClosedFor g files h
+closes {D} {g} c files h copied committed = record { seen = alone (image_of g files) copied.seen; left = λ image may. alone image (copied.left image may) }
+  where
+    alone : (image : Image) → HoldsAlone image (file_state c).committed.trees → StandsAlone image h
+    alone image holds =
+        let stands = held (file_state c).committed h (committed copied.was_open) in
+        record {
+          both = record { trees = (file_state c).committed.trees; held = holds.both; stands = stands };
+          alone = record { trees = (file_state c).committed.trees; held = holds.alone; stands = stands };
+        }
+
+-- why a store is blamed that was not closed
+pub blamed : {D : Type 0} {g : Ghosts D} (c : Held (FileStore D g)) (it : FileStore D g) (error : Error) (why : OpenFault) → (error ≡ SqliteFailure code.OutOfMemory → why ≡ Fault.Memory) → FailsToClose c it error
+    → why ≡ Fault.Store → ((file_state c).is_open ≡ false) ⊎ MoreFaults (file_state c).faults (faults it)
+blamed {D} {g} c it error why told fails store = go fails.0 fails.1 fails.2
+  where
+    go : (cause : StoreError) → error ≡ store_error cause → ExcusesClose c it cause → ((file_state c).is_open ≡ false) ⊎ MoreFaults (file_state c).faults (faults it)
+    go stored.OutOfMemory is excuse = absurd (let e = sym (told is) ∙ store in cc)
+    go stored.Io is excuse = inr excuse
+    go stored.Corrupt is excuse = inr excuse
+    go stored.Full is excuse = inr excuse
+    go stored.Broken is excuse = excuse
+    go stored.Unstorable is excuse = absurd excuse
+
+pub unclosed : {D : Type 0} {g : Ghosts D} (c : Held (FileStore D g)) (it : FileStore D g) (error : Error) (why : OpenFault) → IsStoreFault why → (error ≡ SqliteFailure code.OutOfMemory → why ≡ Fault.Memory)
+    → IsClosed c it → (IsClean (view it) → FailsToClose c it error) → IsLeftUnclosed c why it
+unclosed c it error why fault told left fails = record { fault = fault; left = left; cause = λ clean. blamed c it error why told (fails clean) }

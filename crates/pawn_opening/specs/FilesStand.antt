@@ -44,6 +44,9 @@ pub record RefusesFound {D : Type 0} {g : Ghosts D} (image : Image) (limit : ℕ
 abbrev pub IsRefusedStore : {D : Type 0} {g : Ghosts D} → Image → ℕ → OpenFault → Leftover D g → Type 0
 IsRefusedStore {D} {g} image limit why rest = (it : FileStore D g) × (rest ≡ left.Store it) × RefusesFound image limit why it
 
--- the database refused the files, or what they held is refused
+-- the database refused the files, and leaves them as a failed open does, or what they held is refused
+abbrev pub RefusesHeld : {D : Type 0} {g : Ghosts D} → Image → Files D → ℕ → OpenFault → Leftover D g → Type 0
+RefusesHeld image files limit why rest = (IsStoreFault why × LeavesFiles files rest) ⊎ IsRefusedStore image limit why rest
+
 abbrev pub RefusesFiles : {D : Type 0} {g : Ghosts D} → Files D → ℕ → OpenFault → Leftover D g → Type 0
-RefusesFiles {D} {g} files limit why rest = (IsStoreFault why × LeavesFiles files rest) ⊎ IsRefusedStore (image_of g files) limit why rest
+RefusesFiles {D} {g} files limit why rest = RefusesHeld (image_of g files) files limit why rest

@@ -1,3 +1,4 @@
+pub mod Closed
 pub mod FilesStand
 pub mod Laying
 pub mod Opened

@@ -33,6 +33,7 @@ impl fmt::Display for OpenFault {
 /// Why a statement was not run.
 pub(crate) fn refused(error: Error) -> OpenFault
     ensures memory { result ≡ Fault.Memory → error ≡ SqlError.SqliteFailure OutOfMemory }
+    ensures told { error ≡ SqlError.SqliteFailure OutOfMemory → result ≡ Fault.Memory }
     ensures store { IsStoreFault result }
 {
     match error {

@@ -1,13 +1,14 @@
-ghost use Rattle.std.specs.Prelude.{◌≡◌, ◌≤◌, ◌⊎◌, None, false, IfErr, IfOk, IfSome, IsTrue};
+ghost use Rattle.std.specs.Prelude.{◌≡◌, ◌≤◌, None, false, true, IfErr, IfOk, IfSome, IsTrue};
 ghost use Rattle.sqlite.specs.Steps.{over_memory};
 ghost use Rattle.sqlite.specs.Held.{state};
 ghost use Rattle.sqlite.specs.State.{HasCleanDisk};
 ghost use Rattle.sqlite.specs.Files.{IsCleanLeft, file_state, image_of};
+ghost use Rattle.sqlite_std_file.specs.File.{IsFresh};
 ghost use Rattle.sqlite_wal.specs.Reads.{AreClean};
 ghost use Rattle.sqlite_wal.specs.Files.{image_at};
 ghost use Rattle.pawn_book.specs.HostStep.{Host};
-ghost use Rattle.pawn_tables.specs.Keeps.{Keeps};
-ghost use Rattle.pawn_opening.specs.FilesStand.{IsBlank, IsRefusedStore, RefusesFiles, StandsIn};
+ghost use Rattle.pawn_opening.specs.Closed.{AreClosedFor, HasCommitted, IsLeftUnclosed};
+ghost use Rattle.pawn_opening.specs.FilesStand.{IsBlank, RefusesFiles, RefusesHeld, StandsIn};
 ghost use Rattle.pawn_opening.specs.Opened.{OpensAs, empty_host};
 ghost use Rattle.pawn_opening.specs.Refusing.{IsStoreFault};
 
@@ -64,7 +65,8 @@ pub fn open_files<D: Disk + Drop>(
 
 /// The store in the file at a path, which is made where there is none, over whatever `start` says of its bytes. An empty one is
 /// laid out for the empty host with this limit; in another the stored limit stands. The limit on rows is 1 to 10,000,000.
-/// Where the store is refused, what is left of the files comes back, once they were opened.
+/// Where the store is refused, what is left of the files comes back, once they were opened: of those that were, to which nothing
+/// had been done.
 pub fn open_path<S: Start>(
     rt: &HostRuntime,
     path: &str,
@@ -77,7 +79,7 @@ pub fn open_path<S: Start>(
     ensures stands { IfOk result (λ conn. HasCleanDisk (file_state conn) → (h : Host) → StandsIn (image_at S.Start) h → OpensAs (file_state conn) h) }
     ensures mode { IfOk result (λ conn. conn.in_transaction ≡ false) }
     ensures unopened { IfErr result (λ e. e.1 ≡ None → IsStoreFault e.0) }
-    ensures refuses { IfErr result (λ e. IfSome e.1 (λ rest. IsCleanLeft rest → IsStoreFault e.0 ⊎ IsRefusedStore (image_at S.Start) limit e.0 rest)) }
+    ensures refuses { IfErr result (λ e. IfSome e.1 (λ rest. (files : _) × IsFresh true files.log × IsFresh false files.db × (IsCleanLeft rest → RefusesHeld (image_at S.Start) files limit e.0 rest))) }
 {
     let files = match files_at(rt, path, start) {
         Ok(files) => files,
@@ -93,13 +95,13 @@ pub fn open_path<S: Start>(
     }
 }
 
-/// Hands the files back, with the last commit in the database file.
+/// Hands the files back, with the last commit in the database file. What is under way is rolled back.
 pub fn close_files<D: Disk + Drop>(
     conn: Connection<FileStore<D>>,
 ) -> Result<Files<D>, (OpenFault, FileStore<D>)>
     ensures usable { IfOk result (λ files. IsTrue (D.Disk.is_usable files.log) × IsTrue (D.Disk.is_usable files.db)) }
-    ensures kept { IfOk result (λ files. AreClean D.Disk files.log files.db → (h : Host) → Keeps (file_state conn) h → StandsIn (image_of D.Disk files) h) }
-    ensures refuses { IfErr result (λ e. IsStoreFault e.0) }
+    ensures kept { IfOk result (λ files. AreClean D.Disk files.log files.db → (h : Host) → HasCommitted (file_state conn) h → AreClosedFor D.Disk files h) }
+    ensures refuses { IfErr result (λ e. IsLeftUnclosed conn e.0 e.1) }
 {
     match conn.close_files() {
         Ok(files) => Ok(files),

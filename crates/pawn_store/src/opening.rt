@@ -1,14 +1,16 @@
 //! Stores that are opened as keepers, and closed.
-ghost use Rattle.std.specs.Prelude.{◌≡◌, ◌≤◌, ◌⊎◌, None, IfErr, IfOk, IfSome, IsTrue};
-ghost use Rattle.sqlite.specs.Files.{IsCleanLeft, file_state, image_of};
+ghost use Rattle.std.specs.Prelude.{◌≡◌, ◌≤◌, None, false, true, IfErr, IfOk, IfSome, IsTrue};
+ghost use Rattle.sqlite.specs.Files.{IsCleanLeft, file_state};
 ghost use Rattle.sqlite.specs.Held.{state};
 ghost use Rattle.sqlite.specs.State.{HasCleanDisk};
 ghost use Rattle.sqlite.specs.Steps.{over_memory};
+ghost use Rattle.sqlite_std_file.specs.File.{IsFresh};
 ghost use Rattle.sqlite_wal.specs.Files.{image_at};
 ghost use Rattle.sqlite_wal.specs.Reads.{AreClean};
 ghost use Rattle.pawn_book.specs.HostStep.{Host};
 ghost use Rattle.pawn_tables.specs.Keeps.{Keeps};
-ghost use Rattle.pawn_opening.specs.FilesStand.{IsBlank, IsRefusedStore, StandsIn};
+ghost use Rattle.pawn_opening.specs.Closed.{AreClosedFor, IsLeftUnclosed};
+ghost use Rattle.pawn_opening.specs.FilesStand.{IsBlank, RefusesHeld, StandsIn};
 ghost use Rattle.pawn_opening.specs.Opened.{OpensAs, empty_host};
 ghost use Rattle.pawn_opening.specs.Refusing.{IsStoreFault};
 ghost use Rattle.pawn_store.specs.Running.{Reopens};
@@ -41,7 +43,7 @@ pub fn keep_in_memory(alloc: Global, limit: u32) -> Result<TableKeep<MemStore>, 
 /// An empty one is laid out for the empty host with this limit; in another the stored limit stands. The limit on rows is 1 to
 /// 10,000,000. Where the files hold what a crash left of a store that had answered requests, it is opened for the host of all
 /// of them, or for that one with one request more. Where the store is refused, what is left of the files comes back, once they
-/// were opened.
+/// were opened: of those that were, to which nothing had been done.
 pub fn keep_at_path<S: Start>(
     rt: &HostRuntime,
     path: &str,
@@ -54,7 +56,7 @@ pub fn keep_at_path<S: Start>(
     ensures stands { IfOk result (λ keep. HasCleanDisk (file_state keep.conn) → (h : Host) → StandsIn (image_at S.Start) h → OpensAs (file_state keep.conn) h) }
     ensures reopens { IfOk result (λ keep. HasCleanDisk (file_state keep.conn) → Reopens (image_at S.Start) (file_state keep.conn)) }
     ensures unopened { IfErr result (λ e. e.1 ≡ None → IsStoreFault e.0) }
-    ensures refuses { IfErr result (λ e. IfSome e.1 (λ rest. IsCleanLeft rest → IsStoreFault e.0 ⊎ IsRefusedStore (image_at S.Start) limit e.0 rest)) }
+    ensures refuses { IfErr result (λ e. IfSome e.1 (λ rest. (files : _) × IsFresh true files.log × IsFresh false files.db × (IsCleanLeft rest → RefusesHeld (image_at S.Start) files limit e.0 rest))) }
 {
     let conn = match open_path(rt, path, start, limit) {
         Ok(conn) => conn,
@@ -71,8 +73,8 @@ pub fn close_keep<D: Disk + Drop>(
     keep: TableKeep<FileStore<D>>,
 ) -> Result<Files<D>, (OpenFault, FileStore<D>)>
     ensures usable { IfOk result (λ files. IsTrue (D.Disk.is_usable files.log) × IsTrue (D.Disk.is_usable files.db)) }
-    ensures kept { IfOk result (λ files. AreClean D.Disk files.log files.db → (h : Host) → Keeps (file_state keep.conn) h → StandsIn (image_of D.Disk files) h) }
-    ensures refuses { IfErr result (λ e. IsStoreFault e.0) }
+    ensures kept { IfOk result (λ files. AreClean D.Disk files.log files.db → (h : Host) → Keeps (file_state keep.conn) h → AreClosedFor D.Disk files h) }
+    ensures refuses { IfErr result (λ e. IsLeftUnclosed keep.conn e.0 e.1) }
 {
     match close_files(keep.into_connection()) {
         Ok(files) => Ok(files),

@@ -14,9 +14,13 @@ returns-in-Ok-open_files-clause-stands g c clean h stands =
     c.in-Ok-open_files.ensures.stands clean h (subst (λ i. StandsIn i h) (sym (untouched g.S.Start.log g.S.Start.db fresh.0 fresh.1)) stands)
 
 pub returns-in-Err-open_files-clause-refuses : goal.returns-in-Err-open_files-clause-refuses
-returns-in-Err-open_files-clause-refuses g c clean =
-    let fresh = c.in-Ok.ensures.fresh in
-    elim (c.in-Err-open_files.ensures.refuses clean) [
-      | inl fault ↦ inl fault.0
-      | inr refused ↦ inr (subst (λ i. IsRefusedStore i c.args.limit c.in-Err-open_files.why c.in-Err-open_files.left) (untouched g.S.Start.log g.S.Start.db fresh.0 fresh.1) refused)
-    ]
+returns-in-Err-open_files-clause-refuses g c =
+    let fresh = c.in-Ok.ensures.fresh in (
+      c.in-Ok.files,
+      fresh.0,
+      fresh.1,
+      λ clean. elim (c.in-Err-open_files.ensures.refuses clean) [
+        | inl fault ↦ inl fault
+        | inr refused ↦ inr (subst (λ i. IsRefusedStore i c.args.limit c.in-Err-open_files.why c.in-Err-open_files.left) (untouched g.S.Start.log g.S.Start.db fresh.0 fresh.1) refused)
+      ],
+    )

@@ -1,0 +1,40 @@
+-- What a close leaves of a store.
+use Rattle.std.specs.Prelude.{◌≡◌, ◌⊎◌, false, [], IsTrue}
+use Rattle.sqlite_disk.specs.Disk.{MoreFaults}
+use Rattle.sqlite_disk.specs.declared.Disk.{Ghosts}
+use Rattle.sqlite_disk.specs.declared.Files.{Files}
+use Rattle.sqlite_wal.specs.Files.{outcomes}
+use Rattle.sqlite_wal.specs.Recovery.{Image}
+use Rattle.sqlite_store.specs.declared.store.FileStore.{FileStore}
+use Rattle.sqlite_store.specs.FileStore.{faults, view}
+use Rattle.sqlite_trees.specs.View.{IsClean}
+use Rattle.sqlite.specs.Files.{IsClosed, file_state, image_of}
+use Rattle.sqlite.specs.Held.{Held}
+use Rattle.sqlite.specs.State.{State}
+use Rattle.pawn_book.specs.HostStep.{Host}
+use Rattle.pawn_tables.specs.StandsFor.{StandsFor}
+use Rattle.pawn_opening.specs.FilesStand.{StandsIn}
+use Rattle.pawn_opening.specs.Refusing.{IsStoreFault}
+use Rattle.pawn_opening.specs.declared.fault.OpenFault.{OpenFault}
+use Rattle.pawn_opening.specs.declared.fault.OpenFault.TheVariants as Fault
+
+-- what is committed stands for the host, whatever is under way; a store that a fault has shut holds any
+abbrev pub HasCommitted : State → Host → Type 0
+HasCommitted s h = IsTrue s.is_open → StandsFor s.committed h
+
+-- the two files stand for the host, and so does the database file without its log
+pub record StandsAlone (image : Image) (h : Host) : Type 0 where
+  pub both : StandsIn image h
+  pub alone : StandsIn (record image { log = [] }) h
+
+-- closed files stand for the host, as they read now and whatever a crash leaves of them
+pub record AreClosedFor {D : Type 0} (g : Ghosts D) (files : Files D) (h : Host) : Type 0 where
+  pub seen : StandsAlone (image_of g files) h
+  pub left : (image : Image) → outcomes g files.log files.db image → StandsAlone image h
+
+-- What is left of a store that was not closed: a crash leaves nothing that it could not have left of the connection, and always a
+-- database. The store is blamed only where a fault had shut it, or where the disk failed meanwhile.
+pub record IsLeftUnclosed {D : Type 0} {g : Ghosts D} (c : Held (FileStore D g)) (why : OpenFault) (it : FileStore D g) : Type 0 where
+  pub fault : IsStoreFault why
+  pub left : IsClosed c it
+  pub cause : IsClean (view it) → why ≡ Fault.Store → ((file_state c).is_open ≡ false) ⊎ MoreFaults (file_state c).faults (faults it)
