@@ -2,7 +2,7 @@
 """Prints requests a second and peak memory of openings, views, day sheets, exports and repayments
 through `pawnd answer :memory:`.
 
-usage: bench/requests.py [PROGRAM]     (default: the program that `rt run` built in crates/pawnd)
+usage: bench/requests.py [PROGRAM]     (default: build/pawnd)
 
 A stream has at most 1,000 requests, so a run is one book, its terms, and up to 998 openings, views
 or repayments. What a view costs is the time of 499 openings and 499 views less that of 499 openings,

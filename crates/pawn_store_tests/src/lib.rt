@@ -12,6 +12,4 @@ mod opening_tests;
 #[cfg(test)]
 mod program_tests;
 #[cfg(test)]
-mod tables_tests;
-#[cfg(test)]
 mod view_tests;
