@@ -26,7 +26,7 @@ def peak(server):
 
 def main():
     if not os.path.exists(PROGRAM):
-        sys.exit("no program: run `rt run` in crates/pawnd first, or name one")
+        sys.exit("no program: run make first, or name one")
     with Server() as server:
         session = server.session()
         session.open_book()

@@ -204,7 +204,7 @@ def opens(folder):
 
 def main():
     if not os.path.exists(PROGRAM):
-        sys.exit("no program: run `rt run` in crates/pawnd first, or name one")
+        sys.exit("no program: run make first, or name one")
     with tempfile.TemporaryDirectory(dir="/var/tmp") as folder:
         among_others(folder)
         in_memory(folder)

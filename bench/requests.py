@@ -81,7 +81,7 @@ def line(name, count, seconds):
 def main():
     program = PROGRAM
     if not os.path.exists(program):
-        sys.exit("no program: run `rt run` in crates/pawnd first, or name one")
+        sys.exit("no program: run make first, or name one")
     _, nothing = answer(program, b"".join(start()))
     many, openings = answer(program, b"".join(start()) + b"".join(map(opening, range(998))))
     assert many.count(b"200 OK") == 1000
