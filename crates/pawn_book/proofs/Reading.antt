@@ -10,6 +10,7 @@ on_then f s = record {
   past = λ honest. f.past (s.past honest);
   served = λ honest now. f.served (s.past honest) (s.served honest now);
   stays = λ steady. s.stays (f.stays steady);
+  whole = λ honest whole. s.whole honest (f.whole (s.past honest) whole);
 }
 
 -- what two reads tell, told by both together

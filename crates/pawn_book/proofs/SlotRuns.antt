@@ -25,8 +25,8 @@ use Rattle.pawn_book.specs.Runs.{Mark, read_as, no_memory, no_store, Event, host
 use Rattle.pawn_book.specs.Traces.{book_trace, enters, is_live_in, slot_events, slot_of, slot_trace, within_slot}
 use Rattle.pawn_book.proofs.SlotMoments.{book_trace_step, request_on, run_slot, slot_on, slot_step}
 use Rattle.pawn_book.specs.Changes.{numbered_pledges}
-use Rattle.pawn_book.specs.Machines.{is_in, is_slots, no_pledge, solo, solo_from, solo_reply}
-use Rattle.pawn_book.specs.Slots.{BearersJoin, BooksAnswerAlone, EqualTracesAnswerAlike, OtherBooksStay, SlotsAnswerAlone, SlotsAreHeld, joins}
+use Rattle.pawn_book.specs.Machines.{is_in, is_slots, no_pledge, reply_alone, solo, solo_from, solo_reply}
+use Rattle.pawn_book.specs.Slots.{BearersJoin, BooksAnswerAlone, EqualBookTracesAnswerAlike, EqualTracesAnswerAlike, OtherBooksStay, SlotsAnswerAlone, SlotsAreHeld, joins}
 use Rattle.pawn_book.proofs.Sounds.{get-with_book}
 use Rattle.pawn_book.proofs.SlotMachine.{Follows, enter_book, solo_from-append, step_follows}
 
@@ -257,3 +257,10 @@ pub books_answer_alone : {F : Type 0} → BooksAnswerAlone F
 books_answer_alone h operator before stamp request settled =
     ap out_of (settled_step (run_host h operator before) operator stamp request settled
     ∙ ap (λ book. book_step book operator request.book stamp request.caller) (sym (book_is_alone h operator request.book before)))
+
+pub equal_book_traces_answer_alike : {F : Type 0} → EqualBookTracesAnswerAlike F
+equal_book_traces_answer_alike h g operator before others stamp request settled also start same =
+    books_answer_alone h operator before stamp request settled
+    ∙ ap (λ book. reply_alone book operator request.book (book_trace request.book h operator before) stamp request.caller) start
+    ∙ ap (λ trace. reply_alone (get g.books request.book) operator request.book trace stamp request.caller) same
+    ∙ sym (books_answer_alone g operator others stamp request also)

@@ -16,7 +16,7 @@ use Rattle.pawn_book.specs.declared.fault.SaveError.{SaveError}
 use Rattle.pawn_book.specs.declared.fault.SaveError.TheVariants as Save
 use Rattle.pawn_book.specs.BookStep.{BookValue, with_reference}
 use Rattle.pawn_book.specs.HostStep.{Host, rows}
-use Rattle.pawn_book.specs.Sound.{HasUnsoundBook, IsSound}
+use Rattle.pawn_book.specs.Sound.{IsSound}
 use Rattle.pawn_book.specs.Changes.{with_change}
 
 -- what is known of keepers of a kind, however they keep
@@ -31,12 +31,15 @@ pub record Keeping (K : Type 0) : Type 1 where
   pub steady : K → Type 0
   -- the hosts that a crash now may leave
   pub leaves : K → Host → Type 0
+  -- it stands for a sound host, and so does whatever a crash now may leave
+  pub whole : K → Type 0
 
--- a keeper goes on after a call: one that is honest, or serves, was so before, and a steady one stays so
+-- a keeper goes on after a call: one that is honest, or serves, was so before, and a steady or a whole one stays so
 pub record GoesOn {K : Type 0} (k : Keeping K) (old new : K) : Type 0 where
   pub past : k.honest new → k.honest old
   pub served : k.honest new → k.serves new → k.serves old
   pub stays : k.steady old → k.steady new
+  pub whole : k.honest new → k.whole old → k.whole new
 
 -- a call that changes nothing tells P of each host that the keeper stands for, and it stands for no further host after it
 pub record Reads {K : Type 0} (k : Keeping K) (old new : K) (P : Host → Type 0) : Type 0 where
@@ -48,10 +51,10 @@ pub record Reads {K : Type 0} (k : Keeping K) (old new : K) (P : Host → Type 0
   pub crash : k.honest new → (left : Host) → k.leaves new left → k.leaves old left
 
 -- why a keeper does not answer: a steady one for want of memory alone, and any one tells that a stored row is no record
--- only of a host with a book that is not sound
-pub record Errs {K T : Type 0} (k : Keeping K) (old new : K) (result : Result T KeepError) : Type 0 where
+-- only of a host that is unsound in this way
+pub record Errs {K T : Type 0} (k : Keeping K) (old new : K) (IsUnsound : Host → Type 0) (result : Result T KeepError) : Type 0 where
   pub never : k.steady old → IfErr result (λ e. e ≡ Keeper.Memory)
-  pub no_record : result ≡ Err (Keeper.Store NoRecord) → k.honest new → (h : Host) → k.stands old h → HasUnsoundBook h
+  pub no_record : result ≡ Err (Keeper.Store NoRecord) → k.honest new → (h : Host) → k.stands old h → IsUnsound h
 
 -- over a steady keeper the only error is want of memory
 abbrev pub IsSteady : {K T : Type 0} → Keeping K → K → Result T KeepError → Type 0

@@ -29,9 +29,13 @@ IsSoundAt b book = IsNumber b × IsSoundBook book
 abbrev pub AreSound : Host → Type 0
 AreSound h = (b : ℕ) (book : BookValue) → get h.books b ≡ Some book → IsSoundAt b book
 
+-- the book of this number stands in the host, and is not sound
+abbrev pub IsUnsoundAt : ℕ → Host → Type 0
+IsUnsoundAt b h = (book : BookValue) × (get h.books b ≡ Some book) × (IsSoundAt b book → ⊥)
+
 -- a book of the host is not sound
 abbrev pub HasUnsoundBook : Host → Type 0
-HasUnsoundBook h = (b : ℕ) × (book : BookValue) × (get h.books b ≡ Some book) × (IsSoundAt b book → ⊥)
+HasUnsoundBook h = (b : ℕ) × IsUnsoundAt b h
 
 -- each book, and the rows within the limit
 pub record IsSound (h : Host) : Type 0 where

@@ -8,6 +8,7 @@ ghost use Rattle.pawn_book.specs.HostStep.{Host, rows};
 ghost use Rattle.pawn_book.specs.Changes.{CanSave};
 ghost use Rattle.pawn_book.specs.Keeping.{Errs, IsNextBook, Keeping, Of, Reads, Saves, entries_of, extensions_of, number_of, pledges_of, secrets_of, terms_of};
 ghost use Rattle.pawn_book.specs.Sheet.{day_sheet};
+ghost use Rattle.pawn_book.specs.Sound.{HasUnsoundBook, IsUnsoundAt};
 ghost use Rattle.pawn_book.specs.Visits.{IsShare, Visits, call_end};
 
 use crate::change::{BookHead, Change};
@@ -19,49 +20,50 @@ use pawn_pledge::{Brief, Day, Entry, Extension, Issued, Number, Pledge, Referenc
 /// What keeps a host, however it is kept. Only `save` changes the host.
 pub trait Keep {
     /// What is known of it: the hosts that it stands for; whether its store has returned what was
-    /// written, still answers, and never fails; the hosts that a crash now may leave.
+    /// written, still answers, and never fails; the hosts that a crash now may leave, and whether it stands for a
+    /// sound host and so does whatever a crash may leave.
     ghost keeping: { Keeping Self };
 
     /// The head of a book, if the book stands.
     fn book_head(&mut self, book: Number) -> Result<Option<BookHead>, KeepError>
         ensures reads { Reads keeping self.old self.new (λ h. IfOk result (λ head. head ≡ option_map book_head (get h.books book))) }
-        ensures errs { Errs keeping self.old self.new result };
+        ensures errs { Errs keeping self.old self.new (IsUnsoundAt book) result };
 
     /// The terms of a version.
     fn terms(&mut self, book: Number, version: u64) -> Result<Option<Terms>, KeepError>
         ensures reads { Reads keeping self.old self.new (λ h. IfOk result (λ terms. terms ≡ terms_at (terms_of (get h.books book)) version)) }
-        ensures errs { Errs keeping self.old self.new result };
+        ensures errs { Errs keeping self.old self.new (IsUnsoundAt book) result };
 
     /// The pledge of a number.
     fn pledge(&mut self, book: Number, number: Number) -> Result<Option<Pledge>, KeepError>
         ensures reads { Reads keeping self.old self.new (λ h. IfOk result (λ pledge. pledge ≡ pledge_in (get h.books book) number)) }
-        ensures errs { Errs keeping self.old self.new result };
+        ensures errs { Errs keeping self.old self.new (IsUnsoundAt book) result };
 
     /// The number of the pledge with a reference.
     fn find_ref(&mut self, book: Number, reference: &Reference) -> Result<Option<Number>, KeepError>
         ensures reads { Reads keeping self.old self.new (λ h. IfOk result (λ number. number ≡ number_of (get h.books book) reference.now)) }
-        ensures errs { Errs keeping self.old self.new result };
+        ensures errs { Errs keeping self.old self.new (IsUnsoundAt book) result };
 
     /// How many pledges have a confirmed booking for a day and a window.
     fn confirmed_count(&mut self, book: Number, day: Day, window: u64) -> Result<u64, KeepError>
         ensures reads { Reads keeping self.old self.new (λ h. IfOk result (λ count. count ≡ confirmed_count (pledges_of (get h.books book)) day window)) }
-        ensures errs { Errs keeping self.old self.new result };
+        ensures errs { Errs keeping self.old self.new (IsUnsoundAt book) result };
 
     /// Hands the visitor the pledges of a book in order of their numbers, until it wants no more.
     fn walk<V: Visitor<Pledge>>(&mut self, book: Number, visitor: &mut V) -> Result<(), KeepError>
         ensures reads { Visits V.step visitor.old visitor.new (λ given flow.
             Reads keeping self.old self.new (λ h. IsShare given flow (call_end result) (pledges_of (get h.books book)))) }
-        ensures errs { Errs keeping self.old self.new result };
+        ensures errs { Errs keeping self.old self.new (IsUnsoundAt book) result };
 
     /// The least number of a book above one, or above none at all.
     fn next_book(&mut self, after: Option<Number>) -> Result<Option<Number>, KeepError>
         ensures reads { Reads keeping self.old self.new (λ h. IfOk result (λ next. IsNextBook h (unwrap_or after 0) next)) }
-        ensures errs { Errs keeping self.old self.new result };
+        ensures errs { Errs keeping self.old self.new HasUnsoundBook result };
 
     /// The pledge of a number without its lists.
     fn brief(&mut self, book: Number, number: Number) -> Result<Option<Brief>, KeepError>
         ensures reads { Reads keeping self.old self.new (λ h. IfOk result (λ brief. brief ≡ option_map brief_of (pledge_in (get h.books book) number))) }
-        ensures errs { Errs keeping self.old self.new result };
+        ensures errs { Errs keeping self.old self.new (IsUnsoundAt book) result };
 
     /// Hands the visitor the entries of a pledge in order, until it wants no more.
     fn entries<V: Visitor<Entry>>(
@@ -72,7 +74,7 @@ pub trait Keep {
     ) -> Result<(), KeepError>
         ensures reads { Visits V.step visitor.old visitor.new (λ given flow.
             Reads keeping self.old self.new (λ h. IsShare given flow (call_end result) (entries_of (pledge_in (get h.books book) number)))) }
-        ensures errs { Errs keeping self.old self.new result };
+        ensures errs { Errs keeping self.old self.new (IsUnsoundAt book) result };
 
     /// Hands the visitor the secrets of a pledge in order, until it wants no more.
     fn secrets<V: Visitor<Issued>>(
@@ -83,7 +85,7 @@ pub trait Keep {
     ) -> Result<(), KeepError>
         ensures reads { Visits V.step visitor.old visitor.new (λ given flow.
             Reads keeping self.old self.new (λ h. IsShare given flow (call_end result) (secrets_of (pledge_in (get h.books book) number)))) }
-        ensures errs { Errs keeping self.old self.new result };
+        ensures errs { Errs keeping self.old self.new (IsUnsoundAt book) result };
 
     /// Hands the visitor the extensions of a pledge in order, until it wants no more.
     fn extensions<V: Visitor<Extension>>(
@@ -94,7 +96,7 @@ pub trait Keep {
     ) -> Result<(), KeepError>
         ensures reads { Visits V.step visitor.old visitor.new (λ given flow.
             Reads keeping self.old self.new (λ h. IsShare given flow (call_end result) (extensions_of (pledge_in (get h.books book) number)))) }
-        ensures errs { Errs keeping self.old self.new result };
+        ensures errs { Errs keeping self.old self.new (IsUnsoundAt book) result };
 
     /// Hands the visitor the items of a day's sheet in order, until it wants no more.
     fn sheet_each<V: Visitor<SheetItem>>(
@@ -105,12 +107,12 @@ pub trait Keep {
     ) -> Result<(), KeepError>
         ensures reads { Visits V.step visitor.old visitor.new (λ given flow.
             Reads keeping self.old self.new (λ h. IsShare given flow (call_end result) (day_sheet (pledges_of (get h.books book)) day))) }
-        ensures errs { Errs keeping self.old self.new result };
+        ensures errs { Errs keeping self.old self.new (IsUnsoundAt book) result };
 
     /// The rows of all books.
     fn rows(&mut self) -> Result<u64, KeepError>
         ensures reads { Reads keeping self.old self.new (λ h. IfOk result (λ count. count ≡ rows h)) }
-        ensures errs { Errs keeping self.old self.new result };
+        ensures errs { Errs keeping self.old self.new HasUnsoundBook result };
 
     /// Makes a change, unless the rows would be above the limit.
     fn save(&mut self, change: &Change) -> Result<(), SaveError>

@@ -1,6 +1,6 @@
 ghost use Rattle.pawn_book.specs.Laws.{ChangesDiffer, EntriesActOnce, EntriesActOnceForAll, ExtensionsActOnce, RepeatsActOnce, StandingEndIsTold};
 ghost use Rattle.pawn_book.specs.Passes.{IsOne, KeepsReceipts, Pass, ReplacesNone};
-ghost use Rattle.pawn_book.specs.Slots.{BearersJoin, BooksAnswerAlone, EarlierReceiptsAreSpent, EqualTracesAnswerAlike, OtherBooksStay, SlotsAnswerAlone, SlotsAreHeld, SpentIsUnknown, SpentReceiptsStaySpent, TracesAreAccepted};
+ghost use Rattle.pawn_book.specs.Slots.{BearersJoin, BooksAnswerAlone, EarlierReceiptsAreSpent, EqualBookTracesAnswerAlike, EqualTracesAnswerAlike, OtherBooksStay, SlotsAnswerAlone, SlotsAreHeld, SpentIsUnknown, SpentReceiptsStaySpent, TracesAreAccepted};
 
 /// What a plan calls a change is one.
 pub fn changes_differ()
@@ -25,10 +25,12 @@ pub fn extensions_act_once()
     ensures law { ExtensionsActOnce }
 {}
 
-/// Each settled reply about a book is that of the book alone, fed its own requests, and no request changes another book.
+/// Each settled reply about a book is that of the book alone, fed its own requests, so equal traces of a book are answered
+/// alike; and no request changes another book.
 /// F is the type of what may be wrong with a request's bytes.
 pub fn books_answer_alone<F>()
     ensures alone { BooksAnswerAlone F }
+    ensures alike { EqualBookTracesAnswerAlike F }
     ensures others { OtherBooksStay }
 {}
 
