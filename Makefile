@@ -1,5 +1,5 @@
 # The commands of this repository. Each is a script of tools/ or tests/, which says more of itself.
-.PHONY: build serve check test bench release clean help
+.PHONY: build serve check test fuzz bench release clean help
 
 build:
 	@tools/build
@@ -12,6 +12,9 @@ check:
 
 test:
 	@exec tests/run
+
+fuzz:
+	@exec tools/fuzz
 
 bench:
 	@exec tools/bench
