@@ -1,7 +1,7 @@
 #!/usr/bin/env python3
 """Prints microseconds a request over connections of `pawnd serve :memory:`, beside the same bytes through `pawnd answer`.
 
-usage: bench/connections.py [PROGRAM]     (default: the program that `rt run` built in crates/pawnd)
+usage: bench/connections.py [PROGRAM]     (default: build/pawnd)
 
 Openings and views of one book of 499 pledges, each request sent when the reply before it has come: over one connection, and over
 a connection for each. Beside them a bare round trip over the loopback, of as many bytes, by a thread that sends back what it

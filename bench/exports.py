@@ -2,7 +2,7 @@
 """Prints what an export of a book of 10,000 pledges takes through `pawnd serve`, for each pledge, and how far it lifts the
 server's peak memory, beside the bytes of its text.
 
-usage: bench/exports.py [PROGRAM]     (default: the program that `rt run` built in crates/pawnd)
+usage: bench/exports.py [PROGRAM]     (default: build/pawnd)
 """
 import os
 import sys
@@ -26,7 +26,7 @@ def peak(server):
 
 def main():
     if not os.path.exists(PROGRAM):
-        sys.exit("no program: run `rt run` in crates/pawnd first, or name one")
+        sys.exit("no program: run make first, or name one")
     with Server() as server:
         session = server.session()
         session.open_book()

@@ -1,7 +1,7 @@
 #!/usr/bin/env python3
 """Prints what requests over a file take, through `pawnd answer` and `pawnd serve`, beside a bare durable insert.
 
-usage: bench/files.py [--small] [PROGRAM]     (default: the program that `rt run` built in crates/pawnd)
+usage: bench/files.py [--small] [PROGRAM]     (default: build/pawnd)
 
 The files are made by the program and filled by Python's sqlite3, row by row as the program would. A request's time is that from
 the first reply of a stream to the last, over a fresh copy of the file each time; the best of some runs. A repayment and a bare
@@ -229,7 +229,7 @@ def moves(folder):
 
 def main():
     if not os.path.exists(PROGRAM):
-        sys.exit("no program: run `rt run` in crates/pawnd first, or name one")
+        sys.exit("no program: run make first, or name one")
     with tempfile.TemporaryDirectory(dir="/var/tmp") as folder:
         among_others(folder)
         in_memory(folder)

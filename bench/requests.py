@@ -2,7 +2,7 @@
 """Prints requests a second and peak memory of openings, views, day sheets, exports and repayments
 through `pawnd answer :memory:`.
 
-usage: bench/requests.py [PROGRAM]     (default: the program that `rt run` built in crates/pawnd)
+usage: bench/requests.py [PROGRAM]     (default: build/pawnd)
 
 A stream has at most 1,000 requests, so a run is one book, its terms, and up to 998 openings, views
 or repayments. What a view costs is the time of 499 openings and 499 views less that of 499 openings,
@@ -81,7 +81,7 @@ def line(name, count, seconds):
 def main():
     program = PROGRAM
     if not os.path.exists(program):
-        sys.exit("no program: run `rt run` in crates/pawnd first, or name one")
+        sys.exit("no program: run make first, or name one")
     _, nothing = answer(program, b"".join(start()))
     many, openings = answer(program, b"".join(start()) + b"".join(map(opening, range(998))))
     assert many.count(b"200 OK") == 1000

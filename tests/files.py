@@ -94,6 +94,14 @@ BENT = [
     ("another end", by("UPDATE pledges SET ends = ends + 1 WHERE book = 7 AND number = 1")),
     ("other totals", by("UPDATE totals SET charges = charges + 1 WHERE book = 7 AND number = 1")),
     ("an extension into the past", by("UPDATE extensions SET until_day = day WHERE book = 7")),
+    ("no secret at all", by("DELETE FROM secrets WHERE book = 7 AND number = 1")),
+    ("a closing without its day", by("UPDATE pledges SET closed = 1, amount = 100 WHERE book = 7 AND number = 1")),
+    ("a state of no booking", by("UPDATE bookings SET state = 4 WHERE book = 7")),
+    ("no totals", by("DELETE FROM totals WHERE book = 7 AND number = 1")),
+    ("no capacity", by("UPDATE books SET capacity = 0 WHERE book = 7")),
+    ("no name", by("UPDATE books SET title = '' WHERE book = 7")),
+    ("an import without its key", by("UPDATE books SET imported = 1 WHERE book = 7")),
+    ("a key of one byte", by("UPDATE books SET book_key = x'00' WHERE book = 7")),
     ("terms out of their limits", by("UPDATE terms SET rate = 20001 WHERE book = 7")),
     ("an entry's number twice", loosened("entries", ", PRIMARY KEY (book, number, seq)", "", "UPDATE entries SET seq = 1 WHERE book = 7")),
     ("a sum that is NULL", loosened("entries", "pence INTEGER NOT NULL", "pence INTEGER", "UPDATE entries SET pence = NULL WHERE book = 7 AND seq = 2")),
@@ -116,6 +124,51 @@ def bent_rows_are_told_and_touch_no_other_book():
             expect(f"the requests, {step}", answer(bent, statement(1), *others, statement(1)), [STORE, *before, STORE])
 
 
+def falling_versions(tables):
+    """A second version of terms, which the first pledge is under, and the second not."""
+    tables.executescript("INSERT INTO terms VALUES (7, 2, 2667, 0, 0); UPDATE books SET terms = 2 WHERE book = 7;"
+                         "UPDATE pledges SET version = 2 WHERE book = 7 AND number = 1; UPDATE meta SET value = value + 1 WHERE name = 'rows'")
+
+
+# What no single record tells, and a check alone finds.
+MISFITS = [
+    ("versions that fall", falling_versions),
+    ("a row that is not counted", by("UPDATE meta SET value = value - 1 WHERE name = 'rows'")),
+    ("a pledge that is counted and is none", by("UPDATE books SET pledges = pledges + 1 WHERE book = 8")),
+    ("a booking that was deleted", by("DELETE FROM bookings WHERE book = 7")),
+]
+
+
+def rows_that_do_not_fit_each_other_are_damage():
+    with tempfile.TemporaryDirectory() as room:
+        path, bent = os.path.join(room, "books"), os.path.join(room, "bent")
+        fill(path, 7, 8)
+        for step, bend in MISFITS:
+            shutil.copyfile(path, bent)
+            with opened(bent) as tables:
+                bend(tables)
+            expect(f"a check, {step}", check(bent), DAMAGED)
+            expect(f"a statement, {step}", answer(bent, statement(1))[0][0], 200)
+
+
+def the_first_limit_stands():
+    """A store whose own limit is four rows answers by that."""
+    with tempfile.TemporaryDirectory() as room:
+        path = os.path.join(room, "books")
+        expect("its check", check(path), (0, "books 0 pledges 0 rows 0\n", ""))
+        with opened(path) as tables:
+            by("UPDATE meta SET value = 4 WHERE name = 'limit'")(tables)
+        made = answer(
+            path,
+            keyed("POST", "/books/7", {"capacity": 2, "key": BROKER, "name": "High Street"}, OPERATOR),
+            keyed("POST", "/books/7/terms", {"keep_after": 0, "keep_before": 0, "rate": 0, "version": 1}),
+            keyed("POST", "/books/7/pledges", opening(1)),
+            keyed("POST", "/books/7/pledges", opening(2)),
+        )
+        expect("what there is room for", [status for status, _ in made], [200, 200, 200, 503])
+        expect("what there is none for", made[3][1], {"code": 490, "name": "Full"})
+
+
 def what_was_paid_is_kept_however_much():
     # two per cent of a million pounds a day, for the 3,653 days of ten years
     paid = 100_000_000 + 3_653 * 2_000_000
@@ -135,4 +188,5 @@ def what_was_paid_is_kept_however_much():
 
 
 main(others_open_the_file, a_closed_file_is_whole_without_its_log, a_killed_service_leaves_its_books_in_file_and_log,
-     bent_rows_are_told_and_touch_no_other_book, what_was_paid_is_kept_however_much)
+     bent_rows_are_told_and_touch_no_other_book, rows_that_do_not_fit_each_other_are_damage, the_first_limit_stands,
+     what_was_paid_is_kept_however_much)

@@ -1,18 +1,22 @@
 #!/usr/bin/env python3
-"""The README's first screen: each of its curl lines is run against a server, and what it prints is compared.
+"""The README's first screen: `make serve` is started as it says, each of its curl lines is run, and what it prints is compared. The service is still there 70 seconds
+after it said that it listens.
 
-A line that begins with `$ curl` or `$ RECEIPT=` is run, and the lines under it are what it prints. The port, the day, the end of
-the period and the receipt are those of this run in place of the README's.
+A line that begins with `$ curl`, `$ KEY=` or `$ RECEIPT=` is run, and the lines under it are what it prints. The port, the folder, the day, the end of the period
+and the receipt are those of this run in place of the README's.
 """
 import os
 import re
+import signal
 import subprocess
 import tempfile
+import time
 
-from service import TOP, Failed, Server, expect, main, six_months_after, today
+from service import PROGRAM, TOP, Failed, expect, free_port, main, six_months_after, today
 
 PORT = "localhost:8080"
 RECEIPT = re.compile(r"1-[0-9a-f]{8}(?:-[0-9a-f]{4}){3}-[0-9a-f]{12}")
+STAYS = 70
 
 
 def steps():
@@ -28,28 +32,58 @@ def steps():
             found[-1][1].append(line[4:])
         else:
             in_step = False
-    return [(command, "\n".join(told)) for command, told in found if command.startswith(("curl ", "RECEIPT="))]
+    return [(command, "\n".join(told)) for command, told in found]
+
+
+def serve(command, port, data):
+    """The service, started by the README's own command, on this port and in this folder."""
+    program = subprocess.Popen([*command.split(), f"PORT={port}", f"DATA={data}"], cwd=TOP, stdin=subprocess.DEVNULL, stdout=subprocess.PIPE, text=True,
+                               env={**os.environ, "PAWND": PROGRAM}, start_new_session=True)
+    for line in program.stdout:
+        if line == f"listening {port}\n":
+            return program
+    raise Failed(f"it ended with {program.wait()}")
+
+
+def ask(lines, port, folder, data):
+    """Runs the lines in turn, and compares what each prints."""
+    told_first = RECEIPT.search("\n".join(told for _, told in lines)).group()
+    days = sorted(set(re.findall(r"\d{4}-\d\d-\d\d", "\n".join(told for _, told in lines))))
+    expect("the days that it names", len(days), 2)
+    shell, receipt = "", None
+    for command, told in lines:
+        command = command.replace(PORT, f"127.0.0.1:{port}").replace("data/", f"{data}/")
+        if command.startswith("RECEIPT="):
+            command = f"RECEIPT={receipt}"
+        if not command.startswith("curl "):
+            shell += f"{command}\n"
+            continue
+        ran = subprocess.run(["bash", "-c", shell + command], cwd=folder, stdin=subprocess.DEVNULL, stdout=subprocess.PIPE, stderr=subprocess.DEVNULL, timeout=30)
+        said = ran.stdout.decode().strip("\n")
+        receipt = next(iter(RECEIPT.findall(said)), receipt)
+        told = told.replace(days[0], str(today())).replace(days[1], str(six_months_after(today())))
+        expect(command, said, RECEIPT.sub(str(receipt), told).replace(told_first[2:], str(receipt)[2:]))
+    if receipt is None:
+        raise Failed("no receipt was given")
 
 
 def the_first_screen():
-    told_first = RECEIPT.search("\n".join(told for _, told in steps())).group()
-    days = sorted(set(re.findall(r"\d{4}-\d\d-\d\d", "\n".join(told for _, told in steps()))))
-    expect("the days that it names", len(days), 2)
-    with Server() as server, tempfile.TemporaryDirectory() as folder:
-        shell, receipt = "", None
-        for command, told in steps():
-            command = command.replace(PORT, f"127.0.0.1:{server.port}")
-            if command.startswith("RECEIPT="):
-                shell = f"RECEIPT={receipt}\n"
-                continue
-            ran = subprocess.run(["bash", "-c", shell + command], cwd=folder, stdin=subprocess.DEVNULL, stdout=subprocess.PIPE, stderr=subprocess.DEVNULL, timeout=30)
-            said = ran.stdout.decode().strip("\n")
-            receipt = next(iter(RECEIPT.findall(said)), receipt)
-            told = told.replace(days[0], str(today())).replace(days[1], str(six_months_after(today())))
-            told = RECEIPT.sub(str(receipt), told).replace(told_first[2:], str(receipt)[2:])
-            expect(command, said, told)
-        if receipt is None:
-            raise Failed("no receipt was given")
+    (start, _), *lines = steps()
+    expect("what it begins with", start, "make serve")
+    with tempfile.TemporaryDirectory() as folder:
+        port, data = free_port(), os.path.join(folder, "data")
+        program = serve(start, port, data)
+        begun = time.monotonic()
+        try:
+            ask(lines, port, folder, data)
+            time.sleep(max(0, STAYS - (time.monotonic() - begun)))
+            expect("the service after a while", program.poll(), None)
+            asked = next(command for command, _ in lines if command.startswith("curl ") and "/export" in command)
+            again = subprocess.run(["bash", "-c", asked.replace(PORT, f"127.0.0.1:{port}")], stdout=subprocess.PIPE, stderr=subprocess.DEVNULL, timeout=30)
+            expect("a request then", again.stdout[:6], b"row,c1")
+        finally:
+            os.killpg(program.pid, signal.SIGTERM)
+            program.communicate(timeout=30)
 
 
 main(the_first_screen)

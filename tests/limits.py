@@ -159,6 +159,14 @@ def the_longest_body():
     expect("one byte more", answers(request("POST", "/books/7", key, body=body.ljust(1_048_577))), too_long)
 
 
+def a_body_of_too_many_levels():
+    made = 'HTTP/1.1 200 OK\r\nContent-Length: 10\r\nContent-Type: application/json\r\n\r\n{"book":7}'.encode()
+    key = f"Pledge-Key: {OPERATOR}"
+    for levels, wanted in ((100, made), (200, refusal(708, "BadBody", "400 Bad Request"))):
+        body = f'{{"capacity":2,"key":"{BROKER}","name":"High Street","more":{"[" * levels}{"]" * levels}}}'
+        expect(f"{levels} levels", answers(request("POST", "/books/7", key, body=body)), wanted)
+
+
 def heads_at_their_limits():
     none, bad = refusal(712, "NoReceipt", "400 Bad Request"), refusal(701, "BadHead", "400 Bad Request")
     for length, wanted in ((8191, none), (8192, none), (8193, bad)):
@@ -170,4 +178,4 @@ def heads_at_their_limits():
 
 
 main(ten_thousand_entries_less_one, a_hundred_declarations, ninety_nine_extensions, one_to_thirty_two_receipts, more_than_a_thousand_pledges,
-     every_window_of_a_day, the_largest_numbers, the_longest_body, heads_at_their_limits)
+     every_window_of_a_day, the_largest_numbers, the_longest_body, a_body_of_too_many_levels, heads_at_their_limits)

@@ -13,7 +13,7 @@ import tempfile
 import time
 
 TOP = os.path.dirname(os.path.dirname(os.path.abspath(__file__)))
-PROGRAM = os.environ.get("PAWND", os.path.join(TOP, "crates/pawnd/out/pawnd"))
+PROGRAM = os.path.abspath(os.environ.get("PAWND") or os.path.join(TOP, "build/pawnd"))
 OPERATOR = "11111111-1111-1111-1111-111111111111"
 BROKER = "22222222-2222-2222-2222-222222222222"
 SEED = "0" * 64
@@ -114,7 +114,7 @@ class Session:
 
 def request(method, target, *fields, body="", version="HTTP/1.1"):
     """The bytes of a request."""
-    length = [f"Content-Length: {len(body)}"] if body else []
+    length = [f"Content-Length: {len(body.encode())}"] if body else []
     return "\r\n".join([f"{method} {target} {version}", *fields, *length, "", body]).encode()
 
 

@@ -1,9 +1,6 @@
 //! Whole requests and their replies: by `run`, one alone, and over streams whose ends are slow or fail.
 
-mod bent;
 mod ends;
-mod long;
-mod slots;
 mod stops;
 mod turns;
 
@@ -18,7 +15,7 @@ use sqlite::{Connection, MemStore};
 use std::alloc::Global;
 use std::process::Abort;
 use std::test::Fail;
-use turns::{ROWS, Turn, day_turns, export_turns, full_turns, import_turns, turns};
+use turns::{ROWS, Turn, full_turns, import_turns, turns};
 
 const ASKED: &[u8] = b"GET /books/7/held HTTP/1.1\r\nHost: x\r\n\r\n";
 
@@ -130,18 +127,6 @@ fn two_pledges_live_through_every_request(rt: HostRuntime) -> Result<(), Fail> {
 fn a_full_host_answers_what_adds_no_row(rt: HostRuntime) -> Result<(), Fail> {
     let turns = full_turns(&rt, rt.alloc())?;
     plays_in_both(&rt, rt.alloc(), ROWS, turns.as_slice())
-}
-
-#[test]
-fn a_day_is_shown(rt: HostRuntime) -> Result<(), Fail> {
-    let turns = day_turns(&rt, rt.alloc())?;
-    plays_in_both(&rt, rt.alloc(), 1000, turns.as_slice())
-}
-
-#[test]
-fn a_book_is_exported(rt: HostRuntime) -> Result<(), Fail> {
-    let turns = export_turns(&rt, rt.alloc())?;
-    plays_in_both(&rt, rt.alloc(), 1000, turns.as_slice())
 }
 
 #[test]

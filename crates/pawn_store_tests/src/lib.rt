@@ -14,6 +14,4 @@ mod opening_tests;
 #[cfg(test)]
 mod program_tests;
 #[cfg(test)]
-mod tables_tests;
-#[cfg(test)]
 mod view_tests;

@@ -8,7 +8,6 @@ use std::alloc::Global;
 use std::test::Fail;
 
 mod failing_writers;
-mod sheets;
 
 const KEY: u128 = 2;
 

@@ -1,9 +1,11 @@
+//! Books kept in lists: each call of `ListKeep`, and what is asked of a book, once. All requests and their replies are shown by
+//! the script `tests/turns.py`, over tables.
 use crate::asking::acted;
 use pawn_book::{
     Article, BearerCommand, BearerRequest, Booking, BookingState, BrokerCommand, BrokerRequest,
     Caller, Capacity, Command, Decision, Done, Entry, Flow, Keep, Kind, ListKeep, Name, NewBook,
-    NewTerms, Number, Opening, Paper, Pledge, PledgeRefusal, Rates, Receipt, Receipts, Reference,
-    Refusal, Reply, Request, RequestDay, Secret, Sort, Stamp, Status, TermsFault, Visitor, commit,
+    NewTerms, Number, Opening, Paper, Pledge, PledgeRefusal, Rates, Receipt, Reference, Refusal,
+    Reply, Request, RequestDay, Secret, Sort, Stamp, Status, TermsFault, Visitor, commit,
     find_live, gate, plan,
 };
 use pawn_check::{Counts, check};
@@ -12,7 +14,6 @@ use std::alloc::Global;
 use std::test::Fail;
 
 mod filling;
-mod imports;
 
 const OPERATOR: u128 = 11;
 
@@ -421,29 +422,6 @@ fn the_row_limit_comes_last(rt: HostRuntime) -> Result<(), Fail> {
     Ok(())
 }
 
-// Whether the versions from 1 to 99 can be put, and no further one.
-fn versions_follow(alloc: Global, keep: &mut ListKeep) -> Result<bool, Fail> {
-    let made = asked(1, make(), Ok(Reply::BookMade(number(7)?)));
-    if !answers(alloc, keep, &made)? {
-        return Ok(false);
-    }
-    for version in 1..100u64 {
-        let next = asked(2, put(version, version), Ok(Reply::TermsPut(version)));
-        if !answers(alloc, keep, &next)? {
-            return Ok(false);
-        }
-    }
-    let past = asked(2, put(100, 0), Err(Refusal::TermsFull));
-    answers(alloc, keep, &past)
-}
-
-#[test]
-fn a_book_has_99_versions_of_terms(rt: HostRuntime) -> Result<(), Fail> {
-    let mut keep = ListKeep::new(rt.alloc(), 1000);
-    assert!(rt; versions_follow(rt.alloc(), &mut keep)?);
-    Ok(())
-}
-
 // Whether a receipt of pledge 2 is live in a book.
 fn is_live(keep: &mut ListKeep, book: u64, word: u128) -> Result<bool, Fail> {
     match find_live(keep, number(book)?, &receipt(2, word)?) {
@@ -478,18 +456,5 @@ fn reads(alloc: Global, keep: &mut ListKeep) -> Result<bool, Fail> {
 fn a_receipt_is_live_in_its_book_alone(rt: HostRuntime) -> Result<(), Fail> {
     let mut keep = ListKeep::new(rt.alloc(), 1000);
     assert!(rt; reads(rt.alloc(), &mut keep)?);
-    Ok(())
-}
-
-#[test]
-fn receipts_are_few(rt: HostRuntime) -> Result<(), Fail> {
-    let mut many = Vec::new(rt.alloc());
-    for _ in 1..=32u64 {
-        many.push(receipt(1, 1)?)?;
-    }
-    let receipts = Receipts::new(many).ok_or("too many")?;
-    assert_eq!(rt; receipts.as_slice().len(), 32);
-    let asked = Caller::Bearer(BearerRequest::Present(receipts));
-    assert!(rt; matches!(&asked, Caller::Bearer(_)));
     Ok(())
 }

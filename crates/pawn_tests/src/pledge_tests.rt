@@ -7,8 +7,6 @@ use pawn_pledge::{
 use std::alloc::Global;
 use std::test::Fail;
 
-mod histories;
-
 fn request_day(text: &[u8]) -> Result<RequestDay, Fail> {
     Ok(RequestDay::of_text(text)?)
 }

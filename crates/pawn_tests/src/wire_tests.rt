@@ -1,4 +1,4 @@
-//! What takes memory, each once with its answer, and bodies that are none.
+//! What takes memory, each once with its answer, and bodies of another length than their heads tell.
 
 use pawn_book::{
     BrokerRequest, Caller, Kind, Number, PledgeRefusal, Receipt, Refusal, Reply, Request, Secret,
@@ -78,22 +78,6 @@ fn replies_are_written(rt: HostRuntime) -> Result<(), Fail> {
     Ok(())
 }
 
-// These bytes, others so many times behind them, and a last few.
-fn repeated(
-    alloc: Global,
-    first: &[u8],
-    bytes: &[u8],
-    times: usize,
-    last: &[u8],
-) -> Result<Vec<u8>, AllocError> {
-    let mut all = Vec::from_slice(alloc, first)?;
-    for _ in 0..times {
-        all.extend_from_slice(bytes)?;
-    }
-    all.extend_from_slice(last)?;
-    Ok(all)
-}
-
 #[test]
 fn a_body_is_as_long_as_its_head_tells(rt: HostRuntime) -> Result<(), Fail> {
     let alloc = rt.alloc();
@@ -103,17 +87,5 @@ fn a_body_is_as_long_as_its_head_tells(rt: HostRuntime) -> Result<(), Fail> {
         let said = asked(&rt, alloc, bytes.as_slice());
         assert_eq!(rt; said.err(), Some(WireFault::BadLength));
     }
-    Ok(())
-}
-
-#[test]
-fn a_body_of_too_many_levels_is_none(rt: HostRuntime) -> Result<(), Fail> {
-    let alloc = rt.alloc();
-    let terms = b"{\"keep_after\":0,\"keep_before\":0,\"rate\":0,\"version\":7,\"more\":";
-    let levels = repeated(alloc, terms, b"[", 200, b"")?;
-    let body = repeated(alloc, levels.as_slice(), b"]", 200, b"}")?;
-    let bytes = post(alloc, "terms", body.len(), body.as_slice())?;
-    let said = asked(&rt, alloc, bytes.as_slice());
-    assert_eq!(rt; said.err(), Some(WireFault::BadBody));
     Ok(())
 }

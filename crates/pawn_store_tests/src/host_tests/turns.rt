@@ -67,30 +67,6 @@ const LIFE: &str = r#"
 503 Service Unavailable|{"code":490,"name":"Full"}
 "#;
 
-// The rows of a book with a receipt that was replaced, a booking, an article in quotes, an entry and an extension.
-const EXPORT: &str = r#"
-2000-01-01|0|operator|POST /books/7|{"capacity":1,"key":"22222222-2222-2222-2222-222222222222","name":"High Street"}
-200 OK|{"book":7}
-2000-01-01|0|broker|POST /books/7/terms|{"keep_after":0,"keep_before":0,"rate":0,"version":1}
-200 OK|{"version":1}
-2024-01-31|3|broker|POST /books/7/pledges|{"article":"Gold ring","five_days":false,"kind":"fixed","pence":10000,"ref":"A1"}
-200 OK|{"number":1,"receipt":"1-00000000-0000-0000-0000-000000000003"}
-2024-02-01|4|broker|POST /books/7/pledges/1/declare|{"paper":"sworn"}
-200 OK|{"receipt":"1-00000000-0000-0000-0000-000000000004"}
-2024-02-01|0|1-4|POST /books/7/held/ask|{"day":"2024-02-10","window":3}
-200 OK|{"booking":"asked","day":"2024-02-10","window":3}
-2024-02-01|5|broker|POST /books/7/pledges|{"article":"Ring, \"old\"","five_days":true,"kind":"running","pence":20000,"ref":"A2"}
-200 OK|{"number":2,"receipt":"2-00000000-0000-0000-0000-000000000005"}
-2024-02-01|0|broker|POST /books/7/pledges/2/draw|{"pence":12345,"seq":1}
-200 OK|{"day":"2024-02-01","pence":12345,"seq":1,"sort":"draw"}
-2024-02-01|0|broker|POST /books/7/pledges/2/extend|{"until":"2024-09-30"}
-200 OK|{"ends":"2024-09-30"}
-2024-03-01|0|stranger|GET /books/7/export|
-404 Not Found|{"code":401,"name":"NoSuchBook"}
-2024-03-01|0|broker|GET /books/7/export|
-200 OK|row,c1,c2,c3,c4,c5,c6,c7,c8,c9,c10,c11,c12,c13,c14|B,2,1,2,,,,,,,,,,,|T,1,0,0,0,,,,,,,,,,|P,1,A1,Gold ring,fixed,10000,2024-01-31,,no,1,no,2024-02-01,open,,|S,1,1,2024-01-31,opening,00000000-0000-0000-0000-000000000003,,,,,,,,,|S,1,2,2024-02-01,sworn,00000000-0000-0000-0000-000000000004,,,,,,,,,|K,1,2024-02-10,3,asked,,,,,,,,,,|P,2,A2,"Ring, ""old""",running,20000,2024-02-01,,yes,1,no,2024-02-01,open,,|S,2,1,2024-02-01,opening,00000000-0000-0000-0000-000000000005,,,,,,,,,|E,2,1,2024-02-01,draw,12345,,,,,,,,,|X,2,1,2024-02-01,2024-09-30,,,,,,,,,,|
-"#;
-
 // A book with a replaced receipt, an asked booking and a pledge that was sold: its rows, imported into another, are exported as they
 // came; and the answers that an import has before and after that.
 const IMPORT: &str = r#"
@@ -138,38 +114,6 @@ const IMPORT: &str = r#"
 200 OK|{"version":1}
 2024-08-01|0|broker/44444444|POST /books/9/import|row,c1,c2,c3,c4,c5,c6,c7,c8,c9,c10,c11,c12,c13,c14|B,2,1,2,,,,,,,,,,,|T,1,0,0,0,,,,,,,,,,|P,1,A1,Gold ring,fixed,10000,2024-01-31,,no,1,no,2024-02-01,open,,|S,1,1,2024-01-31,opening,00000000-0000-0000-0000-000000000003,,,,,,,,,|S,1,2,2024-02-01,sworn,00000000-0000-0000-0000-000000000005,,,,,,,,,|K,1,2024-02-10,3,asked,,,,,,,,,,|P,2,A2,Clock,fixed,10000,2024-01-31,,no,1,no,2024-08-01,sold,2024-08-01,9000|S,2,1,2024-01-31,opening,00000000-0000-0000-0000-000000000004,,,,,,,,,|
 200 OK|{"imported":0}
-"#;
-
-// A day of a book that confirms one booking of a window, and for which two bearers ask.
-const DAY: &str = r#"
-2000-01-01|0|operator|POST /books/7|{"capacity":1,"key":"22222222-2222-2222-2222-222222222222","name":"High Street"}
-200 OK|{"book":7}
-2000-01-01|0|broker|POST /books/7/terms|{"keep_after":0,"keep_before":0,"rate":0,"version":1}
-200 OK|{"version":1}
-2024-03-01|1|broker|POST /books/7/pledges|{"article":"Gold ring","five_days":false,"kind":"fixed","pence":10000,"ref":"A1"}
-200 OK|{"number":1,"receipt":"1-00000000-0000-0000-0000-000000000001"}
-2024-03-01|2|broker|POST /books/7/pledges|{"article":"Violin","five_days":false,"kind":"fixed","pence":7500,"ref":"A2"}
-200 OK|{"number":2,"receipt":"2-00000000-0000-0000-0000-000000000002"}
-2024-03-01|0|1-1|POST /books/7/held/ask|{"day":"2024-03-04","window":3}
-200 OK|{"booking":"asked","day":"2024-03-04","window":3}
-2024-03-01|0|2-2|POST /books/7/held/ask|{"day":"2024-03-04","window":3}
-200 OK|{"booking":"asked","day":"2024-03-04","window":3}
-2024-03-01|0|broker|POST /books/7/pledges/1/decide|{"yes":true}
-200 OK|{"booking":"confirmed","day":"2024-03-04","window":3}
-2024-03-01|0|broker|POST /books/7/pledges/2/decide|{"yes":true}
-409 Conflict|{"code":408,"name":"WindowFull"}
-2024-03-01|0|2-2|GET /books/7/held|
-200 OK|Pledge 2|Article Violin|Kind fixed 75.00|Taken 2024-03-01|Ends 2024-09-01|Status inside|Principal 75.00|Charges 0.00|Owing 75.00|Held no|Booking 2024-03-04 3 asked|
-2024-03-01|0|broker|GET /books/7/days/2024-03-04|
-200 OK|Day sheet 2024-03-04|Window 3 confirmed 1 of 1|Pledge 1|Asked 1|Pledge 2 window 3|Ends 0|
-2024-03-01|0|broker|GET /books/7/days/2024-09-01|
-200 OK|Day sheet 2024-09-01|Asked 0|Ends 2|Pledge 1|Pledge 2|
-2024-03-01|0|stranger|GET /books/7/days/2024-03-04|
-404 Not Found|{"code":401,"name":"NoSuchBook"}
-2024-03-01|0|broker|GET /books/8/days/2024-03-04|
-404 Not Found|{"code":401,"name":"NoSuchBook"}
-2024-03-01|0|broker|GET /books/7/days/2024-02-30|
-404 Not Found|{"code":706,"name":"NoRoute"}
 "#;
 
 // A host of twelve rows, all taken: a book, its terms and five pledges with a receipt each.
@@ -316,19 +260,9 @@ pub fn turns(rt: &impl Abort, alloc: Global) -> Result<Vec<Turn>, Fail> {
     turns_of(rt, alloc, LIFE)
 }
 
-/// The turns about a day, in order.
-pub fn day_turns(rt: &impl Abort, alloc: Global) -> Result<Vec<Turn>, Fail> {
-    turns_of(rt, alloc, DAY)
-}
-
 /// The turns of a full host, in order.
 pub fn full_turns(rt: &impl Abort, alloc: Global) -> Result<Vec<Turn>, Fail> {
     turns_of(rt, alloc, FULL)
-}
-
-/// The turns about an export, in order.
-pub fn export_turns(rt: &impl Abort, alloc: Global) -> Result<Vec<Turn>, Fail> {
-    turns_of(rt, alloc, EXPORT)
 }
 
 /// The turns about imports, in order.

@@ -1,12 +1,11 @@
-//! Imports into a book.
-use super::imports::{Bend, rows};
-use super::{KEY, OPERATOR, answers, asked, day, make, number, put};
+//! Imports into a book that is kept in lists. Which rows make a book is shown by the script `tests/borders.py`.
+use super::{KEY, OPERATOR, answers, asked, day, make, number};
 use crate::asking::acted;
 use pawn_book::{
-    BookRows, BookingState, BrokerRequest, Caller, Day, Imported, Keep, ListKeep, Number,
-    PledgeRows, Reference, Refusal, ReplayableRows, Reply, Request, Rows, Secret, SheetItem, Stamp,
-    day_sheet,
+    BrokerRequest, Caller, Day, Imported, Keep, ListKeep, Reference, Refusal, ReplayableRows,
+    Reply, Request, Secret, SheetItem, Stamp, day_sheet, replayable,
 };
+use pawn_csv::{import, read_book};
 use std::alloc::Global;
 use std::test::Fail;
 
@@ -14,33 +13,23 @@ const IMPORT: u128 = 77;
 
 const ANOTHER: u128 = 88;
 
-// What book 7 is told of an import under a key, of three pledges or of none.
-fn import(
-    alloc: Global,
-    keep: &mut ListKeep,
-    key: u128,
-    has_pledges: bool,
-) -> Result<Result<Reply, Refusal>, Fail> {
-    let rows = if has_pledges {
-        rows(alloc, 0, &[])?
-    } else {
-        BookRows {
-            terms: Rows::new(alloc),
-            pledges: PledgeRows::from_vec(Vec::new(alloc)),
-        }
-    };
-    imports(alloc, keep, key, rows)
+// A pledge that was repaid in part and declared lost, and whose bearer is to come.
+const ROWS: &[u8] =
+    b"row,c1,c2,c3,c4,c5,c6,c7,c8,c9,c10,c11,c12,c13,c14\nB,2,1,1,,,,,,,,,,,\nT,1,0,0,0,,,,,,,,,,\nP,1,A1,Gold ring,fixed,10000,2024-01-31,,no,1,no,2024-02-01,open,,\nS,1,1,2024-01-31,opening,00000000-0000-0000-0000-000000000003,,,,,,,,,\nS,1,2,2024-02-01,sworn,00000000-0000-0000-0000-000000000004,,,,,,,,,\nE,1,1,2024-02-01,repay,1000,,,,,,,,,\nK,1,2024-02-10,3,confirmed,,,,,,,,,,\n";
+
+fn rows(alloc: Global) -> Result<ReplayableRows, Fail> {
+    Ok(read_book(alloc, ROWS).ok().ok_or("no book")?)
 }
 
+// What book 7 is told of an import under a key.
 fn imports(
     alloc: Global,
     keep: &mut ListKeep,
     key: u128,
-    rows: BookRows,
+    rows: ReplayableRows,
 ) -> Result<Result<Reply, Refusal>, Fail> {
     let (book, day) = (number(7)?, day()?);
     let (key, operator) = (Secret::of_word(key), Secret::of_word(OPERATOR));
-    let rows = ReplayableRows::of_rows(rows).ok().ok_or("rows of no book")?;
     let caller = Caller::Broker {
         key: Secret::of_word(KEY),
         asked: BrokerRequest::Import { key, rows },
@@ -62,123 +51,81 @@ fn made(alloc: Global, limit: u64) -> Result<ListKeep, Fail> {
     Ok(keep)
 }
 
-// Whether the book has so many terms and pledges, and that import.
-fn has(
-    keep: &mut ListKeep,
-    terms: u64,
-    pledges: u64,
-    imported: Option<Imported>,
-) -> Result<bool, Fail> {
+// Whether what was imported is read as it was.
+fn is_read(alloc: Global, keep: &mut ListKeep) -> Result<bool, Fail> {
+    let reference = Reference::of_str(alloc, "A1")?.ok_or("no reference")?;
+    let found = keep.find_ref(number(7)?, &reference)?;
+    let imported = Imported {
+        key: Secret::of_word(IMPORT),
+        pledges: 1,
+    };
     match keep.book_head(number(7)?)? {
         Some(head) => Ok(
-            head.terms == terms && head.pledges == pledges && head.imported == imported,
+            head.imported == Some(imported) && found == Some(number(1)?) && keep.rows()? == 7,
         ),
         None => Ok(false),
     }
 }
 
-// The number of the pledge with a reference.
-fn finds(alloc: Global, keep: &mut ListKeep, reference: &str) -> Result<Option<Number>, Fail> {
-    let reference = Reference::of_str(alloc, reference)?.ok_or("no reference")?;
-    Ok(keep.find_ref(number(7)?, &reference)?)
-}
-
-// How many entries and secrets a pledge has.
-fn lengths(keep: &mut ListKeep, n: u64) -> Result<Option<(usize, usize)>, Fail> {
-    match keep.pledge(number(7)?, number(n)?)? {
-        Some(pledge) => Ok(Some((pledge.entries().len(), pledge.secrets().len()))),
-        None => Ok(None),
-    }
-}
-
-// Whether what was imported is read as it was.
-fn is_read(alloc: Global, keep: &mut ListKeep) -> Result<bool, Fail> {
-    let imported = Imported {
-        key: Secret::of_word(IMPORT),
-        pledges: 3,
-    };
-    Ok(
-        has(keep, 3, 3, Some(imported))?
-            && finds(alloc, keep, "A3")? == Some(number(3)?)
-            && lengths(keep, 2)? == Some((2, 2)),
-    )
-}
-
+// The book, its terms and its pledge, with an entry, two secrets and a booking, are seven rows.
 #[test]
 fn an_import_fills_a_book_once(rt: HostRuntime) -> Result<(), Fail> {
     let alloc = rt.alloc();
-    let mut keep = made(alloc, 100)?;
-    for has_pledges in [true, true, false] {
-        let answer = import(alloc, &mut keep, IMPORT, has_pledges)?;
-        assert_eq!(rt; answer, Ok(Reply::BookFilled(3)));
+    let mut keep = made(alloc, 7)?;
+    for _ in 0..2u32 {
+        let answer = imports(alloc, &mut keep, IMPORT, rows(alloc)?)?;
+        assert_eq!(rt; answer, Ok(Reply::BookFilled(1)));
         assert!(rt; is_read(alloc, &mut keep)?);
     }
-    let answer = import(alloc, &mut keep, ANOTHER, true)?;
+    let answer = imports(alloc, &mut keep, ANOTHER, rows(alloc)?)?;
     assert_eq!(rt; answer, Err(Refusal::BookNotEmpty));
+    let mut small = made(alloc, 6)?;
+    let answer = imports(alloc, &mut small, IMPORT, rows(alloc)?)?;
+    assert_eq!(rt; answer, Err(Refusal::Full));
     Ok(())
 }
 
 #[test]
-fn an_import_of_nothing_keeps_its_key(rt: HostRuntime) -> Result<(), Fail> {
+fn rows_are_put_by_the_books_key_alone(rt: HostRuntime) -> Result<(), Fail> {
     let alloc = rt.alloc();
     let mut keep = made(alloc, 100)?;
-    for has_pledges in [false, true] {
-        let answer = import(alloc, &mut keep, IMPORT, has_pledges)?;
-        assert_eq!(rt; answer, Ok(Reply::BookFilled(0)));
-        let answer = import(alloc, &mut keep, ANOTHER, has_pledges)?;
-        assert_eq!(rt; answer, Err(Refusal::BookNotEmpty));
+    let stamp = Stamp {
+        day: day()?,
+        word: 1,
+    };
+    for (key, told) in [
+        (ANOTHER, Err(Refusal::NoSuchBook)),
+        (KEY, Ok(Reply::BookFilled(1))),
+    ] {
+        let (book, rows) = (number(7)?, rows(alloc)?);
+        let (key, own) = (Secret::of_word(key), Secret::of_word(IMPORT));
+        assert_eq!(rt;
+            import(alloc, &mut keep, &stamp, book, key, own, rows),
+            told
+        );
     }
-    Ok(())
-}
-
-#[test]
-fn a_book_with_terms_takes_no_import(rt: HostRuntime) -> Result<(), Fail> {
-    let alloc = rt.alloc();
-    let mut keep = made(alloc, 100)?;
-    let terms = asked(1, put(1, 0), Ok(Reply::TermsPut(1)));
-    assert!(rt; answers(alloc, &mut keep, &terms)?);
-    let answer = import(alloc, &mut keep, IMPORT, true)?;
-    assert_eq!(rt; answer, Err(Refusal::BookNotEmpty));
-    Ok(())
-}
-
-// Rows: a book, 3 versions of terms, 3 pledges, 4 entries, 6 secrets and 2 bookings.
-#[test]
-fn an_import_has_as_many_rows(rt: HostRuntime) -> Result<(), Fail> {
-    let alloc = rt.alloc();
-    let mut keep = made(alloc, 19)?;
-    assert_eq!(rt;
-        import(alloc, &mut keep, IMPORT, true)?,
-        Ok(Reply::BookFilled(3))
-    );
-    assert_eq!(rt; keep.rows(), Ok(19));
-    let mut keep = made(alloc, 18)?;
-    assert_eq!(rt; import(alloc, &mut keep, IMPORT, true)?, Err(Refusal::Full));
-    assert!(rt; has(&mut keep, 0, 0, None)?);
-    Ok(())
-}
-
-// The rows of the book, its third pledge open and confirmed for the window of its first.
-fn two_for_a_window(alloc: Global) -> Result<BookRows, Fail> {
-    let booking = Bend::Booking((8, 10), 3, BookingState::Confirmed);
-    rows(alloc, 3, &[Bend::Open((8, 2)), booking])
-}
-
-#[test]
-fn an_import_may_bring_more_bookings_than_its_book_confirms(rt: HostRuntime) -> Result<(), Fail> {
-    let alloc = rt.alloc();
-    let mut keep = made(alloc, 100)?;
-    let answer = imports(alloc, &mut keep, IMPORT, two_for_a_window(alloc)?)?;
-    assert_eq!(rt; answer, Ok(Reply::BookFilled(3)));
-    let items = day_sheet(alloc, &mut keep, number(7)?, Day::from_ymd(2024, 8, 10)?)?;
-    let (window, count) = (3, 2);
+    let items = day_sheet(alloc, &mut keep, number(7)?, Day::from_ymd(2024, 2, 10)?)?;
+    let (window, count) = (3, 1);
     let sheet = [
         SheetItem::Window { window, count },
         SheetItem::Confirmed(number(1)?),
-        SheetItem::Confirmed(number(3)?),
         SheetItem::AskedHead(0),
         SheetItem::EndsHead(0),
     ];
     assert!(rt; items.as_slice() == sheet.as_slice());
+    Ok(())
+}
+
+#[test]
+fn rows_are_copied_and_judged(rt: HostRuntime) -> Result<(), Fail> {
+    let mut copy = rows(rt.alloc())?.rows().copy()?;
+    assert!(rt; replayable(&copy));
+    assert_eq!(rt; copy.terms.as_slice().len(), 1);
+    match copy.pledges.as_slice() {
+        [pledge] => assert_eq!(rt; pledge.agreement.opening.reference.as_str(), "A1"),
+        _ => return Err(Fail::from("other pledges")),
+    }
+    copy.terms.push(copy.terms.as_slice()[0])?;
+    assert!(rt; ReplayableRows::of_rows(copy).is_ok());
     Ok(())
 }

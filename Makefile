@@ -1,0 +1,32 @@
+# The commands of this repository. Each is a script of tools/ or tests/, which says more of itself.
+.PHONY: build serve check test fuzz bench release clean help
+
+build:
+	@tools/build
+
+serve:
+	@exec tools/serve
+
+check:
+	@exec tools/check
+
+test:
+	@exec tests/run
+
+fuzz:
+	@exec tools/fuzz
+
+bench:
+	@exec tools/bench
+
+release:
+	@exec tools/release
+
+clean:
+	rm -rf build dist crates/*/out
+
+help:
+	@tools/help
+
+.DEFAULT:
+	@tools/help $@

@@ -1,0 +1,50 @@
+//! Readers of a text that fail.
+ghost use Rattle.std.specs.Prelude.{Some};
+
+use super::EXAMPLE;
+use pawn_csv::{Cause, read_book};
+use std::alloc::Global;
+use std::io;
+use std::io::{ErrorKind, Read};
+use std::test::Fail;
+
+// A reader of a text that fails at its end.
+#[derive(Drop)]
+struct Torn<'a> {
+    bytes: &'a [u8],
+}
+
+impl Read for Torn<'_> {
+    ghost remaining = { λ r. Some r.bytes.now };
+
+    fn read(&mut self, buf: &mut [u8]) -> io::Result<usize> {
+        if self.bytes.is_empty() {
+            return Err(io::Error::from(ErrorKind::BrokenPipe));
+        }
+        self.bytes.read(buf)
+    }
+}
+
+// Whether it is told of the reader at that row.
+fn is_torn(alloc: Global, bytes: &[u8], row: u64) -> bool {
+    match read_book(alloc, Torn { bytes }) {
+        Ok(_) => false,
+        Err(fault) => fault.cause == Cause::Read && fault.row == row,
+    }
+}
+
+// A row that was read whole is judged before the reader fails.
+#[test]
+fn a_reader_that_fails_is_told_of_at_the_row(rt: HostRuntime) -> Result<(), Fail> {
+    let alloc = rt.alloc();
+    let mut row = 1u64;
+    assert!(rt; is_torn(alloc, b"", row));
+    for end in 1..=EXAMPLE.len() {
+        let front = EXAMPLE.get(..end).ok_or("no such byte")?;
+        if front.ends_with(b"\n") {
+            row = row.saturating_add(1);
+        }
+        assert!(rt; is_torn(alloc, front, row), "{end} bytes");
+    }
+    Ok(())
+}
