@@ -3,7 +3,8 @@ use crate::disks::{Disks, NEVER, connected, crashed, disks, store_on};
 use pawn_check::{Counts, check};
 use pawn_keeper::TableKeep;
 use pawn_move::{MoveFault, migrate, schema_of};
-use sqlite::{Alter, Connection};
+use sqlite::{Alter, Connection, Files};
+use sqlite_disk::{Disk, Fuse, Memory};
 use std::alloc::Global;
 use std::process::Abort;
 use std::test::Fail;
@@ -23,18 +24,34 @@ fn moved<S: Alter>(
     Ok(migrate(alloc, conn))
 }
 
-// How a migration of a store of the first schema on the disks ends, and what a stop then leaves of them; or none where they stop
-// before.
+// The files of a store of the first schema.
+fn older(alloc: Global) -> Result<Disks, Fail> {
+    let mut conn = store_on(alloc, disks(alloc, NEVER, NEVER), 1000)
+        .ok()
+        .ok_or("made")?;
+    conn.execute_batch(FIRST)?;
+    Ok(conn.close_files().ok().ok_or("closed")?)
+}
+
+// A file of the same bytes that fails after so many calls.
+fn copied(alloc: Global, file: &Fuse<Memory>, calls: u64) -> Result<Fuse<Memory>, Fail> {
+    let mut copy = Memory::new(alloc);
+    copy.write_at(0, file.inner().bytes())?;
+    if !copy.may_be_used() {
+        return Err(Fail::from("written"));
+    }
+    copy.sync()?;
+    Ok(Fuse::new(copy, calls))
+}
+
+// How a migration of the store in the files ends, and what a stop then leaves of them; or none where they stop before it.
 fn stopped(
     alloc: Global,
-    disks: Disks,
+    files: Disks,
 ) -> Result<Option<(Result<(u32, u32), MoveFault>, Disks)>, Fail> {
-    let Ok(mut conn) = store_on(alloc, disks, 1000) else {
+    let Some(mut conn) = connected(alloc, files) else {
         return Ok(None);
     };
-    if conn.execute_batch(FIRST).is_err() {
-        return Ok(None);
-    }
     let end = moved(alloc, &mut conn)?;
     Ok(Some((end, crashed(conn.into_store().close()))))
 }
@@ -63,14 +80,14 @@ fn found(rt: &impl Abort, alloc: Global, disks: Disks) -> Result<u32, Fail> {
 
 // Stops one file at each call of a migration, until one meets no stop. Tells how many met one.
 fn stops(rt: &impl Abort, alloc: Global, is_log: bool) -> Result<u32, Fail> {
+    let old = older(alloc)?;
     let mut runs = 0u32;
-    for calls in 0..2000u64 {
-        let disks = if is_log {
-            disks(alloc, calls, NEVER)
-        } else {
-            disks(alloc, NEVER, calls)
+    for calls in 0..1000u64 {
+        let files = Files {
+            log: copied(alloc, &old.log, if is_log { calls } else { NEVER })?,
+            db: copied(alloc, &old.db, if is_log { NEVER } else { calls })?,
         };
-        let Some((end, left)) = stopped(alloc, disks)? else {
+        let Some((end, left)) = stopped(alloc, files)? else {
             continue;
         };
         let number = found(rt, alloc, left)?;
@@ -87,9 +104,14 @@ fn stops(rt: &impl Abort, alloc: Global, is_log: bool) -> Result<u32, Fail> {
 }
 
 #[test]
-fn a_stop_leaves_the_old_tables_or_the_new(rt: HostRuntime) -> Result<(), Fail> {
-    let of_the_log = stops(&rt, rt.alloc(), true)?;
-    assert!(rt; of_the_log > 1);
+fn a_log_that_stops_leaves_the_old_tables_or_the_new(rt: HostRuntime) -> Result<(), Fail> {
+    let runs = stops(&rt, rt.alloc(), true)?;
+    assert!(rt; runs > 1);
+    Ok(())
+}
+
+#[test]
+fn a_database_that_stops_leaves_the_old_tables_or_the_new(rt: HostRuntime) -> Result<(), Fail> {
     stops(&rt, rt.alloc(), false)?;
     Ok(())
 }
