@@ -93,7 +93,7 @@ first_is text cause.Order row h = h
 first_is text cause.NotReplayable row h = h
 
 -- the records so far were taken before the next row
-pub so_far_before : {R : Type 0} (rem : R → Option (List ℕ)) (text : List ℕ) (a : Reader R) (i : ℕ) (raw : Option Begun) → SoFar rem text a i raw → AreTakenBefore text (i + 1)
+abbrev pub so_far_before : {R : Type 0} (rem : R → Option (List ℕ)) (text : List ℕ) (a : Reader R) (i : ℕ) (raw : Option Begun) → SoFar rem text a i raw → AreTakenBefore text (i + 1)
 so_far_before rem text a i raw so = record {
   before = so.records;
   rows = so.rows;
