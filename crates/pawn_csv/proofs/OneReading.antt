@@ -227,45 +227,45 @@ one_stop before state rest s c d hc hd (inr a) (inr b) = one_end before s c d hc
 
 -- of two first faults one reading goes on from the other, and so nowhere
 no_longer : (text : List ℕ) (c d : Cause) (m n : ℕ) (f : IsFirstFault text c m) (g : IsFirstFault text d n) → c ≢ cause.Memory
-    → (more : List (List (List ℕ))) → f.before ++ more ≡ g.before → Reached default_config f.state f.rest more g.state g.rest → more ≡ []
+    → (more : List (List (List ℕ))) → f.at.before ++ more ≡ g.at.before → Reached default_config f.at.state f.at.rest more g.at.state g.at.rest → more ≡ []
 no_longer text c d m n f g why [] whole on = refl
 no_longer text c d m n f g why (x ∷ more) whole on =
-    absurd (goes_on f.before x more f.rows g.rows f.begun g.begun c f.state f.rest g.state g.rest why f.taken
-    (subst (λ (b : List (List (List ℕ))). AreTaken b g.rows g.begun) (sym whole) g.taken) on f.why)
+    absurd (goes_on f.at.before x more f.at.rows g.at.rows f.at.begun g.at.begun c f.at.state f.at.rest g.at.state g.at.rest why f.at.taken
+    (subst (λ (b : List (List (List ℕ))). AreTaken b g.at.rows g.at.begun) (sym whole) g.at.taken) on f.why)
 
 -- one that is no shorter has the same cause and the same row
 same_fault : (text : List ℕ) (c d : Cause) (m n : ℕ) (f : IsFirstFault text c m) (g : IsFirstFault text d n) → c ≢ cause.Memory → d ≢ cause.Memory
-    → length f.before ≤ length g.before → (c ≡ d) × (m ≡ n)
+    → length f.at.before ≤ length g.at.before → (c ≡ d) × (m ≡ n)
 same_fault text c d m n f g hc hd short =
-    let (more, whole, on) = reached_on default_config f.before g.before st.StartRecord text f.state f.rest g.state g.rest f.reached g.reached short in
+    let (more, whole, on) = reached_on default_config f.at.before g.at.before st.StartRecord text f.at.state f.at.rest g.at.state g.at.rest f.at.reached g.at.reached short in
     let none = no_longer text c d m n f g hc more whole on in
-    let same : f.before ≡ g.before = sym (append-nil f.before) ∙ ap (λ (b : List (List (List ℕ))). f.before ++ b) (sym none) ∙ whole in
-    let (states, rests) = ended default_config f.state f.rest g.state g.rest (subst (λ (b : List (List (List ℕ))). Reached default_config f.state f.rest b g.state g.rest) none on) in
-    let taken = subst (λ (b : List (List (List ℕ))). AreTaken b g.rows g.begun) (sym same) g.taken in
-    let begun = taken_same f.before f.rows g.rows f.begun g.begun f.taken taken in
-    let there : Stops f.before f.state f.rest f.begun d = rw (same, states, rests, begun) g.why in
-    (one_stop f.before f.state f.rest f.begun c d hc hd f.why there, omega (arith, f.place, g.place, ap length same))
+    let same : f.at.before ≡ g.at.before = sym (append-nil f.at.before) ∙ ap (λ (b : List (List (List ℕ))). f.at.before ++ b) (sym none) ∙ whole in
+    let (states, rests) = ended default_config f.at.state f.at.rest g.at.state g.at.rest (subst (λ (b : List (List (List ℕ))). Reached default_config f.at.state f.at.rest b g.at.state g.at.rest) none on) in
+    let taken = subst (λ (b : List (List (List ℕ))). AreTaken b g.at.rows g.at.begun) (sym same) g.at.taken in
+    let begun = taken_same f.at.before f.at.rows g.at.rows f.at.begun g.at.begun f.at.taken taken in
+    let there : Stops f.at.before f.at.state f.at.rest f.at.begun d = rw (same, states, rests, begun) g.why in
+    (one_stop f.at.before f.at.state f.at.rest f.at.begun c d hc hd f.why there, omega (arith, f.at.place, g.at.place, ap length same))
 
 pub first_faults_are_one : FirstFaultsAreOne
-first_faults_are_one text c d m n hc hd f g = from (nat_le (length f.before) (length g.before)) refl
+first_faults_are_one text c d m n hc hd f g = from (nat_le (length f.at.before) (length g.at.before)) refl
   where
-    from : (v : Bool) → nat_le (length f.before) (length g.before) ≡ v → (c ≡ d) × (m ≡ n)
+    from : (v : Bool) → nat_le (length f.at.before) (length g.at.before) ≡ v → (c ≡ d) × (m ≡ n)
     from true is = same_fault text c d m n f g hc hd (grind (arith, nat_tests, is))
     from false is = let same = same_fault text d c n m g f hd hc (grind (arith, nat_tests, is)) in (sym same.0, sym same.1)
 
 -- a text that is read to its end has no fault
 no_fault_in : (text : List ℕ) (c : Cause) (m : ℕ) (k : BookRows) (f : IsFirstFault text c m) (records : List (List (List ℕ))) (rows : List Row) (s : Option Begun) (s2 : State) (ys : List ℕ)
     → c ≢ cause.Memory → Reached default_config st.StartRecord text records s2 ys → next_record default_config s2 [] [] ys ≡ None → AreTaken records rows s → IsFinishedAs s k
-    → (more : List (List (List ℕ))) → f.before ++ more ≡ records → Reached default_config f.state f.rest more s2 ys → ⊥
+    → (more : List (List (List ℕ))) → f.at.before ++ more ≡ records → Reached default_config f.at.state f.at.rest more s2 ys → ⊥
 no_fault_in text c m k f records rows s s2 ys hc all none taken finished (x ∷ more) whole on =
-    goes_on f.before x more f.rows rows f.begun s c f.state f.rest s2 ys hc f.taken (subst (λ (b : List (List (List ℕ))). AreTaken b rows s) (sym whole) taken) on f.why
+    goes_on f.at.before x more f.at.rows rows f.at.begun s c f.at.state f.at.rest s2 ys hc f.at.taken (subst (λ (b : List (List (List ℕ))). AreTaken b rows s) (sym whole) taken) on f.why
 no_fault_in text c m k f records rows s s2 ys hc all none taken finished [] whole on = from f.why
   where
-    same : f.before ≡ records
-    same = sym (append-nil f.before) ∙ whole
+    same : f.at.before ≡ records
+    same = sym (append-nil f.at.before) ∙ whole
 
-    begun : f.begun ≡ s
-    begun = taken_same f.before f.rows rows f.begun s f.taken (subst (λ (b : List (List (List ℕ))). AreTaken b rows s) (sym same) taken)
+    begun : f.at.begun ≡ s
+    begun = taken_same f.at.before f.at.rows rows f.at.begun s f.at.taken (subst (λ (b : List (List (List ℕ))). AreTaken b rows s) (sym same) taken)
 
     ends : (e : Option Begun) → e ≡ s → ((c ≡ cause.Order) × (is_whole e ≡ false)) ⊎ ((c ≡ cause.NotReplayable) × IsOfNoBook e) → ⊥
     ends e is (inl x) = whole_or_not (is_whole s) (subst (λ (o : Option Begun). is_whole o ≡ false) is x.1) finished.2
@@ -273,19 +273,19 @@ no_fault_in text c m k f records rows s s2 ys hc all none taken finished [] whol
         let b : x.1.0 ≡ finished.0 = (let a = sym x.1.1 ∙ is ∙ finished.1 in cc) in
         x.1.3 k (subst (λ (v : Begun). IsBegunOf v k) (sym b) finished.3) finished.4
 
-    at_end : (before : List (List (List ℕ))) → before ≡ records → EndsAs before f.begun c → ⊥
+    at_end : (before : List (List (List ℕ))) → before ≡ records → EndsAs before f.at.begun c → ⊥
     at_end [] is e = empty records is taken
       where
         empty : (rs : List (List (List ℕ))) → [] ≡ rs → AreTaken rs rows s → ⊥
         empty [] is a = let e = sym a.1 ∙ finished.1 in cc
         empty (r ∷ rs) is a = absurd (omega (arith, ap length is))
-    at_end (h ∷ rs) is e = ends f.begun begun (end_of f.begun c hc e)
+    at_end (h ∷ rs) is e = ends f.at.begun begun (end_of f.at.begun c hc e)
 
-    from : Stops f.before f.state f.rest f.begun c → ⊥
+    from : Stops f.at.before f.at.state f.at.rest f.at.begun c → ⊥
     from (inl w) =
-        let (states, rests) = ended default_config f.state f.rest s2 ys on in
+        let (states, rests) = ended default_config f.at.state f.at.rest s2 ys on in
         no_read w.0 _ (rw (states, rests) none) w.1
-    from (inr w) = at_end f.before same w.1
+    from (inr w) = at_end f.at.before same w.1
 
 -- nothing goes on behind the end
 pub no_further : (state : State) (rest : List ℕ) (more : List (List (List ℕ))) (s2 : State) (ys : List ℕ)
@@ -295,18 +295,18 @@ no_further state rest (x ∷ more) s2 ys none on = let (p, next, is) = next_of d
 
 -- a text with a first fault is read as no book
 no_reading : (text : List ℕ) (c : Cause) (m : ℕ) (k : BookRows) → c ≢ cause.Memory → IsFirstFault text c m → IsReadAs text k → ⊥
-no_reading text c m k hc f read = from (nat_le (length f.before) (length read.0)) refl
+no_reading text c m k hc f read = from (nat_le (length f.at.before) (length read.0)) refl
   where
-    from : (v : Bool) → nat_le (length f.before) (length read.0) ≡ v → ⊥
+    from : (v : Bool) → nat_le (length f.at.before) (length read.0) ≡ v → ⊥
     from true is =
-        let (more, whole, on) = reached_on default_config f.before read.0 st.StartRecord text f.state f.rest read.3.0 read.3.1 f.reached read.3.2 (grind (arith, nat_tests, is)) in
+        let (more, whole, on) = reached_on default_config f.at.before read.0 st.StartRecord text f.at.state f.at.rest read.3.0 read.3.1 f.at.reached read.3.2 (grind (arith, nat_tests, is)) in
         no_fault_in text c m k f read.0 read.1 read.2 read.3.0 read.3.1 hc read.3.2 read.3.3 read.4 read.5 more whole on
     from false is =
-        let (more, whole, on) = reached_on default_config read.0 f.before st.StartRecord text read.3.0 read.3.1 f.state f.rest read.3.2 f.reached (grind (arith, nat_tests, is)) in
-        let none = no_further read.3.0 read.3.1 more f.state f.rest read.3.3 on in
-        let same : read.0 ≡ f.before = sym (append-nil read.0) ∙ ap (λ (b : List (List (List ℕ))). read.0 ++ b) (sym none) ∙ whole in
-        let longer : length f.before < length read.0 + 1 = omega (arith, ap length same) in
-        let short : length read.0 < length f.before = grind (arith, nat_tests, is) in
+        let (more, whole, on) = reached_on default_config read.0 f.at.before st.StartRecord text read.3.0 read.3.1 f.at.state f.at.rest read.3.2 f.at.reached (grind (arith, nat_tests, is)) in
+        let none = no_further read.3.0 read.3.1 more f.at.state f.at.rest read.3.3 on in
+        let same : read.0 ≡ f.at.before = sym (append-nil read.0) ∙ ap (λ (b : List (List (List ℕ))). read.0 ++ b) (sym none) ∙ whole in
+        let longer : length f.at.before < length read.0 + 1 = omega (arith, ap length same) in
+        let short : length read.0 < length f.at.before = grind (arith, nat_tests, is) in
         absurd (omega (arith, short, ap length same))
 
 pub first_faults_exclude_books : FirstFaultsExcludeBooks

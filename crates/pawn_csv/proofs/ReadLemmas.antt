@@ -19,7 +19,7 @@ use Rattle.pawn_csv.specs.Finishing.{Ends, IsFinishedAs}
 use Rattle.pawn_pledge.specs.Replayable.{Each}
 use Rattle.pawn_book.specs.declared.rows.BookRows.{BookRows}
 use Rattle.pawn_csv.specs.Rows.{Fits, row_fields}
-use Rattle.pawn_csv.specs.Reading.{AreTaken, CauseOf, EndsAs, IsFaultOf, IsFirstFault, IsReadAs, IsSpelled, RefusesRow, Taking}
+use Rattle.pawn_csv.specs.Reading.{AreTaken, AreTakenBefore, CauseOf, EndsAs, IsFaultOf, IsFirstFault, IsReadAs, IsSpelled, RefusesRow, Taking}
 use Rattle.pawn_csv.specs.Answers.{Answers, Fails}
 
 pub record SoFar {R : Type 0} (rem : R → Option (List ℕ)) (text : List ℕ) (rdr : Reader R) (index : ℕ) (raw : Option Begun) : Type 0 where
@@ -83,8 +83,8 @@ where_told (Some x) P h = h x refl
 
 -- a first fault is the text's, whatever its cause
 pub first_is : (text : List ℕ) (c : Cause) (row : ℕ) → IsFirstFault text c row → IsFaultOf text c row
-first_is text cause.Memory row h = tt
-first_is text cause.Read row h = tt
+first_is text cause.Memory row h = h.at
+first_is text cause.Read row h = h.at
 first_is text cause.Csv row h = h
 first_is text cause.Columns row h = h
 first_is text cause.BadField row h = h
@@ -92,15 +92,28 @@ first_is text cause.TooMany row h = h
 first_is text cause.Order row h = h
 first_is text cause.NotReplayable row h = h
 
+-- the records so far were taken before the next row
+abbrev pub so_far_before : {R : Type 0} (rem : R → Option (List ℕ)) (text : List ℕ) (a : Reader R) (i : ℕ) (raw : Option Begun) → SoFar rem text a i raw → AreTakenBefore text (i + 1)
+so_far_before rem text a i raw so = record {
+  before = so.records;
+  rows = so.rows;
+  state = a.state;
+  rest = so.y;
+  begun = raw;
+  reached = so.reached;
+  taken = so.taken;
+  place = ap (λ n. n + 1) so.count;
+}
+
 -- an error of a reader that takes any length is the reader's own or memory's
-pub reader_fault : {R : Type 0} (rem : R → Option (List ℕ)) (text : List ℕ) (a b : Reader R) (k : ErrorKind) (c : Cause) (row : ℕ)
-    → a.flexible ≡ true → ExplainsRead rem a b false k → CauseOf k c → IsFaultOf text c row
-reader_fault rem text a b (kind.Io e) c row flexible why is = subst (λ (x : Cause). IsFaultOf text x row) (sym is) tt
-reader_fault rem text a b kind.OutOfMemory c row flexible why is = subst (λ (x : Cause). IsFaultOf text x row) (sym is) tt
-reader_fault rem text a b (kind.UnequalLengths pos expected len) c row flexible why is = absurd (let e = sym flexible ∙ why.0 in cc)
-reader_fault rem text a b (kind.Utf8 pos err) c row flexible why is = absurd (let e = why.0 in cc)
-reader_fault rem text a b (kind.Serialize t) c row flexible why is = absurd why
-reader_fault rem text a b (kind.Deserialize pos err) c row flexible why is = absurd why
+pub reader_fault : {R : Type 0} (rem : R → Option (List ℕ)) (text : List ℕ) (a b : Reader R) (i : ℕ) (raw : Option Begun) (k : ErrorKind) (c : Cause)
+    → a.flexible ≡ true → SoFar rem text a i raw → ExplainsRead rem a b false k → CauseOf k c → IsFaultOf text c (i + 1)
+reader_fault rem text a b i raw (kind.Io e) c flexible so why is = subst (λ (x : Cause). IsFaultOf text x (i + 1)) (sym is) (so_far_before rem text a i raw so)
+reader_fault rem text a b i raw kind.OutOfMemory c flexible so why is = subst (λ (x : Cause). IsFaultOf text x (i + 1)) (sym is) (so_far_before rem text a i raw so)
+reader_fault rem text a b i raw (kind.UnequalLengths pos expected len) c flexible so why is = absurd (let e = sym flexible ∙ why.0 in cc)
+reader_fault rem text a b i raw (kind.Utf8 pos err) c flexible so why is = absurd (let e = why.0 in cc)
+reader_fault rem text a b i raw (kind.Serialize t) c flexible so why is = absurd why
+reader_fault rem text a b i raw (kind.Deserialize pos err) c flexible so why is = absurd why
 
 -- the record that was read is the next one
 next_is : (o : Option Read) (f : List (List ℕ)) (s : State) (ys : List ℕ) → NextIs o true f s ys → (p : Read) × (o ≡ Some p) × (f ≡ p.0)
@@ -137,14 +150,7 @@ pub so_far_refused : {R : Type 0} (rem : R → Option (List ℕ)) (text : List �
 so_far_refused rem text a b i f raw new c config so read step =
     let (p, is, same) = next_was f b.state (pending_of (rem b.rdr) b) so.y a.state (rw (config, so.source) at read.0) in
     first_is text c (i + 1) (record {
-      before = so.records;
-      rows = so.rows;
-      state = a.state;
-      rest = so.y;
-      begun = raw;
-      reached = so.reached;
-      taken = so.taken;
-      place = ap (λ n. n + 1) so.count;
+      at = so_far_before rem text a i raw so;
       why = inl (p, is, rw same at (refused_as (nat_eq (length so.records) 0) f raw new raw c (subst (λ n. Taking (nat_eq n 0) f raw (let r : Result (Unit {0}) Cause = Err c in r) new) (sym so.count) step)));
     })
 
@@ -153,14 +159,7 @@ pub so_far_unfinished : {R : Type 0} (rem : R → Option (List ℕ)) (text : Lis
     → a.config ≡ default_config → SoFar rem text a i raw → ReadRecord rem a b false f → i ≢ 0 → (let r : Result BookRows Cause = Err c in Ends raw r) → IsFaultOf text c (i + 1)
 so_far_unfinished rem text a b i f raw c config so read some refused =
     first_is text c (i + 1) (record {
-      before = so.records;
-      rows = so.rows;
-      state = a.state;
-      rest = so.y;
-      begun = raw;
-      reached = so.reached;
-      taken = so.taken;
-      place = ap (λ n. n + 1) so.count;
+      at = so_far_before rem text a i raw so;
       why = inr (rows-end rem a b f default_config so.y config so.source read, end_refused so.records raw c (λ e. some (sym so.count ∙ e)) refused);
     })
 
@@ -169,14 +168,16 @@ pub so_far_empty : {R : Type 0} (rem : R → Option (List ℕ)) (text : List ℕ
     → a.config ≡ default_config → SoFar rem text a i raw → ReadRecord rem a b false f → i ≡ 0 → IsFaultOf text cause.Columns 1
 so_far_empty rem text a b i f raw config so read none =
     record {
-      before = so.records;
-      rows = so.rows;
-      state = a.state;
-      rest = so.y;
-      begun = raw;
-      reached = so.reached;
-      taken = so.taken;
-      place = ap (λ n. n + 1) (so.count ∙ none);
+      at = record {
+        before = so.records;
+        rows = so.rows;
+        state = a.state;
+        rest = so.y;
+        begun = raw;
+        reached = so.reached;
+        taken = so.taken;
+        place = ap (λ n. n + 1) (so.count ∙ none);
+      };
       why = inr (rows-end rem a b f default_config so.y config so.source read, end_empty so.records raw (so.count ∙ none));
     }
 

@@ -77,8 +77,8 @@ abbrev pub EndsAs : List (List (List ℕ)) → Option Begun → Cause → Type 0
 EndsAs [] s c = c ≡ cause.Columns
 EndsAs (h ∷ rs) s c = RefusesEnd s c
 
--- each record before this one is taken, and this one, or the end, is refused for that cause
-pub record IsFirstFault (text : List ℕ) (c : Cause) (row : ℕ) : Type 0 where
+-- each record before this row is taken: the header, and rows
+pub record AreTakenBefore (text : List ℕ) (row : ℕ) : Type 0 where
   pub before : List (List (List ℕ))
   pub rows : List Row
   pub state : State
@@ -87,14 +87,18 @@ pub record IsFirstFault (text : List ℕ) (c : Cause) (row : ℕ) : Type 0 where
   pub reached : Reached default_config st.StartRecord text before state rest
   pub taken : AreTaken before rows begun
   pub place : length before + 1 ≡ row
-  pub why : ((p : Read) × (next_record default_config state [] [] rest ≡ Some p)
-      × Taking (nat_eq (length before) 0) p.0 begun (let r : Result (Unit {0}) Cause = Err c in r) begun)
-      ⊎ ((next_record default_config state [] [] rest ≡ None) × EndsAs before begun c)
 
--- a fault of the memory or of the reader may come at any time; any other is the first of the text
+-- each record before this one is taken, and this one, or the end, is refused for that cause
+pub record IsFirstFault (text : List ℕ) (c : Cause) (row : ℕ) : Type 0 where
+  pub at : AreTakenBefore text row
+  pub why : ((p : Read) × (next_record default_config at.state [] [] at.rest ≡ Some p)
+      × Taking (nat_eq (length at.before) 0) p.0 at.begun (let r : Result (Unit {0}) Cause = Err c in r) at.begun)
+      ⊎ ((next_record default_config at.state [] [] at.rest ≡ None) × EndsAs at.before at.begun c)
+
+-- a fault of the memory or of the reader may come at any row, once those before it are taken; any other is the first of the text
 abbrev pub IsFaultOf : List ℕ → Cause → ℕ → Type 0
-IsFaultOf text cause.Memory row = Unit {0}
-IsFaultOf text cause.Read row = Unit {0}
+IsFaultOf text cause.Memory row = AreTakenBefore text row
+IsFaultOf text cause.Read row = AreTakenBefore text row
 IsFaultOf text c row = IsFirstFault text c row
 
 -- the records of this text are taken to their end, and make the book

@@ -58,7 +58,7 @@ fn take_all<R: Read + Drop>(alloc: Global, reader: R) -> Result<ReplayableRows, 
         .from_reader(alloc, reader);
     let mut raw = RawBook { begun: None };
     let mut record = ByteRecord::new(alloc);
-    for index in 0..u64::MAX {
+    for index in 0..u64::MAX - 1 {
         match rdr.read_byte_record(&mut record) {
             Err(error) => {
                 return Err(CsvFault {
@@ -102,7 +102,8 @@ fn take_all<R: Read + Drop>(alloc: Global, reader: R) -> Result<ReplayableRows, 
 }
 
 /// The book that a text holds, or the first fault of the text and its row. A byte order mark is
-/// passed over. The reader may fail, and memory be wanting, at any row.
+/// passed over. The reader may fail, and memory be wanting, at any row, once those before it were
+/// taken.
 pub fn read_book<R: Read + Drop>(alloc: Global, reader: R) -> Result<ReplayableRows, CsvFault>
     ensures found { IfOk result (λ k. IfSome (R.remaining reader) (λ text. IsTextOf (strip_bom text) k)) }
     ensures fault { IfErr result (λ f. IfSome (R.remaining reader) (λ text. IsFaultOf (strip_bom text) f.cause f.row)) }

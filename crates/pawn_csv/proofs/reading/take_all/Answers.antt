@@ -1,13 +1,13 @@
-use Rattle.std.proofs.Common.{◌∙◌, [], refl, sym, ap, inr, arith}
+use Rattle.std.proofs.Common.{◌≡◌, ◌∙◌, [], refl, sym, ap, subst, inr, arith}
 use Rattle.std.specs.Prelude.{option_map}
 use Rattle.std.proofs.lemmas.Bool.Decides.{nat_tests}
 use Rattle.csv.specs.Reading.{Reached, strip_bom}
 use Rattle.csv.specs.Records.{fields_of}
 use Rattle.pawn_csv.specs.Order.{begun_of}
-use Rattle.pawn_csv.specs.Reading.{IsFaultOf, IsReadAs}
+use Rattle.pawn_csv.specs.Reading.{AreTakenBefore, IsFaultOf, IsReadAs}
 use Rattle.pawn_csv.specs.declared.fault.Cause.TheVariants as cause
 use Rattle.std.proofs.Common.{◌+◌}
-use Rattle.pawn_csv.proofs.ReadLemmas.{so_far_more, so_far_end, where_told, reader_fault, so_far_empty, so_far_unfinished, so_far_refused}
+use Rattle.pawn_csv.proofs.ReadLemmas.{so_far_before, so_far_more, so_far_end, where_told, reader_fault, so_far_empty, so_far_unfinished, so_far_refused}
 use Rattle.pawn_csv.proofs.reading.take_all.Goals as goal
 
 pub loop-index-init : goal.loop-index-init
@@ -69,4 +69,11 @@ pub returns-in-Err-clause-fault : goal.returns-in-Err-clause-fault
 returns-in-Err-clause-fault g c =
     let inv = c.loop-index.invariant in
     let why = (rw c.in-Err.is at c.read_byte_record.ensures.why) inv.ready in
-    where_told (g.R.Read.remaining c.args.reader) (λ text. IsFaultOf (strip_bom text) c.cause_of.result (c.loop-index.index + 1)) (λ text told. reader_fault g.R.Read.remaining (strip_bom text) c.loop-index.rdr c.read_byte_record.new.self c.in-Err.error.kind c.cause_of.result (c.loop-index.index + 1) inv.flexible why c.cause_of.ensures.cause)
+    where_told (g.R.Read.remaining c.args.reader) (λ text. IsFaultOf (strip_bom text) c.cause_of.result (c.loop-index.index + 1)) (λ text told. reader_fault g.R.Read.remaining (strip_bom text) c.loop-index.rdr c.read_byte_record.new.self c.loop-index.index (begun_of c.loop-index.raw) c.in-Err.error.kind c.cause_of.result inv.flexible (inv.so_far text told) why c.cause_of.ensures.cause)
+
+pub returns-clause-fault : goal.returns-clause-fault
+returns-clause-fault g c =
+    let inv = c.loop-index.invariant in
+    let ended : c.loop-index.index + 1 ≡ 18446744073709551615 = omega arith in
+    where_told (g.R.Read.remaining c.args.reader) (λ text. IsFaultOf (strip_bom text) cause.Memory 18446744073709551615)
+    (λ text told. subst (AreTakenBefore (strip_bom text)) ended (so_far_before g.R.Read.remaining (strip_bom text) c.loop-index.rdr c.loop-index.index (begun_of c.loop-index.raw) (inv.so_far text told)))
