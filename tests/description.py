@@ -133,13 +133,13 @@ def bodies_are_refused_where_the_description_refuses_them():
             expect(f"{operation.name} with {body}", said["code"] != 708, fits)
 
 
-def head_refused(operation, code, fields, head=None, method=None, target=None):
+def head_refused(operation, code, fields, head=None, method=None, target=None, body=b""):
     target = target or operation.path.format(book=7, number=1, day=DAY)
-    expect(f"{method} {target} with {fields} {head}", RUN.ask(method or operation.method, target, fields, head=head)[0], code)
+    expect(f"{method} {target} with {fields} {head}", RUN.ask(method or operation.method, target, fields, body, head=head)[0], code)
 
 
 def heads_are_refused():
-    """What is refused at every route by its bytes, its target, its keys or receipts, and its method."""
+    """What is refused at every route by its bytes, its target, its keys or receipts, and its method, and a body that is no JSON."""
     turn_to("heads")
     for operation in OPERATIONS.values():
         head_refused(operation, 701, [("bad name", "x")])
@@ -149,6 +149,8 @@ def heads_are_refused():
         head_refused(operation, 706, operation.fields(), target=operation.path.format(book=0, number=1, day=DAY))
         for method in ("PUT", "HEAD", "OPTIONS"):
             head_refused(operation, 707, operation.fields(), method=method)
+        if operation.body_kind == "application/json":
+            head_refused(operation, 708, operation.fields(), body=b"{")
         if operation.caller == "bearer":
             most = operation.said["x-receipts"]["most"]
             for code, receipts in ((712, []), (711, [NOBODY] * (most + 1)), (710, ["x"]), (710, [f"{NOBODY},{NOBODY}"])):
