@@ -11,7 +11,7 @@ import shutil
 import subprocess
 import tempfile
 
-from described import DAY, DESCRIPTION, CODES, NOBODY, OPERATIONS, PATH, VALIDATORS, Run, compact
+from described import DAY, DESCRIPTION, CODES, NOBODY, OPERATIONS, PATH, VALIDATORS, Run, compact, resolved
 from service import BROKER, TOP, Failed, expect, main, opened
 
 STRANGER = [["Pledge-Key", "99999999-9999-9999-9999-999999999999"]]
@@ -53,11 +53,11 @@ def not_tried(what, why):
     print(f"not tried: {what}, since {why}", flush=True)
 
 
-def it_is_valid_and_what_its_generator_prints():
-    made = subprocess.run([os.path.join(TOP, "tools/describe")], capture_output=True, timeout=60)
+def it_is_valid_and_what_its_generator_writes():
+    made = subprocess.run([os.path.join(TOP, "tools/describe"), "-"], capture_output=True, timeout=60)
     expect("tools/describe", (made.returncode, made.stderr), (0, b""))
     with open(PATH, "rb") as it:
-        expect("docs/openapi.json is what tools/describe prints", it.read() == made.stdout, True)
+        expect("docs/openapi.json is what tools/describe writes", it.read() == made.stdout, True)
     if importlib.util.find_spec("openapi_spec_validator"):
         import openapi_spec_validator
         try:
@@ -97,6 +97,29 @@ def its_refusals_stand_in_the_order_of_the_rules():
         expect(f"the refusals of {name}", [code for code in codes if 200 < code < 400], shared + wanted[command])
 
 
+def each_part_has_its_words():
+    """Each operation, parameter and schema, and each member of a body or a reply."""
+    parts = DESCRIPTION["components"]
+    named = {**parts["schemas"], **parts["parameters"], **parts["securitySchemes"], **{it.name: it.said for it in OPERATIONS.values()}}
+    expect("without words", [name for name, it in named.items() if len(it.get("description", "")) < 10], [])
+    members = [(name, member, it) for name, schema in parts["schemas"].items() for member, it in schema.get("properties", {}).items()]
+    expect("members without words", [(name, member) for name, member, it in members if "const" not in it and "description" not in {**resolved(it), **it}], [])
+
+
+def repeated(operation, step, body, first):
+    """Whether the same request, sent again over a copy of the file, is answered as the operation's `x-repeat` says."""
+    path, copy = RUN.path, os.path.join(ROOM, "copy")
+    RUN.close()
+    shutil.copyfile(path, copy)
+    RUN.path = copy
+    code, said = RUN.ask(operation.method, step["target"], step["fields"], body, step["day"])
+    RUN.close()
+    RUN.path = path
+    when = operation.said["x-repeat"]["when"]
+    wanted = {"always": (0, first), "while it stands": (0, first), "told": (305 if operation.name == "sell" else 402, said), "never": (0, said)}[when]
+    expect(f"{operation.name}, which may be sent again: {when}", (code, said, said == first), (*wanted, "always" == when or "while it stands" == when))
+
+
 def its_story_is_what_the_program_answers():
     turn_to("story")
     for step in DESCRIPTION["x-story"]:
@@ -104,6 +127,8 @@ def its_story_is_what_the_program_answers():
         body = compact(operation.bodies[step["sends"]]) if "sends" in step else ""
         _, said = RUN.ask(operation.method, step["target"], step["fields"], body.encode(), step["day"], step["step"])
         expect(at, compact(said), compact(operation.examples()[step["status"], step["answered"]]))
+        if step["status"] == 200:
+            repeated(operation, step, body.encode(), said)
     for operation in OPERATIONS.values():
         sent = {it.get("sends") for it in DESCRIPTION["x-story"] if it["operation"] == operation.name} - {None}
         expect(f"the bodies of {operation.name} that are sent", sent, set(operation.bodies))
@@ -366,5 +391,5 @@ def each_pair_and_each_example_was_seen():
     RUN.close()
 
 
-main(it_is_valid_and_what_its_generator_prints, its_refusals_and_routes_are_those_of_the_rules, its_refusals_stand_in_the_order_of_the_rules, its_story_is_what_the_program_answers,
+main(it_is_valid_and_what_its_generator_writes, each_part_has_its_words, its_refusals_and_routes_are_those_of_the_rules, its_refusals_stand_in_the_order_of_the_rules, its_story_is_what_the_program_answers,
      bodies_are_refused_where_the_description_refuses_them, heads_are_refused, each_refusal_is_met, two_thousand_requests_at_random, each_pair_and_each_example_was_seen)

@@ -53,6 +53,11 @@ def lines(words, *forms):
             "x-lines": [{"line": line, "often": often, "says": says} for line, _, often, says in forms]}
 
 
+def booking(words, *states):
+    """A booking in one of these states."""
+    return told(words, booking={"enum": list(states), "description": "Its state."}, day=ref("schemas", "Day"), window=ref("schemas", "Window"))
+
+
 STATEMENT = [
     ("Pledge N", f"Pledge {NUMBER}", "once", "the number of the pledge"),
     ("Article TEXT", r"Article [^\n]+", "once", "the article, as it was told when it was taken"),
@@ -101,8 +106,8 @@ def rows():
 SCHEMAS = {
     "Number": whole("A whole number without a point or an exponent, as every number of a body is.", 0, 999_999_999_999),
     "Pence": whole("A sum of money in pence, a whole number. 100,000,000 pence are a million pounds.", 0, 999_999_999_999),
-    "Seq": whole("The number of an entry of the pledge, from 1 without a gap. The sender chooses the next one, so that an entry that is sent again is known. A pledge has at most 9,999.", 0,
-                 999_999_999_999, **{"x-limit": {"least": 1, "most": 9_999}}),
+    "Seq": whole("The number of an entry of the pledge, from 1 without a gap. The sender chooses the next one (else 302), so that an entry that is sent again is known. "
+                 "A pledge has at most 9,999 (206).", 0, 999_999_999_999),
     "Day": {"type": "string", "format": "date", "pattern": "^2[01][0-9]{2}-(0[1-9]|1[0-2])-(0[1-9]|[12][0-9]|3[01])$",
             "description": "A day of the calendar, from 2000-01-01 to 2199-12-31. Days are those of UTC.", "examples": ["2024-01-31"]},
     "Key": {"type": "string", "pattern": rf"^([0-9A-Fa-f]{{32}}|{HYPHENED}|\{{{HYPHENED}\}}|urn:uuid:{HYPHENED})$",
@@ -115,11 +120,11 @@ SCHEMAS = {
     "Window": whole("A part of the day in which to come, from 0 to 15. What hours it stands for is the broker's choice.", 0, 15),
     "Book": taken("A new book.", capacity=whole("How many bookings the broker takes for one window of one day.", 1, 1000),
                   key=one_of_form("Key", "The key of the broker who runs the book."), name=text("The name of the shop.", 60)),
-    "Terms": taken("A version of the book's terms. A pledge keeps the newest terms of the day on which it was taken.",
+    "Terms": taken("A version of the book's terms. A pledge keeps the terms that were the newest when it was taken.",
                    keep_after=limited("The charge for safe keeping after the end of the period, in millionths of a penny a day; not above `keep_before` (104).", 10_000_000, 103),
                    keep_before=limited("The charge for safe keeping up to the end of the period, in millionths of a penny a day.", 10_000_000, 103),
                    rate=limited("Simple interest, in millionths of the principal a day.", 20_000, 102),
-                   version=one_of_form("Number", "The number of this version, from 1 without a gap; at most 99.")),
+                   version=one_of_form("Number", "The number of this version, from 1 without a gap (else 406); at most 99 (411).")),
     "Opening": taken("A pledge as it is taken.", agreed={"anyOf": [ref("schemas", "Day"), {"type": "null"}], "description": "A later end of the period, where the parties agreed one. The period is never shorter than six months."},
                      article=text("What is pledged, in words.", 80),
                      five_days={"type": "boolean", "description": "Whether the pledge can still be redeemed on the five days after the end of the period."},
@@ -139,9 +144,12 @@ SCHEMAS = {
     "PledgeTaken": told("The pledge stands.", number=whole("The number of the pledge in its book.", 1, 1_000_000), receipt=ref("schemas", "Receipt")),
     "Entry": told("The entry as it stands, also where it was entered before.", day=one_of_form("Day", "The day on which it was entered."), pence=ref("schemas", "Pence"), seq=ref("schemas", "Seq"),
                   sort={"enum": ["draw", "repay"], "description": "What it is."}),
-    "HeldBack": told("Whether the pledge is held back from being redeemed.", held={"type": "boolean", "description": "It is, or is not."}),
+    "HeldBack": told("The pledge is held back from being redeemed.", held={"const": True, "description": "It is."}),
+    "Released": told("The pledge is not held back.", held={"const": False, "description": "It is not held back."}),
     "NewReceipt": told("The receipt that is live from now on; every earlier one is worth nothing.", receipt=ref("schemas", "Receipt")),
-    "Booking": told("The booking as it stands.", booking={"enum": ["asked", "confirmed", "refused", "cancelled"], "description": "Its state."}, day=ref("schemas", "Day"), window=ref("schemas", "Window")),
+    "BookingAsked": booking("The booking as it stands. One that was confirmed before stays so.", "asked", "confirmed"),
+    "BookingCancelled": booking("The booking is cancelled.", "cancelled"),
+    "BookingDecided": booking("The booking as the broker decided.", "confirmed", "refused"),
     "SaleMade": told("The pledge is sold.", net=one_of_form("Pence", "What the sale brought."), shortfall=one_of_form("Pence", "What is still owing."),
                      surplus=one_of_form("Pence", "What is the pawnor's.")),
     "NewEnd": told("The period ends then.", ends=one_of_form("Day", "Its last day.")),
