@@ -168,6 +168,8 @@ class Run:
             response = resolved(next(it["x-other-methods"] for path, it in DESCRIPTION["paths"].items() if it["x-other-methods"]) if known else DESCRIPTION["x-other-targets"])
             schema = Schema(response["content"][kind]["schema"])
         else:
+            if text in self.replies[operation.name, status]:
+                return
             self.codes[operation.name].add(code)
             self.replies[operation.name, status].add(text)
             schema = operation.schemas.get((status, kind))

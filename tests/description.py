@@ -30,15 +30,16 @@ COMMANDS = {"draw": {"pence": 1, "seq": 2}, "repay": {"pence": 1, "seq": 2}, "ho
             "sell": {"net": 1}, "extend": {"until": "2027-01-01"}}
 BEARERS = {"repayHeld": {"pence": 1, "seq": 2}, "askBooking": {"day": "2024-03-04", "window": 3}, "cancelBooking": None, "redeem": {"paid": 1}}
 
-ROOM = tempfile.mkdtemp(prefix="pawnd-description-")
+# In the system's memory, where it has a place for files there, since thousands of commits would wait for a disk.
+ROOM = tempfile.mkdtemp(prefix="pawnd-description-", dir="/dev/shm" if os.access("/dev/shm", os.W_OK) else None)
 atexit.register(shutil.rmtree, ROOM, ignore_errors=True)
 RUN = Run(os.path.join(ROOM, "story"))
 
 
 def turn_to(name):
-    """The same run goes on over another file."""
+    """The same run goes on over another file, or in memory where there is no name."""
     RUN.close()
-    RUN.path = os.path.join(ROOM, name)
+    RUN.path = os.path.join(ROOM, name) if name else ":memory:"
 
 
 def row(*columns):
@@ -149,7 +150,7 @@ def bent(body):
 def bodies_are_refused_where_the_description_refuses_them():
     if not VALIDATORS:
         return not_tried("bodies against their schemas", "python3-jsonschema is not installed")
-    turn_to("bodies")
+    turn_to(None)
     for operation in OPERATIONS.values():
         for body in bent(operation.first_body()) if operation.body_kind == "application/json" else ():
             fields = STRANGER if operation.caller != "bearer" else None
@@ -165,7 +166,7 @@ def head_refused(operation, code, fields, head=None, method=None, target=None, b
 
 def heads_are_refused():
     """What is refused at every route by its bytes, its target, its keys or receipts, and its method, and a body that is no JSON."""
-    turn_to("heads")
+    turn_to(None)
     for operation in OPERATIONS.values():
         head_refused(operation, 701, [("bad name", "x")])
         head_refused(operation, 703, [("Transfer-Encoding", "chunked")])
@@ -284,22 +285,25 @@ def imports():
     RUN.send("importBook", 409, whole, [["Pledge-Key", BROKER], ["Import-Key", BROKER]], book=8)
 
 
+def secrets(number, count):
+    """The rows of so many secrets of a pledge, the first of them the opening's."""
+    return [row("S", number, place, DAY, "sworn" if place > 1 else "opening", f"00000000-0000-0000-0000-{place:012}") for place in range(1, count + 1)]
+
+
 def counts_at_their_limits():
-    """A book with 99 versions of terms, and a pledge with 9,999 entries, 100 declarations and 99 extensions."""
+    """A book with 99 versions of terms, a pledge with 9,999 entries, and one with 100 declarations and 99 extensions."""
     RUN.send("makeBook", 0, {"capacity": 1, "key": BROKER, "name": "Full Street"}, book=9)
-    secret = "00000000-0000-0000-0000-000000000001"
     terms = [row("T", version, version, 0, 0) for version in range(1, 100)]
-    pledge = row("P", 1, "L", "Ring", "running", 10000, DAY, "", "no", 99, "no", DAY, "open")
+    pledges = [row("P", number, f"L{number}", "Ring", "running", 10000, DAY, "", "no", 99, "no", DAY, "open") for number in (1, 2)]
     entered = [row("E", 1, seq, DAY, "draw" if seq % 2 else "repay", 1) for seq in range(1, 10_000)]
-    extended = [row("X", 1, place, DAY, datetime.date(2024, 12, 31) + datetime.timedelta(place)) for place in range(1, 100)]
-    RUN.send("importBook", 0, text(row("B", 2, 99, 1), *terms, pledge, row("S", 1, 1, DAY, "opening", secret), *entered, *extended), book=9)
+    extended = [row("X", 2, place, DAY, datetime.date(2024, 12, 31) + datetime.timedelta(place)) for place in range(1, 100)]
+    whole = text(row("B", 2, 99, 2), *terms, pledges[0], *secrets(1, 1), *entered, pledges[1], *secrets(2, 101), *extended)
+    RUN.send("importBook", 0, whole, book=9)
     RUN.send("addTerms", 411, {"keep_after": 0, "keep_before": 0, "rate": 0, "version": 100}, book=9)
-    for name, to in (("draw", {}), ("repay", {}), ("repayHeld", {"receipt": f"1-{secret}"})):
+    for name, to in (("draw", {}), ("repay", {}), ("repayHeld", {"receipt": "1-00000000-0000-0000-0000-000000000001"})):
         RUN.send(name, 206, {"pence": 1, "seq": 10_000}, book=9, **to)
-    RUN.send("extend", 316, {"until": "2026-01-01"}, book=9)
-    for count in range(100):
-        RUN.send("declareLost", 0, {"paper": "sworn"}, book=9)
-    RUN.send("declareLost", 309, {"paper": "sworn"}, book=9)
+    RUN.send("extend", 316, {"until": "2026-01-01"}, book=9, number=2)
+    RUN.send("declareLost", 309, {"paper": "sworn"}, book=9, number=2)
 
 
 def a_store_without_room(account):
