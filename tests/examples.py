@@ -8,7 +8,7 @@ import subprocess
 import sys
 import threading
 
-from service import BROKER, TOP, WAIT, Server, expect, main, read_all, six_months_after, today
+from service import BROKER, OPERATOR, TOP, WAIT, Server, expect, main, read_all, six_months_after, today
 
 RECEIPT = re.compile(r"\d+-[0-9a-f]{8}(?:-[0-9a-f]{4}){3}-[0-9a-f]{12}")
 LANGUAGES = ("py", "sh")
@@ -48,7 +48,10 @@ class Relay:
     def hand_on(self, connection):
         asked = b""
         while b"\r\n\r\n" not in asked or len(asked.partition(b"\r\n\r\n")[2]) < int((re.search(rb"Content-Length: (\d+)", asked) or [0, 0])[1]):
-            asked += connection.recv(65536)
+            piece = connection.recv(65536)
+            if not piece:
+                return
+            asked += piece
         with socket.create_connection(("127.0.0.1", self.to), timeout=WAIT) as service:
             service.sendall(asked.replace(b"\r\n", b"\r\nConnection: close\r\n", 1))
             said = read_all(service)
@@ -79,7 +82,7 @@ def books_for(server):
     """A book for each language, of terms that the day finds; one booking a window."""
     session = server.session()
     for book, _ in enumerate(LANGUAGES, 7):
-        made = session.ask("POST", f"/books/{book}", {"capacity": 1, "key": BROKER, "name": "High Street"}, Pledge_Key="11111111-1111-1111-1111-111111111111")
+        made = session.ask("POST", f"/books/{book}", {"capacity": 1, "key": BROKER, "name": "High Street"}, Pledge_Key=OPERATOR)
         expect(f"book {book}", made, (200, {"book": book}))
         terms = {"keep_after": 0, "keep_before": 0, "rate": 2667, "version": 1}
         expect("its terms", session.broker("POST", f"/books/{book}/terms", terms), (200, {"version": 1}))

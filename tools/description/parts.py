@@ -176,7 +176,7 @@ SECURITY = {
     "operator": {"type": "apiKey", "in": "header", "name": "Pledge-Key", "description": "The operator's key, which the service was started with. It makes books, and opens none."},
     "broker": {"type": "apiKey", "in": "header", "name": "Pledge-Key", "description": "The key of the book, which the operator gave it. Exactly one field."},
     "bearer": {"type": "apiKey", "in": "header", "name": "Pledge-Receipt",
-               "description": "A receipt of the book. Exactly one field, but for `showHeld`, which takes up to 32. Each field is one receipt: they are never joined by commas."},
+               "description": "A receipt of the book. Exactly one field, but for `showHeld`, which takes up to 32. Each field is one receipt: they are never joined by commas. The secret may be in any form of a key."},
 }
 
 HEADERS = {"Length": {"description": "The bytes of the body.", "required": True, "schema": {"type": "integer", "minimum": 0}}}

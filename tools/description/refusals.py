@@ -27,7 +27,7 @@ WORDS = {
     315: ("NotLater", "The day is before the end of the period as it stands."),
     316: ("ExtensionsFull", "The pledge has 99 extensions, and takes no more."),
     401: ("NoSuchBook", "There is no such book, or the key is not its key. The two are not told apart."),
-    402: ("NoSuchReceipt", "The receipt is not live: it was declared lost, surrendered or never issued, or is for another book. None of these are told apart."),
+    402: ("NoSuchReceipt", "The receipt is not live, or of several none is: it was declared lost, surrendered or never issued, or is for another book. These are not told apart."),
     403: ("NoSuchPledge", "The book has no pledge of this number."),
     404: ("BookTaken", "The book stands with another key, name or capacity."),
     405: ("NoTerms", "The book has no terms yet, so no pledge can be taken."),

@@ -50,7 +50,7 @@ ROUTES = [
           "Takes an article in pledge, under the newest terms, and issues its receipt. An equal opening under a reference that stands is answered with the first number and the "
           "first receipt, which may since have been replaced.",
           "PledgeTaken", [401, 407, 405, 201, 412], ALWAYS, "Opening", adds_rows=True),
-    Route("get", ON_PLEDGE, "showPledge", "broker", "Show a pledge", "The statement of a pledge, on today or on its last day.",
+    Route("get", ON_PLEDGE, "showPledge", "broker", "Show a pledge", "The statement of a pledge as it stands today, or of a closed one as on its closing day.",
           "Statement", [401, 403], VIEW, kind=TEXT, rules="The statement"),
     Route("get", "/books/{book}/days/{day}", "showDay", "broker", "Show a day", "The day sheet: who comes in which window, who asked to, and which periods end.",
           "Sheet", [401], VIEW, kind=TEXT, rules="The day's sheet"),
