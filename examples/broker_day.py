@@ -3,12 +3,12 @@
 
 usage: broker_day.py URL BOOK KEY [LOST]      or the variables PLEDGE_URL, PLEDGE_BOOK and PLEDGE_KEY
 
-LOST is the number of a pledge whose receipt was lost. Run twice on one day, it does everything else once, and prints the same.
+LOST is the number of a pledge whose receipt was lost. Run twice on one day, it does everything else once.
 """
 import datetime
 import sys
 
-from client import Book, Lost, Refused, money, settings
+from client import Book, Lost, Refused, money, next_entry, settings
 
 TERMS = {"keep_after": 0, "keep_before": 0, "rate": 2667, "version": 1}
 
@@ -36,11 +36,14 @@ def counter(book, number):
     entry = book.post(f"/pledges/{number}/repay", {"pence": 1000, "seq": 1})
     print("repaid", money(entry["pence"]), "on", entry["day"])
     try:
-        book.post(f"/pledges/{number}/repay", {"pence": 1_000_000, "seq": 2})
+        book.post(f"/pledges/{number}/repay", {"pence": 1_000_000, "seq": next_entry(book.get(f"/pledges/{number}"))})
     except Refused as why:
-        if why.code != 204:
+        if why.code == 204:
+            print("too much: owing is", money(why.said["total"]))
+        elif why.code == 305:
+            print("the pledge is closed by now")
+        else:
             raise
-        print("too much: owing is", money(why.said["total"]))
 
 
 def bookings(book, day):

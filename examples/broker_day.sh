@@ -3,7 +3,7 @@
 #
 # usage: broker_day.sh URL BOOK KEY [LOST]      or the variables PLEDGE_URL, PLEDGE_BOOK and PLEDGE_KEY
 #
-# LOST is the number of a pledge whose receipt was lost. Run twice on one day, it does everything else once, and prints the same.
+# LOST is the number of a pledge whose receipt was lost. Run twice on one day, it does everything else once.
 set -euo pipefail
 . "$(dirname "$0")/client.sh"
 usage="usage: broker_day.sh URL BOOK KEY [LOST]"
@@ -27,9 +27,13 @@ echo "pledge $number receipt $(said receipt)"
 # Ten pounds, under a number of our own, so that they are never entered twice; and then too much.
 ask POST "/pledges/$number/repay" '{"pence":1000,"seq":1}' || stop
 echo "repaid $(money "$(said pence)") on $(said day)"
-if ! ask POST "/pledges/$number/repay" '{"pence":1000000,"seq":2}'; then
-    ((CODE == 204)) || stop
-    echo "too much: owing is $(money "$(said total)")"
+ask GET "/pledges/$number" || stop
+if ! ask POST "/pledges/$number/repay" '{"pence":1000000,"seq":'"$(next_entry)"'}'; then
+    case $CODE in
+        204) echo "too much: owing is $(money "$(said total)")" ;;
+        305) echo "the pledge is closed by now" ;;
+        *) stop ;;
+    esac
 fi
 
 # Confirms what is asked for tomorrow, as long as there is room, and refuses the rest.

@@ -29,6 +29,11 @@ said() {
     sed -n 's/^{.*"'"$1"'":"\{0,1\}\([^",}]*\).*/\1/p' <<<"$SAID"
 }
 
+# The number that the next entry has, by the statement of the last reply.
+next_entry() {
+    echo $(($(grep -c '^Entry ' <<<"$SAID" || true) + 1))
+}
+
 # Pence as pounds.
 money() {
     printf '%d.%02d' $(($1 / 100)) $(($1 % 100))

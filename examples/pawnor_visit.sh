@@ -26,8 +26,7 @@ fi
 
 # Pays once: the number of the entry is taken from the statement before the first sending, and is the same in a repeat.
 ask GET /held || stop
-next=$(($(grep -c '^Entry ' <<<"$SAID" || true) + 1))
-if ask POST /held/repay '{"pence":1000,"seq":'"$next"'}'; then
+if ask POST /held/repay '{"pence":1000,"seq":'"$(next_entry)"'}'; then
     echo "repaid $(money "$(said pence)") as entry $(said seq)"
 else
     case $CODE in

@@ -122,6 +122,21 @@ def a_pawnors_visit():
             expect(f"{language}: the receipt later", later, (1, "", "this receipt is not live\n"))
 
 
+def a_day_goes_on_after_a_visit():
+    """The broker's day, the visit of who was given its receipt, and the day again."""
+    with Server() as server:
+        session, url = books_for(server), f"http://127.0.0.1:{server.port}"
+        session.close()
+        for book, language in enumerate(LANGUAGES, 7):
+            said = runs(f"broker_day.{language}", url, str(book), BROKER)[1]
+            receipt = RECEIPT.search(said)[0]
+            visit = runs(f"pawnor_visit.{language}", url, str(book), receipt)[1].splitlines()
+            expect(f"{language}: the visit", visit[-2:], ["repaid 10.00 as entry 2", f"redeemed on {today()} for 80.00"])
+            again = runs(f"broker_day.{language}", url, str(book), BROKER)
+            wanted = said.replace("too much: owing is 90.00", "the pledge is closed by now").replace("1 entries", "2 entries")
+            expect(f"{language}: the day again", again, (0, wanted, ""))
+
+
 def lost_replies():
     """Each request is done once, whatever was lost, and a declaration is not sent again."""
     with Server() as server, Relay(server.port) as relay:
@@ -154,4 +169,4 @@ def nobody_is_there():
         expect(f"{language}: without words", (status, said, "usage: pawnor_visit" in complained), (1, "", True))
 
 
-main(a_brokers_day, a_pawnors_visit, lost_replies, nobody_is_there)
+main(a_brokers_day, a_pawnors_visit, a_day_goes_on_after_a_visit, lost_replies, nobody_is_there)

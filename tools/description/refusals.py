@@ -67,8 +67,6 @@ FAILURES = [491, 492]
 WITH_TOTAL = (204, 310)
 WITH_ROW = range(601, 607)
 
-PHRASES = {400: "Bad Request", 403: "Forbidden", 404: "Not Found", 409: "Conflict", 503: "Service Unavailable"}
-
 
 def status(code):
     """The status of a refusal's reply."""
