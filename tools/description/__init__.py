@@ -1,0 +1,1 @@
+"""The parts of docs/openapi.json, which tools/describe puts together."""
