@@ -1,5 +1,6 @@
 pub mod AllFilled
 pub mod Filled
+pub mod Judged
 pub mod Lent
 pub mod Made
 pub mod Migrated

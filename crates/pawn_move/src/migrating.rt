@@ -26,7 +26,7 @@ fn move_tables<S: Alter>(
     if from == 1 {
         move_first(tx, alloc)
     } else {
-        move_second(tx)
+        move_second(tx, alloc)
     }
 }
 
@@ -51,8 +51,8 @@ fn move_store<S: Alter>(conn: &mut Connection<S>, alloc: Global, from: u32) -> R
 
 /// Moves the store of a connection that is at rest to the program's schema, in one transaction, and tells the number of the schema
 /// that it had and the program's. Nothing is done to a store of the program's schema. A store that is refused stays as it was: an
-/// empty one and another program's is `NotOurs`, a newer one `NewerSchema`, and one of the first schema of which the debt of some
-/// pledge can't have come about `Damaged`.
+/// empty one and another program's is `NotOurs`, a newer one `NewerSchema`, and an older one of which the debt of some pledge can't
+/// have come about `Damaged`.
 pub fn migrate<S: Alter>(alloc: Global, conn: &mut Connection<S>) -> Result<(u32, u32), MoveFault>
     requires rests { conn.old.in_transaction ≡ false }
     ensures migrates { Migrates (state S.Store conn.old) (state S.Store conn.new) result }
