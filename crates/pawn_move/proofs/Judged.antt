@@ -22,7 +22,6 @@ use Rattle.pawn_tables.specs.Finding.{Finds, FindsOf}
 use Rattle.pawn_tables.specs.StandsFor.{ListDebts}
 use Rattle.pawn_tables.specs.Told.{totals_in}
 use Rattle.pawn_move.specs.Moving.{AreAllOwed, AreOwedIn, AreTotalsAt, CanBeOwed, IsJudgedAt, IsNextJudged, ListFirstDebts}
-use Rattle.pawn_move.proofs.Filled.{all_taken, one_taken, pledge_at}
 use Rattle.pawn_move.proofs.Reading.{tell_then}
 
 -- ---- a walk that leaves the tables as they are
@@ -68,42 +67,6 @@ module _ (P : Host → Type 0) (old mid new : State) (walked : HasWalked P old m
   walk_fails ok U e R W lent f clean within h tell =
       handed e (λ x. R h x × Rests mid new) (λ x. W h x × Rests old new) (U h) (U h) (λ it. it) (one_more ok U (Err e) R lent f clean within h tell).2
 
--- ---- a pledge
-
-pub stands_if : (h : Host) (b n : ℕ) (totals : Option Totals) → AreTotalsAt h b n totals → IsJudgedAt h b n (is_some totals)
-stands_if h b n totals are = (ap is_some are.0 ∙ same (pledge_in (get h.books b) n), are.1)
-  where
-    same : (o : Option PledgeValue) → is_some (totals_in o) ≡ is_some o
-    same None = refl
-    same (Some p) = refl
-
--- ---- the pledges of a book
-
--- so many of them can be owed
-abbrev pub AreOwedTo : ℕ → ℕ → Host → Type 0
-AreOwedTo b i h = Each CanBeOwed (take i (pledges_of (get h.books b)))
-
-each_more : (ps : List PledgeValue) (p : PledgeValue) → Each CanBeOwed ps → CanBeOwed p → Each CanBeOwed (ps ++ p ∷ [])
-each_more [] p all it = (it, tt)
-each_more (q ∷ ps) p all it = (all.0, each_more ps p all.1 it)
-
-pub one_judged : (b i m : ℕ) → m ≡ i + 1 → (h : Host) → AreOwedTo b i h → IsJudgedAt h b m true → AreOwedTo b m h
-one_judged b i m next h so_far is = go (pledge_in (get h.books b) m) (pledge_at (get h.books b) i m next) is.0 is.1
-  where
-    go : (o : Option PledgeValue) → o ≡ slice_get (pledges_of (get h.books b)) i → true ≡ is_some o → IfSome o CanBeOwed → AreOwedTo b m h
-    go None at some it = absurd (let e = some in cc)
-    go (Some p) at some it =
-        let ps = pledges_of (get h.books b) in
-        let count : m ≡ suc i = omega (arith, next) in
-        subst (Each CanBeOwed) (sym (ap (λ k. take k ps) count ∙ one_taken ps i p (sym at))) (each_more (take i ps) p so_far it)
-
-pub all_judged : (b i m : ℕ) → m ≡ i + 1 → (h : Host) → AreOwedTo b i h → IsJudgedAt h b m false → AreOwedIn h b
-all_judged b i m next h so_far is = go (pledge_in (get h.books b) m) (pledge_at (get h.books b) i m next) is.0
-  where
-    go : (o : Option PledgeValue) → o ≡ slice_get (pledges_of (get h.books b)) i → false ≡ is_some o → AreOwedIn h b
-    go None at none = subst (Each CanBeOwed) (all_taken (pledges_of (get h.books b)) i (sym at)) so_far
-    go (Some p) at none = absurd (let e = none in cc)
-
 -- ---- a book that was found, and then its pledges
 
 pub next_judged : (s0 s1 s2 : State) (above b : ℕ) → IsLent s0 s1 true → IsCarried s1 s2 true → FindsOf ListDebts HasUnsoundBook s0 s1 (Ok (Some b)) (λ h next. IsNextBook h above next)
@@ -121,26 +84,3 @@ next_not_judged s0 s1 s2 above b ok e lent carried found judged clean within h t
     let one = found was within h (λ now. (tell now).debts) in
     handed e (λ done. AreOwedIn h b × Rests s1 s2) (λ next. IsNextJudged h above next × Rests s0 s2) (IsUnsoundAt b h) (HasUnsoundBook h) (λ it. (b, it))
     (judged clean one.1.inside h (λ _. tell_then ListFirstDebts HasUnsoundBook s0 s1 h lent was within tell one.1))
-
--- ---- all books
-
--- those up to a number can be owed, but one of number 0
-abbrev pub AreOwedUpto : ℕ → Host → Type 0
-AreOwedUpto above h = (b : ℕ) (k : BookValue) → b ≢ 0 → b ≤ above → get h.books b ≡ Some k → Each CanBeOwed k.pledges
-
-pub none_judged : (h : Host) → AreOwedUpto 0 h
-none_judged h b k apart le at = absurd (apart (omega (arith, le)))
-
-pub upto_next : (above b : ℕ) (h : Host) → AreOwedUpto above h → IsNextJudged h above (Some b) → AreOwedUpto b h
-upto_next above b h so_far is c k apart le at = go (nat_le c above) refl
-  where
-    go : (d : Bool) → nat_le c above ≡ d → Each CanBeOwed k.pledges
-    go true below = so_far c k apart (grind (arith, nat_tests, below)) at
-    go false beyond =
-        let lt : above < c = grind (arith, nat_tests, beyond) in
-        let up = is.0.2 c k at lt in
-        let same : b ≡ c = omega (arith, le, up) in
-        subst (λ o. Each CanBeOwed (pledges_of o)) (ap (get h.books) same ∙ at) is.1
-
-pub all_upto : (above : ℕ) (h : Host) → AreOwedUpto above h → IsNextJudged h above None → AreAllOwed h
-all_upto above h so_far is b k apart at = so_far b k apart (is.0 b k at) at

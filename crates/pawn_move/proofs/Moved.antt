@@ -1,7 +1,7 @@
 -- Tables of an older schema, moved to the program's.
-use Rattle.std.proofs.Common.{◌≡◌, ◌++◌, ℕ, List, [], Some, Result, Ok, Err, OnOk, Bool, true, false, IsTrue, refl, sym, ap, subst, ◌∙◌, arith, append-nil}
+use Rattle.std.proofs.Common.{◌≡◌, ◌++◌, ℕ, List, [], Some, None, Result, Ok, Err, OnOk, Bool, true, false, IsTrue, refl, sym, ap, subst, ◌∙◌, arith, append-nil}
 use Rattle.std.proofs.Common.{T, flat_map, ◌∷◌}
-use Rattle.std.specs.FinMap.{entries, entries_sorted, get-entries, is_sorted, find as find_key}
+use Rattle.std.specs.FinMap.{entries, entries_sorted, get, get-entries, is_sorted, find as find_key}
 use Rattle.std.specs.Ordering.{nat_cmp}
 use Rattle.std.specs.Prelude.{◌≢◌}
 use Rattle.pawn_pledge.specs.Pledge.{PledgeValue}
@@ -99,7 +99,7 @@ module _ (s0 s1 s2 : State) (l1 : IsLent s0 s1 true) (l2 : IsLent s1 s2 true) (m
       let mid = made_first (past s2 s3 false carried clean) within h st in
       go e (puts clean mid.1 1 [] h none mid.0)
     where
-      go : (x : KeepError) → Finds {A = Unit {0}} (Err x) (λ done. IsMoving 1 (of_pledges h totals_listed ++ []) s3.now h) (HasUnsoundBook h) → Finds {A = Unit {0}} (Err x) (λ done. StandsFor s3.now h) (HasUnsoundBook h)
+      go : (x : KeepError) → Finds {A = Unit {0}} (Err x) (λ done. AreAllOwed h × IsMoving 1 (of_pledges h totals_listed ++ []) s3.now h) (HasUnsoundBook h) → Finds {A = Unit {0}} (Err x) (λ done. StandsFor s3.now h) (HasUnsoundBook h)
       go Keeper.Memory it = tt
       go (Keeper.Store NoRecord) it = it
       go (Keeper.Store Database) it = tt
@@ -109,7 +109,17 @@ module _ (s0 s1 s2 : State) (l1 : IsLent s0 s1 true) (l2 : IsLent s1 s2 true) (m
       let clean3 = clean_before s3 s4 ok l4 clean in
       let mid = made_first (past s2 s3 true carried clean3) within h st in
       let put = puts clean3 mid.1 1 [] h none mid.0 in
-      noted s3 s4 1 r h not clean (carried.inside clean3 mid.1 refl) notes (subst (λ rows. IsMoving 1 rows s3.now h) (append-nil _) put)
+      noted s3 s4 1 r h not clean (carried.inside clean3 mid.1 refl) notes (subst (λ rows. IsMoving 1 rows s3.now h) (append-nil _) put.1)
+
+  pub first_owed : (s3 s4 : State) (r : Result (Unit {0}) KeepError) (ok : Bool) → IsCarried s2 s3 true → IsLent s3 s4 ok → PutsAll s2 s3 (Ok tt) → MovesOwed 1 s0 s4 r
+  first_owed s3 s4 r ok carried l4 puts clean within h none st = go r
+    where
+      go : (x : Result (Unit {0}) KeepError) → OnOk x (AreAllOwed h)
+      go (Ok done) =
+          let clean3 = clean_before s3 s4 ok l4 clean in
+          let mid = made_first (past s2 s3 true carried clean3) within h st in
+          (puts clean3 mid.1 1 [] h none mid.0).0
+      go (Err e) = tt
 
 -- ---- from the second
 
@@ -134,16 +144,16 @@ module _ (s0 s1 : State) (l1 : IsLent s0 s1 true) (made : AddsTable {E = KeepErr
       go (Keeper.Store NoRecord) it = it
       go (Keeper.Store Database) it = tt
 
-  module _ (s2 s3 : State) (ok : Bool) (r : Result (Unit {0}) KeepError) (carried : IsCarried s1 s2 true) (l3 : IsLent s2 s3 ok) (judged : FindsOf {A = Unit {0}} ListFirstDebts HasUnsoundBook s1 s2 (Ok tt) (λ h done. AreAllOwed h)) where
+  module _ (s2 s3 : State) (ok : Bool) (r : Result (Unit {0}) KeepError) (carried : IsCarried s1 s2 true) (l3 : IsLent s2 s3 ok) (judged : FindsOf {A = Unit {0}} ListFirstDebts HasUnsoundBook s1 s2 (Ok tt) (λ h done. get h.books 0 ≡ None → AreAllOwed h)) where
     pub second_moved : r ≢ Err (Keeper.Store NoRecord) → NotesProgram s2 s3 r → Moves 2 s0 s3 r
     second_moved not notes clean within h none st =
-        let found = judged_second {A = Unit {0}} s2 true (Ok tt) (λ h done. AreAllOwed h) carried judged (clean_before s2 s3 ok l3 clean) within h st in
+        let found = judged_second {A = Unit {0}} s2 true (Ok tt) (λ h done. get h.books 0 ≡ None → AreAllOwed h) carried judged (clean_before s2 s3 ok l3 clean) within h st in
         let m = subst (λ d. IsMoving 2 (of_pledges h totals_listed) d h) (sym found.1.1.now_is) found.0 in
         noted s2 s3 2 r h not clean found.1.1.inside notes m
 
     pub second_owed : MovesOwed 2 s0 s3 r
-    second_owed clean within h st = go r
+    second_owed clean within h none st = go r
       where
         go : (x : Result (Unit {0}) KeepError) → OnOk x (AreAllOwed h)
-        go (Ok done) = (judged_second {A = Unit {0}} s2 true (Ok tt) (λ h done. AreAllOwed h) carried judged (clean_before s2 s3 ok l3 clean) within h st).1.0
+        go (Ok done) = (judged_second {A = Unit {0}} s2 true (Ok tt) (λ h done. get h.books 0 ≡ None → AreAllOwed h) carried judged (clean_before s2 s3 ok l3 clean) within h st).1.0 none
         go (Err e) = tt

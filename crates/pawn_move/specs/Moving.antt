@@ -1,5 +1,5 @@
 -- Tables on their way from an older schema.
-use Rattle.std.specs.Prelude.{◌≡◌, ◌≢◌, ◌++◌, ℕ, Bool, [], List, OnOk, Option, Some, None, IfSome, IsTrue, Result, flat_map, is_some}
+use Rattle.std.specs.Prelude.{◌≡◌, ◌++◌, ℕ, Bool, [], List, OnOk, Option, Some, None, IfSome, IsTrue, Result, flat_map, is_some}
 use Rattle.std.specs.FinMap.{get}
 use Rattle.sqlite.specs.Order.{Row}
 use Rattle.sqlite.specs.Effect.{Database as Tables}
@@ -48,9 +48,9 @@ CanBeOwed p = IsChecked p.agreement.terms × CanStand (debt_of p)
 abbrev pub AreOwedIn : Host → ℕ → Type 0
 AreOwedIn h b = Each CanBeOwed (pledges_of (get h.books b))
 
--- the debts of all books can, but of one of number 0
+-- the debts of all books can
 abbrev pub AreAllOwed : Host → Type 0
-AreAllOwed h = (b : ℕ) (k : BookValue) → b ≢ 0 → get h.books b ≡ Some k → Each CanBeOwed k.pledges
+AreAllOwed h = (b : ℕ) (k : BookValue) → get h.books b ≡ Some k → Each CanBeOwed k.pledges
 
 -- what was owed on the pledge of this number in this book, if it stands: its debt can have come about
 abbrev pub AreTotalsAt : Host → ℕ → ℕ → Option Totals → Type 0
@@ -80,11 +80,11 @@ abbrev pub PutsTotals : {A : Type 0} → State → State → Result A KeepError 
 PutsTotals old new result put P =
     HasCleanDisk new → IsTrue old.in_transaction → (n : ℕ) (owed : List Row) (h : Host) → IsMoving n owed old.now h → Finds result (λ x. P h x × IsMoving n (put h x ++ owed) new.now h) (HasUnsoundBook h)
 
--- a part of the transaction puts the totals of each pledge of each book, where no book has the number 0
+-- a part of the transaction puts the totals of each pledge of each book, where no book has the number 0: their debts can have come about
 abbrev pub PutsAll : State → State → Result (Unit {0}) KeepError → Type 0
 PutsAll old new result =
     HasCleanDisk new → IsTrue old.in_transaction → (n : ℕ) (owed : List Row) (h : Host) → get h.books 0 ≡ None → IsMoving n owed old.now h
-    → Finds result (λ done. IsMoving n (of_pledges h totals_listed ++ owed) new.now h) (HasUnsoundBook h)
+    → Finds result (λ done. AreAllOwed h × IsMoving n (of_pledges h totals_listed ++ owed) new.now h) (HasUnsoundBook h)
 
 -- a part of the transaction notes the number of the program's schema
 abbrev pub NotesProgram : State → State → Result (Unit {0}) KeepError → Type 0
@@ -99,4 +99,4 @@ Moves n old new result =
 -- a part of the transaction moves tables of this schema only where each debt can have come about
 abbrev pub MovesOwed : ℕ → State → State → Result (Unit {0}) KeepError → Type 0
 MovesOwed n old new result =
-    HasCleanDisk new → IsTrue old.in_transaction → (h : Host) → StandsUnder n old.now h → OnOk result (AreAllOwed h)
+    HasCleanDisk new → IsTrue old.in_transaction → (h : Host) → get h.books 0 ≡ None → StandsUnder n old.now h → OnOk result (AreAllOwed h)

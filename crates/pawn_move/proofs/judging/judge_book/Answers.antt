@@ -5,7 +5,8 @@ use Rattle.pawn_book.specs.Sound.{IsUnsoundAt}
 use Rattle.pawn_book.specs.declared.fault.KeepError.{KeepError}
 use Rattle.pawn_tables.specs.Finding.{FindsOf}
 use Rattle.pawn_move.specs.Moving.{AreOwedIn, IsJudgedAt, ListFirstDebts}
-use Rattle.pawn_move.proofs.Judged.{AreOwedTo, all_judged, none_walked, one_judged, walk_ends, walk_fails, walk_on}
+use Rattle.pawn_move.proofs.JudgedUpto.{AreOwedTo, all_judged, one_judged}
+use Rattle.pawn_move.proofs.Judged.{none_walked, walk_ends, walk_fails, walk_on}
 use Rattle.pawn_move.proofs.judging.judge_book.Goals as goal
 
 pub loop-place-init : goal.loop-place-init

@@ -1,6 +1,7 @@
 use Rattle.std.proofs.Common.{◌≡◌}
 use Rattle.sqlite.specs.Held.{state}
-use Rattle.pawn_move.proofs.Judged.{AreOwedTo, HasWalked}
+use Rattle.pawn_move.proofs.JudgedUpto.{AreOwedTo}
+use Rattle.pawn_move.proofs.Judged.{HasWalked}
 use Rattle.pawn_move.proofs.judging.judge_book.Given as goal
 
 abbrev pub invariant-loop-place : goal.invariant-loop-place
