@@ -1,15 +1,8 @@
 -- Debts are judged, pledge by pledge and book by book.
-use Rattle.std.proofs.Common.{◌≡◌, ◌≢◌, ◌+◌, ◌++◌, ◌<◌, ◌≤◌, ℕ, suc, [], ◌∷◌, List, Bool, true, false, Option, Some, None, Result, Ok, Err, IsTrue, nat_le, take, slice_get, refl, sym, ap, subst, ◌∙◌, arith}
-use Rattle.std.specs.Prelude.{IfSome, is_some}
-use Rattle.std.proofs.lemmas.Bool.Decides.{nat_tests}
-use Rattle.std.specs.FinMap.{get}
+use Rattle.std.proofs.Common.{ℕ, Bool, true, Option, Some, Result, Ok, Err, IsTrue, refl, sym, subst}
 use Rattle.sqlite.specs.State.{State, HasCleanDisk}
-use Rattle.pawn_debt.specs.declared.owing.Totals.{Totals}
-use Rattle.pawn_pledge.specs.Pledge.{PledgeValue}
-use Rattle.pawn_pledge.specs.Replayable.{Each}
-use Rattle.pawn_book.specs.BookStep.{BookValue, pledge_in}
 use Rattle.pawn_book.specs.HostStep.{Host}
-use Rattle.pawn_book.specs.Keeping.{IsNextBook, pledges_of}
+use Rattle.pawn_book.specs.Keeping.{IsNextBook}
 use Rattle.pawn_book.specs.Sound.{HasUnsoundBook, IsUnsoundAt}
 use Rattle.pawn_book.specs.declared.fault.KeepError.{KeepError}
 use Rattle.pawn_book.specs.declared.fault.KeepError.TheVariants as Keeper
@@ -20,8 +13,7 @@ use Rattle.pawn_saving.specs.Writing.{IsCarried}
 use Rattle.pawn_saving.proofs.Tailing.{carried_none, carried_then, past}
 use Rattle.pawn_tables.specs.Finding.{Finds, FindsOf}
 use Rattle.pawn_tables.specs.StandsFor.{ListDebts}
-use Rattle.pawn_tables.specs.Told.{totals_in}
-use Rattle.pawn_move.specs.Moving.{AreAllOwed, AreOwedIn, AreTotalsAt, CanBeOwed, IsJudgedAt, IsNextJudged, ListFirstDebts}
+use Rattle.pawn_move.specs.Moving.{AreOwedIn, IsNextJudged, ListFirstDebts}
 use Rattle.pawn_move.proofs.Reading.{tell_then}
 
 -- ---- a walk that leaves the tables as they are
