@@ -191,7 +191,7 @@ def imported_long(path):
     return [keyed("GET", "/books/77/export"), statement(1, 77)]
 
 
-# What no pledge can have come to, of book 7 in a store of the first schema: the debt's rules or its terms' refuse it.
+# What no pledge can have come to, of book 7 in a store of an older schema: the debt's rules or its terms' refuse it.
 IMPOSSIBLE = [
     ("an entry of nothing", by("UPDATE entries SET pence = 0 WHERE book = 7 AND number = 1")),
     ("an entry above all sums", by("UPDATE entries SET pence = 100000001 WHERE book = 7 AND number = 1")),
@@ -223,23 +223,26 @@ UNSEEN = [
 
 def a_debt_that_cannot_be_is_refused_and_stays():
     with tempfile.TemporaryDirectory() as room:
-        path, folder = os.path.join(room, "books"), os.path.join(room, "folder")
+        path = os.path.join(room, "books")
         fill(path)
-        old = bent_back(path, os.path.join(room, "old"), *TO_FIRST)
-        for step, bend in IMPOSSIBLE:
-            with tempfile.TemporaryDirectory() as folder:
-                bent = bent_back(old, os.path.join(folder, "bent"))
+        for number, statements in [(1, TO_FIRST), (2, TO_SECOND)]:
+            old = bent_back(path, os.path.join(room, f"old{number}"), *statements)
+            for what, bend in IMPOSSIBLE:
+                step = f"{what}, schema {number}"
+                with tempfile.TemporaryDirectory() as folder:
+                    bent = bent_back(old, os.path.join(folder, "bent"))
+                    with opened(bent) as tables:
+                        bend(tables)
+                    before = content(bent)
+                    stays(bent, step, lambda: expect(step, ends("migrate", bent), DAMAGED))
+                    expect(f"its tables, {step}", (content(bent), schema_of(bent)), (before, number))
+            for what, bend in UNSEEN:
+                step = f"{what}, schema {number}"
+                bent = bent_back(old, os.path.join(room, "bent"))
                 with opened(bent) as tables:
                     bend(tables)
-                before = content(bent)
-                stays(bent, step, lambda: expect(step, ends("migrate", bent), DAMAGED))
-                expect(f"its tables, {step}", (content(bent), schema_of(bent)), (before, 1))
-        for step, bend in UNSEEN:
-            bent = bent_back(old, os.path.join(room, "bent"))
-            with opened(bent) as tables:
-                bend(tables)
-            expect(step, migrate(bent), moved(1))
-            expect(f"a check, {step}", check(bent), (1, "", "fault 513 Damaged\n"))
+                expect(step, migrate(bent), moved(number))
+                expect(f"a check, {step}", check(bent), (1, "", "fault 513 Damaged\n"))
 
 
 def what_is_no_older_store_is_refused_and_stays():

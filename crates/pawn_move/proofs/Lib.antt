@@ -1,5 +1,7 @@
 pub mod AllFilled
 pub mod Filled
+pub mod Judged
+pub mod JudgedUpto
 pub mod Lent
 pub mod Made
 pub mod Migrated

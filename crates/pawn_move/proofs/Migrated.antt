@@ -1,5 +1,5 @@
 -- A store is moved: a transaction that moves its tables, and a commit.
-use Rattle.std.proofs.Common.{◌≡◌, ◌≢◌, inl, inr, ℕ, true, false, None, Ok, Err, IsTrue, refl, sym, subst, ◌∙◌, arith}
+use Rattle.std.proofs.Common.{◌≡◌, ◌≢◌, inl, inr, ℕ, true, false, None, Result, Ok, Err, IsTrue, refl, sym, subst, ◌∙◌, arith}
 use Rattle.std.specs.FinMap.{get}
 use Rattle.sqlite.specs.Tree.{Trees}
 use Rattle.sqlite.specs.State.{State, HasCleanDisk, IsRolledBack, Shows, Survives}
@@ -18,11 +18,15 @@ use Rattle.pawn_tables.specs.Finding.{Finds}
 use Rattle.pawn_tables.specs.OneHost.{StandForOne}
 use Rattle.pawn_tables.specs.StandsFor.{StandsFor, HoldHost}
 use Rattle.pawn_move.proofs.Filled.{untold}
-use Rattle.pawn_move.specs.Migrating.{HoldMoved, MovesStore}
-use Rattle.pawn_move.specs.Moving.{Moves}
+use Rattle.pawn_move.specs.Migrating.{HoldMoved, MovesStore, MovesStoreOwed}
+use Rattle.pawn_move.specs.Moving.{Moves, MovesOwed}
 use Rattle.pawn_move.specs.StandsUnder.{StandsUnder}
 
 module _ (n : ℕ) (old new begun lent : State) (was : IsBegun old begun) (ended : new.in_transaction ≡ false) where
+  -- the debts that were judged
+  pub store_owed : (r : Result (Unit {0}) KeepError) (Left : Trees → Type 0) → MovesOwed n begun lent r → Survives lent new Left → MovesStoreOwed n old new r
+  store_owed r Left owed after clean h none st = owed (let up = after.clean in omega (arith, clean, up)) was.within h none (subst (λ d. StandsUnder n d h) (sym was.now) st)
+
   -- the transaction failed, and is rolled back
   pub not_moved_store : (e : KeepError) → IsLent begun lent false → Moves n begun lent (Err e) → (HasCleanDisk new → IsRolledBack lent new) → Survives lent new (λ _. ⊥) → MovesStore n old new (Err e)
   not_moved_store e part moves undone after = record {

@@ -19,7 +19,7 @@ use Rattle.pawn_tables.specs.StandsFor.{StandsFor}
 use Rattle.pawn_move.proofs.Told.{third_is_ours}
 use Rattle.pawn_move.specs.declared.fault.MoveFault.{MoveFault}
 use Rattle.pawn_move.specs.declared.fault.MoveFault.TheVariants.{NotOurs, NewerSchema, Damaged, Store, Memory}
-use Rattle.pawn_move.specs.Migrating.{HoldMoved, HoldSameHost, IsFailure, IsMoved, IsUnmovable, Migrates, MovesStore, TellsNumber, fault_of}
+use Rattle.pawn_move.specs.Migrating.{HoldMoved, HoldSameHost, IsFailure, IsMoved, IsUnmovable, Migrates, MigratesOwed, MovesStore, MovesStoreOwed, TellsNumber, fault_of}
 use Rattle.pawn_move.specs.StandsUnder.{IsSchema, StandsUnder}
 
 -- an older schema is the first or the second
@@ -90,6 +90,12 @@ module _ (s0 s1 : State) (last : IsTrue s0.is_open → (trees : Trees) → s0.ma
     crash = crashed s0 s1 last (quiet it.survives);
   }
 
+  -- it is none that is moved
+  pub stays_owed : (from : ℕ) → from ≡ 3 → TellsNumber s0 s1 (Ok from) → MigratesOwed s0 s1 (Ok (from, 3))
+  stays_owed from three it clean n h schema less none st =
+      let told : from ≡ n = it.stands clean n h schema st in
+      absurd (omega (arith, told, three, less))
+
   -- ---- an older one
 
   module _ (s2 : State) (from : ℕ) (it : TellsNumber s0 s1 (Ok from)) (r : Result (Unit {0}) KeepError) (mv : MovesStore from s1 s2 r) where
@@ -119,6 +125,9 @@ module _ (s0 s1 : State) (last : IsTrue s0.is_open → (trees : Trees) → s0.ma
     survives = survived s2 from it (Ok tt) mv;
     crash = crashed s0 s2 last (survived s2 from it (Ok tt) mv);
   }
+
+  pub went_owed : (s2 : State) (from : ℕ) → TellsNumber s0 s1 (Ok from) → MovesStore from s1 s2 (Ok tt) → MovesStoreOwed from s1 s2 (Ok tt) → MigratesOwed s0 s2 (Ok (from, 3))
+  went_owed s2 from it mv owed clean n h schema less none st = owed clean h none (on s2 from it (Ok tt) mv (early s2 from it (Ok tt) mv clean) n h schema st).1
 
   pub failed : (s2 : State) (from : ℕ) (e : KeepError) → TellsNumber s0 s1 (Ok from) → MovesStore from s1 s2 (Err e) → Migrates s0 s2 (Err (fault_of e))
   failed s2 from e it mv = record {

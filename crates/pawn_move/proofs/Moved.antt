@@ -1,7 +1,7 @@
 -- Tables of an older schema, moved to the program's.
-use Rattle.std.proofs.Common.{◌≡◌, ◌++◌, ℕ, List, [], Some, Result, Ok, Err, Bool, true, false, IsTrue, refl, sym, ap, subst, ◌∙◌, arith, append-nil}
+use Rattle.std.proofs.Common.{◌≡◌, ◌++◌, ℕ, List, [], Some, None, Result, Ok, Err, OnOk, Bool, true, false, IsTrue, refl, sym, ap, subst, ◌∙◌, arith, append-nil}
 use Rattle.std.proofs.Common.{T, flat_map, ◌∷◌}
-use Rattle.std.specs.FinMap.{entries, entries_sorted, get-entries, is_sorted, find as find_key}
+use Rattle.std.specs.FinMap.{entries, entries_sorted, get, get-entries, is_sorted, find as find_key}
 use Rattle.std.specs.Ordering.{nat_cmp}
 use Rattle.std.specs.Prelude.{◌≢◌}
 use Rattle.pawn_pledge.specs.Pledge.{PledgeValue}
@@ -10,7 +10,7 @@ use Rattle.pawn_book.specs.BookStep.{BookValue}
 use Rattle.pawn_tables.specs.Schema.{extensions, first_schema, second_schema}
 use Rattle.pawn_tables.specs.Rows.{extension_cells, extensions_listed, number_of, placed_from, under}
 use Rattle.one_table.specs.Listing.{Holds}
-use Rattle.pawn_move.proofs.Filled.{untold}
+use Rattle.pawn_move.proofs.Filled.{firsts, untold}
 use Rattle.pawn_move.proofs.Upto.{Entry, below_key, here_found, low, past_head}
 use Rattle.sqlite.specs.Order.{Row}
 use Rattle.sqlite.specs.Effect.{Database as Tables}
@@ -20,17 +20,17 @@ use Rattle.pawn_book.specs.Sound.{HasUnsoundBook}
 use Rattle.pawn_book.specs.declared.fault.KeepError.{KeepError}
 use Rattle.pawn_book.specs.declared.fault.KeepError.TheVariants as Keeper
 use Rattle.pawn_book.specs.declared.fault.StoreFault.TheVariants.{NoRecord, Database}
-use Rattle.one_table.specs.Lending.{IsLent}
+use Rattle.one_table.specs.Lending.{IsLent, Rests}
 use Rattle.one_table.specs.Listing.{Lists, with_rows}
 use Rattle.one_table.proofs.Lent.{clean_before}
 use Rattle.pawn_saving.specs.Writing.{IsCarried}
 use Rattle.pawn_saving.proofs.Tailing.{past}
-use Rattle.pawn_tables.specs.Finding.{Finds}
+use Rattle.pawn_tables.specs.Finding.{Finds, FindsOf}
 use Rattle.pawn_tables.specs.Rows.{totals_listed}
 use Rattle.pawn_tables.specs.Schema.{keep_schema}
 use Rattle.pawn_tables.specs.StandsFor.{StandsFor, of_pledges}
 use Rattle.pawn_opening.specs.Laying.{AddsTable}
-use Rattle.pawn_move.specs.Moving.{IsMoving, Moves, NotesProgram, PutsAll, listed_with}
+use Rattle.pawn_move.specs.Moving.{AreAllOwed, IsMoving, ListFirstDebts, Moves, MovesOwed, NotesProgram, PutsAll, listed_with}
 use Rattle.pawn_move.specs.StandsUnder.{HasNoExtension, StandsUnder}
 
 -- ---- what the tables list
@@ -99,7 +99,7 @@ module _ (s0 s1 s2 : State) (l1 : IsLent s0 s1 true) (l2 : IsLent s1 s2 true) (m
       let mid = made_first (past s2 s3 false carried clean) within h st in
       go e (puts clean mid.1 1 [] h none mid.0)
     where
-      go : (x : KeepError) → Finds {A = Unit {0}} (Err x) (λ done. IsMoving 1 (of_pledges h totals_listed ++ []) s3.now h) (HasUnsoundBook h) → Finds {A = Unit {0}} (Err x) (λ done. StandsFor s3.now h) (HasUnsoundBook h)
+      go : (x : KeepError) → Finds {A = Unit {0}} (Err x) (λ done. AreAllOwed h × IsMoving 1 (of_pledges h totals_listed ++ []) s3.now h) (HasUnsoundBook h) → Finds {A = Unit {0}} (Err x) (λ done. StandsFor s3.now h) (HasUnsoundBook h)
       go Keeper.Memory it = tt
       go (Keeper.Store NoRecord) it = it
       go (Keeper.Store Database) it = tt
@@ -109,14 +109,51 @@ module _ (s0 s1 s2 : State) (l1 : IsLent s0 s1 true) (l2 : IsLent s1 s2 true) (m
       let clean3 = clean_before s3 s4 ok l4 clean in
       let mid = made_first (past s2 s3 true carried clean3) within h st in
       let put = puts clean3 mid.1 1 [] h none mid.0 in
-      noted s3 s4 1 r h not clean (carried.inside clean3 mid.1 refl) notes (subst (λ rows. IsMoving 1 rows s3.now h) (append-nil _) put)
+      noted s3 s4 1 r h not clean (carried.inside clean3 mid.1 refl) notes (subst (λ rows. IsMoving 1 rows s3.now h) (append-nil _) put.1)
+
+  pub first_owed : (s3 s4 : State) (r : Result (Unit {0}) KeepError) (ok : Bool) → IsCarried s2 s3 true → IsLent s3 s4 ok → PutsAll s2 s3 (Ok tt) → MovesOwed 1 s0 s4 r
+  first_owed s3 s4 r ok carried l4 puts clean within h none st = go r
+    where
+      go : (x : Result (Unit {0}) KeepError) → OnOk x (AreAllOwed h)
+      go (Ok done) =
+          let clean3 = clean_before s3 s4 ok l4 clean in
+          let mid = made_first (past s2 s3 true carried clean3) within h st in
+          (puts clean3 mid.1 1 [] h none mid.0).0
+      go (Err e) = tt
 
 -- ---- from the second
 
-pub second_moved : (s0 s1 s2 : State) (r : Result (Unit {0}) KeepError) (ok : Bool) → IsLent s0 s1 true → IsLent s1 s2 ok → AddsTable {E = KeepError} s0 s1 (Ok tt) second_schema keep_schema 17 → r ≢ Err (Keeper.Store NoRecord) → NotesProgram s1 s2 r → Moves 2 s0 s2 r
-second_moved s0 s1 s2 r ok l1 l2 made not notes clean within h none st =
-    let clean1 = clean_before s1 s2 ok l2 clean in
-    let b = made clean1 within (listed_with 2 (of_pledges h totals_listed) h) (second_lists s0.now h st) in
-    let m : IsMoving 2 (of_pledges h totals_listed) s1.now h =
-    record { lists = record { schema_is = b.schema_is; sound = b.sound; tables = b.tables }; ordered = st.ordered; storable = st.storable; unextended = st.unextended (omega arith) } in
-    noted s1 s2 2 r h not clean (l1.inside clean1 within refl) notes m
+module _ (s0 s1 : State) (l1 : IsLent s0 s1 true) (made : AddsTable {E = KeepError} s0 s1 (Ok tt) second_schema keep_schema 17) where
+  made_second : HasCleanDisk s1 → IsTrue s0.in_transaction → (h : Host) → StandsUnder 2 s0.now h → IsMoving 2 (of_pledges h totals_listed) s1.now h × IsTrue s1.in_transaction
+  made_second clean within h st =
+      let b = made clean within (listed_with 2 (of_pledges h totals_listed) h) (second_lists s0.now h st) in
+      (record { lists = record { schema_is = b.schema_is; sound = b.sound; tables = b.tables }; ordered = st.ordered; storable = st.storable; unextended = st.unextended (omega arith) }, l1.inside clean within refl)
+
+  -- the debts that were judged once the table was made
+  judged_second : {A : Type 0} (s2 : State) (ok : Bool) (r : Result A KeepError) (P : Host → A → Type 0) → IsCarried s1 s2 ok → FindsOf ListFirstDebts HasUnsoundBook s1 s2 r P → HasCleanDisk s2 → IsTrue s0.in_transaction
+      → (h : Host) → StandsUnder 2 s0.now h → IsMoving 2 (of_pledges h totals_listed) s1.now h × Finds r (λ x. P h x × Rests s1 s2) (HasUnsoundBook h)
+  judged_second s2 ok r P carried judged clean within h st =
+      let mid = made_second (past s1 s2 ok carried clean) within h st in
+      (mid.0, judged clean mid.1 h (λ now. firsts 2 (of_pledges h totals_listed) s1.now h mid.0))
+
+  pub second_not_judged : (s2 : State) (e : KeepError) (P : Host → Unit {0} → Type 0) → IsCarried s1 s2 false → FindsOf ListFirstDebts HasUnsoundBook s1 s2 (Err e) P → Moves 2 s0 s2 (Err e)
+  second_not_judged s2 e P carried judged clean within h none st = go e (judged_second s2 false (Err e) P carried judged clean within h st).1
+    where
+      go : (x : KeepError) → Finds {A = Unit {0}} (Err x) (λ done. P h done × Rests s1 s2) (HasUnsoundBook h) → Finds {A = Unit {0}} (Err x) (λ done. StandsFor s2.now h) (HasUnsoundBook h)
+      go Keeper.Memory it = tt
+      go (Keeper.Store NoRecord) it = it
+      go (Keeper.Store Database) it = tt
+
+  module _ (s2 s3 : State) (ok : Bool) (r : Result (Unit {0}) KeepError) (carried : IsCarried s1 s2 true) (l3 : IsLent s2 s3 ok) (judged : FindsOf {A = Unit {0}} ListFirstDebts HasUnsoundBook s1 s2 (Ok tt) (λ h done. get h.books 0 ≡ None → AreAllOwed h)) where
+    pub second_moved : r ≢ Err (Keeper.Store NoRecord) → NotesProgram s2 s3 r → Moves 2 s0 s3 r
+    second_moved not notes clean within h none st =
+        let found = judged_second {A = Unit {0}} s2 true (Ok tt) (λ h done. get h.books 0 ≡ None → AreAllOwed h) carried judged (clean_before s2 s3 ok l3 clean) within h st in
+        let m = subst (λ d. IsMoving 2 (of_pledges h totals_listed) d h) (sym found.1.1.now_is) found.0 in
+        noted s2 s3 2 r h not clean found.1.1.inside notes m
+
+    pub second_owed : MovesOwed 2 s0 s3 r
+    second_owed clean within h none st = go r
+      where
+        go : (x : Result (Unit {0}) KeepError) → OnOk x (AreAllOwed h)
+        go (Ok done) = (judged_second {A = Unit {0}} s2 true (Ok tt) (λ h done. get h.books 0 ≡ None → AreAllOwed h) carried judged (clean_before s2 s3 ok l3 clean) within h st).1.0 none
+        go (Err e) = tt

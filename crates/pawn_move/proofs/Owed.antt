@@ -37,11 +37,17 @@ terms_are h b n v p credit o ordered at told version is =
     let same : v ≡ p.agreement.version = version ∙ ap (λ (c : Credit). c.version) told in
     is ∙ ap (terms_at (terms_of (get h.books b))) same ∙ under_in h b n p ordered at
 
+-- what holds of each pledge of which this was read holds of the one that stands
+pub of_owed : (Q : PledgeValue → Type 0) (h : Host) (b n v : ℕ) (p : PledgeValue) (credit : Credit) (terms : Rates) (es : List Entry) → AreOrdered h → HasNoExtension h → pledge_in (get h.books b) n ≡ Some p → credit ≡ credit_told p
+    → v ≡ credit.version → Some terms ≡ terms_at (terms_of (get h.books b)) v → es ≡ entries_of (pledge_in (get h.books b) n)
+    → ((q : PledgeValue) → credit ≡ credit_told q → terms ≡ q.agreement.terms → es ≡ q.entries → q.extensions ≡ [] → Q q) → Q p
+of_owed Q h b n v p credit terms es ordered none at told version under' entries read =
+    read p told (some_is terms p.agreement.terms (terms_are h b n v p credit (Some terms) ordered at told version under')) (entries ∙ ap entries_of at) (holds_in h (λ (q : PledgeValue). q.extensions ≡ []) none b n p at)
+
 pub owed_read : (h : Host) (b n v : ℕ) (p : PledgeValue) (credit : Credit) (terms : Rates) (es : List Entry) (r : Result Totals KeepError) → AreOrdered h → HasNoExtension h → pledge_in (get h.books b) n ≡ Some p → credit ≡ credit_told p
     → v ≡ credit.version → Some terms ≡ terms_at (terms_of (get h.books b)) v → es ≡ entries_of (pledge_in (get h.books b) n)
     → ((q : PledgeValue) → credit ≡ credit_told q → terms ≡ q.agreement.terms → es ≡ q.entries → q.extensions ≡ [] → IsRead r (totals_of (debt_of q)) (IsStanding q)) → IsRead r (totals_of (debt_of p)) (IsStanding p)
-owed_read h b n v p credit terms es r ordered none at told version under' entries read =
-    read p told (some_is terms p.agreement.terms (terms_are h b n v p credit (Some terms) ordered at told version under')) (entries ∙ ap entries_of at) (holds_in h (λ (q : PledgeValue). q.extensions ≡ []) none b n p at)
+owed_read h b n v p credit terms es r = of_owed (λ (q : PledgeValue). IsRead r (totals_of (debt_of q)) (IsStanding q)) h b n v p credit terms es
 
 -- totals that were found are of a pledge
 pub totals_are : (h : Host) (b n : ℕ) (t : Totals) → AreOrdered h → Some t ≡ totals_in (pledge_in (get h.books b) n)

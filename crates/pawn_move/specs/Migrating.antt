@@ -1,5 +1,5 @@
 -- Stores whose schema is told, and that are moved to the program's.
-use Rattle.std.specs.Prelude.{◌≡◌, ◌⊎◌, ◌<◌, false, ℕ, Option, Some, None, IsTrue, Result, Ok, Err, IfErr, IfOk, OnErr}
+use Rattle.std.specs.Prelude.{◌≡◌, ◌⊎◌, ◌<◌, false, ℕ, Option, Some, None, IsTrue, Result, Ok, Err, IfErr, IfOk, OnErr, OnOk}
 use Rattle.std.specs.FinMap.{get}
 use Rattle.sqlite.specs.Effect.{Database as Tables}
 use Rattle.sqlite.specs.Tree.{Trees}
@@ -15,6 +15,7 @@ use Rattle.pawn_tables.specs.Finding.{Finds}
 use Rattle.pawn_tables.specs.StandsFor.{HoldHost}
 use Rattle.pawn_move.specs.declared.fault.MoveFault.{MoveFault}
 use Rattle.pawn_move.specs.declared.fault.MoveFault.TheVariants.{NotOurs, NewerSchema, Damaged, Store, Memory}
+use Rattle.pawn_move.specs.Moving.{AreAllOwed}
 use Rattle.pawn_move.specs.StandsUnder.{IsSchema, StandsUnder}
 
 -- ---- why a store is not moved
@@ -99,6 +100,11 @@ pub record Migrates (old new : State) (result : Result (ℕ × ℕ) MoveFault) :
   -- a crash leaves the last commit, or tables of the program's schema for the same host
   pub crash : HasCleanDisk new → IsTrue old.is_open → (trees : Trees) → new.may_leave trees → (trees ≡ old.committed.trees) ⊎ HoldSameHost old.now trees
 
+-- tables of an older schema are moved only where each debt of the host can have come about
+abbrev pub MigratesOwed : State → State → Result (ℕ × ℕ) MoveFault → Type 0
+MigratesOwed old new result =
+    HasCleanDisk new → (n : ℕ) (h : Host) → IsSchema n → n < 3 → get h.books 0 ≡ None → StandsUnder n old.now h → IfOk result (λ told. AreAllOwed h)
+
 -- ---- the transaction
 
 -- a crash leaves the program's tables, for each host that the tables of this schema stood for
@@ -112,3 +118,8 @@ pub record MovesStore (n : ℕ) (old new : State) (result : Result (Unit {0}) Ke
   pub err : HasCleanDisk new → OnErr result (IsAsBefore old new)
   pub ended : new.in_transaction ≡ false
   pub survives : Survives old new (HoldMoved n old)
+
+-- a store of this schema is moved only where each debt of the host can have come about
+abbrev pub MovesStoreOwed : ℕ → State → State → Result (Unit {0}) KeepError → Type 0
+MovesStoreOwed n old new result =
+    HasCleanDisk new → (h : Host) → get h.books 0 ≡ None → StandsUnder n old.now h → OnOk result (AreAllOwed h)

@@ -1,17 +1,24 @@
 -- Tables on their way from an older schema.
-use Rattle.std.specs.Prelude.{◌≡◌, ◌++◌, ℕ, [], List, OnOk, Option, Some, None, IsTrue, Result, flat_map}
+use Rattle.std.specs.Prelude.{◌≡◌, ◌++◌, ℕ, Bool, [], List, OnOk, Option, Some, None, IfSome, IsTrue, Result, flat_map, is_some}
 use Rattle.std.specs.FinMap.{get}
 use Rattle.sqlite.specs.Order.{Row}
 use Rattle.sqlite.specs.Effect.{Database as Tables}
 use Rattle.sqlite.specs.State.{State, HasCleanDisk}
+use Rattle.pawn_terms.specs.Terms.{IsChecked}
+use Rattle.pawn_debt.specs.Replay.{CanStand}
+use Rattle.pawn_debt.specs.declared.owing.Totals.{Totals}
+use Rattle.pawn_pledge.specs.Pledge.{PledgeValue, debt_of}
+use Rattle.pawn_pledge.specs.Replayable.{Each}
+use Rattle.pawn_book.specs.BookStep.{BookValue, pledge_in}
 use Rattle.pawn_book.specs.HostStep.{Host}
-use Rattle.pawn_book.specs.Keeping.{pledges_of}
+use Rattle.pawn_book.specs.Keeping.{IsNextBook, pledges_of}
 use Rattle.pawn_book.specs.Sound.{HasUnsoundBook}
 use Rattle.pawn_book.specs.declared.fault.KeepError.{KeepError}
 use Rattle.one_table.specs.Listing.{Lists, Listed, with_rows}
 use Rattle.pawn_tables.specs.Finding.{Finds}
 use Rattle.pawn_tables.specs.Rows.{totals_listed}
 use Rattle.pawn_tables.specs.Schema.{keep_schema}
+use Rattle.pawn_tables.specs.Told.{totals_in}
 use Rattle.pawn_tables.specs.StandsFor.{AreOrdered, AreStorable, ListDebts, StandsFor, of_pledges}
 use Rattle.pawn_move.specs.StandsUnder.{HasNoExtension, StandsUnder, listed_under}
 
@@ -31,6 +38,34 @@ pub record ListFirstDebts (db : Tables) (h : Host) : Type 0 where
   pub debts : ListDebts db h
   pub unextended : HasNoExtension h
 
+-- ---- debts that are judged
+
+-- the debt of a pledge can have come about: by its terms, its sum, and each of its entries after those before it
+abbrev pub CanBeOwed : PledgeValue → Type 0
+CanBeOwed p = IsChecked p.agreement.terms × CanStand (debt_of p)
+
+-- the debts of the pledges of a book can
+abbrev pub AreOwedIn : Host → ℕ → Type 0
+AreOwedIn h b = Each CanBeOwed (pledges_of (get h.books b))
+
+-- the debts of all books can
+abbrev pub AreAllOwed : Host → Type 0
+AreAllOwed h = (b : ℕ) (k : BookValue) → get h.books b ≡ Some k → Each CanBeOwed k.pledges
+
+-- what was owed on the pledge of this number in this book, if it stands: its debt can have come about
+abbrev pub AreTotalsAt : Host → ℕ → ℕ → Option Totals → Type 0
+AreTotalsAt h b n totals = (totals ≡ totals_in (pledge_in (get h.books b) n)) × IfSome (pledge_in (get h.books b) n) CanBeOwed
+
+-- whether the pledge of this number stands in this book: its debt can have come about then
+abbrev pub IsJudgedAt : Host → ℕ → ℕ → Bool → Type 0
+IsJudgedAt h b n stands = (stands ≡ is_some (pledge_in (get h.books b) n)) × IfSome (pledge_in (get h.books b) n) CanBeOwed
+
+-- the next book above a number, if there is one: its debts can have come about
+abbrev pub IsNextJudged : Host → ℕ → Option ℕ → Type 0
+IsNextJudged h above next = IsNextBook h above next × IfSome next (AreOwedIn h)
+
+-- ---- totals that are put
+
 -- the rows of something, if it is there
 abbrev pub rows_of : {X : Type 0} → Option X → (X → List Row) → List Row
 rows_of None f = []
@@ -45,11 +80,11 @@ abbrev pub PutsTotals : {A : Type 0} → State → State → Result A KeepError 
 PutsTotals old new result put P =
     HasCleanDisk new → IsTrue old.in_transaction → (n : ℕ) (owed : List Row) (h : Host) → IsMoving n owed old.now h → Finds result (λ x. P h x × IsMoving n (put h x ++ owed) new.now h) (HasUnsoundBook h)
 
--- a part of the transaction puts the totals of each pledge of each book, where no book has the number 0
+-- a part of the transaction puts the totals of each pledge of each book, where no book has the number 0: their debts can have come about
 abbrev pub PutsAll : State → State → Result (Unit {0}) KeepError → Type 0
 PutsAll old new result =
     HasCleanDisk new → IsTrue old.in_transaction → (n : ℕ) (owed : List Row) (h : Host) → get h.books 0 ≡ None → IsMoving n owed old.now h
-    → Finds result (λ done. IsMoving n (of_pledges h totals_listed ++ owed) new.now h) (HasUnsoundBook h)
+    → Finds result (λ done. AreAllOwed h × IsMoving n (of_pledges h totals_listed ++ owed) new.now h) (HasUnsoundBook h)
 
 -- a part of the transaction notes the number of the program's schema
 abbrev pub NotesProgram : State → State → Result (Unit {0}) KeepError → Type 0
@@ -60,3 +95,8 @@ NotesProgram old new result =
 abbrev pub Moves : ℕ → State → State → Result (Unit {0}) KeepError → Type 0
 Moves n old new result =
     HasCleanDisk new → IsTrue old.in_transaction → (h : Host) → get h.books 0 ≡ None → StandsUnder n old.now h → Finds result (λ done. StandsFor new.now h) (HasUnsoundBook h)
+
+-- a part of the transaction moves tables of this schema only where each debt can have come about
+abbrev pub MovesOwed : ℕ → State → State → Result (Unit {0}) KeepError → Type 0
+MovesOwed n old new result =
+    HasCleanDisk new → IsTrue old.in_transaction → (h : Host) → get h.books 0 ≡ None → StandsUnder n old.now h → OnOk result (AreAllOwed h)

@@ -4,6 +4,7 @@
 mod debts;
 mod fault;
 mod filling;
+mod judging;
 mod laws;
 mod making;
 mod migrating;

@@ -1,8 +1,8 @@
 ghost use Rattle.std.specs.Prelude.{◌≡◌, ◌⊎◌, false, is_ok};
 ghost use Rattle.sqlite.specs.Held.{state};
 ghost use Rattle.one_table.specs.Lending.{IsLent};
-ghost use Rattle.pawn_move.specs.Migrating.{Migrates, MovesStore};
-ghost use Rattle.pawn_move.specs.Moving.{Moves};
+ghost use Rattle.pawn_move.specs.Migrating.{Migrates, MigratesOwed, MovesStore, MovesStoreOwed};
+ghost use Rattle.pawn_move.specs.Moving.{Moves, MovesOwed};
 
 use crate::fault::{MoveFault, unmoved};
 use crate::making::refused;
@@ -21,12 +21,13 @@ fn move_tables<S: Alter>(
     requires older { (from ≡ 1) ⊎ (from ≡ 2) }
     ensures same_reference { tx.new.conn.ghost_name ≡ tx.old.conn.ghost_name }
     ensures moves { Moves from (state S.Store tx.old.conn.now) (state S.Store tx.new.conn.now) result }
+    ensures judges { MovesOwed from (state S.Store tx.old.conn.now) (state S.Store tx.new.conn.now) result }
     ensures lent { IsLent (state S.Store tx.old.conn.now) (state S.Store tx.new.conn.now) (is_ok result) }
 {
     if from == 1 {
         move_first(tx, alloc)
     } else {
-        move_second(tx)
+        move_second(tx, alloc)
     }
 }
 
@@ -35,6 +36,7 @@ fn move_store<S: Alter>(conn: &mut Connection<S>, alloc: Global, from: u32) -> R
     requires rests { conn.old.in_transaction ≡ false }
     requires older { (from ≡ 1) ⊎ (from ≡ 2) }
     ensures moves { MovesStore from (state S.Store conn.old) (state S.Store conn.new) result }
+    ensures judges { MovesStoreOwed from (state S.Store conn.old) (state S.Store conn.new) result }
 {
     let _ = conn.is_autocommit();
     let _ = conn.schema();
@@ -51,11 +53,12 @@ fn move_store<S: Alter>(conn: &mut Connection<S>, alloc: Global, from: u32) -> R
 
 /// Moves the store of a connection that is at rest to the program's schema, in one transaction, and tells the number of the schema
 /// that it had and the program's. Nothing is done to a store of the program's schema. A store that is refused stays as it was: an
-/// empty one and another program's is `NotOurs`, a newer one `NewerSchema`, and one of the first schema of which the debt of some
-/// pledge can't have come about `Damaged`.
+/// empty one and another program's is `NotOurs`, a newer one `NewerSchema`, and an older one of which the debt of some pledge can't
+/// have come about `Damaged`.
 pub fn migrate<S: Alter>(alloc: Global, conn: &mut Connection<S>) -> Result<(u32, u32), MoveFault>
     requires rests { conn.old.in_transaction ≡ false }
     ensures migrates { Migrates (state S.Store conn.old) (state S.Store conn.new) result }
+    ensures judges { MigratesOwed (state S.Store conn.old) (state S.Store conn.new) result }
 {
     let _ = conn.is_autocommit();
     let from = match schema_of(conn) {

@@ -1,0 +1,98 @@
+-- Which debts were judged so far.
+use Rattle.std.proofs.Common.{◌≡◌, ◌≢◌, ◌==◌, ◌+◌, ◌++◌, ◌<◌, ◌≤◌, ℕ, zero, suc, [], ◌∷◌, List, Bool, true, false, Option, Some, None, nat_le, take, slice_get, refl, sym, ap, subst, ◌∙◌, arith}
+use Rattle.std.specs.Prelude.{IfSome, is_some, if◌then◌else◌}
+use Rattle.std.proofs.lemmas.Bool.Decides.{nat_tests}
+use Rattle.std.specs.FinMap.{get}
+use Rattle.pawn_debt.specs.declared.owing.Totals.{Totals}
+use Rattle.pawn_pledge.specs.Pledge.{PledgeValue}
+use Rattle.pawn_pledge.specs.Replayable.{Each}
+use Rattle.pawn_book.specs.BookStep.{BookValue, pledge_from, pledge_in}
+use Rattle.pawn_book.specs.HostStep.{Host}
+use Rattle.pawn_book.specs.Keeping.{pledges_of}
+use Rattle.pawn_tables.specs.Told.{totals_in}
+use Rattle.pawn_move.specs.Moving.{AreAllOwed, AreOwedIn, AreTotalsAt, CanBeOwed, IsJudgedAt, IsNextJudged}
+
+-- ---- the place of a pledge in its book
+
+pledge_at_place : (k : ℕ) (ps : List PledgeValue) (i n : ℕ) → n ≡ k + i → pledge_from k ps n ≡ slice_get ps i
+pledge_at_place k [] i n is = refl
+pledge_at_place k (p ∷ ps) zero n is =
+    let here : (n == k) ≡ true = grind (arith, nat_tests, is) in
+    ap (λ c. if c then Some p else pledge_from (k + 1) ps n) here
+pledge_at_place k (p ∷ ps) (suc i) n is =
+    let other : (n == k) ≡ false = grind (arith, nat_tests, is) in
+    ap (λ c. if c then Some p else pledge_from (k + 1) ps n) other ∙ pledge_at_place (k + 1) ps i n (omega (arith, is))
+
+pub pledge_at : (o : Option BookValue) (i n : ℕ) → n ≡ i + 1 → pledge_in o n ≡ slice_get (pledges_of o) i
+pledge_at None i n is = refl
+pledge_at (Some b) i n is = pledge_at_place 1 b.pledges i n (omega (arith, is))
+
+pub all_taken : {A : Type 0} (xs : List A) (i : ℕ) → slice_get xs i ≡ None → take i xs ≡ xs
+all_taken [] zero is = refl
+all_taken [] (suc i) is = refl
+all_taken (x ∷ xs) zero is = absurd (let e = is in cc)
+all_taken (x ∷ xs) (suc i) is = ap (λ l. x ∷ l) (all_taken xs i is)
+
+pub one_taken : {A : Type 0} (xs : List A) (i : ℕ) (x : A) → slice_get xs i ≡ Some x → take (suc i) xs ≡ take i xs ++ x ∷ []
+one_taken [] i x is = absurd (let e = is in cc)
+one_taken (y ∷ ys) zero x is = let same : y ≡ x = (let e = is in cc) in ap (λ z. z ∷ []) same
+one_taken (y ∷ ys) (suc i) x is = ap (λ l. y ∷ l) (one_taken ys i x is)
+
+-- ---- a pledge
+
+pub stands_if : (h : Host) (b n : ℕ) (totals : Option Totals) → AreTotalsAt h b n totals → IsJudgedAt h b n (is_some totals)
+stands_if h b n totals are = (ap is_some are.0 ∙ same (pledge_in (get h.books b) n), are.1)
+  where
+    same : (o : Option PledgeValue) → is_some (totals_in o) ≡ is_some o
+    same None = refl
+    same (Some p) = refl
+
+-- ---- the pledges of a book
+
+-- so many of them can be owed
+abbrev pub AreOwedTo : ℕ → ℕ → Host → Type 0
+AreOwedTo b i h = Each CanBeOwed (take i (pledges_of (get h.books b)))
+
+each_more : (ps : List PledgeValue) (p : PledgeValue) → Each CanBeOwed ps → CanBeOwed p → Each CanBeOwed (ps ++ p ∷ [])
+each_more [] p all it = (it, tt)
+each_more (q ∷ ps) p all it = (all.0, each_more ps p all.1 it)
+
+pub one_judged : (b i m : ℕ) → m ≡ i + 1 → (h : Host) → AreOwedTo b i h → IsJudgedAt h b m true → AreOwedTo b m h
+one_judged b i m next h so_far is = go (pledge_in (get h.books b) m) (pledge_at (get h.books b) i m next) is.0 is.1
+  where
+    go : (o : Option PledgeValue) → o ≡ slice_get (pledges_of (get h.books b)) i → true ≡ is_some o → IfSome o CanBeOwed → AreOwedTo b m h
+    go None at some it = absurd (let e = some in cc)
+    go (Some p) at some it =
+        let ps = pledges_of (get h.books b) in
+        let count : m ≡ suc i = omega (arith, next) in
+        subst (Each CanBeOwed) (sym (ap (λ k. take k ps) count ∙ one_taken ps i p (sym at))) (each_more (take i ps) p so_far it)
+
+pub all_judged : (b i m : ℕ) → m ≡ i + 1 → (h : Host) → AreOwedTo b i h → IsJudgedAt h b m false → AreOwedIn h b
+all_judged b i m next h so_far is = go (pledge_in (get h.books b) m) (pledge_at (get h.books b) i m next) is.0
+  where
+    go : (o : Option PledgeValue) → o ≡ slice_get (pledges_of (get h.books b)) i → false ≡ is_some o → AreOwedIn h b
+    go None at none = subst (Each CanBeOwed) (all_taken (pledges_of (get h.books b)) i (sym at)) so_far
+    go (Some p) at none = absurd (let e = none in cc)
+
+-- ---- all books
+
+-- those up to a number can be owed, but one of number 0
+abbrev pub AreOwedUpto : ℕ → Host → Type 0
+AreOwedUpto above h = (b : ℕ) (k : BookValue) → b ≢ 0 → b ≤ above → get h.books b ≡ Some k → Each CanBeOwed k.pledges
+
+pub none_judged : (h : Host) → AreOwedUpto 0 h
+none_judged h b k apart le at = absurd (apart (omega (arith, le)))
+
+pub upto_next : (above b : ℕ) (h : Host) → AreOwedUpto above h → IsNextJudged h above (Some b) → AreOwedUpto b h
+upto_next above b h so_far is c k apart le at = go (nat_le c above) refl
+  where
+    go : (d : Bool) → nat_le c above ≡ d → Each CanBeOwed k.pledges
+    go true below = so_far c k apart (grind (arith, nat_tests, below)) at
+    go false beyond =
+        let lt : above < c = grind (arith, nat_tests, beyond) in
+        let up = is.0.2 c k at lt in
+        let same : b ≡ c = omega (arith, le, up) in
+        subst (λ o. Each CanBeOwed (pledges_of o)) (ap (get h.books) same ∙ at) is.1
+
+pub all_upto : (above : ℕ) (h : Host) → AreOwedUpto above h → IsNextJudged h above None → get h.books 0 ≡ None → AreAllOwed h
+all_upto above h so_far is none b k at = so_far b k (λ zero'. absurd (let e = sym none ∙ ap (get h.books) (sym zero') ∙ at in cc)) (is.0 b k at) at
