@@ -13,7 +13,7 @@ import time
 import urllib.error
 import urllib.request
 
-from service import TOP, Failed, Server, expect, free_port
+from service import TOP, Failed, Server, Session, expect, free_port
 
 # What each program comes in, as a package of Debian.
 PACKAGES = {"nginx": "nginx-light", "chromium": "chromium", "chromedriver": "chromium-driver"}
@@ -90,6 +90,16 @@ class Relay:
         return head + b"\r\n\r\n" + body
 
 
+class Once(Session):
+    """Requests on a connection each: one that is kept holds the service, which answers one connection after the other."""
+
+    def ask(self, *words, **fields):
+        try:
+            return super().ask(*words, **fields)
+        finally:
+            self.close()
+
+
 class Pages:
     """The pages by `tools/pages`, in front of a service with an empty book 7."""
 
@@ -100,8 +110,7 @@ class Pages:
         self.room = self.stack.enter_context(tempfile.TemporaryDirectory())
         self.port = free_port()
         self.address = f"http://localhost:{self.port}"
-        self.session = self.server.session()
-        self.stack.callback(self.session.close)
+        self.session = Once(self.server.port)
         self.nginx = subprocess.Popen([os.path.join(TOP, "tools/pages")], stdin=subprocess.DEVNULL, stdout=subprocess.DEVNULL, stderr=subprocess.DEVNULL, start_new_session=True,
                                       env={**os.environ, "PORT": str(self.relay.port), "PAGES_PORT": str(self.port), "ROOM": os.path.join(self.room, "room")})
         self.stack.callback(self.end_nginx)
@@ -144,7 +153,7 @@ class Browser:
                    "args": ["--headless=new", "--no-sandbox", "--disable-gpu", "--disable-background-networking", "--disable-dev-shm-usage", "--lang=en-GB",
                             "--host-resolver-rules=MAP * ~NOTFOUND, EXCLUDE localhost"]}
         wanted = {"browserName": "chrome", "goog:loggingPrefs": {"browser": "ALL"}, "goog:chromeOptions": options}
-        self.path = ""
+        self.path, self.loaded = "", 0
         self.path = "/session/" + self.ask("POST", "/session", {"capabilities": {"alwaysMatch": wanted}})["sessionId"]
         self.resize(WIDTHS[0])
         return self
@@ -165,9 +174,14 @@ class Browser:
             raise Failed(f"{what}: {json.load(fault)['value']['message'].splitlines()[0]}") from fault
 
     def go(self, address):
-        """Loads a page anew, even where only the fragment differs."""
-        self.ask("POST", "/url", {"url": "about:blank"})
-        self.ask("POST", "/url", {"url": address})
+        """Loads a page anew, even where only the fragment differs: the query, which no page reads, is another each time."""
+        self.loaded += 1
+        path, *fragment = address.split("#")
+        self.ask("POST", "/url", {"url": "#".join([f"{path}?{self.loaded}", *fragment])})
+
+    def forget(self):
+        """Empties what the tab keeps for the page that it shows."""
+        self.run("try { sessionStorage.clear(); } catch { /* no page yet */ }")
 
     def run(self, script, *arguments):
         return self.ask("POST", "/execute/sync", {"script": script, "args": list(arguments)})
@@ -198,19 +212,11 @@ class Browser:
         self.ask("POST", "/actions", {"actions": [{"type": "key", "id": "keys", "actions": strokes}]})
 
     def fill(self, form, **fields):
-        """Types into the fields of a form; days are put, and files are named."""
+        """Puts texts into the fields of a form, and chooses what is chosen; a file is named."""
+        self.element(form)
         for name, value in fields.items():
-            selector = f"{form} [name={name}]"
-            kind = self.run("return document.querySelector(arguments[0]).type", selector)
-            if kind in ("radio", "checkbox"):
-                self.press(selector + (f"[value={value}]" if kind == "radio" else ""))
-            elif kind in ("date", "select-one"):
-                self.run("document.querySelector(arguments[0]).value = arguments[1]", selector, value)
-            else:
-                element = self.element(selector)
-                if kind != "file":
-                    self.ask("POST", f"/element/{element}/clear", {})
-                self.ask("POST", f"/element/{element}/value", {"text": value})
+            if self.run(FILL, f"{form} [name={name}]", value) == "file":
+                self.ask("POST", f"/element/{self.element(f'{form} [name={name}]')}/value", {"text": value})
 
     def text(self, selector="body"):
         return self.run("return document.querySelector(arguments[0])?.innerText ?? ''", selector)
@@ -250,6 +256,16 @@ class Browser:
         """What the console complained of since it was asked last; refusals are replies, and no faults of the page."""
         return [entry["message"] for entry in self.ask("POST", "/se/log", {"type": "browser"}) if entry["level"] != "INFO" and not ("/books/" in entry["message"] and "status of" in entry["message"])]
 
+
+# Puts a value into a field as a person's typing would, and gives the field's type.
+FILL = r"""
+const fields = [...document.querySelectorAll(arguments[0])];
+const field = fields.find((one) => one.type !== "radio" || one.value === arguments[1]);
+if (field.type === "radio" || field.type === "checkbox") field.checked = true;
+else if (field.type !== "file") field.value = arguments[1];
+field.dispatchEvent(new Event("input", { bubbles: true }));
+return field.type;
+"""
 
 # What is wrong with the page as it is shown, as a list of texts.
 JUDGE = r"""

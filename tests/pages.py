@@ -43,16 +43,14 @@ def make_book(pages, book=7, terms=True):
 
 
 def open_book(pages, book=7, key=BROKER):
-    browser.go(pages.address + "/broker/")
-    browser.run("sessionStorage.clear()")
+    browser.forget()
     browser.go(pages.address + "/broker/")
     browser.fill("#open", book=str(book), key=key, shop="High Street Pawnbrokers")
     browser.press("#open button")
 
 
 def show_receipt(pages, receipt, book=7):
-    browser.go(pages.address + "/pawn/")
-    browser.run("sessionStorage.clear()")
+    browser.forget()
     browser.go(f"{pages.address}/pawn/#book={book}&receipt={receipt}")
 
 
@@ -201,7 +199,8 @@ def broker_answers(pages, visit, receipt):
     browser.says("it can’t be redeemed", "#commands")
     browser.shoot("broker-pledge")
     show_receipt(pages, receipt)
-    browser.says("the pawnbroker bars redemption for now", "#cards")
+    browser.says("On hold: it can’t be redeemed", "#cards")
+    browser.shoot("pawn-held")
     open_book(pages)
     find("1")
     command("Release the hold", "Release")
@@ -358,8 +357,7 @@ def sell_and_show_ended(pages):
     browser.says("less than was owed", "#commands")
     browser.says(f"Sold on {in_words(today())} for £100.00", "#statement")
     browser.shoot("broker-sold")
-    browser.go(pages.address + "/pawn/")
-    browser.run("sessionStorage.clear()")
+    browser.forget()
     wanted = "&".join(f"receipt={number}-{number:08}-0000-4000-8000-000000000000" for number in (1, 2, 3, 6))
     browser.go(f"{pages.address}/pawn/#book=7&{wanted}")
     for says in ("Sold on", "The article belongs to the pawnbroker now", "Days of grace run to", "It can be redeemed until it is sold"):

@@ -15,6 +15,13 @@ const STATES = {
   sold: ({ closing }) => ({ badge: "Sold", tone: "ended", line: `Sold on ${inWords(closing.day)} for ${inPounds(closing.net)}`, more: saleInWords(closing) }),
 };
 
+/** The state of a pledge as it is shown. A hold comes before all else, since it bars what the period allows. */
+function stateOf(statement, now) {
+  const state = STATES[statement.status](statement, now);
+  if (!statement.held || statement.closing || !statement.owed) return state;
+  return { badge: "On hold", tone: "warn", line: "On hold: it can’t be redeemed until the pawnbroker releases it", more: `${statement.status === "inside" ? "The period ends" : "The period ended"} on ${inWords(statement.ends)}` };
+}
+
 function lastsFor(now, last) {
   const left = daysBetween(now, last);
   return left === 0 ? "today is the last day" : `${countDays(left)} left`;
@@ -52,7 +59,6 @@ function factsOf(statement) {
   const pairs = [["Credit", kind], ["Taken", inWords(statement.taken)]];
   statement.extensions.forEach(([agreed, end]) => pairs.push(["Extended", `on ${inShort(agreed)}, to ${inWords(end)}`]));
   if (statement.booking) pairs.push(["Visit", bookingInWords(statement.booking)]);
-  if (statement.held) pairs.push(["On hold", "the pawnbroker bars redemption for now"]);
   return facts(pairs);
 }
 
@@ -66,12 +72,12 @@ function entriesOf({ entries }) {
   return make("table", { className: "entries" }, make("caption", {}, caption), make("tbody", {}, ...entries.slice(-SHOWN).reverse().map(line)));
 }
 
-/** The parts of a summary, in order. The place says where the pledge stands, as "Pledge 3 of book 7". */
+/** The parts of a summary, in order. The place says where the pledge stands, as texts and nodes: "Pledge 3 of book 7". */
 export function summaryOf(statement, place) {
   const now = today();
-  const { badge, tone, line, more } = STATES[statement.status](statement, now);
+  const { badge, tone, line, more } = stateOf(statement, now);
   return [
-    make("header", { className: "head" }, make("div", {}, make("h2", {}, foreign(statement.article)), make("p", { className: "place" }, place)), make("span", { className: `badge ${tone}` }, badge)),
+    make("header", { className: "head" }, make("div", {}, make("h2", {}, foreign(statement.article)), make("p", { className: "place" }, ...place)), make("span", { className: `badge ${tone}` }, badge)),
     make("div", { className: `state ${tone}` }, make("p", { className: "line" }, line), make("p", { className: "more" }, more)),
     ["inside", "grace"].includes(statement.status) ? periodBar(statement, now) : null,
     owedBlock(statement),

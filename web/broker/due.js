@@ -12,7 +12,7 @@ function row(pledge, now) {
     make("td", {}, make("a", { href: `#pledge=${pledge.number}` }, String(pledge.number))),
     make("td", { className: "article" }, foreign(pledge.article), make("span", { className: "reference" }, foreign(pledge.reference))),
     make("td", { className: "number" }, inPounds(pledge.pence)),
-    make("td", {}, inShort(ends), make("span", { className: "reference" }, seenFrom(now, ends))));
+    make("td", { className: "day" }, inShort(ends), make("span", { className: "reference" }, seenFrom(now, ends))));
 }
 
 function list(title, pledges, empty, now) {

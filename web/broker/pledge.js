@@ -1,5 +1,6 @@
 /** One pledge of the book: found by its number or by the broker's reference, with its statement and commands. */
-import { byId, make } from "/dom.js";
+import { byId, foreign, make } from "/dom.js";
+import { inWords } from "/days.js";
 import { Lost, Refused, tellFault } from "/faults.js";
 import { makeNotice, onSend, run, tell } from "/forms.js";
 import { readStatement } from "/statement.js";
@@ -29,7 +30,7 @@ export function clearPledge() {
 async function look(number) {
   const { text } = await askBook("GET", `/pledges/${number}`);
   statement = readStatement(text);
-  const place = `Pledge ${statement.number} of book ${current().book}${reference === null ? "" : `, reference ${reference}`}`;
+  const place = [`Pledge ${statement.number} of book ${current().book}`, ...(reference === null ? [] : [", reference ", foreign(reference)])];
   byId("statement").replaceChildren(...summaryOf(statement, place));
   byId("commands").replaceChildren(notice, ...commandsOf(statement, desk));
   byId("found").hidden = false;
@@ -74,7 +75,7 @@ async function readNewest() {
   const { secrets } = (await wholeBook()).pledges[statement.number - 1];
   const { day, paper, secret } = secrets.at(-1);
   showReceipt(`${statement.number}-${secret}`);
-  byId("new-receipt").prepend(make("p", { className: "taken screen" }, `The pledge has had ${secrets.length === 1 ? "one receipt" : `${secrets.length} receipts`}. The newest was made on ${day}, ${PAPERS[paper]}:`));
+  byId("new-receipt").prepend(make("p", { className: "taken screen" }, `The pledge has had ${secrets.length === 1 ? "one receipt" : `${secrets.length} receipts`}. The newest was made on ${inWords(day)}, ${PAPERS[paper]}:`));
 }
 
 /** What the commands' forms use. */

@@ -29,7 +29,7 @@ export function receiptSheet(statement, receipt) {
   print.addEventListener("click", () => window.print());
   const sign = (who) => make("div", { className: "sign" }, who);
   const sheet = make("article", { className: "paper" },
-    make("header", {}, make("p", { className: "shop" }, foreign(shop || "Pawn receipt")), make("p", { className: "which" }, `Book ${book}, pledge ${statement.number}`)),
+    make("header", {}, make("p", { className: "shop" }, foreign(shop || "Pawnbroker")), make("p", { className: "which" }, `Pawn receipt: book ${book}, pledge ${statement.number}`)),
     make("h2", {}, foreign(statement.article)),
     make("div", { className: "body" }, termsOf(statement), codeOf(link)),
     make("p", { className: "label" }, "Receipt"), make("p", { className: "secret" }, receipt),

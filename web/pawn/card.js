@@ -32,16 +32,18 @@ export class Card {
   async look() {
     const { text } = await this.ask("");
     this.statement = readStatement(text);
-    this.summary.replaceChildren(...summaryOf(this.statement, `Pledge ${this.statement.number} of book ${this.book}`));
+    this.summary.replaceChildren(...summaryOf(this.statement, [`Pledge ${this.statement.number} of book ${this.book}`]));
     this.actions.replaceChildren(...actionsOf(this));
   }
 
-  /** The first look, whose fault is said in place of the pledge. */
+  /** A look whose fault is said in place of the pledge. Gives whether there is a pledge. */
   async show() {
     try {
       await this.look();
+      return true;
     } catch (fault) {
       this.showFault(fault);
+      return false;
     }
   }
 

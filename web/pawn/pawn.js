@@ -19,7 +19,7 @@ function forget(card) {
   byId("finder").querySelector("summary").focus();
 }
 
-/** Puts a receipt's card on the page, or looks again at the one that is there. Each asks by itself: one request carries one receipt. */
+/** Puts a receipt's card on the page, or looks again at the one that is there, and tells whether it shows a pledge. One request carries one receipt. */
 function show(receipts) {
   return Promise.all(receipts.map((one) => {
     let card = cards.find(({ book, receipt }) => book === one.book && receipt === one.receipt);
@@ -41,9 +41,10 @@ async function showFragment() {
 }
 
 onSend(byId("find"), "pawnor", async (fields) => {
-  await show(ofTyped(fields));
-  byId("find").reset();
+  const found = await show(ofTyped(fields));
   store();
+  if (found.includes(false)) byId("finder").open = true;
+  else byId("find").reset();
   return "";
 });
 addEventListener("hashchange", showFragment);
