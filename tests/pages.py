@@ -1,10 +1,11 @@
 #!/usr/bin/env python3
 """The pawnor's page and the broker's, in a real browser, by the real nginx, in front of the program. Pictures of both are left in build/pages/."""
 import datetime
-import json
+import http.client
 import os
 import re
 import signal
+import subprocess
 import sys
 
 from browser import Browser, Pages, missing, provide, wait_for
@@ -174,7 +175,7 @@ def the_life_of_a_pledge():
 
 
 def broker_answers(pages, visit, receipt):
-    """The broker confirms the visit, records ten pounds, and holds and releases; the pawnor pays the rest and redeems."""
+    """The broker confirms the visit, records ten pounds, extends the period and puts the pledge on hold."""
     open_book(pages)
     browser.says("Coming", "#sheet")
     browser.fill("#sheet-day", day=str(visit))
@@ -198,6 +199,11 @@ def broker_answers(pages, visit, receipt):
     command("Put on hold", "Hold")
     browser.says("it can’t be redeemed", "#commands")
     browser.shoot("broker-pledge")
+    hold_is_released(pages, receipt)
+    pawnor_redeems(pages, receipt)
+
+
+def hold_is_released(pages, receipt):
     show_receipt(pages, receipt)
     browser.says("On hold: it can’t be redeemed", "#cards")
     browser.shoot("pawn-held")
@@ -205,6 +211,10 @@ def broker_answers(pages, visit, receipt):
     find("1")
     command("Release the hold", "Release")
     browser.says("The hold is released.", "#commands")
+
+
+def pawnor_redeems(pages, receipt):
+    """The pawnor pays a part, and redeems for the rest."""
     show_receipt(pages, receipt)
     browser.says("confirmed", "#cards")
     command("Record a part payment", "Record the payment", amount="20")
@@ -229,6 +239,39 @@ def broker_answers(pages, visit, receipt):
     browser.says("Redeemed on", "#statement")
     browser.says("reference A1", "#statement")
     no_faults()
+
+
+def a_running_account_and_what_is_refused():
+    with Pages() as pages:
+        make_book(pages)
+        open_book(pages)
+        part("take")
+        browser.fill("#taking", article="Silver teapot", ref="R/1", kind="running", amount="1,000.00", five="yes")
+        browser.press("#taking button", "Take the pledge")
+        browser.says("Credit up to", ".paper")
+        receipt = browser.text(".paper .secret").strip()
+        find("R/1")
+        browser.says("a running account up to £1,000.00", "#statement")
+        for amount, says in (("250", "Drawn: £250.00"), ("750.01", "Drawing that much would pass the limit"), ("0", "at least a penny"), ("ten", "Write the amount in pounds")):
+            command("Drawing", "Record the drawing", amount=amount)
+            browser.says(says, "#commands")
+        browser.says("£250.00 owed today", "#statement")
+        browser.run("document.querySelectorAll('.action[open]').forEach((one) => { one.open = false; })")
+        command("Replace a lost receipt", "Make a new receipt", paper="written")
+        browser.press("dialog button", "Make a new receipt")
+        browser.says("A written statement is enough only for credit up to £75.00. Ask for a sworn declaration.", "#commands")
+        command("Sale", "Record the sale", amount="10")
+        browser.press("dialog button", "Sold for £10.00")
+        browser.says("The pledge can’t be sold yet", "#commands")
+        command("Visit", "Confirm")
+        browser.says("There is no booking that this could be said of.", "#commands")
+        pages.session.bearer(receipt, "POST", "/books/7/held/ask", {"day": str(today()), "window": 0})
+        find("R/1")
+        command("Visit", "Refuse")
+        browser.says(f"The visit on {in_words(today())} is refused.", "#commands")
+        find("R/2")
+        browser.says("The book has no pledge of that number.", "#finding")
+        no_faults()
 
 
 def a_lost_receipt_is_replaced():
@@ -391,7 +434,7 @@ def replies_that_are_lost():
             command("Redeem", "Redeem for £90.00")
             browser.press("dialog button", "Yes, £90.00 was received")
             browser.says("so this may have been done", "#cards")
-        browser.says("has most likely been done", "#cards")
+        browser.says("Redeemed, most likely", "#cards")
         browser.shoot("pawn-lost")
         no_faults()
 
@@ -434,8 +477,6 @@ def by_the_keyboard_alone():
         make_book(pages)
         receipt = pages.session.open_pledge(1)
         browser.go(pages.address + "/pawn/")
-        browser.run("sessionStorage.clear()")
-        browser.go(pages.address + "/pawn/")
         for name, typed in (("book", "7"), ("receipts", receipt)):
             tab_to(name)
             browser.keys(typed)
@@ -467,6 +508,34 @@ def by_the_keyboard_alone():
         browser.keys(SPACE)
         browser.says("it can’t be redeemed", "#commands")
         no_faults()
+
+
+def what_nginx_sends_and_notes():
+    with Pages() as pages:
+        make_book(pages)
+        receipt = pages.session.open_pledge(1)
+        show_receipt(pages, receipt)
+        browser.says("Gold ring", "#cards")
+        for path, status, keeping in (("/", 200, "no-cache"), ("/pawn/", 200, "no-cache"), ("/api.js", 200, "no-cache"), ("/books/7/held", 400, "no-store"), ("/books/07/held", 404, "no-store"),
+                                      ("/books/7/held?receipt=" + receipt, 404, "no-store"), ("/books/7/../7/held", 404, "no-store"), ("/nginx.conf", 404, "no-cache"), ("/README.md", 404, "no-cache")):
+            connection = http.client.HTTPConnection("127.0.0.1", pages.port, timeout=10)
+            connection.request("GET", path)
+            reply = connection.getresponse()
+            reply.read()
+            policy = reply.getheader("Content-Security-Policy", "")
+            expect(f"GET {path}", (reply.status, reply.getheader("Cache-Control"), "require-trusted-types-for 'script'" in policy, "unsafe" in policy), (status, keeping, True, False))
+            connection.close()
+        for name in ("access.log", "error.log"):
+            noted = read(pages.room, "room", name)
+            expect(f"no secret in {name}", [secret for secret in (receipt, receipt[2:], BROKER, OPERATOR) if secret in noted], [])
+
+
+def starts_that_are_refused():
+    with Pages() as pages:
+        for words, says in (({"PAGES_PORT": str(pages.port)}, f"port {pages.port} is taken"), ({"PAGES_PORT": "0"}, "are numbers from 1 to 65535"), ({"PORT": "x"}, "are numbers from 1 to 65535")):
+            room = os.path.join(pages.room, "other")
+            ran = subprocess.run([os.path.join(TOP, "tools/pages")], env={**os.environ, **words, "ROOM": room}, stdin=subprocess.DEVNULL, capture_output=True, text=True, timeout=20)
+            expect(f"{words}", (ran.returncode, says in ran.stderr, os.path.exists(room)), (1, True, False))
 
 
 SIZE = 41
@@ -529,8 +598,9 @@ def a_receipt_on_paper():
 
 
 STATIC = (each_refusal_has_a_sentence, no_text_becomes_code_or_markup)
-IN_A_BROWSER = (days_and_amounts_as_people_write_them, the_life_of_a_pledge, a_lost_receipt_is_replaced, wrong_keys_and_receipts, a_text_of_markup_stays_a_text,
-                what_is_due_and_the_book_as_a_file, replies_that_are_lost, a_service_that_is_down, by_the_keyboard_alone, a_receipt_on_paper)
+IN_A_BROWSER = (days_and_amounts_as_people_write_them, the_life_of_a_pledge, a_running_account_and_what_is_refused, a_lost_receipt_is_replaced, wrong_keys_and_receipts, a_text_of_markup_stays_a_text,
+                what_is_due_and_the_book_as_a_file, replies_that_are_lost, a_service_that_is_down, by_the_keyboard_alone, a_receipt_on_paper,
+                what_nginx_sends_and_notes, starts_that_are_refused)
 
 
 def too_long(*_):

@@ -20,6 +20,6 @@ export function setUpTaking() {
     byId("taken-receipt").replaceChildren(make("p", { className: "taken screen" }, link, " stands: ", foreign(opening.article), "."), receiptSheet(readStatement(text), said.receipt));
     byId("taking").reset();
     byId("taken-receipt").scrollIntoView();
-    return `Taken as pledge ${said.number}. Its receipt stands below.`;
+    return `Taken as pledge ${said.number}. Its receipt is ready to print.`;
   });
 }

@@ -51,10 +51,16 @@ export class Card {
     const unknown = fault instanceof Refused && MALFORMED.includes(fault.code);
     const again = make("button", { type: "button", className: "plain" }, "Try again");
     again.addEventListener("click", () => this.show());
-    const title = make("h2", {}, unknown ? "This receipt is not live" : "The pledge can’t be shown just now");
-    const lost = unknown && this.lostRedemption ? "The redemption whose reply was lost has most likely been done: a redeemed pledge’s receipt opens nothing. Ask at the shop. " : "";
-    this.summary.replaceChildren(title, make("p", {}, lost + tellFault(fault, "pawnor")), make("p", { className: "place" }, `Receipt ${this.receipt}, book ${this.book}`), unknown ? "" : again);
+    const [title, text] = this.inWords(fault, unknown);
+    const parts = [make("h2", {}, title), make("p", {}, text), make("p", { className: "place" }, `Receipt ${this.receipt}, book ${this.book}`)];
+    this.summary.replaceChildren(...parts, ...(unknown ? [] : [again]));
     this.actions.replaceChildren();
+  }
+
+  /** A title and a sentence for a fault of a look. */
+  inWords(fault, unknown) {
+    if (unknown && this.lostRedemption) return ["Redeemed, most likely", "The receipt opens nothing any more, as it is when a pledge is redeemed. Ask the shop whether it was done."];
+    return [unknown ? "This receipt is not live" : "The pledge can’t be shown just now", tellFault(fault, "pawnor")];
   }
 
   /** Shows that the pledge is redeemed. Its receipt opens nothing any more, so there is nothing to look at. */
