@@ -17,7 +17,7 @@ function row(pledge, now) {
 
 function list(title, pledges, empty, now) {
   const heads = ["No.", "Article and reference", "Credit", "Period’s end"].map((head) => make("th", { scope: "col" }, head));
-  const table = make("table", { className: "list" }, make("thead", {}, make("tr", {}, ...heads)), make("tbody", {}, ...pledges.map((pledge) => row(pledge, now))));
+  const table = make("table", { className: "list due" }, make("thead", {}, make("tr", {}, ...heads)), make("tbody", {}, ...pledges.map((pledge) => row(pledge, now))));
   return make("section", { className: "card" }, make("h2", {}, title, make("span", { className: "count" }, String(pledges.length))), pledges.length > 0 ? table : make("p", { className: "empty" }, empty));
 }
 
