@@ -32,9 +32,9 @@ def provide():
     if missing() and os.geteuid() == 0 and shutil.which("apt-get"):
         # The run level keeps the package of nginx from starting a server of its own.
         quiet = {**os.environ, "DEBIAN_FRONTEND": "noninteractive", "RUNLEVEL": "1"}
-        with contextlib.suppress(subprocess.SubprocessError):
-            subprocess.run(["apt-get", "install", "-y", "--no-install-recommends", *(PACKAGES[name] for name in missing())], env=quiet, stdin=subprocess.DEVNULL,
-                           stdout=subprocess.DEVNULL, stderr=subprocess.DEVNULL, timeout=300)
+        for words in (["update"], ["install", "-y", "--no-install-recommends", *(PACKAGES[name] for name in missing())]):
+            with contextlib.suppress(subprocess.SubprocessError):
+                subprocess.run(["apt-get", *words], env=quiet, stdin=subprocess.DEVNULL, stdout=subprocess.DEVNULL, stderr=subprocess.DEVNULL, timeout=300)
     return missing()
 
 
@@ -108,13 +108,14 @@ class Pages:
         self.server = self.stack.enter_context(Server())
         self.relay = self.stack.enter_context(Relay(self.server.port))
         self.room = self.stack.enter_context(tempfile.TemporaryDirectory())
+        os.chmod(self.room, 0o711)
         self.port = free_port()
         self.address = f"http://localhost:{self.port}"
         self.session = Once(self.server.port)
         self.nginx = subprocess.Popen([os.path.join(TOP, "tools/pages")], stdin=subprocess.DEVNULL, stdout=subprocess.DEVNULL, stderr=subprocess.DEVNULL, start_new_session=True,
                                       env={**os.environ, "PORT": str(self.relay.port), "PAGES_PORT": str(self.port), "ROOM": os.path.join(self.room, "room")})
         self.stack.callback(self.end_nginx)
-        wait_for(lambda: answers(self.address + "/"), "nginx")
+        wait_for(lambda: answers(self.address + "/"), "nginx", 30)
         return self
 
     def __exit__(self, *_):
@@ -148,7 +149,7 @@ class Browser:
         self.room = tempfile.TemporaryDirectory()
         self.port = free_port()
         self.driver = subprocess.Popen(["chromedriver", f"--port={self.port}"], stdin=subprocess.DEVNULL, stdout=subprocess.DEVNULL, stderr=subprocess.DEVNULL, start_new_session=True)
-        wait_for(lambda: answers(f"http://127.0.0.1:{self.port}/status"), "chromedriver")
+        wait_for(lambda: answers(f"http://127.0.0.1:{self.port}/status"), "chromedriver", 30)
         options = {"binary": shutil.which("chromium"), "prefs": {"download.default_directory": self.room.name},
                    "args": ["--headless=new", "--no-sandbox", "--disable-gpu", "--disable-background-networking", "--disable-dev-shm-usage", "--lang=en-GB",
                             "--host-resolver-rules=MAP * ~NOTFOUND, EXCLUDE localhost"]}

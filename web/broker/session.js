@@ -11,6 +11,7 @@ export const current = () => session;
 
 export function begin({ book, key, shop }) {
   if (!/^[1-9]\d{0,8}$/.test(book.trim())) throw new Unreadable("The book is a number from 1 to 999,999,999.");
+  if (!/^[\x21-\x7e]{32,47}$/.test(key.trim())) throw new Unreadable("That is no key. A key is 32 digits from 0 to 9 and a to f, in groups of 8, 4, 4, 4 and 12.");
   session = { book: book.trim(), key: key.trim(), shop: shop.trim() };
 }
 

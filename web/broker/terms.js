@@ -1,5 +1,6 @@
 /** The book's terms: the versions that stand, and the next. */
 import { byId, make } from "/dom.js";
+import { Refused } from "/faults.js";
 import { onSend, run } from "/forms.js";
 import { inPounds } from "/money.js";
 import { Unreadable } from "/unreadable.js";
@@ -47,6 +48,17 @@ async function read() {
   byId("next-version").textContent = `Version ${versions.length + 1}`;
 }
 
+/** Puts the next version. After a lost reply the versions that were read stay, so that the same terms are the same version; after a refusal they are read again. */
+async function put(terms) {
+  try {
+    const { said } = await askBook("POST", "/terms", { body: { version: versions.length + 1, ...terms }, harmless: true });
+    return said.version;
+  } catch (fault) {
+    if (fault instanceof Refused) versions = null;
+    throw fault;
+  }
+}
+
 function showExample() {
   const said = byId("terms-example");
   try {
@@ -63,9 +75,9 @@ export function setUpTerms() {
   notice = onSend(byId("new-terms"), "broker", async (fields) => {
     const terms = readTerms(fields);
     if (versions === null) await read();
-    const { said } = await askBook("POST", "/terms", { body: { version: versions.length + 1, ...terms }, harmless: true });
+    const version = await put(terms);
     await read();
-    return `Version ${said.version} stands. It counts for pledges that are taken from now on.`;
+    return `Version ${version} stands. It counts for pledges that are taken from now on.`;
   });
 }
 
