@@ -70,11 +70,13 @@ def unfold(title):
     browser.press(".action:not([open]) > summary", title)
 
 
-def command(title, button, **fields):
-    """Unfolds a command, fills its form and sends it."""
+def command(title, button, picture=None, **fields):
+    """Unfolds a command, fills its form and sends it; the picture of the form is taken before."""
     unfold(title)
     if fields:
         browser.fill(".action[open] form", **fields)
+    if picture:
+        browser.shoot(picture)
     browser.press(".action[open] button", button)
 
 
@@ -166,7 +168,7 @@ def the_life_of_a_pledge():
         browser.says(f"{(six_months_after(today()) - today()).days} days left", "#cards")
         expect("the address is cleared", browser.run("return location.href"), pages.address + "/pawn/")
         browser.shoot("pawn-pledge")
-        command("Ask for a time to come", "Ask for this time", day=str(visit), window="3")
+        command("Ask for a time to come", "Ask for this time", "pawn-asking", day=str(visit), window="3")
         browser.says(f"Asked for {in_words(visit)}, 10:30 to 11:00.", "#cards")
         command("Cancel the visit", "Cancel the visit")
         browser.says("The visit is cancelled.", "#cards")
@@ -200,15 +202,20 @@ def broker_answers(pages, visit, receipt):
     command("Put on hold", "Hold")
     browser.says("it can’t be redeemed", "#commands")
     browser.shoot("broker-pledge")
-    hold_is_released(pages, receipt)
+    hold_is_released(pages, visit, receipt)
     pawnor_redeems(pages, receipt)
 
 
-def hold_is_released(pages, receipt):
+def hold_is_released(pages, visit, receipt):
     show_receipt(pages, receipt)
     browser.says("On hold: it can’t be redeemed", "#cards")
     browser.shoot("pawn-held")
     open_book(pages)
+    browser.says("Coming", "#sheet")
+    browser.fill("#sheet-day", day=str(visit))
+    browser.press("#sheet-day button", "Show")
+    browser.says("1 of 2", "#sheet")
+    browser.shoot("broker-coming")
     find("1")
     command("Release the hold", "Release")
     browser.says("The hold is released.", "#commands")
@@ -257,8 +264,8 @@ def a_running_account_and_what_is_refused():
             command("Drawing", "Record the drawing", amount=amount)
             browser.says(says, "#commands")
         browser.says("£250.00 owed today", "#statement")
-        browser.run("document.querySelectorAll('.action[open]').forEach((one) => { one.open = false; })")
-        command("Replace a lost receipt", "Make a new receipt", paper="written")
+        browser.press(".action[open] > summary")
+        command("Replace a lost receipt", "Make a new receipt", "broker-commands", paper="written")
         browser.press("dialog button", "Make a new receipt")
         browser.says("A written statement is enough only for credit up to £75.00. Ask for a sworn declaration.", "#commands")
         command("Sale", "Record the sale", amount="10")

@@ -11,6 +11,17 @@ export function tell(notice, text, tone = "quiet") {
 /** A line that screen readers speak when it changes. */
 export const makeNotice = () => make("p", { className: "notice quiet", role: "status", tabIndex: -1 });
 
+/** A form in a fold, which acts when it is sent. What was said of another is cleared when the fold is opened. */
+export function fold(title, form, notice, act) {
+  form.addEventListener("submit", (event) => {
+    event.preventDefault();
+    act({ ...Object.fromEntries(new FormData(form)), button: event.submitter?.value });
+  });
+  const details = make("details", { className: "action" }, make("summary", {}, title), form);
+  details.addEventListener("toggle", () => details.open && tell(notice, ""));
+  return details;
+}
+
 /** Runs an act with its buttons out of use, and says in the notice what came of it. The act gives the sentence for its success. */
 export async function run({ notice, within, reader, act }) {
   const buttons = [...within.querySelectorAll("button")].filter((button) => !button.disabled);

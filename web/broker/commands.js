@@ -2,20 +2,15 @@
 import { make } from "/dom.js";
 import { inWords } from "/days.js";
 import { Lost } from "/faults.js";
-import { field } from "/forms.js";
+import { field, fold } from "/forms.js";
 import { inPounds, readPounds } from "/money.js";
 import { confirmed } from "/questions.js";
 import { bookingInWords } from "/summary.js";
 
 /** One command: its name, why not now or null, the parts of its form, and what it does with the form's fields. */
-function fold({ title, barred, parts, act }, desk) {
+function foldOf({ title, barred, parts, act }, desk) {
   const form = make("form", { autocomplete: "off" }, barred && make("p", { className: "barred" }, barred), ...parts);
-  form.addEventListener("submit", (event) => {
-    event.preventDefault();
-    const fields = { ...Object.fromEntries(new FormData(form)), button: event.submitter?.value };
-    desk.perform(() => act(fields));
-  });
-  return make("details", { className: "action" }, make("summary", {}, title), form);
+  return fold(title, form, desk.notice, (fields) => desk.perform(() => act(fields)));
 }
 
 const lead = (text) => make("p", { className: "lead" }, text);
@@ -127,7 +122,7 @@ const sale = ({ status, ends }, desk) => ({
 export function commandsOf(statement, desk) {
   if (!["inside", "grace", "realisable"].includes(statement.status)) return [make("p", { className: "empty" }, "This pledge is over: nothing more is done on it.")];
   const all = [visit, repayment, drawing, extension, hold, replacement, sale].map((of) => of(statement, desk));
-  const now = all.filter(({ barred }) => !barred).map((one) => fold(one, desk));
-  const later = all.filter(({ barred }) => barred).map((one) => fold(one, desk));
+  const now = all.filter(({ barred }) => !barred).map((one) => foldOf(one, desk));
+  const later = all.filter(({ barred }) => barred).map((one) => foldOf(one, desk));
   return [make("h2", {}, "What you can do now"), ...now, ...(later.length > 0 ? [make("h3", {}, "Not now"), ...later] : [])];
 }

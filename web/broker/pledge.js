@@ -79,7 +79,7 @@ async function readNewest() {
 }
 
 /** What the commands' forms use. */
-const desk = { command, perform, showReceipt, offerNewest };
+const desk = { notice, command, perform, showReceipt, offerNewest };
 
 /** The pledge of a number; where the book has none of that number, or the text is no number, the one of that reference. */
 async function find(wanted) {

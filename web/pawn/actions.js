@@ -2,22 +2,14 @@
 import { make } from "/dom.js";
 import { inWords, seenFrom, today } from "/days.js";
 import { Lost } from "/faults.js";
-import { field } from "/forms.js";
+import { field, fold } from "/forms.js";
 import { inPounds, readPounds } from "/money.js";
 import { confirmed } from "/questions.js";
 import { Unreadable } from "/unreadable.js";
 import { WINDOWS, windowInWords } from "/windows.js";
 
 /** A form in a fold, which acts on the card when it is sent. */
-function fold(card, title, parts, act) {
-  const form = make("form", { autocomplete: "off" }, ...parts);
-  form.addEventListener("submit", (event) => {
-    event.preventDefault();
-    const fields = Object.fromEntries(new FormData(form));
-    card.perform(() => act(fields));
-  });
-  return make("details", { className: "action" }, make("summary", {}, title), form);
-}
+const foldOf = (card, title, parts, act) => fold(title, make("form", { autocomplete: "off" }, ...parts), card.notice, (fields) => card.perform(() => act(fields)));
 
 const buttons = (...all) => make("div", { className: "buttons" }, ...all);
 
@@ -33,14 +25,14 @@ function visitFold(card) {
   const times = make("select", { name: "window" }, ...WINDOWS.map((window) => make("option", { value: window }, windowInWords(window))));
   const standing = booking && ["asked", "confirmed"].includes(booking.state);
   const lead = make("p", { className: "lead" }, standing ? "A new time takes the place of the one that stands." : "Say when you would like to fetch it. The shop confirms it or not.");
-  return fold(card, standing ? "Ask for another time" : "Ask for a time to come", [lead, field("Day", day), field("Time", times), buttons(make("button", {}, "Ask for this time"))], (fields) => askForVisit(card, fields));
+  return foldOf(card, standing ? "Ask for another time" : "Ask for a time to come", [lead, field("Day", day), field("Time", times), buttons(make("button", {}, "Ask for this time"))], (fields) => askForVisit(card, fields));
 }
 
 function cancelFold(card) {
   const { booking } = card.statement;
   if (!booking || !["asked", "confirmed"].includes(booking.state)) return null;
   const lead = make("p", { className: "lead" }, `Your visit ${seenFrom(today(), booking.day)}, ${inWords(booking.day)}, is taken back. You can ask for another.`);
-  return fold(card, "Cancel the visit", [lead, buttons(make("button", {}, "Cancel the visit"))], async () => {
+  return foldOf(card, "Cancel the visit", [lead, buttons(make("button", {}, "Cancel the visit"))], async () => {
     await card.ask("/cancel", undefined, true);
     return { sentence: "The visit is cancelled." };
   });
@@ -61,7 +53,7 @@ async function repay(card, { amount }) {
 function repayFold(card) {
   const amount = make("input", { name: "amount", inputMode: "decimal", required: true });
   const lead = make("p", { className: "lead" }, "A part that the pawnbroker has received already. It goes to interest and safe keeping first, then to what was lent.");
-  return fold(card, "Record a part payment", [lead, field("Amount in pounds", amount), buttons(make("button", {}, "Record the payment"))], (fields) => repay(card, fields));
+  return foldOf(card, "Record a part payment", [lead, field("Amount in pounds", amount), buttons(make("button", {}, "Record the payment"))], (fields) => repay(card, fields));
 }
 
 async function redeem(card) {
@@ -86,7 +78,7 @@ function redeemFold(card) {
   const { owed, held } = card.statement;
   const lead = held ? "The pawnbroker holds this pledge, so it can’t be redeemed just now. Ask at the shop why." : `Redeeming wants all that is owed today, ${inPounds(owed.owing)}, received by the pawnbroker. You are asked once more before it is done.`;
   const button = make("button", { className: "grave", disabled: held }, `Redeem for ${inPounds(owed.owing)}`);
-  return fold(card, "Redeem", [make("p", { className: "lead" }, lead), buttons(button)], () => redeem(card));
+  return foldOf(card, "Redeem", [make("p", { className: "lead" }, lead), buttons(button)], () => redeem(card));
 }
 
 /** The folds for what may be done now; none where the pledge is over. */
