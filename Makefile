@@ -1,11 +1,14 @@
 # The commands of this repository. Each is a script of tools/ or tests/, which says more of itself.
-.PHONY: build serve check test fuzz bench release clean help
+.PHONY: build serve pages check test fuzz bench release clean help
 
 build:
 	@tools/build
 
 serve:
 	@exec tools/serve
+
+pages:
+	@exec tools/pages
 
 check:
 	@exec tools/check

@@ -1,0 +1,15 @@
+/** Amounts: whole pence in the pages and the service, pounds for people. */
+import { Unreadable } from "/unreadable.js";
+
+/** Pence as people write pounds: 123456 is £1,234.56. */
+export function inPounds(pence) {
+  const pounds = String(Math.floor(pence / 100)).replace(/\B(?=(\d{3})+$)/g, ",");
+  return `£${pounds}.${String(pence % 100).padStart(2, "0")}`;
+}
+
+/** The pence of an amount that a person typed: 100, 99.50, £1,000 or £1,000.00. */
+export function readPounds(text) {
+  const found = /^£?\s*(\d{1,3}(?:,\d{3})+|\d{1,9})(?:\.(\d\d))?$/.exec(text.trim());
+  if (!found) throw new Unreadable("Write the amount in pounds, as 100 or 99.50.");
+  return Number(found[1].replaceAll(",", "")) * 100 + Number(found[2] ?? 0);
+}
