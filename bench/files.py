@@ -203,7 +203,7 @@ def opens(folder):
 
 
 def moves(folder):
-    """`migrate` of files of the first schema, and of the second, which adds a table alone."""
+    """`migrate` of files of the first and of the second schema, each pledge of which it reads."""
     print(f"{'milliseconds, by pledges of one entry each':46}{10 * EACH:>12}{100 * EACH:>12}")
     spent = {1: [], 2: []}
     for books in (10, 100):
