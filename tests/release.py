@@ -10,7 +10,7 @@ import tempfile
 
 from service import TOP, Failed, expect, free_port, main
 
-LIBRARIES = "libm.so.6 libc.so.6 libgcc_s.so.1"
+LIBRARIES = "libc.so.6"
 
 
 def text(path):
