@@ -60,11 +60,10 @@ def fill_and_empty(path, filler):
         session, receipts, seen = server.session(), [], set()
         session.open_book()
         receipts += [session.open_pledge(number) for number in range(1, 21)]
-        with open(filler, "wb") as it:
+        with open(filler, "wb", buffering=0) as it:
             try:
-                while True:
-                    it.write(b"x" * 4096)
-                    it.flush()
+                while it.write(b"x" * 4096):
+                    pass
             except OSError:
                 pass
         for _ in range(200):
