@@ -23,3 +23,4 @@ pub mod SlotMachine
 pub mod SlotRuns
 pub mod SlotAccepted
 pub mod SlotSpent
+pub mod ShardLemmas

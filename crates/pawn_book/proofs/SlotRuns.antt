@@ -245,7 +245,7 @@ book_run-append : (book : Option BookValue) (operator b : ℕ) (xs ys : List (St
 book_run-append book operator b [] ys = refl
 book_run-append book operator b (x ∷ xs) ys = book_run-append (book_after book (book_step book operator b x.0 x.1)) operator b xs ys
 
-book_is_alone : {F : Type 0} (h : Host) (operator b : ℕ) (events : List (Event F)) → book_run (get h.books b) operator b (book_trace b h operator events) ≡ get (run_host h operator events).books b
+pub book_is_alone : {F : Type 0} (h : Host) (operator b : ℕ) (events : List (Event F)) → book_run (get h.books b) operator b (book_trace b h operator events) ≡ get (run_host h operator events).books b
 book_is_alone h operator b [] = refl
 book_is_alone h operator b (event ∷ events) =
     ap (book_run (get h.books b) operator b) (book_trace_step b h operator event events)

@@ -21,5 +21,7 @@ pub mod Traces
 pub mod Machines
 pub mod Slots
 pub mod Passes
+pub mod Shards
 pub mod WorkedSlots
+pub mod WorkedShards
 pub mod WorkedImports

@@ -1,5 +1,6 @@
 ghost use Rattle.pawn_book.specs.Laws.{ChangesDiffer, EntriesActOnce, EntriesActOnceForAll, ExtensionsActOnce, RepeatsActOnce, StandingEndIsTold};
 ghost use Rattle.pawn_book.specs.Passes.{IsOne, KeepsReceipts, Pass, ReplacesNone};
+ghost use Rattle.pawn_book.specs.Shards.{HandedOutAnswersAsOne, HandsAll, ShardsAnswerAsOne};
 ghost use Rattle.pawn_book.specs.Slots.{BearersJoin, BooksAnswerAlone, EarlierReceiptsAreSpent, EqualBookTracesAnswerAlike, EqualTracesAnswerAlike, OtherBooksStay, SlotsAnswerAlone, SlotsAreHeld, SpentIsUnknown, SpentReceiptsStaySpent, TracesAreAccepted};
 
 /// What a plan calls a change is one.
@@ -32,6 +33,15 @@ pub fn books_answer_alone<F>()
     ensures alone { BooksAnswerAlone F }
     ensures alike { EqualBookTracesAnswerAlike F }
     ensures others { OtherBooksStay }
+{}
+
+/// Where each book has one of several hosts, its shard, each settled reply is that of one host that was asked everything, and
+/// the book stands in its shard as it would there: whichever way books are given out, as long as a book has one shard.
+/// F is the type of what may be wrong with a request's bytes.
+pub fn shards_answer_as_one<F>()
+    ensures as_one { ShardsAnswerAsOne F }
+    ensures handed { HandsAll }
+    ensures handed_out { HandedOutAnswersAsOne F }
 {}
 
 /// Each settled reply to a slot's request is that of the slot's own machine, fed its own trace: so what other callers do

@@ -36,7 +36,8 @@ pub use importing::ReplayableRows;
 pub use keep::Keep;
 pub use laws::{
     books_answer_alone, changes_differ, entries_act_once, extensions_act_once, repeats_act_once,
-    slots_answer_alone, slots_are_held, slots_in_passes, spent_receipts_are_unknown,
+    shards_answer_as_one, slots_answer_alone, slots_are_held, slots_in_passes,
+    spent_receipts_are_unknown,
 };
 pub use limits::{
     MOST_BOOKINGS, MOST_NAME_BYTES, MOST_PLEDGES, MOST_RECEIPTS, MOST_ROWS, MOST_TERMS,
@@ -59,4 +60,4 @@ pub use request::{BearerRequest, BrokerRequest, Caller, Name, NewBook, NewTerms,
 pub use rows::{BookRows, PledgeRows};
 pub use sheet::{Part, SheetItem};
 pub use visit::{Flow, Visitor};
-pub use worked::{worked_imports, worked_slots};
+pub use worked::{worked_imports, worked_shards, worked_slots};

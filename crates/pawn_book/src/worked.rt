@@ -1,4 +1,5 @@
 ghost use Rattle.pawn_book.specs.WorkedImports.{WorkedImports};
+ghost use Rattle.pawn_book.specs.WorkedShards.{WorkedShards};
 ghost use Rattle.pawn_book.specs.WorkedSlots.{WorkedSlots};
 
 /// A pledge whose receipt changes hands twice: what each slot's trace is.
@@ -9,4 +10,9 @@ pub fn worked_slots()
 /// A book that is filled by an import, and what is told to further ones.
 pub fn worked_imports()
     ensures imports { WorkedImports }
+{}
+
+/// Two books on two shards: what each shard is handed, and what each answers, beside one host that has both books.
+pub fn worked_shards()
+    ensures shards { WorkedShards }
 {}

@@ -7,5 +7,6 @@ pub mod RunLemmas
 pub mod RunMore
 pub mod LawLemmas
 pub mod HeadlineLemmas
+pub mod ShardLemmas
 pub mod SheetLemmas
 pub mod RowsLemmas

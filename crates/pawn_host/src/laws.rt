@@ -1,6 +1,7 @@
 //! Laws of the definitions.
 ghost use Rattle.pawn_host.specs.Crashes.{CrashLeavesWhole, CrashesJoin};
 ghost use Rattle.pawn_host.specs.Laws.{SplitIsUnique, EqualBookTracesAnswerAlike, EqualTracesAnswerAlike, OpenEnds, SplitEndsEarly, SplitBegins, SplitIsFront, ItemsAreUnique, RunReadsEvents, RunsAnswerAlone, RunsJoin, FaultIsExact, NothingIsWanted};
+ghost use Rattle.pawn_host.specs.Shards.{HandedSplits, RequestsArePlaced, ShardsAnswerAsOne};
 
 use pawn_book::Keep;
 
@@ -59,6 +60,14 @@ pub fn runs_answer_alone()
     ensures alone { RunsAnswerAlone }
     ensures alike { EqualTracesAnswerAlike }
     ensures books_alike { EqualBookTracesAnswerAlike }
+{}
+
+/// Where each request of a stream is handed to the shard of its book, each settled answer is, byte for byte, that of one host
+/// that was asked everything; and what a shard is handed is a stream of whole requests, as they came.
+pub fn shards_answer_as_one()
+    ensures placed { RequestsArePlaced }
+    ensures as_one { ShardsAnswerAsOne }
+    ensures splits { HandedSplits }
 {}
 
 /// Where a crash could have left no host but the one before a run, it leaves the host after all items, with or without one

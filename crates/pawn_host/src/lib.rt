@@ -19,8 +19,8 @@ mod session;
 
 pub use laws::{
     crash_leaves_whole, fault_is_exact, items_are_unique, nothing_is_wanted, open_ends,
-    run_reads_events, runs_answer_alone, runs_join, split_begins, split_ends_early, split_is_front,
-    split_is_unique,
+    run_reads_events, runs_answer_alone, runs_join, shards_answer_as_one, split_begins,
+    split_ends_early, split_is_front, split_is_unique,
 };
 pub use limits::{MOST_READS, MOST_REQUESTS};
 pub use pawn_book::{Day, Keep, ListKeep, Number, RequestDay, Secret, Stamp};
