@@ -135,6 +135,10 @@ def a_day_is_shown():
     played("one_of_each")
 
 
+def ann_and_bo_are_answered_alone():
+    played("ann_and_bo")
+
+
 def a_book_is_exported():
     played("exports")
 
@@ -210,5 +214,5 @@ def strangers_change_no_reply_to_a_bearer():
     expect("the replies among strangers", among, alone)
 
 
-main(two_pledges_live_through_every_request, a_full_host_answers_what_adds_no_row, a_day_is_shown, a_book_is_exported, the_rows_of_a_book_fill_another,
+main(two_pledges_live_through_every_request, a_full_host_answers_what_adds_no_row, a_day_is_shown, ann_and_bo_are_answered_alone, a_book_is_exported, the_rows_of_a_book_fill_another,
      a_receipt_that_was_declared_away_is_unknown, a_day_in_memory_is_as_over_a_file, strangers_change_no_reply_to_a_bearer)
