@@ -11,11 +11,11 @@ use pawn_keeper::TableKeep;
 use pawn_opening::{open_memory, prepare};
 use pawn_store::{keep_in_memory, run_over_tables};
 use pawn_view::Writing;
-use sqlite::{Connection, MemStore};
+use sqlite::MemStore;
 use std::alloc::Global;
 use std::process::Abort;
 use std::test::Fail;
-use turns::{ROWS, Turn, full_turns, import_turns, turns};
+use turns::{DAY, TURNS};
 
 const ASKED: &[u8] = b"GET /books/7/held HTTP/1.1\r\nHost: x\r\n\r\n";
 
@@ -28,8 +28,11 @@ const BAD_HEAD: &[u8] =
 // A request after which its connection closes.
 const CLOSING: &[u8] = b"GET /books/7/held HTTP/1.0\r\n\r\n";
 
+// Rows enough for all turns.
+const ROWS: u64 = 100;
+
 fn service(rt: &impl Abort, alloc: Global) -> Service<ListKeep> {
-    service_of(rt, alloc, 1000)
+    service_of(rt, alloc, ROWS)
 }
 
 // A service with room for so many rows.
@@ -45,32 +48,22 @@ fn service_over<K: Keep + Drop>(rt: &impl Abort, alloc: Global, keep: K) -> Serv
     }
 }
 
-// Empty tables that were made with room for so many rows, and opened again with room for more.
-fn opened(alloc: Global, rows: u32) -> Result<Connection<MemStore>, Fail> {
-    let mut conn = open_memory(alloc, rows.clamp(1, 2000))
-        .ok()
-        .ok_or("no store")?;
+// A service over empty tables, which were opened twice.
+fn tables_over(rt: &impl Abort, alloc: Global) -> Result<Service<TableKeep<MemStore>>, Fail> {
+    let mut conn = open_memory(alloc, 100).ok().ok_or("no store")?;
     if !conn.is_autocommit() {
         return Err(Fail::from("in a transaction"));
     }
     prepare(&mut conn, 3000).ok().ok_or("another's store")?;
-    Ok(conn)
-}
-
-// A service over tables.
-fn tables_over(
-    rt: &impl Abort,
-    alloc: Global,
-    conn: Connection<MemStore>,
-) -> Result<Service<TableKeep<MemStore>>, Fail> {
     let keep = TableKeep::over(alloc, conn).ok().ok_or("in a transaction")?;
     Ok(service_over(rt, alloc, keep))
 }
 
-fn stamp(rt: &impl Abort, day: &str, word: u128) -> Stamp {
-    match RequestDay::of_text(day.as_bytes()) {
+// The stamp of a turn with this word.
+fn stamp(rt: &impl Abort, word: u128) -> Stamp {
+    match RequestDay::of_text(DAY.as_bytes()) {
         Ok(day) => Stamp { day, word },
-        Err(_) => panic!(rt; "no day: {day}"),
+        Err(_) => panic!(rt; "no day: {DAY}"),
     }
 }
 
@@ -82,62 +75,32 @@ fn tells(rt: &impl Abort, answer: &Answer, reply: &[u8]) {
     }
 }
 
-// Compares the answers of a run with the replies to its turns.
-fn tells_each(rt: &impl Abort, answers: &[Answer], turns: &[Turn]) {
-    assert_eq!(rt; answers.len(), turns.len());
-    for (answer, turn) in answers.iter().zip(turns) {
-        tells(rt, answer, turn.reply.as_slice());
+// Compares the answers of a run with the replies to the turns.
+fn tells_each(rt: &impl Abort, answers: &[Answer]) {
+    assert_eq!(rt; answers.len(), TURNS.len());
+    for (answer, turn) in answers.iter().zip(&TURNS) {
+        tells(rt, answer, turn.reply);
     }
-}
-
-// Compares the answers to turns with their replies.
-fn plays<K: Keep>(rt: &impl Abort, service: &mut Service<K>, turns: &[Turn]) {
-    for turn in turns {
-        let answer = service.answer_one(&turn.stamp, turn.request.as_slice());
-        tells(rt, &answer, turn.reply.as_slice());
-    }
-}
-
-// The same over lists and over tables, each with room for so many rows.
-fn plays_in_both(rt: &impl Abort, alloc: Global, rows: u32, turns: &[Turn]) -> Result<(), Fail> {
-    plays(rt, &mut service_of(rt, alloc, u64::from(rows)), turns);
-    let conn = opened(alloc, rows)?;
-    plays(rt, &mut tables_over(rt, alloc, conn)?, turns);
-    Ok(())
 }
 
 #[test]
-fn two_pledges_live_through_every_request(rt: HostRuntime) -> Result<(), Fail> {
+fn the_turns_are_answered_over_lists_and_over_tables(rt: HostRuntime) -> Result<(), Fail> {
     let alloc = rt.alloc();
-    let turns = turns(&rt, alloc)?;
     let mut items = Vec::new(alloc);
-    for turn in turns.iter() {
-        items.push((turn.stamp, turn.request.clone()?))?;
+    for turn in TURNS {
+        items.push((stamp(&rt, turn.word), Vec::from_slice(alloc, turn.request)?))?;
     }
-    let answers = service_of(&rt, alloc, u64::from(ROWS)).run(items.as_slice())?;
-    tells_each(&rt, answers.as_slice(), turns.as_slice());
-    let keep = keep_in_memory(alloc, ROWS).ok().ok_or("no store")?;
-    let mut service = service_over(&rt, alloc, keep);
-    let answers = run_over_tables(&mut service, items.as_slice())?;
-    tells_each(&rt, answers.as_slice(), turns.as_slice());
+    let answers = service_of(&rt, alloc, ROWS).run(items.as_slice())?;
+    tells_each(&rt, answers.as_slice());
+    let keep = keep_in_memory(alloc, 100).ok().ok_or("no store")?;
+    let answers = run_over_tables(&mut service_over(&rt, alloc, keep), items.as_slice())?;
+    tells_each(&rt, answers.as_slice());
     Ok(())
-}
-
-#[test]
-fn a_full_host_answers_what_adds_no_row(rt: HostRuntime) -> Result<(), Fail> {
-    let turns = full_turns(&rt, rt.alloc())?;
-    plays_in_both(&rt, rt.alloc(), ROWS, turns.as_slice())
-}
-
-#[test]
-fn the_rows_of_a_book_fill_another(rt: HostRuntime) -> Result<(), Fail> {
-    let turns = import_turns(&rt, rt.alloc())?;
-    plays_in_both(&rt, rt.alloc(), 1000, turns.as_slice())
 }
 
 #[test]
 fn a_request_is_answered_alone(rt: HostRuntime) {
-    let stamp = stamp(&rt, "2024-01-31", 1);
+    let stamp = stamp(&rt, 1);
     let answer = service(&rt, rt.alloc()).answer_one(&stamp, ASKED);
     tells(&rt, &answer, NO_RECEIPT);
 }
@@ -182,7 +145,7 @@ fn answered(
     stamps: &[Stamp],
     behaviour: Behaviour,
 ) -> Came {
-    let mut service = service_of(rt, alloc, u64::from(ROWS));
+    let mut service = service_of(rt, alloc, ROWS);
     answered_by(&mut service, alloc, stream, stamps, behaviour)
 }
 
@@ -242,18 +205,21 @@ fn slow_ends_change_no_reply(rt: HostRuntime) -> Result<(), Fail> {
     let mut stream = Vec::new(alloc);
     let mut stamps = Vec::new(alloc);
     let mut replies = Vec::new(alloc);
-    for turn in turns(&rt, alloc)?.iter() {
-        stream.extend_from_slice(turn.request.as_slice())?;
-        stamps.push(turn.stamp)?;
-        replies.extend_from_slice(turn.reply.as_slice())?;
+    for turn in TURNS {
+        stream.extend_from_slice(turn.request)?;
+        stamps.push(stamp(&rt, turn.word))?;
+        replies.extend_from_slice(turn.reply)?;
     }
     let (stream, stamps) = (stream.as_slice(), stamps.as_slice());
     let in_lists = answered(&rt, alloc, stream, stamps, SLOW);
-    let mut tables = tables_over(&rt, alloc, opened(alloc, ROWS)?)?;
+    let mut tables = tables_over(&rt, alloc)?;
     let in_tables = answered_by(&mut tables, alloc, stream, stamps, SLOW);
-    let how = How::End;
+    let ended = Ended {
+        how: How::End,
+        acted: TURNS.len() as u32,
+    };
     for all in [in_lists, in_tables] {
-        assert_eq!(rt; all.came, Ok(Ended { how, acted: 28 }));
+        assert_eq!(rt; all.came, Ok(ended));
         assert!(rt; all.written.as_slice() == replies.as_slice());
     }
     Ok(())
@@ -262,7 +228,7 @@ fn slow_ends_change_no_reply(rt: HostRuntime) -> Result<(), Fail> {
 #[test]
 fn a_session_tells_how_its_stream_ended(rt: HostRuntime) -> Result<(), Fail> {
     let alloc = rt.alloc();
-    let stamps = [stamp(&rt, "2024-01-31", 1); 2];
+    let stamps = [stamp(&rt, 1); 2];
     for (requests, rest, how, acted, last) in [
         (0u32, b"".as_slice(), How::End, 0u32, b"".as_slice()),
         (2, b"", How::End, 2, b""),
@@ -297,7 +263,7 @@ fn a_session_tells_how_its_stream_ended(rt: HostRuntime) -> Result<(), Fail> {
 #[test]
 fn a_thousand_requests_are_answered_and_no_more(rt: HostRuntime) -> Result<(), Fail> {
     let alloc = rt.alloc();
-    let stamps = [stamp(&rt, "2024-01-31", 1); 1001];
+    let stamps = [stamp(&rt, 1); 1001];
     for (requests, rest, how, acted) in [
         (999u32, b"".as_slice(), How::End, 999u32),
         (999, CLOSING, How::Closed, 1000),
@@ -317,7 +283,7 @@ fn a_thousand_requests_are_answered_and_no_more(rt: HostRuntime) -> Result<(), F
 #[test]
 fn what_comes_behind_the_last_request_stays_with_the_reader(rt: HostRuntime) -> Result<(), Fail> {
     let alloc = rt.alloc();
-    let stamps = [stamp(&rt, "2024-01-31", 1); 1000];
+    let stamps = [stamp(&rt, 1); 1000];
     for (requests, last, reads) in [
         (1u32, CLOSING, 1usize),
         (1, b"} / HTTP/1.1\r\n\r\n", 1),
@@ -334,7 +300,7 @@ fn what_comes_behind_the_last_request_stays_with_the_reader(rt: HostRuntime) -> 
 #[test]
 fn a_stamp_then_a_reply_then_the_next_read(rt: HostRuntime) -> Result<(), Fail> {
     let stream = repeated(rt.alloc(), ASKED, 2, b"")?;
-    let stamps = [stamp(&rt, "2024-01-31", 1); 2];
+    let stamps = [stamp(&rt, 1); 2];
     let all = answered(&rt, rt.alloc(), stream.as_slice(), &stamps, SLOW);
     assert_eq!(rt; all.calls, 0x0123_1231);
     Ok(())
@@ -343,7 +309,7 @@ fn a_stamp_then_a_reply_then_the_next_read(rt: HostRuntime) -> Result<(), Fail> 
 #[test]
 fn a_session_breaks_off_at_the_read_that_fails(rt: HostRuntime) -> Result<(), Fail> {
     let alloc = rt.alloc();
-    let stamps = [stamp(&rt, "2024-01-31", 1); 3];
+    let stamps = [stamp(&rt, 1); 3];
     let stream = repeated(alloc, ASKED, 2, b"")?;
     for read_fails in 1..80u32 {
         let behaviour = Behaviour { read_fails, ..SLOW };
@@ -361,7 +327,7 @@ fn a_session_breaks_off_at_the_read_that_fails(rt: HostRuntime) -> Result<(), Fa
 #[test]
 fn a_session_breaks_off_at_the_write_that_fails(rt: HostRuntime) -> Result<(), Fail> {
     let alloc = rt.alloc();
-    let stamps = [stamp(&rt, "2024-01-31", 1); 3];
+    let stamps = [stamp(&rt, 1); 3];
     let stream = repeated(alloc, ASKED, 2, b"")?;
     for write_fails in 1..223u32 {
         for takes_nothing in [false, true] {

@@ -1,7 +1,7 @@
 //! Files that fail at some call, as at a stop of the machine: what is there when they are opened again.
 
-use super::turns::{Turn, request, turns_of};
-use super::{service_of, service_over};
+use super::turns::{SHOWN, TURNS, Turn};
+use super::{service_of, service_over, stamp};
 use crate::disks::{Disks, NEVER, crashed, disks, store_on};
 use pawn_book::Keep;
 use pawn_check::{Counts, check};
@@ -11,35 +11,6 @@ use sqlite::{Alter, Connection};
 use std::alloc::Global;
 use std::process::Abort;
 use std::test::Fail;
-
-// A ring is pawned, seen by its receipt, declared lost, its bearer asks to come, and redeems it, which cancels that. Another book is filled by an import.
-const LINES: &str = r#"
-2024-01-31|0|operator|POST /books/7|{"capacity":1,"key":"22222222-2222-2222-2222-222222222222","name":"High Street"}
-200 OK|{"book":7}
-2024-01-31|0|broker|POST /books/7/terms|{"keep_after":0,"keep_before":0,"rate":0,"version":1}
-200 OK|{"version":1}
-2024-01-31|1|broker|POST /books/7/pledges|{"article":"Gold ring","five_days":false,"kind":"fixed","pence":10000,"ref":"A1"}
-200 OK|{"number":1,"receipt":"1-00000000-0000-0000-0000-000000000001"}
-2024-01-31|0|1-1|GET /books/7/held|
-200 OK|Pledge 1|Article Gold ring|Kind fixed 100.00|Taken 2024-01-31|Ends 2024-07-31|Status inside|Principal 100.00|Charges 0.00|Owing 100.00|Held no|Booking none|
-2024-01-31|2|broker|POST /books/7/pledges/1/declare|{"paper":"sworn"}
-200 OK|{"receipt":"1-00000000-0000-0000-0000-000000000002"}
-2024-01-31|0|1-2|POST /books/7/held/ask|{"day":"2024-02-10","window":3}
-200 OK|{"booking":"asked","day":"2024-02-10","window":3}
-2024-01-31|0|1-2|POST /books/7/held/redeem|{"paid":10000}
-200 OK|{"paid":10000,"redeemed":"2024-01-31"}
-2024-01-31|0|operator|POST /books/8|{"capacity":1,"key":"22222222-2222-2222-2222-222222222222","name":"High Street"}
-200 OK|{"book":8}
-2024-01-31|0|broker/44444444|POST /books/8/import|row,c1,c2,c3,c4,c5,c6,c7,c8,c9,c10,c11,c12,c13,c14|B,2,1,2,,,,,,,,,,,|T,1,0,0,0,,,,,,,,,,|P,1,A1,Gold ring,fixed,10000,2024-01-31,,no,1,no,2024-02-01,open,,|S,1,1,2024-01-31,opening,00000000-0000-0000-0000-000000000003,,,,,,,,,|S,1,2,2024-02-01,sworn,00000000-0000-0000-0000-000000000005,,,,,,,,,|K,1,2024-02-10,3,asked,,,,,,,,,,|P,2,A2,Clock,fixed,10000,2024-01-31,,no,1,no,2024-08-01,sold,2024-08-01,9000|S,2,1,2024-01-31,opening,00000000-0000-0000-0000-000000000004,,,,,,,,,|
-200 OK|{"imported":2}
-"#;
-
-// What shows the books: the text of each, and the ring to whoever has its receipts.
-const SHOWN: [&str; 3] = [
-    "2024-01-31|0|broker|GET /books/7/export|",
-    "2024-01-31|0|broker|GET /books/8/export|",
-    "2024-01-31|0|1-1+1-2|GET /books/7/held|",
-];
 
 // What a store holds: its counts, and what shows its books.
 #[derive(Drop)]
@@ -62,9 +33,8 @@ fn texts_of<K: Keep>(
     service: &mut Service<K>,
 ) -> Result<Vec<Answer>, Fail> {
     let mut texts = Vec::new(alloc);
-    for line in SHOWN {
-        let (stamp, asked) = request(rt, alloc, line)?;
-        texts.push(service.answer_one(&stamp, asked.as_slice()))?;
+    for asked in SHOWN {
+        texts.push(service.answer_one(&stamp(rt, 0), asked))?;
     }
     Ok(texts)
 }
@@ -85,7 +55,7 @@ fn contents(rt: &impl Abort, alloc: Global, turns: &[Turn]) -> Result<Vec<Conten
     for end in 0..=turns.len() {
         let mut service = service_of(rt, alloc, 100);
         for turn in &turns[..end] {
-            service.answer_one(&turn.stamp, turn.request.as_slice());
+            service.answer_one(&stamp(rt, turn.word), turn.request);
         }
         let texts = texts_of(rt, alloc, &mut service)?;
         let counts = check(&mut service.into_keep()).ok().ok_or("judged")?;
@@ -105,8 +75,8 @@ fn played<S: Alter + Drop>(
     let mut service = service_over(rt, alloc, keep);
     let mut answered = 0usize;
     for turn in turns {
-        let answer = service.answer_one(&turn.stamp, turn.request.as_slice());
-        if bytes_of(&answer) != turn.reply.as_slice() {
+        let answer = service.answer_one(&stamp(rt, turn.word), turn.request);
+        if bytes_of(&answer) != turn.reply {
             break;
         }
         answered = answered.saturating_add(1);
@@ -149,8 +119,7 @@ fn content_of(rt: &impl Abort, alloc: Global, disks: Disks) -> Result<Content, F
 
 // Stops one file at that call, and then ever so many calls later, until a run meets no stop. Tells how many runs there were.
 fn stops(rt: &impl Abort, alloc: Global, is_log: bool, first: u64, step: u64) -> Result<u32, Fail> {
-    let turns = turns_of(rt, alloc, LINES)?;
-    let contents = contents(rt, alloc, turns.as_slice())?;
+    let contents = contents(rt, alloc, &TURNS)?;
     let mut runs = 0u32;
     let mut calls = first;
     for _ in 0..1000u32 {
@@ -159,7 +128,7 @@ fn stops(rt: &impl Abort, alloc: Global, is_log: bool, first: u64, step: u64) ->
         } else {
             disks(alloc, NEVER, calls)
         };
-        let (answered, left) = stopped(rt, alloc, disks, turns.as_slice())?;
+        let (answered, left) = stopped(rt, alloc, disks, &TURNS)?;
         let found = content_of(rt, alloc, left)?;
         let stands = contents
             .iter()
@@ -168,7 +137,7 @@ fn stops(rt: &impl Abort, alloc: Global, is_log: bool, first: u64, step: u64) ->
             .any(|one| is_same(one, &found));
         assert!(rt; stands, "{answered} answered, {calls} calls");
         runs = runs.saturating_add(1);
-        if answered == turns.len() {
+        if answered == TURNS.len() {
             return Ok(runs);
         }
         calls = calls.saturating_add(step);
