@@ -45,11 +45,11 @@ pub record ShardsAnswerAsOne (F : Type 0) : Type 0 where
 
 -- a run of these requests, none of which is refused for want of memory or by the store
 abbrev pub taken : {F : Type 0} → List (Stamp × Request) → List (Event F)
-taken {F} asked = map (λ a. let event : Event F = record { stamp = a.0; mark = read_as (Ok a.1) } in event) asked
+taken {F = F} asked = map (λ a. let event : Event F = record { stamp = a.0; mark = read_as (Ok a.1) } in event) asked
 
 -- all requests on the book were settled
 abbrev pub AreAllSettled : Type 0 → ℕ → ℕ → Host → List (Stamp × Request) → Type 0
-AreAllSettled F b operator h asked = book_trace b h operator (taken {F} asked) ≡ on_book b asked
+AreAllSettled F b operator h asked = book_trace b h operator (taken {F = F} asked) ≡ on_book b asked
 
 -- So where requests are handed out by books, a settled reply is that of one host that was asked everything: whichever way
 -- the books are given out, where the book began alike and all its earlier requests were settled in both.
@@ -58,6 +58,6 @@ HandedOutAnswersAsOne F =
     (shard : ℕ → ℕ) (shards : ℕ → Host) (one : Host) (asked : List (Stamp × Request)) (operator k : ℕ) (stamp : Stamp) (request : Request)
     → shard request.book ≡ k → get (shards k).books request.book ≡ get one.books request.book
     → AreAllSettled F request.book operator (shards k) (handed shard k asked) → AreAllSettled F request.book operator one asked
-    → is_settled (reply_after (shards k) operator (taken {F} (handed shard k asked)) stamp request) ≡ true
-    → is_settled (reply_after one operator (taken {F} asked) stamp request) ≡ true
-    → reply_after (shards k) operator (taken {F} (handed shard k asked)) stamp request ≡ reply_after one operator (taken {F} asked) stamp request
+    → is_settled (reply_after (shards k) operator (taken {F = F} (handed shard k asked)) stamp request) ≡ true
+    → is_settled (reply_after one operator (taken {F = F} asked) stamp request) ≡ true
+    → reply_after (shards k) operator (taken {F = F} (handed shard k asked)) stamp request ≡ reply_after one operator (taken {F = F} asked) stamp request

@@ -1,6 +1,6 @@
 use Rattle.std.proofs.Common.{◌≡◌, ℕ, List, [], ◌∷◌, map, length, sum_by, refl, sym, ap, ◌∙◌, subst, arith}
 use Rattle.std.specs.Prelude.{if◌then◌else◌, Option, None, Some, nat_lt}
-use Rattle.std.specs.FinMap.{FinMap, empty, entries, entries-insert, find, get, insert, len-empty, len-entries, put}
+use Rattle.std.specs.FinMap.{FinMap, empty, entries, entries-insert, find, get, get-entries, insert, len-empty, len-entries, put}
 use Rattle.std.specs.Ordering.{nat_cmp}
 use Rattle.std.proofs.lemmas.Cmp.{nat_cmp_total}
 use Rattle.pawn_terms.specs.Calendar.{civil_after, days_of_years, days_of_months}
@@ -13,8 +13,8 @@ use Rattle.pawn_book.specs.declared.request.Request.{Request}
 use Rattle.pawn_book.specs.BookStep.{BookValue, Outcome, Refuses, Says, Makes, book_step, changed_book, out_of}
 use Rattle.pawn_book.specs.HostStep.{Host, book_rows, host_after, host_step, rows, with_book, within_limit}
 use Rattle.pawn_book.specs.Runs.{Said, Answered, run_replies}
-use Rattle.pawn_book.specs.Shards.{taken}
-use Rattle.pawn_book.specs.WorkedShards.{book_of, first_shard, one_host, second_shard, told}
+use Rattle.pawn_book.specs.Shards.{handed, taken}
+use Rattle.pawn_book.specs.WorkedShards.{a_ring, asked, book_of, first_shard, of_seven, one_host, second_shard, shard, told}
 use Rattle.pawn_book.proofs.worked.worked_shards.Goals as goal
 
 -- the books of a host as a list
@@ -25,8 +25,7 @@ abbrev found : Books → ℕ → Option BookValue
 found es b = find nat_cmp b es
 
 get_found : (m : FinMap nat_cmp BookValue) (b : ℕ) → get m b ≡ found (entries m) b
-unfolding get
-get_found m b = refl
+get_found m b = get-entries m b
 
 abbrev put_book : ℕ → Option BookValue → Books → Books
 put_book b None es = es
@@ -126,9 +125,9 @@ returns c = record {
     handed_first = refl;
     handed_second = refl;
     handed_third = refl;
-    together = told_listed one_host _ _ both;
-    first = told_listed (first_shard 1000) _ _ (only 7 (book_of 5));
-    second = told_listed second_shard _ _ (only 8 (book_of 6));
-    full = told_listed (first_shard 3) _ _ (only 7 (book_of 5));
+    together = told_listed one_host _ asked both;
+    first = told_listed (first_shard 1000) _ (handed shard 0 asked) (only 7 (book_of 5));
+    second = told_listed second_shard _ (handed shard 1 asked) (only 8 (book_of 6));
+    full = told_listed (first_shard 3) _ (handed shard 0 (of_seven 1 a_ring ∷ [])) (only 7 (book_of 5));
   };
 }
