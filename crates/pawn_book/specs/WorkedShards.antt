@@ -1,5 +1,5 @@
 -- Two books on two shards, worked out beside one host that has both.
-use Rattle.std.specs.Prelude.{◌≡◌, ℕ, true, false, List, [], ◌∷◌, ◌==◌, if◌then◌else◌, Option, Some, None, codes}
+use Rattle.std.specs.Prelude.{◌≡◌, ℕ, true, false, List, [], ◌∷◌, ◌==◌, if◌then◌else◌, None, codes}
 use Rattle.std.specs.FinMap.{empty, insert}
 use Rattle.pawn_debt.specs.declared.entry.Kind.TheVariants.{Fixed}
 use Rattle.pawn_debt.specs.Worked.{free}
