@@ -165,7 +165,7 @@ def no_room_beside_the_shape(it):
     chance, caller, came = random.Random(5), it.caller(), 0
     pieces = ["/", "//", "/../", "/./", "..", ".", "%2e", "%2f", "%37", "?", "#", ";", "\\", "0", "7", "8", "9", "/books/9", "+", "é", "%", "*", ":", "@", "x", "-"]
     for number in range(1_200):
-        target = chance.choice(["/books/7/held", "/books/8/pledges/1/draw", "/books/9/days/2024-01-31", "/books/8/export", "/books/7/held/repay"])
+        target = chance.choice(["/books/7/held", "/books/8/pledges/1/draw", "/books/9/days/2024-01-31", "/books/8/shelves", "/books/7/held/repay"])
         for _ in range(chance.choice([0, 1, 1, 1, 2, 3])):
             at = chance.randrange(len(target) + 1)
             target = target[:at] + chance.choice(pieces) + target[at + chance.choice([0, 0, 1]):]
