@@ -16,10 +16,10 @@ import sys
 import tempfile
 import time
 
-from browser import PATHS, missing, provide, wait_for
+from browser import PATHS, answers, missing, provide, wait_for
 from described import IMPORT, OPERATIONS, chosen, compact
 from hosting import BOOKS, NAME, PACKAGES, Caller, Hosted, Recorder, long_book, proxys, put, read_reply, status, writers
-from service import BROKER, OPERATOR, PROGRAM, TOP, Failed, Server, expect, free_port, main, request, today
+from service import BROKER, OPERATOR, PROGRAM, TOP, Failed, Server, expect, free_port, main, read_all, request, today
 
 KEY = f"Pledge-Key: {BROKER}"
 SECRET = re.compile(r"[0-9a-f]{8}(?:-[0-9a-f]{4}){3}-[0-9a-f]{12}")
@@ -182,6 +182,55 @@ def no_room_beside_the_shape(it):
             caller = it.caller()
     print(f"        {len(TRICKS)} targets, and 1200 that were bent at random, of which {came} were handed on", flush=True)
     expect("some were handed on", came > 100, True)
+
+
+def each_target_by_caddy():
+    """The same of the Caddyfile, where Caddy is installed; and whether a request was handed on."""
+    if not shutil.which("caddy"):
+        not_tried("the Caddyfile", "caddy is not installed")
+        return
+    shards, port = [Recorder().start() for _ in range(3)], free_port()
+    lines = "".join(f"\t\t{book} 127.0.0.1:{shards[shard - 1].port}\n" for book, shard in BOOKS.items())
+    with tempfile.TemporaryDirectory() as room:
+        with open(os.path.join(TOP, "deploy/Caddyfile")) as it:
+            text = put(it.read(), ("{\n\tservers {", f"{{\n\tadmin off\n\tauto_https off\n\thttp_port {port}\n\tservers {{"), (f"\n{NAME} {{", f"\nhttp://:{port} {{"),
+                       ("\t\tdefault 127.0.0.1:8101\n", f"{lines}\t\t10 moving\n\t\tdefault 127.0.0.1:{shards[0].port}\n"), ("/opt/pawnd/web", os.path.join(TOP, "web")))
+        with open(os.path.join(room, "Caddyfile"), "w") as it:
+            it.write(text)
+        caddy = subprocess.Popen(["caddy", "run", "--config", os.path.join(room, "Caddyfile"), "--adapter", "caddyfile"], env={**os.environ, "HOME": room, "XDG_DATA_HOME": room, "XDG_CONFIG_HOME": room},
+                                 stdin=subprocess.DEVNULL, stdout=subprocess.DEVNULL, stderr=subprocess.DEVNULL)
+        try:
+            wait_for(lambda: answers(f"http://127.0.0.1:{port}/"), "caddy", 30)
+            landed = [target for target in TRICKS if comes_to_its_book(port, target, shards)]
+            expect("what was handed on", landed, [*TRICKS[:9], "/books/8/pledges/07"])
+            expect("a book that is moving", plainly(port, request("GET", "/books/10/held", "Host: x")).endswith(NOT_HANDED_ON % 503), True)
+            shards[1].way = "close"
+            expect("no reply", plainly(port, request("GET", "/books/8/held", "Host: x")).endswith(b'{"proxy":502,"handed_on":true}'), True)
+            shards[1].kill()
+            expect("a shard that is away", plainly(port, request("GET", "/books/8/held", "Host: x")).endswith(NOT_HANDED_ON % 502), True)
+        finally:
+            caddy.kill()
+            caddy.wait()
+            for shard in shards:
+                shard.kill()
+
+
+def plainly(port, sent):
+    """What comes back of these bytes without TLS, up to the end of the connection."""
+    with socket.create_connection(("127.0.0.1", port), timeout=20) as peer:
+        peer.sendall(sent.replace(b"\r\n\r\n", b"\r\nConnection: close\r\n\r\n", 1))
+        return read_all(peer)
+
+
+def comes_to_its_book(port, target, shards):
+    """Whether a target is handed on: then once, as it was, and to the shard of its book."""
+    before = [len(shard.seen) for shard in shards]
+    plainly(port, request("GET", target, f"Host: {NAME}"))
+    came = [(number, head.split(" ")[1]) for number, shard in enumerate(shards, 1) for head, _ in shard.seen[before[number - 1]:]]
+    book = READ.fullmatch(target)
+    if came:
+        expect(f"{target}", came, [(BOOKS.get(int(book[1]), 1) if book else None, target)])
+    return bool(came)
 
 
 # ---- heads, bodies, and what the proxy says by itself
@@ -516,7 +565,7 @@ def through_the_relay(far):
     expect("when it is there again", status(far.caller().ask("GET", "/books/9/held", fields[0])), 200)
 
 
-TESTS = (the_units_are_as_systemd_reads_them, the_life_of_a_pledge_over_tls, nothing_secret_is_noted, each_target_comes_to_its_book_or_nowhere, heads_and_bodies, what_the_program_says_of_them,
+TESTS = (the_units_are_as_systemd_reads_them, the_life_of_a_pledge_over_tls, nothing_secret_is_noted, each_target_comes_to_its_book_or_nowhere, each_target_by_caddy, heads_and_bodies, what_the_program_says_of_them,
          what_is_unknown_and_what_was_not_done, guesses_are_slowed_down, the_same_bytes_as_of_one_service, slow_peers_hold_nobody_up, a_hundred_in_flight_and_no_more, a_shard_is_killed_and_started,
          a_shard_on_another_machine)
 
