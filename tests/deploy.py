@@ -19,7 +19,7 @@ import time
 from browser import PATHS, answers, missing, provide, wait_for
 from described import IMPORT, OPERATIONS, chosen, compact
 from hosting import BOOKS, NAME, PACKAGES, Caller, Hosted, Recorder, long_book, proxys, put, read_reply, status, writers
-from service import BROKER, OPERATOR, PROGRAM, TOP, Failed, Server, expect, free_port, main, read_all, request, today
+from service import BROKER, OPERATOR, TOP, Failed, Server, expect, free_port, main, read_all, request, today
 
 KEY = f"Pledge-Key: {BROKER}"
 SECRET = re.compile(r"[0-9a-f]{8}(?:-[0-9a-f]{4}){3}-[0-9a-f]{12}")
@@ -30,23 +30,6 @@ READ = re.compile(r"/books/([1-9][0-9]{0,8})(/.*)?")
 
 def not_tried(what, why):
     print(f"not tried: {what}, since {why}", flush=True)
-
-
-# ---- what stands in the files
-
-def the_units_are_as_systemd_reads_them():
-    if not shutil.which("systemd-analyze"):
-        not_tried("the units by systemd-analyze verify", "systemd is not installed")
-        return
-    with tempfile.TemporaryDirectory() as room:
-        for name in os.listdir(os.path.join(TOP, "deploy/systemd")):
-            with open(os.path.join(TOP, "deploy/systemd", name)) as it:
-                text = it.read().replace("/opt/pawnd/pawnd", PROGRAM).replace("/opt/pawnd/deploy", os.path.join(TOP, "deploy"))
-            with open(os.path.join(room, name), "w") as it:
-                it.write(text)
-        units = ["pawnd@1.service", "pawnd.target", "pawnd-backup@1.service", "pawnd-backup@1.timer"]
-        ran = subprocess.run(["systemd-analyze", "verify", "--man=no", *(os.path.join(room, it) for it in units)], capture_output=True, text=True, timeout=60)
-        expect("systemd-analyze verify", (ran.returncode, ran.stdout, ran.stderr), (0, "", ""))
 
 
 # ---- a pledge's life, by curl
@@ -565,12 +548,12 @@ def through_the_relay(far):
     expect("when it is there again", status(far.caller().ask("GET", "/books/9/held", fields[0])), 200)
 
 
-TESTS = (the_units_are_as_systemd_reads_them, the_life_of_a_pledge_over_tls, nothing_secret_is_noted, each_target_comes_to_its_book_or_nowhere, each_target_by_caddy, heads_and_bodies, what_the_program_says_of_them,
+TESTS = (the_life_of_a_pledge_over_tls, nothing_secret_is_noted, each_target_comes_to_its_book_or_nowhere, each_target_by_caddy, heads_and_bodies, what_the_program_says_of_them,
          what_is_unknown_and_what_was_not_done, guesses_are_slowed_down, the_same_bytes_as_of_one_service, slow_peers_hold_nobody_up, a_hundred_in_flight_and_no_more, a_shard_is_killed_and_started,
          a_shard_on_another_machine)
 
 if __name__ == "__main__":
     if provide(PACKAGES):
-        not_tried("all but the units", f"there is no {' and no '.join(missing(PACKAGES))}")
-        main(the_units_are_as_systemd_reads_them)
+        not_tried("all of it", f"there is no {' and no '.join(missing(PACKAGES))}")
+        main()
     main(*(test for test in TESTS if not sys.argv[1:] or test.__name__ in sys.argv[1:]))

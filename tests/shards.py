@@ -13,7 +13,7 @@ import time
 
 from browser import missing, provide
 from hosting import PACKAGES, Hosted, long_book, open_pledge, proxys, run_shards, status, writers
-from service import BROKER, OPERATOR, Failed, Server, expect, main
+from service import BROKER, OPERATOR, Server, expect, main
 
 KEY = f"Pledge-Key: {BROKER}"
 
