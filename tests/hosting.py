@@ -12,7 +12,7 @@ import tempfile
 import threading
 import time
 
-from browser import PATHS, Once, answers, wait_for
+from browser import PATHS, Once, wait_for
 from service import BROKER, OPERATOR, PROGRAM, TOP, WAIT, Failed, expect, free_port, request, today
 
 NAME = "books.example.org"
@@ -239,7 +239,7 @@ class Hosted:
         words = ["nginx", "-c", os.path.join(self.conf, "nginx.conf"), "-e", os.path.join(self.room, "logs/error.log"), "-g", "daemon off;"]
         self.nginx = subprocess.Popen(words, env={**os.environ, "PATH": PATHS}, stdin=subprocess.DEVNULL, stdout=subprocess.DEVNULL, stderr=subprocess.PIPE, start_new_session=True)
         self.stack.callback(self.end)
-        wait_for(lambda: self.nginx.poll() is not None or answers(f"http://127.0.0.1:{self.plain}/.well-known/acme-challenge/x") or self.listens(), "nginx", 30)
+        wait_for(lambda: self.nginx.poll() is not None or self.listens(), "nginx", 30)
         if self.nginx.poll() is not None:
             raise Failed(f"nginx ended: {self.nginx.stderr.read().decode()[-600:]} {self.log('error')[-600:]}")
 

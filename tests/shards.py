@@ -13,7 +13,7 @@ import time
 
 from browser import missing, provide
 from hosting import PACKAGES, Hosted, long_book, open_pledge, proxys, run_shards, status, writers
-from service import BROKER, OPERATOR, Server, expect, main
+from service import BROKER, OPERATOR, Server, check, expect, main
 
 KEY = f"Pledge-Key: {BROKER}"
 
@@ -34,6 +34,10 @@ def stands_in(path, book):
     return {number: text.count(f"\nE,{number},") for number in range(1, text.count("\nP,") + 1)}, text
 
 
+def newest(kept):
+    return os.path.join(kept, sorted(os.listdir(kept))[-1])
+
+
 def copies_that_are_made_while_it_runs():
     """Each holds what was acknowledged before it was begun; and no request is refused meanwhile."""
     with Hosted() as it, tempfile.TemporaryDirectory() as kept:
@@ -44,46 +48,47 @@ def copies_that_are_made_while_it_runs():
                 before = {writer.number: writer.acknowledged for writer in running}
                 said = it.run_shards("backup", it.shards[0].path, kept, KEEP="3")
                 after = {writer.number: writer.sent for writer in running}
-                name = sorted(os.listdir(kept))[-1]
-                found, _ = stands_in(os.path.join(kept, name, "books.db"), 7)
-                expect(f"copy {number}: {before} {found} {after}", all(before[it] <= found[it] <= after[it] for it in before), True)
-                time.sleep(0.7)
-            expect("what the writers noticed", [(writer.not_done, writer.unknown) for writer in running], [(0, 0)] * 3)
+                found, _ = stands_in(os.path.join(newest(kept), "books.db"), 7)
+                expect(f"copy {number}: {before} {found} {after}", all(before[pledge] <= found[pledge] <= after[pledge] for pledge in before), True)
+            expect("what the writers noticed", [(writer.not_done, writer.unknown, writer.cut) for writer in running], [(0, 0, 0)] * 3)
         expect("how many copies stay", len(os.listdir(kept)), 3)
         longest = max(writer.longest for writer in running)
         print(f"        {sum(writer.acknowledged for writer in running)} repayments, the longest reply {longest * 1000:.0f} ms; {said.strip().split(': ')[1]}", flush=True)
-        put_back(it, kept, running)
+        what_was_copied_is_put_back(it.shards[0], kept)
 
 
-def put_back(it, kept, running):
-    """The last copy in the place of the store; a copy that was bent, and one beside an old log, are refused. Then a copy of the store as it is served not."""
-    shard, name = it.shards[0], sorted(os.listdir(kept))[-1]
-    copy = os.path.join(kept, name)
-    expect("a store that is served", "stop its service first" in it.run_shards("restore", copy, shard.path, wanted=1), True)
-    now = shard.export(7)
+def what_was_copied_is_put_back(shard, kept):
+    """The last copy that was made while it ran, and then one of the store when it was stopped; each is served as it was."""
+    early = newest(kept)
+    expect("a store that is served", "stop its service first" in run_shards("restore", early, shard.path, wanted=1), True)
+    whole = shard.export(7)
     shard.kill()
-    time.sleep(1)
-    it.run_shards("backup", shard.path, kept)
-    last = os.path.join(kept, sorted(os.listdir(kept))[-1])
-    it.run_shards("restore", copy, shard.path)
-    shard.start()
-    expect("the copy is served", shard.export(7), stands_in(os.path.join(copy, "books.db"), 7)[1])
-    shard.kill()
-    time.sleep(1)
-    said = it.run_shards("backup", shard.path, kept, wanted=1) if now != stands_in(os.path.join(copy, "books.db"), 7)[1] else "held more"
-    expect("a copy that holds less than the one before", "held more" in said, True)
-    it.run_shards("restore", last, shard.path)
-    shard.start()
-    expect("what was stopped, copied and put back", shard.export(7), now)
-    old = os.path.join(os.path.dirname(shard.path), next(it for it in os.listdir(os.path.dirname(shard.path)) if it.startswith("before-")))
-    expect("what stood there before is kept, for its owner alone", (os.stat(old).st_mode & 0o077, len(os.listdir(old)) > 0), (0, True))
-    with open(os.path.join(copy, "books.db"), "r+b") as file:
+    run_shards("backup", shard.path, kept)
+    late = newest(kept)
+    a_lost_log_is_found(shard, kept)
+    for copy, text in ((early, stands_in(os.path.join(early, "books.db"), 7)[1]), (late, whole)):
+        run_shards("restore", copy, shard.path)
+        shard.start()
+        expect(f"{copy} is served", shard.export(7), text)
+        shard.kill()
+    folder = os.path.dirname(shard.path)
+    before = [os.path.join(folder, name) for name in os.listdir(folder) if name.startswith("before-")]
+    expect("what stood there is kept, for its owner alone", [(os.stat(it).st_mode & 0o077, "books.db" in os.listdir(it)) for it in before], [(0, True)] * 2)
+    with open(os.path.join(early, "books.db"), "r+b") as file:
         file.seek(4096)
         file.write(b"x")
-    shard.kill()
-    expect("a copy that was bent", "is not as it was" in it.run_shards("restore", copy, shard.path, wanted=1), True)
+    expect("a copy that was bent", "is not as it was" in run_shards("restore", early, shard.path, wanted=1), True)
     shard.start()
-    expect("the store after that", shard.export(7), now)
+    expect("the store after that", shard.export(7), whole)
+
+
+def a_lost_log_is_found(shard, kept):
+    """A database without its log passes a check and lacks what came last; the next copy tells that it holds less than the one before."""
+    with tempfile.TemporaryDirectory() as room:
+        alone = os.path.join(room, "books.db")
+        shutil.copyfile(shard.path, alone)
+        expect("it passes a check", check(alone)[0], 0)
+        expect("and holds less", "held more" in run_shards("backup", alone, kept, wanted=1), True)
 
 
 @contextlib.contextmanager
