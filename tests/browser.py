@@ -23,19 +23,19 @@ WIDTHS = (390, 1280)
 PATIENCE = 10
 
 
-def missing():
-    return [name for name in PACKAGES if shutil.which(name, path=PATHS) is None]
+def missing(packages=PACKAGES):
+    return [name for name in packages if shutil.which(name, path=PATHS) is None]
 
 
-def provide():
+def provide(packages=PACKAGES):
     """Installs the packages of what is missing, if this is root on a Debian; gives what is missing then."""
-    if missing() and os.geteuid() == 0 and shutil.which("apt-get"):
+    if missing(packages) and os.geteuid() == 0 and shutil.which("apt-get"):
         # The run level keeps the package of nginx from starting a server of its own.
         quiet = {**os.environ, "DEBIAN_FRONTEND": "noninteractive", "RUNLEVEL": "1"}
-        for words in (["update"], ["install", "-y", "--no-install-recommends", *(PACKAGES[name] for name in missing())]):
+        for words in (["update"], ["install", "-y", "--no-install-recommends", *(packages[name] for name in missing(packages))]):
             with contextlib.suppress(subprocess.SubprocessError):
                 subprocess.run(["apt-get", *words], env=quiet, stdin=subprocess.DEVNULL, stdout=subprocess.DEVNULL, stderr=subprocess.DEVNULL, timeout=300)
-    return missing()
+    return missing(packages)
 
 
 class Relay:

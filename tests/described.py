@@ -1,5 +1,6 @@
 """The description of the service, and a run of the program in which each reply is held against it."""
 import contextlib
+import datetime
 import json
 import os
 import re
@@ -190,3 +191,16 @@ class Run:
         if wanted is not None:
             expect(f"{name} of {target} on {day} with {body[:80]}", (code, compact(said)[:100] if code != wanted else ""), (wanted, ""))
         return said
+
+
+def chosen(chance, seqs, day):
+    """A request at random: its operation, its body, and the number of the pledge."""
+    number = chance.randint(1, 12)
+    near = day + datetime.timedelta(chance.randint(-3, 40))
+    bodies = {"draw": {"pence": chance.randint(1, 9000), "seq": seqs[number]}, "repay": {"pence": chance.randint(1, 4000), "seq": seqs[number]}, "hold": None, "release": None,
+              "declareLost": {"paper": chance.choice(["sworn", "written"])}, "decideBooking": {"yes": chance.random() < 0.7}, "sell": {"net": chance.randint(0, 20000)},
+              "extend": {"until": str(day + datetime.timedelta(chance.randint(0, 300)))}, "showPledge": None, "showDay": None, "showHeld": None,
+              "repayHeld": {"pence": chance.randint(1, 4000), "seq": seqs[number]}, "askBooking": {"day": str(near), "window": chance.randint(0, 16)}, "cancelBooking": None,
+              "redeem": {"paid": chance.randint(1, 9999)}}
+    name = chance.choice(list(bodies))
+    return name, bodies[name], number, near

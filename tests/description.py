@@ -11,7 +11,7 @@ import shutil
 import subprocess
 import tempfile
 
-from described import DAY, DESCRIPTION, CODES, NOBODY, OPERATIONS, PATH, VALIDATORS, Run, compact, resolved
+from described import DAY, DESCRIPTION, CODES, NOBODY, OPERATIONS, PATH, VALIDATORS, Run, chosen, compact, resolved
 from service import BROKER, TOP, Failed, expect, main, opened
 
 STRANGER = [["Pledge-Key", "99999999-9999-9999-9999-999999999999"]]
@@ -344,19 +344,6 @@ def each_refusal_is_met():
     counts_at_their_limits()
     a_store_without_room(account)
     a_store_with_a_bent_row(account)
-
-
-def chosen(chance, seqs, day):
-    """A request at random: its operation, its body, and the number of the pledge."""
-    number = chance.randint(1, 12)
-    near = day + datetime.timedelta(chance.randint(-3, 40))
-    bodies = {"draw": {"pence": chance.randint(1, 9000), "seq": seqs[number]}, "repay": {"pence": chance.randint(1, 4000), "seq": seqs[number]}, "hold": None, "release": None,
-              "declareLost": {"paper": chance.choice(["sworn", "written"])}, "decideBooking": {"yes": chance.random() < 0.7}, "sell": {"net": chance.randint(0, 20000)},
-              "extend": {"until": str(day + datetime.timedelta(chance.randint(0, 300)))}, "showPledge": None, "showDay": None, "showHeld": None,
-              "repayHeld": {"pence": chance.randint(1, 4000), "seq": seqs[number]}, "askBooking": {"day": str(near), "window": chance.randint(0, 16)}, "cancelBooking": None,
-              "redeem": {"paid": chance.randint(1, 9999)}}
-    name = chance.choice(list(bodies))
-    return name, bodies[name], number, near
 
 
 def two_thousand_requests_at_random():

@@ -1,6 +1,6 @@
 #!/usr/bin/env python3
-"""The documents against the sources: each path that one names is there, each clause of docs/PROVED.md stands in the contract of the call that it is named for, each definition that is quoted stands in
-the file that it is quoted from, and the README is short.
+"""The documents: each path that one names is there, each link leads to a file and to a heading of it, each definition that the glossary names stands in the file that it names, each clause of docs/PROVED.md
+in the contract of its call, each definition that is quoted in the file that it is quoted from, and the README is short.
 """
 import glob
 import os
@@ -8,71 +8,107 @@ import re
 
 from service import TOP, Failed, expect, main
 
-DOCUMENTS = ["README.md", "CHANGELOG.md", "CONTRIBUTING.md", "docs/*.md", "web/README.md", "examples/README.md", "deploy/*.md"]
+DOCUMENTS = sorted(os.path.relpath(path, TOP) for pattern in ("*.md", "docs/*.md", "web/*.md", "examples/*.md") for path in glob.glob(os.path.join(TOP, pattern)))
 README_WORDS = 900
-# Folders in which a path that a document names may begin.
-ROOTS = ["", "docs", "crates", "crates/*/src", "crates/*", "examples", "web", "deploy", "tests", "tools"]
-# What a run makes, and what stands for any name.
-MADE = re.compile(r"^(build|dist|data|out)(/|$)|^/|[<>*{}$ ]|NAME|PATH|VERSION|DATA|^\.\.")
-ENDINGS = (".md", ".antt", ".rt", ".py", ".sh", ".json", ".txt", ".edit", ".conf", ".html", ".js", ".css", ".c", ".service", ".timer", ".target")
+CRATES = sorted(os.listdir(os.path.join(TOP, "crates")))
+ENDS = "md|rt|antt|py|sh|json|yaml|conf|map|edit|html|js|css|txt|svg|service|target|timer|sysusers|toml"
+# What looks like a path, within backticks or after a prompt: words with slashes between them, or a name with an end that files here have.
+WITH_SLASHES = re.compile(r"[\w.@*-]+(?:/[\w.@*-]+)+/?")
+WITH_AN_END = re.compile(rf"[\w@*-]+(?:\.[\w@*-]+)*\.(?:{ENDS})")
+# What is made by a command, or stands elsewhere, or is no path: media types, and names that stand for any.
+NOT_HERE = re.compile(r"(application|text|x)/|.*\b(NAME|VERSION|BACKUP|ROOM|COPY|PATH|FOLDER|N)\b|(build|dist|data|out)/|before-|copy\.json$|settings\.example$")
 
 
-def documents():
-    for pattern in DOCUMENTS:
-        for path in sorted(glob.glob(os.path.join(TOP, pattern))):
-            with open(path, encoding="utf-8") as it:
-                yield os.path.relpath(path, TOP), it.read()
+def read(path):
+    with open(os.path.join(TOP, path), encoding="utf-8") as it:
+        return it.read()
 
 
-def is_there(path, folder):
-    """Whether a path that a document of this folder names is there: a module of the specifications may be named without its ending."""
-    for root in [folder, *ROOTS]:
-        for ending in ("", ".antt", ".rt", ".py", ".md"):
-            if glob.glob(os.path.join(TOP, root, path + ending)):
-                return True
-    return False
+def sections(text):
+    """A document's prose by its headings, without blocks of code."""
+    prose = re.sub(r"^```.*?^```", "", text, flags=re.M | re.S)
+    prose = re.sub(r"^(?: {4,}|\t)(?! *[-*0-9]).*$", "", prose, flags=re.M)
+    return re.split(r"^#+ ", prose, flags=re.M)
 
 
-def links_lead_somewhere():
-    """Each link to a file."""
-    for name, text in documents():
-        for link in re.findall(r"\]\(([^)\s]+)\)", text):
-            path = link.split("#")[0]
-            if path and "://" not in path and not os.path.exists(os.path.join(TOP, os.path.dirname(name), path)):
-                raise Failed(f"{name}: {link} is not there")
+def named(section):
+    """The paths that a section names in backticks."""
+    spans = re.findall(r"`([^`\n]+)`", section)
+    return {span for span in spans if (WITH_SLASHES.fullmatch(span) or WITH_AN_END.fullmatch(span)) and not NOT_HERE.match(span)}
 
 
-def is_path(word):
-    """Whether a word in a document is the name of a file or a folder of the repository."""
-    if MADE.search(word) or "://" in word or "|" in word:
-        return False
-    first = word.split("/")[0]
-    return "/" in word and (word.endswith(ENDINGS) or word.endswith("/") or first in ("crates", "docs", "tests", "tools", "deploy", "specs", "src", "proofs") or first.startswith("pawn_"))
+def places(document, section, path):
+    """Where a path may stand: from the top, from the document's folder, in a folder of scripts, or in a crate that the section names (in any, where it names none)."""
+    yield path
+    yield os.path.join(os.path.dirname(document), path)
+    for inside in ("crates", "tests", "tools", "deploy", "deploy/nginx", "deploy/nginx/pawnd", "deploy/systemd", "docs", "web"):
+        yield os.path.join(inside, path)
+    of_section = [crate for crate in CRATES if re.search(rf"\b{crate}\b", section)]
+    for crate in of_section or CRATES:
+        yield os.path.join("crates", crate, path)
+        yield os.path.join("crates", crate, "src", path)
 
 
-def named_paths_are_there():
-    """Each path in code letters."""
-    for name, text in documents():
-        prose = re.sub(r"(?ms)^```.*?^```$|^    .*?$", "", text)
-        for word in re.findall(r"`([^`\n]+)`", prose):
-            if is_path(word) and not is_there(word.rstrip("/"), os.path.dirname(name)):
-                raise Failed(f"{name}: {word} is not there")
+def stands(document, section, path):
+    return any(glob.glob(os.path.join(TOP, place) + end) for place in places(document, section, path) for end in ("", ".antt", ".rt"))
+
+
+def each_path_is_there():
+    count = 0
+    for document in DOCUMENTS:
+        for section in sections(read(document)):
+            paths = named(section)
+            count += len(paths)
+            expect(f"what {document} names below {section.splitlines()[0] if section else ''!r} and is not there", sorted(path for path in paths if not stands(document, section, path)), [])
+    print(f"        {count} paths in {len(DOCUMENTS)} documents", flush=True)
+
+
+def anchors(text):
+    """The headings of a document, as links name them."""
+    return {re.sub(r"[^\w\s-]", "", heading.lower()).strip().replace(" ", "-") for heading in re.findall(r"^#+ (.*)$", text, re.M)}
+
+
+def each_link_leads_somewhere():
+    for document in DOCUMENTS:
+        for target in re.findall(r"\]\(([^)\s]+)\)", read(document)):
+            if re.match(r"[a-z]+:", target):
+                continue
+            path, _, anchor = target.partition("#")
+            place = os.path.normpath(os.path.join(os.path.dirname(document), path)) if path else document
+            if not os.path.exists(os.path.join(TOP, place)):
+                raise Failed(f"{document} links to {target}, which is not there")
+            if anchor and place.endswith(".md") and anchor not in anchors(read(place)):
+                raise Failed(f"{document} links to {target}, and {place} has no such heading")
+
+
+def each_installed_path_is_in_the_release():
+    """What docs/DEPLOYING.md copies from /opt/pawnd stands in the repository under the same path."""
+    for path in set(re.findall(r"/opt/pawnd/([\w./@*-]+)", read("docs/DEPLOYING.md"))) - {"pawnd"}:
+        expect(f"/opt/pawnd/{path}", bool(glob.glob(os.path.join(TOP, path.rstrip(".")))), True)
+
+
+def each_word_is_defined_where_the_glossary_says():
+    rows = re.findall(r"^\| ([^|]+) \|[^|]+\| `(\w+)` in `([\w/.]+)` \|$", read("docs/GLOSSARY.md"), re.M)
+    for word, name, path in rows:
+        text = read(os.path.join("crates", path))
+        form = rf"^\s*(?:pub )?(?:abbrev |record |data |fn |struct |enum |trait |type |opaque )*(?:pub )?(?:record |data |fn |struct |enum |trait )?{name}\b"
+        expect(f"{word}: {name} in {path}", bool(re.search(form, text, re.M)), True)
+    expect("its words", len(rows) > 50, True)
+    print(f"        {len(rows)} words", flush=True)
 
 
 def contracts_of(crate):
     """The clauses of each function and of each method of a crate, by their names."""
     found = {}
     for path in glob.glob(os.path.join(TOP, "crates", crate, "src/**/*.rt"), recursive=True):
-        with open(path, encoding="utf-8") as it:
-            name = None
-            for line in it:
-                called = re.match(r"\s*(?:pub )?(?:const )?fn (\w+)", line)
-                if called:
-                    name = called.group(1)
-                    found.setdefault(name, set())
-                clause = re.match(r"\s*(?:ensures|requires)\*? (\w+) ?\{", line)
-                if clause and name:
-                    found[name].add(clause.group(1))
+        called = None
+        for line in read(path).split("\n"):
+            begins = re.match(r"\s*(?:pub )?(?:const )?fn (\w+)", line)
+            if begins:
+                called = found.setdefault(begins[1], set())
+            clause = re.match(r"\s*(?:ensures|requires)\*? (\w+) ?\{", line)
+            if clause and called is not None:
+                called.add(clause[1])
     return found
 
 
@@ -80,44 +116,35 @@ def rows_of_calls(text):
     """The rows of the tables of calls: the crate, the calls and the clauses of each."""
     crate = None
     for line in text.split("\n"):
-        heading = re.match(r"## `(\w+)`$", line)
-        if heading:
-            crate = heading.group(1)
-        cells = [cell.strip() for cell in line.strip("|").split(" | ")]
+        heading = re.fullmatch(r"## `(\w+)`", line)
+        crate = heading[1] if heading else crate
+        cells = line.strip("|").split(" | ")
         if crate and line.startswith("| `") and len(cells) == 3:
             yield crate, re.findall(r"`([\w:]+)`", cells[0]), re.findall(r"`(\w+)`", cells[2])
 
 
-def clauses_are_there():
-    with open(os.path.join(TOP, "docs/PROVED.md"), encoding="utf-8") as it:
-        rows = list(rows_of_calls(it.read()))
-    expect("a table of calls", len(rows) > 50, True)
+def each_clause_stands_in_its_contract():
+    rows = list(rows_of_calls(read("docs/PROVED.md")))
+    contracts = {crate: contracts_of(crate) for crate in CRATES}
     for crate, calls, clauses in rows:
-        contracts = contracts_of(crate)
         for call in calls:
-            said = contracts.get(call.split("::")[-1])
-            if said is None:
-                raise Failed(f"docs/PROVED.md: {crate} has no {call}")
-            for clause in clauses:
-                if clause not in said:
-                    raise Failed(f"docs/PROVED.md: {call} of {crate} has no clause {clause}")
+            said = contracts[crate].get(call.split("::")[-1])
+            expect(f"{call} of {crate} stands in its sources", said is not None, True)
+            expect(f"clauses that docs/PROVED.md names of {call} of {crate} and are not there", sorted(set(clauses) - said), [])
+    expect("its rows", len(rows) > 50, True)
+    print(f"        {sum(len(calls) for _, calls, _ in rows)} calls", flush=True)
 
 
-def quotations_are_true():
-    """Each block of code that names a file stands in that file, line by line."""
-    quoted = 0
-    for name, text in documents():
-        for path, block in re.findall(r"(?ms)^```\w+ from (\S+)\n(.*?)^```$", text):
-            with open(os.path.join(TOP, path), encoding="utf-8") as it:
-                if block not in it.read():
-                    raise Failed(f"{name}: what is quoted from {path} does not stand there:\n{block}")
-            quoted += 1
-    expect("there are quotations", quoted > 5, True)
+def each_quotation_is_true():
+    quoted = [(document, path, block) for document in DOCUMENTS for path, block in re.findall(r"(?ms)^```\w+ from (\S+)\n(.*?)^```$", read(document))]
+    for document, path, block in quoted:
+        expect(f"what {document} quotes stands in {path}: {block}", block in read(path), True)
+    expect("how many there are", len(quoted) > 5, True)
 
 
 def the_readme_is_short():
-    with open(os.path.join(TOP, "README.md"), encoding="utf-8") as it:
-        expect(f"README.md has at most {README_WORDS} words", len(it.read().split()) <= README_WORDS, True)
+    expect(f"README.md has at most {README_WORDS} words", len(read("README.md").split()) <= README_WORDS, True)
 
 
-main(links_lead_somewhere, named_paths_are_there, clauses_are_there, quotations_are_true, the_readme_is_short)
+main(each_path_is_there, each_link_leads_somewhere, each_word_is_defined_where_the_glossary_says, each_installed_path_is_in_the_release, each_clause_stands_in_its_contract, each_quotation_is_true,
+     the_readme_is_short)

@@ -1,0 +1,275 @@
+#!/usr/bin/env python3
+"""`deploy/shards`, in front of which the real nginx stands: copies that are made while a shard is served and copies that are not, which are put back; one shard that becomes three,
+and a book that moves."""
+import contextlib
+import json
+import os
+import shutil
+import subprocess
+import sys
+import tempfile
+import threading
+import time
+
+from browser import missing, provide
+from hosting import PACKAGES, Hosted, long_book, open_pledge, proxys, run_shards, status, writers
+from service import BROKER, OPERATOR, Server, check, expect, main
+
+KEY = f"Pledge-Key: {BROKER}"
+
+
+def not_tried(what, why):
+    print(f"not tried: {what}, since {why}", flush=True)
+
+
+def stands_in(path, book):
+    """A copy, served from: how many entries each pledge of the book has."""
+    with tempfile.TemporaryDirectory() as room:
+        copy = os.path.join(room, "books.db")
+        for end in ("", "-wal"):
+            if os.path.exists(path + end):
+                shutil.copyfile(path + end, copy + end)
+        with Server(copy) as served:
+            _, text = served.session().broker("GET", f"/books/{book}/export")
+    return {number: text.count(f"\nE,{number},") for number in range(1, text.count("\nP,") + 1)}, text
+
+
+def newest(kept):
+    return os.path.join(kept, sorted(os.listdir(kept))[-1])
+
+
+def copies_that_are_made_while_it_runs():
+    """Each holds what was acknowledged before it was begun; and no request is refused meanwhile."""
+    with Hosted() as it, tempfile.TemporaryDirectory() as kept:
+        it.open_books(3)
+        with writers(it, books=(7,), each=3) as running:
+            for number in range(6):
+                time.sleep(0.3)
+                before = {writer.number: writer.acknowledged for writer in running}
+                said = it.run_shards("backup", it.shards[0].path, kept, KEEP="3")
+                after = {writer.number: writer.sent for writer in running}
+                found, _ = stands_in(os.path.join(newest(kept), "books.db"), 7)
+                expect(f"copy {number}: {before} {found} {after}", all(before[pledge] <= found[pledge] <= after[pledge] for pledge in before), True)
+            expect("what the writers noticed", [(writer.not_done, writer.unknown, writer.cut) for writer in running], [(0, 0, 0)] * 3)
+        expect("how many copies stay", len(os.listdir(kept)), 3)
+        longest = max(writer.longest for writer in running)
+        print(f"        {sum(writer.acknowledged for writer in running)} repayments, the longest reply {longest * 1000:.0f} ms; {said.strip().split(': ')[1]}", flush=True)
+        what_was_copied_is_put_back(it.shards[0], kept)
+
+
+def what_was_copied_is_put_back(shard, kept):
+    """The last copy that was made while it ran, and then one of the store when it was stopped; each is served as it was."""
+    early = newest(kept)
+    expect("a store that is served", "stop its service first" in run_shards("restore", early, shard.path, wanted=1), True)
+    whole = shard.export(7)
+    shard.kill()
+    run_shards("backup", shard.path, kept)
+    late = newest(kept)
+    a_lost_log_is_found(shard, kept)
+    for copy, text in ((early, stands_in(os.path.join(early, "books.db"), 7)[1]), (late, whole)):
+        run_shards("restore", copy, shard.path)
+        shard.start()
+        expect(f"{copy} is served", shard.export(7), text)
+        shard.kill()
+    folder = os.path.dirname(shard.path)
+    before = [os.path.join(folder, name) for name in os.listdir(folder) if name.startswith("before-")]
+    expect("what stood there is kept, for its owner alone", [(os.stat(it).st_mode & 0o077, "books.db" in os.listdir(it)) for it in before], [(0, True)] * 2)
+    with open(os.path.join(early, "books.db"), "r+b") as file:
+        file.seek(4096)
+        file.write(b"x")
+    expect("a copy that was bent", "is not as it was" in run_shards("restore", early, shard.path, wanted=1), True)
+    shard.start()
+    expect("the store after that", shard.export(7), whole)
+
+
+def a_lost_log_is_found(shard, kept):
+    """A database without its log passes a check and lacks what came last; the next copy tells that it holds less than the one before."""
+    with tempfile.TemporaryDirectory() as room:
+        alone = os.path.join(room, "books.db")
+        shutil.copyfile(shard.path, alone)
+        expect("it passes a check", check(alone)[0], 0)
+        expect("and holds less", "held more" in run_shards("backup", alone, kept, wanted=1), True)
+
+
+@contextlib.contextmanager
+def btrfs():
+    """A folder on a file system that makes snapshots."""
+    with tempfile.TemporaryDirectory() as room:
+        image, folder = os.path.join(room, "image"), os.path.join(room, "disk")
+        os.mkdir(folder)
+        with open(image, "wb") as it:
+            it.truncate(200 << 20)
+        subprocess.run(["mkfs.btrfs", "-q", image], check=True, capture_output=True, timeout=60)
+        subprocess.run(["mount", "-o", "loop", image, folder], check=True, capture_output=True, timeout=60)
+        try:
+            yield folder
+        finally:
+            subprocess.run(["umount", "-l", folder], check=True, capture_output=True, timeout=60)
+
+
+def a_snapshot_of_a_file_system():
+    """Both files at one moment, while they are written; the copy is made of the snapshot, which nobody serves."""
+    if provide({"mkfs.btrfs": "btrfs-progs"}) or os.geteuid():
+        not_tried("a snapshot of a file system", "there is no btrfs-progs, or this is not root")
+        return
+    try:
+        with btrfs() as disk, tempfile.TemporaryDirectory() as kept:
+            snapshot_of(disk, kept)
+    except subprocess.CalledProcessError as why:
+        not_tried("a snapshot of a file system", f"{why.cmd[0]} fails: {why.stderr.decode().strip()[:200]}")
+
+
+def snapshot_of(disk, kept):
+    books = os.path.join(disk, "books")
+    subprocess.run(["btrfs", "-q", "subvolume", "create", books], check=True, capture_output=True, timeout=60)
+    with Server(os.path.join(books, "books.db")) as served:
+        session = served.session()
+        session.open_book()
+        receipt = session.open_pledge(1)
+        ended, entered = threading.Event(), []
+
+        def repay():
+            while not ended.wait(0.002):
+                entered.append(session.bearer(receipt, "POST", "/books/7/held/repay", {"pence": 1, "seq": len(entered) + 1})[0])
+        thread = threading.Thread(target=repay, daemon=True)
+        thread.start()
+        found = []
+        for number in range(5):
+            time.sleep(0.2)
+            before = len(entered)
+            subprocess.run(["btrfs", "-q", "subvolume", "snapshot", "-r", books, f"{disk}/{number}"], check=True, capture_output=True, timeout=60)
+            found.append((before, number, len(entered) + 1))
+        ended.set()
+        thread.join()
+        expect("each repayment", set(entered), {200})
+    for before, number, after in found:
+        stands, _ = stands_in(f"{disk}/{number}/books.db", 7)
+        expect(f"snapshot {number}", before <= stands[1] <= after, True)
+    run_shards("backup", f"{disk}/4/books.db", kept)
+    expect("a copy of the last", stands_in(os.path.join(kept, os.listdir(kept)[0], "books.db"), 7)[0], stands)
+    print(f"        5 snapshots during {len(entered)} repayments", flush=True)
+
+
+# ---- one shard becomes three, and a book moves
+
+def mapped(hosted):
+    with open(os.path.join(hosted.conf, "pawnd/books.map")) as it:
+        return {int(book): shard for book, shard in (line.rstrip(";\n").split() for line in it if line[0].isdigit())}
+
+
+class Watcher(threading.Thread):
+    """Asks for a view again and again, at addresses of its own, and keeps how it was answered: a status, or what the proxy said in the service's place."""
+
+    def __init__(self, hosted, book, receipt):
+        super().__init__(daemon=True)
+        self.hosted, self.book, self.receipt, self.ended, self.told = hosted, book, receipt, threading.Event(), set()
+        self.start()
+
+    def run(self):
+        while not self.ended.wait(0.02):
+            caller = self.hosted.caller()
+            reply = caller.ask("GET", f"/books/{self.book}/held", f"Pledge-Receipt: {self.receipt}")
+            caller.close()
+            self.told.add(proxys(reply) or status(reply))
+
+    def end(self):
+        self.ended.set()
+        self.join(30)
+        return self.told
+
+
+def one_shard_becomes_three():
+    with Hosted(books={7: 1, 8: 1, 9: 1, 11: 1}) as it:
+        receipts = it.open_books(2)
+        first, *others = it.shards
+        texts = {book: first.export(book) for book in it.books}
+        for shard in others:
+            shard.kill()
+            shutil.rmtree(os.path.dirname(shard.path))
+        expect("a store that is served", "stop its service first" in it.run_shards("split", first.path, *(shard.path for shard in others), wanted=1), True)
+        watcher = Watcher(it, 8, receipts[8][0])
+        first.kill()
+        lines = it.run_shards("split", first.path, *(shard.path for shard in others))
+        for shard in others:
+            shard.start()
+        with open(os.path.join(it.conf, "pawnd/books.map"), "w") as file:
+            file.write(lines)
+        it.run_shards("reload")
+        first.start()
+        time.sleep(0.2)
+        expect("what a client saw meanwhile", watcher.end() <= {200, (502, False)}, True)
+        at = {book: int(shard[-1]) for book, shard in mapped(it).items()}
+        expect("every book has a shard, and every shard a book", (set(at), set(at.values())), (set(it.books), {1, 2, 3}))
+        for book in it.books:
+            expect(f"book {book}", it.shards[at[book] - 1].export(book), texts[book])
+            paid = it.caller().ask("POST", f"/books/{book}/held/repay", f"Pledge-Receipt: {receipts[book][0]}", body={"pence": 1, "seq": 1})
+            expect(f"a repayment in book {book}", status(paid), 200)
+            open_pledge(it.caller(), book, 3)
+            expect(f"where book {book} changed", [shard.export(book) != texts[book] for shard in it.shards], [number == at[book] for number in (1, 2, 3)])
+        first.kill()
+        expect("a second time", "is there already" in it.run_shards("split", first.path, others[0].path, wanted=1), True)
+
+
+def a_book_moves():
+    with Hosted() as it:
+        receipts = it.open_books(3)
+        caller, replaced = it.caller(), receipts[7][2]
+        receipts[7][2] = json.loads(caller.broker("POST", "/books/7/pledges/3/declare", {"paper": "sworn"}).body)["receipt"]
+        expect("an extension", status(caller.broker("POST", "/books/7/pledges/3/extend", {"until": "2028-01-01"})), 200)
+        with writers(it, books=(7, 8)) as running:
+            time.sleep(0.4)
+            watcher = Watcher(it, 7, receipts[7][2])
+            said = it.run_shards("move", 7, "shard3", it.shards[0].path)
+            time.sleep(0.4)
+        expect("what a client saw meanwhile", watcher.end(), {200, (503, False)})
+        print(f"        {said.split('. Its')[0].strip()}", flush=True)
+        expect("the map", mapped(it), {7: "shard3", 8: "shard2", 9: "shard3"})
+        for writer in running:
+            expect(f"what the writers of {writer.book} noticed", (writer.not_done > 0, writer.unknown), (writer.book == 7, 0))
+        text, twin = it.shards[2].export(7), it.shards[0].export(7)
+        expect("the entries", [text.count(f"\nE,{writer.number},") in (writer.acknowledged, writer.sent) for writer in running if writer.book == 7], [True, True])
+        expect("the twin has none since", twin.count("\nE,") < text.count("\nE,"), True)
+        views = [it.caller().ask("GET", "/books/7/held", f"Pledge-Receipt: {receipt}") for receipt in (*receipts[7], replaced)]
+        expect("its receipts", [status(view) for view in views], [200, 200, 200, 404])
+        again = it.caller("127.0.0.1").ask("POST", "/books/7", f"Pledge-Key: {OPERATOR}", body={"capacity": 2, "key": BROKER, "name": "High Street"})
+        expect("its key, name and capacity", again.body, b'{"book":7}')
+        it.shards[1].kill()
+        expect("a shard that is away", "refused" in it.run_shards("move", 7, "shard2", it.shards[2].path, wanted=1), True)
+        it.shards[1].start()
+        what_does_not_move(it, receipts)
+
+
+def what_does_not_move(it, receipts):
+    """A book stays where it is, and goes on there, where it can't be moved."""
+    for words, says in (((7, "shard1", it.shards[2].path), '"code":409'), ((7, "shard3", it.shards[2].path), "is at shard3 already"), ((7, "shard4", it.shards[2].path), "shards.conf has no shard4"),
+                        ((12, "shard2", it.shards[0].path), "has no book 12"), ((9, "shard1", "/nowhere"), "No such file")):
+        expect(f"{words[:2]}", says in it.run_shards("move", *words, wanted=1), True)
+        expect("where it is", mapped(it)[7], "shard3")
+        expect("it goes on", status(it.caller().ask("GET", "/books/7/held", f"Pledge-Receipt: {receipts[7][2]}")), 200)
+    made = os.path.join(it.room, "made.json")
+    with open(made, "w") as file:
+        json.dump({"capacity": 2, "key": BROKER, "name": "High Street"}, file)
+    it.run_shards("move", 9, "shard1", made)
+    expect("one whose JSON was kept", (mapped(it)[9], status(it.caller().ask("GET", "/books/9/held", f"Pledge-Receipt: {receipts[9][0]}"))), ("shard1", 200))
+    a_book_that_is_too_long(it)
+
+
+def a_book_that_is_too_long(it):
+    with open(os.path.join(it.conf, "pawnd/books.map"), "a") as file:
+        file.write("13 shard2;\n")
+    it.run_shards("reload")
+    it.caller("127.0.0.1").ask("POST", "/books/13", f"Pledge-Key: {OPERATOR}", body={"capacity": 2, "key": BROKER, "name": "Long Street"})
+    caller = it.caller()
+    told = json.loads(caller.ask("POST", "/books/13/import", KEY, "Import-Key: 44444444-4444-4444-4444-444444444444", body=long_book(1_040_000)).body)
+    for number in range(told["imported"] + 1, told["imported"] + 61):
+        open_pledge(caller, 13, number, article="x" * 80)
+    expect("a book that is longer than an import", "move the shard's files instead" in it.run_shards("move", 13, "shard1", it.shards[1].path, wanted=1), True)
+    expect("it stays", (mapped(it)[13], status(it.caller().broker("GET", "/books/13/pledges/1"))), ("shard2", 200))
+
+
+TESTS = (copies_that_are_made_while_it_runs, a_snapshot_of_a_file_system, one_shard_becomes_three, a_book_moves)
+
+if provide(PACKAGES):
+    not_tried("all of it", f"there is no {' and no '.join(missing(PACKAGES))}")
+    main()
+main(*(test for test in TESTS if not sys.argv[1:] or test.__name__ in sys.argv[1:]))
