@@ -14,7 +14,7 @@ use Rattle.pawn_host.proofs.HeadlineLemmas.{equal_book_traces_answer_alike}
 pub handed_splits : HandedSplits
 handed_splits shard k [] part stream rest passes none =
     subst (λ (p : List (Stamp × List ℕ)). Passes (concat (bytes_of p)) (bytes_of p) []) (sym none) refl
-handed_splits shard k (came ∷ all) part stream rest passes (inl (mine, more, is, hands)) =
+handed_splits shard k (came ∷ all) part stream rest passes (inl (mine, (more, is, hands))) =
     subst (λ (p : List (Stamp × List ℕ)). Passes (concat (bytes_of p)) (bytes_of p) []) (sym is)
     (concat (bytes_of more), refl, passes.2, handed_splits shard k all more passes.0 rest passes.3 hands)
 handed_splits shard k (came ∷ all) part stream rest passes (inr (other, hands)) =
@@ -34,21 +34,21 @@ next shard k x t all part i item mine same placed = record {
   twin = placed.twin;
   stands = placed.stands;
   same = placed.same;
-  before = inl (mine, inputs (take placed.place part), (λ j. same j ∷ inputs (take placed.place part)), placed.before);
+  before = inl (mine, (inputs (take placed.place part), (λ j. same j ∷ inputs (take placed.place part)), placed.before));
 }
 
 -- each request stands in what its shard was handed
 pub requests_are_placed : RequestsArePlaced
 requests_are_placed shard k [] part hands i item is mine = absurd_none is
-requests_are_placed shard k (x ∷ all) [] (inl (for, more, is, hands)) i item at mine = absurd cc
-requests_are_placed shard k (x ∷ all) (t ∷ part) (inl (for, more, is, hands)) zero item at mine = record {
+requests_are_placed shard k (x ∷ all) [] (inl (for, (more, is, hands))) i item at mine = absurd cc
+requests_are_placed shard k (x ∷ all) (t ∷ part) (inl (for, (more, is, hands))) zero item at mine = record {
   place = zero;
   twin = t;
   stands = refl;
   same = cons_head (input_of t) (input_of x) (inputs part) more is ∙ ap input_of (some_is x item at);
   before = refl;
 }
-requests_are_placed shard k (x ∷ all) (t ∷ part) (inl (for, more, is, hands)) (suc i) item at mine =
+requests_are_placed shard k (x ∷ all) (t ∷ part) (inl (for, (more, is, hands))) (suc i) item at mine =
     let rest : Hands shard k (inputs all) (inputs part) = subst (Hands shard k (inputs all)) (sym (cons_tail (input_of t) (input_of x) (inputs part) more is)) hands in
     next shard k x t all part i item for (cons_head (input_of t) (input_of x) (inputs part) more is)
     (requests_are_placed shard k all part rest i item at mine)
