@@ -1,6 +1,6 @@
 -- The law of shards in bytes.
-use Rattle.std.proofs.Common.{◌≡◌, ℕ, zero, suc, List, [], ◌∷◌, map, take, Some, ◌⊎◌, inl, inr, refl, ◌∙◌, ap, sym, subst}
-use Rattle.std.specs.Prelude.{Ok, slice_get}
+use Rattle.std.proofs.Common.{◌≡◌, ℕ, zero, suc, List, [], ◌∷◌, take, inl, inr, refl, ◌∙◌, ap, sym, subst}
+use Rattle.std.specs.Prelude.{Ok}
 use Rattle.std.specs.List.{concat}
 use Rattle.pawn_pledge.specs.declared.command.Stamp.{Stamp}
 use Rattle.pawn_wire.specs.Request.{Reads}
