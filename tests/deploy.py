@@ -76,7 +76,7 @@ def what_is_not_for_everybody(it):
 
 
 def no_secret_in_a_log(it, receipts):
-    secrets = [BROKER, OPERATOR, IMPORT, *receipts, *(receipt.split("-", 1)[1] for receipt in receipts)]
+    secrets = [BROKER, OPERATOR, IMPORT, *receipts, *(receipt.split("-", 1)[-1] for receipt in receipts)]
     for name in ("access", "error"):
         text = it.log(name)
         expect(f"secrets in {name}.log", [secret for secret in secrets if secret in text or secret.replace("-", "%2d") in text], [])
@@ -428,7 +428,7 @@ def slow_peers_hold_nobody_up():
         shard.start()
         made = shard.session.ask("POST", "/books/8", {"capacity": 2, "key": BROKER, "name": "High Street"}, Pledge_Key=OPERATOR)
         expect("a book with a long statement", made, (200, {"book": 8}))
-        rows = long_book(350_000)
+        rows = long_book(300_000)
         told = it.caller().ask("POST", "/books/8/import", KEY, f"Import-Key: {IMPORT}", body=rows)
         expect("its import", told.body, b'{"imported":1}')
         receipts[8] = open_pledge(it.caller(), 8, 2)
