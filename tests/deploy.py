@@ -457,7 +457,7 @@ def a_reader_that_reads_nothing():
     with Hosted(kind=Recorder) as it:
         it.shards[1].way = "at length"
         deaf = it.caller()
-        deaf.connection = deaf.connect(window=4096)
+        deaf.connection = deaf.connect(window=65536)
         deaf.connection.sendall(request("GET", "/books/8/export", f"Host: {NAME}", KEY))
         wait_for(lambda: it.shards[1].rid, "the shard is rid of its reply", 30)
         spools = [os.stat(os.path.join(folder, name)).st_mode & 0o077 for folder, _, names in os.walk(os.path.join(it.room, "replies")) for name in names]

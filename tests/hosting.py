@@ -20,7 +20,7 @@ NAME = "books.example.org"
 PACKAGES = {"nginx": "nginx-light", "openssl": "openssl", "curl": "curl"}
 BOOKS = {7: 1, 8: 2, 9: 3}
 # More than the system keeps of a connection.
-LENGTH = 64_000_000
+LENGTH = 24_000_000
 # Addresses of the loopback, of which each is a caller of its own.
 ADDRESSES = (f"127.{first}.{second}.{third}" for first in range(1, 200) for second in range(1, 250) for third in range(1, 250))
 
@@ -49,9 +49,10 @@ def read_reply(connection, to_head=False):
     line, *fields = head.decode("latin-1").split("\r\n")
     fields = {name.lower(): value for name, _, value in (field.partition(": ") for field in fields)}
     length = 0 if to_head else int(fields.get("content-length", -1))
-    while len(body) != length and (piece := connection.recv(65536)):
-        body += piece
-    return Reply(line, fields, body)
+    whole = bytearray(body)
+    while len(whole) != length and (piece := connection.recv(65536)):
+        whole += piece
+    return Reply(line, fields, bytes(whole))
 
 
 class Caller:
