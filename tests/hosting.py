@@ -19,6 +19,8 @@ NAME = "books.example.org"
 # What each program comes in, as a package of Debian.
 PACKAGES = {"nginx": "nginx-light", "openssl": "openssl", "curl": "curl"}
 BOOKS = {7: 1, 8: 2, 9: 3}
+# More than the system keeps of a connection.
+LENGTH = 24_000_000
 # Addresses of the loopback, of which each is a caller of its own.
 ADDRESSES = (f"127.{first}.{second}.{third}" for first in range(1, 200) for second in range(1, 250) for third in range(1, 250))
 
@@ -47,9 +49,10 @@ def read_reply(connection, to_head=False):
     line, *fields = head.decode("latin-1").split("\r\n")
     fields = {name.lower(): value for name, _, value in (field.partition(": ") for field in fields)}
     length = 0 if to_head else int(fields.get("content-length", -1))
-    while len(body) != length and (piece := connection.recv(65536)):
-        body += piece
-    return Reply(line, fields, body)
+    whole = bytearray(body)
+    while len(whole) != length and (piece := connection.recv(65536)):
+        whole += piece
+    return Reply(line, fields, bytes(whole))
 
 
 class Caller:
@@ -124,10 +127,10 @@ class Shard:
 
 
 class Recorder:
-    """In a shard's place: it keeps what it was sent, and answers as it is told: with what it got, not at all, or by closing the connection."""
+    """In a shard's place: it keeps what it was sent, and answers as it is told: shortly, at length, not at all, or by closing the connection."""
 
     def __init__(self, *_):
-        self.seen, self.way = [], "answer"
+        self.seen, self.way, self.rid = [], "answer", False
 
     def start(self, wait=True):
         self.listener = socket.create_server(("127.0.0.1", 0))
@@ -158,6 +161,9 @@ class Recorder:
             self.seen.append((head.decode("latin-1"), body))
             if self.way == "answer":
                 peer.sendall(b"HTTP/1.1 200 OK\r\nContent-Length: 2\r\nContent-Type: application/json\r\n\r\n{}")
+            elif self.way == "at length":
+                peer.sendall(b"HTTP/1.1 200 OK\r\nContent-Length: %d\r\nContent-Type: text/csv\r\n\r\n" % LENGTH + b"x" * LENGTH)
+                self.rid = True
             elif self.way == "reset":
                 peer.setsockopt(socket.SOL_SOCKET, socket.SO_LINGER, b"\1\0\0\0\0\0\0\0")
             elif self.way == "silence":
@@ -373,15 +379,15 @@ def writers(hosted, books=BOOKS, each=2):
 
 
 def long_book(size):
-    """The text of a book of at least so many bytes, whose pledges have 9,000 entries each and less on the last."""
+    """The text of a book of at least so many bytes, whose pledges have 9,900 entries each and less on the last."""
     day, rows = str(today()), []
 
     def row(*columns):
         rows.append(",".join([*map(str, columns), *[""] * (15 - len(columns))]) + "\n")
         return len(rows[-1])
-    length, number, seq = 0, 0, 9_000
+    length, number, seq = 0, 0, 9_900
     while length < size:
-        if seq == 9_000:
+        if seq == 9_900:
             number, seq = number + 1, 0
             length += row("P", number, f"A{number}", "Gold ring", "fixed", 1_000_000, day, "", "no", 1, "no", day, "open", "", "")
             length += row("S", number, 1, day, "opening", f"33333333-4444-4444-4444-{number:012}")

@@ -30,8 +30,28 @@ def stands_in(path, book):
             if os.path.exists(path + end):
                 shutil.copyfile(path + end, copy + end)
         with Server(copy) as served:
-            _, text = served.session().broker("GET", f"/books/{book}/export")
+            code, text = served.session().broker("GET", f"/books/{book}/export")
+            expect(f"the export of a copy of {path}", code, 200)
     return {number: text.count(f"\nE,{number},") for number in range(1, text.count("\nP,") + 1)}, text
+
+
+class Watch(threading.Thread):
+    """Looks again and again whether a process stands still."""
+
+    def __init__(self, pid):
+        super().__init__(daemon=True)
+        self.pid, self.ended, self.stood = pid, threading.Event(), 0
+        self.start()
+
+    def run(self):
+        while not self.ended.wait(0.0005):
+            with open(f"/proc/{self.pid}/stat") as it:
+                self.stood += it.read().rpartition(")")[2].split()[0] == "T"
+
+    def end(self):
+        self.ended.set()
+        self.join(10)
+        return self.stood
 
 
 def newest(kept):
@@ -46,7 +66,9 @@ def copies_that_are_made_while_it_runs():
             for number in range(6):
                 time.sleep(0.3)
                 before = {writer.number: writer.acknowledged for writer in running}
+                watch = Watch(it.shards[0].program.pid)
                 said = it.run_shards("backup", it.shards[0].path, kept, KEEP="3")
+                expect("the shard stood still meanwhile", watch.end() > 0, True)
                 after = {writer.number: writer.sent for writer in running}
                 found, _ = stands_in(os.path.join(newest(kept), "books.db"), 7)
                 expect(f"copy {number}: {before} {found} {after}", all(before[pledge] <= found[pledge] <= after[pledge] for pledge in before), True)
@@ -225,7 +247,7 @@ def a_book_moves():
         print(f"        {said.split('. Its')[0].strip()}", flush=True)
         expect("the map", mapped(it), {7: "shard3", 8: "shard2", 9: "shard3"})
         for writer in running:
-            expect(f"what the writers of {writer.book} noticed", (writer.not_done > 0, writer.unknown), (writer.book == 7, 0))
+            expect(f"what was unknown to the writers of {writer.book}, and not done for those of 8", (writer.unknown, writer.not_done if writer.book == 8 else 0), (0, 0))
         text, twin = it.shards[2].export(7), it.shards[0].export(7)
         expect("the entries", [text.count(f"\nE,{writer.number},") in (writer.acknowledged, writer.sent) for writer in running if writer.book == 7], [True, True])
         expect("the twin has none since", twin.count("\nE,") < text.count("\nE,"), True)
@@ -246,12 +268,30 @@ def what_does_not_move(it, receipts):
         expect(f"{words[:2]}", says in it.run_shards("move", *words, wanted=1), True)
         expect("where it is", mapped(it)[7], "shard3")
         expect("it goes on", status(it.caller().ask("GET", "/books/7/held", f"Pledge-Receipt: {receipts[7][2]}")), 200)
+    somebody_goes_round_the_proxy(it, receipts)
     made = os.path.join(it.room, "made.json")
     with open(made, "w") as file:
         json.dump({"capacity": 2, "key": BROKER, "name": "High Street"}, file)
     it.run_shards("move", 9, "shard1", made)
     expect("one whose JSON was kept", (mapped(it)[9], status(it.caller().ask("GET", "/books/9/held", f"Pledge-Receipt: {receipts[9][0]}"))), ("shard1", 200))
     a_book_that_is_too_long(it)
+
+
+def somebody_goes_round_the_proxy(it, receipts):
+    """What is entered behind the fence, at the shard itself, is found before the map is turned."""
+    shard, ended = it.shards[2], threading.Event()
+
+    def repay():
+        seq = 1
+        while not ended.wait(0.002):
+            seq += shard.session.bearer(receipts[7][2], "POST", "/books/7/held/repay", {"pence": 1, "seq": seq})[0] == 200
+    thread = threading.Thread(target=repay, daemon=True)
+    thread.start()
+    said = it.run_shards("move", 7, "shard2", shard.path, wanted=1)
+    ended.set()
+    thread.join(30)
+    expect("it is found", "without the proxy" in said, True)
+    expect("the book stays", (mapped(it)[7], status(it.caller().ask("GET", "/books/7/held", f"Pledge-Receipt: {receipts[7][2]}"))), ("shard3", 200))
 
 
 def a_book_that_is_too_long(it):
