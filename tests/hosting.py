@@ -19,6 +19,8 @@ NAME = "books.example.org"
 # What each program comes in, as a package of Debian.
 PACKAGES = {"nginx": "nginx-light", "openssl": "openssl", "curl": "curl"}
 BOOKS = {7: 1, 8: 2, 9: 3}
+# In the system's memory, where it has a place for files there and no other is asked for.
+MEMORY = "/dev/shm" if os.access("/dev/shm", os.W_OK) and "TMPDIR" not in os.environ else None
 # More than the system keeps of a connection.
 LENGTH = 24_000_000
 # Addresses of the loopback, of which each is a caller of its own.
@@ -197,7 +199,7 @@ class Hosted:
         self.stack.close()
 
     def begin(self):
-        self.room = self.stack.enter_context(tempfile.TemporaryDirectory(prefix="pawnd-hosted-", dir="/dev/shm" if os.access("/dev/shm", os.W_OK) else None))
+        self.room = self.stack.enter_context(tempfile.TemporaryDirectory(prefix="pawnd-hosted-", dir=MEMORY))
         os.chmod(self.room, 0o711)
         self.key = os.path.join(self.room, "operator.key")
         with open(self.key, "w") as it:

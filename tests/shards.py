@@ -62,17 +62,19 @@ def copies_that_are_made_while_it_runs():
     """Each holds what was acknowledged before it was begun; and no request is refused meanwhile."""
     with Hosted() as it, tempfile.TemporaryDirectory() as kept:
         it.open_books(3)
+        stood = 0
         with writers(it, books=(7,), each=3) as running:
             for number in range(6):
                 time.sleep(0.3)
                 before = {writer.number: writer.acknowledged for writer in running}
                 watch = Watch(it.shards[0].program.pid)
                 said = it.run_shards("backup", it.shards[0].path, kept, KEEP="3")
-                expect("the shard stood still meanwhile", watch.end() > 0, True)
+                stood += watch.end()
                 after = {writer.number: writer.sent for writer in running}
                 found, _ = stands_in(os.path.join(newest(kept), "books.db"), 7)
                 expect(f"copy {number}: {before} {found} {after}", all(before[pledge] <= found[pledge] <= after[pledge] for pledge in before), True)
             expect("what the writers noticed", [(writer.not_done, writer.unknown, writer.cut) for writer in running], [(0, 0, 0)] * 3)
+        expect("the shard was seen to stand still", stood > 0, True)
         expect("how many copies stay", len(os.listdir(kept)), 3)
         longest = max(writer.longest for writer in running)
         print(f"        {sum(writer.acknowledged for writer in running)} repayments, the longest reply {longest * 1000:.0f} ms; {said.strip().split(': ')[1]}", flush=True)
@@ -261,6 +263,27 @@ def a_book_moves():
         what_does_not_move(it, receipts)
 
 
+def a_slow_request_does_not_pass_the_fence():
+    """A request that had begun before its book was fenced, and whose body is slow, is ended with nginx's old worker, and is not handed on behind the fence."""
+    with Hosted() as it:
+        receipts = it.open_books(1)
+        it.edit("nginx.conf", ("worker_shutdown_timeout 60s", "worker_shutdown_timeout 2s"))
+        it.run_shards("reload")
+        slow, body = it.caller(), json.dumps({"pence": 1, "seq": 1})
+        slow.connection = slow.connect()
+        slow.connection.sendall(f"POST /books/7/held/repay HTTP/1.1\r\nHost: x\r\nPledge-Receipt: {receipts[7][0]}\r\nContent-Length: {len(body)}\r\n\r\n{body[:5]}".encode())
+        time.sleep(0.5)
+        begun = time.monotonic()
+        it.run_shards("move", 7, "shard3", it.shards[0].path)
+        expect("the move waited for it", time.monotonic() - begun >= 1.5, True)
+        with contextlib.suppress(OSError):
+            slow.connection.sendall(body[5:].encode())
+            slow.connection.recv(100)
+        slow.close()
+        time.sleep(0.2)
+        expect("entries at either shard", [it.shards[number].export(7).count("\nE,") for number in (0, 2)], [0, 0])
+
+
 def what_does_not_move(it, receipts):
     """A book stays where it is, and goes on there, where it can't be moved."""
     for words, says in (((7, "shard1", it.shards[2].path), '"code":409'), ((7, "shard3", it.shards[2].path), "is at shard3 already"), ((7, "shard4", it.shards[2].path), "shards.conf has no shard4"),
@@ -307,7 +330,7 @@ def a_book_that_is_too_long(it):
     expect("it stays", (mapped(it)[13], status(it.caller().broker("GET", "/books/13/pledges/1"))), ("shard2", 200))
 
 
-TESTS = (copies_that_are_made_while_it_runs, a_snapshot_of_a_file_system, one_shard_becomes_three, a_book_moves)
+TESTS = (copies_that_are_made_while_it_runs, a_snapshot_of_a_file_system, one_shard_becomes_three, a_book_moves, a_slow_request_does_not_pass_the_fence)
 
 if provide(PACKAGES):
     not_tried("all of it", f"there is no {' and no '.join(missing(PACKAGES))}")
