@@ -170,7 +170,10 @@ def snapshot_of(disk, kept):
         stands, _ = stands_in(f"{disk}/{number}/books.db", 7)
         expect(f"snapshot {number}", before <= stands[1] <= after, True)
     run_shards("backup", f"{disk}/4/books.db", kept)
-    expect("a copy of the last", stands_in(os.path.join(kept, os.listdir(kept)[0], "books.db"), 7)[0], stands)
+    with tempfile.TemporaryDirectory() as room:
+        path = os.path.join(room, "books.db")
+        run_shards("restore", newest(kept), path)
+        expect("the last, put where no store was", stands_in(path, 7)[0], stands)
     print(f"        5 snapshots during {len(entered)} repayments", flush=True)
 
 
