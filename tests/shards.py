@@ -5,6 +5,7 @@ import contextlib
 import json
 import os
 import shutil
+import signal
 import subprocess
 import sys
 import tempfile
@@ -103,7 +104,9 @@ def what_was_copied_is_put_back(shard, kept):
         file.write(b"x")
     expect("a copy that was bent", "is not as it was" in run_shards("restore", early, shard.path, wanted=1), True)
     shard.start()
-    expect("the store after that", shard.export(7), whole)
+    os.kill(shard.program.pid, signal.SIGSTOP)
+    run_shards("thaw", shard.path)
+    expect("the store after that, and after a copy that was cut off", shard.export(7), whole)
 
 
 def a_lost_log_is_found(shard, kept):
