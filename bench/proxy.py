@@ -18,7 +18,8 @@ sys.path.insert(0, os.path.join(os.path.dirname(os.path.abspath(__file__)), "../
 if len(sys.argv) > 1:
     os.environ["PAWND"] = sys.argv[1]
 
-from hosting import NAME, Hosted  # noqa: E402
+from browser import missing  # noqa: E402
+from hosting import NAME, PACKAGES, Hosted  # noqa: E402
 from service import request  # noqa: E402
 
 SECONDS, RUNS = 1, int(sys.argv[2]) if len(sys.argv) > 2 else 5
@@ -130,6 +131,9 @@ def bench(shards):
 
 
 def main():
+    if missing(PACKAGES):
+        print(f"not measured, since there is no {' and no '.join(missing(PACKAGES))}")
+        return
     print(f"{os.cpu_count()} processors, load {os.getloadavg()[0]:.1f} before", flush=True)
     for shards in (1, 2, 3):
         bench(shards)

@@ -3,6 +3,7 @@ import collections
 import contextlib
 import json
 import os
+import random
 import shutil
 import signal
 import socket
@@ -13,7 +14,7 @@ import threading
 import time
 
 from browser import PATHS, Once, wait_for
-from service import BROKER, OPERATOR, PROGRAM, TOP, WAIT, Failed, expect, free_port, request, today
+from service import BROKER, OPERATOR, PROGRAM, TOP, WAIT, Failed, expect, request, today
 
 NAME = "books.example.org"
 # What each program comes in, as a package of Debian.
@@ -102,12 +103,21 @@ class Caller:
             self.connection = None
 
 
+def steady_port():
+    """A free port below those of which the system gives connections their own, so that none takes it while a shard is away."""
+    while True:
+        port = random.randrange(15_000, 32_000)
+        with contextlib.suppress(OSError), socket.socket() as it:
+            it.bind(("127.0.0.1", port))
+            return port
+
+
 class Shard:
     """`pawnd serve` over a file, on a port that stays the same."""
 
     def __init__(self, folder, key):
         os.makedirs(folder, mode=0o700, exist_ok=True)
-        self.path, self.key, self.port, self.program = os.path.join(folder, "books.db"), key, free_port(), None
+        self.path, self.key, self.port, self.program = os.path.join(folder, "books.db"), key, steady_port(), None
         self.session = Once(self.port)
 
     def start(self, wait=True):
@@ -135,7 +145,7 @@ class Recorder:
         self.seen, self.way, self.rid = [], "answer", False
 
     def start(self, wait=True):
-        self.listener = socket.create_server(("127.0.0.1", 0))
+        self.listener = socket.create_server(("127.0.0.1", steady_port()))
         self.port = self.listener.getsockname()[1]
         threading.Thread(target=self.accept, daemon=True).start()
         return self
@@ -209,7 +219,7 @@ class Hosted:
         for shard in self.shards:
             self.stack.callback(shard.kill)
             shard.start()
-        self.port, self.plain = free_port(), free_port()
+        self.port, self.plain = steady_port(), steady_port()
         self.configure()
         self.serve()
         return self

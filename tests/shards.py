@@ -5,6 +5,7 @@ import contextlib
 import json
 import os
 import shutil
+import signal
 import subprocess
 import sys
 import tempfile
@@ -103,7 +104,9 @@ def what_was_copied_is_put_back(shard, kept):
         file.write(b"x")
     expect("a copy that was bent", "is not as it was" in run_shards("restore", early, shard.path, wanted=1), True)
     shard.start()
-    expect("the store after that", shard.export(7), whole)
+    os.kill(shard.program.pid, signal.SIGSTOP)
+    run_shards("thaw", shard.path)
+    expect("the store after that, and after a copy that was cut off", shard.export(7), whole)
 
 
 def a_lost_log_is_found(shard, kept):
@@ -170,7 +173,10 @@ def snapshot_of(disk, kept):
         stands, _ = stands_in(f"{disk}/{number}/books.db", 7)
         expect(f"snapshot {number}", before <= stands[1] <= after, True)
     run_shards("backup", f"{disk}/4/books.db", kept)
-    expect("a copy of the last", stands_in(os.path.join(kept, os.listdir(kept)[0], "books.db"), 7)[0], stands)
+    with tempfile.TemporaryDirectory() as room:
+        path = os.path.join(room, "books.db")
+        run_shards("restore", newest(kept), path)
+        expect("the last, put where no store was", stands_in(path, 7)[0], stands)
     print(f"        5 snapshots during {len(entered)} repayments", flush=True)
 
 
