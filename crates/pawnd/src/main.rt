@@ -29,7 +29,7 @@ use std::env::Args;
 use std::net::TcpListener;
 use std::process::ExitCode;
 use stop::{Stop, tell};
-use store::{close, file_keep, is_memory, memory_keep};
+use store::{close, file_keep, folded_keep, is_memory, memory_keep};
 
 /// At most as many connections are served.
 const CONNECTIONS: u32 = 1_000_000;
@@ -113,7 +113,7 @@ fn serve(rt: &HostRuntime, mut args: Args) -> Result<(), Stop> {
     if is_memory(database.as_str()) {
         serve_over(rt, memory_keep(rt)?, settings)?.1
     } else {
-        let (keep, end) = serve_over(rt, file_keep(rt, database.as_str())?, settings)?;
+        let (keep, end) = serve_over(rt, folded_keep(rt, database.as_str())?, settings)?;
         close(keep, end)
     }
 }
