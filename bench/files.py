@@ -24,6 +24,7 @@ if NAMED:
     os.environ["PAWND"] = NAMED[0]
 
 from service import BROKER, OPERATOR, PROGRAM, SEED, free_port, request  # noqa: E402
+from stores import fill, receipt  # noqa: E402
 
 RUNS = 1 if SMALL else 5
 TURNS = 1 if SMALL else 15        # the runs of a stream beside bare inserts
@@ -32,34 +33,6 @@ WHOLE = 40 if SMALL else 10_000   # the pledges of a book alone
 LONG = 30 if SMALL else 999       # the entries of a long list
 ASKED = 6 if SMALL else 999       # the requests of a stream
 OK = b"HTTP/1.1 200 OK\r\n"
-TAKEN, ENDS = 19753, 19935        # 2024-01-31 and 2024-07-31, as days since 1970-01-01
-
-
-def word(book, number):
-    return book * 10_000_000 + number
-
-
-def receipt(book, number):
-    digits = f"{word(book, number):032x}"
-    return f"{number}-{digits[:8]}-{digits[8:12]}-{digits[12:16]}-{digits[16:20]}-{digits[20:]}"
-
-
-def fill(path, books, each, entries=0, long=0):
-    """A store of so many books of so many pledges, with so many entries each and so many more on the first book's first."""
-    subprocess.run([PROGRAM, "check", path], stdout=subprocess.DEVNULL, check=True)
-    base = sqlite3.connect(path)
-    key, names = bytes.fromhex(BROKER.replace("-", "")), [(book, number) for book in range(1, books + 1) for number in range(1, each + 1)]
-    counts = {(book, number): entries + (long if (book, number) == (1, 1) else 0) for book, number in names}
-    base.executemany("INSERT INTO books VALUES (?, ?, 'High Street', 2, 1, ?, NULL, NULL)", ((book, key, each) for book in range(1, books + 1)))
-    base.executemany("INSERT INTO terms VALUES (?, 1, 0, 0, 0)", ((book,) for book in range(1, books + 1)))
-    base.executemany("INSERT INTO pledges VALUES (?, ?, ?, 'Gold ring', 0, 10000, ?, NULL, 0, 1, ?, 0, ?, 0, NULL, NULL)",
-                     ((book, number, f"A{number}", TAKEN, ENDS, TAKEN) for book, number in names))
-    base.executemany("INSERT INTO entries VALUES (?, ?, ?, ?, 1, 1)", ((*name, seq, TAKEN) for name in names for seq in range(1, counts[name] + 1)))
-    base.executemany("INSERT INTO secrets VALUES (?, ?, 1, ?, 0, ?)", ((*name, TAKEN, word(*name).to_bytes(16, "big")) for name in names))
-    base.executemany("INSERT INTO totals VALUES (?, ?, ?, ?, 0)", ((*name, TAKEN, 10000 - counts[name]) for name in names))
-    base.execute("UPDATE meta SET value = ? WHERE name = 'rows'", (2 * books + 2 * len(names) + sum(counts.values()),))
-    base.commit()
-    base.close()
 
 
 def replies(ran):

@@ -6,7 +6,9 @@
    REFUSE_MODE    once: that call alone; on: that one and all after it; short: it moves half of its bytes; torn: it writes half of its bytes and is
                   refused; none: it moves nothing and is no error; slow: each counted call moves one byte
    REFUSE_ERROR   the number of the error, 5 where it is not said
-   REFUSE_COUNT   a file into which the number of counted calls is written at the end */
+   REFUSE_WHILE   a file: calls are counted only while it is there; always where it is not said
+   REFUSE_COUNT   a file into which the number of counted calls is written at the end
+   REFUSE_CLOCK   a file with the seconds since 1970 that the clock tells while the file is there */
 #define _GNU_SOURCE
 #include <dlfcn.h>
 #include <errno.h>
@@ -16,7 +18,9 @@
 #include <stdlib.h>
 #include <string.h>
 #include <sys/socket.h>
+#include <sys/syscall.h>
 #include <sys/types.h>
+#include <time.h>
 #include <unistd.h>
 
 extern void *__libc_malloc(size_t);
@@ -28,13 +32,14 @@ enum mode { ONCE, ON, SHORT, TORN, NONE, SLOW };
 static long count, at = -1;
 static enum mode mode;
 static int error = EIO, begun;
-static const char *calls = "";
+static const char *calls = "", *during;
 
 static void begin(void) {
     static const char *names[] = {"once", "on", "short", "torn", "none", "slow"};
     const char *it;
     begun = 1;
     if ((it = getenv("REFUSE_CALLS"))) calls = it;
+    during = getenv("REFUSE_WHILE");
     if ((it = getenv("REFUSE_AT"))) at = atol(it);
     if ((it = getenv("REFUSE_ERROR"))) error = atoi(it);
     if ((it = getenv("REFUSE_MODE")))
@@ -46,6 +51,7 @@ static void begin(void) {
 static int is_refused(char call) {
     if (!begun) begin();
     if (!strchr(calls, call)) return 0;
+    if (during && access(during, F_OK)) return 0;
     count++;
     if (mode == SLOW) return 1;
     return at > 0 && (mode == ON ? count >= at : count == at);
@@ -157,6 +163,22 @@ int accept4(int socket, struct sockaddr *peer, socklen_t *length, int flags) {
         return -1;
     }
     return real(socket, peer, length, flags);
+}
+
+int clock_gettime(clockid_t clock, struct timespec *time) {
+    const char *path = clock == CLOCK_REALTIME ? getenv("REFUSE_CLOCK") : 0;
+    FILE *told = path ? fopen(path, "r") : 0;
+    long seconds;
+    if (told) {
+        int found = fscanf(told, "%ld", &seconds);
+        fclose(told);
+        if (found == 1) {
+            time->tv_sec = seconds;
+            time->tv_nsec = 0;
+            return 0;
+        }
+    }
+    return (int)syscall(SYS_clock_gettime, clock, time);
 }
 
 __attribute__((destructor)) static void end(void) {

@@ -32,13 +32,15 @@ def library():
     return path
 
 
-def refusing(calls, at=None, mode="once", error=5, count=None):
-    """The environment of a program in which calls are refused."""
+def refusing(calls, at=None, mode="once", error=5, count=None, during=None):
+    """The environment of a program in which calls are refused, if a file is named only while that is there."""
     said = {"LD_PRELOAD": library(), "REFUSE_CALLS": calls, "REFUSE_MODE": mode, "REFUSE_ERROR": str(error)}
     if at is not None:
         said["REFUSE_AT"] = str(at)
     if count is not None:
         said["REFUSE_COUNT"] = count
+    if during is not None:
+        said["REFUSE_WHILE"] = during
     return {**os.environ, **said}
 
 

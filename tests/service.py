@@ -44,15 +44,15 @@ def free_port():
 
 
 class Server:
-    """`pawnd serve` of a store on a free port, killed when the block is left."""
+    """`pawnd serve` of a store on a free port, killed when the block is left. How it is started may be said as to Popen."""
 
-    def __init__(self, database=":memory:"):
-        self.database = database
+    def __init__(self, database=":memory:", **how):
+        self.database, self.how = database, how
 
     def __enter__(self):
         self.port = free_port()
         self.program = subprocess.Popen([PROGRAM, "serve", self.database, str(self.port), OPERATOR],
-                                        stdin=subprocess.DEVNULL, stdout=subprocess.PIPE, stderr=subprocess.PIPE)
+                                        **{"stdin": subprocess.DEVNULL, "stdout": subprocess.PIPE, "stderr": subprocess.PIPE, **self.how})
         expect("the first line, by a pipe", self.program.stdout.readline(), f"listening {self.port}\n".encode())
         return self
 

@@ -128,6 +128,7 @@ def two_pledges_live_through_every_request():
 
 def a_full_host_answers_what_adds_no_row():
     played("full", rows=12)
+    played("at_the_limit", rows=12)
 
 
 def a_day_is_shown():

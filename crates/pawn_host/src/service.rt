@@ -27,7 +27,8 @@ pub enum Answer {
 /// The service over a keeper of books, for the operator with a key.
 #[derive(Drop)]
 pub struct Service<K> {
-    keep: K,
+    /// The keeper, as the requests so far left it.
+    pub keep: K,
     pub(crate) operator: Secret,
     router: Router,
     pub(crate) alloc: Global,

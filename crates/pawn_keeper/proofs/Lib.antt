@@ -1,3 +1,4 @@
+pub mod Asking
 pub mod Handings
 pub mod KeeperReads
 pub mod Walks

@@ -1,5 +1,8 @@
 ghost use Rattle.std.specs.Prelude.{◌≡◌, IfErr, IfOk, IsTrue, false, unwrap_or};
 ghost use Rattle.std.proofs.Props.{props};
+ghost use Rattle.sqlite.specs.Held.{state};
+ghost use Rattle.pawn_book.specs.Keeping.{Reads};
+ghost use Rattle.pawn_tables.specs.Keeps.{keeping_by};
 
 mod places;
 mod sheets;
@@ -10,7 +13,7 @@ use pawn_book::{
 };
 use pawn_saving::save;
 use pawn_tables::{confirmed_in, head_in, next_in, pledge_of, ref_in, rows_in, terms_under};
-use sqlite::{Alter, Connection};
+use sqlite::{Alter, Connection, Error, ErrorCode};
 use std::alloc::Global;
 
 // How many numbers there are for pledges, and what comes of a list that has more than can be counted.
@@ -45,6 +48,19 @@ impl<S: Alter> TableKeep<S> {
         ensures rests { result.in_transaction ≡ false }
     {
         self.conn
+    }
+
+    /// Whether a fault has shut the store, so that it answers nothing more until it is opened anew. The store is asked by
+    /// a text that says nothing, which a store that is shut refuses as any other. What it keeps stays.
+    pub fn is_shut(&mut self) -> bool
+        ensures reads { Reads (keeping_by (λ k. state S.Store k.conn)) self.old self.new (λ h. Unit {0}) }
+        ensures shut { IsTrue result → (state S.Store self.new.conn).is_open ≡ false }
+    {
+        let _ = self.conn.is_autocommit();
+        match self.conn.prepare("") {
+            Err(Error::SqliteFailure(ErrorCode::Closed)) => true,
+            _ => false,
+        }
     }
 }
 

@@ -1,3 +1,3 @@
 mod HexLemmas
-mod ServingLemmas
+pub mod ServingLemmas
 mod StampLemmas

@@ -40,6 +40,10 @@ among_then (Some x ∷ one) two = ap (λ (l : List Stamp). x ∷ l) (among_then 
 
 -- ---- the items of one session more
 
+items_of-append : (one two : List (List Item)) → items_of (one ++ two) ≡ items_of one ++ items_of two
+items_of-append [] two = refl
+items_of-append (s ∷ one) two = ap (λ (l : List Item). s ++ l) (items_of-append one two) ∙ sym (append_assoc s (items_of one) (items_of two))
+
 items_of-snoc : (sessions : List (List Item)) (items : List Item) → items_of (sessions ++ items ∷ []) ≡ items_of sessions ++ items
 items_of-snoc [] items = append-nil items
 items_of-snoc (s ∷ sessions) items = ap (λ (l : List Item). s ++ l) (items_of-snoc sessions items) ∙ sym (append_assoc s (items_of sessions) items)
@@ -117,3 +121,42 @@ served_more steps from start answered given to kept kept' written result so stay
           ∙ sym (ap stamps_of items ∙ stamps_of-append past one.items);
       goes = subst (λ (l : List Item). GoesBy start l kept') (sym items) (goes-append start kept' past one.items goes);
     }
+
+-- further connections, which began where those before them left the service and the stamps
+pub served_then : {S : Type 0} (steps : S → Option Stamp → S → Type 0) (from mid to : S) (start next : Start) (answered more : ℕ) (kept kept' : Kept)
+    → (so : AreServed steps from mid start answered kept) → (start.Steady → next.Steady) → next.operator ≡ start.operator
+    → ((left : Host) → next.leaves left → (start_after start (items_of so.sessions)).leaves left) → next.host ≡ host_by start (items_of so.sessions)
+    → AreServed steps mid to next more kept' → AreServed steps from to start (answered + more) kept'
+served_then steps from mid to start next answered more kept kept' so stays same wider there then =
+    let past : List Item = items_of so.sessions in
+    let new : List Item = items_of then.sessions in
+    let items : items_of (so.sessions ++ then.sessions) ≡ past ++ new = items_of-append so.sessions then.sessions in
+    let goes : GoesBy (start_after start past) new kept' =
+    subst (λ (h : Host). GoesTo kept' (host_after h start.operator new) (IsLeftByRun h start.operator new (start_after start past).leaves)) there
+    (goes_from (start_after start past) next new kept' same wider then.goes) in
+    record {
+      sessions = so.sessions ++ then.sessions;
+      count = length-append so.sessions then.sessions ∙ (λ i. so.count i + then.count i);
+      each = All-append IsSession so.sessions then.sessions so.each then.each;
+      marked = subst (All (IsMarked start.Steady)) (sym items) (All-append (IsMarked start.Steady) past new so.marked (marked_all next.Steady start.Steady new stays then.marked));
+      given = so.given ++ then.given;
+      gives = gives_then steps from mid to so.given then.given so.gives then.gives;
+      taken = among_then so.given then.given ∙ ap (λ (l : List Stamp). l ++ stamps_among then.given) so.taken ∙ ap (λ (l : List Stamp). stamps_of past ++ l) then.taken
+          ∙ sym (ap stamps_of items ∙ stamps_of-append past new);
+      goes = subst (λ (l : List Item). GoesBy start l kept') (sym items) (goes-append start kept' past new goes);
+    }
+
+-- the keeper was asked since, and stands for no less, and a crash leaves no further host
+pub served_on : {S : Type 0} (steps : S → Option Stamp → S → Type 0) (from to : S) (start : Start) (answered : ℕ) (kept kept' : Kept)
+    → ((h : Host) → kept.stands h → kept'.stands h) → ((left : Host) → kept'.leaves left → kept.leaves left)
+    → AreServed steps from to start answered kept → AreServed steps from to start answered kept'
+served_on steps from to start answered kept kept' same fewer so = record {
+  sessions = so.sessions;
+  count = so.count;
+  each = so.each;
+  marked = so.marked;
+  given = so.given;
+  gives = so.gives;
+  taken = so.taken;
+  goes = record { stands_for = same _ so.goes.stands_for; sound = so.goes.sound; crash = λ left by. so.goes.crash left (fewer left by) };
+}

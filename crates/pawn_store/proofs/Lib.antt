@@ -1,3 +1,4 @@
 mod Empty
 mod OtherRowLemmas
 mod Runs
+mod Turns

@@ -11,5 +11,5 @@ pub use opening::{close_keep, keep_at_path, keep_in_memory};
 pub use pawn_host::{Answer, Service, Stamp};
 pub use pawn_keeper::TableKeep;
 pub use pawn_opening::OpenFault;
-pub use running::{answer_over_tables, run_over_tables, serve_over_tables};
+pub use running::{ServedTables, answer_over_tables, run_over_tables, serve_over_tables};
 pub use sqlite::{FileFrom, FileStore, Files, Leftover, MemStore, Start};

@@ -1,5 +1,5 @@
 //! Requests that are answered over the tables of a store: a list of them, a stream, or connections.
-ghost use Rattle.std.specs.Prelude.{◌≡◌, ◌+◌, false, IfOk, OnErr, map};
+ghost use Rattle.std.specs.Prelude.{◌≡◌, ◌+◌, ◌≤◌, false, IfOk, IsTrue, OnErr, map};
 ghost use Rattle.pawn_host.specs.Ends.{left_of, reads};
 ghost use Rattle.pawn_host.specs.Keeps.{answer_bytes, service_operator};
 ghost use Rattle.pawn_program.specs.Clock.{GivesDated};
@@ -50,18 +50,46 @@ pub fn answer_over_tables<S: Alter, R: Read, W: Write, I: Iterator<Item = Stamp>
     service.answer_all(reader, writer, stamps)
 }
 
+/// How connections were served over tables: how many, and whether a fault has shut the store since.
+#[derive(Clone, Copy, Debug, PartialEq, Eq)]
+pub struct ServedTables {
+    pub served: Served,
+    pub is_shut: bool,
+}
+
 /// Answers the requests of so many connections as `serve_on` does, over the tables of such a store. What is said of a run is so
-/// of the requests of all connections.
+/// of the requests of all connections. Behind each the store is asked whether a fault has shut it, and where one has no further
+/// connection is accepted: each request on it would be answered by a fault of the store.
 pub fn serve_over_tables<S: Alter, C: Clock>(
     listener: &TcpListener,
     service: &mut Service<TableKeep<S>>,
     stamps: &mut ClockStamps<'_, C>,
     connections: u32,
-) -> Served
+) -> ServedTables
     ensures served { OverTables (store_of S.Store service.old) (store_of S.Store service.new) (service_operator service.old)
-        (ServesConnections GivesDated stamps.old stamps.new result.answered) }
-    ensures counted { result.answered + result.failed ≡ connections }
+        (ServesConnections GivesDated stamps.old stamps.new result.served.answered) }
+    ensures most { result.served.answered + result.served.failed ≤ connections }
+    ensures counted { result.is_shut ≡ false → result.served.answered + result.served.failed ≡ connections }
+    ensures shut { IsTrue result.is_shut → (store_of S.Store service.new).is_open ≡ false }
     ensures operator { service_operator service.new ≡ service_operator service.old }
 {
-    serve_on(listener, service, stamps, connections)
+    let mut served = Served {
+        answered: 0,
+        failed: 0,
+    };
+    for turn in 0..connections {
+        let one = serve_on(listener, service, stamps, 1);
+        served.answered += one.answered;
+        served.failed += one.failed;
+        if service.keep.is_shut() {
+            return ServedTables {
+                served,
+                is_shut: true,
+            };
+        }
+    }
+    ServedTables {
+        served,
+        is_shut: false,
+    }
 }

@@ -11,7 +11,7 @@ pub enum Fault {
     Settings(SettingsFault),
     /// Memory was wanted, and not for the database.
     Memory,
-    /// The database is not opened, or not closed.
+    /// The database is not opened, or not closed, or a fault has shut it.
     Opening(OpenFault),
     /// A check of the database does not end with counts.
     Checking(CheckFault),

@@ -3,8 +3,12 @@
 //! what a store holds.
 #![tactic(auto)]
 
-ghost use Rattle.std.specs.Prelude.{◌≡◌, IfOk};
+ghost use Rattle.std.specs.Prelude.{◌≡◌, Err, IfOk, false};
 ghost use Rattle.pawn_host.specs.Keeps.{service_operator};
+ghost use Rattle.pawn_opening.specs.declared.fault.OpenFault.TheVariants.{Store};
+ghost use Rattle.pawn_store.specs.Running.{store_of};
+ghost use Rattle.pawnd.specs.declared.fault.Fault.TheVariants.{Opening};
+ghost use Rattle.pawnd.specs.declared.stop.Stop.TheVariants as Stops;
 
 mod counts;
 mod fault;
@@ -18,14 +22,14 @@ use moving::move_file;
 use pawn_check::check;
 use pawn_host::{Reading, Secret, Service, Writing};
 use pawn_program::{ClockStamps, ServeSettings, Settings, SettingsFault, Stamps, Words};
-use pawn_store::{TableKeep, answer_over_tables, serve_over_tables};
+use pawn_store::{OpenFault, TableKeep, answer_over_tables, serve_over_tables};
 use sqlite::Alter;
 use std::env;
 use std::env::Args;
 use std::net::TcpListener;
 use std::process::ExitCode;
 use stop::{Stop, tell};
-use store::{close, file_keep, is_memory, memory_keep};
+use store::{close, file_keep, folded_keep, is_memory, memory_keep};
 
 /// At most as many connections are served.
 const CONNECTIONS: u32 = 1_000_000;
@@ -109,7 +113,7 @@ fn serve(rt: &HostRuntime, mut args: Args) -> Result<(), Stop> {
     if is_memory(database.as_str()) {
         serve_over(rt, memory_keep(rt)?, settings)?.1
     } else {
-        let (keep, end) = serve_over(rt, file_keep(rt, database.as_str())?, settings)?;
+        let (keep, end) = serve_over(rt, folded_keep(rt, database.as_str())?, settings)?;
         close(keep, end)
     }
 }
@@ -141,7 +145,10 @@ fn listen<S: Alter + Drop>(
         return Err(Stop::Io);
     };
     let mut stamps = ClockStamps::new(rt, Words::new(rng));
-    serve_over_tables(&listener, service, &mut stamps, CONNECTIONS);
+    let served = serve_over_tables(&listener, service, &mut stamps, CONNECTIONS);
+    if served.is_shut {
+        return Err(Stop::Fault(Fault::Opening(OpenFault::Store)));
+    }
     Ok(())
 }
 

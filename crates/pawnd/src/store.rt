@@ -10,6 +10,7 @@ use pawn_store::{
     FileFrom, FileStore, MemStore, TableKeep, close_keep, keep_at_path, keep_in_memory,
 };
 use sqlite_disk::Wary;
+use std::fs;
 
 /// At most as many rows are kept in a store that is made here.
 const ROWS: u32 = 5_000_000;
@@ -40,6 +41,31 @@ pub fn file_keep(rt: &HostRuntime, path: &str) -> Result<FileKeep, Stop> {
         Ok(keep) => Ok(keep),
         Err((why, _)) => Err(Stop::Fault(Fault::Opening(why))),
     }
+}
+
+// The length of the file at a path, 0 where it can't be told.
+fn length_at(rt: &HostRuntime, path: &str) -> u64 {
+    match fs::metadata(rt, path) {
+        Ok(found) => found.len(),
+        Err(_) => 0,
+    }
+}
+
+// Whether more of a store stands in its log than in its file.
+fn hangs_on_its_log(rt: &HostRuntime, path: &str) -> bool {
+    match format!(in rt.alloc(); "{path}-wal") {
+        Ok(log) => length_at(rt, log.as_str()) > length_at(rt, path),
+        Err(_) => false,
+    }
+}
+
+/// A keeper over the file at a path, as `file_keep`, for a long run. Where more of the store stands in its log than in its file,
+/// the log is copied into the file first, so that less hangs on it. Where it can't be copied it stays as it is.
+pub fn folded_keep(rt: &HostRuntime, path: &str) -> Result<FileKeep, Stop> {
+    if hangs_on_its_log(rt, path) {
+        let _ = close(file_keep(rt, path)?, Ok(()));
+    }
+    file_keep(rt, path)
 }
 
 /// Closes the file of a keeper, with the last commit in the database file. The program ends as it did before, or else by
