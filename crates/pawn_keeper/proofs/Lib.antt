@@ -1,3 +1,5 @@
 pub mod Handings
 pub mod KeeperReads
+pub mod PageHandings
+pub mod SheetPages
 pub mod Walks

@@ -1,6 +1,7 @@
 ghost use Rattle.std.specs.Prelude.{◌≡◌, IfErr, IfOk, IsTrue, false, unwrap_or};
 ghost use Rattle.std.proofs.Props.{props};
 
+mod handing;
 mod places;
 mod sheets;
 
