@@ -19,7 +19,7 @@ use Rattle.sqlite_trees.proofs.ListLemmas.{map-map, filter-map, IsPermutation-fi
 use Rattle.sqlite.proofs.Callers.{reads_as}
 use Rattle.sqlite.specs.Schema.{Schema}
 use Rattle.one_table.specs.Listing.{Holds, columns_of}
-use Rattle.one_table.proofs.OneTable.{over_table, first_of_table, around, passes, shows_of, found, found_first, found_all}
+use Rattle.one_table.proofs.OneTable.{over_table, few_of_table, first_of_table, around, passes, shows_of, found, found_few, found_all}
 use Rattle.one_table.proofs.Texts.{Asks, by_column, by_column_down}
 
 -- the last of a list alone
@@ -63,7 +63,7 @@ falls {A} R (x ∷ xs) up =
 -- the rows that pass, and what is shown of them, by what SELECT * shows
 module _ (schema : Schema) (tree : ℕ) (is_tree : (db : Trees) → overlay db [] tree ≡ db tree) (table : Table) (tests shows : List Term) (params : Row) (test : Row → Bool) (cells : Row → Row)
     (passes_is : (r : Row) → passes tests params r ≡ test (columns_of table r)) (shows_is : (r : Row) → shows_of shows params r ≡ cells (columns_of table r)) where
-  by_columns : (rows : List Row) → map (shows_of shows params) (filter (passes tests params) rows) ≡ map cells (filter test (map (columns_of table) rows))
+  pub by_columns : (rows : List Row) → map (shows_of shows params) (filter (passes tests params) rows) ≡ map cells (filter test (map (columns_of table) rows))
   by_columns rows =
       (λ i. map (λ r. shows_is r i) (filter (passes tests params) rows))
       ∙ ap (map (λ r. cells (columns_of table r))) (filter_agree _ _ passes_is rows)
@@ -115,19 +115,25 @@ module _ (schema : Schema) (tree : ℕ) (is_tree : (db : Trees) → overlay db [
         subst (IsPermutation xs) (sym (ap (λ ts. map (λ r. output q (around params r)) (filter (passes tests params) ts)) (is_tree db) ∙ outputs q refl refl (db tree))) (IsPermutation-map output_of _ _ (IsPermutation-filter test _ _ holds.same)) in
         found_all tree tests shows (by_column place) (overlay db []) params rows a xs (IsPermutation-sym _ _ same) (rising q refl _ up) ∙ map-map (λ (o : Output). o.1) output_of _
 
-    -- the first of them alone
-    pub shown_first : (text : List ℕ) (names : List (List ℕ)) → Asks schema text (first_of_table tree tests shows (by_column place)) names
+    -- so many of the first of them
+    pub shown_few : (most : ℕ) (text : List ℕ) (names : List (List ℕ)) → Asks schema text (few_of_table most tree tests shows (by_column place)) names
         → (old new : State) (listed rows : List Row) → old.now.schema ≡ schema → Holds old.now.trees tree table listed → Rises (filter test listed) → Shown text params old new rows
-        → rows ≡ take 1 (map cells (filter test listed))
-    shown_first text names is old new listed rows has holds up shown =
+        → rows ≡ take most (map cells (filter test listed))
+    shown_few most text names is old new listed rows has holds up shown =
         let db = old.now.trees in
-        let q = first_of_table tree tests shows (by_column place) in
+        let q = few_of_table most tree tests shows (by_column place) in
         let read = reads_as text params old new schema has _ is.0 is.2 is.1 rows shown in
         let a : IsAnswer q (overlay db []) params rows = read.answer Null in
         let xs = map output_of (filter test listed) in
         let same : IsPermutation xs (map (λ r. output q (around params r)) (filter (passes tests params) (overlay db [] tree))) =
         subst (IsPermutation xs) (sym (ap (λ ts. map (λ r. output q (around params r)) (filter (passes tests params) ts)) (is_tree db) ∙ outputs q refl refl (db tree))) (IsPermutation-map output_of _ _ (IsPermutation-filter test _ _ holds.same)) in
-        found_first tree tests shows (by_column place) (overlay db []) params rows a xs (IsPermutation-sym _ _ same) (rising q refl _ up) ∙ ap (take 1) (map-map (λ (o : Output). o.1) output_of _)
+        found_few most tree tests shows (by_column place) (overlay db []) params rows a xs (IsPermutation-sym _ _ same) (rising q refl _ up) ∙ ap (take most) (map-map (λ (o : Output). o.1) output_of _)
+
+    -- the first of them alone
+    pub shown_first : (text : List ℕ) (names : List (List ℕ)) → Asks schema text (first_of_table tree tests shows (by_column place)) names
+        → (old new : State) (listed rows : List Row) → old.now.schema ≡ schema → Holds old.now.trees tree table listed → Rises (filter test listed) → Shown text params old new rows
+        → rows ≡ take 1 (map cells (filter test listed))
+    shown_first = shown_few 1
 
     falling : (q : Query) → q.order ≡ by_column_down place → (xs : List Row) → IsAscending (λ a b. value_cmp (key b) (key a) ≡ Less) xs → IsAscending (λ x y. output_cmp q x y ≡ Less) (map output_of xs)
     falling q order xs up =
@@ -149,5 +155,5 @@ module _ (schema : Schema) (tree : ℕ) (is_tree : (db : Trees) → overlay db [
         let moved = IsPermutation-map output_of _ _ (IsPermutation-trans _ _ _ (IsPermutation-sym _ _ (IsPermutation-reverse found')) (IsPermutation-filter test _ _ holds.same)) in
         let same : IsPermutation xs (map (λ r. output q (around params r)) (filter (passes tests params) (overlay db [] tree))) =
         subst (IsPermutation xs) (sym (ap (λ ts. map (λ r. output q (around params r)) (filter (passes tests params) ts)) (is_tree db) ∙ outputs q refl refl (db tree))) moved in
-        found_first tree tests shows (by_column_down place) (overlay db []) params rows a xs (IsPermutation-sym _ _ same) (falling q refl _ (falls (λ a b. value_cmp (key a) (key b) ≡ Less) found' up))
+        found_few 1 tree tests shows (by_column_down place) (overlay db []) params rows a xs (IsPermutation-sym _ _ same) (falling q refl _ (falls (λ a b. value_cmp (key a) (key b) ≡ Less) found' up))
         ∙ ap (take 1) (map-map (λ (o : Output). o.1) output_of (reverse found')) ∙ first_of_map cells (reverse found') ∙ ap (map cells) (first_reversed found')

@@ -1,4 +1,5 @@
 pub mod Alteration
+pub mod Distinct
 pub mod Found
 pub mod Insertion
 pub mod Lent

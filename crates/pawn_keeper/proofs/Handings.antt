@@ -8,7 +8,7 @@ use Rattle.pawn_book.specs.declared.visit.Flow.{Flow}
 use Rattle.pawn_book.specs.declared.visit.Flow.TheVariants.{Go, Stop}
 use Rattle.pawn_book.specs.HostStep.{Host}
 use Rattle.pawn_book.specs.Keeping.{Errs, Keeping, Reads}
-use Rattle.pawn_book.specs.Visits.{Front, Handed, IsShare, Visits, Whole, call_end}
+use Rattle.pawn_book.specs.Visits.{Front, Handed, HandsOver, IsShare, Visits, Whole, call_end}
 use Rattle.pawn_book.proofs.Reading.{reads_as, reads_then}
 use Rattle.pawn_book.specs.Sheet.{windows, windows_below}
 use Rattle.pawn_book.proofs.SheetLemmas.{handed-append, windows_begin, windows_more}
@@ -71,6 +71,15 @@ module _ {K V T : Type 0} (k : Keeping K) (step : V → T → Flow → V → Typ
     handed = inr (refl, refl, here);
     reads = reads_none k a _ (λ h. ([], refl, λ go whole. refl));
     errs = errs_ok k a a (Ok Stop) Stop refl;
+  }
+
+  -- items that are known
+  pub hands_over : {IsUnsound : Host → Type 0} (a : K) (v w : V) (xs : List T) (flow : Flow) → HandsOver step v xs flow w → Hands k IsUnsound step a a v w (Ok flow) (λ h. xs)
+  hands_over a v w xs flow here = record {
+    given = here.0;
+    handed = here.1;
+    reads = reads_none k a _ (λ h. here.2);
+    errs = errs_ok k a a (Ok flow) flow refl;
   }
 
   -- a read errs before anything is handed over
@@ -146,6 +155,38 @@ module _ {K V T : Type 0} (k : Keeping K) (step : V → T → Flow → V → Typ
         handed = before.1;
         reads = reads_then before.2 read (λ h are none. ([], ap (λ t. before.0 ++ t) (sym none) ∙ are, λ go whole. refl));
         errs = errs_ok k old new (Ok Go) Go refl;
+      }
+
+      -- a page is handed over, and more is left
+      pub goes_by : (xs : List T) (m : ℕ) → Reads k now new (λ h. past n h ≡ xs ++ past m h) → HandsOver step u xs Go w → HandedTo old new v w m
+      goes_by xs m read here =
+          let all : here.0 ≡ xs = sym (append-nil here.0) ∙ ap (λ t. here.0 ++ t) (sym (here.2.2 refl refl)) ∙ here.2.1 in (
+            before.0 ++ here.0,
+            handed-append step v u w before.0 here.0 Go before.1 here.1,
+            reads_then before.2 read (λ h are next. append_assoc before.0 here.0 (past m h) ∙ ap (λ t. before.0 ++ t) (ap (λ t. t ++ past m h) all ∙ sym next) ∙ are),
+          )
+
+      -- .. and it is the last
+      pub ends_by : {IsUnsound : Host → Type 0} (xs : List T) (m : ℕ) → Reads k now new (λ h. (past n h ≡ xs ++ past m h) × (past m h ≡ [])) → HandsOver step u xs Go w → Hands k IsUnsound step old new v w (Ok Go) listed
+      ends_by xs m read here =
+          let all : here.0 ≡ xs = sym (append-nil here.0) ∙ ap (λ t. here.0 ++ t) (sym (here.2.2 refl refl)) ∙ here.2.1 in record {
+            given = before.0 ++ here.0;
+            handed = handed-append step v u w before.0 here.0 Go before.1 here.1;
+            reads = reads_then before.2 read (λ h are left. ([], append-nil (before.0 ++ here.0) ∙ ap (λ t. before.0 ++ t) (all ∙ sym (append-nil xs) ∙ ap (λ t. xs ++ t) (sym left.1) ∙ sym left.0) ∙ are, λ go whole. refl));
+            errs = errs_ok k old new (Ok Go) Go refl;
+          }
+
+      -- .. and the visitor stops in it
+      pub stops_by : {IsUnsound : Host → Type 0} (xs : List T) (m : ℕ) → Reads k now new (λ h. past n h ≡ xs ++ past m h) → HandsOver step u xs Stop w → Hands k IsUnsound step old new v w (Ok Stop) listed
+      stops_by xs m read here = record {
+        given = before.0 ++ here.0;
+        handed = handed-append step v u w before.0 here.0 Stop before.1 here.1;
+        reads = reads_then before.2 read (λ h are next. (
+          here.2.0 ++ past m h,
+          append_assoc before.0 here.0 (here.2.0 ++ past m h) ∙ ap (λ t. before.0 ++ t) (sym (append_assoc here.0 here.2.0 (past m h)) ∙ ap (λ t. t ++ past m h) here.2.1 ∙ sym next) ∙ are,
+          λ go. cc go,
+        ));
+        errs = errs_ok k old new (Ok Stop) Stop refl;
       }
 
       -- the call errs

@@ -1,4 +1,6 @@
 pub mod Asking
 pub mod Handings
 pub mod KeeperReads
+pub mod PageHandings
+pub mod SheetPages
 pub mod Walks

@@ -4,6 +4,7 @@ ghost use Rattle.sqlite.specs.Held.{state};
 ghost use Rattle.pawn_book.specs.Keeping.{Reads};
 ghost use Rattle.pawn_tables.specs.Keeps.{keeping_by};
 
+mod handing;
 mod places;
 mod sheets;
 

@@ -25,7 +25,7 @@ use Rattle.pawn_tables.specs.Schema.{keep_schema, books, meta}
 use Rattle.pawn_tables.specs.Rows.{number, book_row, head_cells, at_most_one}
 use Rattle.pawn_tables.specs.Meta.{meta_row, meta_rows}
 use Rattle.pawn_tables.specs.Heads.{number_cells}
-use Rattle.pawn_tables.specs.At.{is_at, is_above, is_from, at_book}
+use Rattle.pawn_tables.specs.At.{is_at, is_above, is_below, is_from, at_book}
 use Rattle.pawn_tables.specs.StandsFor.{StandsFor, ListDebts}
 use Rattle.one_table.proofs.Found.{shown_listed, shown_first}
 use Rattle.pawn_tables.proofs.ReadTexts as text
@@ -44,6 +44,11 @@ one_test false = refl
 pub above : (m n : ℕ) → is_above (number m) (number n) ≡ nat_lt n m
 unfolding binary
 above m n = truth_of _ ∙ ap is_gt (value_cmp-Int (Rattle.std.specs.Prelude.pos m) (Rattle.std.specs.Prelude.pos n)) ∙ grind (arith, nat_tests)
+
+-- SQL's < on numbers
+pub lesser : (m n : ℕ) → is_below (number m) (number n) ≡ nat_lt m n
+unfolding binary
+lesser m n = truth_of _ ∙ ap is_lt (value_cmp-Int (Rattle.std.specs.Prelude.pos m) (Rattle.std.specs.Prelude.pos n)) ∙ grind (arith, nat_tests)
 
 -- SQL's >= on numbers
 pub at_least : (m n : ℕ) → is_from (number m) (number n) ≡ nat_le n m
@@ -152,7 +157,7 @@ next_shown old new h n rows st shown =
     let cells : Row → Row = λ v. column v 0 ∷ [] in
     let row : Entry → Row = λ e. book_row e.0 e.1 in
     let up = ascending-filter (λ a b. value_cmp (column a 0) (column b 0) ≡ Less) (is_later n) _ (books_rise row (λ e. refl) (entries h.books) (entries_sorted h.books)) in
-    shown_first keep_schema 0 (λ _. refl) t text.next_tests text.next_shows (number n ∷ []) (is_later n) cells (λ _. refl) (λ _. refl) 0 (λ v. column v 0) (λ _. refl) text.next_text _ text.next_is old new _ rows st.schema st.books up shown
+    shown_first keep_schema 0 (λ _. refl) t text.next_tests text.next_shows (number n ∷ []) (is_later n) cells (λ _. refl) (λ _. refl) 0 (λ v. column v 0) (λ _. refl) text.next_text _ text.next_is old new (book_rows_of h) rows st.schema st.books up shown
     ∙ ap (λ xs. take 1 (map cells xs)) (filter-map (is_later n) row (entries h.books) ∙ ap (map row) (filter_agree _ _ (λ e. one_test _ ∙ above e.0 n) (entries h.books)))
     ∙ ap (take 1) (map-map cells row _) ∙ first_one (λ (e : Entry). nat_lt n e.0) (λ (e : Entry). number_cells e.0) (entries h.books) ∙ mapped_one (λ (e : Entry). e.0) _
 

@@ -7,6 +7,7 @@ pub mod NextEntries
 pub mod NextLines
 pub mod OneEach
 pub mod OneHost
+pub mod PageLemmas
 pub mod PledgeReads
 pub mod Placed
 pub mod PlaceReads
@@ -17,4 +18,5 @@ pub mod Searches
 pub mod SoundBooks
 pub mod SoundReads
 pub mod Sought
+pub mod WindowReads
 pub mod Words

@@ -1,9 +1,10 @@
 -- What the queries for the parts of a day's sheet show, where the tables stand for a host.
-use Rattle.std.proofs.Common.{◌≡◌, ◌==◌, ℕ, ◌+◌, List, [], ◌∷◌, map, filter, filter_map, take, length, nat_lt, slice_get, Bool, true, false, cond, ◌&&◌, Option, Some, None, refl, sym, ap, subst, ◌∙◌, arith, option_map}
+use Rattle.std.proofs.Common.{◌≡◌, ◌==◌, ℕ, ◌+◌, List, [], ◌∷◌, map, filter, filter_map, take, length, nat_lt, Bool, true, false, cond, ◌&&◌, Option, Some, None, refl, sym, ap, subst, ◌∙◌, arith, option_map}
 use Rattle.std.specs.List.{list_all, cons_option}
 use Rattle.std.specs.FinMap.{get}
 use Rattle.std.proofs.lemmas.List.Recursion.{is_count_by}
 use Rattle.std.proofs.lemmas.List.{length-map}
+use Rattle.sqlite_trees.proofs.ListLemmas.{map-map}
 use Rattle.sqlite.specs.Order.{Row, column}
 use Rattle.sqlite.specs.Table.{Table}
 use Rattle.sqlite.specs.State.{State, Shown}
@@ -22,21 +23,23 @@ use Rattle.pawn_book.specs.HostStep.{Host}
 use Rattle.pawn_book.specs.Keeping.{pledges_of}
 use Rattle.pawn_book.specs.Sound.{IsUnsoundAt}
 use Rattle.pawn_tables.specs.Schema.{keep_schema, pledges, bookings}
-use Rattle.pawn_tables.specs.Rows.{number, number_of, under, pledge_cells, pledge_listed, booking_cells, booking_listed, state_number, closed_number, at_most_one}
+use Rattle.pawn_tables.specs.Rows.{number, number_of, under, pledge_cells, pledge_listed, booking_cells, booking_listed, state_number, closed_number}
 use Rattle.pawn_tables.specs.Heads.{number_cells}
-use Rattle.pawn_tables.specs.Lines.{IsNextLine, asked_cells, asked_line, confirmed_line, ends_line}
+use Rattle.pawn_tables.specs.Lines.{asked_cells, asked_line, confirmed_line, ends_line, item_of, line_cells}
+use Rattle.pawn_tables.specs.Pages.{most_rows}
 use Rattle.pawn_tables.specs.At.{is_at, is_above}
 use Rattle.pawn_tables.specs.StandsFor.{StandsFor, of_pledges}
 use Rattle.pawn_tables.specs.declared.line.Line.{Line}
-use Rattle.one_table.proofs.Found.{shown_first}
+use Rattle.one_table.proofs.Found.{shown_few}
 use Rattle.pawn_tables.proofs.ReadTexts as text
 use Rattle.pawn_tables.proofs.BookReads as books
 use Rattle.pawn_tables.proofs.BookReads.{one_test}
 use Rattle.pawn_tables.proofs.Sought.{equals}
 use Rattle.pawn_tables.proofs.Searches.{confirmed_state, together}
-use Rattle.pawn_tables.proofs.OneEach.{first_told, rise_each, shown_each, tell_of}
+use Rattle.pawn_tables.proofs.OneEach.{rise_each, shown_each, tell_of}
 use Rattle.pawn_tables.proofs.Counts.{count_of, shown_count}
 use Rattle.pawn_tables.proofs.NextLines.{items_are, told_above}
+use Rattle.pawn_tables.proofs.PageLemmas.{take_map}
 
 -- ---- what is told of a pledge
 
@@ -53,7 +56,7 @@ pick : {A : Type 0} (item : A → SheetItem) (c : Bool) (a : A) → cond c (Some
 pick item true a = refl
 pick item false a = refl
 
-all_kept : (ps : List PledgeValue) → filter (λ (p : PledgeValue). true) ps ≡ ps
+pub all_kept : (ps : List PledgeValue) → filter (λ (p : PledgeValue). true) ps ≡ ps
 all_kept [] = refl
 all_kept (p ∷ ps) = ap (λ l. p ∷ l) (all_kept ps)
 
@@ -91,25 +94,25 @@ asked_told day p = tell_of (is_asked_at day) (λ n (k : Booking). (n, k.window))
 abbrev pub ends_told : ℕ → PledgeValue → Option ℕ
 ends_told day p = tell_of (is_ending day) (λ n (x : PledgeValue). n) (number_of p) (Some p)
 
-pub confirmed_says : (day window : ℕ) (p : PledgeValue) → part_item (part_of.Confirmed window) day p ≡ option_map (λ n. (confirmed_line n).item) (confirmed_told day window p)
+pub confirmed_says : (day window : ℕ) (p : PledgeValue) → part_item (part_of.Confirmed window) day p ≡ option_map (λ n. item_of (part_of.Confirmed window) (confirmed_line window n)) (confirmed_told day window p)
 confirmed_says day window p = go p.standing.booking
   where
-    go : (o : Option Booking) → cond (is_confirmed_for day window o) (Some (Confirmed (number_of p))) None ≡ option_map (λ n. (confirmed_line n).item) (tell_of (is_confirmed_at day window) (λ n k. n) (number_of p) o)
+    go : (o : Option Booking) → cond (is_confirmed_for day window o) (Some (Confirmed (number_of p))) None ≡ option_map (λ n. item_of (part_of.Confirmed window) (confirmed_line window n)) (tell_of (is_confirmed_at day window) (λ n k. n) (number_of p) o)
     go None = refl
-    go (Some k) = pick (λ n. (confirmed_line n).item) (is_confirmed_at day window k) (number_of p)
+    go (Some k) = pick (λ n. item_of (part_of.Confirmed window) (confirmed_line window n)) (is_confirmed_at day window k) (number_of p)
 
-pub asked_says : (day : ℕ) (p : PledgeValue) → part_item part_of.Asked day p ≡ option_map (λ a. (asked_line a).item) (asked_told day p)
+pub asked_says : (day : ℕ) (p : PledgeValue) → part_item part_of.Asked day p ≡ option_map (λ a. item_of part_of.Asked (asked_line a)) (asked_told day p)
 asked_says day p = go p.standing.booking
   where
-    go : (o : Option Booking) → Rattle.pawn_book.specs.Sheet.asked_item (number_of p) day o ≡ option_map (λ a. (asked_line a).item) (tell_of (is_asked_at day) (λ n (k : Booking). (n, k.window)) (number_of p) o)
+    go : (o : Option Booking) → Rattle.pawn_book.specs.Sheet.asked_item (number_of p) day o ≡ option_map (λ a. item_of part_of.Asked (asked_line a)) (tell_of (is_asked_at day) (λ n (k : Booking). (n, k.window)) (number_of p) o)
     go None = refl
-    go (Some k) = pick (λ a. (asked_line a).item) (is_asked_at day k) (number_of p, k.window)
+    go (Some k) = pick (λ a. item_of part_of.Asked (asked_line a)) (is_asked_at day k) (number_of p, k.window)
 
-pub ends_says : (day : ℕ) (p : PledgeValue) → part_item part_of.Ends day p ≡ option_map (λ n. (ends_line n).item) (ends_told day p)
-ends_says day p = pick (λ n. (ends_line n).item) (is_ending day p) (number_of p)
+pub ends_says : (day : ℕ) (p : PledgeValue) → part_item part_of.Ends day p ≡ option_map (λ n. item_of part_of.Ends (ends_line n)) (ends_told day p)
+ends_says day p = pick (λ n. item_of part_of.Ends (ends_line n)) (is_ending day p) (number_of p)
 
 pub confirmed_numbers : (day window : ℕ) (p : PledgeValue) (a : ℕ) → confirmed_told day window p ≡ Some a → a ≡ number_of p
-confirmed_numbers day window p = numbers_of (is_confirmed_at day window) (λ n (k : Booking). n) confirmed_line (λ n k. refl) (number_of p) p.standing.booking
+confirmed_numbers day window p = numbers_of (is_confirmed_at day window) (λ n (k : Booking). n) (confirmed_line window) (λ n k. refl) (number_of p) p.standing.booking
 
 pub asked_numbers : (day : ℕ) (p : PledgeValue) (a : ℕ × ℕ) → asked_told day p ≡ Some a → a.0 ≡ number_of p
 asked_numbers day p = numbers_of (is_asked_at day) (λ n (k : Booking). (n, k.window)) asked_line (λ n k. refl) (number_of p) p.standing.booking
@@ -159,60 +162,67 @@ ends_shown b day old new h rows st shown =
     ∙ length-map _ _ ∙ ap (λ qs. length (filter_map (ends_told day) qs)) (all_kept ps)
     ∙ sym (ap length (items_are part_of.Ends day (ends_told day) ends_line (ends_says day) (ends_numbers day) ps) ∙ length-map _ _))
 
--- ---- the next
+-- ---- a page
 
-abbrev at_next_confirmed : ℕ → ℕ → ℕ → ℕ → Row → Bool
-at_next_confirmed b above day window v = list_all (λ (x : Bool). x) (is_at (column v 0) (number b) ∷ is_above (column v 1) (number above) ∷ is_at (column v 2) (number day) ∷ is_at (column v 3) (number window) ∷ is_at (column v 4) (number 1) ∷ [])
+-- the rows of the first lines
+lines_told : {A : Type 0} (part : Part) (line : A → Line) (as' : List A) → take most_rows (map (λ a. line_cells part (line a)) as') ≡ map (line_cells part) (take most_rows (map line as'))
+lines_told part line as' = ap (take most_rows) (sym (map-map (line_cells part) line as')) ∙ sym (take_map (line_cells part) most_rows (map line as'))
 
-next_confirmed_passes : (b above day window m n : ℕ) (k : Booking) → at_next_confirmed b above day window (under m n (booking_cells k)) ≡ ((m == b) && (nat_lt above n && is_confirmed_at day window k))
-next_confirmed_passes b above day window m n k =
+abbrev at_confirmed_page : ℕ → ℕ → ℕ → ℕ → Row → Bool
+at_confirmed_page b above day window v = list_all (λ (x : Bool). x) (is_at (column v 0) (number b) ∷ is_above (column v 1) (number above) ∷ is_at (column v 2) (number day) ∷ is_at (column v 3) (number window) ∷ is_at (column v 4) (number 1) ∷ [])
+
+confirmed_page_passes : (b above day window m n : ℕ) (k : Booking) → at_confirmed_page b above day window (under m n (booking_cells k)) ≡ ((m == b) && (nat_lt above n && is_confirmed_at day window k))
+confirmed_page_passes b above day window m n k =
     (λ i. equals m b i && (books.above n above i && (equals k.day day i && (equals k.window window i && (one_test (is_at (number (state_number k.state)) (number 1)) ∙ equals (state_number k.state) 1 ∙ confirmed_state k.state) i))))
     ∙ ap (λ c. (m == b) && (nat_lt above n && c)) (together (k.day == day) (k.window == window) (is_confirmed k.state))
 
-pub next_confirmed_shown : (b above day window : ℕ) (old new : State) (h : Host) (rows : List Row) → StandsFor old.now h → Shown text.next_confirmed_text (number b ∷ number above ∷ number day ∷ number window ∷ []) old new rows
-    → rows ≡ at_most_one number_cells (slice_get (told_above (confirmed_told day window) above (pledges_of (get h.books b))) 0)
-next_confirmed_shown b above day window old new h rows st shown =
+pub confirmed_page_shown : (b above day window : ℕ) (old new : State) (h : Host) (rows : List Row) → StandsFor old.now h → Shown text.confirmed_page_text (number b ∷ number above ∷ number day ∷ number window ∷ []) old new rows
+    → rows ≡ map (line_cells (part_of.Confirmed window)) (take most_rows (map (confirmed_line window) (told_above (confirmed_told day window) above (pledges_of (get h.books b)))))
+confirmed_page_shown b above day window old new h rows st shown =
     let t : Table = record bookings { tree = 11 } in
-    let test = at_next_confirmed b above day window in
+    let test = at_confirmed_page b above day window in
     let cells : Row → Row = λ v. column v 1 ∷ [] in
     let says = is_confirmed_at day window in
-    let passes = next_confirmed_passes b above day window in
-    shown_first keep_schema 11 (λ _. refl) t text.next_confirmed_tests text.confirmed_shows (number b ∷ number above ∷ number day ∷ number window ∷ []) test cells (λ _. refl) (λ _. refl) 2 (λ v. column v 1) (λ _. refl) text.next_confirmed_text _ text.next_confirmed_is old new (of_pledges h booking_listed) rows st.schema st.bookings
+    let passes = confirmed_page_passes b above day window in
+    shown_few keep_schema 11 (λ _. refl) t text.confirmed_page_tests text.confirmed_shows (number b ∷ number above ∷ number day ∷ number window ∷ []) test cells (λ _. refl) (λ _. refl) 2 (λ v. column v 1) (λ _. refl) most_rows text.confirmed_page_text _ text.confirmed_page_is old new (of_pledges h booking_listed) rows st.schema st.bookings
     (rise_each b booking_in booking_cells test (nat_lt above) says (λ n (k : Booking). n) cells number_cells passes (λ m n k. refl) h st.ordered) shown
-    ∙ ap (take 1) (shown_each b booking_in booking_cells test (nat_lt above) says (λ n (k : Booking). n) cells number_cells passes (λ m n k. refl) h) ∙ first_told number_cells _
+    ∙ ap (take most_rows) (shown_each b booking_in booking_cells test (nat_lt above) says (λ n (k : Booking). n) cells number_cells passes (λ m n k. refl) h)
+    ∙ lines_told (part_of.Confirmed window) (confirmed_line window) (told_above (confirmed_told day window) above (pledges_of (get h.books b)))
 
-abbrev at_next_asked : ℕ → ℕ → ℕ → Row → Bool
-at_next_asked b above day v = list_all (λ (x : Bool). x) (is_at (column v 0) (number b) ∷ is_above (column v 1) (number above) ∷ is_at (column v 2) (number day) ∷ is_at (column v 4) (number 0) ∷ [])
+abbrev at_asked_page : ℕ → ℕ → ℕ → Row → Bool
+at_asked_page b above day v = list_all (λ (x : Bool). x) (is_at (column v 0) (number b) ∷ is_above (column v 1) (number above) ∷ is_at (column v 2) (number day) ∷ is_at (column v 4) (number 0) ∷ [])
 
-next_asked_passes : (b above day m n : ℕ) (k : Booking) → at_next_asked b above day (under m n (booking_cells k)) ≡ ((m == b) && (nat_lt above n && is_asked_at day k))
-next_asked_passes b above day m n k = λ i. equals m b i && (books.above n above i && (equals k.day day i && (one_test (is_at (number (state_number k.state)) (number 0)) ∙ equals (state_number k.state) 0 ∙ asked_state k.state) i))
+asked_page_passes : (b above day m n : ℕ) (k : Booking) → at_asked_page b above day (under m n (booking_cells k)) ≡ ((m == b) && (nat_lt above n && is_asked_at day k))
+asked_page_passes b above day m n k = λ i. equals m b i && (books.above n above i && (equals k.day day i && (one_test (is_at (number (state_number k.state)) (number 0)) ∙ equals (state_number k.state) 0 ∙ asked_state k.state) i))
 
-pub next_asked_shown : (b above day : ℕ) (old new : State) (h : Host) (rows : List Row) → StandsFor old.now h → Shown text.next_asked_text (number b ∷ number above ∷ number day ∷ []) old new rows
-    → rows ≡ at_most_one asked_cells (slice_get (told_above (asked_told day) above (pledges_of (get h.books b))) 0)
-next_asked_shown b above day old new h rows st shown =
+pub asked_page_shown : (b above day : ℕ) (old new : State) (h : Host) (rows : List Row) → StandsFor old.now h → Shown text.asked_page_text (number b ∷ number above ∷ number day ∷ []) old new rows
+    → rows ≡ map (line_cells part_of.Asked) (take most_rows (map asked_line (told_above (asked_told day) above (pledges_of (get h.books b)))))
+asked_page_shown b above day old new h rows st shown =
     let t : Table = record bookings { tree = 11 } in
-    let test = at_next_asked b above day in
+    let test = at_asked_page b above day in
     let cells : Row → Row = λ v. column v 1 ∷ column v 3 ∷ [] in
     let says = is_asked_at day in
-    let passes = next_asked_passes b above day in
-    shown_first keep_schema 11 (λ _. refl) t text.next_asked_tests text.next_asked_shows (number b ∷ number above ∷ number day ∷ []) test cells (λ _. refl) (λ _. refl) 2 (λ v. column v 1) (λ _. refl) text.next_asked_text _ text.next_asked_is old new (of_pledges h booking_listed) rows st.schema st.bookings
+    let passes = asked_page_passes b above day in
+    shown_few keep_schema 11 (λ _. refl) t text.asked_page_tests text.asked_page_shows (number b ∷ number above ∷ number day ∷ []) test cells (λ _. refl) (λ _. refl) 2 (λ v. column v 1) (λ _. refl) most_rows text.asked_page_text _ text.asked_page_is old new (of_pledges h booking_listed) rows st.schema st.bookings
     (rise_each b booking_in booking_cells test (nat_lt above) says (λ n (k : Booking). (n, k.window)) cells asked_cells passes (λ m n k. refl) h st.ordered) shown
-    ∙ ap (take 1) (shown_each b booking_in booking_cells test (nat_lt above) says (λ n (k : Booking). (n, k.window)) cells asked_cells passes (λ m n k. refl) h) ∙ first_told asked_cells _
+    ∙ ap (take most_rows) (shown_each b booking_in booking_cells test (nat_lt above) says (λ n (k : Booking). (n, k.window)) cells asked_cells passes (λ m n k. refl) h)
+    ∙ lines_told part_of.Asked asked_line (told_above (asked_told day) above (pledges_of (get h.books b)))
 
-abbrev at_next_end : ℕ → ℕ → ℕ → Row → Bool
-at_next_end b above day v = list_all (λ (x : Bool). x) (is_at (column v 0) (number b) ∷ is_above (column v 1) (number above) ∷ is_at (column v 13) (number 0) ∷ is_at (column v 10) (number day) ∷ [])
+abbrev at_ends_page : ℕ → ℕ → ℕ → Row → Bool
+at_ends_page b above day v = list_all (λ (x : Bool). x) (is_at (column v 0) (number b) ∷ is_above (column v 1) (number above) ∷ is_at (column v 13) (number 0) ∷ is_at (column v 10) (number day) ∷ [])
 
-next_end_passes : (b above day m n : ℕ) (p : PledgeValue) → at_next_end b above day (under m n (pledge_cells p)) ≡ ((m == b) && (nat_lt above n && is_ending day p))
-next_end_passes b above day m n p = λ i. equals m b i && (books.above n above i && ((equals (closed_number p.standing.closing) 0 ∙ open_closing p.standing.closing) i && (one_test (is_at (number (end_of p)) (number day)) ∙ equals (end_of p) day) i))
+ends_page_passes : (b above day m n : ℕ) (p : PledgeValue) → at_ends_page b above day (under m n (pledge_cells p)) ≡ ((m == b) && (nat_lt above n && is_ending day p))
+ends_page_passes b above day m n p = λ i. equals m b i && (books.above n above i && ((equals (closed_number p.standing.closing) 0 ∙ open_closing p.standing.closing) i && (one_test (is_at (number (end_of p)) (number day)) ∙ equals (end_of p) day) i))
 
-pub next_end_shown : (b above day : ℕ) (old new : State) (h : Host) (rows : List Row) → StandsFor old.now h → Shown text.next_end_text (number b ∷ number above ∷ number day ∷ []) old new rows
-    → rows ≡ at_most_one number_cells (slice_get (told_above (ends_told day) above (pledges_of (get h.books b))) 0)
-next_end_shown b above day old new h rows st shown =
+pub ends_page_shown : (b above day : ℕ) (old new : State) (h : Host) (rows : List Row) → StandsFor old.now h → Shown text.ends_page_text (number b ∷ number above ∷ number day ∷ []) old new rows
+    → rows ≡ map (line_cells part_of.Ends) (take most_rows (map ends_line (told_above (ends_told day) above (pledges_of (get h.books b)))))
+ends_page_shown b above day old new h rows st shown =
     let t : Table = record pledges { tree = 3 } in
-    let test = at_next_end b above day in
+    let test = at_ends_page b above day in
     let cells : Row → Row = λ v. column v 1 ∷ [] in
     let says = is_ending day in
-    let passes = next_end_passes b above day in
-    shown_first keep_schema 3 (λ _. refl) t text.next_end_tests text.ref_shows (number b ∷ number above ∷ number day ∷ []) test cells (λ _. refl) (λ _. refl) 2 (λ v. column v 1) (λ _. refl) text.next_end_text _ text.next_end_is old new (of_pledges h pledge_listed) rows st.schema st.pledges
+    let passes = ends_page_passes b above day in
+    shown_few keep_schema 3 (λ _. refl) t text.ends_page_tests text.ref_shows (number b ∷ number above ∷ number day ∷ []) test cells (λ _. refl) (λ _. refl) 2 (λ v. column v 1) (λ _. refl) most_rows text.ends_page_text _ text.ends_page_is old new (of_pledges h pledge_listed) rows st.schema st.pledges
     (rise_each b (λ (p : PledgeValue). Some p) pledge_cells test (nat_lt above) says (λ n (x : PledgeValue). n) cells number_cells passes (λ m n k. refl) h st.ordered) shown
-    ∙ ap (take 1) (shown_each b (λ (p : PledgeValue). Some p) pledge_cells test (nat_lt above) says (λ n (x : PledgeValue). n) cells number_cells passes (λ m n k. refl) h) ∙ first_told number_cells _
+    ∙ ap (take most_rows) (shown_each b (λ (p : PledgeValue). Some p) pledge_cells test (nat_lt above) says (λ n (x : PledgeValue). n) cells number_cells passes (λ m n k. refl) h)
+    ∙ lines_told part_of.Ends ends_line (told_above (ends_told day) above (pledges_of (get h.books b)))

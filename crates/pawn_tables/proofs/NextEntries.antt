@@ -1,13 +1,15 @@
 -- The entries of a pledge, whose numbers rise.
-use Rattle.std.proofs.Common.{◌≡◌, ◌==◌, ℕ, zero, suc, ◌+◌, ◌≤◌, ◌<◌, List, [], ◌∷◌, map, filter, find, slice_get, Bool, true, false, cond, Option, Some, None, refl, sym, ap, subst, ◌∙◌, arith}
+use Rattle.std.proofs.Common.{◌≡◌, ◌==◌, ℕ, zero, suc, ◌+◌, ◌≤◌, ◌<◌, List, [], ◌∷◌, map, filter, find, slice_get, take, Bool, true, false, cond, Option, Some, None, refl, sym, ap, subst, ◌∙◌, arith}
 use Rattle.std.specs.Prelude.{IfSome, nat_le}
 use Rattle.std.proofs.lemmas.Bool.Decides.{nat_tests}
 use Rattle.sqlite.specs.Order.{Row}
 use Rattle.pawn_debt.specs.declared.entry.Entry.{Entry}
 use Rattle.pawn_pledge.specs.Replayable.{Each, AreNumbered}
 use Rattle.pawn_tables.specs.Rows.{at_most_one}
+use Rattle.pawn_tables.specs.Pages.{most_rows}
 use Rattle.pawn_tables.specs.Places.{at_place}
-use Rattle.pawn_tables.specs.Entries.{RiseFrom, with_seq, entries_from, IsNextEntry}
+use Rattle.pawn_tables.specs.Entries.{RiseFrom, with_seq, entries_from, behind, IsEntriesPage}
+use Rattle.pawn_tables.proofs.PageLemmas.{is_page}
 
 -- ---- entries that are numbered 1, 2, ..
 
@@ -101,22 +103,10 @@ rest_from n k (x ∷ xs) rise e more is = go (rest_from n (x.seq + 1) xs rise.1 
         let low : n ≤ x.seq + 1 = grind (arith, nat_tests, over) in
         past (omega (arith, seq)) ∙ all_from (e.seq + 1) (x.seq + 1) xs (omega (arith, seq)) rise.1 ∙ sym (all_from n (x.seq + 1) xs low rise.1) ∙ left
 
-pub is_next_entry : (n k : ℕ) (es : List Entry) → RiseFrom k es → IsNextEntry n es (slice_get (entries_from n es) 0)
-is_next_entry n k es rise = go (entries_from n es) refl
-  where
-    go : (xs : List Entry) → entries_from n es ≡ xs → IsNextEntry n es (slice_get xs 0)
-    go [] is = is
-    go (e ∷ more) is = is ∙ ap (λ l. e ∷ l) (sym (rest_from n k es rise e more is))
+pub is_entries_page : (n k : ℕ) (es : List Entry) → RiseFrom k es → IsEntriesPage n es (take most_rows (entries_from n es))
+is_entries_page n k es rise = is_page (λ m. entries_from m es) behind (λ m e more is. rest_from m k es rise e more is) n
 
 -- ---- what holds of each entry
-
-pub first_each : (P : Entry → Type 0) (test : Entry → Bool) (es : List Entry) → Each P es → IfSome (slice_get (filter test es) 0) P
-first_each P test [] all = tt
-first_each P test (e ∷ es) all = go (first_each P test es all.1) (test e)
-  where
-    go : IfSome (slice_get (filter test es) 0) P → (c : Bool) → IfSome (slice_get (cond c (e ∷ filter test es) (filter test es)) 0) P
-    go rest true = all.0
-    go rest false = rest
 
 pub found_each : (P : Entry → Type 0) (test : Entry → Bool) (es : List Entry) → Each P es → IfSome (find test es) P
 found_each P test [] all = tt

@@ -1,11 +1,12 @@
 -- The lines of numbered pledges, one after another.
-use Rattle.std.proofs.Common.{◌≡◌, ◌++◌, ℕ, ◌+◌, ◌≤◌, ◌<◌, zero, suc, drop, List, [], ◌∷◌, map, filter, filter_map, length, nat_lt, slice_get, Bool, true, false, cond, Option, Some, None, refl, sym, ap, subst, ◌∙◌, arith, option_map}
-use Rattle.std.specs.Prelude.{IfSome}
+use Rattle.std.proofs.Common.{◌≡◌, ◌++◌, ℕ, ◌+◌, ◌≤◌, ◌<◌, zero, suc, drop, List, [], ◌∷◌, map, filter, filter_map, length, take, nat_lt, Bool, true, false, cond, Option, Some, None, refl, sym, ap, subst, ◌∙◌, arith, option_map}
 use Rattle.std.specs.List.{cons_option}
 use Rattle.std.specs.FinMap.{get}
 use Rattle.std.proofs.lemmas.Bool.Decides.{nat_tests}
+use Rattle.sqlite_trees.proofs.ListLemmas.{map-map}
 use Rattle.pawn_pledge.specs.Number.{IsNumber}
 use Rattle.pawn_pledge.specs.Pledge.{PledgeValue}
+use Rattle.pawn_pledge.specs.Replayable.{Each}
 use Rattle.pawn_book.specs.declared.sheet.Part.{Part}
 use Rattle.pawn_book.specs.declared.sheet.SheetItem.{SheetItem}
 use Rattle.pawn_book.specs.Sheet.{part_item, part_items}
@@ -16,8 +17,10 @@ use Rattle.pawn_book.specs.Rows.{AreNumberedFrom}
 use Rattle.pawn_book.specs.Sound.{IsUnsoundAt}
 use Rattle.pawn_tables.specs.Rows.{number_of}
 use Rattle.pawn_tables.specs.StandsFor.{AreOrdered}
-use Rattle.pawn_tables.specs.Lines.{items_past, IsNextLine}
+use Rattle.pawn_tables.specs.Lines.{IsLinesPage, item_of, items_past}
+use Rattle.pawn_tables.specs.Pages.{most_rows}
 use Rattle.pawn_tables.specs.declared.line.Line.{Line}
+use Rattle.pawn_tables.proofs.PageLemmas.{is_page, page_as, take_each}
 use Rattle.pawn_tables.proofs.SoundBooks.{unsound_book}
 
 -- the pledges above a number
@@ -57,9 +60,9 @@ past_first : (n : ℕ) (ps : List PledgeValue) → AreNumberedFrom 1 ps → drop
 past_first n ps numbered = past n 1 n ps numbered (omega arith)
 
 module _ {A : Type 0} (part : Part) (day : ℕ) (tell : PledgeValue → Option A) (line : A → Line)
-    (says : (p : PledgeValue) → part_item part day p ≡ option_map (λ a. (line a).item) (tell p)) (numbers : (p : PledgeValue) (a : A) → tell p ≡ Some a → (line a).number ≡ number_of p) where
+    (says : (p : PledgeValue) → part_item part day p ≡ option_map (λ a. item_of part (line a)) (tell p)) (numbers : (p : PledgeValue) (a : A) → tell p ≡ Some a → (line a).number ≡ number_of p) where
   abbrev item : A → SheetItem
-  item a = (line a).item
+  item a = item_of part (line a)
 
   -- the items are of what is told
   pub items_are : (ps : List PledgeValue) → part_items part day ps ≡ map item (filter_map tell ps)
@@ -115,31 +118,39 @@ module _ {A : Type 0} (part : Part) (day : ℕ) (tell : PledgeValue → Option A
       go rest false over is = later rest is
       go rest true over is = one rest over (tell p) refl is
 
-  -- the first of what is told is the next line
-  pub is_next_line : (n : ℕ) (ps : List PledgeValue) → AreNumberedFrom 1 ps → IsNextLine part day n ps (option_map line (slice_get (told_above tell n ps) 0))
-  is_next_line n ps numbered = go (told_above tell n ps) refl
-    where
-      past_is : (m : ℕ) → items_past part day m ps ≡ map item (told_above tell m ps)
-      past_is m = ap (part_items part day) (past_first m ps numbered) ∙ items_are (above m ps)
+  abbrev lines_above : List PledgeValue → ℕ → List Line
+  lines_above ps m = map line (told_above tell m ps)
 
-      go : (xs : List A) → told_above tell n ps ≡ xs → IsNextLine part day n ps (option_map line (slice_get xs 0))
-      go [] is = past_is n ∙ ap (map item) is
-      go (a ∷ as') is = past_is n ∙ ap (map item) is ∙ ap (λ l. item a ∷ l) (sym (past_is (line a).number ∙ ap (map item) (rest_is n 1 ps numbered a as' is)))
-
-  -- the number of a pledge of a sound book is such
-  first_number : (n k : ℕ) (ps : List PledgeValue) → AreNumberedFrom k ps → 1 ≤ k → k + length ps ≤ 1000001 → IfSome (slice_get (told_above tell n ps) 0) (λ a. IsNumber (line a).number)
-  first_number n k [] numbered low few = tt
-  first_number n k (p ∷ ps) numbered low few = go (first_number n (k + 1) ps numbered.1 (omega arith) (omega (arith, few))) (nat_lt n (number_of p))
+  -- a page of the lines shows what the part says
+  pub is_lines_page : (n : ℕ) (ps : List PledgeValue) → AreNumberedFrom 1 ps → IsLinesPage part day n ps (take most_rows (lines_above ps n))
+  is_lines_page n ps numbered =
+      page_as (lines_above ps) (λ m. items_past part day m ps) (item_of part) (λ (l : Line). l.number) n _ past_is
+      (is_page (lines_above ps) (λ (l : Line). l.number) (λ m l more is. step m (told_above tell m ps) refl l more is) n)
     where
-      one : IfSome (slice_get (told_above tell n ps) 0) (λ a. IsNumber (line a).number) → (o : Option A) → tell p ≡ o → IfSome (slice_get (cons_option o (told_above tell n ps)) 0) (λ a. IsNumber (line a).number)
+      past_is : (m : ℕ) → items_past part day m ps ≡ map (item_of part) (lines_above ps m)
+      past_is m = ap (part_items part day) (past_first m ps numbered) ∙ items_are (above m ps) ∙ sym (map-map (item_of part) line (told_above tell m ps))
+
+      step : (m : ℕ) (as' : List A) → told_above tell m ps ≡ as' → (l : Line) (more : List Line) → map line as' ≡ l ∷ more → lines_above ps l.number ≡ more
+      step m [] told l more is = absurd (let e = is in cc)
+      step m (a ∷ as') told l more is =
+          let same : line a ≡ l = (let e = is in cc) in
+          let rest : map line as' ≡ more = (let e = is in cc) in
+          ap (λ (x : Line). lines_above ps x.number) (sym same) ∙ ap (map line) (rest_is m 1 ps numbered a as' told) ∙ rest
+
+  -- the numbers of the pledges of a sound book are such
+  all_numbers : (n k : ℕ) (ps : List PledgeValue) → AreNumberedFrom k ps → 1 ≤ k → k + length ps ≤ 1000001 → Each (λ (l : Line). IsNumber l.number) (lines_above ps n)
+  all_numbers n k [] numbered low few = tt
+  all_numbers n k (p ∷ ps) numbered low few = go (all_numbers n (k + 1) ps numbered.1 (omega arith) (omega (arith, few))) (nat_lt n (number_of p))
+    where
+      one : Each (λ (l : Line). IsNumber l.number) (lines_above ps n) → (o : Option A) → tell p ≡ o → Each (λ (l : Line). IsNumber l.number) (map line (cons_option o (told_above tell n ps)))
       one rest None of = rest
-      one rest (Some x) of = let at = numbers p x of ∙ numbered.0 in (omega (arith, at, low), omega (arith, at, few))
+      one rest (Some x) of = let at = numbers p x of ∙ numbered.0 in ((omega (arith, at, low), omega (arith, at, few)), rest)
 
-      go : IfSome (slice_get (told_above tell n ps) 0) (λ a. IsNumber (line a).number) → (c : Bool) → IfSome (slice_get (filter_map tell (cond c (p ∷ above n ps) (above n ps))) 0) (λ a. IsNumber (line a).number)
+      go : Each (λ (l : Line). IsNumber l.number) (lines_above ps n) → (c : Bool) → Each (λ (l : Line). IsNumber l.number) (map line (filter_map tell (cond c (p ∷ above n ps) (above n ps))))
       go rest false = rest
       go rest true = one rest (tell p) refl
 
-  pub line_unsound : (h : Host) (b n : ℕ) → (IfSome (slice_get (told_above tell n (pledges_of (get h.books b))) 0) (λ a. IsNumber (line a).number) → ⊥) → IsUnsoundAt b h
-  line_unsound h b n bad =
-      unsound_book h b (λ o. IfSome (slice_get (told_above tell n (pledges_of o)) 0) (λ a. IsNumber (line a).number)) tt
-      (λ k sound. let fits = sound.1.rows.few_pledges in first_number n 1 k.pledges sound.1.rows.numbered (omega arith) (omega (arith, fits))) bad
+  pub lines_unsound : (h : Host) (b n : ℕ) → (Each (λ (l : Line). IsNumber l.number) (take most_rows (lines_above (pledges_of (get h.books b)) n)) → ⊥) → IsUnsoundAt b h
+  lines_unsound h b n bad =
+      unsound_book h b (λ o. Each (λ (l : Line). IsNumber l.number) (take most_rows (lines_above (pledges_of o) n))) tt
+      (λ k sound. let fits = sound.1.rows.few_pledges in take_each (λ (l : Line). IsNumber l.number) most_rows _ (all_numbers n 1 k.pledges sound.1.rows.numbered (omega arith) (omega (arith, fits)))) bad

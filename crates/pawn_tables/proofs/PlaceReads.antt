@@ -23,13 +23,14 @@ use Rattle.pawn_tables.specs.Schema.{keep_schema, entries, secrets, extensions}
 use Rattle.pawn_tables.specs.Rows.{number, under, at_most_one, placed_from, entry_cells, entries_listed, secret_cells, secrets_listed, extension_cells, extensions_listed}
 use Rattle.pawn_tables.specs.At.{is_at, is_from, at_pledge}
 use Rattle.pawn_tables.specs.Entries.{RiseFrom, with_seq, entries_from}
+use Rattle.pawn_tables.specs.Pages.{most_rows}
 use Rattle.pawn_tables.specs.Places.{at_place}
 use Rattle.pawn_tables.specs.StandsFor.{StandsFor, of_pledges, AreStorable}
-use Rattle.one_table.proofs.Found.{shown_first, shown_listed}
+use Rattle.one_table.proofs.Found.{shown_few, shown_listed}
 use Rattle.pawn_tables.proofs.ReadTexts as text
 use Rattle.pawn_tables.proofs.BookReads.{at_least}
-use Rattle.pawn_tables.proofs.NextEntries.{one_with, first_each, found_each}
-use Rattle.pawn_tables.proofs.OneEach.{first_told}
+use Rattle.pawn_tables.proofs.NextEntries.{one_with, found_each}
+use Rattle.pawn_tables.proofs.PageLemmas.{filter_each, take_each, take_map}
 use Rattle.pawn_tables.proofs.PledgeReads.{short, few, holds_in, rises_at, under_map, under_placed}
 use Rattle.pawn_tables.proofs.SoundReads.{entries_unsound, secrets_unsound, extensions_unsound}
 use Rattle.pawn_tables.proofs.Sought.{AreUnder, rows_at, of_one_pledge, entries_rise, equals}
@@ -159,8 +160,8 @@ module _ (old new : State) (h : Host) (b n s : ℕ) (rows : List Row) (st : Stan
       short rows _ (few entry_cells (with_seq (entries_of found) s)) (subst (λ xs. IsPermutation xs rows) shows
       (shown_listed keep_schema 6 (λ _. refl) t text.of_place text.entries_shows params (at_third b n s) entry_shows (λ _. refl) (λ _. refl) text.entry_text _ [] text.entry_is old new (of_pledges h entries_listed) rows st.schema st.entries shown))
 
-  pub next_entry_shown : Shown text.from_text params old new rows → rows ≡ at_most_one entry_cells (slice_get (entries_from s (entries_of found)) 0)
-  next_entry_shown shown =
+  pub entries_page_shown : Shown text.from_text params old new rows → rows ≡ map entry_cells (take most_rows (entries_from s (entries_of found)))
+  entries_page_shown shown =
       let t : Table = record entries { tree = 6 } in
       let one =
       filter_agree (at_from b n s) (λ v. at_pledge b n v && has_from s v) (λ v. regroup (is_at (column v 0) (number b)) (is_at (column v 1) (number n)) (has_from s v)) (of_pledges h entries_listed)
@@ -168,8 +169,8 @@ module _ (old new : State) (h : Host) (b n s : ℕ) (rows : List Row) (st : Stan
       let up = rises_at found (entries_listed b) (λ v. column v 2) (λ p is. entries_rise (λ e. under b p.agreement.number (entry_cells e)) (λ v. column v 2) (λ e. refl) 0 p.entries (holds_in h (λ (q : PledgeValue). RiseFrom 0 q.entries) (λ c k at. (st.ordered c k at).entries) b n p is)) in
       let rises = subst (IsAscending (λ v w. value_cmp (column v 2) (column w 2) ≡ Less)) (sym one) (ascending-filter (λ v w. value_cmp (column v 2) (column w 2) ≡ Less) (has_from s) _ up) in
       let shows = ap (map entry_shows) one ∙ entries_passing (has_from s) (λ q. nat_le s q) (λ m e. at_least e.seq s) found in
-      shown_first keep_schema 6 (λ _. refl) t text.from_tests text.entries_shows params (at_from b n s) entry_shows (λ _. refl) (λ _. refl) 3 (λ v. column v 2) (λ _. refl) text.from_text _ text.from_is old new (of_pledges h entries_listed) rows st.schema st.entries rises shown
-      ∙ ap (take 1) shows ∙ first_told entry_cells _
+      shown_few keep_schema 6 (λ _. refl) t text.from_tests text.entries_shows params (at_from b n s) entry_shows (λ _. refl) (λ _. refl) 3 (λ v. column v 2) (λ _. refl) most_rows text.from_text _ text.from_is old new (of_pledges h entries_listed) rows st.schema st.entries rises shown
+      ∙ ap (take most_rows) shows ∙ sym (take_map entry_cells most_rows (entries_from s (entries_of found)))
 
   pub secret_shown : Shown text.secret_text params old new rows → rows ≡ at_most_one (secret_cells s) (at_place (secrets_of found) s)
   secret_shown shown =
@@ -207,8 +208,8 @@ module _ (h : Host) (storable : AreStorable h) (b n s : ℕ) where
   pub entry_unsound : (IfSome (with_seq (entries_of (pledge_in (get h.books b) n)) s) (λ e. IsDayNumber e.day) → ⊥) → IsUnsoundAt b h
   entry_unsound bad = entries_unsound h storable b n (λ all. bad (found_each (λ e. IsDayNumber e.day) (λ (e : Entry). e.seq == s) _ all))
 
-  pub next_entry_unsound : (IfSome (slice_get (entries_from s (entries_of (pledge_in (get h.books b) n))) 0) (λ e. IsDayNumber e.day) → ⊥) → IsUnsoundAt b h
-  next_entry_unsound bad = entries_unsound h storable b n (λ all. bad (first_each (λ e. IsDayNumber e.day) (λ (e : Entry). nat_le s e.seq) _ all))
+  pub entries_page_unsound : (Each (λ e. IsDayNumber e.day) (take most_rows (entries_from s (entries_of (pledge_in (get h.books b) n)))) → ⊥) → IsUnsoundAt b h
+  entries_page_unsound bad = entries_unsound h storable b n (λ all. bad (take_each (λ (e : Entry). IsDayNumber e.day) most_rows _ (filter_each (λ (e : Entry). IsDayNumber e.day) (λ (e : Entry). nat_le s e.seq) _ all)))
 
   pub secret_unsound : (IfSome (at_place (secrets_of (pledge_in (get h.books b) n)) s) (λ i. IsDayNumber i.day) → ⊥) → IsUnsoundAt b h
   secret_unsound bad = secrets_unsound h storable b n (λ all. bad (at_each (λ i. IsDayNumber i.day) _ s all))

@@ -82,6 +82,12 @@ always_read Keeper.Memory x y Q f = tt
 always_read (Keeper.Store Database) x y Q f = tt
 always_read (Keeper.Store NoRecord) x y Q f = absurd (f tt)
 
+-- nor are lists of such
+pub always_all : {A B : Type 0} (e : KeepError) (xs : List A) (y : B) (Q : Type 0) → IsRead (Err e) xs (Each (λ x. Unit {0}) xs) → IsRead (Err e) y Q
+always_all Keeper.Memory xs y Q f = tt
+always_all (Keeper.Store Database) xs y Q f = tt
+always_all (Keeper.Store NoRecord) xs y Q f = absurd (f (each_any xs))
+
 -- the same, of elements that are such
 pub first_err_of : {A : Type 0} (f : A → Row) (W P : A → Type 0) (rows : List Row) (r : Row) (e : KeepError) → r ≡ get_or rows 0 r → 0 < length rows
     → ((x : A) → W x → r ≡ f x → IsRead (Err e) x (P x)) → (o : Option A) → IfSome o W → rows ≡ at_most_one f o → IsRead (Err e) o (IfSome o P)

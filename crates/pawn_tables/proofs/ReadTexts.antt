@@ -5,11 +5,13 @@ use Rattle.sqlite.specs.Listing.{understood}
 use Rattle.sqlite.specs.Collation.TheVariants.{Binary}
 use Rattle.sqlite.specs.Term.{Term, lit, col, op2}
 use Rattle.sqlite_sql.specs.declared.ops.BinaryOp.TheVariants.{Compare}
-use Rattle.sqlite_sql.specs.declared.ops.CompareOp.TheVariants.{Eq, Ge, Gt}
+use Rattle.sqlite_sql.specs.declared.ops.CompareOp.TheVariants.{Eq, Ge, Gt, Lt}
 use Rattle.sqlite.specs.declared.types.Value.TheVariants.{Int, Text}
 use Rattle.one_table.proofs.Texts.{Asks, by_column, is_param}
+use Rattle.pawn_tables.specs.Pages.{most_rows}
 use Rattle.pawn_tables.specs.Schema.{keep_schema}
-use Rattle.one_table.proofs.OneTable.{over_table, first_of_table}
+use Rattle.one_table.proofs.Distinct.{once_of_table}
+use Rattle.one_table.proofs.OneTable.{over_table, few_of_table, first_of_table}
 use Rattle.pawn_tables.proofs.Counts.{how_many}
 
 -- a row of a book
@@ -149,14 +151,14 @@ pub next_is : Asks keep_schema next_text (first_of_table 0 next_tests next_shows
 unfolding understood everything
 next_is = (refl, refl, (refl, refl))
 
--- the first of the entries from a number on
+-- a page of the entries from a number on
 abbrev pub from_text : List ℕ
-from_text = codes "SELECT seq, day, sort, pence FROM entries WHERE book = ?1 AND number = ?2 AND seq >= ?3 ORDER BY seq LIMIT 1"
+from_text = codes "SELECT seq, day, sort, pence FROM entries WHERE book = ?1 AND number = ?2 AND seq >= ?3 ORDER BY seq LIMIT 64"
 
 abbrev pub from_tests : List Term
 from_tests = is_param 1 0 ∷ is_param 2 1 ∷ op2 (Compare Ge Binary) (col 1 3) (col 0 2) ∷ []
 
-pub from_is : Asks keep_schema from_text (first_of_table 6 from_tests entries_shows (by_column 3)) (codes "seq" ∷ codes "day" ∷ codes "sort" ∷ codes "pence" ∷ [])
+pub from_is : Asks keep_schema from_text (few_of_table most_rows 6 from_tests entries_shows (by_column 3)) (codes "seq" ∷ codes "day" ∷ codes "sort" ∷ codes "pence" ∷ [])
 unfolding understood everything
 from_is = (refl, refl, (refl, refl))
 
@@ -229,35 +231,49 @@ pub ends_is : Asks keep_schema ends_text (how_many 3 ends_tests) (codes "count(*
 unfolding understood everything
 ends_is = (refl, refl, (refl, refl))
 
-abbrev pub next_confirmed_text : List ℕ
-next_confirmed_text = codes "SELECT number FROM bookings WHERE book = ?1 AND number > ?2 AND day = ?3 AND slot = ?4 AND state = 1 ORDER BY number LIMIT 1"
+-- the windows in which somebody comes, each once
+abbrev pub windows_text : List ℕ
+windows_text = codes "SELECT DISTINCT slot FROM bookings WHERE book = ?1 AND day = ?2 AND state = 1 AND slot < 16"
 
-abbrev pub next_confirmed_tests : List Term
-next_confirmed_tests = is_param 1 0 ∷ is_over 2 1 ∷ is_param 3 2 ∷ is_param 4 3 ∷ is_number 5 1 ∷ []
+abbrev pub windows_tests : List Term
+windows_tests = is_param 1 0 ∷ is_param 3 1 ∷ is_number 5 1 ∷ op2 (Compare Lt Binary) (col 1 4) (lit (Int (pos 16))) ∷ []
 
-pub next_confirmed_is : Asks keep_schema next_confirmed_text (first_of_table 11 next_confirmed_tests confirmed_shows (by_column 2)) (codes "number" ∷ [])
+abbrev pub windows_shows : List Term
+windows_shows = col 1 4 ∷ []
+
+pub windows_is : Asks keep_schema windows_text (once_of_table 11 windows_tests windows_shows (Binary ∷ [])) (codes "slot" ∷ [])
 unfolding understood everything
-next_confirmed_is = (refl, refl, (refl, refl))
+windows_is = (refl, refl, (refl, refl))
 
-abbrev pub next_asked_text : List ℕ
-next_asked_text = codes "SELECT number, slot FROM bookings WHERE book = ?1 AND number > ?2 AND day = ?3 AND state = 0 ORDER BY number LIMIT 1"
+abbrev pub confirmed_page_text : List ℕ
+confirmed_page_text = codes "SELECT number FROM bookings WHERE book = ?1 AND number > ?2 AND day = ?3 AND slot = ?4 AND state = 1 ORDER BY number LIMIT 64"
 
-abbrev pub next_asked_tests : List Term
-next_asked_tests = is_param 1 0 ∷ is_over 2 1 ∷ is_param 3 2 ∷ is_number 5 0 ∷ []
+abbrev pub confirmed_page_tests : List Term
+confirmed_page_tests = is_param 1 0 ∷ is_over 2 1 ∷ is_param 3 2 ∷ is_param 4 3 ∷ is_number 5 1 ∷ []
 
-abbrev pub next_asked_shows : List Term
-next_asked_shows = col 1 2 ∷ col 1 4 ∷ []
-
-pub next_asked_is : Asks keep_schema next_asked_text (first_of_table 11 next_asked_tests next_asked_shows (by_column 2)) (codes "number" ∷ codes "slot" ∷ [])
+pub confirmed_page_is : Asks keep_schema confirmed_page_text (few_of_table most_rows 11 confirmed_page_tests confirmed_shows (by_column 2)) (codes "number" ∷ [])
 unfolding understood everything
-next_asked_is = (refl, refl, (refl, refl))
+confirmed_page_is = (refl, refl, (refl, refl))
 
-abbrev pub next_end_text : List ℕ
-next_end_text = codes "SELECT number FROM pledges WHERE book = ?1 AND number > ?2 AND closed = 0 AND ends = ?3 ORDER BY number LIMIT 1"
+abbrev pub asked_page_text : List ℕ
+asked_page_text = codes "SELECT number, slot FROM bookings WHERE book = ?1 AND number > ?2 AND day = ?3 AND state = 0 ORDER BY number LIMIT 64"
 
-abbrev pub next_end_tests : List Term
-next_end_tests = is_param 1 0 ∷ is_over 2 1 ∷ is_number 14 0 ∷ is_param 11 2 ∷ []
+abbrev pub asked_page_tests : List Term
+asked_page_tests = is_param 1 0 ∷ is_over 2 1 ∷ is_param 3 2 ∷ is_number 5 0 ∷ []
 
-pub next_end_is : Asks keep_schema next_end_text (first_of_table 3 next_end_tests ref_shows (by_column 2)) (codes "number" ∷ [])
+abbrev pub asked_page_shows : List Term
+asked_page_shows = col 1 2 ∷ col 1 4 ∷ []
+
+pub asked_page_is : Asks keep_schema asked_page_text (few_of_table most_rows 11 asked_page_tests asked_page_shows (by_column 2)) (codes "number" ∷ codes "slot" ∷ [])
 unfolding understood everything
-next_end_is = (refl, refl, (refl, refl))
+asked_page_is = (refl, refl, (refl, refl))
+
+abbrev pub ends_page_text : List ℕ
+ends_page_text = codes "SELECT number FROM pledges WHERE book = ?1 AND number > ?2 AND closed = 0 AND ends = ?3 ORDER BY number LIMIT 64"
+
+abbrev pub ends_page_tests : List Term
+ends_page_tests = is_param 1 0 ∷ is_over 2 1 ∷ is_number 14 0 ∷ is_param 11 2 ∷ []
+
+pub ends_page_is : Asks keep_schema ends_page_text (few_of_table most_rows 3 ends_page_tests ref_shows (by_column 2)) (codes "number" ∷ [])
+unfolding understood everything
+ends_page_is = (refl, refl, (refl, refl))

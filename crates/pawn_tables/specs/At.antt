@@ -6,7 +6,7 @@ use Rattle.sqlite.specs.Order.{Row, column}
 use Rattle.sqlite.specs.Ops.{binary, is_true}
 use Rattle.sqlite.specs.Collation.TheVariants.{Binary}
 use Rattle.sqlite_sql.specs.declared.ops.BinaryOp.TheVariants.{Compare}
-use Rattle.sqlite_sql.specs.declared.ops.CompareOp.TheVariants.{Eq, Ge, Gt}
+use Rattle.sqlite_sql.specs.declared.ops.CompareOp.TheVariants.{Eq, Ge, Gt, Lt}
 use Rattle.pawn_tables.specs.Rows.{number}
 
 -- SQL's =
@@ -20,6 +20,10 @@ is_above v w = is_true (binary (Compare Gt Binary) v w)
 -- SQL's >=
 abbrev pub is_from : Value → Value → Bool
 is_from v w = is_true (binary (Compare Ge Binary) v w)
+
+-- SQL's <
+abbrev pub is_below : Value → Value → Bool
+is_below v w = is_true (binary (Compare Lt Binary) v w)
 
 -- a row of a book
 abbrev pub at_book : ℕ → Row → Bool

@@ -1,6 +1,7 @@
 -- The entries of a pledge, by their numbers.
-use Rattle.std.specs.Prelude.{ℕ, ◌+◌, ◌≤◌, ◌==◌, ◌≡◌, nat_le, List, [], ◌∷◌, filter, find, Option, Some, None}
+use Rattle.std.specs.Prelude.{ℕ, ◌+◌, ◌≤◌, ◌==◌, nat_le, List, [], ◌∷◌, filter, find, Option}
 use Rattle.pawn_debt.specs.declared.entry.Entry.{Entry}
+use Rattle.pawn_tables.specs.Pages.{IsPage}
 
 -- their numbers rise, and none is below this one; whether a number is left out is not asked
 abbrev pub RiseFrom : ℕ → List Entry → Type 0
@@ -15,7 +16,10 @@ with_seq es n = find (λ (e : Entry). e.seq == n) es
 abbrev pub entries_from : ℕ → List Entry → List Entry
 entries_from n es = filter (λ (e : Entry). nat_le n e.seq) es
 
--- the first of the entries from a number on: the others have greater numbers; none, where there is no entry
-abbrev pub IsNextEntry : ℕ → List Entry → Option Entry → Type 0
-IsNextEntry n es None = entries_from n es ≡ []
-IsNextEntry n es (Some e) = entries_from n es ≡ e ∷ entries_from (e.seq + 1) es
+-- the number behind an entry
+abbrev pub behind : Entry → ℕ
+behind e = e.seq + 1
+
+-- a page of the entries from a number on
+abbrev pub IsEntriesPage : ℕ → List Entry → List Entry → Type 0
+IsEntriesPage n es page = IsPage (λ m. entries_from m es) (λ (e : Entry). e) behind n page

@@ -6,6 +6,7 @@ pub mod Keeps
 pub mod Lines
 pub mod Meta
 pub mod OneHost
+pub mod Pages
 pub mod Places
 pub mod Rows
 pub mod Schema

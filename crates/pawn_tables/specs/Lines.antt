@@ -1,11 +1,16 @@
--- The lines of a day's sheet, one after another.
-use Rattle.std.specs.Prelude.{ℕ, ◌≡◌, List, [], ◌∷◌, drop, Option, Some, None}
+-- The lines of a day's sheet, page by page.
+use Rattle.std.specs.Prelude.{ℕ, ◌≡◌, ◌≤◌, ◌==◌, false, List, [], ◌∷◌, drop}
+use Rattle.std.specs.List.{list_any}
 use Rattle.sqlite.specs.Order.{Row}
 use Rattle.pawn_pledge.specs.Pledge.{PledgeValue}
+use Rattle.pawn_pledge.specs.Limits.{last_window}
 use Rattle.pawn_book.specs.declared.sheet.Part.{Part}
+use Rattle.pawn_book.specs.declared.sheet.Part.TheVariants as part
 use Rattle.pawn_book.specs.declared.sheet.SheetItem.{SheetItem}
 use Rattle.pawn_book.specs.declared.sheet.SheetItem.TheVariants.{Confirmed, Asked, Ends}
 use Rattle.pawn_book.specs.Sheet.{part_items}
+use Rattle.pawn_tables.specs.Heads.{number_cells}
+use Rattle.pawn_tables.specs.Pages.{IsPage}
 use Rattle.pawn_tables.specs.Rows.{number}
 use Rattle.pawn_tables.specs.declared.line.Line.{Line}
 
@@ -13,23 +18,44 @@ use Rattle.pawn_tables.specs.declared.line.Line.{Line}
 abbrev pub items_past : Part → ℕ → ℕ → List PledgeValue → List SheetItem
 items_past part day n pledges = part_items part day (drop n pledges)
 
--- the first of these items, with the pledge that it tells of: the others are of pledges past that one; none, where there is no item
-abbrev pub IsNextLine : Part → ℕ → ℕ → List PledgeValue → Option Line → Type 0
-IsNextLine part day n pledges None = items_past part day n pledges ≡ []
-IsNextLine part day n pledges (Some line) = items_past part day n pledges ≡ line.item ∷ items_past part day line.number pledges
+-- the item of a line of a part
+abbrev pub item_of : Part → Line → SheetItem
+item_of (part.Confirmed window) line = Confirmed line.number
+item_of part.Asked line = Asked line.number line.window
+item_of part.Ends line = Ends line.number
 
--- the line of a booking that is confirmed, by the number of its pledge
-abbrev pub confirmed_line : ℕ → Line
-confirmed_line n = record { number = n; item = Confirmed n }
+-- a page of what a part says of the pledges above a number
+abbrev pub IsLinesPage : Part → ℕ → ℕ → List PledgeValue → List Line → Type 0
+IsLinesPage part day n pledges page = IsPage (λ m. items_past part day m pledges) (item_of part) (λ (l : Line). l.number) n page
+
+-- the line of a booking that is confirmed for a window, by the number of its pledge
+abbrev pub confirmed_line : ℕ → ℕ → Line
+confirmed_line window n = record { number = n; window = window }
 
 -- of one that is asked for, by its pledge's number and its window
 abbrev pub asked_line : ℕ × ℕ → Line
-asked_line a = record { number = a.0; item = Asked a.0 a.1 }
+asked_line a = record { number = a.0; window = a.1 }
 
--- of the end of a period
+-- of the end of a period, which has no window
 abbrev pub ends_line : ℕ → Line
-ends_line n = record { number = n; item = Ends n }
+ends_line n = record { number = n; window = 0 }
+
+-- the window of a line of the part
+abbrev pub IsLineOf : Part → Line → Type 0
+IsLineOf (part.Confirmed window) line = line.window ≡ window
+IsLineOf part.Asked line = Unit {0}
+IsLineOf part.Ends line = line.window ≡ 0
 
 -- a pledge's number and a window
 abbrev pub asked_cells : ℕ × ℕ → Row
 asked_cells a = number a.0 ∷ number a.1 ∷ []
+
+-- the row that tells of a line
+abbrev pub line_cells : Part → Line → Row
+line_cells (part.Confirmed window) line = number_cells line.number
+line_cells part.Asked line = asked_cells (line.number, line.window)
+line_cells part.Ends line = number_cells line.number
+
+-- whoever comes on a day comes in one of these windows
+abbrev pub NamesWindows : ℕ → List PledgeValue → List ℕ → Type 0
+NamesWindows day pledges windows = (w : ℕ) → w ≤ last_window → list_any (λ n. n == w) windows ≡ false → part_items (part.Confirmed w) day pledges ≡ []

@@ -16,7 +16,7 @@ use Rattle.pawn_pledge.specs.Replayable.{AreNumbered}
 use Rattle.pawn_pledge.specs.Worked.{ring, ring_opening}
 use Rattle.pawn_book.specs.BookStep.{BookValue}
 use Rattle.pawn_book.specs.HostStep.{Host, rows}
-use Rattle.pawn_tables.specs.Entries.{IsNextEntry, RiseFrom}
+use Rattle.pawn_tables.specs.Entries.{IsEntriesPage, RiseFrom}
 use Rattle.pawn_tables.specs.Meta.{meta_rows}
 use Rattle.pawn_tables.specs.Rows.{word, book_row, terms_listed, pledge_listed, entries_listed, secrets_listed, booking_listed, totals_listed, extensions_listed, closed_number, closed_day, closed_amount}
 use Rattle.pawn_tables.specs.StandsFor.{of_books, of_pledges}
@@ -71,7 +71,7 @@ pub record WorkedTables : Type 0 where
   pub no_extension : extensions_listed 7 (ring 10000) ≡ []
   -- entries 1 and 3 are in order, though 2 is left out: rows with a gap still tell of a ring, and of one that can't be sound
   pub gap : RiseFrom 0 (entry 1 ∷ entry 3 ∷ []) × (AreNumbered 1 (entry 1 ∷ entry 3 ∷ []) → ⊥)
-  -- the next from 2 on is entry 3
-  pub over_gap : IsNextEntry 2 (entry 1 ∷ entry 3 ∷ []) (Some (entry 3))
+  -- the page from 2 on shows entry 3, and is the last
+  pub over_gap : IsEntriesPage 2 (entry 1 ∷ entry 3 ∷ []) (entry 3 ∷ [])
   -- 90 pounds are paid
   pub redeemed : (closed_number (Redeemed 19763 9000) ≡ 1) × (closed_day (Redeemed 19763 9000) ≡ Some 19763) × (closed_amount (Redeemed 19763 9000) ≡ Some 9000)

@@ -1,8 +1,27 @@
-use pawn_book::{Number, SheetItem};
+ghost use Rattle.std.specs.Prelude.{◌≡◌};
+ghost use Rattle.pawn_tables.specs.Lines.{item_of};
 
-/// An item of a day's sheet, and the number of the pledge that it tells of.
+use pawn_book::{Number, Part, SheetItem};
+
+/// A line of a part of a day's sheet: the number of the pledge that it tells of, and the window of its booking, or 0.
 #[derive(Clone, Copy, Debug, PartialEq, Eq)]
 pub struct Line {
     pub number: Number,
-    pub item: SheetItem,
+    pub window: u64,
+}
+
+impl Line {
+    /// The item of the line, in its part.
+    pub fn item(self, part: Part) -> SheetItem
+        ensures value { result ≡ item_of part self }
+    {
+        match part {
+            Part::Confirmed { .. } => SheetItem::Confirmed(self.number),
+            Part::Asked => SheetItem::Asked {
+                number: self.number,
+                window: self.window,
+            },
+            Part::Ends => SheetItem::Ends(self.number),
+        }
+    }
 }

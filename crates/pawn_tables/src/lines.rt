@@ -1,54 +1,58 @@
-ghost use Rattle.std.specs.Prelude.{◌≡◌, ℕ, Option, IfSome, option_map};
+ghost use Rattle.std.specs.Prelude.{◌≡◌, ℕ, List, map, ⊤};
 ghost use Rattle.pawn_pledge.specs.Number.{IsNumber};
-ghost use Rattle.pawn_tables.specs.Rows.{at_most_one};
+ghost use Rattle.pawn_pledge.specs.Replayable.{Each};
+ghost use Rattle.pawn_tables.specs.declared.line.Line.{Line};
 ghost use Rattle.pawn_tables.specs.Heads.{number_cells};
-ghost use Rattle.pawn_tables.specs.Lines.{asked_cells, asked_line, confirmed_line, ends_line};
+ghost use Rattle.pawn_tables.specs.Lines.{IsLineOf, line_cells};
 ghost use Rattle.pawn_tables.specs.Finding.{IsRead};
 
 use crate::cells::number_at;
-use crate::heads::{first_number, number_of};
+use crate::heads::number_of;
 use crate::line::Line;
-use pawn_book::{KeepError, SheetItem};
+use pawn_book::{KeepError, Part};
+use pawn_debt::Rows;
 use sqlite::Row;
+use std::alloc::Global;
 
-/// The line of the confirmed booking of the first row, if there is a row.
-pub(crate) fn first_confirmed(rows: &[Row]) -> Result<Option<Line>, KeepError>
-    ensures read { (n : Option ℕ) → rows.now ≡ at_most_one number_cells n → IsRead result (option_map confirmed_line n) (IfSome n IsNumber) }
-{
-    let Some(number) = first_number(rows)? else {
-        return Ok(None);
-    };
-    let item = SheetItem::Confirmed(number);
-    Ok(Some(Line { number, item }))
-}
-
-// The line of a row of a booking that is asked for.
-fn asked_of(row: &Row) -> Result<Line, KeepError>
-    ensures read { (a : ℕ × ℕ) → row.now ≡ asked_cells a → IsRead result (asked_line a) (IsNumber a.0) }
+// The line of a row of a part.
+fn line_of(part: Part, row: &Row) -> Result<Line, KeepError>
+    ensures read { (l : Line) → IsLineOf part l → row.now ≡ line_cells part l → IsRead result l (IsNumber l.number) }
 {
     let number = number_of(number_at(row, 0)?)?;
-    let window = number_at(row, 1)?;
-    let item = SheetItem::Asked { number, window };
-    Ok(Line { number, item })
+    match part {
+        Part::Confirmed { window } => Ok(Line { number, window }),
+        Part::Asked => {
+            let window = number_at(row, 1)?;
+            Ok(Line { number, window })
+        }
+        Part::Ends => Ok(Line { number, window: 0 }),
+    }
 }
 
-/// The line of the booking that is asked for of the first row, if there is a row.
-pub(crate) fn first_asked(rows: &[Row]) -> Result<Option<Line>, KeepError>
-    ensures read { (a : Option (ℕ × ℕ)) → rows.now ≡ at_most_one asked_cells a → IsRead result (option_map asked_line a) (IfSome a (λ x. IsNumber x.0)) }
+/// The lines of the rows of a part.
+pub(crate) fn read_lines(alloc: Global, part: Part, rows: &[Row]) -> Result<Rows<Line>, KeepError>
+    ensures read { (ls : List Line) → Each (IsLineOf part) ls → rows.now ≡ map (line_cells part) ls → IsRead result ls (Each (λ l. IsNumber l.number) ls) }
 {
-    let [row, ..] = rows else {
-        return Ok(None);
-    };
-    Ok(Some(asked_of(row)?))
+    let mut lines = Rows::new(alloc);
+    for row in rows {
+        let line = line_of(part, row)?;
+        let Ok(()) = lines.push(line) else {
+            return Err(KeepError::Memory);
+        };
+    }
+    Ok(lines)
 }
 
-/// The line of the end of a period of the first row, if there is a row.
-pub(crate) fn first_end(rows: &[Row]) -> Result<Option<Line>, KeepError>
-    ensures read { (n : Option ℕ) → rows.now ≡ at_most_one number_cells n → IsRead result (option_map ends_line n) (IfSome n IsNumber) }
+/// The numbers of rows.
+pub(crate) fn read_numbers(alloc: Global, rows: &[Row]) -> Result<Rows<u64>, KeepError>
+    ensures read { (ns : List ℕ) → rows.now ≡ map number_cells ns → IsRead result ns ⊤ }
 {
-    let Some(number) = first_number(rows)? else {
-        return Ok(None);
-    };
-    let item = SheetItem::Ends(number);
-    Ok(Some(Line { number, item }))
+    let mut numbers = Rows::new(alloc);
+    for row in rows {
+        let number = number_at(row, 0)?;
+        let Ok(()) = numbers.push(number) else {
+            return Err(KeepError::Memory);
+        };
+    }
+    Ok(numbers)
 }

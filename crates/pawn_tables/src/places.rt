@@ -5,7 +5,7 @@ ghost use Rattle.pawn_book.specs.BookStep.{pledge_in};
 ghost use Rattle.pawn_book.specs.Keeping.{entries_of, extensions_of, secrets_of};
 ghost use Rattle.pawn_book.specs.Sound.{IsUnsoundAt};
 ghost use Rattle.one_table.specs.Lending.{IsLent};
-ghost use Rattle.pawn_tables.specs.Entries.{IsNextEntry, with_seq};
+ghost use Rattle.pawn_tables.specs.Entries.{with_seq};
 ghost use Rattle.pawn_tables.specs.Finding.{FindsIn};
 ghost use Rattle.pawn_tables.specs.Places.{at_place};
 
@@ -29,25 +29,6 @@ pub fn entry_in<S: Alter>(
         tx,
         "SELECT seq, day, sort, pence FROM entries WHERE book = ?1 AND number = ?2 AND seq = ?3",
         params![book, number, seq],
-    )?;
-    first_entry(&rows)
-}
-
-/// The first entry of a pledge from a number on.
-pub fn next_entry<S: Alter>(
-    tx: &mut Transaction<'_, S>,
-    book: u32,
-    number: u32,
-    from: u32,
-) -> Result<Option<Entry>, KeepError>
-    ensures same_reference { tx.new.conn.ghost_name ≡ tx.old.conn.ghost_name }
-    ensures finds { FindsIn (IsUnsoundAt book) (state S.Store tx.old.conn.now) (state S.Store tx.new.conn.now) result (λ h x. IsNextEntry from (entries_of (pledge_in (get h.books book) number)) x) }
-    ensures lent { IsLent (state S.Store tx.old.conn.now) (state S.Store tx.new.conn.now) (is_ok result) }
-{
-    let rows = rows_of(
-        tx,
-        "SELECT seq, day, sort, pence FROM entries WHERE book = ?1 AND number = ?2 AND seq >= ?3 ORDER BY seq LIMIT 1",
-        params![book, number, from],
     )?;
     first_entry(&rows)
 }

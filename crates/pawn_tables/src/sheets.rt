@@ -7,15 +7,17 @@ ghost use Rattle.pawn_book.specs.Sheet.{part_items};
 ghost use Rattle.pawn_book.specs.Sound.{IsUnsoundAt};
 ghost use Rattle.one_table.specs.Lending.{IsLent};
 ghost use Rattle.pawn_tables.specs.Finding.{FindsIn};
-ghost use Rattle.pawn_tables.specs.Lines.{IsNextLine};
+ghost use Rattle.pawn_tables.specs.Lines.{IsLinesPage, NamesWindows};
 
 use crate::books::confirmed_in;
 use crate::heads::only_count;
 use crate::line::Line;
-use crate::lines::{first_asked, first_confirmed, first_end};
+use crate::lines::{read_lines, read_numbers};
 use crate::queries::rows_of;
 use pawn_book::{Day, KeepError, Part, StoreFault};
+use pawn_debt::Rows;
 use sqlite::{Alter, Transaction, params};
+use std::alloc::Global;
 
 // How many bookings are asked for a day.
 fn asked_in<S: Alter>(tx: &mut Transaction<'_, S>, book: u32, day: Day) -> Result<u64, KeepError>
@@ -65,16 +67,37 @@ pub fn count_in<S: Alter>(
     }
 }
 
-// The first confirmed booking of a window whose pledge is above a number.
-fn next_confirmed<S: Alter>(
+/// The windows in which somebody comes on a day, each once.
+pub fn windows_in<S: Alter>(
     tx: &mut Transaction<'_, S>,
+    alloc: Global,
+    book: u32,
+    day: Day,
+) -> Result<Rows<u64>, KeepError>
+    ensures same_reference { tx.new.conn.ghost_name ≡ tx.old.conn.ghost_name }
+    ensures finds { FindsIn (IsUnsoundAt book) (state S.Store tx.old.conn.now) (state S.Store tx.new.conn.now) result (λ h windows. NamesWindows day (pledges_of (get h.books book)) windows) }
+    ensures lent { IsLent (state S.Store tx.old.conn.now) (state S.Store tx.new.conn.now) (is_ok result) }
+{
+    let day = day.count();
+    let rows = rows_of(
+        tx,
+        "SELECT DISTINCT slot FROM bookings WHERE book = ?1 AND day = ?2 AND state = 1 AND slot < 16",
+        params![book, day],
+    )?;
+    read_numbers(alloc, &rows)
+}
+
+// A page of the confirmed bookings of a window, of the pledges above a number.
+fn confirmed_page<S: Alter>(
+    tx: &mut Transaction<'_, S>,
+    alloc: Global,
     book: u32,
     day: Day,
     window: u64,
     above: u32,
-) -> Result<Option<Line>, KeepError>
+) -> Result<Rows<Line>, KeepError>
     ensures same_reference { tx.new.conn.ghost_name ≡ tx.old.conn.ghost_name }
-    ensures finds { FindsIn (IsUnsoundAt book) (state S.Store tx.old.conn.now) (state S.Store tx.new.conn.now) result (λ h line. IsNextLine (part_of.Confirmed window) day above (pledges_of (get h.books book)) line) }
+    ensures finds { FindsIn (IsUnsoundAt book) (state S.Store tx.old.conn.now) (state S.Store tx.new.conn.now) result (λ h page. IsLinesPage (part_of.Confirmed window) day above (pledges_of (get h.books book)) page) }
     ensures lent { IsLent (state S.Store tx.old.conn.now) (state S.Store tx.new.conn.now) (is_ok result) }
 {
     let Ok(slot) = u32::try_from(window) else {
@@ -83,68 +106,71 @@ fn next_confirmed<S: Alter>(
     let day = day.count();
     let rows = rows_of(
         tx,
-        "SELECT number FROM bookings WHERE book = ?1 AND number > ?2 AND day = ?3 AND slot = ?4 AND state = 1 ORDER BY number LIMIT 1",
+        "SELECT number FROM bookings WHERE book = ?1 AND number > ?2 AND day = ?3 AND slot = ?4 AND state = 1 ORDER BY number LIMIT 64",
         params![book, above, day, slot],
     )?;
-    first_confirmed(&rows)
+    read_lines(alloc, Part::Confirmed { window }, &rows)
 }
 
-// The first booking that is asked for whose pledge is above a number.
-fn next_asked<S: Alter>(
+// A page of the bookings that are asked for, of the pledges above a number.
+fn asked_page<S: Alter>(
     tx: &mut Transaction<'_, S>,
+    alloc: Global,
     book: u32,
     day: Day,
     above: u32,
-) -> Result<Option<Line>, KeepError>
+) -> Result<Rows<Line>, KeepError>
     ensures same_reference { tx.new.conn.ghost_name ≡ tx.old.conn.ghost_name }
-    ensures finds { FindsIn (IsUnsoundAt book) (state S.Store tx.old.conn.now) (state S.Store tx.new.conn.now) result (λ h line. IsNextLine part_of.Asked day above (pledges_of (get h.books book)) line) }
+    ensures finds { FindsIn (IsUnsoundAt book) (state S.Store tx.old.conn.now) (state S.Store tx.new.conn.now) result (λ h page. IsLinesPage part_of.Asked day above (pledges_of (get h.books book)) page) }
     ensures lent { IsLent (state S.Store tx.old.conn.now) (state S.Store tx.new.conn.now) (is_ok result) }
 {
     let day = day.count();
     let rows = rows_of(
         tx,
-        "SELECT number, slot FROM bookings WHERE book = ?1 AND number > ?2 AND day = ?3 AND state = 0 ORDER BY number LIMIT 1",
+        "SELECT number, slot FROM bookings WHERE book = ?1 AND number > ?2 AND day = ?3 AND state = 0 ORDER BY number LIMIT 64",
         params![book, above, day],
     )?;
-    first_asked(&rows)
+    read_lines(alloc, Part::Asked, &rows)
 }
 
-// The first pledge above a number whose period ends, the redeemed and the sold aside.
-fn next_end<S: Alter>(
+// A page of the pledges above a number whose period ends, the redeemed and the sold aside.
+fn ends_page<S: Alter>(
     tx: &mut Transaction<'_, S>,
+    alloc: Global,
     book: u32,
     day: Day,
     above: u32,
-) -> Result<Option<Line>, KeepError>
+) -> Result<Rows<Line>, KeepError>
     ensures same_reference { tx.new.conn.ghost_name ≡ tx.old.conn.ghost_name }
-    ensures finds { FindsIn (IsUnsoundAt book) (state S.Store tx.old.conn.now) (state S.Store tx.new.conn.now) result (λ h line. IsNextLine part_of.Ends day above (pledges_of (get h.books book)) line) }
+    ensures finds { FindsIn (IsUnsoundAt book) (state S.Store tx.old.conn.now) (state S.Store tx.new.conn.now) result (λ h page. IsLinesPage part_of.Ends day above (pledges_of (get h.books book)) page) }
     ensures lent { IsLent (state S.Store tx.old.conn.now) (state S.Store tx.new.conn.now) (is_ok result) }
 {
     let day = day.count();
     let rows = rows_of(
         tx,
-        "SELECT number FROM pledges WHERE book = ?1 AND number > ?2 AND closed = 0 AND ends = ?3 ORDER BY number LIMIT 1",
+        "SELECT number FROM pledges WHERE book = ?1 AND number > ?2 AND closed = 0 AND ends = ?3 ORDER BY number LIMIT 64",
         params![book, above, day],
     )?;
-    first_end(&rows)
+    read_lines(alloc, Part::Ends, &rows)
 }
 
-/// The first item of a part of a day's sheet that tells of a pledge above a number. A window that
-/// 32 bits can't hold is a fault.
-pub fn next_line<S: Alter>(
+/// A page of the lines of a part of a day's sheet, of the pledges above a number. A window that 32 bits
+/// can't hold is a fault.
+pub fn lines_page<S: Alter>(
     tx: &mut Transaction<'_, S>,
+    alloc: Global,
     book: u32,
     day: Day,
     part: Part,
     above: u32,
-) -> Result<Option<Line>, KeepError>
+) -> Result<Rows<Line>, KeepError>
     ensures same_reference { tx.new.conn.ghost_name ≡ tx.old.conn.ghost_name }
-    ensures finds { FindsIn (IsUnsoundAt book) (state S.Store tx.old.conn.now) (state S.Store tx.new.conn.now) result (λ h line. IsNextLine part day above (pledges_of (get h.books book)) line) }
+    ensures finds { FindsIn (IsUnsoundAt book) (state S.Store tx.old.conn.now) (state S.Store tx.new.conn.now) result (λ h page. IsLinesPage part day above (pledges_of (get h.books book)) page) }
     ensures lent { IsLent (state S.Store tx.old.conn.now) (state S.Store tx.new.conn.now) (is_ok result) }
 {
     match part {
-        Part::Confirmed { window } => next_confirmed(tx, book, day, window, above),
-        Part::Asked => next_asked(tx, book, day, above),
-        Part::Ends => next_end(tx, book, day, above),
+        Part::Confirmed { window } => confirmed_page(tx, alloc, book, day, window, above),
+        Part::Asked => asked_page(tx, alloc, book, day, above),
+        Part::Ends => ends_page(tx, alloc, book, day, above),
     }
 }

@@ -1,4 +1,4 @@
-ghost use Rattle.std.specs.Prelude.{◌≡◌, ◌+◌, IfErr, IfOk};
+ghost use Rattle.std.specs.Prelude.{◌≡◌, IfErr, IfOk};
 ghost use Rattle.std.specs.FinMap.{get};
 ghost use Rattle.sqlite.specs.Held.{state};
 ghost use Rattle.pawn_book.specs.declared.fault.KeepError.TheVariants as Keeper;
@@ -6,36 +6,39 @@ ghost use Rattle.pawn_book.specs.declared.fault.StoreFault.TheVariants.{Database
 ghost use Rattle.pawn_book.specs.BookStep.{pledge_in};
 ghost use Rattle.pawn_book.specs.Keeping.{Errs, Reads, entries_of, extensions_of, secrets_of};
 ghost use Rattle.pawn_book.specs.Sound.{IsUnsoundAt};
-ghost use Rattle.pawn_tables.specs.Entries.{IsNextEntry};
+ghost use Rattle.pawn_tables.specs.Entries.{IsEntriesPage, behind};
 ghost use Rattle.pawn_tables.specs.Keeps.{keeping_by};
+ghost use Rattle.pawn_tables.specs.Pages.{page_end};
 ghost use Rattle.pawn_tables.specs.Places.{at_place};
 ghost use Rattle.pawn_keeper.specs.Handing.{Hands};
 
+use super::handing::hand_all;
 use super::{BEYOND, TableKeep};
 use pawn_book::{Entry, Extension, Flow, Issued, KeepError, Number, Visitor};
-use pawn_tables::{extension_in, next_entry, secret_in};
+use pawn_debt::Entries;
+use pawn_tables::{PAGE_ROWS, entries_page, extension_in, secret_in};
 use sqlite::Alter;
 
 impl<S: Alter> TableKeep<S> {
-    // The first entry of a pledge from a number on.
-    fn entry_from(
+    // A page of the entries of a pledge, from a number on.
+    fn entries_from(
         &mut self,
         book: Number,
         number: Number,
         from: u32,
-    ) -> Result<Option<Entry>, KeepError>
-        ensures reads { Reads (keeping_by (λ k. state S.Store k.conn)) self.old self.new (λ h. IfOk result (λ x. IsNextEntry from (entries_of (pledge_in (get h.books book) number)) x)) }
+    ) -> Result<Entries, KeepError>
+        ensures reads { Reads (keeping_by (λ k. state S.Store k.conn)) self.old self.new (λ h. IfOk result (λ page. IsEntriesPage from (entries_of (pledge_in (get h.books book) number)) page)) }
         ensures errs { Errs (keeping_by (λ k. state S.Store k.conn)) self.old self.new (IsUnsoundAt book) result }
     {
         let _ = self.conn.is_autocommit();
         let mut tx = self.conn.transaction();
-        let entry = next_entry(&mut tx, book.get(), number.get(), from);
+        let page = entries_page(&mut tx, self.alloc, book.get(), number.get(), from);
         tx.rollback();
-        entry
+        page
     }
 
-    // Hands the entries of a pledge to the visitor until it wants no more. Each is looked for behind the
-    // number of the one before, so a number that is left out ends nothing.
+    // Hands the entries of a pledge to the visitor until it wants no more. Each page is looked for behind the
+    // number of the last entry before it, so a number that is left out ends nothing.
     pub(super) fn hand_entries<V: Visitor<Entry>>(
         &mut self,
         book: Number,
@@ -46,13 +49,15 @@ impl<S: Alter> TableKeep<S> {
     {
         let mut from = 0;
         for _ in 0..u32::MAX {
-            let Some(entry) = self.entry_from(book, number, from)? else {
-                return Ok(Flow::Go);
-            };
-            match visitor.visit(&entry) {
-                Flow::Go => from = behind(entry.seq)?,
+            let page = self.entries_from(book, number, from)?;
+            match hand_all(page.as_slice(), visitor) {
+                Flow::Go => {}
                 Flow::Stop => return Ok(Flow::Stop),
             }
+            if page.len() < PAGE_ROWS {
+                return Ok(Flow::Go);
+            }
+            from = behind_entries(from, page.as_slice())?;
         }
         Err(BEYOND)
     }
@@ -92,12 +97,15 @@ impl<S: Alter> TableKeep<S> {
     }
 }
 
-// The number behind one. There is none where 32 bits can't hold it.
-fn behind(seq: u64) -> Result<u32, KeepError>
-    ensures value { IfOk result (λ n. n ≡ seq + 1) }
+// The number behind a page of entries from a number on. There is none where 32 bits can't hold it.
+fn behind_entries(from: u32, page: &[Entry]) -> Result<u32, KeepError>
+    ensures value { IfOk result (λ n. n ≡ page_end behind from page.now) }
     ensures beyond { IfErr result (λ e. e ≡ Keeper.Store Database) }
 {
-    let Some(next) = seq.checked_add(1) else {
+    let Some(last) = page.last() else {
+        return Ok(from);
+    };
+    let Some(next) = last.seq.checked_add(1) else {
         return Err(BEYOND);
     };
     match u32::try_from(next) {

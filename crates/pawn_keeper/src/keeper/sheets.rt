@@ -5,13 +5,17 @@ ghost use Rattle.pawn_book.specs.Keeping.{Errs, Reads, pledges_of};
 ghost use Rattle.pawn_book.specs.Sheet.{part_head, part_items, window_sheet, windows_sheet, with_head, day_sheet};
 ghost use Rattle.pawn_book.specs.Sound.{IsUnsoundAt};
 ghost use Rattle.pawn_tables.specs.Keeps.{keeping_by};
-ghost use Rattle.pawn_tables.specs.Lines.{IsNextLine};
+ghost use Rattle.pawn_tables.specs.Lines.{IsLinesPage, NamesWindows};
+ghost use Rattle.pawn_tables.specs.Pages.{page_end};
 ghost use Rattle.pawn_keeper.specs.Handing.{Hands};
+ghost use Rattle.pawn_keeper.specs.Windows.{named_sheet, named_sheets};
 
+use super::handing::{hand_lines, hand_whole};
 use super::{BEYOND, NUMBERS, TableKeep};
 use pawn_book::{Day, Flow, KeepError, Number, Part, SheetItem, Visitor};
+use pawn_debt::Rows;
 use pawn_pledge::LAST_WINDOW;
-use pawn_tables::{Line, count_in, next_line};
+use pawn_tables::{Line, PAGE_ROWS, count_in, lines_page, windows_in};
 use sqlite::Alter;
 
 impl<S: Alter> TableKeep<S> {
@@ -27,22 +31,22 @@ impl<S: Alter> TableKeep<S> {
         count
     }
 
-    // The first item of a part that tells of a pledge above a number.
-    fn line_above(
+    // A page of a part's lines, of the pledges above a number.
+    fn lines_above(
         &mut self,
         book: Number,
         day: Day,
         part: Part,
         above: u32,
-    ) -> Result<Option<Line>, KeepError>
-        ensures reads { Reads (keeping_by (λ k. state S.Store k.conn)) self.old self.new (λ h. IfOk result (λ line. IsNextLine part day above (pledges_of (get h.books book)) line)) }
+    ) -> Result<Rows<Line>, KeepError>
+        ensures reads { Reads (keeping_by (λ k. state S.Store k.conn)) self.old self.new (λ h. IfOk result (λ page. IsLinesPage part day above (pledges_of (get h.books book)) page)) }
         ensures errs { Errs (keeping_by (λ k. state S.Store k.conn)) self.old self.new (IsUnsoundAt book) result }
     {
         let _ = self.conn.is_autocommit();
         let mut tx = self.conn.transaction();
-        let line = next_line(&mut tx, book.get(), day, part, above);
+        let page = lines_page(&mut tx, self.alloc, book.get(), day, part, above);
         tx.rollback();
-        line
+        page
     }
 
     // Hands a part's items to the visitor until it wants no more.
@@ -57,13 +61,15 @@ impl<S: Alter> TableKeep<S> {
     {
         let mut above = 0;
         for _ in 0..NUMBERS {
-            let Some(line) = self.line_above(book, day, part, above)? else {
-                return Ok(Flow::Go);
-            };
-            match visitor.visit(&line.item) {
-                Flow::Go => above = line.number.get(),
+            let page = self.lines_above(book, day, part, above)?;
+            match hand_lines(part, page.as_slice(), visitor) {
+                Flow::Go => {}
                 Flow::Stop => return Ok(Flow::Stop),
             }
+            if page.len() < PAGE_ROWS {
+                return Ok(Flow::Go);
+            }
+            above = behind_lines(above, page.as_slice());
         }
         Err(BEYOND)
     }
@@ -86,8 +92,8 @@ impl<S: Alter> TableKeep<S> {
         }
     }
 
-    // The same, with their number above them.
-    fn hand_headed<V: Visitor<SheetItem>>(
+    // The same, with their number above them, which the tables count.
+    fn hand_counted<V: Visitor<SheetItem>>(
         &mut self,
         book: Number,
         day: Day,
@@ -98,6 +104,24 @@ impl<S: Alter> TableKeep<S> {
     {
         let count = self.count_part(book, day, part)?;
         self.hand_under(book, day, part, count, visitor)
+    }
+
+    // Hands a part's items to the visitor until it wants no more, with their number above them. Where they are one page, it tells how
+    // many they are.
+    fn hand_headed<V: Visitor<SheetItem>>(
+        &mut self,
+        book: Number,
+        day: Day,
+        part: Part,
+        visitor: &mut V,
+    ) -> Result<Flow, KeepError>
+        ensures hands { Hands (keeping_by (λ k. state S.Store k.conn)) (IsUnsoundAt book) V.step self.old self.new visitor.old visitor.new result (λ h. with_head part (part_items part day (pledges_of (get h.books book)))) }
+    {
+        let page = self.lines_above(book, day, part, 0)?;
+        if page.len() < PAGE_ROWS {
+            return Ok(hand_whole(part, page.as_slice(), visitor));
+        }
+        self.hand_counted(book, day, part, visitor)
     }
 
     // Hands a window's items to the visitor until it wants no more; none where nobody comes.
@@ -111,14 +135,66 @@ impl<S: Alter> TableKeep<S> {
         ensures hands { Hands (keeping_by (λ k. state S.Store k.conn)) (IsUnsoundAt book) V.step self.old self.new visitor.old visitor.new result (λ h. window_sheet (pledges_of (get h.books book)) day window) }
     {
         let part = Part::Confirmed { window };
-        let count = self.count_part(book, day, part)?;
-        if count == 0 {
+        let page = self.lines_above(book, day, part, 0)?;
+        if page.is_empty() {
             return Ok(Flow::Go);
         }
-        self.hand_under(book, day, part, count, visitor)
+        if page.len() < PAGE_ROWS {
+            return Ok(hand_whole(part, page.as_slice(), visitor));
+        }
+        self.hand_counted(book, day, part, visitor)
     }
 
-    // Hands the windows' items to the visitor until it wants no more.
+    // The windows in which somebody comes on a day.
+    fn windows_on(&mut self, book: Number, day: Day) -> Result<Rows<u64>, KeepError>
+        ensures reads { Reads (keeping_by (λ k. state S.Store k.conn)) self.old self.new (λ h. IfOk result (λ windows. NamesWindows day (pledges_of (get h.books book)) windows)) }
+        ensures errs { Errs (keeping_by (λ k. state S.Store k.conn)) self.old self.new (IsUnsoundAt book) result }
+    {
+        let _ = self.conn.is_autocommit();
+        let mut tx = self.conn.transaction();
+        let windows = windows_in(&mut tx, self.alloc, book.get(), day);
+        tx.rollback();
+        windows
+    }
+
+    // Hands a window's items to the visitor until it wants no more, if the window is one of these.
+    fn hand_named<V: Visitor<SheetItem>>(
+        &mut self,
+        book: Number,
+        day: Day,
+        windows: &[u64],
+        window: u64,
+        visitor: &mut V,
+    ) -> Result<Flow, KeepError>
+        ensures hands { Hands (keeping_by (λ k. state S.Store k.conn)) (IsUnsoundAt book) V.step self.old self.new visitor.old visitor.new result (λ h. named_sheet windows.now (pledges_of (get h.books book)) day window) }
+    {
+        if windows.contains(&window) {
+            self.hand_window(book, day, window, visitor)
+        } else {
+            Ok(Flow::Go)
+        }
+    }
+
+    // Hands the items of these windows to the visitor until it wants no more.
+    fn hand_these<V: Visitor<SheetItem>>(
+        &mut self,
+        book: Number,
+        day: Day,
+        windows: &[u64],
+        visitor: &mut V,
+    ) -> Result<Flow, KeepError>
+        ensures hands { Hands (keeping_by (λ k. state S.Store k.conn)) (IsUnsoundAt book) V.step self.old self.new visitor.old visitor.new result (λ h. named_sheets windows.now (pledges_of (get h.books book)) day) }
+    {
+        for window in 0..LAST_WINDOW + 1 {
+            match self.hand_named(book, day, windows, window, visitor)? {
+                Flow::Go => {}
+                Flow::Stop => return Ok(Flow::Stop),
+            }
+        }
+        Ok(Flow::Go)
+    }
+
+    // Hands the windows' items to the visitor until it wants no more. Only those windows are read in which somebody comes.
     fn hand_windows<V: Visitor<SheetItem>>(
         &mut self,
         book: Number,
@@ -127,13 +203,8 @@ impl<S: Alter> TableKeep<S> {
     ) -> Result<Flow, KeepError>
         ensures hands { Hands (keeping_by (λ k. state S.Store k.conn)) (IsUnsoundAt book) V.step self.old self.new visitor.old visitor.new result (λ h. windows_sheet (pledges_of (get h.books book)) day) }
     {
-        for window in 0..LAST_WINDOW + 1 {
-            match self.hand_window(book, day, window, visitor)? {
-                Flow::Go => {}
-                Flow::Stop => return Ok(Flow::Stop),
-            }
-        }
-        Ok(Flow::Go)
+        let windows = self.windows_on(book, day)?;
+        self.hand_these(book, day, windows.as_slice(), visitor)
     }
 
     // Hands the items of a day's sheet to the visitor until it wants no more.
@@ -154,5 +225,15 @@ impl<S: Alter> TableKeep<S> {
             Flow::Stop => return Ok(Flow::Stop),
         }
         self.hand_headed(book, day, Part::Ends, visitor)
+    }
+}
+
+// Above which number the next page of lines begins.
+fn behind_lines(above: u32, page: &[Line]) -> u32
+    ensures value { result ≡ page_end (λ l. l.number) above page.now }
+{
+    match page.last() {
+        Some(line) => line.number.get(),
+        None => above,
     }
 }

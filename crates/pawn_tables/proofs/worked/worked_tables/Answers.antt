@@ -50,7 +50,7 @@ returns c = record {
     no_booking = refl;
     no_extension = refl;
     gap = ((omega arith, (omega arith, tt)), λ numbered. let two = numbered.1.0 in absurd (omega (arith, two)));
-    over_gap = refl;
+    over_gap = record { few = omega arith; goes_on = refl; is_last = λ short. refl };
     redeemed = (refl, refl, refl);
   };
 }

@@ -1,54 +1,68 @@
-use Rattle.std.proofs.Common.{rules, ◌≡◌, ℕ, ◌+◌, Some, None, Err, refl, sym, ap, subst, ◌∙◌}
+use Rattle.std.proofs.Common.{rules, ◌≡◌, ◌++◌, ◌<◌, ℕ, List, Ok, Err, length, refl, sym, ap, subst, ◌∙◌, arith}
+use Rattle.std.proofs.lemmas.List.{map-id}
+use Rattle.std.proofs.lemmas.Bool.Decides.{nat_tests}
 use Rattle.std.specs.FinMap.{get}
 use Rattle.sqlite.specs.Held.{state}
 use Rattle.pawn_book.proofs.Reading.{reads_as}
 use Rattle.pawn_book.specs.BookStep.{pledge_in}
+use Rattle.pawn_book.specs.HostStep.{Host}
 use Rattle.pawn_book.specs.Keeping.{entries_of}
+use Rattle.pawn_debt.specs.declared.entry.Entry.{Entry}
 use Rattle.pawn_tables.specs.Keeps.{keeping_by}
-use Rattle.pawn_tables.specs.Entries.{IsNextEntry, entries_from}
-use Rattle.pawn_keeper.proofs.Handings.{HandedTo, begins_at, ends_at, fails_at, goes_on, stops_at}
+use Rattle.pawn_tables.specs.Entries.{behind, entries_from}
+use Rattle.pawn_tables.specs.Pages.{most_rows, page_end}
 use Rattle.pawn_tables.proofs.NextEntries.{from_zero}
+use Rattle.pawn_keeper.proofs.Handings.{HandedTo, begins_at, ends_by, fails_at, goes_by, stops_by}
 use Rattle.pawn_keeper.proofs.Walks.{errs_database, reads_none}
 use Rattle.pawn_keeper.proofs.keeper.TableKeep.hand_entries.Goals as goal
 
 pub loop-init : goal.loop-init
 loop-init g c = begins_at (keeping_by (λ k. state g.S.Store k.conn)) g.V.Visitor.step (λ h. entries_of (pledge_in (get h.books c.args.book) c.args.number)) (λ n h. entries_from n (entries_of (pledge_in (get h.books c.args.book) c.args.number))) c.args.self.now c.args.visitor.now (λ h. from_zero (entries_of (pledge_in (get h.books c.args.book) c.args.number)))
 
-pub returns-in_err-entry : goal.returns-in_err-entry
-returns-in_err-entry g c = record {
-  hands = fails_at (keeping_by (λ k. state g.S.Store k.conn)) g.V.Visitor.step (λ h. entries_of (pledge_in (get h.books c.args.book) c.args.number)) (λ n h. entries_from n (entries_of (pledge_in (get h.books c.args.book) c.args.number))) c.args.self.now c.loop.self c.entry_from.new.self c.args.visitor.now c.loop.visitor c.loop.visitor c.loop.from c.loop.invariant (Err c.in_err-entry.field-0.0) c.from_residual.result c.in_err-entry.field-0.0 refl (search rules) c.in_err-entry.ensures.reads c.in_err-entry.ensures.errs;
+pub returns-in_err-page : goal.returns-in_err-page
+returns-in_err-page g c = record {
+  hands = fails_at (keeping_by (λ k. state g.S.Store k.conn)) g.V.Visitor.step (λ h. entries_of (pledge_in (get h.books c.args.book) c.args.number)) (λ n h. entries_from n (entries_of (pledge_in (get h.books c.args.book) c.args.number))) c.args.self.now c.loop.self c.entries_from.new.self c.args.visitor.now c.loop.visitor c.loop.visitor c.loop.from c.loop.invariant (Err c.in_err-page.field-0.0) c.from_residual.result c.in_err-page.field-0.0 refl (search rules) c.in_err-page.ensures.reads c.in_err-page.ensures.errs;
 }
-
-pub returns-in_default : goal.returns-in_default
-returns-in_default g c =
-    let none : c.in_ok-entry.field-0 ≡ None = search rules in
-    record {
-      hands = ends_at (keeping_by (λ k. state g.S.Store k.conn)) g.V.Visitor.step (λ h. entries_of (pledge_in (get h.books c.args.book) c.args.number)) (λ n h. entries_from n (entries_of (pledge_in (get h.books c.args.book) c.args.number))) c.args.self.now c.loop.self c.entry_from.new.self c.args.visitor.now c.loop.visitor c.loop.visitor c.loop.from c.loop.invariant
-          (reads_as c.in_ok-entry.ensures.reads (λ h told. subst (λ entry. IsNextEntry c.loop.from (entries_of (pledge_in (get h.books c.args.book) c.args.number)) entry) none told));
-    }
 
 pub returns-in-Stop : goal.returns-in-Stop
 returns-in-Stop g c =
-    let some : c.in_ok-entry.field-0 ≡ Some c.in-Some.entry = search rules in
+    let left : ℕ → Host → List Entry = λ n h. entries_from n (entries_of (pledge_in (get h.books c.args.book) c.args.number)) in
+    let page = c.in_ok-page.page in
+    let end = page_end behind c.loop.from page in
     record {
-      hands = stops_at (keeping_by (λ k. state g.S.Store k.conn)) g.V.Visitor.step (λ h. entries_of (pledge_in (get h.books c.args.book) c.args.number)) (λ n h. entries_from n (entries_of (pledge_in (get h.books c.args.book) c.args.number))) c.args.self.now c.loop.self c.entry_from.new.self c.args.visitor.now c.loop.visitor c.visit.new.self c.loop.from c.loop.invariant c.in-Some.entry (c.in-Some.entry.seq + 1)
-          (reads_as c.in_ok-entry.ensures.reads (λ h told. subst (λ entry. IsNextEntry c.loop.from (entries_of (pledge_in (get h.books c.args.book) c.args.number)) entry) some told)) (rw c.in-Stop.is at c.visit.ensures.steps);
+      hands = stops_by (keeping_by (λ k. state g.S.Store k.conn)) g.V.Visitor.step (λ h. entries_of (pledge_in (get h.books c.args.book) c.args.number)) left c.args.self.now c.loop.self c.entries_from.new.self c.args.visitor.now c.loop.visitor c.hand_all.new.visitor c.loop.from c.loop.invariant page end
+          (reads_as c.in_ok-page.ensures.reads (λ h told. told.goes_on ∙ ap (λ l. l ++ left end h) (map-id page))) (rw (c.as_slice.ensures.value, c.in-Stop.is) at c.hand_all.ensures.hands);
+    }
+
+pub returns-then-len-lt-PAGE_ROWS : goal.returns-then-len-lt-PAGE_ROWS
+returns-then-len-lt-PAGE_ROWS g c =
+    let short : length c.in_ok-page.page < most_rows = grind (arith, nat_tests, c.len.ensures.value, c.if-len-lt-PAGE_ROWS.true) in
+    let left : ℕ → Host → List Entry = λ n h. entries_from n (entries_of (pledge_in (get h.books c.args.book) c.args.number)) in
+    let page = c.in_ok-page.page in
+    let end = page_end behind c.loop.from page in
+    record {
+      hands = ends_by (keeping_by (λ k. state g.S.Store k.conn)) g.V.Visitor.step (λ h. entries_of (pledge_in (get h.books c.args.book) c.args.number)) left c.args.self.now c.loop.self c.entries_from.new.self c.args.visitor.now c.loop.visitor c.hand_all.new.visitor c.loop.from c.loop.invariant page end
+          (reads_as c.in_ok-page.ensures.reads (λ h told. (told.goes_on ∙ ap (λ l. l ++ left end h) (map-id page), told.is_last short))) (rw (c.as_slice.ensures.value, c.in-Go.is) at c.hand_all.ensures.hands);
     }
 
 pub loop-preserved : goal.loop-preserved
 loop-preserved g c =
-    let some : c.in_ok-entry.field-0 ≡ Some c.in-Some.entry = search rules in
-    subst (λ n. HandedTo (keeping_by (λ k. state g.S.Store k.conn)) g.V.Visitor.step (λ h. entries_of (pledge_in (get h.books c.args.book) c.args.number)) (λ n h. entries_from n (entries_of (pledge_in (get h.books c.args.book) c.args.number))) c.args.self.now c.entry_from.new.self c.args.visitor.now c.visit.new.self n) (sym c.in_ok-from-in-Go.ensures.value)
-    (goes_on (keeping_by (λ k. state g.S.Store k.conn)) g.V.Visitor.step (λ h. entries_of (pledge_in (get h.books c.args.book) c.args.number)) (λ n h. entries_from n (entries_of (pledge_in (get h.books c.args.book) c.args.number))) c.args.self.now c.loop.self c.entry_from.new.self c.args.visitor.now c.loop.visitor c.visit.new.self c.loop.from c.loop.invariant c.in-Some.entry (c.in-Some.entry.seq + 1)
-    (reads_as c.in_ok-entry.ensures.reads (λ h told. subst (λ entry. IsNextEntry c.loop.from (entries_of (pledge_in (get h.books c.args.book) c.args.number)) entry) some told)) (rw c.in-Go.is at c.visit.ensures.steps))
+    let left : ℕ → Host → List Entry = λ n h. entries_from n (entries_of (pledge_in (get h.books c.args.book) c.args.number)) in
+    let page = c.in_ok-page.page in
+    let end = page_end behind c.loop.from page in
+    subst (λ n. HandedTo (keeping_by (λ k. state g.S.Store k.conn)) g.V.Visitor.step (λ h. entries_of (pledge_in (get h.books c.args.book) c.args.number)) left c.args.self.now c.entries_from.new.self c.args.visitor.now c.hand_all.new.visitor n) (sym (rw c.as_slice-in-loop.ensures.value at c.in_ok-from.ensures.value))
+    (goes_by (keeping_by (λ k. state g.S.Store k.conn)) g.V.Visitor.step (λ h. entries_of (pledge_in (get h.books c.args.book) c.args.number)) left c.args.self.now c.loop.self c.entries_from.new.self c.args.visitor.now c.loop.visitor c.hand_all.new.visitor c.loop.from c.loop.invariant page end
+    (reads_as c.in_ok-page.ensures.reads (λ h told. told.goes_on ∙ ap (λ l. l ++ left end h) (map-id page))) (rw (c.as_slice.ensures.value, c.in-Go.is) at c.hand_all.ensures.hands))
 
-pub returns-in_err-from-in-Go : goal.returns-in_err-from-in-Go
-returns-in_err-from-in-Go g c =
-    let some : c.in_ok-entry.field-0 ≡ Some c.in-Some.entry = search rules in
-    let is : c.from_residual-in_err-from-in-Go.result ≡ Err c.in_err-from-in-Go.field-0.0 = search rules in
-    let given = goes_on (keeping_by (λ k. state g.S.Store k.conn)) g.V.Visitor.step (λ h. entries_of (pledge_in (get h.books c.args.book) c.args.number)) (λ n h. entries_from n (entries_of (pledge_in (get h.books c.args.book) c.args.number))) c.args.self.now c.loop.self c.entry_from.new.self c.args.visitor.now c.loop.visitor c.visit.new.self c.loop.from c.loop.invariant c.in-Some.entry (c.in-Some.entry.seq + 1)
-    (reads_as c.in_ok-entry.ensures.reads (λ h told. subst (λ entry. IsNextEntry c.loop.from (entries_of (pledge_in (get h.books c.args.book) c.args.number)) entry) some told)) (rw c.in-Go.is at c.visit.ensures.steps) in
+pub returns-in_err-from : goal.returns-in_err-from
+returns-in_err-from g c =
+    let left : ℕ → Host → List Entry = λ n h. entries_from n (entries_of (pledge_in (get h.books c.args.book) c.args.number)) in
+    let page = c.in_ok-page.page in
+    let end = page_end behind c.loop.from page in
+    let is : c.from_residual-in_err-from.result ≡ Err c.in_err-from.field-0.0 = search rules in
+    let given = goes_by (keeping_by (λ k. state g.S.Store k.conn)) g.V.Visitor.step (λ h. entries_of (pledge_in (get h.books c.args.book) c.args.number)) left c.args.self.now c.loop.self c.entries_from.new.self c.args.visitor.now c.loop.visitor c.hand_all.new.visitor c.loop.from c.loop.invariant page end
+    (reads_as c.in_ok-page.ensures.reads (λ h told. told.goes_on ∙ ap (λ l. l ++ left end h) (map-id page))) (rw (c.as_slice.ensures.value, c.in-Go.is) at c.hand_all.ensures.hands) in
     record {
-      hands = fails_at (keeping_by (λ k. state g.S.Store k.conn)) g.V.Visitor.step (λ h. entries_of (pledge_in (get h.books c.args.book) c.args.number)) (λ n h. entries_from n (entries_of (pledge_in (get h.books c.args.book) c.args.number))) c.args.self.now c.entry_from.new.self c.entry_from.new.self c.args.visitor.now c.visit.new.self c.visit.new.self (c.in-Some.entry.seq + 1) given c.from_residual-in_err-from-in-Go.result c.from_residual-in_err-from-in-Go.result c.in_err-from-in-Go.field-0.0 is is
-          (reads_none (keeping_by (λ k. state g.S.Store k.conn)) c.entry_from.new.self (λ h. Unit {0}) (λ h. tt)) (errs_database (keeping_by (λ k. state g.S.Store k.conn)) _ _ c.from_residual-in_err-from-in-Go.result (λ steady. steady) (is ∙ ap Err c.in_err-from-in-Go.ensures.beyond));
+      hands = fails_at (keeping_by (λ k. state g.S.Store k.conn)) g.V.Visitor.step (λ h. entries_of (pledge_in (get h.books c.args.book) c.args.number)) left c.args.self.now c.entries_from.new.self c.entries_from.new.self c.args.visitor.now c.hand_all.new.visitor c.hand_all.new.visitor end given c.from_residual-in_err-from.result c.from_residual-in_err-from.result c.in_err-from.field-0.0 is is
+          (reads_none (keeping_by (λ k. state g.S.Store k.conn)) c.entries_from.new.self (λ h. Unit {0}) (λ h. tt)) (errs_database (keeping_by (λ k. state g.S.Store k.conn)) _ _ c.from_residual-in_err-from.result (λ steady. steady) (is ∙ ap Err c.in_err-from.ensures.beyond));
     }

@@ -1,19 +1,32 @@
-use Rattle.std.proofs.Common.{rules, ◌∷◌, Err, refl, ap}
+use Rattle.std.proofs.Common.{rules, length, ◌<◌, ◌≡◌, ◌∙◌, List, map, Ok, Err, refl, sym, ap, arith}
+use Rattle.std.proofs.lemmas.Bool.Decides.{nat_tests}
 use Rattle.std.specs.FinMap.{get}
 use Rattle.sqlite.specs.Held.{state}
 use Rattle.pawn_book.specs.Keeping.{pledges_of}
-use Rattle.pawn_book.specs.Sheet.{part_head, part_items, with_head}
+use Rattle.pawn_book.specs.Sheet.{part_items, with_head}
 use Rattle.pawn_tables.specs.Keeps.{keeping_by}
-use Rattle.pawn_keeper.proofs.Handings.{hands_after, hands_unread}
+use Rattle.pawn_tables.specs.Pages.{most_rows}
+use Rattle.pawn_tables.specs.Lines.{item_of}
+use Rattle.pawn_keeper.proofs.Handings.{hands_after, hands_over, hands_unread}
+use Rattle.pawn_keeper.proofs.SheetPages.{whole_page}
 use Rattle.pawn_keeper.proofs.keeper.TableKeep.hand_headed.Goals as goal
 
-pub returns-in_err-count : goal.returns-in_err-count
-returns-in_err-count g c = record {
-  hands = hands_unread (keeping_by (λ k. state g.S.Store k.conn)) g.V.Visitor.step c.args.self.now c.count_part.new.self c.args.visitor.now (Err c.in_err-count.field-0.0) c.from_residual.result c.in_err-count.field-0.0 (λ h. with_head c.args.part (part_items c.args.part c.args.day (pledges_of (get h.books c.args.book)))) refl (search rules) c.in_err-count.ensures.reads c.in_err-count.ensures.errs;
+pub returns-in_err-page : goal.returns-in_err-page
+returns-in_err-page g c = record {
+  hands = hands_unread (keeping_by (λ k. state g.S.Store k.conn)) g.V.Visitor.step c.args.self.now c.lines_above.new.self c.args.visitor.now (Err c.in_err-page.field-0.0) c.from_residual.result c.in_err-page.field-0.0 (λ h. with_head c.args.part (part_items c.args.part c.args.day (pledges_of (get h.books c.args.book)))) refl (search rules) c.in_err-page.ensures.reads c.in_err-page.ensures.errs;
 }
+
+pub returns-then-len-lt-PAGE_ROWS : goal.returns-then-len-lt-PAGE_ROWS
+returns-then-len-lt-PAGE_ROWS g c =
+    let short : length c.in_ok-page.page < most_rows = grind (arith, nat_tests, c.len.ensures.value, c.if-len-lt-PAGE_ROWS.true) in
+    let lines = map (item_of c.args.part) c.in_ok-page.page in
+    record {
+      hands = hands_after (keeping_by (λ k. state g.S.Store k.conn)) g.V.Visitor.step c.args.self.now c.lines_above.new.self c.lines_above.new.self c.args.visitor.now c.hand_whole.new.visitor (Ok c.hand_whole.result) (λ h. with_head c.args.part lines) (λ h. with_head c.args.part (part_items c.args.part c.args.day (pledges_of (get h.books c.args.book))))
+          c.in_ok-page.ensures.reads (λ h told. ap (with_head c.args.part) (sym (whole_page c.args.part c.args.day (pledges_of (get h.books c.args.book)) c.in_ok-page.page told short)))
+          (hands_over (keeping_by (λ k. state g.S.Store k.conn)) g.V.Visitor.step c.lines_above.new.self c.args.visitor.now c.hand_whole.new.visitor (with_head c.args.part lines) c.hand_whole.result (rw c.as_slice.ensures.value at c.hand_whole.ensures.hands));
+    }
 
 pub returns : goal.returns
 returns g c = record {
-  hands = hands_after (keeping_by (λ k. state g.S.Store k.conn)) g.V.Visitor.step c.args.self.now c.count_part.new.self c.hand_under.new.self c.args.visitor.now c.hand_under.new.visitor c.hand_under.result (λ h. part_head c.args.part c.in_ok-count.count ∷ part_items c.args.part c.args.day (pledges_of (get h.books c.args.book))) (λ h. with_head c.args.part (part_items c.args.part c.args.day (pledges_of (get h.books c.args.book))))
-      c.in_ok-count.ensures.reads (λ h count. ap (λ n. part_head c.args.part n ∷ part_items c.args.part c.args.day (pledges_of (get h.books c.args.book))) count) c.hand_under.ensures.hands;
+  hands = hands_after (keeping_by (λ k. state g.S.Store k.conn)) g.V.Visitor.step c.args.self.now c.lines_above.new.self c.hand_counted.new.self c.args.visitor.now c.hand_counted.new.visitor c.hand_counted.result (λ h. with_head c.args.part (part_items c.args.part c.args.day (pledges_of (get h.books c.args.book)))) (λ h. with_head c.args.part (part_items c.args.part c.args.day (pledges_of (get h.books c.args.book)))) c.in_ok-page.ensures.reads (λ h told. refl) c.hand_counted.ensures.hands;
 }

@@ -1,31 +1,47 @@
-use Rattle.std.proofs.Common.{rules, ◌≡◌, ◌≢◌, ◌∷◌, Err, refl, sym, ap, ◌∙◌, arith}
+use Rattle.std.proofs.Common.{rules, ◌<◌, ◌≡◌, ◌≢◌, ◌∙◌, List, [], length, map, Ok, Err, refl, sym, ap, subst, arith}
 use Rattle.std.proofs.lemmas.Bool.Decides.{nat_tests}
 use Rattle.std.specs.FinMap.{get}
 use Rattle.sqlite.specs.Held.{state}
 use Rattle.pawn_book.specs.Keeping.{pledges_of}
-use Rattle.pawn_book.specs.Sheet.{part_head, part_items, window_sheet}
+use Rattle.pawn_book.specs.Sheet.{part_items, window_sheet, window_items, with_head}
 use Rattle.pawn_book.specs.declared.sheet.Part.TheVariants as part_of
-use Rattle.pawn_book.proofs.SheetLemmas.{window_none, window_some}
 use Rattle.pawn_tables.specs.Keeps.{keeping_by}
-use Rattle.pawn_keeper.proofs.Handings.{hands_after, hands_nothing, hands_unread}
+use Rattle.pawn_tables.specs.Pages.{most_rows}
+use Rattle.pawn_tables.specs.Lines.{item_of}
+use Rattle.pawn_keeper.proofs.Handings.{hands_after, hands_nothing, hands_over, hands_unread}
+use Rattle.pawn_keeper.proofs.SheetPages.{some_items, some_page, whole_page}
 use Rattle.pawn_keeper.proofs.keeper.TableKeep.hand_window.Goals as goal
 
-pub returns-in_err-count : goal.returns-in_err-count
-returns-in_err-count g c = record {
-  hands = hands_unread (keeping_by (λ k. state g.S.Store k.conn)) g.V.Visitor.step c.args.self.now c.count_part.new.self c.args.visitor.now (Err c.in_err-count.field-0.0) c.from_residual.result c.in_err-count.field-0.0 (λ h. window_sheet (pledges_of (get h.books c.args.book)) c.args.day c.args.window) refl (search rules) c.in_err-count.ensures.reads c.in_err-count.ensures.errs;
+pub returns-in_err-page : goal.returns-in_err-page
+returns-in_err-page g c = record {
+  hands = hands_unread (keeping_by (λ k. state g.S.Store k.conn)) g.V.Visitor.step c.args.self.now c.lines_above.new.self c.args.visitor.now (Err c.in_err-page.field-0.0) c.from_residual.result c.in_err-page.field-0.0 (λ h. window_sheet (pledges_of (get h.books c.args.book)) c.args.day c.args.window) refl (search rules) c.in_err-page.ensures.reads c.in_err-page.ensures.errs;
 }
 
-pub returns-then-count-eq0 : goal.returns-then-count-eq0
-returns-then-count-eq0 g c =
-    let none : c.in_ok-count.count ≡ 0 = grind (arith, nat_tests, c.if-count-eq0.true) in
+pub returns-then-is_empty : goal.returns-then-is_empty
+returns-then-is_empty g c =
+    let none : c.in_ok-page.page ≡ [] = search rules in
+    let short = ap length none in
     record {
-      hands = hands_nothing (keeping_by (λ k. state g.S.Store k.conn)) g.V.Visitor.step c.args.self.now c.count_part.new.self c.args.visitor.now (λ h. window_sheet (pledges_of (get h.books c.args.book)) c.args.day c.args.window) c.in_ok-count.ensures.reads (λ h count. window_none (part_of.Confirmed c.args.window) (part_items (part_of.Confirmed c.args.window) c.args.day (pledges_of (get h.books c.args.book))) (sym count ∙ none));
+      hands = hands_nothing (keeping_by (λ k. state g.S.Store k.conn)) g.V.Visitor.step c.args.self.now c.lines_above.new.self c.args.visitor.now (λ h. window_sheet (pledges_of (get h.books c.args.book)) c.args.day c.args.window) c.in_ok-page.ensures.reads (λ h told. ap (window_items (part_of.Confirmed c.args.window)) (whole_page (part_of.Confirmed c.args.window) c.args.day (pledges_of (get h.books c.args.book)) c.in_ok-page.page told (omega (arith, short)) ∙ ap (map (item_of (part_of.Confirmed c.args.window))) none));
+    }
+
+pub returns-then-len-lt-PAGE_ROWS : goal.returns-then-len-lt-PAGE_ROWS
+returns-then-len-lt-PAGE_ROWS g c =
+    let short : length c.in_ok-page.page < most_rows = grind (arith, nat_tests, c.len.ensures.value, c.if-len-lt-PAGE_ROWS.true) in
+    let page = c.in_ok-page.page in
+    let lines = map (item_of (part_of.Confirmed c.args.window)) page in
+    let some : page ≢ [] = search rules in
+    record {
+      hands = hands_after (keeping_by (λ k. state g.S.Store k.conn)) g.V.Visitor.step c.args.self.now c.lines_above.new.self c.lines_above.new.self c.args.visitor.now c.hand_whole.new.visitor (Ok c.hand_whole.result) (λ h. with_head (part_of.Confirmed c.args.window) lines) (λ h. window_sheet (pledges_of (get h.books c.args.book)) c.args.day c.args.window)
+          c.in_ok-page.ensures.reads (λ h told. sym (ap (window_items (part_of.Confirmed c.args.window)) (whole_page (part_of.Confirmed c.args.window) c.args.day (pledges_of (get h.books c.args.book)) page told short) ∙ some_page (part_of.Confirmed c.args.window) page some))
+          (hands_over (keeping_by (λ k. state g.S.Store k.conn)) g.V.Visitor.step c.lines_above.new.self c.args.visitor.now c.hand_whole.new.visitor (with_head (part_of.Confirmed c.args.window) lines) c.hand_whole.result (rw c.as_slice.ensures.value at c.hand_whole.ensures.hands));
     }
 
 pub returns : goal.returns
 returns g c =
-    let some : c.in_ok-count.count ≢ 0 = grind (arith, nat_tests, c.if-count-eq0.false) in
+    let page = c.in_ok-page.page in
+    let some : page ≢ [] = search rules in
     record {
-      hands = hands_after (keeping_by (λ k. state g.S.Store k.conn)) g.V.Visitor.step c.args.self.now c.count_part.new.self c.hand_under.new.self c.args.visitor.now c.hand_under.new.visitor c.hand_under.result (λ h. part_head (part_of.Confirmed c.args.window) c.in_ok-count.count ∷ (part_items (part_of.Confirmed c.args.window) c.args.day (pledges_of (get h.books c.args.book)))) (λ h. window_sheet (pledges_of (get h.books c.args.book)) c.args.day c.args.window)
-          c.in_ok-count.ensures.reads (λ h count. ap (λ n. part_head (part_of.Confirmed c.args.window) n ∷ (part_items (part_of.Confirmed c.args.window) c.args.day (pledges_of (get h.books c.args.book)))) count ∙ sym (window_some (part_of.Confirmed c.args.window) (part_items (part_of.Confirmed c.args.window) c.args.day (pledges_of (get h.books c.args.book))) (λ none. some (count ∙ none)))) c.hand_under.ensures.hands;
+      hands = hands_after (keeping_by (λ k. state g.S.Store k.conn)) g.V.Visitor.step c.args.self.now c.lines_above.new.self c.hand_counted.new.self c.args.visitor.now c.hand_counted.new.visitor c.hand_counted.result (λ h. with_head (part_of.Confirmed c.args.window) (part_items (part_of.Confirmed c.args.window) c.args.day (pledges_of (get h.books c.args.book)))) (λ h. window_sheet (pledges_of (get h.books c.args.book)) c.args.day c.args.window)
+          c.in_ok-page.ensures.reads (λ h told. sym (some_items (part_of.Confirmed c.args.window) c.args.day (pledges_of (get h.books c.args.book)) page some told)) c.hand_counted.ensures.hands;
     }

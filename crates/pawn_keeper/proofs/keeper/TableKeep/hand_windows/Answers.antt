@@ -1,25 +1,21 @@
-use Rattle.std.proofs.Common.{rules, ◌≡◌, Ok, Err, refl, sym, ap, ◌∙◌, arith}
+use Rattle.std.proofs.Common.{rules, List, Err, refl}
 use Rattle.std.specs.FinMap.{get}
 use Rattle.sqlite.specs.Held.{state}
-use Rattle.pawn_book.specs.declared.visit.Flow.TheVariants.{Go, Stop}
 use Rattle.pawn_book.specs.Keeping.{pledges_of}
-use Rattle.pawn_book.specs.Sheet.{window_sheet}
+use Rattle.pawn_book.specs.Sheet.{windows_sheet}
 use Rattle.pawn_tables.specs.Keeps.{keeping_by}
-use Rattle.pawn_keeper.proofs.Handings.{windows_end, windows_go}
+use Rattle.pawn_keeper.specs.Windows.{named_sheets}
+use Rattle.pawn_keeper.proofs.Handings.{hands_after, hands_unread}
+use Rattle.pawn_keeper.proofs.SheetPages.{named_all}
 use Rattle.pawn_keeper.proofs.keeper.TableKeep.hand_windows.Goals as goal
 
-pub returns-in_err-hand_window : goal.returns-in_err-hand_window
-returns-in_err-hand_window g c = record {
-  hands = windows_end (keeping_by (λ k. state g.S.Store k.conn)) g.V.Visitor.step (λ h. window_sheet (pledges_of (get h.books c.args.book)) c.args.day) c.args.self.now c.loop-window.self c.hand_window.new.self c.args.visitor.now c.loop-window.visitor c.hand_window.new.visitor c.loop-window.window c.loop-window.invariant.handed (Err c.in_err-hand_window.field-0.0) c.from_residual.result c.loop-window-test.true (λ e. cc e) (search rules) c.in_err-hand_window.ensures.hands;
+pub returns-in_err-windows : goal.returns-in_err-windows
+returns-in_err-windows g c = record {
+  hands = hands_unread (keeping_by (λ k. state g.S.Store k.conn)) g.V.Visitor.step c.args.self.now c.windows_on.new.self c.args.visitor.now (Err c.in_err-windows.field-0.0) c.from_residual.result c.in_err-windows.field-0.0 (λ h. windows_sheet (pledges_of (get h.books c.args.book)) c.args.day) refl (search rules) c.in_err-windows.ensures.reads c.in_err-windows.ensures.errs;
 }
 
-pub returns-in-Stop : goal.returns-in-Stop
-returns-in-Stop g c = record {
-  hands = windows_end (keeping_by (λ k. state g.S.Store k.conn)) g.V.Visitor.step (λ h. window_sheet (pledges_of (get h.books c.args.book)) c.args.day) c.args.self.now c.loop-window.self c.hand_window.new.self c.args.visitor.now c.loop-window.visitor c.hand_window.new.visitor c.loop-window.window c.loop-window.invariant.handed (Ok Stop) (Ok Stop) c.loop-window-test.true (λ e. cc e) refl (rw c.in-Stop.is at c.in_ok-hand_window.ensures.hands);
-}
-
-pub loop-window-preserved : goal.loop-window-preserved
-loop-window-preserved g c = record {
-  within = omega (arith, c.loop-window-test.true);
-  handed = windows_go (keeping_by (λ k. state g.S.Store k.conn)) g.V.Visitor.step (λ h. window_sheet (pledges_of (get h.books c.args.book)) c.args.day) c.args.self.now c.loop-window.self c.hand_window.new.self c.args.visitor.now c.loop-window.visitor c.hand_window.new.visitor c.loop-window.window c.loop-window.invariant.handed (rw c.in-Go.is at c.in_ok-hand_window.ensures.hands);
+pub returns : goal.returns
+returns g c = record {
+  hands = hands_after (keeping_by (λ k. state g.S.Store k.conn)) g.V.Visitor.step c.args.self.now c.windows_on.new.self c.hand_these.new.self c.args.visitor.now c.hand_these.new.visitor c.hand_these.result (λ h. named_sheets c.in_ok-windows.windows (pledges_of (get h.books c.args.book)) c.args.day) (λ h. windows_sheet (pledges_of (get h.books c.args.book)) c.args.day)
+      c.in_ok-windows.ensures.reads (λ h named. named_all c.args.day (pledges_of (get h.books c.args.book)) c.in_ok-windows.windows named) (rw c.as_slice.ensures.value at c.hand_these.ensures.hands);
 }

@@ -1,0 +1,127 @@
+#!/usr/bin/env python3
+"""Prints the processor time of a request over a file, beside that of another program that answers the same bytes.
+
+usage: bench/beside.py [--pledges N] PEER [PROGRAM]     (default: 10,000 pledges, build/pawnd)
+
+PEER is a program of the form `PEER answer DATABASE DAY SEED KEY` that keeps its books in tables of the same names and columns, but
+for those that it leaves out. Each makes its own tables, and Python's sqlite3 fills both with the same rows. The requests of a kind
+are a stream; its time is that of the whole process, that of a process without requests taken off, and the best of some runs in
+turns. Then come the slowest requests of the book in absolute words.
+"""
+import hashlib
+import os
+import random
+import resource
+import shutil
+import sqlite3
+import subprocess
+import sys
+import tempfile
+
+WORDS = sys.argv[1:]
+PLEDGES = int(WORDS.pop(WORDS.index("--pledges") + 1)) if "--pledges" in WORDS else 10_000
+NAMED = [word for word in WORDS if not word.startswith("--")]
+sys.path.insert(0, os.path.join(os.path.dirname(os.path.abspath(__file__)), "../tests"))
+if len(NAMED) > 1:
+    os.environ["PAWND"] = NAMED[1]
+
+from service import BROKER, OPERATOR, PROGRAM, SEED, request  # noqa: E402
+
+RUNS = 5
+TODAY, ENDS, DAY = 19753, 19935, "2024-01-31"  # 2024-01-31 and 2024-07-31, as days since 1970-01-01
+LONG = 999
+
+
+def word(book, number):
+    return hashlib.md5(f"{book}/{number}".encode()).digest()
+
+
+def receipt(book, number):
+    digits = word(book, number).hex()
+    return f"{number}-{digits[:8]}-{digits[8:12]}-{digits[12:16]}-{digits[16:20]}-{digits[20:]}"
+
+
+def fill(program, path):
+    """Book 1 of so many pledges, each with up to three entries and one in twenty with a booking; book 2 with a pledge of many
+    entries, and book 3 for openings."""
+    subprocess.run([program, "answer", path, DAY, SEED, OPERATOR], stdin=subprocess.DEVNULL, stdout=subprocess.DEVNULL, check=True)
+    base, key = sqlite3.connect(path), bytes.fromhex(BROKER.replace("-", ""))
+    has = {name for name, in base.execute("SELECT name FROM sqlite_master")}
+    every = [(1, number) for number in range(1, PLEDGES + 1)] + [(2, 1)]
+    entries = {name: LONG if name == (2, 1) else name[1] % 4 for name in every}
+
+    def put(table, columns, rows):
+        if table not in has:
+            return 0
+        marks = ", ".join("?" * len(columns.split()))
+        return base.executemany(f"INSERT INTO {table} ({', '.join(columns.split())}) VALUES ({marks})", rows).rowcount
+
+    counted = put("books", "book book_key title capacity terms pledges", [(1, key, "High Street", 100, 1, PLEDGES), (2, key, "High Street", 100, 1, 1), (3, key, "High Street", 100, 1, 0)])
+    counted += put("terms", "book version rate keep_before keep_after", [(book, 1, 2667, 0, 0) for book in (1, 2, 3)])
+    counted += put("pledges", "book number ref article kind credit taken five version ends held last_day closed",
+                   [(*name, f"R{name[1]}", "Ring, 9 ct gold", 0, 900000, TODAY, 0, 1, ENDS, 0, TODAY, 0) for name in every])
+    counted += put("entries", "book number seq day sort pence", [(*name, seq, TODAY, 1, 100) for name in every for seq in range(1, entries[name] + 1)])
+    counted += put("secrets", "book number place day sort secret", [(*name, 1, TODAY, 0, word(*name)) for name in every])
+    counted += put("bookings", "book number day slot state", [(1, number, TODAY + 3 + number % 5, number % 16, 0) for number in range(7, PLEDGES + 1, 20)])
+    put("totals", "book number day principal charges", [(*name, TODAY, 900000 - 100 * entries[name], 0) for name in every])
+    base.execute("UPDATE meta SET value = ? WHERE name = 'rows'", (counted,))
+    base.commit()
+    if base.execute("PRAGMA journal_mode").fetchone()[0] == "wal":
+        base.execute("PRAGMA wal_checkpoint(TRUNCATE)")
+    base.close()
+
+
+def streams():
+    """The requests of each kind, with the line that its ratio is held to, if there is one."""
+    seeded, key = random.Random(1), f"Pledge-Key: {BROKER}"
+    numbers = [seeded.randrange(1, PLEDGES + 1) for _ in range(900)]
+    once = random.Random(2).sample(range(1, PLEDGES + 1), min(900, PLEDGES))
+    opening = '{"article":"Ring, 9 ct gold","five_days":true,"kind":"fixed","pence":10000,"ref":"N%d"}'
+    return [
+        ("a view", 2.0, [request("GET", "/books/1/held", f"Pledge-Receipt: {receipt(1, number)}") for number in numbers]),
+        ("a repayment", 1.7, [request("POST", f"/books/1/pledges/{number}/repay", key, body='{"pence":10,"seq":%d}' % (number % 4 + 1)) for number in once]),
+        ("an opening", 1.5, [request("POST", "/books/3/pledges", key, body=opening % at) for at in range(900)]),
+        (f"a statement of {LONG} entries", 3, [request("GET", "/books/2/pledges/1", key)] * 100),
+        ("a day's sheet", 30, [request("GET", f"/books/1/days/2024-02-{3 + at % 5:02}", key) for at in range(40)]),
+        ("an export", 8, [request("GET", "/books/1/export", key)] * 2),
+    ]
+
+
+def spent(program, path, asked):
+    """The processor time of a run over a copy of the file, in seconds, and the replies' bytes."""
+    with tempfile.TemporaryDirectory(dir=os.path.dirname(path)) as room, tempfile.TemporaryFile() as stream:
+        scratch = shutil.copy(path, room)
+        stream.write(b"".join(asked))
+        stream.seek(0)
+        before = resource.getrusage(resource.RUSAGE_CHILDREN)
+        ran = subprocess.run([program, "answer", scratch, DAY, SEED, OPERATOR], stdin=stream, stdout=subprocess.PIPE, check=True)
+        after = resource.getrusage(resource.RUSAGE_CHILDREN)
+    return after.ru_utime + after.ru_stime - before.ru_utime - before.ru_stime, ran.stdout
+
+
+def main():
+    if not NAMED:
+        sys.exit(__doc__)
+    if not os.path.exists(PROGRAM):
+        sys.exit("no program: run make first, or name one")
+    programs = [(PROGRAM, "own.db"), (os.path.abspath(NAMED[0]), "peer.db")]
+    place = "/dev/shm" if os.path.isdir("/dev/shm") else None
+    with tempfile.TemporaryDirectory(dir=place) as room:
+        paths = [(program, os.path.join(room, name)) for program, name in programs]
+        for program, path in paths:
+            fill(program, path)
+        idle = [min(spent(program, path, [])[0] for _ in range(RUNS)) for program, path in paths]
+        print(f"microseconds of processor time a request, over files of {PLEDGES} pledges")
+        for kind, line, asked in streams():
+            best, said = [None, None], [b"", b""]
+            for _ in range(RUNS):
+                for at, (program, path) in enumerate(paths):
+                    time, said[at] = spent(program, path, asked)
+                    each = (time - idle[at]) / len(asked) * 1e6
+                    best[at] = each if best[at] is None else min(best[at], each)
+            alike = "" if said[0] == said[1] else "  OTHER BYTES"
+            print(f"{kind}: {best[0]:.0f}, beside {best[1]:.0f}: {best[0] / max(best[1], 0.1):.1f} times, the line is {line}{alike}", flush=True)
+
+
+if __name__ == "__main__":
+    main()

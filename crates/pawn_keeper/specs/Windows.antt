@@ -1,0 +1,14 @@
+-- The windows of a day that are read.
+use Rattle.std.specs.Prelude.{ℕ, ◌==◌, if◌then◌else◌, List, []}
+use Rattle.std.specs.List.{flat_map, list_any}
+use Rattle.pawn_pledge.specs.Pledge.{PledgeValue}
+use Rattle.pawn_book.specs.declared.sheet.SheetItem.{SheetItem}
+use Rattle.pawn_book.specs.Sheet.{window_sheet, windows}
+
+-- a window's items, if the window is one of these
+abbrev pub named_sheet : List ℕ → List PledgeValue → ℕ → ℕ → List SheetItem
+named_sheet named pledges day window = if list_any (λ n. n == window) named then window_sheet pledges day window else []
+
+-- the items of those of a day's windows that are among these
+abbrev pub named_sheets : List ℕ → List PledgeValue → ℕ → List SheetItem
+named_sheets named pledges day = flat_map (named_sheet named pledges day) windows

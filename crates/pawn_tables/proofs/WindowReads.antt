@@ -1,0 +1,129 @@
+-- What the query for the windows of a day shows, where the tables stand for a host.
+use Rattle.std.proofs.Common.{◌≡◌, ◌≢◌, ◌==◌, ℕ, ◌<◌, pos, List, [], ◌∷◌, map, filter, filter_map, nat_lt, Bool, true, false, cond, ◌&&◌, ◌||◌, Option, Some, None, refl, sym, ap, subst, ◌∙◌, arith, true≢false}
+use Rattle.std.specs.List.{AllByRecursion, list_all, list_any, cons_option}
+use Rattle.std.specs.FinMap.{get}
+use Rattle.std.specs.Ordering.{is_eq, ordering_then}
+use Rattle.std.specs.declared.cmp.Ordering.{Ordering}
+use Rattle.std.specs.declared.cmp.Ordering.TheVariants.{Less, Equal, Greater}
+use Rattle.std.proofs.lemmas.Bool.Decides.{nat_tests}
+use Rattle.std.proofs.lemmas.Cmp.{alike_right, tied_itself}
+use Rattle.sqlite.specs.Collation.TheVariants.{Binary}
+use Rattle.sqlite.specs.Order.{Row, column, value_cmp}
+use Rattle.sqlite.specs.Table.{Table}
+use Rattle.sqlite.specs.State.{State, Shown}
+use Rattle.sqlite_value.specs.Keys.{collated_cmp}
+use Rattle.sqlite_value.proofs.KeyLemmas.{collated_cmp_total}
+use Rattle.sqlite_value.proofs.OrderLemmas.{value_cmp-Int}
+use Rattle.sqlite_trees.proofs.ListLemmas.{all_from_map, all_of, all-map, all_weaker}
+use Rattle.pawn_pledge.specs.declared.record.Booking.{Booking}
+use Rattle.pawn_pledge.specs.Pledge.{PledgeValue}
+use Rattle.pawn_book.specs.declared.sheet.Part.TheVariants as part_of
+use Rattle.pawn_book.specs.declared.sheet.SheetItem.{SheetItem}
+use Rattle.pawn_book.specs.declared.sheet.SheetItem.TheVariants.{Confirmed}
+use Rattle.pawn_book.specs.Bookings.{is_confirmed, is_confirmed_for}
+use Rattle.pawn_book.specs.Sheet.{part_items}
+use Rattle.pawn_book.specs.HostStep.{Host}
+use Rattle.pawn_book.specs.Keeping.{pledges_of}
+use Rattle.pawn_tables.specs.At.{is_at, is_below}
+use Rattle.pawn_tables.specs.Heads.{number_cells}
+use Rattle.pawn_tables.specs.Lines.{NamesWindows}
+use Rattle.pawn_tables.specs.Rows.{number, number_of, under, booking_cells, booking_listed, state_number}
+use Rattle.pawn_tables.specs.Schema.{keep_schema, bookings}
+use Rattle.pawn_tables.specs.StandsFor.{StandsFor, of_pledges}
+use Rattle.one_table.proofs.Distinct.{each_shown_once, shown_once_each}
+use Rattle.pawn_tables.proofs.ReadTexts as text
+use Rattle.pawn_tables.proofs.BookReads as books
+use Rattle.pawn_tables.proofs.BookReads.{one_test}
+use Rattle.pawn_tables.proofs.LineReads.{all_kept, booking_in}
+use Rattle.pawn_tables.proofs.OneEach.{shown_each, tell_of}
+use Rattle.pawn_tables.proofs.Searches.{confirmed_state}
+use Rattle.pawn_tables.proofs.Sought.{equals}
+
+-- a booking that is confirmed for one of the windows of the day
+abbrev comes_on : ℕ → Booking → Bool
+comes_on day k = (k.day == day) && (is_confirmed k.state && nat_lt k.window 16)
+
+abbrev window_told : ℕ → PledgeValue → Option ℕ
+window_told day p = tell_of (comes_on day) (λ n (k : Booking). k.window) (number_of p) p.standing.booking
+
+-- nobody comes in a window that is told of no pledge
+none_comes : (day w : ℕ) → w < 16 → (ps : List PledgeValue) → AllByRecursion (λ (n : ℕ). n ≢ w) (filter_map (window_told day) ps) → part_items (part_of.Confirmed w) day ps ≡ []
+none_comes day w few [] all = refl
+none_comes day w few (p ∷ ps) all = go (λ more. none_comes day w few ps more) p.standing.booking all
+  where
+    go : (AllByRecursion (λ (n : ℕ). n ≢ w) (filter_map (window_told day) ps) → part_items (part_of.Confirmed w) day ps ≡ []) → (o : Option Booking)
+        → AllByRecursion (λ (n : ℕ). n ≢ w) (cons_option (tell_of (comes_on day) (λ n (k : Booking). k.window) (number_of p) o) (filter_map (window_told day) ps))
+        → cons_option (cond (is_confirmed_for day w o) (Some (Confirmed (number_of p))) None) (part_items (part_of.Confirmed w) day ps) ≡ []
+    go rest None all = rest all
+    go rest (Some k) all = each (k.day == day) (k.window == w) (is_confirmed k.state) (nat_lt k.window 16) (λ e. grind (arith, nat_tests, e)) (λ e. grind (arith, nat_tests, e, few)) all
+      where
+        each : (d e s l : Bool) → (e ≡ true → k.window ≡ w) → (e ≡ true → l ≡ true)
+            → AllByRecursion (λ (n : ℕ). n ≢ w) (cons_option (cond (d && (s && l)) (Some k.window) None) (filter_map (window_told day) ps))
+            → cons_option (cond ((d && e) && s) (Some (Confirmed (number_of p))) None) (part_items (part_of.Confirmed w) day ps) ≡ []
+        each true true true true same low all = absurd (all.0 (same refl))
+        each true true true false same low all = absurd (true≢false (sym (low refl)))
+        each true true false l same low all = rest all
+        each true false true true same low all = rest all.1
+        each true false true false same low all = rest all
+        each true false false l same low all = rest all
+        each false e s l same low all = rest all
+
+abbrev at_windows : ℕ → ℕ → Row → Bool
+at_windows b day v = list_all (λ (x : Bool). x) (is_at (column v 0) (number b) ∷ is_at (column v 2) (number day) ∷ is_at (column v 4) (number 1) ∷ is_below (column v 3) (number 16) ∷ [])
+
+windows_passes : (b day m n : ℕ) (k : Booking) → at_windows b day (under m n (booking_cells k)) ≡ ((m == b) && (true && comes_on day k))
+windows_passes b day m n k =
+    λ i. equals m b i && (equals k.day day i && ((equals (state_number k.state) 1 ∙ confirmed_state k.state) i && (one_test (is_below (number k.window) (number 16)) ∙ books.lesser k.window 16) i))
+
+numbers_in : (rows : List Row) → AllByRecursion (λ r. (n : ℕ) × (r ≡ number_cells n)) rows → (ns : List ℕ) × (rows ≡ map number_cells ns)
+numbers_in [] all = ([], refl)
+numbers_in (r ∷ rs) all = let rest = numbers_in rs all.1 in (all.0.0 ∷ rest.0, (λ i. all.0.1 i ∷ rest.1 i))
+
+-- rows of other numbers
+tied : (m n : ℕ) → is_eq (value_cmp (number m) (number n)) ≡ (m == n)
+tied m n = ap is_eq (value_cmp-Int (pos m) (pos n)) ∙ grind (arith, nat_tests)
+
+others : (w : ℕ) (ns : List ℕ) → list_any (λ n. n == w) ns ≡ false → AllByRecursion (λ (n : ℕ). (n == w) ≡ false) ns
+others w [] none = tt
+others w (n ∷ ns) none = go (λ rest. others w ns rest) (n == w) refl none
+  where
+    go : (list_any (λ m. m == w) ns ≡ false → AllByRecursion (λ (m : ℕ). (m == w) ≡ false) ns) → (c : Bool) → (n == w) ≡ c → (c || list_any (λ m. m == w) ns) ≡ false → AllByRecursion (λ (m : ℕ). (m == w) ≡ false) (n ∷ ns)
+    go rest true is none = absurd (true≢false none)
+    go rest false is none = (is, rest none)
+
+apart : (w n : ℕ) → (n == w) ≡ false → collated_cmp (Binary ∷ []) (number_cells w) (number_cells n) ≡ Equal → ⊥
+apart w n other same = go (value_cmp (number w) (number n)) refl same
+  where
+    go : (o : Ordering) → value_cmp (number w) (number n) ≡ o → ordering_then o (collated_cmp [] [] []) ≡ Equal → ⊥
+    go Less is same = let e = same in cc
+    go Equal is same = let eq : (w == n) ≡ true = sym (tied w n) ∙ ap is_eq is in grind (arith, nat_tests, eq, other)
+    go Greater is same = let e = same in cc
+
+module _ (b day : ℕ) (old new : State) (h : Host) (rows : List Row) (st : StandsFor old.now h) (shown : Shown text.windows_text (number b ∷ number day ∷ []) old new rows) where
+  abbrev ps : List PledgeValue
+  ps = pledges_of (get h.books b)
+
+  abbrev cells : Row → Row
+  cells v = column v 3 ∷ []
+
+  abbrev table : Table
+  table = record bookings { tree = 11 }
+
+  told : map cells (filter (at_windows b day) (of_pledges h booking_listed)) ≡ map number_cells (filter_map (window_told day) ps)
+  told = shown_each b booking_in booking_cells (at_windows b day) (λ n. true) (comes_on day) (λ n (k : Booking). k.window) cells number_cells (windows_passes b day) (λ m n k. refl) h
+      ∙ ap (λ qs. map number_cells (filter_map (window_told day) qs)) (all_kept ps)
+
+  pub windows_shown : (ns : List ℕ) × (rows ≡ map number_cells ns) × NamesWindows day ps ns
+  windows_shown =
+      let numbers = shown_once_each keep_schema 11 (λ _. refl) table text.windows_tests text.windows_shows (Binary ∷ []) (number b ∷ number day ∷ []) (at_windows b day) cells (λ _. refl) (λ _. refl) text.windows_text _ text.windows_is old new (of_pledges h booking_listed) rows st.schema st.bookings shown
+      (λ r. (n : ℕ) × (r ≡ number_cells n)) (subst (AllByRecursion (λ r. (n : ℕ) × (r ≡ number_cells n))) (sym told) (all-map (λ r. (n : ℕ) × (r ≡ number_cells n)) number_cells _ (all_of (λ m. (n : ℕ) × (number_cells m ≡ number_cells n)) (λ m. (m, refl)) _))) in
+      let ns = numbers_in rows numbers in
+      (ns.0, ns.1, λ w few none. none_comes day w (omega (arith, few)) ps (names w ns.0 ns.1 none))
+    where
+      names : (w : ℕ) (ns : List ℕ) → rows ≡ map number_cells ns → list_any (λ n. n == w) ns ≡ false → AllByRecursion (λ (n : ℕ). n ≢ w) (filter_map (window_told day) ps)
+      names w ns are none =
+          let P : Row → Type 0 = λ r. collated_cmp (Binary ∷ []) (number_cells w) r ≡ Equal → ⊥ in
+          let rows_apart = subst (AllByRecursion P) (sym are) (all-map P number_cells ns (all_weaker _ (λ n. P (number_cells n)) (apart w) ns (others w ns none))) in
+          let all = each_shown_once keep_schema 11 (λ _. refl) table text.windows_tests text.windows_shows (Binary ∷ []) (number b ∷ number day ∷ []) (at_windows b day) cells (λ _. refl) (λ _. refl) text.windows_text _ text.windows_is old new (of_pledges h booking_listed) rows st.schema st.bookings shown
+          P (λ x y same not e. not (alike_right (collated_cmp_total (Binary ∷ [])) x y (number_cells w) same ∙ e)) rows_apart in
+          all_weaker _ (λ (n : ℕ). n ≢ w) (λ n not same. not (ap (λ m. collated_cmp (Binary ∷ []) (number_cells w) (number_cells m)) same ∙ tied_itself (collated_cmp_total (Binary ∷ [])) (number_cells w))) _ (all_from_map P number_cells _ (subst (AllByRecursion P) told all))

@@ -1,0 +1,34 @@
+use Rattle.std.proofs.Common.{rules, ◌≡◌, ◌<◌, List, length, refl, sym, ap, ◌∙◌, arith}
+use Rattle.sqlite.specs.Order.{Row, column}
+use Rattle.pawn_pledge.specs.Number.{IsNumber}
+use Rattle.pawn_book.specs.declared.sheet.Part.{Part}
+use Rattle.pawn_book.specs.declared.sheet.Part.TheVariants as part_of
+use Rattle.pawn_tables.specs.Rows.{number}
+use Rattle.pawn_tables.specs.Lines.{line_cells}
+use Rattle.pawn_tables.specs.declared.line.Line.{Line}
+use Rattle.pawn_tables.proofs.Placed.{always_read}
+use Rattle.pawn_tables.proofs.RowCells.{cell_at}
+use Rattle.pawn_tables.proofs.lines.line_of.Goals as goal
+
+-- the number of a line stands first in its row
+first_cell : (part : Part) (l : Line) (row : Row) → row ≡ line_cells part l → (0 < length row) × (column row 0 ≡ number l.number)
+first_cell (part_of.Confirmed window) l row is = cell_at row _ 0 (number l.number) is (omega arith) refl
+first_cell part_of.Asked l row is = cell_at row _ 0 (number l.number) is (omega arith) refl
+first_cell part_of.Ends l row is = cell_at row _ 0 (number l.number) is (omega arith) refl
+
+pub returns-in_err-number_at : goal.returns-in_err-number_at
+returns-in_err-number_at c = record {
+  read = λ l such is.
+      let at = first_cell c.args.part l c.args.row.now is in
+      let e = always_read c.in_err-number_at.field-0.0 l.number l (IsNumber l.number) (c.in_err-number_at.ensures.read l.number at.0 at.1) in
+      search rules;
+}
+
+pub returns-in_err-window-in-Asked : goal.returns-in_err-window-in-Asked
+returns-in_err-window-in-Asked c = record {
+  read = λ l such is.
+      let asked = is ∙ ap (λ part. line_cells part l) c.in-Asked.is in
+      let at = cell_at c.args.row.now _ 1 (number l.window) asked (omega arith) refl in
+      let e = always_read c.in_err-window-in-Asked.field-0.0 l.window l (IsNumber l.number) (c.in_err-window-in-Asked.ensures.read l.window at.0 at.1) in
+      search rules;
+}

@@ -1,0 +1,40 @@
+//! Lists that may be long, read page by page.
+ghost use Rattle.std.specs.Prelude.{◌≡◌, is_ok};
+ghost use Rattle.std.specs.FinMap.{get};
+ghost use Rattle.sqlite.specs.Held.{state};
+ghost use Rattle.pawn_book.specs.BookStep.{pledge_in};
+ghost use Rattle.pawn_book.specs.Keeping.{entries_of};
+ghost use Rattle.pawn_book.specs.Sound.{IsUnsoundAt};
+ghost use Rattle.one_table.specs.Lending.{IsLent};
+ghost use Rattle.pawn_tables.specs.Entries.{IsEntriesPage};
+ghost use Rattle.pawn_tables.specs.Finding.{FindsIn};
+
+use crate::lists::read_entries;
+use crate::queries::rows_of;
+use pawn_book::KeepError;
+use pawn_debt::Entries;
+use sqlite::{Alter, Transaction, params};
+use std::alloc::Global;
+
+/// How many rows a page has at most. A page with fewer is the last of its list.
+pub const PAGE_ROWS: usize = 64;
+
+/// A page of the entries of a pledge, from a number on.
+pub fn entries_page<S: Alter>(
+    tx: &mut Transaction<'_, S>,
+    alloc: Global,
+    book: u32,
+    number: u32,
+    from: u32,
+) -> Result<Entries, KeepError>
+    ensures same_reference { tx.new.conn.ghost_name ≡ tx.old.conn.ghost_name }
+    ensures finds { FindsIn (IsUnsoundAt book) (state S.Store tx.old.conn.now) (state S.Store tx.new.conn.now) result (λ h page. IsEntriesPage from (entries_of (pledge_in (get h.books book) number)) page) }
+    ensures lent { IsLent (state S.Store tx.old.conn.now) (state S.Store tx.new.conn.now) (is_ok result) }
+{
+    let rows = rows_of(
+        tx,
+        "SELECT seq, day, sort, pence FROM entries WHERE book = ?1 AND number = ?2 AND seq >= ?3 ORDER BY seq LIMIT 64",
+        params![book, number, from],
+    )?;
+    read_entries(alloc, &rows)
+}
