@@ -129,12 +129,14 @@ fn serve_over<S: Alter + Drop>(
     Ok((service.into_keep(), end))
 }
 
-// Listens on a port, and answers by a service.
+// Listens on a port, and answers by a service. It stops for a fault of the store only where one has shut it.
 fn listen<S: Alter + Drop>(
     rt: &HostRuntime,
     service: &mut Service<TableKeep<S>>,
     port: u16,
-) -> Result<(), Stop> {
+) -> Result<(), Stop>
+    ensures shut { result ≡ Err (Stops.Fault (Opening Store)) → (store_of S.Store service.new).is_open ≡ false }
+{
     let Ok(rng) = rand::make_rng(rt) else {
         return Err(Stop::Io);
     };
