@@ -6,18 +6,21 @@ With EVERY=1 in the environment, as under `make fuzz`, each allocation is tried 
 import http.client
 import os
 import random
+import subprocess
 import sys
 import tempfile
 
 import refusing
-from refusing import each_refused
-from service import Server, expect, main
+from refusing import content, each_refused
+from service import PROGRAM, Failed, Server, expect, main
+from stores import TO_FIRST, TO_SECOND, bent_back, fill, moved
 from stories import a_book_that_moves, a_first_pledge, a_lost_receipt, two_for_a_window
 
 EVERY = bool(os.environ.get("EVERY"))
 CHANCE = random.Random(2)
 # How a run may end whose store could not be opened, or whose settings found no memory.
 ENDS = ((1, "fault 491 Memory\n"), (1, "fault 504 Memory\n"))
+NOT_MOVED = ((1, "", "fault 491 Memory\n"), (1, "", "fault 504 Memory\n"), (1, "", "fault 515 Memory\n"))
 
 
 def one_in(step):
@@ -44,6 +47,40 @@ def all_memory_from_some_allocation_on():
     for story in (a_first_pledge(), a_book_that_moves()):
         told(each_refused(story, "memory", "m", ENDS, mode="on", **one_in(29)))
         told(each_refused(story, "file", "m", ENDS, mode="on", **one_in(97)))
+
+
+def migrated(path, environment=None):
+    """How a migration ends, and what it says."""
+    ran = subprocess.run([PROGRAM, "migrate", path], stdin=subprocess.DEVNULL, capture_output=True, timeout=60, env=environment)
+    return ran.returncode, ran.stdout.decode(), ran.stderr.decode()
+
+
+def each_allocation_of_a_migration():
+    """An allocation that is refused while a store of an older schema is moved leaves the store for another try, which moves it to the same books."""
+    for number, statements in ((1, TO_FIRST), (2, TO_SECOND)):
+        with tempfile.TemporaryDirectory() as room:
+            made, count = os.path.join(room, "made"), os.path.join(room, "count")
+            fill(made, 8, 1, entries=2, bookings=True)
+            old = bent_back(made, os.path.join(room, "old"), *statements)
+            whole = bent_back(old, os.path.join(room, "whole"))
+            expect("a migration", migrated(whole, refusing.refusing("m", count=count)), moved(number))
+            with open(count) as it:
+                places = int(it.read())
+            for at in range(1 if EVERY else CHANCE.randrange(1, 212), places + 1, 1 if EVERY else 211):
+                one_of_a_migration(old, os.path.join(room, "books"), number, at, content(whole))
+            told(places)
+
+
+def one_of_a_migration(old, path, number, at, wanted):
+    bent_back(old, path)
+    ended = migrated(path, refusing.refusing("m", at=at))
+    if ended != moved(number) and ended not in NOT_MOVED:
+        raise Failed(f"a migration from {number}, allocation {at}: {ended}")
+    expect("it is moved then", migrated(path) in (moved(number), moved(3)), True)
+    expect("what it holds", content(path), wanted)
+    for left in (path, f"{path}-wal"):
+        if os.path.exists(left):
+            os.remove(left)
 
 
 def while_it_serves():
@@ -82,4 +119,4 @@ def one_while_it_serves(path, during, mode, at):
 if refusing.library() is None:
     print("not tried: memory that is refused, since no C compiler is there\n0 passed, 0 failed")
     sys.exit(0)
-main(each_allocation_over_memory, each_allocation_over_a_file, all_memory_from_some_allocation_on, while_it_serves)
+main(each_allocation_over_memory, each_allocation_over_a_file, all_memory_from_some_allocation_on, each_allocation_of_a_migration, while_it_serves)

@@ -11,35 +11,18 @@ import threading
 import time
 
 from service import BROKER, OPERATOR, PROGRAM, Failed, Server, by_python, check, copied, expect, main, opened, request, tells
-from stores import answer, by, ends, fault, keyed, opening, plain, shown, statement, stays, strange, with_its_log
+from stores import TO_FIRST, TO_SECOND, answer, bent_back, by, ends, fault, keyed, moved, opening, plain, shown, statement, stays, strange, with_its_log
 
 DAMAGED = fault(513, "Damaged")
 
-# What is done to a store of the program's schema, once no period of it was extended, for one of an older schema.
-TO_FIRST = ("DROP TABLE extensions", "DROP TABLE totals", "UPDATE meta SET value = 1 WHERE name = 'schema'")
-TO_SECOND = ("DROP TABLE extensions", "UPDATE meta SET value = 2 WHERE name = 'schema'")
-
 # At most so many kills of a migration, and so many seconds of them.
 KILLS, SPAN = 24, 40
-
-
-def bent_back(path, old, *statements):
-    """A copy of the store at the path, of an older schema."""
-    shutil.copyfile(path, old)
-    with opened(old) as tables:
-        for statement in statements:
-            tables.execute(statement)
-    return old
 
 
 def migrate(path):
     """How a migration ends, and what it says."""
     ran = subprocess.run([PROGRAM, "migrate", path], capture_output=True, timeout=300)
     return ran.returncode, ran.stdout.decode(), ran.stderr.decode()
-
-
-def moved(before):
-    return 0, f"schema {before} to 3\n", ""
 
 
 def schema_of(path):

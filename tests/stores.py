@@ -13,6 +13,24 @@ MARK = bytes(9)
 NO_PAGE = 32 + len(MARK)
 
 
+# What is done to a store of the program's schema, once no period of it was extended, for one of an older schema.
+TO_FIRST = ("DROP TABLE extensions", "DROP TABLE totals", "UPDATE meta SET value = 1 WHERE name = 'schema'")
+TO_SECOND = ("DROP TABLE extensions", "UPDATE meta SET value = 2 WHERE name = 'schema'")
+
+
+def bent_back(path, old, *statements):
+    """A copy of the store at the path, of an older schema."""
+    shutil.copyfile(path, old)
+    with opened(old) as tables:
+        for statement in statements:
+            tables.execute(statement)
+    return old
+
+
+def moved(before):
+    return 0, f"schema {before} to 3\n", ""
+
+
 def fault(number, name):
     return 1, f"fault {number} {name}\n"
 

@@ -200,27 +200,37 @@ def signals_that_it_does_not_mind():
             is_answered(server, f"after {number.name}")
 
 
+def stands_still(program):
+    """Waits until the system has stopped a process."""
+    for _ in range(500):
+        with open(f"/proc/{program.pid}/stat") as it:
+            if it.read().rpartition(")")[2].split()[0] == "T":
+                return
+        time.sleep(0.01)
+    raise Failed("it does not stop")
+
+
 def a_service_that_is_stopped_goes_on():
     """What came while it stood still is answered when it goes on."""
-    for number in (signal.SIGSTOP, signal.SIGTSTP):
-        with tempfile.TemporaryDirectory() as room:
-            path = os.path.join(room, "books")
-            with Server(path) as server:
-                receipts = make_books(server)
-                server.program.send_signal(number)
-                with server.connect() as first, server.connect() as second:
-                    first.sendall(LAST)
-                    second.sendall(LAST)
-                    first.settimeout(0.5)
-                    try:
-                        raise Failed(f"it answers while it stands still: {first.recv(100)!r}")
-                    except TimeoutError:
-                        pass
-                    server.program.send_signal(signal.SIGCONT)
-                    first.settimeout(30)
-                    expect("the first", read_all(first), NONE)
-                    expect("the second", read_all(second), NONE)
-            is_all_there(path, receipts)
+    with tempfile.TemporaryDirectory() as room:
+        path = os.path.join(room, "books")
+        with Server(path) as server:
+            receipts = make_books(server)
+            server.program.send_signal(signal.SIGSTOP)
+            stands_still(server.program)
+            with server.connect() as first, server.connect() as second:
+                first.sendall(LAST)
+                second.sendall(LAST)
+                first.settimeout(0.5)
+                try:
+                    raise Failed(f"it answers while it stands still: {first.recv(100)!r}")
+                except TimeoutError:
+                    pass
+                server.program.send_signal(signal.SIGCONT)
+                first.settimeout(30)
+                expect("the first", read_all(first), NONE)
+                expect("the second", read_all(second), NONE)
+        is_all_there(path, receipts)
 
 
 # ---- the clock
