@@ -66,24 +66,21 @@ def a_front(step, texts, path):
     return None if text is None else texts.index(text)
 
 
-def a_start_copies_in_a_log_that_holds_more_than_the_file():
-    """A service that is killed leaves its first changes in its log alone. The next one copies them in, so what becomes of its log is no matter to them."""
+def a_start_copies_the_log_in():
+    """A service that is killed leaves changes in its log alone, be they all of them or a few. The next one copies them in, so what becomes of its log is no matter to them."""
     with tempfile.TemporaryDirectory() as room:
         path = os.path.join(room, "books")
-        texts = killed(path, 5)
-        file, log = lengths(path)
-        expect("the log holds more", log > file, True)
-        with Server(path) as server:
-            file, log = lengths(path)
-            expect("the file holds all", (file > 4096, log < 4096), (True, True))
-            expect("it serves", server.session().broker("GET", "/books/7/export"), (200, texts[-1]))
-        os.remove(path + "-wal")
-        expect("what is served without the log", served(path), texts[-1])
-        texts = killed(path, 1, first=6)
-        file, log = lengths(path)
-        expect("a few changes are not copied in", log > 0, True)
-        with Server(path) as server:
-            expect("it serves them too", server.session().broker("GET", "/books/7/export"), (200, texts[-1]))
+        texts = []
+        for pledges, first in ((5, 1), (1, 6)):
+            texts = killed(path, pledges, first)
+            expect("the log holds changes", lengths(path)[1] > 4096, True)
+            with Server(path) as server:
+                file, log = lengths(path)
+                expect("the file holds all", (file > 4096, log <= 32), (True, True))
+                expect("it serves", server.session().broker("GET", "/books/7/export"), (200, texts[-1]))
+            if os.path.exists(path + "-wal"):
+                os.remove(path + "-wal")
+            expect("what is served without the log", served(path), texts[-1])
 
 
 def an_orderly_end_copies_the_log_in():
@@ -169,5 +166,5 @@ def an_older_log():
             expect("what is served", a_front("an older log", texts, copy), len(texts) - 1)
 
 
-main(a_start_copies_in_a_log_that_holds_more_than_the_file, an_orderly_end_copies_the_log_in, a_log_that_was_taken_away, a_log_that_was_cut, a_log_in_which_one_bit_was_bent,
+main(a_start_copies_the_log_in, an_orderly_end_copies_the_log_in, a_log_that_was_taken_away, a_log_that_was_cut, a_log_in_which_one_bit_was_bent,
      a_log_of_another_store, an_older_log)

@@ -17,14 +17,14 @@ use Rattle.pawn_book.specs.declared.fault.KeepError.{KeepError}
 use Rattle.one_table.specs.Listing.{Lists, Listed, with_rows}
 use Rattle.pawn_tables.specs.Finding.{Finds}
 use Rattle.pawn_tables.specs.Rows.{totals_listed}
-use Rattle.pawn_tables.specs.Schema.{keep_schema}
+use Rattle.pawn_tables.specs.Schema.{keep_schema, extensions_tree, totals_tree}
 use Rattle.pawn_tables.specs.Told.{totals_in}
 use Rattle.pawn_tables.specs.StandsFor.{AreOrdered, AreStorable, ListDebts, StandsFor, of_pledges}
 use Rattle.pawn_move.specs.StandsUnder.{HasNoExtension, StandsUnder, listed_under}
 
 -- the rows of a host, where this number of a schema is noted, these rows of totals stand, and none of extensions
 abbrev pub listed_with : ℕ → List Row → Host → Listed
-listed_with n owed h = with_rows (with_rows (listed_under n h) 15 owed) 17 []
+listed_with n owed h = with_rows (with_rows (listed_under n h) totals_tree owed) extensions_tree []
 
 -- the program's tables list a host without extensions, but for its totals and the number of the schema
 pub record IsMoving (n : ℕ) (owed : List Row) (db : Tables) (h : Host) : Type 0 where

@@ -9,7 +9,7 @@ use Rattle.pawn_book.specs.HostStep.{Host, rows}
 use Rattle.one_table.specs.Listing.{Lists, Listed, with_rows}
 use Rattle.pawn_saving.specs.Counted.{listed_as}
 use Rattle.pawn_tables.specs.Meta.{notes}
-use Rattle.pawn_tables.specs.Schema.{first_schema, second_schema, keep_schema}
+use Rattle.pawn_tables.specs.Schema.{first_schema, second_schema, keep_schema, meta_tree}
 use Rattle.pawn_tables.specs.StandsFor.{AreOrdered, AreStorable, StandsFor}
 
 -- the number of a schema; the program's is the third
@@ -25,7 +25,7 @@ schema_numbered n =
 
 -- the rows of a host by their tree, where this number of a schema is noted
 abbrev pub listed_under : ℕ → Host → Listed
-listed_under n h = with_rows (listed_as h (rows h)) 13 (notes n (rows h) h.limit)
+listed_under n h = with_rows (listed_as h (rows h)) meta_tree (notes n (rows h) h.limit)
 
 -- the period of no pledge was extended
 abbrev pub HasNoExtension : Host → Type 0

@@ -5,7 +5,7 @@ ghost use Rattle.sqlite.specs.State.{Executes, HasCleanDisk};
 ghost use Rattle.pawn_book.specs.declared.fault.KeepError.TheVariants as Keeper;
 ghost use Rattle.pawn_book.specs.declared.fault.StoreFault.TheVariants.{NoRecord};
 ghost use Rattle.one_table.specs.Lending.{IsLent};
-ghost use Rattle.pawn_tables.specs.Schema.{first_schema, second_schema, keep_schema};
+ghost use Rattle.pawn_tables.specs.Schema.{first_schema, second_schema, keep_schema, extensions_tree, totals_tree};
 ghost use Rattle.pawn_opening.specs.Laying.{AddsTable};
 ghost use Rattle.pawn_move.specs.Moving.{NotesProgram};
 
@@ -45,7 +45,7 @@ fn write<S: Alter>(
 /// Makes the table of totals, beside those of the first schema.
 pub(crate) fn make_totals<S: Alter>(tx: &mut Transaction<'_, S>) -> Result<(), KeepError>
     ensures same_reference { tx.new.conn.ghost_name ≡ tx.old.conn.ghost_name }
-    ensures made { AddsTable (state S.Store tx.old.conn.now) (state S.Store tx.new.conn.now) result first_schema second_schema 15 }
+    ensures made { AddsTable (state S.Store tx.old.conn.now) (state S.Store tx.new.conn.now) result first_schema second_schema totals_tree }
     ensures no_row { result ≢ Err (Keeper.Store NoRecord) }
     ensures lent { IsLent (state S.Store tx.old.conn.now) (state S.Store tx.new.conn.now) (is_ok result) }
 {
@@ -58,7 +58,7 @@ pub(crate) fn make_totals<S: Alter>(tx: &mut Transaction<'_, S>) -> Result<(), K
 /// Makes the table of extensions, beside those of the second schema.
 pub(crate) fn make_extensions<S: Alter>(tx: &mut Transaction<'_, S>) -> Result<(), KeepError>
     ensures same_reference { tx.new.conn.ghost_name ≡ tx.old.conn.ghost_name }
-    ensures made { AddsTable (state S.Store tx.old.conn.now) (state S.Store tx.new.conn.now) result second_schema keep_schema 17 }
+    ensures made { AddsTable (state S.Store tx.old.conn.now) (state S.Store tx.new.conn.now) result second_schema keep_schema extensions_tree }
     ensures no_row { result ≢ Err (Keeper.Store NoRecord) }
     ensures lent { IsLent (state S.Store tx.old.conn.now) (state S.Store tx.new.conn.now) (is_ok result) }
 {

@@ -7,7 +7,7 @@ use Rattle.sqlite.specs.Effect.{Database}
 use Rattle.sqlite.specs.State.{State, HasCleanDisk}
 use Rattle.one_table.specs.Columns.{no_schema}
 use Rattle.one_table.specs.Listing.{Lists, Listed, with_rows}
-use Rattle.pawn_tables.specs.Schema.{books, terms, pledges, entries, secrets, bookings, keep_schema}
+use Rattle.pawn_tables.specs.Schema.{books, terms, pledges, entries, secrets, bookings, keep_schema, meta_tree}
 
 -- no table has a row
 abbrev pub no_rows : Listed
@@ -37,4 +37,4 @@ AddsTable old new result before after tree =
 -- a part puts a row before the others of meta
 abbrev pub Notes : {E : Type 0} → State → State → Result (Unit {0}) E → Row → Type 0
 Notes old new result row =
-    HasCleanDisk new → IsTrue old.in_transaction → (listed : Listed) → Lists keep_schema old.now listed → OnOk result (Lists keep_schema new.now (with_rows listed 13 (row ∷ listed 13)))
+    HasCleanDisk new → IsTrue old.in_transaction → (listed : Listed) → Lists keep_schema old.now listed → OnOk result (Lists keep_schema new.now (with_rows listed meta_tree (row ∷ listed meta_tree)))

@@ -2,7 +2,7 @@ ghost use Rattle.std.specs.Prelude.{◌≡◌, is_ok};
 ghost use Rattle.sqlite.specs.Held.{state};
 ghost use Rattle.one_table.specs.Columns.{no_schema};
 ghost use Rattle.one_table.specs.Lending.{IsLent};
-ghost use Rattle.pawn_tables.specs.Schema.{first_schema, keep_schema, second_schema};
+ghost use Rattle.pawn_tables.specs.Schema.{first_schema, keep_schema, second_schema, extensions_tree, totals_tree};
 ghost use Rattle.pawn_opening.specs.Laying.{AddsTable, Makes, first_three, first_six};
 
 use one_table::run;
@@ -75,7 +75,7 @@ pub(crate) fn make_notes<S: Alter>(tx: &mut Transaction<'_, S>) -> Result<(), Er
 /// Makes the table of totals, beside those of the first schema.
 pub fn make_totals<S: Alter>(tx: &mut Transaction<'_, S>) -> Result<(), Error>
     ensures same_reference { tx.new.conn.ghost_name ≡ tx.old.conn.ghost_name }
-    ensures made { AddsTable (state S.Store tx.old.conn.now) (state S.Store tx.new.conn.now) result first_schema second_schema 15 }
+    ensures made { AddsTable (state S.Store tx.old.conn.now) (state S.Store tx.new.conn.now) result first_schema second_schema totals_tree }
     ensures lent { IsLent (state S.Store tx.old.conn.now) (state S.Store tx.new.conn.now) (is_ok result) }
 {
     run(
@@ -88,7 +88,7 @@ pub fn make_totals<S: Alter>(tx: &mut Transaction<'_, S>) -> Result<(), Error>
 /// Makes the table of extensions, beside those of the second schema.
 pub fn make_extensions<S: Alter>(tx: &mut Transaction<'_, S>) -> Result<(), Error>
     ensures same_reference { tx.new.conn.ghost_name ≡ tx.old.conn.ghost_name }
-    ensures made { AddsTable (state S.Store tx.old.conn.now) (state S.Store tx.new.conn.now) result second_schema keep_schema 17 }
+    ensures made { AddsTable (state S.Store tx.old.conn.now) (state S.Store tx.new.conn.now) result second_schema keep_schema extensions_tree }
     ensures lent { IsLent (state S.Store tx.old.conn.now) (state S.Store tx.new.conn.now) (is_ok result) }
 {
     run(

@@ -1,5 +1,5 @@
 -- Tables within a change, before its rows are counted.
-use Rattle.std.specs.Prelude.{◌≡◌, ◌==◌, ◌↔◌, ℕ, ◌+◌, ◌≤◌, ◌<◌, if◌then◌else◌, map, Bool, IsTrue, Result, Ok, Err, IfOk}
+use Rattle.std.specs.Prelude.{◌≡◌, ◌==◌, ◌↔◌, ℕ, ◌+◌, ◌≤◌, ◌<◌, if◌then◌else◌, [], map, Bool, IsTrue, Result, Ok, Err, IfOk}
 use Rattle.std.specs.FinMap.{entries}
 use Rattle.sqlite.specs.Effect.{Database}
 use Rattle.sqlite.specs.State.{State, HasCleanDisk}
@@ -11,7 +11,7 @@ use Rattle.pawn_book.specs.declared.fault.SaveError.TheVariants as Save
 use Rattle.pawn_book.specs.HostStep.{Host, rows}
 use Rattle.pawn_book.specs.Sound.{IsSound}
 use Rattle.one_table.specs.Listing.{Lists, Listed}
-use Rattle.pawn_tables.specs.Schema.{keep_schema}
+use Rattle.pawn_tables.specs.Schema.{keep_schema, bookings_tree, books_tree, entries_tree, extensions_tree, meta_tree, pledges_tree, secrets_tree, terms_tree, totals_tree}
 use Rattle.pawn_tables.specs.Meta.{meta_rows}
 use Rattle.pawn_tables.specs.Rows.{book_row, terms_listed, pledge_listed, entries_listed, secrets_listed, booking_listed, totals_listed, extensions_listed}
 use Rattle.pawn_tables.specs.StandsFor.{StandsFor, of_books, of_pledges}
@@ -19,15 +19,16 @@ use Rattle.pawn_tables.specs.StandsFor.{StandsFor, of_books, of_pledges}
 -- the rows of a host by their tree, where so many of them are counted
 abbrev pub listed_as : Host → ℕ → Listed
 listed_as h counted t =
-    if t == 0 then map (λ (e : ℕ × BookValue). book_row e.0 e.1) (entries h.books)
-    else if t == 1 then of_books h terms_listed
-    else if t == 3 then of_pledges h pledge_listed
-    else if t == 6 then of_pledges h entries_listed
-    else if t == 8 then of_pledges h secrets_listed
-    else if t == 11 then of_pledges h booking_listed
-    else if t == 13 then meta_rows counted h.limit
-    else if t == 15 then of_pledges h totals_listed
-    else of_pledges h extensions_listed
+    if t == books_tree then map (λ (e : ℕ × BookValue). book_row e.0 e.1) (entries h.books)
+    else if t == terms_tree then of_books h terms_listed
+    else if t == pledges_tree then of_pledges h pledge_listed
+    else if t == entries_tree then of_pledges h entries_listed
+    else if t == secrets_tree then of_pledges h secrets_listed
+    else if t == bookings_tree then of_pledges h booking_listed
+    else if t == meta_tree then meta_rows counted h.limit
+    else if t == totals_tree then of_pledges h totals_listed
+    else if t == extensions_tree then of_pledges h extensions_listed
+    else []
 
 -- the tables list the host, and note this count of its rows
 abbrev pub ListsHost : Database → Host → ℕ → Type 0

@@ -6,7 +6,7 @@ use Rattle.pawn_debt.specs.Kept.{totals_of}
 use Rattle.pawn_pledge.specs.Pledge.{PledgeValue, debt_of}
 use Rattle.pawn_book.specs.HostStep.{pledge_rows}
 use Rattle.one_table.specs.Listing.{Lists, Listed, with_rows}
-use Rattle.pawn_tables.specs.Schema.{keep_schema}
+use Rattle.pawn_tables.specs.Schema.{keep_schema, bookings_tree, entries_tree, extensions_tree, pledges_tree, secrets_tree, totals_tree}
 use Rattle.pawn_tables.specs.At.{at_pledge}
 use Rattle.pawn_tables.specs.Rows.{at_most_one, booking_cells, entry_cells, extension_cells, placed_from, pledge_cells, secret_cells, totals_cells, under}
 use Rattle.pawn_saving.specs.declared.lengths.Lengths.{Lengths}
@@ -36,43 +36,43 @@ extensions_past so_many b n p = placed_from (λ place e. under b n (extension_ce
 -- the rows of its lists past these lengths, by their tree
 abbrev pub lists_past : Lengths → ℕ → ℕ → PledgeValue → Listed
 lists_past l b n p t =
-    if t == 6 then entries_past l.entries b n p
-    else if t == 8 then secrets_past l.secrets b n p
-    else if t == 17 then extensions_past l.extensions b n p
+    if t == entries_tree then entries_past l.entries b n p
+    else if t == secrets_tree then secrets_past l.secrets b n p
+    else if t == extensions_tree then extensions_past l.extensions b n p
     else []
 
 -- those of which it has one at most, by their tree
 abbrev pub sides_of : ℕ → ℕ → PledgeValue → Listed
 sides_of b n p t =
-    if t == 3 then row_under b n p ∷ []
-    else if t == 11 then booking_under b n p
-    else if t == 15 then totals_under b n p ∷ []
+    if t == pledges_tree then row_under b n p ∷ []
+    else if t == bookings_tree then booking_under b n p
+    else if t == totals_tree then totals_under b n p ∷ []
     else []
 
 -- all its rows, by their tree
 abbrev pub whole_pledge : ℕ → ℕ → PledgeValue → Listed
 whole_pledge b n p t =
-    if t == 3 then row_under b n p ∷ []
-    else if t == 6 then entries_past 0 b n p
-    else if t == 8 then secrets_past 0 b n p
-    else if t == 11 then booking_under b n p
-    else if t == 15 then totals_under b n p ∷ []
-    else if t == 17 then extensions_past 0 b n p
+    if t == pledges_tree then row_under b n p ∷ []
+    else if t == entries_tree then entries_past 0 b n p
+    else if t == secrets_tree then secrets_past 0 b n p
+    else if t == bookings_tree then booking_under b n p
+    else if t == totals_tree then totals_under b n p ∷ []
+    else if t == extensions_tree then extensions_past 0 b n p
     else []
 
 -- what the tables list beside the rows of which a pledge has one at most, none of it the pledge's
 pub record AreSides (b n : ℕ) (p : PledgeValue) (listed others : Listed) : Type 0 where
-  pub row : IsOnly (at_pledge b n) (listed 3) (row_under b n p) (others 3)
-  pub totals : IsOnly (at_pledge b n) (listed 15) (totals_under b n p) (others 15)
-  pub bookings : IsPermutation (listed 11) (booking_under b n p ++ others 11)
-  pub no_booking : filter (at_pledge b n) (others 11) ≡ []
+  pub row : IsOnly (at_pledge b n) (listed pledges_tree) (row_under b n p) (others pledges_tree)
+  pub totals : IsOnly (at_pledge b n) (listed totals_tree) (totals_under b n p) (others totals_tree)
+  pub bookings : IsPermutation (listed bookings_tree) (booking_under b n p ++ others bookings_tree)
+  pub no_booking : filter (at_pledge b n) (others bookings_tree) ≡ []
 
 -- those rows of a pledge beside the others
 abbrev pub with_sides : ℕ → ℕ → PledgeValue → Listed → Listed → Listed
 with_sides b n p others listed t =
-    if t == 3 then row_under b n p ∷ others 3
-    else if t == 11 then booking_under b n p ++ others 11
-    else if t == 15 then totals_under b n p ∷ others 15
+    if t == pledges_tree then row_under b n p ∷ others pledges_tree
+    else if t == bookings_tree then booking_under b n p ++ others bookings_tree
+    else if t == totals_tree then totals_under b n p ∷ others totals_tree
     else listed t
 
 -- ---- what the parts write
@@ -89,7 +89,7 @@ AddRows old new result more =
 -- the rows join those of their tables, where no booking of the pledge stands
 abbrev pub AddSides : {T E : Type 0} → State → State → Result T E → ℕ → ℕ → PledgeValue → Type 0
 AddSides old new result b n p =
-    HasCleanDisk new → IsTrue old.in_transaction → (listed : Listed) → filter (at_pledge b n) (listed 11) ≡ [] → Lists keep_schema old.now listed
+    HasCleanDisk new → IsTrue old.in_transaction → (listed : Listed) → filter (at_pledge b n) (listed bookings_tree) ≡ [] → Lists keep_schema old.now listed
     → OnOk result (Lists keep_schema new.now (beside (sides_of b n p) listed))
 
 -- the rows of which a pledge has one at most take the place of those of the pledge as it was
@@ -101,7 +101,7 @@ RenewSides old new result b n before p =
 -- all rows of the pledge join those of their tables, where no booking of it stands, and it is told how many of them are counted
 abbrev pub AddsPledge : {E : Type 0} → State → State → Result ℕ E → ℕ → ℕ → PledgeValue → Type 0
 AddsPledge old new result b n p =
-    HasCleanDisk new → IsTrue old.in_transaction → (listed : Listed) → filter (at_pledge b n) (listed 11) ≡ [] → Lists keep_schema old.now listed
+    HasCleanDisk new → IsTrue old.in_transaction → (listed : Listed) → filter (at_pledge b n) (listed bookings_tree) ≡ [] → Lists keep_schema old.now listed
     → IfOk result (λ added. (added ≡ pledge_rows p) × Lists keep_schema new.now (beside (whole_pledge b n p) listed))
 
 -- the rows of a table are put in place of those that pass the test

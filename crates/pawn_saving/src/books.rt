@@ -8,6 +8,7 @@ ghost use Rattle.one_table.specs.Lending.{IsLent};
 ghost use Rattle.pawn_tables.specs.At.{at_book};
 ghost use Rattle.pawn_tables.specs.Rows.{book_row, number, terms_cells};
 ghost use Rattle.pawn_saving.specs.Writing.{Joins, Replaces};
+ghost use Rattle.pawn_tables.specs.Schema.{books_tree, terms_tree};
 
 use crate::cells::small;
 use crate::writing::write;
@@ -21,7 +22,7 @@ pub(crate) fn put_book<S: Alter>(
     new_book: &NewBook,
 ) -> Result<(), KeepError>
     ensures same_reference { tx.new.conn.ghost_name ≡ tx.old.conn.ghost_name }
-    ensures wrote { Joins (state S.Store tx.old.conn.now) (state S.Store tx.new.conn.now) result 0 (book_row book (made_book new_book.now)) }
+    ensures wrote { Joins (state S.Store tx.old.conn.now) (state S.Store tx.new.conn.now) result books_tree (book_row book (made_book new_book.now)) }
     ensures lent { IsLent (state S.Store tx.old.conn.now) (state S.Store tx.new.conn.now) (is_ok result) }
 {
     let key = new_book.key.word().to_be_bytes();
@@ -99,7 +100,7 @@ pub(crate) fn put_terms<S: Alter>(
     rates: Rates,
 ) -> Result<(), KeepError>
     ensures same_reference { tx.new.conn.ghost_name ≡ tx.old.conn.ghost_name }
-    ensures wrote { Joins (state S.Store tx.old.conn.now) (state S.Store tx.new.conn.now) result 1 (number book ∷ number version ∷ terms_cells rates) }
+    ensures wrote { Joins (state S.Store tx.old.conn.now) (state S.Store tx.new.conn.now) result terms_tree (number book ∷ number version ∷ terms_cells rates) }
     ensures lent { IsLent (state S.Store tx.old.conn.now) (state S.Store tx.new.conn.now) (is_ok result) }
 {
     let rate = small(rates.rate)?;

@@ -3,6 +3,7 @@ ghost use Rattle.sqlite.specs.Held.{state};
 ghost use Rattle.one_table.specs.Lending.{IsLent};
 ghost use Rattle.pawn_tables.specs.Rows.{under, entry_cells, extension_cells, secret_cells};
 ghost use Rattle.pawn_saving.specs.Writing.{Joins};
+ghost use Rattle.pawn_tables.specs.Schema.{entries_tree, extensions_tree, secrets_tree};
 
 use crate::cells::{issue_number, small, sort_number};
 use crate::writing::write;
@@ -17,7 +18,7 @@ pub(crate) fn put_entry<S: Alter>(
     entry: &Entry,
 ) -> Result<(), KeepError>
     ensures same_reference { tx.new.conn.ghost_name ≡ tx.old.conn.ghost_name }
-    ensures wrote { Joins (state S.Store tx.old.conn.now) (state S.Store tx.new.conn.now) result 6 (under book number (entry_cells entry.now)) }
+    ensures wrote { Joins (state S.Store tx.old.conn.now) (state S.Store tx.new.conn.now) result entries_tree (under book number (entry_cells entry.now)) }
     ensures lent { IsLent (state S.Store tx.old.conn.now) (state S.Store tx.new.conn.now) (is_ok result) }
 {
     let seq = small(entry.seq)?;
@@ -40,7 +41,7 @@ pub(crate) fn put_secret<S: Alter>(
     issued: &Issued,
 ) -> Result<(), KeepError>
     ensures same_reference { tx.new.conn.ghost_name ≡ tx.old.conn.ghost_name }
-    ensures wrote { Joins (state S.Store tx.old.conn.now) (state S.Store tx.new.conn.now) result 8 (under book number (secret_cells place issued.now)) }
+    ensures wrote { Joins (state S.Store tx.old.conn.now) (state S.Store tx.new.conn.now) result secrets_tree (under book number (secret_cells place issued.now)) }
     ensures lent { IsLent (state S.Store tx.old.conn.now) (state S.Store tx.new.conn.now) (is_ok result) }
 {
     let day = issued.day.count();
@@ -62,7 +63,7 @@ pub(crate) fn put_extension<S: Alter>(
     extension: &Extension,
 ) -> Result<(), KeepError>
     ensures same_reference { tx.new.conn.ghost_name ≡ tx.old.conn.ghost_name }
-    ensures wrote { Joins (state S.Store tx.old.conn.now) (state S.Store tx.new.conn.now) result 17 (under book number (extension_cells place extension.now)) }
+    ensures wrote { Joins (state S.Store tx.old.conn.now) (state S.Store tx.new.conn.now) result extensions_tree (under book number (extension_cells place extension.now)) }
     ensures lent { IsLent (state S.Store tx.old.conn.now) (state S.Store tx.new.conn.now) (is_ok result) }
 {
     let day = extension.day.count();

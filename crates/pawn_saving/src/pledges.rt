@@ -7,6 +7,7 @@ ghost use Rattle.one_table.specs.Lending.{IsLent};
 ghost use Rattle.pawn_tables.specs.At.{at_pledge};
 ghost use Rattle.pawn_tables.specs.Rows.{under, booking_cells, pledge_cells, totals_cells};
 ghost use Rattle.pawn_saving.specs.Writing.{Joins, PutsOver, Replaces};
+ghost use Rattle.pawn_tables.specs.Schema.{pledges_tree, totals_tree};
 
 use crate::cells::{
     REFUSED, agreed_value, closed_amount, closed_day, closed_number, flag_number, kind_number,
@@ -25,7 +26,7 @@ pub(crate) fn put_row<S: Alter>(
     pledge: &Pledge,
 ) -> Result<(), KeepError>
     ensures same_reference { tx.new.conn.ghost_name ≡ tx.old.conn.ghost_name }
-    ensures wrote { Joins (state S.Store tx.old.conn.now) (state S.Store tx.new.conn.now) result 3 (under book number (pledge_cells pledge.now)) }
+    ensures wrote { Joins (state S.Store tx.old.conn.now) (state S.Store tx.new.conn.now) result pledges_tree (under book number (pledge_cells pledge.now)) }
     ensures lent { IsLent (state S.Store tx.old.conn.now) (state S.Store tx.new.conn.now) (is_ok result) }
 {
     let agreement = pledge.agreement();
@@ -121,7 +122,7 @@ pub fn put_totals<S: Alter>(
     totals: &Totals,
 ) -> Result<(), KeepError>
     ensures same_reference { tx.new.conn.ghost_name ≡ tx.old.conn.ghost_name }
-    ensures wrote { Joins (state S.Store tx.old.conn.now) (state S.Store tx.new.conn.now) result 15 (under book number (totals_cells totals.now)) }
+    ensures wrote { Joins (state S.Store tx.old.conn.now) (state S.Store tx.new.conn.now) result totals_tree (under book number (totals_cells totals.now)) }
     ensures lent { IsLent (state S.Store tx.old.conn.now) (state S.Store tx.new.conn.now) (is_ok result) }
 {
     let day = totals.day.count();

@@ -7,6 +7,7 @@ ghost use Rattle.pawn_tables.specs.At.{at_pledge};
 ghost use Rattle.pawn_tables.specs.Rows.{at_most_one, booking_cells, under};
 ghost use Rattle.pawn_saving.specs.Putting.{AddRows, AddSides, AddsPledge, PutsFor, lists_past};
 ghost use Rattle.pawn_saving.specs.Writing.{IsCarried};
+ghost use Rattle.pawn_tables.specs.Schema.{bookings_tree};
 
 use crate::cells::small;
 use crate::lengths::{Lengths, lengths_of};
@@ -82,7 +83,7 @@ pub(crate) fn put_any_booking<S: Alter>(
 ) -> Result<(), KeepError>
     ensures same_reference { tx.new.conn.ghost_name ≡ tx.old.conn.ghost_name }
     ensures wrote { (before : Option Booking) → (booking ≡ None → before ≡ None)
-        → PutsFor (state S.Store tx.old.conn.now) (state S.Store tx.new.conn.now) result 11 (at_pledge book number) (at_most_one (λ k. under book number (booking_cells k)) before) (at_most_one (λ k. under book number (booking_cells k)) booking) }
+        → PutsFor (state S.Store tx.old.conn.now) (state S.Store tx.new.conn.now) result bookings_tree (at_pledge book number) (at_most_one (λ k. under book number (booking_cells k)) before) (at_most_one (λ k. under book number (booking_cells k)) booking) }
     ensures carried { IsCarried (state S.Store tx.old.conn.now) (state S.Store tx.new.conn.now) (is_ok result) }
 {
     match booking {

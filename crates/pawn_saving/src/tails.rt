@@ -2,6 +2,7 @@ ghost use Rattle.std.specs.Prelude.{◌≡◌, ◌+◌, ◌∷◌, IfOk, is_ok, 
 ghost use Rattle.sqlite.specs.Held.{state};
 ghost use Rattle.pawn_tables.specs.Rows.{under, entry_cells, extension_cells, number, placed_from, secret_cells, terms_cells};
 ghost use Rattle.pawn_saving.specs.Writing.{AllJoin, IsCarried};
+ghost use Rattle.pawn_tables.specs.Schema.{entries_tree, extensions_tree, secrets_tree, terms_tree};
 
 use crate::books::put_terms;
 use crate::cells::REFUSED;
@@ -17,7 +18,7 @@ pub(crate) fn put_entries<S: Alter>(
     entries: &[Entry],
 ) -> Result<(), KeepError>
     ensures same_reference { tx.new.conn.ghost_name ≡ tx.old.conn.ghost_name }
-    ensures wrote { AllJoin (state S.Store tx.old.conn.now) (state S.Store tx.new.conn.now) result 6 (map (λ e. under book number (entry_cells e)) entries.now) }
+    ensures wrote { AllJoin (state S.Store tx.old.conn.now) (state S.Store tx.new.conn.now) result entries_tree (map (λ e. under book number (entry_cells e)) entries.now) }
     ensures carried { IsCarried (state S.Store tx.old.conn.now) (state S.Store tx.new.conn.now) (is_ok result) }
 {
     for entry in entries {
@@ -45,7 +46,7 @@ pub(crate) fn put_secrets<S: Alter>(
     secrets: &[Issued],
 ) -> Result<(), KeepError>
     ensures same_reference { tx.new.conn.ghost_name ≡ tx.old.conn.ghost_name }
-    ensures wrote { AllJoin (state S.Store tx.old.conn.now) (state S.Store tx.new.conn.now) result 8 (placed_from (λ place i. under book number (secret_cells place i)) from secrets.now) }
+    ensures wrote { AllJoin (state S.Store tx.old.conn.now) (state S.Store tx.new.conn.now) result secrets_tree (placed_from (λ place i. under book number (secret_cells place i)) from secrets.now) }
     ensures carried { IsCarried (state S.Store tx.old.conn.now) (state S.Store tx.new.conn.now) (is_ok result) }
 {
     let mut place = from;
@@ -65,7 +66,7 @@ pub(crate) fn put_extensions<S: Alter>(
     extensions: &[Extension],
 ) -> Result<(), KeepError>
     ensures same_reference { tx.new.conn.ghost_name ≡ tx.old.conn.ghost_name }
-    ensures wrote { AllJoin (state S.Store tx.old.conn.now) (state S.Store tx.new.conn.now) result 17 (placed_from (λ place e. under book number (extension_cells place e)) from extensions.now) }
+    ensures wrote { AllJoin (state S.Store tx.old.conn.now) (state S.Store tx.new.conn.now) result extensions_tree (placed_from (λ place e. under book number (extension_cells place e)) from extensions.now) }
     ensures carried { IsCarried (state S.Store tx.old.conn.now) (state S.Store tx.new.conn.now) (is_ok result) }
 {
     let mut place = from;
@@ -83,7 +84,7 @@ pub(crate) fn put_versions<S: Alter>(
     terms: &[Rates],
 ) -> Result<(), KeepError>
     ensures same_reference { tx.new.conn.ghost_name ≡ tx.old.conn.ghost_name }
-    ensures wrote { AllJoin (state S.Store tx.old.conn.now) (state S.Store tx.new.conn.now) result 1 (placed_from (λ version t. number book ∷ number version ∷ terms_cells t) 1 terms.now) }
+    ensures wrote { AllJoin (state S.Store tx.old.conn.now) (state S.Store tx.new.conn.now) result terms_tree (placed_from (λ version t. number book ∷ number version ∷ terms_cells t) 1 terms.now) }
     ensures carried { IsCarried (state S.Store tx.old.conn.now) (state S.Store tx.new.conn.now) (is_ok result) }
 {
     let mut version = 1;

@@ -12,14 +12,14 @@ use Rattle.pawn_book.specs.HostStep.{Host}
 use Rattle.pawn_book.specs.Plans.{next_host}
 use Rattle.pawn_book.specs.Runs.{Event, request_in, run_host}
 use Rattle.pawn_tables.specs.At.{at_book}
-use Rattle.pawn_tables.specs.Schema.{books, terms, pledges, entries, secrets, bookings, totals, extensions}
+use Rattle.pawn_tables.specs.Schema.{books, terms, pledges, entries, secrets, bookings, totals, extensions, bookings_tree, books_tree, entries_tree, extensions_tree, pledges_tree, secrets_tree, terms_tree, totals_tree}
 use Rattle.pawn_tables.specs.StandsFor.{StandsFor}
 
 -- the tables that tell of books: all but the one of notes
 abbrev pub book_tables : List Table
 book_tables =
-    record books { tree = 0 } ∷ record terms { tree = 1 } ∷ record pledges { tree = 3 } ∷ record entries { tree = 6 } ∷ record secrets { tree = 8 }
-    ∷ record bookings { tree = 11 } ∷ record totals { tree = 15 } ∷ record extensions { tree = 17 } ∷ []
+    record books { tree = books_tree } ∷ record terms { tree = terms_tree } ∷ record pledges { tree = pledges_tree } ∷ record entries { tree = entries_tree } ∷ record secrets { tree = secrets_tree }
+    ∷ record bookings { tree = bookings_tree } ∷ record totals { tree = totals_tree } ∷ record extensions { tree = extensions_tree } ∷ []
 
 -- the rows of a table under a book's number, as SELECT * shows them
 abbrev pub rows_of_book : ℕ → Trees → Table → List Row

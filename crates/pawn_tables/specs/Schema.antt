@@ -1,5 +1,5 @@
 -- The tables: of the books, of their pledges, and of what the store notes of itself.
-use Rattle.std.specs.Prelude.{[], ◌∷◌, Some, codes}
+use Rattle.std.specs.Prelude.{ℕ, [], ◌∷◌, Some, codes}
 use Rattle.sqlite.specs.Table.{Table}
 use Rattle.sqlite.specs.Schema.{Schema}
 use Rattle.sqlite.specs.Change.{created}
@@ -63,7 +63,35 @@ extensions = record (keyed (codes "extensions")
     (filled (codes "book") Integer ∷ filled (codes "number") Integer ∷ filled (codes "place") Integer ∷ filled (codes "day") Integer ∷ filled (codes "until_day") Integer ∷ [])
     (1 ∷ 2 ∷ 3 ∷ []) ((1 ∷ 2 ∷ 3 ∷ []) ∷ []) (refers (1 ∷ 2 ∷ []) (codes "pledges") ∷ [])) { orders = plain ∷ [] }
 
--- made in this order, the tables have the trees 0, 1, 3, 6, 8, 11, 13, 15 and 17, and the trees between are their indexes
+-- the trees of the tables, made in this order; the trees between are their indexes
+abbrev pub books_tree : ℕ
+books_tree = 0
+
+abbrev pub terms_tree : ℕ
+terms_tree = 1
+
+abbrev pub pledges_tree : ℕ
+pledges_tree = 3
+
+abbrev pub entries_tree : ℕ
+entries_tree = 6
+
+abbrev pub secrets_tree : ℕ
+secrets_tree = 8
+
+abbrev pub bookings_tree : ℕ
+bookings_tree = 11
+
+abbrev pub meta_tree : ℕ
+meta_tree = 13
+
+abbrev pub totals_tree : ℕ
+totals_tree = 15
+
+abbrev pub extensions_tree : ℕ
+extensions_tree = 17
+
+-- the tables of the first schema
 abbrev pub first_schema : Schema
 first_schema = created (created (created (created (created (created (created no_schema books) terms) pledges) entries) secrets) bookings) meta
 

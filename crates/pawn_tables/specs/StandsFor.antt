@@ -12,7 +12,7 @@ use Rattle.pawn_book.specs.Written.{IsWord, AreWords}
 use Rattle.pawn_book.specs.BookStep.{BookValue}
 use Rattle.pawn_book.specs.HostStep.{Host, rows}
 use Rattle.one_table.specs.Listing.{Holds}
-use Rattle.pawn_tables.specs.Schema.{books, terms, pledges, entries as entries_table, secrets, bookings, meta, totals, extensions, keep_schema}
+use Rattle.pawn_tables.specs.Schema.{books, terms, pledges, entries as entries_table, secrets, bookings, meta, totals, extensions, keep_schema, bookings_tree, books_tree, entries_tree, extensions_tree, meta_tree, pledges_tree, secrets_tree, terms_tree, totals_tree}
 use Rattle.pawn_tables.specs.Entries.{RiseFrom}
 use Rattle.pawn_tables.specs.Meta.{meta_rows}
 use Rattle.pawn_tables.specs.Rows.{book_row, terms_listed, pledge_listed, entries_listed, secrets_listed, booking_listed, totals_listed, extensions_listed}
@@ -48,10 +48,10 @@ AreStorable h = (b : ℕ) (k : BookValue) → get h.books b ≡ Some k → IsSto
 -- The tables of books, of terms, of pledges and of entries list the host, whatever the others hold.
 pub record ListDebts (db : Database) (h : Host) : Type 0 where
   pub schema : db.schema ≡ keep_schema
-  pub books : Holds db.trees 0 (record books { tree = 0 }) (map (λ (e : ℕ × BookValue). book_row e.0 e.1) (entries h.books))
-  pub terms : Holds db.trees 1 (record terms { tree = 1 }) (of_books h terms_listed)
-  pub pledges : Holds db.trees 3 (record pledges { tree = 3 }) (of_pledges h pledge_listed)
-  pub entries : Holds db.trees 6 (record entries_table { tree = 6 }) (of_pledges h entries_listed)
+  pub books : Holds db.trees books_tree (record books { tree = books_tree }) (map (λ (e : ℕ × BookValue). book_row e.0 e.1) (entries h.books))
+  pub terms : Holds db.trees terms_tree (record terms { tree = terms_tree }) (of_books h terms_listed)
+  pub pledges : Holds db.trees pledges_tree (record pledges { tree = pledges_tree }) (of_pledges h pledge_listed)
+  pub entries : Holds db.trees entries_tree (record entries_table { tree = entries_tree }) (of_pledges h entries_listed)
   pub ordered : AreOrdered h
   pub storable : AreStorable h
 
@@ -60,15 +60,15 @@ pub record StandsFor (db : Database) (h : Host) : Type 0 where
   pub schema : db.schema ≡ keep_schema
   -- the rows obey it
   pub sound : IsDatabase db
-  pub books : Holds db.trees 0 (record books { tree = 0 }) (map (λ (e : ℕ × BookValue). book_row e.0 e.1) (entries h.books))
-  pub terms : Holds db.trees 1 (record terms { tree = 1 }) (of_books h terms_listed)
-  pub pledges : Holds db.trees 3 (record pledges { tree = 3 }) (of_pledges h pledge_listed)
-  pub entries : Holds db.trees 6 (record entries_table { tree = 6 }) (of_pledges h entries_listed)
-  pub secrets : Holds db.trees 8 (record secrets { tree = 8 }) (of_pledges h secrets_listed)
-  pub bookings : Holds db.trees 11 (record bookings { tree = 11 }) (of_pledges h booking_listed)
-  pub meta : Holds db.trees 13 (record meta { tree = 13 }) (meta_rows (rows h) h.limit)
-  pub totals : Holds db.trees 15 (record totals { tree = 15 }) (of_pledges h totals_listed)
-  pub extensions : Holds db.trees 17 (record extensions { tree = 17 }) (of_pledges h extensions_listed)
+  pub books : Holds db.trees books_tree (record books { tree = books_tree }) (map (λ (e : ℕ × BookValue). book_row e.0 e.1) (entries h.books))
+  pub terms : Holds db.trees terms_tree (record terms { tree = terms_tree }) (of_books h terms_listed)
+  pub pledges : Holds db.trees pledges_tree (record pledges { tree = pledges_tree }) (of_pledges h pledge_listed)
+  pub entries : Holds db.trees entries_tree (record entries_table { tree = entries_tree }) (of_pledges h entries_listed)
+  pub secrets : Holds db.trees secrets_tree (record secrets { tree = secrets_tree }) (of_pledges h secrets_listed)
+  pub bookings : Holds db.trees bookings_tree (record bookings { tree = bookings_tree }) (of_pledges h booking_listed)
+  pub meta : Holds db.trees meta_tree (record meta { tree = meta_tree }) (meta_rows (rows h) h.limit)
+  pub totals : Holds db.trees totals_tree (record totals { tree = totals_tree }) (of_pledges h totals_listed)
+  pub extensions : Holds db.trees extensions_tree (record extensions { tree = extensions_tree }) (of_pledges h extensions_listed)
   -- what no row tells
   pub ordered : AreOrdered h
   pub storable : AreStorable h

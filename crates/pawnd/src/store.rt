@@ -15,6 +15,9 @@ use std::fs;
 /// At most as many rows are kept in a store that is made here.
 const ROWS: u32 = 5_000_000;
 
+/// So many bytes of a log stand before its first change.
+const LOG_HEAD: u64 = 32;
+
 /// The keeper over a file. Nothing is supposed of its first bytes, nor of what a write leaves that a crash tears.
 pub type FileKeep = TableKeep<FileStore<FileFrom<Wary>>>;
 
@@ -51,16 +54,16 @@ fn length_at(rt: &HostRuntime, path: &str) -> u64 {
     }
 }
 
-// Whether more of a store stands in its log than in its file.
+// Whether a store's log holds changes that are not known to stand in its file.
 fn hangs_on_its_log(rt: &HostRuntime, path: &str) -> bool {
     match format!(in rt.alloc(); "{path}-wal") {
-        Ok(log) => length_at(rt, log.as_str()) > length_at(rt, path),
+        Ok(log) => length_at(rt, log.as_str()) > LOG_HEAD,
         Err(_) => false,
     }
 }
 
-/// A keeper over the file at a path, as `file_keep`, for a long run. Where more of the store stands in its log than in its file,
-/// the log is copied into the file first, so that less hangs on it. Where it can't be copied it stays as it is.
+/// A keeper over the file at a path, as `file_keep`, for a long run. What stands in the store's log alone, since the program was
+/// killed, is copied into the file first, so that nothing hangs on the log. Where it can't be copied it stays as it is.
 pub fn folded_keep(rt: &HostRuntime, path: &str) -> Result<FileKeep, Stop> {
     if hangs_on_its_log(rt, path) {
         let _ = close(file_keep(rt, path)?, Ok(()));
