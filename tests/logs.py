@@ -76,7 +76,7 @@ def a_start_copies_the_log_in():
             expect("the log holds changes", lengths(path)[1] > 4096, True)
             with Server(path) as server:
                 file, log = lengths(path)
-                expect("the file holds all", (file > 4096, log <= 32), (True, True))
+                expect("the file holds all", (file > 4096, log < 4096), (True, True))
                 expect("it serves", server.session().broker("GET", "/books/7/export"), (200, texts[-1]))
             if os.path.exists(path + "-wal"):
                 os.remove(path + "-wal")

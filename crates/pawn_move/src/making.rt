@@ -9,9 +9,9 @@ ghost use Rattle.pawn_tables.specs.Schema.{first_schema, second_schema, keep_sch
 ghost use Rattle.pawn_opening.specs.Laying.{AddsTable};
 ghost use Rattle.pawn_move.specs.Moving.{NotesProgram};
 
-use crate::telling::SCHEMA;
 use one_table::run;
 use pawn_book::{KeepError, StoreFault};
+use pawn_opening::SCHEMA;
 use sqlite::{Alter, Error, ErrorCode, Transaction, params};
 use sqlite_value::value::ValueRef;
 

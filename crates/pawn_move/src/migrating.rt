@@ -7,7 +7,7 @@ ghost use Rattle.pawn_move.specs.Moving.{Moves, MovesOwed};
 use crate::fault::{MoveFault, unmoved};
 use crate::making::refused;
 use crate::moving::{move_first, move_second};
-use crate::telling::{SCHEMA, schema_of};
+use crate::telling::schema_of;
 use pawn_book::KeepError;
 use sqlite::{Alter, Connection, Transaction};
 use std::alloc::Global;

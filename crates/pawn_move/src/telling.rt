@@ -3,11 +3,8 @@ ghost use Rattle.sqlite.specs.Held.{state};
 ghost use Rattle.pawn_move.specs.Migrating.{IsNumberJudged, TellsNumber};
 
 use crate::fault::MoveFault;
-use pawn_opening::schema_noted;
+use pawn_opening::{SCHEMA, schema_noted};
 use sqlite::{Alter, Connection};
-
-/// The number of the schema that the program reads and writes.
-pub(crate) const SCHEMA: u32 = 3;
 
 // The number of a schema that a store notes.
 fn judge(noted: Option<u64>) -> Result<u32, MoveFault>

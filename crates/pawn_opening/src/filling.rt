@@ -8,6 +8,7 @@ ghost use Rattle.pawn_opening.specs.Opened.{Fills};
 
 use crate::laying::{make_books, make_lists, make_notes};
 use crate::noting::note;
+use crate::recognising::SCHEMA;
 use sqlite::{Alter, Error, Transaction};
 
 // Makes all tables.
@@ -32,5 +33,5 @@ pub(crate) fn fill<S: Alter>(tx: &mut Transaction<'_, S>, limit: u32) -> Result<
     make_tables(tx)?;
     note(tx, "limit", limit)?;
     note(tx, "rows", 0)?;
-    note(tx, "schema", 3)
+    note(tx, "schema", SCHEMA)
 }

@@ -16,4 +16,4 @@ pub use fault::OpenFault;
 pub use laying::{make_extensions, make_totals};
 pub use opening::{close_files, open_files, open_memory, open_path};
 pub use preparing::prepare;
-pub use recognising::schema_noted;
+pub use recognising::{SCHEMA, schema_noted};

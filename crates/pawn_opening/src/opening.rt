@@ -7,6 +7,7 @@ ghost use Rattle.sqlite_std_file.specs.File.{IsFresh};
 ghost use Rattle.sqlite_wal.specs.Reads.{AreClean};
 ghost use Rattle.sqlite_wal.specs.Files.{image_at};
 ghost use Rattle.pawn_book.specs.HostStep.{Host};
+ghost use Rattle.pawn_book.specs.Limits.{most_rows};
 ghost use Rattle.pawn_opening.specs.Closed.{AreClosedFor, HasCommitted, IsLeftUnclosed};
 ghost use Rattle.pawn_opening.specs.FilesStand.{IsBlank, RefusesFiles, RefusesHeld, StandsIn};
 ghost use Rattle.pawn_opening.specs.Opened.{OpensAs, empty_host};
@@ -23,7 +24,7 @@ use std::alloc::Global;
 /// It is refused for a fault of the store or want of memory alone.
 pub fn open_memory(alloc: Global, limit: u32) -> Result<Connection<MemStore>, OpenFault>
     requires least { 1 ≤ limit }
-    requires most { limit ≤ 10000000 }
+    requires most { limit ≤ most_rows }
     ensures opens { IfOk result (λ conn. OpensAs (state over_memory conn) (empty_host limit)) }
     ensures refuses { IfErr result IsStoreFault }
 {
@@ -47,7 +48,7 @@ pub fn open_files<D: Disk + Drop>(
     requires log { IsTrue (D.Disk.is_usable files.log) }
     requires db { IsTrue (D.Disk.is_usable files.db) }
     requires least { 1 ≤ limit }
-    requires most { limit ≤ 10000000 }
+    requires most { limit ≤ most_rows }
     ensures blank { IfOk result (λ conn. HasCleanDisk (file_state conn) → IsBlank (image_of D.Disk files) → OpensAs (file_state conn) (empty_host limit)) }
     ensures stands { IfOk result (λ conn. HasCleanDisk (file_state conn) → (h : Host) → StandsIn (image_of D.Disk files) h → OpensAs (file_state conn) h) }
     ensures mode { IfOk result (λ conn. conn.in_transaction ≡ false) }
@@ -74,7 +75,7 @@ pub fn open_path<S: Start>(
     limit: u32,
 ) -> Result<Connection<FileStore<FileFrom<S>>>, (OpenFault, Option<Leftover<FileFrom<S>>>)>
     requires least { 1 ≤ limit }
-    requires most { limit ≤ 10000000 }
+    requires most { limit ≤ most_rows }
     ensures blank { IfOk result (λ conn. HasCleanDisk (file_state conn) → IsBlank (image_at S.Start) → OpensAs (file_state conn) (empty_host limit)) }
     ensures stands { IfOk result (λ conn. HasCleanDisk (file_state conn) → (h : Host) → StandsIn (image_at S.Start) h → OpensAs (file_state conn) h) }
     ensures mode { IfOk result (λ conn. conn.in_transaction ≡ false) }

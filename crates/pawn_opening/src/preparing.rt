@@ -1,5 +1,6 @@
 ghost use Rattle.std.specs.Prelude.{◌≡◌, ◌↔◌, ◌≤◌, false, IsTrue};
 ghost use Rattle.sqlite.specs.Held.{state};
+ghost use Rattle.pawn_book.specs.Limits.{most_rows};
 ghost use Rattle.pawn_opening.specs.Opened.{LaysOut, Prepares};
 ghost use Rattle.pawn_opening.specs.Refusing.{IsEmptyStore};
 
@@ -39,7 +40,7 @@ fn is_empty<S: Alter>(conn: &Connection<S>) -> bool
 pub fn prepare<S: Alter>(conn: &mut Connection<S>, limit: u32) -> Result<(), OpenFault>
     requires rests { conn.old.in_transaction ≡ false }
     requires least { 1 ≤ limit }
-    requires most { limit ≤ 10000000 }
+    requires most { limit ≤ most_rows }
     ensures prepared { Prepares (state S.Store conn.old) (state S.Store conn.new) limit result }
 {
     let _ = conn.is_autocommit();

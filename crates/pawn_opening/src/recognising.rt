@@ -7,7 +7,7 @@ use crate::fault::{OpenFault, refused};
 use sqlite::{Alter, Connection, Error, ErrorCode, Row};
 
 // The number of the schema that this program reads and writes.
-const SCHEMA: u64 = 3;
+pub const SCHEMA: u32 = 3;
 
 // The number that an answer tells, if it tells one.
 fn number_of(rows: &[Row]) -> Result<Option<u64>, OpenFault>
@@ -44,9 +44,9 @@ fn judge(noted: Option<u64>) -> Result<(), OpenFault>
     let Some(number) = noted else {
         return Err(OpenFault::NotOurs);
     };
-    if number == SCHEMA {
+    if number == u64::from(SCHEMA) {
         Ok(())
-    } else if 0 < number && number < SCHEMA {
+    } else if 0 < number && number < u64::from(SCHEMA) {
         Err(OpenFault::OldSchema(number as u32))
     } else {
         Err(OpenFault::NotOurs)

@@ -8,6 +8,7 @@ ghost use Rattle.sqlite_std_file.specs.File.{IsFresh};
 ghost use Rattle.sqlite_wal.specs.Files.{image_at};
 ghost use Rattle.sqlite_wal.specs.Reads.{AreClean};
 ghost use Rattle.pawn_book.specs.HostStep.{Host};
+ghost use Rattle.pawn_book.specs.Limits.{most_rows};
 ghost use Rattle.pawn_tables.specs.Keeps.{Keeps};
 ghost use Rattle.pawn_opening.specs.Closed.{AreClosedFor, IsLeftUnclosed};
 ghost use Rattle.pawn_opening.specs.FilesStand.{IsBlank, RefusesHeld, StandsIn};
@@ -25,7 +26,7 @@ use std::alloc::Global;
 /// It is refused for a fault of the store or want of memory alone.
 pub fn keep_in_memory(alloc: Global, limit: u32) -> Result<TableKeep<MemStore>, OpenFault>
     requires least { 1 ≤ limit }
-    requires most { limit ≤ 10000000 }
+    requires most { limit ≤ most_rows }
     ensures opens { IfOk result (λ keep. OpensAs (state over_memory keep.conn) (empty_host limit)) }
     ensures refuses { IfErr result IsStoreFault }
 {
@@ -51,7 +52,7 @@ pub fn keep_at_path<S: Start>(
     limit: u32,
 ) -> Result<TableKeep<FileStore<FileFrom<S>>>, (OpenFault, Option<Leftover<FileFrom<S>>>)>
     requires least { 1 ≤ limit }
-    requires most { limit ≤ 10000000 }
+    requires most { limit ≤ most_rows }
     ensures blank { IfOk result (λ keep. HasCleanDisk (file_state keep.conn) → IsBlank (image_at S.Start) → OpensAs (file_state keep.conn) (empty_host limit)) }
     ensures stands { IfOk result (λ keep. HasCleanDisk (file_state keep.conn) → (h : Host) → StandsIn (image_at S.Start) h → OpensAs (file_state keep.conn) h) }
     ensures reopens { IfOk result (λ keep. HasCleanDisk (file_state keep.conn) → Reopens (image_at S.Start) (file_state keep.conn)) }

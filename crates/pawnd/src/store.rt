@@ -15,8 +15,8 @@ use std::fs;
 /// At most as many rows are kept in a store that is made here.
 const ROWS: u32 = 5_000_000;
 
-/// So many bytes of a log stand before its first change.
-const LOG_HEAD: u64 = 32;
+/// The bytes of a page of the database, of which each change puts some into the log.
+const PAGE: u64 = 4_096;
 
 /// The keeper over a file. Nothing is supposed of its first bytes, nor of what a write leaves that a crash tears.
 pub type FileKeep = TableKeep<FileStore<FileFrom<Wary>>>;
@@ -54,10 +54,10 @@ fn length_at(rt: &HostRuntime, path: &str) -> u64 {
     }
 }
 
-// Whether a store's log holds changes that are not known to stand in its file.
+// Whether a store's log holds a page, which may stand nowhere else.
 fn hangs_on_its_log(rt: &HostRuntime, path: &str) -> bool {
     match format!(in rt.alloc(); "{path}-wal") {
-        Ok(log) => length_at(rt, log.as_str()) > LOG_HEAD,
+        Ok(log) => length_at(rt, log.as_str()) > PAGE,
         Err(_) => false,
     }
 }
