@@ -1,5 +1,5 @@
 -- The counter of rows goes up.
-use Rattle.std.proofs.Common.{◌≡◌, ◌++◌, ℕ, ◌+◌, ◌<◌, ◌^◌, pos, List, [], ◌∷◌, map, filter, get_or, codes, Bool, true, Some, Result, Ok, Err, IfOk, refl, sym, ap, ap₂, subst, ◌∙◌, arith, IsPermutation, slice_get, nat_lt}
+use Rattle.std.proofs.Common.{◌≡◌, ◌++◌, ℕ, ℤ, Option, ◌+◌, ◌<◌, ◌^◌, pos, List, [], ◌∷◌, map, filter, get_or, codes, Bool, true, Some, Result, Ok, Err, IfOk, refl, sym, ap, ap₂, subst, ◌∙◌, arith, IsPermutation, slice_get, nat_lt}
 use Rattle.std.specs.List.{list_all, AllByRecursion}
 use Rattle.std.proofs.lemmas.Bool.Decides.{nat_tests}
 use Rattle.sqlite.specs.declared.types.Value.TheVariants.{Int, Text}
@@ -11,8 +11,11 @@ use Rattle.sqlite_sql.specs.declared.ops.BinaryOp.TheVariants.{Compare, Arith}
 use Rattle.sqlite_sql.specs.declared.ops.ArithOp.TheVariants.{Add}
 use Rattle.sqlite_sql.specs.declared.ops.CompareOp.TheVariants.{Eq}
 use Rattle.sqlite.specs.Command.TheVariants.{Update}
-use Rattle.sqlite.specs.Does.{Tally, Does, Shows as ShowsEach}
-use Rattle.sqlite.specs.Rows.{Task}
+use Rattle.sqlite.specs.Does.{Tally, Does, Concludes, Shows as ShowsEach}
+use Rattle.sqlite.specs.Rows.{Task, Written}
+use Rattle.sqlite.specs.Tree.{Trees}
+use Rattle.sqlite.specs.declared.run.Mode.{Mode}
+use Rattle.sqlite_schema.specs.declared.command.Returning.{Returning}
 use Rattle.sqlite.specs.Effect.{Database}
 use Rattle.sqlite.specs.Listing.{understood}
 use Rattle.sqlite.specs.Cast.{cast_row}
@@ -45,6 +48,28 @@ sum_of : (a b : ℕ) → a + b < 2 ^ 63 → binary (Arith Add) (Int (pos a)) (In
 unfolding binary
 sum_of a b fits = let e : nat_lt (a + b) (2 ^ 63) ≡ true = grind (arith, nat_tests, fits) in rw e refl
 
+-- what concludes a statement that shows the rows that it wrote: it shows them, and leaves their trees
+concluded : (task : Task) (mode : Mode) (what : Returning) (w : Written) (tally : Tally) (next : Database) → Concludes task mode (Some what) w (Ok (tally, next))
+    → ShowsEach task what w.trees w.rows (Ok tally.shown) × (next ≡ record { schema = task.schema; trees = w.trees })
+concluded task mode what w tally next h =
+    let tested = went h in
+    let returned = went tested.2 in
+    let showing = went returned.1 in
+    let ended = same_value returned.2 in
+    let shown : tally.shown ≡ showing.0 = ap (λ (p : Tally × Database). p.0.shown) ended ∙ same_value (went showing.2).2 in
+    (subst (λ rows. ShowsEach task what w.trees w.rows (Ok rows)) (sym shown) showing.1, ap (λ (p : Tally × Database). p.1) ended)
+
+abbrev counting : Option ℕ → ℕ → Task
+counting limit by = record { limit = limit; keys = Enforced; schema = keep_schema; table = record meta { tree = 13 }; params = Int (pos by) ∷ [] }
+
+-- of the row of the counter the number is shown
+shown_once : (limit : Option ℕ) (by n : ℕ) (m : ℤ) (now : Trees) (rows : List Row)
+    → ShowsEach (counting limit by) count_returns now ((Int m ∷ meta_row (codes "rows") n) ∷ []) (Ok rows) → rows ≡ (Int (pos n) ∷ []) ∷ []
+shown_once limit by n m now rows h =
+    let first = went h in
+    let last = went first.2 in
+    same_value last.2 ∙ ap₂ ◌++◌ first.1.1 (same_value last.1)
+
 pub counts : (by : ℕ) (old new : State) (row : Row) (listed : Listed) (counted limit : ℕ) → Lists keep_schema old.now listed → listed 13 ≡ meta_rows counted limit → counted + by < 2 ^ 63
     → QueriesRow count_text (Int (pos by) ∷ []) old new (Ok row)
     → (row ≡ Int (pos (counted + by)) ∷ []) × Lists keep_schema new.now (with_rows listed 13 (meta_row (codes "rows") (counted + by) ∷ other_rows limit))
@@ -58,10 +83,8 @@ counts by old new row listed counted limit st noted fits h =
     let whole = statement_of count_text (understood keep_schema count_text) in
     let does = subst (λ s. Does old.step_limit (mode_of old) params (record old.now { schema = s }) whole (Some count_returns) (Update 6 (record { lets = []; body = query })) (Ok (w.tally, new.now))) st.schema_is w.changed in
     let done = went does in
-    let tested = went done.2 in
-    let returned = went tested.2 in
-    let ended = same_value returned.2 in
-    let now = ap (λ (p : Tally × Database). p.1) ended in
+    let end = concluded (counting old.step_limit by) (mode_of old) count_returns done.0 w.tally new.now done.2 in
+    let now = end.1 in
     let wrote = alter.updated_part keep_schema 6 t meta_place (λ _. refl) count_tests count_shows old.step_limit params params db done.0 done.1 in
     let holds : Holds db 13 t (listed 13) = at_place (λ (u : Table). Holds db u.tree u (listed u.tree)) keep_schema.tables 6 t refl st.tables in
     let before = meta_row (codes "rows") counted in
@@ -79,12 +102,8 @@ counts by old new row listed counted limit st noted fits h =
     let cast : cast_row t source ≡ Int m ∷ after = λ i. cast_whole m i ∷ Text (codes "rows") ∷ cast_int (counted + by) i ∷ [] in
     let rep = alter.one_changed keep_schema 6 t meta_place (λ _. refl) count_tests count_shows db params done.0 wrote it.row source after m it.one shown cast in
     let tables = alter.lists_after keep_schema 6 t meta_place (λ _. refl) count_tests count_shows is_rows db listed before after rest done.0 after it holds.numbered st.tables refl rep in
-    let showing = went returned.1 in
-    let task : Task = record { limit = old.step_limit; keys = Enforced; schema = keep_schema; table = t; params = params } in
-    let first = went (subst (λ rs. ShowsEach task count_returns done.0.trees rs (Ok showing.0)) rep.news showing.1) in
-    let last = went first.2 in
-    let only : showing.0 ≡ (Int (pos (counted + by)) ∷ []) ∷ [] = same_value last.2 ∙ ap₂ ◌++◌ first.1.1 (same_value last.1) in
-    let seen : told.0 ≡ (Int (pos (counted + by)) ∷ []) ∷ [] = told.1.2 ∙ ap (λ (p : Tally × Database). p.0.shown) ended ∙ same_value (went showing.2).2 ∙ only in (
+    let news = subst (λ rs. ShowsEach (counting old.step_limit by) count_returns done.0.trees rs (Ok w.tally.shown)) rep.news end.0 in
+    let seen : told.0 ≡ (Int (pos (counted + by)) ∷ []) ∷ [] = told.1.2 ∙ shown_once old.step_limit by (counted + by) m done.0.trees w.tally.shown news in (
       the_first told.0 _ row seen told.2,
       record {
         schema_is = ap (λ (d : Database). d.schema) now;
