@@ -15,12 +15,12 @@ use Rattle.pawn_book.specs.Keeping.{entries_of, extensions_of, secrets_of, terms
 use Rattle.pawn_book.specs.BookStep.{BookValue, pledge_in}
 use Rattle.pawn_book.specs.HostStep.{Host}
 use Rattle.pawn_book.specs.declared.fault.KeepError.{KeepError}
-use Rattle.pawn_pledge.specs.Replayable.{IsStanding}
 use Rattle.pawn_tables.specs.Finding.{IsRead, FindsIn}
 use Rattle.pawn_tables.specs.StandsFor.{AreOrdered, AreStorable}
-use Rattle.pawn_tables.specs.Told.{AreLists, AreSides, booking_of, totals_in, row_of}
+use Rattle.pawn_tables.specs.Told.{AreLists, AreSides, AreTold, booking_of, totals_in, row_of}
 use Rattle.pawn_tables.specs.declared.joining.Lists.{Lists}
 use Rattle.pawn_tables.specs.declared.joining.Sides.{Sides}
+use Rattle.pawn_tables.specs.declared.joining.Told.{Told}
 use Rattle.pawn_tables.specs.declared.records.PledgeRow.{PledgeRow}
 use Rattle.pawn_tables.proofs.PledgeReads.{number_in, under_in}
 
@@ -28,10 +28,6 @@ use Rattle.pawn_tables.proofs.PledgeReads.{number_in, under_in}
 pub row_is : (o : Option PledgeValue) (row : PledgeRow) → Some row ≡ option_map row_of o → (p : PledgeValue) × (o ≡ Some p) × (row ≡ row_of p)
 row_is None row is = absurd (let e = is in cc)
 row_is (Some p) row is = (p, refl, (let e = is in cc))
-
-pub no_row : (o : Option PledgeValue) → None ≡ option_map row_of o → None ≡ o
-no_row None is = refl
-no_row (Some p) is = absurd (let e = is in cc)
 
 within_terms : (ts : List Rates) (v : ℕ) (t : Rates) → terms_at ts v ≡ Some t → v ≤ length ts
 within_terms ts zero t is = omega arith
@@ -47,14 +43,12 @@ version_fits h b n p ordered storable is = inside (get h.books b) refl (under_in
     inside None e at = let low = within_terms [] p.agreement.version p.agreement.terms at in omega (arith, low)
     inside (Some k) e at = let low = within_terms k.terms p.agreement.version p.agreement.terms at in let few = (storable b k e).versions in omega (arith, low, few)
 
--- the pledge that was joined of what was found of it, or why there is none
-pub whole_told : (h : Host) (b n v : ℕ) (p : PledgeValue) (row : PledgeRow) (s : Sides) (l : Lists) (r : Result PledgeValue KeepError) (number : ℕ) → number ≡ n → AreOrdered h → pledge_in (get h.books b) n ≡ Some p → row ≡ row_of p → v ≡ row.version
-    → IfSome (pledge_in (get h.books b) n) (λ q. v ≡ q.agreement.version → AreSides s q) → IfSome (pledge_in (get h.books b) n) (AreLists l)
-    → ((q : PledgeValue) → number ≡ q.agreement.number → row ≡ row_of q → AreSides s q → AreLists l q → IsRead r q (IsStanding q)) → IsRead r p (IsStanding p)
-whole_told h b n v p row s l r number named ordered at of version sides lists read =
-    let beside = subst (λ o. IfSome o (λ q. v ≡ q.agreement.version → AreSides s q)) at sides in
-    let listed = subst (λ o. IfSome o (AreLists l)) at lists in
-    read p (named ∙ sym (number_in h b n p ordered at)) of (beside (version ∙ ap (λ (x : PledgeRow). x.version) of)) listed
+-- what was joined of what was found of a pledge, or why it was not
+pub joined_told : {A L : Type 0} (h : Host) (b n : ℕ) (p : PledgeValue) (t : Told) (l : L) (Are : L → PledgeValue → Type 0) (shows : PledgeValue → A) (Q : PledgeValue → Type 0) (r : Result A KeepError) (number : ℕ) → number ≡ n → AreOrdered h
+    → pledge_in (get h.books b) n ≡ Some p → t.row ≡ row_of p → AreSides t.sides p → IfSome (pledge_in (get h.books b) n) (Are l)
+    → ((q : PledgeValue) → number ≡ q.agreement.number → t.row ≡ row_of q → AreSides t.sides q → Are l q → IsRead r (shows q) (Q q)) → IsRead r (shows p) (Q p)
+joined_told h b n p t l Are shows Q r number named ordered at of beside lists read =
+    read p (named ∙ sym (number_in h b n p ordered at)) of beside (subst (λ o. IfSome o (Are l)) at lists)
 
 -- what the sides have, where they are of a pledge
 pub joined : (s : Sides) (terms : Rates) (totals : Totals) (p : PledgeValue) → s.terms ≡ Some terms → s.totals ≡ Some totals → AreSides s p
@@ -102,3 +96,15 @@ none_under s0 s1 (Ok x) b v big lent f clean within h stood =
     inside : (o : Option BookValue) → get h.books b ≡ o → AreStorable h → None ≡ terms_at (terms_of o) v
     inside None e storable = past_terms [] v (omega (arith, big))
     inside (Some k) e storable = let few = (storable b k e).versions in past_terms k.terms v (omega (arith, few, big))
+
+-- what the row and the sides tell together
+pub told_of : (h : Host) (b n v : ℕ) (p : PledgeValue) (t : Told) → pledge_in (get h.books b) n ≡ Some p → t.row ≡ row_of p → v ≡ t.row.version
+    → IfSome (pledge_in (get h.books b) n) (λ q. v ≡ q.agreement.version → AreSides t.sides q) → AreTold (Some t) (pledge_in (get h.books b) n)
+told_of h b n v p t at of version sides =
+    let beside = subst (λ o. IfSome o (λ q. v ≡ q.agreement.version → AreSides t.sides q)) at sides in
+    subst (AreTold (Some t)) (sym at) (of, beside (version ∙ ap (λ (r : PledgeRow). r.version) of))
+
+-- .. which is of a pledge that stands
+pub told_is : (o : Option PledgeValue) (t : Told) → AreTold (Some t) o → (p : PledgeValue) × (o ≡ Some p) × (t.row ≡ row_of p) × AreSides t.sides p
+told_is None t told = absurd told
+told_is (Some p) t told = (p, refl, told.0, told.1)

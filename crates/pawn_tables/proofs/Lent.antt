@@ -48,6 +48,16 @@ third_unfound IsUnsound s0 s1 s2 s3 x P y Q e R r W same l1 l2 l3 f1 f2 f3 clean
     let two = f2 clean2 one.1.inside h (λ _. st1) in
     unfound e r (λ z. R h z × Rests s2 s3) (λ z. W h z × Rests s0 s3) (IsUnsound h) same (f3 clean two.1.inside h (λ _. stood_then s1 s2 h l2 clean2 one.1.inside (λ _. st1) two.1))
 
+-- what two parts find
+pub two_found : {A B : Type 0} (s0 s1 s2 : State) (x : A) (P : Host → A → Type 0) (y : B) (Q : Host → B → Type 0)
+    → IsLent s0 s1 true → IsLent s1 s2 true → FindsIn HasUnsoundBook s0 s1 (Ok x) P → FindsIn HasUnsoundBook s1 s2 (Ok y) Q
+    → HasCleanDisk s2 → IsTrue s0.in_transaction → (h : Host) → Stood s0 h → StandsFor s0.now h × P h x × Q h y × Rests s0 s2
+two_found s0 s1 s2 x P y Q l1 l2 f1 f2 clean within h stood =
+    let clean1 = clean_before s1 s2 true l2 clean in
+    let one = f1 clean1 within h stood in
+    let two = f2 clean one.1.inside h (λ _. stood_then s0 s1 h l1 clean1 within stood one.1) in
+    (stood (l1.opened clean1 within refl), one.0, two.0, rests_then s0 s1 s2 one.1 two.1)
+
 -- what three parts find
 pub three_found : {A B C : Type 0} (s0 s1 s2 s3 : State) (x : A) (P : Host → A → Type 0) (y : B) (Q : Host → B → Type 0) (z : C) (R : Host → C → Type 0)
     → IsLent s0 s1 true → IsLent s1 s2 true → IsLent s2 s3 true → FindsIn HasUnsoundBook s0 s1 (Ok x) P → FindsIn HasUnsoundBook s1 s2 (Ok y) Q → FindsIn HasUnsoundBook s2 s3 (Ok z) R

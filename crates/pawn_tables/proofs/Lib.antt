@@ -18,5 +18,6 @@ pub mod Searches
 pub mod SoundBooks
 pub mod SoundReads
 pub mod Sought
+pub mod TailReads
 pub mod WindowReads
 pub mod Words

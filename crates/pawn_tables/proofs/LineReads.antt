@@ -1,5 +1,5 @@
 -- What the queries for the parts of a day's sheet show, where the tables stand for a host.
-use Rattle.std.proofs.Common.{◌≡◌, ◌==◌, ℕ, ◌+◌, List, [], ◌∷◌, map, filter, filter_map, take, length, nat_lt, Bool, true, false, cond, ◌&&◌, Option, Some, None, refl, sym, ap, subst, ◌∙◌, arith, option_map}
+use Rattle.std.proofs.Common.{◌≡◌, ◌==◌, ℕ, ◌+◌, List, [], ◌∷◌, map, filter, filter_map, take, length, nat_lt, Bool, true, false, cond, ◌&&◌, Option, Some, None, refl, sym, ap, ◌∙◌, arith, option_map}
 use Rattle.std.specs.List.{list_all, cons_option}
 use Rattle.std.specs.FinMap.{get}
 use Rattle.std.proofs.lemmas.List.Recursion.{is_count_by}
@@ -21,7 +21,6 @@ use Rattle.pawn_book.specs.Sheet.{is_open, part_item, part_items}
 use Rattle.pawn_book.specs.Bookings.{confirmed_count, is_asked, is_confirmed, is_confirmed_for}
 use Rattle.pawn_book.specs.HostStep.{Host}
 use Rattle.pawn_book.specs.Keeping.{pledges_of}
-use Rattle.pawn_book.specs.Sound.{IsUnsoundAt}
 use Rattle.pawn_tables.specs.Schema.{keep_schema, pledges, bookings}
 use Rattle.pawn_tables.specs.Rows.{number, number_of, under, pledge_cells, pledge_listed, booking_cells, booking_listed, state_number, closed_number}
 use Rattle.pawn_tables.specs.Heads.{number_cells}

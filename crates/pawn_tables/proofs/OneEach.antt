@@ -1,5 +1,5 @@
 -- What a query shows of a table that has one row of a pledge at most.
-use Rattle.std.proofs.Common.{◌≡◌, ◌≢◌, ◌++◌, ◌==◌, ℕ, ◌+◌, ◌<◌, List, [], ◌∷◌, map, filter, filter_map, flat_map, take, slice_get, Bool, true, false, cond, ◌&&◌, Option, Some, None, refl, sym, ap, subst, ◌∙◌, arith}
+use Rattle.std.proofs.Common.{◌≡◌, ◌≢◌, ◌++◌, ◌==◌, ℕ, ◌+◌, ◌<◌, List, [], ◌∷◌, map, filter, filter_map, flat_map, Bool, true, false, cond, ◌&&◌, Option, Some, None, refl, sym, ap, subst, ◌∙◌, arith}
 use Rattle.std.specs.List.{AllByRecursion, cons_option}
 use Rattle.std.specs.declared.cmp.Ordering.TheVariants.{Less}
 use Rattle.std.specs.FinMap.{get}
@@ -16,10 +16,6 @@ use Rattle.pawn_book.specs.Rows.{AreNumberedFrom}
 use Rattle.pawn_tables.specs.Rows.{number, number_of, under, at_most_one}
 use Rattle.pawn_tables.specs.StandsFor.{of_pledges, AreOrdered}
 use Rattle.pawn_tables.proofs.Sought.{rows_at, of_one_book, filter-flat_map, filter-append, flat_none, less}
-
-pub first_told : {A : Type 0} (told : A → Row) (xs : List A) → take 1 (map told xs) ≡ at_most_one told (slice_get xs 0)
-first_told told [] = refl
-first_told told (x ∷ xs) = refl
 
 -- what is told of what a pledge has, if it has it and it is such
 abbrev pub tell_of : {X A : Type 0} → (X → Bool) → (ℕ → X → A) → ℕ → Option X → Option A

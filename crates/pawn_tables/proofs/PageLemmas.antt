@@ -1,18 +1,18 @@
 -- The first elements of a list of which one knows what is left behind each.
-use Rattle.std.proofs.Common.{◌≡◌, ◌++◌, ℕ, zero, suc, ◌-◌, ◌≤◌, ◌<◌, List, [], ◌∷◌, length, map, take, slice_get, Bool, true, false, cond, filter, Option, Some, None, refl, sym, ap, subst, ◌∙◌, arith, option_map}
+use Rattle.std.proofs.Common.{◌≡◌, ◌++◌, ℕ, zero, suc, ◌-◌, ◌≤◌, ◌<◌, List, [], ◌∷◌, length, map, take, slice_get, Bool, true, false, cond, filter, Some, refl, sym, ap, subst, ◌∙◌, arith, option_map}
 use Rattle.std.specs.Prelude.{unwrap_or}
 use Rattle.std.proofs.lemmas.List.{map-append, map-id}
 use Rattle.pawn_pledge.specs.Pledge.{last_element}
 use Rattle.pawn_pledge.specs.Replayable.{Each}
 use Rattle.pawn_tables.specs.Pages.{IsPage, most_rows, page_end}
 
-last_later : {A : Type 0} (x y : A) (ys : List A) → last_element (x ∷ y ∷ ys) ≡ last_element (y ∷ ys)
+pub last_later : {A : Type 0} (x y : A) (ys : List A) → last_element (x ∷ y ∷ ys) ≡ last_element (y ∷ ys)
 last_later x y ys =
     let up : length (x ∷ y ∷ ys) - 1 ≡ suc (length ys) = omega arith in
     let low : length (y ∷ ys) - 1 ≡ length ys = omega arith in
     ap (slice_get (x ∷ y ∷ ys)) up ∙ ap (slice_get (y ∷ ys)) (sym low)
 
-last_some : {A : Type 0} (x : A) (ys : List A) → (y : A) × (last_element (x ∷ ys) ≡ Some y)
+pub last_some : {A : Type 0} (x : A) (ys : List A) → (y : A) × (last_element (x ∷ ys) ≡ Some y)
 last_some x [] = (x, refl)
 last_some x (y ∷ ys) = let last = last_some y ys in (last.0, last_later x y ys ∙ last.1)
 

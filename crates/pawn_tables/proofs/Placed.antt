@@ -1,5 +1,5 @@
 -- Lists that are read of rows, one row for each element.
-use Rattle.std.proofs.Common.{◌≡◌, ◌++◌, ℕ, zero, suc, ◌+◌, ◌<◌, List, [], ◌∷◌, length, take, map, get_or, slice_get, Option, Some, None, Ok, Err, option_map, refl, sym, ap, subst, ◌∙◌, arith}
+use Rattle.std.proofs.Common.{◌≡◌, ◌++◌, ℕ, zero, suc, ◌+◌, ◌<◌, List, [], ◌∷◌, length, take, map, get_or, slice_get, Option, Some, None, Ok, Err, refl, sym, ap, subst, ◌∙◌, arith}
 use Rattle.std.specs.Prelude.{IfSome}
 use Rattle.sqlite.specs.Order.{Row}
 use Rattle.pawn_pledge.specs.Replayable.{Each}
@@ -76,6 +76,12 @@ first_err f P rows r Keeper.Memory is lt read (Some x) are = tt
 first_err f P rows r (Keeper.Store Database) is lt read (Some x) are = tt
 first_err f P rows r (Keeper.Store NoRecord) is lt read (Some x) are = read x (is ∙ ap (λ rs. get_or rs 0 r) are)
 
+-- what can be kept is kept in part
+pub read_part : {A : Type 0} (e : KeepError) (x : A) (Q R : Type 0) → (R → Q) → IsRead (Err e) x Q → IsRead (Err e) x R
+read_part Keeper.Memory x Q R part f = tt
+read_part (Keeper.Store Database) x Q R part f = tt
+read_part (Keeper.Store NoRecord) x Q R part f = λ whole. f (part whole)
+
 -- what can be read always is not told to be no record
 pub always_read : {A B : Type 0} (e : KeepError) (x : A) (y : B) (Q : Type 0) → IsRead (Err e) x (Unit {0}) → IsRead (Err e) y Q
 always_read Keeper.Memory x y Q f = tt
@@ -100,16 +106,3 @@ pub first_of : {A : Type 0} (f : A → Row) (W : A → Type 0) (rows : List Row)
     → ((x : A) → W x → r ≡ f x → y ≡ x) → (o : Option A) → IfSome o W → rows ≡ at_most_one f o → Some y ≡ o
 first_of f W rows r y is lt read None fits are = absurd (let short = subst (λ rs. 0 < length rs) are lt in omega (arith, short))
 first_of f W rows r y is lt read (Some x) fits are = ap Some (read x fits (is ∙ ap (λ rs. get_or rs 0 r) are))
-
--- the same, where what is read is told in other words
-pub first_err_as : {A B : Type 0} (f : A → Row) (line : A → B) (P : A → Type 0) (rows : List Row) (r : Row) (e : KeepError) → r ≡ get_or rows 0 r → 0 < length rows
-    → ((x : A) → r ≡ f x → IsRead (Err e) (line x) (P x)) → (o : Option A) → rows ≡ at_most_one f o → IsRead (Err e) (option_map line o) (IfSome o P)
-first_err_as f line P rows r e is lt read None are = absurd (let short = subst (λ rs. 0 < length rs) are lt in omega (arith, short))
-first_err_as f line P rows r Keeper.Memory is lt read (Some x) are = tt
-first_err_as f line P rows r (Keeper.Store Database) is lt read (Some x) are = tt
-first_err_as f line P rows r (Keeper.Store NoRecord) is lt read (Some x) are = read x (is ∙ ap (λ rs. get_or rs 0 r) are)
-
-pub first_as : {A B : Type 0} (f : A → Row) (line : A → B) (rows : List Row) (r : Row) (y : B) → r ≡ get_or rows 0 r → 0 < length rows
-    → ((x : A) → r ≡ f x → y ≡ line x) → (o : Option A) → rows ≡ at_most_one f o → Some y ≡ option_map line o
-first_as f line rows r y is lt read None are = absurd (let short = subst (λ rs. 0 < length rs) are lt in omega (arith, short))
-first_as f line rows r y is lt read (Some x) are = ap Some (read x (is ∙ ap (λ rs. get_or rs 0 r) are))

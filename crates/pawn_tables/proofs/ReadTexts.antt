@@ -7,7 +7,7 @@ use Rattle.sqlite.specs.Term.{Term, lit, col, op2}
 use Rattle.sqlite_sql.specs.declared.ops.BinaryOp.TheVariants.{Compare}
 use Rattle.sqlite_sql.specs.declared.ops.CompareOp.TheVariants.{Eq, Ge, Gt, Lt}
 use Rattle.sqlite.specs.declared.types.Value.TheVariants.{Int, Text}
-use Rattle.one_table.proofs.Texts.{Asks, by_column, is_param}
+use Rattle.one_table.proofs.Texts.{Asks, by_column, by_column_down, is_param}
 use Rattle.pawn_tables.specs.Pages.{most_rows}
 use Rattle.pawn_tables.specs.Schema.{keep_schema}
 use Rattle.one_table.proofs.Distinct.{once_of_table}
@@ -200,6 +200,35 @@ extension_text = codes "SELECT place, day, until_day FROM extensions WHERE book 
 pub extension_is : Asks keep_schema extension_text (over_table 17 of_place extensions_shows []) (codes "place" ∷ codes "day" ∷ codes "until_day" ∷ [])
 unfolding understood everything
 extension_is = (refl, refl, (refl, refl))
+
+-- ---- the ends of a pledge's lists
+
+abbrev pub entry_count_text : List ℕ
+entry_count_text = codes "SELECT count(*) FROM entries WHERE book = ?1 AND number = ?2"
+
+pub entry_count_is : Asks keep_schema entry_count_text (how_many 6 of_pledge) (codes "count(*)" ∷ [])
+unfolding understood everything
+entry_count_is = (refl, refl, (refl, refl))
+
+abbrev pub last_secret_text : List ℕ
+last_secret_text = codes "SELECT place, secret FROM secrets WHERE book = ?1 AND number = ?2 ORDER BY place DESC LIMIT 1"
+
+abbrev pub last_secret_shows : List Term
+last_secret_shows = col 1 3 ∷ col 1 6 ∷ []
+
+pub last_secret_is : Asks keep_schema last_secret_text (first_of_table 8 of_pledge last_secret_shows (by_column_down 3)) (codes "place" ∷ codes "secret" ∷ [])
+unfolding understood everything
+last_secret_is = (refl, refl, (refl, refl))
+
+abbrev pub last_place_text : List ℕ
+last_place_text = codes "SELECT place FROM extensions WHERE book = ?1 AND number = ?2 ORDER BY place DESC LIMIT 1"
+
+abbrev pub last_place_shows : List Term
+last_place_shows = col 1 3 ∷ []
+
+pub last_place_is : Asks keep_schema last_place_text (first_of_table 17 of_pledge last_place_shows (by_column_down 3)) (codes "place" ∷ [])
+unfolding understood everything
+last_place_is = (refl, refl, (refl, refl))
 
 -- ---- the parts of a day's sheet
 

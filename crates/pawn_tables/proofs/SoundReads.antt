@@ -1,20 +1,23 @@
 -- What is kept of a sound host can be read of its rows.
-use Rattle.std.proofs.Common.{◌≡◌, ℕ, zero, suc, ◌≤◌, List, [], ◌∷◌, slice_get, Option, Some, None, Result, Ok, Err, refl, sym, subst, arith}
+use Rattle.std.proofs.Common.{◌≡◌, ℕ, zero, suc, ◌-◌, ◌≤◌, List, [], ◌∷◌, slice_get, Option, Some, None, Result, Ok, Err, refl, sym, subst, arith, length, option_map}
 use Rattle.std.specs.Prelude.{IfSome}
 use Rattle.std.specs.FinMap.{get}
-use Rattle.pawn_terms.specs.Calendar.{IsDayNumber}
+use Rattle.pawn_terms.specs.Calendar.{IsDayNumber, IsStampDay, later_of, six_months}
 use Rattle.pawn_terms.specs.Limits.{first_day, last_stamp_day}
 use Rattle.pawn_terms.specs.Terms.{IsChecked}
 use Rattle.pawn_terms.specs.declared.terms.Rates.{Rates}
 use Rattle.pawn_terms.specs.Order.{DoNotFall, last_by}
 use Rattle.pawn_debt.specs.Due.{last_of}
+use Rattle.pawn_terms.proofs.CalendarLemmas.{page_date}
 use Rattle.pawn_terms.proofs.OrderLemmas.{last_by-le}
+use Rattle.pawn_terms.proofs.SixMonths.{six_months_is}
 use Rattle.pawn_pledge.specs.declared.record.Extension.{Extension}
 use Rattle.pawn_pledge.specs.declared.record.Booking.{Booking}
 use Rattle.pawn_pledge.specs.declared.record.Closing.{Closing}
 use Rattle.pawn_pledge.specs.declared.record.Closing.TheVariants.{Open, Redeemed, Sold}
-use Rattle.pawn_pledge.specs.Pledge.{PledgeValue}
+use Rattle.pawn_pledge.specs.Pledge.{PledgeValue, end_of, last_element, last_until}
 use Rattle.pawn_pledge.specs.Replayable.{Each, AreExtended, IsBooked, IsClosed, IsStanding}
+use Rattle.pawn_pledge.proofs.Briefs.{brief_is_within}
 use Rattle.pawn_pledge.proofs.Pushes.{DoNotFall-each}
 use Rattle.pawn_book.specs.BookStep.{BookValue, pledge_from, pledge_in}
 use Rattle.pawn_book.specs.HostStep.{Host}
@@ -27,7 +30,7 @@ use Rattle.pawn_book.specs.declared.fault.KeepError.TheVariants as Keeper
 use Rattle.pawn_book.specs.declared.fault.StoreFault.TheVariants.{NoRecord, Database}
 use Rattle.pawn_book.proofs.Sounds.{each_at}
 use Rattle.pawn_tables.specs.Rows.{closed_day}
-use Rattle.pawn_tables.specs.Told.{IsCreditTold, IsRowTold, booking_of, totals_in}
+use Rattle.pawn_tables.specs.Told.{IsBriefTold, IsCreditTold, IsRowTold, booking_of, totals_in}
 use Rattle.pawn_tables.specs.StandsFor.{AreStorable}
 use Rattle.pawn_tables.specs.Finding.{Finds, IsRead}
 
@@ -204,3 +207,42 @@ terms_unsound h b v bad = inside (get h.books b) refl bad
     inside : (o : Option BookValue) → get h.books b ≡ o → (IfSome (terms_at (terms_of o) v) IsChecked → ⊥) → IsUnsoundAt b h
     inside None is bad = absurd (bad (under [] v tt))
     inside (Some k) is bad = (k, is, λ sound. bad (under k.terms v sound.1.rows.checked))
+
+-- ---- the end of a period is a day
+
+six_months_day : (taken : ℕ) → first_day ≤ taken → taken ≤ last_stamp_day → IsDayNumber (six_months taken)
+six_months_day taken low high =
+    let page = page_date taken (low, omega (arith, high)) in
+    (six_months_is page.0 taken (low, high) page.4).2
+
+later_day : (day : ℕ) (other : Option ℕ) → IsDayNumber day → IfSome other (λ d. d ≤ last_stamp_day) → IsDayNumber (later_of day other)
+later_day day None is named = is
+later_day day (Some d) is named = grind arith
+
+named_last : (es : List Extension) → Each (λ e. e.until ≤ last_stamp_day) es → IfSome (last_until es) (λ d. d ≤ last_stamp_day)
+named_last es all = go (last_element es) (at es (length es - 1) all)
+  where
+    at : (xs : List Extension) (i : ℕ) → Each (λ e. e.until ≤ last_stamp_day) xs → IfSome (slice_get xs i) (λ e. e.until ≤ last_stamp_day)
+    at [] i all = tt
+    at (x ∷ xs) zero all = all.0
+    at (x ∷ xs) (suc i) all = at xs i all.1
+
+    go : (o : Option Extension) → IfSome o (λ e. e.until ≤ last_stamp_day) → IfSome (option_map (λ (e : Extension). e.until) o) (λ d. d ≤ last_stamp_day)
+    go None named = tt
+    go (Some e) named = named
+
+named_agreed : (o : Option ℕ) → IfSome o IsStampDay → IfSome o (λ d. d ≤ last_stamp_day)
+named_agreed None is = tt
+named_agreed (Some d) is = is.1
+
+end_day : (p : PledgeValue) → IsStanding p → first_day ≤ p.agreement.taken → IsDayNumber (end_of p)
+end_day p s first =
+    let six = six_months_day p.agreement.taken first (let low = s.replayable.last_in in let high = s.within.last in omega (arith, low, high)) in
+    later_day _ (last_until p.extensions) (later_day _ p.agreement.opening.agreed six (named_agreed p.agreement.opening.agreed s.within.opening.agreed)) (named_last p.extensions s.within.untils)
+
+-- a pledge that has no brief is of a book that is not sound
+pub brief_unsound : (h : Host) → AreStorable h → (b n : ℕ) (p : PledgeValue) → pledge_in (get h.books b) n ≡ Some p → (IsBriefTold p → ⊥) → IsUnsoundAt b h
+brief_unsound h storable b n p at bad = unsound_pledge h b n (λ o. IfSome o IsBriefTold) tt
+    (λ k q is sound here.
+    let s = standing_of k n q sound here in
+    record { ends = end_day q s (taken_of h storable b n k q is here); within = brief_is_within q s }) (λ all. bad (subst (λ o. IfSome o IsBriefTold) at all))

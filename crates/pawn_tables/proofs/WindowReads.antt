@@ -18,7 +18,6 @@ use Rattle.sqlite_trees.proofs.ListLemmas.{all_from_map, all_of, all-map, all_we
 use Rattle.pawn_pledge.specs.declared.record.Booking.{Booking}
 use Rattle.pawn_pledge.specs.Pledge.{PledgeValue}
 use Rattle.pawn_book.specs.declared.sheet.Part.TheVariants as part_of
-use Rattle.pawn_book.specs.declared.sheet.SheetItem.{SheetItem}
 use Rattle.pawn_book.specs.declared.sheet.SheetItem.TheVariants.{Confirmed}
 use Rattle.pawn_book.specs.Bookings.{is_confirmed, is_confirmed_for}
 use Rattle.pawn_book.specs.Sheet.{part_items}

@@ -11,5 +11,6 @@ pub mod Places
 pub mod Rows
 pub mod Schema
 pub mod StandsFor
+pub mod Tails
 pub mod Told
 pub mod WorkedTables

@@ -8,11 +8,13 @@ use Rattle.pawn_pledge.specs.declared.record.Booking.{Booking}
 use Rattle.pawn_pledge.specs.declared.record.Opening.{Opening}
 use Rattle.pawn_pledge.specs.Text.{IsText}
 use Rattle.pawn_pledge.specs.Limits.{most_article_bytes, most_reference_bytes}
+use Rattle.pawn_pledge.specs.Brief.{IsBriefWithin, brief_of}
 use Rattle.pawn_pledge.specs.Pledge.{PledgeValue, end_of, debt_of}
 use Rattle.pawn_tables.specs.Rows.{closed_day}
 use Rattle.pawn_tables.specs.declared.credits.Credit.{Credit}
 use Rattle.pawn_tables.specs.declared.joining.Lists.{Lists}
 use Rattle.pawn_tables.specs.declared.joining.Sides.{Sides}
+use Rattle.pawn_tables.specs.declared.joining.Told.{Told}
 use Rattle.pawn_tables.specs.declared.records.PledgeRow.{PledgeRow}
 
 -- the texts of an opening keep their limits, and its day is one that a request may name
@@ -70,3 +72,15 @@ pub record AreSides (s : Sides) (p : PledgeValue) : Type 0 where
   pub terms : s.terms ≡ Some p.agreement.terms
   pub booking : s.booking ≡ p.standing.booking
   pub totals : s.totals ≡ Some (totals_of (debt_of p))
+
+-- what its row and the tables beside it tell of a pledge, where it stands
+abbrev pub AreTold : Option Told → Option PledgeValue → Type 0
+AreTold None None = Unit {0}
+AreTold None (Some p) = ⊥
+AreTold (Some t) None = ⊥
+AreTold (Some t) (Some p) = (t.row ≡ row_of p) × AreSides t.sides p
+
+-- its end is a day, and its brief is within the limits
+pub record IsBriefTold (p : PledgeValue) : Type 0 where
+  pub ends : IsDayNumber (end_of p)
+  pub within : IsBriefWithin (brief_of p)

@@ -1,7 +1,9 @@
-use pawn_book::{Booking, Terms};
+use crate::records::PledgeRow;
+use pawn_book::{Booking, Secret, Terms};
 use pawn_debt::{Entries, Totals};
 use pawn_pledge::{Extensions, Secrets};
 
+pub(crate) mod briefs;
 pub(crate) mod pledges;
 
 /// The lists of a pledge.
@@ -12,10 +14,32 @@ pub(crate) struct Lists {
     pub extensions: Extensions,
 }
 
+/// The last secret of a pledge, and its place. The first place is 1.
+#[derive(Clone, Copy)]
+pub(crate) struct LastSecret {
+    pub place: u64,
+    pub secret: Secret,
+}
+
+/// How many entries and extensions a pledge has, and its last secret.
+#[derive(Clone, Copy)]
+pub(crate) struct Tails {
+    pub entries: u64,
+    pub last: Option<LastSecret>,
+    pub extensions: u64,
+}
+
 /// What the tables beside its row tell of a pledge.
 #[derive(Clone, Copy)]
 pub(crate) struct Sides {
     pub terms: Option<Terms>,
     pub booking: Option<Booking>,
     pub totals: Option<Totals>,
+}
+
+/// What the row of a pledge tells, and what the tables beside it tell.
+#[derive(Drop)]
+pub(crate) struct Told {
+    pub row: PledgeRow,
+    pub sides: Sides,
 }

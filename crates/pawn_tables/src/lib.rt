@@ -2,6 +2,7 @@
 #![tactic(auto)]
 
 mod books;
+mod briefs;
 mod cells;
 mod credits;
 mod heads;
@@ -16,10 +17,12 @@ mod queries;
 mod records;
 mod rows;
 mod sheets;
+mod tails;
 mod whole;
 mod worked;
 
 pub use books::{confirmed_in, head_in, next_in, ref_in, rows_in};
+pub use briefs::brief_in;
 pub use credits::{Credit, credit_in};
 pub use laws::tables_stand_for_one;
 pub use line::Line;

@@ -7,11 +7,11 @@ ghost use Rattle.pawn_book.specs.Keeping.{terms_of};
 ghost use Rattle.pawn_book.specs.Sound.{IsUnsoundAt};
 ghost use Rattle.one_table.specs.Lending.{IsLent};
 ghost use Rattle.pawn_tables.specs.Finding.{FindsIn};
-ghost use Rattle.pawn_tables.specs.Told.{AreLists, AreSides};
+ghost use Rattle.pawn_tables.specs.Told.{AreLists, AreSides, AreTold};
 
 use crate::cells::NO_RECORD;
 use crate::joining::pledges::join;
-use crate::joining::{Lists, Sides};
+use crate::joining::{Lists, Sides, Told};
 use crate::queries::{
     booking_in, entries_in, extensions_in, row_in, secrets_in, terms_in, totals_in,
 };
@@ -79,6 +79,28 @@ pub(crate) fn sides_in<S: Alter>(
     })
 }
 
+/// What the row of a pledge tells, and what the tables beside it tell, if the pledge stands.
+#[tactic(auto, using(crate::proofs::Lent::lent_then))]
+pub(crate) fn told_in<S: Alter>(
+    tx: &mut Transaction<'_, S>,
+    alloc: Global,
+    book: u32,
+    number: u32,
+) -> Result<Option<Told>, KeepError>
+    ensures same_reference { tx.new.conn.ghost_name ≡ tx.old.conn.ghost_name }
+    ensures finds { FindsIn (IsUnsoundAt book) (state S.Store tx.old.conn.now) (state S.Store tx.new.conn.now) result (λ h t. AreTold t (pledge_in (get h.books book) number)) }
+    ensures lent { IsLent (state S.Store tx.old.conn.now) (state S.Store tx.new.conn.now) (is_ok result) }
+{
+    let Some(row) = row_in(tx, alloc, book, number)? else {
+        return Ok(None);
+    };
+    let Ok(version) = u32::try_from(row.version) else {
+        return Err(NO_RECORD);
+    };
+    let sides = sides_in(tx, book, number, version)?;
+    Ok(Some(Told { row, sides }))
+}
+
 /// The pledge of a number. Its stored totals and its end are compared with those that follow from its record.
 #[tactic(auto, using(crate::proofs::Lent::lent_then))]
 pub fn pledge_of<S: Alter>(
@@ -92,14 +114,10 @@ pub fn pledge_of<S: Alter>(
     ensures lent { IsLent (state S.Store tx.old.conn.now) (state S.Store tx.new.conn.now) (is_ok result) }
 {
     let n = number.get();
-    let Some(row) = row_in(tx, alloc, book, n)? else {
+    let Some(told) = told_in(tx, alloc, book, n)? else {
         return Ok(None);
     };
-    let Ok(version) = u32::try_from(row.version) else {
-        return Err(NO_RECORD);
-    };
-    let sides = sides_in(tx, book, n, version)?;
     let lists = lists_in(tx, alloc, book, n)?;
-    let pledge = join(number, row, sides, lists)?;
+    let pledge = join(number, told.row, told.sides, lists)?;
     Ok(Some(pledge))
 }

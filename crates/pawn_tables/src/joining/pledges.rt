@@ -21,10 +21,44 @@ fn agrees(pledge: &Pledge, ends: u64, totals: Totals) -> bool
 }
 
 // The end of the period, as the row has it.
-fn ends_of(row: &PledgeRow) -> u64
+pub(super) fn ends_of(row: &PledgeRow) -> u64
     ensures value { result ≡ row.now.ends }
 {
     row.ends
+}
+
+// What was agreed on a pledge, and how it stands, of what was read.
+pub(super) fn record_of(
+    number: Number,
+    row: PledgeRow,
+    terms: Terms,
+    booking: Option<Booking>,
+) -> (Agreement, Standing)
+    ensures value { (p : PledgeValue) → number ≡ p.agreement.number → row ≡ row_of p → terms ≡ p.agreement.terms → booking ≡ p.standing.booking → (result.0 ≡ p.agreement) × (result.1 ≡ p.standing) }
+{
+    let PledgeRow {
+        opening,
+        taken,
+        version,
+        ends: _,
+        held,
+        last,
+        closing,
+    } = row;
+    let agreement = Agreement {
+        number,
+        opening,
+        taken,
+        version,
+        terms: terms.rates(),
+    };
+    let standing = Standing {
+        held,
+        booking,
+        last,
+        closing,
+    };
+    (agreement, standing)
 }
 
 // The record of what was read.
@@ -37,37 +71,18 @@ fn parts_of(
 ) -> Parts
     ensures value { (p : PledgeValue) → number ≡ p.agreement.number → row ≡ row_of p → terms ≡ p.agreement.terms → booking ≡ p.standing.booking → AreLists lists p → result ≡ p }
 {
-    let PledgeRow {
-        opening,
-        taken,
-        version,
-        ends: _,
-        held,
-        last,
-        closing,
-    } = row;
+    let (agreement, standing) = record_of(number, row, terms, booking);
     let Lists {
         entries,
         secrets,
         extensions,
     } = lists;
     Parts {
-        agreement: Agreement {
-            number,
-            opening,
-            taken,
-            version,
-            terms: terms.rates(),
-        },
+        agreement,
         entries,
         secrets,
         extensions,
-        standing: Standing {
-            held,
-            booking,
-            last,
-            closing,
-        },
+        standing,
     }
 }
 

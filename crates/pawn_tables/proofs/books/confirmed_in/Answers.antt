@@ -1,7 +1,4 @@
-use Rattle.std.proofs.Common.{rules, ◌≡◌, length, refl, sym, subst, ◌∙◌}
-use Rattle.std.specs.FinMap.{get}
-use Rattle.pawn_book.specs.Bookings.{confirmed_count}
-use Rattle.pawn_book.specs.Keeping.{pledges_of}
+use Rattle.std.proofs.Common.{rules, ◌≡◌, refl, sym, subst, ◌∙◌}
 use Rattle.sqlite.specs.Held.{state}
 use Rattle.sqlite.specs.Listing.{understood}
 use Rattle.sqlite.proofs.Callers.{IsPlain}

@@ -1,4 +1,4 @@
-use Rattle.std.proofs.Common.{rules, refl, sym, subst, ◌∙◌}
+use Rattle.std.proofs.Common.{rules, true, refl, sym, subst, ◌∙◌}
 use Rattle.sqlite.specs.Held.{state}
 use Rattle.sqlite.specs.Listing.{understood}
 use Rattle.sqlite.proofs.Callers.{IsPlain}
@@ -16,7 +16,7 @@ returns-clause-finds g c clean within h stood =
     let old = state g.S.Store c.args.tx.now.conn.now in
     let new = state g.S.Store c.rows_of.new.tx.conn.now in
     let rows = c.in_ok-rows.rows.items in
-    let st = stood (c.in_ok-rows.ensures.lent.opened clean within refl) in
+    let st = stood (c.in_ok-rows.ensures.lent.opened clean within (refl {a = true})) in
     let shown = c.in_ok-rows.ensures.shown clean in
     let plain = subst (λ s. IsPlain (understood s text.rows_text)) (sym st.schema) text.rows_is.2 in
     let rests = plain_rests text.rows_text _ old new rows within plain shown in

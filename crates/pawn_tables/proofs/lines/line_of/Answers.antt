@@ -1,4 +1,4 @@
-use Rattle.std.proofs.Common.{rules, ◌≡◌, ◌<◌, List, length, refl, sym, ap, ◌∙◌, arith}
+use Rattle.std.proofs.Common.{rules, ◌≡◌, ◌<◌, length, refl, ap, ◌∙◌, arith}
 use Rattle.sqlite.specs.Order.{Row, column}
 use Rattle.pawn_pledge.specs.Number.{IsNumber}
 use Rattle.pawn_book.specs.declared.sheet.Part.{Part}

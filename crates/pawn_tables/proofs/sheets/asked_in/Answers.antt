@@ -1,8 +1,4 @@
-use Rattle.std.proofs.Common.{rules, ◌≡◌, ℕ, length, refl, sym, subst, ◌∙◌}
-use Rattle.std.specs.FinMap.{get}
-use Rattle.pawn_book.specs.Keeping.{pledges_of}
-use Rattle.pawn_book.specs.Sheet.{part_items}
-use Rattle.pawn_book.specs.declared.sheet.Part.TheVariants as part_of
+use Rattle.std.proofs.Common.{rules, refl, sym, subst, ◌∙◌}
 use Rattle.sqlite.specs.Held.{state}
 use Rattle.sqlite.specs.Listing.{understood}
 use Rattle.sqlite.proofs.Callers.{IsPlain}

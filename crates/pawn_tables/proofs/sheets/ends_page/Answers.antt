@@ -1,4 +1,4 @@
-use Rattle.std.proofs.Common.{rules, ◌≡◌, map, take, refl, sym, subst, ◌∙◌}
+use Rattle.std.proofs.Common.{rules, map, take, refl, sym, subst, ◌∙◌}
 use Rattle.std.specs.FinMap.{get}
 use Rattle.pawn_pledge.specs.Replayable.{Each}
 use Rattle.pawn_book.specs.Keeping.{pledges_of}

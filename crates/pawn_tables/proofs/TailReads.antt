@@ -1,0 +1,132 @@
+-- What the queries for the ends of a pledge's lists show, where the tables stand for a host.
+use Rattle.std.proofs.Common.{◌≡◌, ℕ, suc, ◌+◌, ◌-◌, List, [], ◌∷◌, length, map, Option, Some, None, Err, option_map, refl, sym, ap, subst, ◌∙◌, arith}
+use Rattle.std.specs.Prelude.{IfSome, unwrap_or}
+use Rattle.std.specs.declared.cmp.Ordering.TheVariants.{Less}
+use Rattle.std.specs.FinMap.{get}
+use Rattle.std.proofs.lemmas.List.{length-map}
+use Rattle.sqlite.specs.Order.{Row, column, value_cmp}
+use Rattle.sqlite.specs.Tree.{IsAscending}
+use Rattle.sqlite.specs.Table.{Table}
+use Rattle.sqlite.specs.State.{State, Shown}
+use Rattle.pawn_pledge.specs.declared.record.Issued.{Issued}
+use Rattle.pawn_pledge.specs.declared.record.Extension.{Extension}
+use Rattle.pawn_pledge.specs.Pledge.{PledgeValue, last_element}
+use Rattle.pawn_book.specs.BookStep.{pledge_in}
+use Rattle.pawn_book.specs.HostStep.{Host}
+use Rattle.pawn_book.specs.Keeping.{entries_of, extensions_of, secrets_of}
+use Rattle.pawn_book.specs.Written.{AreWords, IsWord}
+use Rattle.pawn_book.specs.declared.fault.KeepError.{KeepError}
+use Rattle.pawn_book.specs.declared.fault.KeepError.TheVariants as Keeper
+use Rattle.pawn_book.specs.declared.fault.StoreFault.TheVariants.{NoRecord, Database}
+use Rattle.one_table.proofs.Found.{last_of, shown_last}
+use Rattle.pawn_tables.specs.Finding.{IsRead}
+use Rattle.pawn_tables.specs.Heads.{number_cells}
+use Rattle.pawn_tables.specs.Rows.{number, under, at_most_one, placed_from, entry_cells, entries_listed, secret_cells, secrets_listed, extension_cells, extensions_listed}
+use Rattle.pawn_tables.specs.Schema.{keep_schema, entries, secrets, extensions}
+use Rattle.pawn_tables.specs.StandsFor.{StandsFor, of_pledges}
+use Rattle.pawn_tables.specs.Tails.{AreTails, last_cells, last_issued}
+use Rattle.pawn_tables.specs.declared.joining.LastSecret.{LastSecret}
+use Rattle.pawn_tables.specs.declared.joining.Tails.{Tails}
+use Rattle.pawn_tables.proofs.Counts.{count_of, shown_count}
+use Rattle.pawn_tables.proofs.PageLemmas.{last_later, last_some}
+use Rattle.pawn_tables.proofs.PlaceReads.{at_each}
+use Rattle.pawn_tables.proofs.PledgeReads.{rises_at, under_map, under_placed}
+use Rattle.pawn_tables.proofs.ReadTexts as text
+use Rattle.pawn_tables.proofs.Sought.{at_pledge, rows_at, of_one_pledge, placed_rise}
+
+-- ---- the last of elements with their places
+
+last_placed : {A : Type 0} (g told : ℕ → A → Row) (cells : Row → Row) → ((at : ℕ) (x : A) → cells (g at x) ≡ told at x) → (k place : ℕ) (xs : List A) → place + 1 ≡ k + length xs
+    → map cells (last_of (placed_from g k xs)) ≡ at_most_one (told place) (last_element xs)
+last_placed g told cells is k place [] end = refl
+last_placed g told cells is k place (x ∷ []) end = let same : k ≡ place = omega (arith, end) in ap (λ r. r ∷ []) (is k x ∙ ap (λ m. told m x) same)
+last_placed g told cells is k place (x ∷ (y ∷ xs)) end = last_placed g told cells is (k + 1) place (y ∷ xs) (omega (arith, end)) ∙ ap (at_most_one (told place)) (sym (last_later x y xs))
+
+one_mapped : {A B : Type 0} (f : A → B) (g : B → Row) (o : Option A) → at_most_one (λ x. g (f x)) o ≡ at_most_one g (option_map f o)
+one_mapped f g None = refl
+one_mapped f g (Some x) = refl
+
+-- its place tells how many they are
+pub place_count : {A : Type 0} (xs : List A) → unwrap_or (option_map (λ (x : A). length xs) (last_element xs)) 0 ≡ length xs
+place_count [] = refl
+place_count (x ∷ xs) = let last = last_some x xs in ap (λ o. unwrap_or (option_map (λ y. length (x ∷ xs)) o) 0) last.1
+
+pub last_place : (secrets : List Issued) (l : Option LastSecret) → l ≡ last_issued secrets → unwrap_or (option_map (λ (x : LastSecret). x.place) l) 0 ≡ length secrets
+last_place secrets l is = ap (λ o. unwrap_or (option_map (λ (x : LastSecret). x.place) o) 0) is ∙ go (last_element secrets) ∙ place_count secrets
+  where
+    go : (o : Option Issued) → unwrap_or (option_map (λ (x : LastSecret). x.place) (option_map (λ (i : Issued). record { place = length secrets; secret = i.secret }) o)) 0 ≡ unwrap_or (option_map (λ (i : Issued). length secrets) o) 0
+    go None = refl
+    go (Some i) = refl
+
+-- the last of words is a word
+pub last_word : (secrets : List Issued) → AreWords secrets → IfSome (last_issued secrets) (λ (l : LastSecret). IsWord l.secret)
+last_word secrets words = go (last_element secrets) (at_each (λ (i : Issued). IsWord i.secret) secrets (suc (length secrets - 1)) words)
+  where
+    go : (o : Option Issued) → IfSome o (λ (i : Issued). IsWord i.secret) → IfSome (option_map (λ (i : Issued). record { place = length secrets; secret = i.secret }) o) (λ (l : LastSecret). IsWord l.secret)
+    go None fits = tt
+    go (Some i) fits = fits
+
+any_some : {A : Type 0} (o : Option A) → IfSome o (λ x. Unit {0})
+any_some None = tt
+any_some (Some x) = tt
+
+-- what can be read always, if it is there, is not told to be no record
+pub always_some : {A B : Type 0} (e : KeepError) (o : Option A) (y : B) (Q : Type 0) → IsRead (Err e) o (IfSome o (λ x. Unit {0})) → IsRead (Err e) y Q
+always_some Keeper.Memory o y Q f = tt
+always_some (Keeper.Store Database) o y Q f = tt
+always_some (Keeper.Store NoRecord) o y Q f = absurd (f (any_some o))
+
+-- ---- what is shown
+
+module _ (old new : State) (h : Host) (b n : ℕ) (rows : List Row) (st : StandsFor old.now h) where
+  abbrev params : Row
+  params = number b ∷ number n ∷ []
+
+  abbrev found : Option PledgeValue
+  found = pledge_in (get h.books b) n
+
+  pub count_shown : Shown text.entry_count_text params old new rows → rows ≡ count_of (length (entries_of found)) ∷ []
+  count_shown shown =
+      let t : Table = record entries { tree = 6 } in
+      let one = of_one_pledge h b n entries_listed st.ordered (λ m p. under_map m p.agreement.number entry_cells p.entries) in
+      shown_count keep_schema 6 (λ _. refl) t text.of_pledge params (at_pledge b n) (λ _. refl) text.entry_count_text _ text.entry_count_is old new (of_pledges h entries_listed) rows st.schema st.entries shown
+      ∙ ap (λ k. count_of k ∷ []) (ap length one ∙ many found)
+    where
+      many : (o : Option PledgeValue) → length (rows_at o (entries_listed b)) ≡ length (entries_of o)
+      many None = refl
+      many (Some p) = length-map p.entries _
+
+  pub secret_shown : Shown text.last_secret_text params old new rows → rows ≡ at_most_one last_cells (last_issued (secrets_of found))
+  secret_shown shown =
+      let t : Table = record secrets { tree = 8 } in
+      let one = of_one_pledge h b n secrets_listed st.ordered (λ m p. under_placed m p.agreement.number secret_cells 1 p.secrets) in
+      let up = rises_at found (secrets_listed b) (λ v. column v 2) (λ p is. placed_rise (λ place i. under b p.agreement.number (secret_cells place i)) (λ v. column v 2) (λ place i. refl) 1 p.secrets) in
+      shown_last keep_schema 8 (λ _. refl) t text.of_pledge text.last_secret_shows params (at_pledge b n) (λ v. column v 2 ∷ column v 5 ∷ []) (λ _. refl) (λ _. refl) 3 (λ v. column v 2) (λ _. refl)
+      text.last_secret_text _ text.last_secret_is old new (of_pledges h secrets_listed) rows st.schema st.secrets (subst (IsAscending (λ a c. value_cmp (column a 2) (column c 2) ≡ Less)) (sym one) up) shown
+      ∙ ap (λ xs. map (λ v. column v 2 ∷ column v 5 ∷ []) (last_of xs)) one ∙ cells found
+    where
+      cells : (o : Option PledgeValue) → map (λ v. column v 2 ∷ column v 5 ∷ []) (last_of (rows_at o (secrets_listed b))) ≡ at_most_one last_cells (last_issued (secrets_of o))
+      cells None = refl
+      cells (Some p) =
+          last_placed (λ place i. under b p.agreement.number (secret_cells place i)) (λ place (i : Issued). last_cells (record { place = place; secret = i.secret })) (λ v. column v 2 ∷ column v 5 ∷ []) (λ place i. refl) 1 (length p.secrets) p.secrets (omega arith)
+          ∙ one_mapped (λ (i : Issued). record { place = length p.secrets; secret = i.secret }) last_cells (last_element p.secrets)
+
+  pub place_shown : Shown text.last_place_text params old new rows → rows ≡ at_most_one number_cells (option_map (λ (e : Extension). length (extensions_of found)) (last_element (extensions_of found)))
+  place_shown shown =
+      let t : Table = record extensions { tree = 17 } in
+      let one = of_one_pledge h b n extensions_listed st.ordered (λ m p. under_placed m p.agreement.number extension_cells 1 p.extensions) in
+      let up = rises_at found (extensions_listed b) (λ v. column v 2) (λ p is. placed_rise (λ place e. under b p.agreement.number (extension_cells place e)) (λ v. column v 2) (λ place e. refl) 1 p.extensions) in
+      shown_last keep_schema 17 (λ _. refl) t text.of_pledge text.last_place_shows params (at_pledge b n) (λ v. column v 2 ∷ []) (λ _. refl) (λ _. refl) 3 (λ v. column v 2) (λ _. refl)
+      text.last_place_text _ text.last_place_is old new (of_pledges h extensions_listed) rows st.schema st.extensions (subst (IsAscending (λ a c. value_cmp (column a 2) (column c 2) ≡ Less)) (sym one) up) shown
+      ∙ ap (λ xs. map (λ v. column v 2 ∷ []) (last_of xs)) one ∙ cells found
+    where
+      cells : (o : Option PledgeValue) → map (λ v. column v 2 ∷ []) (last_of (rows_at o (extensions_listed b))) ≡ at_most_one number_cells (option_map (λ (e : Extension). length (extensions_of o)) (last_element (extensions_of o)))
+      cells None = refl
+      cells (Some p) =
+          last_placed (λ place e. under b p.agreement.number (extension_cells place e)) (λ place (e : Extension). number_cells place) (λ v. column v 2 ∷ []) (λ place e. refl) 1 (length p.extensions) p.extensions (omega arith)
+          ∙ one_mapped (λ (e : Extension). length p.extensions) number_cells (last_element p.extensions)
+
+-- what the ends tell together
+pub tails_told : (o : Option PledgeValue) (t : Tails) → t.entries ≡ length (entries_of o) → t.last ≡ last_issued (secrets_of o) → t.extensions ≡ length (extensions_of o) → IfSome o (AreTails t)
+tails_told None t many last longer = tt
+tails_told (Some p) t many last longer = record { entries = many; last = last; extensions = longer }

@@ -1,0 +1,105 @@
+ghost use Rattle.std.specs.Prelude.{◌≡◌, List, length};
+ghost use Rattle.pawn_terms.specs.Calendar.{IsDayNumber};
+ghost use Rattle.pawn_pledge.specs.declared.record.Issued.{Issued};
+ghost use Rattle.pawn_pledge.specs.Brief.{brief_of};
+ghost use Rattle.pawn_pledge.specs.Pledge.{PledgeValue, end_of, last_secret, live_under};
+ghost use Rattle.pawn_tables.specs.Finding.{IsRead};
+ghost use Rattle.pawn_tables.specs.Tails.{AreTails, last_issued};
+ghost use Rattle.pawn_tables.specs.Told.{AreSides, IsBriefTold, row_of};
+
+use super::pledges::{ends_of, record_of};
+use crate::cells::{NO_RECORD, day_of};
+use crate::joining::{LastSecret, Sides, Tails};
+use crate::records::PledgeRow;
+use pawn_book::{Brief, BriefFields, Closing, KeepError, Number, Secret};
+use pawn_pledge::Counts;
+
+// The last secret alone.
+fn secret_of(last: Option<LastSecret>) -> Option<Secret>
+    ensures value { (secrets : List Issued) → last ≡ last_issued secrets → result ≡ last_secret secrets }
+{
+    match last {
+        Some(last) => Some(last.secret),
+        None => None,
+    }
+}
+
+// The live secret: the last one, unless the pledge is redeemed.
+fn live_of(closing: Closing, last: Option<LastSecret>) -> Option<Secret>
+    ensures value { (secrets : List Issued) → last ≡ last_issued secrets → result ≡ live_under closing (last_secret secrets) }
+{
+    match closing {
+        Closing::Redeemed { .. } => None,
+        Closing::Open | Closing::Sold { .. } => secret_of(last),
+    }
+}
+
+// How many secrets there are, by the place of the last.
+fn place_of(last: Option<LastSecret>) -> u64
+    ensures value { (secrets : List Issued) → last ≡ last_issued secrets → result ≡ length secrets }
+{
+    match last {
+        Some(last) => last.place,
+        None => 0,
+    }
+}
+
+// How many entries, secrets and extensions there are.
+fn counts_of(tails: Tails) -> Counts
+    ensures value { (p : PledgeValue) → AreTails tails p → result ≡ (brief_of p).counts }
+{
+    Counts {
+        entries: tails.entries as usize,
+        secrets: place_of(tails.last) as usize,
+        extensions: tails.extensions as usize,
+    }
+}
+
+// The fields of the brief of what was read of a pledge, where the end of its period is a day.
+fn fields_of(
+    number: Number,
+    row: PledgeRow,
+    sides: Sides,
+    tails: Tails,
+) -> Result<BriefFields, KeepError>
+    ensures read { (p : PledgeValue) → number ≡ p.agreement.number → row ≡ row_of p → AreSides sides p → AreTails tails p → IsRead result (brief_of p) (IsDayNumber (end_of p)) }
+{
+    let Sides {
+        terms,
+        booking,
+        totals,
+    } = sides;
+    let Some(terms) = terms else {
+        return Err(NO_RECORD);
+    };
+    let Some(totals) = totals else {
+        return Err(NO_RECORD);
+    };
+    let ends = day_of(ends_of(&row))?;
+    let (agreement, standing) = record_of(number, row, terms, booking);
+    let live = live_of(standing.closing, tails.last);
+    Ok(BriefFields {
+        agreement,
+        counts: counts_of(tails),
+        standing,
+        live,
+        ends,
+        totals,
+    })
+}
+
+/// The brief of what was read of a pledge, where it is within the limits.
+pub(crate) fn join(
+    number: Number,
+    row: PledgeRow,
+    sides: Sides,
+    tails: Tails,
+) -> Result<Brief, KeepError>
+    ensures read { (p : PledgeValue) → number ≡ p.agreement.number → row ≡ row_of p → AreSides sides p → AreTails tails p → IsRead result (brief_of p) (IsBriefTold p) }
+{
+    let fields = fields_of(number, row, sides, tails)?;
+    match Brief::of_fields(fields) {
+        Ok(brief) => Ok(brief),
+        Err(_) => Err(NO_RECORD),
+    }
+}

@@ -1,0 +1,125 @@
+//! How long the lists of a pledge are, and its last secret. No list is read.
+ghost use Rattle.std.specs.Prelude.{◌≡◌, ℕ, IfSome, Option, is_ok, length, unwrap_or, ⊤};
+ghost use Rattle.std.specs.FinMap.{get};
+ghost use Rattle.sqlite.specs.Held.{state};
+ghost use Rattle.pawn_book.specs.BookStep.{pledge_in};
+ghost use Rattle.pawn_book.specs.Keeping.{entries_of, extensions_of, secrets_of};
+ghost use Rattle.pawn_book.specs.Sound.{IsUnsoundAt};
+ghost use Rattle.pawn_book.specs.Written.{IsWord};
+ghost use Rattle.one_table.specs.Lending.{IsLent};
+ghost use Rattle.pawn_tables.specs.declared.joining.LastSecret.{LastSecret};
+ghost use Rattle.pawn_tables.specs.Finding.{FindsIn, IsRead};
+ghost use Rattle.pawn_tables.specs.Heads.{number_cells};
+ghost use Rattle.pawn_tables.specs.Rows.{at_most_one};
+ghost use Rattle.pawn_tables.specs.Tails.{AreTails, last_cells, last_issued};
+
+use crate::cells::{number_at, word_at};
+use crate::heads::only_count;
+use crate::joining::{LastSecret, Tails};
+use crate::queries::rows_of;
+use pawn_book::KeepError;
+use sqlite::{Alter, Row, Transaction, params};
+
+// The last secret of a row, and its place.
+fn last_of(row: &Row) -> Result<LastSecret, KeepError>
+    ensures read { (l : LastSecret) → IsWord l.secret → row.now ≡ last_cells l → IsRead result l ⊤ }
+{
+    let place = number_at(row, 0)?;
+    let secret = word_at(row, 1)?;
+    Ok(LastSecret { place, secret })
+}
+
+// The last secret of the first row, and its place, if there is a row.
+fn first_last(rows: &[Row]) -> Result<Option<LastSecret>, KeepError>
+    ensures read { (l : Option LastSecret) → IfSome l (λ x. IsWord x.secret) → rows.now ≡ at_most_one last_cells l → IsRead result l ⊤ }
+{
+    let [row, ..] = rows else {
+        return Ok(None);
+    };
+    Ok(Some(last_of(row)?))
+}
+
+// How many elements there are, by the first row, which tells the place of the last; none where there is no row.
+fn first_place(rows: &[Row]) -> Result<u64, KeepError>
+    ensures read { (n : Option ℕ) → rows.now ≡ at_most_one number_cells n → IsRead result (unwrap_or n 0) ⊤ }
+{
+    let [row, ..] = rows else {
+        return Ok(0);
+    };
+    number_at(row, 0)
+}
+
+// How many entries a pledge has. They are counted, since the number of the last does not tell of one that is left out.
+fn entry_count<S: Alter>(
+    tx: &mut Transaction<'_, S>,
+    book: u32,
+    number: u32,
+) -> Result<u64, KeepError>
+    ensures same_reference { tx.new.conn.ghost_name ≡ tx.old.conn.ghost_name }
+    ensures finds { FindsIn (IsUnsoundAt book) (state S.Store tx.old.conn.now) (state S.Store tx.new.conn.now) result (λ h count. count ≡ length (entries_of (pledge_in (get h.books book) number))) }
+    ensures lent { IsLent (state S.Store tx.old.conn.now) (state S.Store tx.new.conn.now) (is_ok result) }
+{
+    let rows = rows_of(
+        tx,
+        "SELECT count(*) FROM entries WHERE book = ?1 AND number = ?2",
+        params![book, number],
+    )?;
+    only_count(&rows)
+}
+
+// The last secret of a pledge, and its place.
+fn last_secret<S: Alter>(
+    tx: &mut Transaction<'_, S>,
+    book: u32,
+    number: u32,
+) -> Result<Option<LastSecret>, KeepError>
+    ensures same_reference { tx.new.conn.ghost_name ≡ tx.old.conn.ghost_name }
+    ensures finds { FindsIn (IsUnsoundAt book) (state S.Store tx.old.conn.now) (state S.Store tx.new.conn.now) result (λ h x. x ≡ last_issued (secrets_of (pledge_in (get h.books book) number))) }
+    ensures lent { IsLent (state S.Store tx.old.conn.now) (state S.Store tx.new.conn.now) (is_ok result) }
+{
+    let rows = rows_of(
+        tx,
+        "SELECT place, secret FROM secrets WHERE book = ?1 AND number = ?2 ORDER BY place DESC LIMIT 1",
+        params![book, number],
+    )?;
+    first_last(&rows)
+}
+
+// How many extensions a pledge has, by the place of the last.
+fn extension_count<S: Alter>(
+    tx: &mut Transaction<'_, S>,
+    book: u32,
+    number: u32,
+) -> Result<u64, KeepError>
+    ensures same_reference { tx.new.conn.ghost_name ≡ tx.old.conn.ghost_name }
+    ensures finds { FindsIn (IsUnsoundAt book) (state S.Store tx.old.conn.now) (state S.Store tx.new.conn.now) result (λ h count. count ≡ length (extensions_of (pledge_in (get h.books book) number))) }
+    ensures lent { IsLent (state S.Store tx.old.conn.now) (state S.Store tx.new.conn.now) (is_ok result) }
+{
+    let rows = rows_of(
+        tx,
+        "SELECT place FROM extensions WHERE book = ?1 AND number = ?2 ORDER BY place DESC LIMIT 1",
+        params![book, number],
+    )?;
+    first_place(&rows)
+}
+
+/// How many entries and extensions a pledge has, and its last secret.
+#[tactic(auto, using(crate::proofs::Lent::lent_then))]
+pub(crate) fn tails_in<S: Alter>(
+    tx: &mut Transaction<'_, S>,
+    book: u32,
+    number: u32,
+) -> Result<Tails, KeepError>
+    ensures same_reference { tx.new.conn.ghost_name ≡ tx.old.conn.ghost_name }
+    ensures finds { FindsIn (IsUnsoundAt book) (state S.Store tx.old.conn.now) (state S.Store tx.new.conn.now) result (λ h t. IfSome (pledge_in (get h.books book) number) (AreTails t)) }
+    ensures lent { IsLent (state S.Store tx.old.conn.now) (state S.Store tx.new.conn.now) (is_ok result) }
+{
+    let entries = entry_count(tx, book, number)?;
+    let last = last_secret(tx, book, number)?;
+    let extensions = extension_count(tx, book, number)?;
+    Ok(Tails {
+        entries,
+        last,
+        extensions,
+    })
+}
