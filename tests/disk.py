@@ -1,6 +1,7 @@
 #!/usr/bin/env python3
 """A disk that fails: each read, write, sync and cut of a story's files in turn, refused, short or torn, once or from then on, with each error once. Each answer is as the rules
-have it with some requests answered 492, and the next start holds all that was acknowledged, with or without the request in hand. And a disk that is full for a while."""
+have it with some requests answered 492, and the next start holds all that was acknowledged, with or without the request in hand. So in a migration. And a disk that is full
+for a while."""
 import errno
 import os
 import subprocess
@@ -8,11 +9,12 @@ import sys
 import tempfile
 
 import refusing
-from refusing import each_refused
+from refusing import each_refused, each_refused_in_a_migration
 from service import Server, check, expect, main
 from stories import a_book_that_moves, a_first_pledge, a_lost_receipt
 
 ENDS = ((1, "fault 503 Store\n"),)
+NOT_MOVED = ((1, "", "fault 514 Store\n"),)
 
 
 def told(count):
@@ -41,6 +43,13 @@ def every_call_from_one_on():
     story = a_book_that_moves()
     told(each_refused(story, "file", "rwst", ENDS, step=3, mode="on"))
     told(each_refused(story, "file", "ws", ENDS, step=3, mode="on", error=errno.ENOSPC))
+
+
+def calls_of_a_migration():
+    """A call that is refused while a store of an older schema is moved, once or from then on, leaves the store for another try, which moves it to the same books."""
+    for mode, first in (("once", 1), ("on", 2)):
+        for count in each_refused_in_a_migration("rwst", NOT_MOVED, 3, lambda: first, mode=mode):
+            told(count)
 
 
 def a_disk_that_is_full_for_a_while():
@@ -168,5 +177,5 @@ def a_conversation_goes_on_to_its_end():
 if refusing.library() is None:
     print("not tried: a disk that fails, since no C compiler is there\n0 passed, 0 failed")
     sys.exit(0)
-main(each_call_is_refused_once, each_write_is_short_or_torn, each_error, every_call_from_one_on, a_disk_that_is_full_for_a_while,
+main(each_call_is_refused_once, each_write_is_short_or_torn, each_error, every_call_from_one_on, calls_of_a_migration, a_disk_that_is_full_for_a_while,
      a_store_that_a_fault_has_shut_ends_the_service, a_conversation_goes_on_to_its_end)

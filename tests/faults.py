@@ -46,11 +46,11 @@ def the_first_fault_of_serve_is_told():
 
 def a_key_may_stand_in_a_file():
     with tempfile.TemporaryDirectory() as room:
-        for end in ["", "\n", "\r\n"]:
+        for end, wanted in [("", (0, "")), ("\n", (0, "")), ("\r\n", (0, "")), ("\n\n", fault(803, "BadKey"))]:
             path = os.path.join(room, "key")
             with open(path, "w", newline="") as it:
                 it.write(OPERATOR + end)
-            expect(f"a line end {end!r}", ends("answer", ":memory:", DAY, SEED, path), (0, ""))
+            expect(f"a line end {end!r}", ends("answer", ":memory:", DAY, SEED, path), wanted)
 
 
 def stored(name):

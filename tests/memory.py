@@ -6,14 +6,12 @@ With EVERY=1 in the environment, as under `make fuzz`, each allocation is tried 
 import http.client
 import os
 import random
-import subprocess
 import sys
 import tempfile
 
 import refusing
-from refusing import content, each_refused
-from service import PROGRAM, Failed, Server, expect, main
-from stores import TO_FIRST, TO_SECOND, bent_back, fill, moved
+from refusing import each_refused, each_refused_in_a_migration
+from service import Server, expect, main
 from stories import a_book_that_moves, a_first_pledge, a_lost_receipt, two_for_a_window
 
 EVERY = bool(os.environ.get("EVERY"))
@@ -49,38 +47,11 @@ def all_memory_from_some_allocation_on():
         told(each_refused(story, "file", "m", ENDS, mode="on", **one_in(97)))
 
 
-def migrated(path, environment=None):
-    """How a migration ends, and what it says."""
-    ran = subprocess.run([PROGRAM, "migrate", path], stdin=subprocess.DEVNULL, capture_output=True, timeout=60, env=environment)
-    return ran.returncode, ran.stdout.decode(), ran.stderr.decode()
-
-
 def each_allocation_of_a_migration():
     """An allocation that is refused while a store of an older schema is moved leaves the store for another try, which moves it to the same books."""
-    for number, statements in ((1, TO_FIRST), (2, TO_SECOND)):
-        with tempfile.TemporaryDirectory() as room:
-            made, count = os.path.join(room, "made"), os.path.join(room, "count")
-            fill(made, 8, 1, entries=2, bookings=True)
-            old = bent_back(made, os.path.join(room, "old"), *statements)
-            whole = bent_back(old, os.path.join(room, "whole"))
-            expect("a migration", migrated(whole, refusing.refusing("m", count=count)), moved(number))
-            with open(count) as it:
-                places = int(it.read())
-            for at in range(1 if EVERY else CHANCE.randrange(1, 212), places + 1, 1 if EVERY else 211):
-                one_of_a_migration(old, os.path.join(room, "books"), number, at, content(whole))
-            told(places)
-
-
-def one_of_a_migration(old, path, number, at, wanted):
-    bent_back(old, path)
-    ended = migrated(path, refusing.refusing("m", at=at))
-    if ended != moved(number) and ended not in NOT_MOVED:
-        raise Failed(f"a migration from {number}, allocation {at}: {ended}")
-    expect("it is moved then", migrated(path) in (moved(number), moved(3)), True)
-    expect("what it holds", content(path), wanted)
-    for left in (path, f"{path}-wal"):
-        if os.path.exists(left):
-            os.remove(left)
+    step = 1 if EVERY else 211
+    for count in each_refused_in_a_migration("m", NOT_MOVED, step, lambda: CHANCE.randrange(1, step + 1)):
+        told(count)
 
 
 def while_it_serves():

@@ -11,7 +11,8 @@ import shutil
 import subprocess
 import tempfile
 
-from service import BROKER, OPERATOR, PROGRAM, SEED, TOP, Failed, check, request
+from service import BROKER, OPERATOR, PROGRAM, SEED, TOP, Failed, check, expect, request
+from stores import TO_FIRST, TO_SECOND, bent_back, fill, moved
 
 DAY = "2024-01-31"
 REFUSED = (b'{"code":491,"name":"Memory"}', b'{"code":492,"name":"Store"}')
@@ -171,3 +172,39 @@ def each_refused(story, kind, calls, ends, step=1, first=1, **how):
             if why:
                 raise Failed(why)
     return whole
+
+
+def migrated(path, environment=None):
+    """How a migration ends, and what it says."""
+    ran = subprocess.run([PROGRAM, "migrate", path], stdin=subprocess.DEVNULL, capture_output=True, timeout=60, env=environment)
+    return ran.returncode, ran.stdout.decode(), ran.stderr.decode()
+
+
+def each_refused_in_a_migration(calls, ends, step=1, first=lambda: 1, **how):
+    """Refuses each of these calls in turn while a store of an older schema is moved. Each run moves it or ends as one of ends, and leaves the store for another try, which moves
+    it to the same books. Gives how many calls there were for each schema."""
+    told = []
+    for number, statements in ((1, TO_FIRST), (2, TO_SECOND)):
+        with tempfile.TemporaryDirectory() as room:
+            made, count = os.path.join(room, "made"), os.path.join(room, "count")
+            fill(made, 8, 1, entries=2, bookings=True)
+            old = bent_back(made, os.path.join(room, "old"), *statements)
+            whole = bent_back(old, os.path.join(room, "whole"))
+            expect("a migration", migrated(whole, refusing(calls, count=count)), moved(number))
+            with open(count) as it:
+                told.append(int(it.read()))
+            for at in range(first(), told[-1] + 1, step):
+                one_of_a_migration(old, os.path.join(room, "books"), number, ends, content(whole), f"call {at} ({calls}, {how})", refusing(calls, at=at, **how))
+    return told
+
+
+def one_of_a_migration(old, path, number, ends, wanted, step, environment):
+    bent_back(old, path)
+    ended = migrated(path, environment)
+    if ended != moved(number) and ended not in ends:
+        raise Failed(f"a migration from {number}, {step}: {ended}")
+    expect(f"it is moved then, {step}", migrated(path) in (moved(number), moved(3)), True)
+    expect(f"what it holds, {step}", content(path), wanted)
+    for left in (path, f"{path}-wal"):
+        if os.path.exists(left):
+            os.remove(left)

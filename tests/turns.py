@@ -2,28 +2,44 @@
 """Whole requests and their replies, byte for byte, in the files of tests/turns/: over a file that is opened anew for each day, and in memory where a run has
 one day alone. Also a bearer among strangers, whose replies are what they are without them.
 
-A turn is two lines. The first is a request: its day, the word of its stamp, who asks, the method and the target, and the body. Who asks is named by its key, or
+usage: tests/turns.py [NAME..]     (tests/turns.py ann_and_bo plays tests/turns/ann_and_bo.txt alone)
+
+A turn that fails is told by its file, the line of its request and its number. A turn is two lines. The first is a request: its day, the word of its stamp, who asks, the method and the target, and the body. Who asks is named by its key, or
 by its receipts, each by its pledge and the word that issued it. The second line is the reply: its status and its body. A `|` in a body stands for the end of a line.
 A word is one that the program draws by itself, so its secret is taken from the reply that tells it first.
 """
+import glob
 import itertools
 import os
 import re
 import sqlite3
 import subprocess
+import sys
 import tempfile
+from typing import NamedTuple
 
 from service import OPERATOR, PROGRAM, TOP, Failed, check, expect, main, opened
 
 KEYS = {"operator": OPERATOR, "broker": "22222222-2222-2222-2222-222222222222", "stranger": "33333333-3333-3333-3333-333333333333"}
 SECRET = re.compile(r"[0-9a-f]{8}(?:-[0-9a-f]{4}){3}-[0-9a-f]{12}")
+FILES = sorted(os.path.basename(path)[:-len(".txt")] for path in glob.glob(os.path.join(TOP, "tests/turns/*.txt")))
+# The files that are played where a file has room for so many rows. All others have the program's own limit.
+ROWS = {"two_lives": 12, "full": 12, "at_the_limit": 12}
+
+
+class Turn(NamedTuple):
+    """A turn: where it stands, its request's line and its reply's."""
+    place: str
+    asked: str
+    wanted: str
 
 
 def turns_in(name):
-    """The turns of a file, each as its request's line and its reply's."""
+    """The turns of a file."""
     with open(os.path.join(TOP, "tests/turns", f"{name}.txt"), encoding="utf-8") as it:
-        lines = [line.rstrip("\n") for line in it if not line.startswith("#")]
-    return list(zip(lines[::2], lines[1::2], strict=True))
+        lines = [(number, line.rstrip("\n")) for number, line in enumerate(it, 1) if not line.startswith("#")]
+    pairs = zip(lines[::2], lines[1::2], strict=True)
+    return [Turn(f"tests/turns/{name}.txt:{number}, turn {turn}", asked, wanted) for turn, ((number, asked), (_, wanted)) in enumerate(pairs, 1)]
 
 
 class Words:
@@ -70,9 +86,9 @@ def reply(line, words):
     return f"HTTP/1.1 {status}\r\nContent-Length: {len(body)}\r\nContent-Type: {kind}\r\n\r\n".encode() + body
 
 
-def answers(database, day, seed, stream):
+def answers(database, day, seed, stream, step="a run"):
     ran = subprocess.run([PROGRAM, "answer", database, day, f"{seed:064x}", OPERATOR], input=stream, capture_output=True, timeout=60)
-    expect("how it ended", (ran.returncode, ran.stderr), (0, b""))
+    expect(f"how {step} ended", (ran.returncode, ran.stderr), (0, b""))
     return ran.stdout
 
 
@@ -85,24 +101,28 @@ def split(stream):
         stream = rest[length:]
 
 
-def plays(database, turns, words=None, seed=0):
+def compared(step, turns, replies, wanted):
+    """Compares the reply to each turn with what is wanted, and how many there are."""
+    for turn, reply, want in zip(turns, replies, wanted):
+        expect(f"{turn.place}, {turn.asked:.120}", reply.decode(), want.decode())
+    expect(f"how many replies {step}, from {turns[0].place} on", len(replies), len(turns))
+
+
+def plays(database, turns):
     """Plays turns, those of one day that need no secret of their own in one run of the program, and compares each reply."""
-    words, at = words or Words(), 0
+    words, at, seed = Words(), 0, 0
     while at < len(turns):
         end = at + 1
-        day = turns[at][0].split("|")[0]
-        while end < len(turns) and turns[end][0].split("|")[0] == day and '"receipt"' not in turns[end - 1][1]:
+        day = turns[at].asked.split("|")[0]
+        while end < len(turns) and turns[end].asked.split("|")[0] == day and '"receipt"' not in turns[end - 1].wanted:
             end += 1
-        sent = [asked(line, words) for line, _ in turns[at:end]]
-        seed += 1
-        told = list(split(answers(database, day, seed, b"".join(it[2] for it in sent))))
-        expect(f"how many replies from turn {at + 1} on", len(told), end - at)
-        for place in range(at, end):
-            said = told[place - at]
-            words.learn(sent[place - at][1], turns[place][1], said.decode())
-            expect(f"turn {place + 1}, {turns[place][0]:.120}", said.decode(), reply(turns[place][1], words).decode())
+        part, seed = turns[at:end], seed + 1
+        sent = [asked(turn.asked, words) for turn in part]
+        told = list(split(answers(database, day, seed, b"".join(it[2] for it in sent), f"the run from {part[0].place} on")))
+        for turn, one, said in zip(part, sent, told):
+            words.learn(one[1], turn.wanted, said.decode())
+        compared("there are", part, told, [reply(turn.wanted, words) for turn in part])
         at = end
-    return words, seed
 
 
 def limited(path, rows):
@@ -112,58 +132,31 @@ def limited(path, rows):
         tables.execute("UPDATE meta SET value = ? WHERE name = 'limit'", (rows,))
 
 
-def played(name, rows=None):
-    """Plays a file's turns over a file of the program."""
-    with tempfile.TemporaryDirectory() as room:
-        path = os.path.join(room, "books")
-        if rows:
-            limited(path, rows)
-        plays(path, turns_in(name))
-        expect("its check", check(path)[0], 0)
-
-
-def two_pledges_live_through_every_request():
-    played("two_lives", rows=12)
-
-
-def a_full_host_answers_what_adds_no_row():
-    played("full", rows=12)
-    played("at_the_limit", rows=12)
-
-
-def a_day_is_shown():
-    played("a_day")
-    played("one_of_each")
-
-
-def ann_and_bo_are_answered_alone():
-    played("ann_and_bo")
-
-
-def a_book_is_exported():
-    played("exports")
-
-
-def the_rows_of_a_book_fill_another():
-    played("imports")
-
-
-def a_receipt_that_was_declared_away_is_unknown():
-    played("lost_twice")
+def playing(name):
+    """A test that plays a file's turns over a file of the program."""
+    def test():
+        with tempfile.TemporaryDirectory() as room:
+            path = os.path.join(room, "books")
+            if name in ROWS:
+                limited(path, ROWS[name])
+            plays(path, turns_in(name))
+            expect("its check", check(path)[0], 0)
+    test.__name__ = f"the_turns_of_{name}"
+    return test
 
 
 def a_day_in_memory_is_as_over_a_file():
     """Each run of turns of one day, in memory by one stream: the books begin with that day, so the replies are compared with a file's."""
     for name in ("two_lives", "a_day", "full", "exports", "imports", "lost_twice", "one_of_each"):
-        words, lines = Words(), [line for line, _ in turns_in(name)]
+        words, turns = Words(), turns_in(name)
         for secret in range(1, 20):
             words.secrets[secret] = f"{secret:08x}-0000-0000-0000-000000000000"
-        stream = b"".join(asked(line, words)[2] for line in lines)
+        stream = b"".join(asked(turn.asked, words)[2] for turn in turns)
         with tempfile.TemporaryDirectory() as room:
-            file = answers(os.path.join(room, "books"), "2024-02-01", 5, stream)
-        memory = answers(":memory:", "2024-02-01", 5, stream)
-        expect(f"{name}: how many replies", len(list(split(file))), len(lines))
-        expect(f"{name}: the replies", memory, file)
+            file = list(split(answers(os.path.join(room, "books"), "2024-02-01", 5, stream, f"{name} over a file")))
+        memory = list(split(answers(":memory:", "2024-02-01", 5, stream, f"{name} in memory")))
+        expect(f"{name}: how many replies over a file", len(file), len(turns))
+        compared("there are in memory", turns, memory, file)
 
 
 SET_UP = [
@@ -215,5 +208,7 @@ def strangers_change_no_reply_to_a_bearer():
     expect("the replies among strangers", among, alone)
 
 
-main(two_pledges_live_through_every_request, a_full_host_answers_what_adds_no_row, a_day_is_shown, ann_and_bo_are_answered_alone, a_book_is_exported, the_rows_of_a_book_fill_another,
-     a_receipt_that_was_declared_away_is_unknown, a_day_in_memory_is_as_over_a_file, strangers_change_no_reply_to_a_bearer)
+NAMED = sys.argv[1:]
+if set(NAMED) - set(FILES):
+    sys.exit(f"usage: tests/turns.py [NAME..], where NAME is one of {', '.join(FILES)}")
+main(*map(playing, NAMED or FILES), *(() if NAMED else (a_day_in_memory_is_as_over_a_file, strangers_change_no_reply_to_a_bearer)))

@@ -8,8 +8,8 @@ use std::alloc::Global;
 /// The two files of a store.
 pub type Disks = Files<Fuse<Memory>>;
 
-/// More calls than a test makes.
-pub const NEVER: u64 = 1_000_000;
+// More calls than a test makes.
+const NEVER: u64 = 1_000_000;
 
 // How a small store is kept, so that its log is folded in while it is used.
 const SMALL: Options = Options {
@@ -19,11 +19,11 @@ const SMALL: Options = Options {
     seed: 1,
 };
 
-/// Disks of which the log fails after so many calls, and the database file after so many.
-pub fn disks(alloc: Global, log: u64, db: u64) -> Disks {
+/// Disks of which the log fails after so many calls.
+pub fn disks(alloc: Global, log: u64) -> Disks {
     Files {
         log: Fuse::new(Memory::new(alloc), log),
-        db: Fuse::new(Memory::new(alloc), db),
+        db: Fuse::new(Memory::new(alloc), NEVER),
     }
 }
 
@@ -34,22 +34,15 @@ pub fn crashed(mut disks: Disks) -> Disks {
     disks
 }
 
-/// The store on the disks, made with room for so many rows where there is none, or else what is left of them.
-pub fn store_on(
-    alloc: Global,
-    disks: Disks,
-    rows: u32,
-) -> Result<Connection<FileStore<Fuse<Memory>>>, Disks> {
+/// The store on the disks, made with room for a hundred rows where there is none.
+pub fn store_on(alloc: Global, disks: Disks) -> Option<Connection<FileStore<Fuse<Memory>>>> {
     if !disks.log.may_be_used() {
-        return Err(disks);
+        return None;
     }
     if !disks.db.may_be_used() {
-        return Err(disks);
+        return None;
     }
-    match open_files(alloc, disks, SMALL, rows.clamp(1, 1000)) {
-        Ok(conn) => Ok(conn),
-        Err((_, left)) => Err(left.into_files()),
-    }
+    open_files(alloc, disks, SMALL, 100).ok()
 }
 
 /// A connection to the database on the disks, whatever it holds.

@@ -1,17 +1,17 @@
-//! Whole requests and their replies: by `run`, one alone, and over streams whose ends are slow or fail.
+//! Whole requests and their replies: by `run`, over lists and over tables, at the row limit, over a log that stops, and over streams
+//! and writers that are slow or fail.
 
+mod at_the_limit;
 mod ends;
+mod failing_writers;
 mod stops;
 mod turns;
 
 use ends::{Log, Sink, Source, Stamps};
 use pawn_book::{Keep, ListKeep, RequestDay, Secret, Stamp};
 use pawn_host::{Answer, Cause, Ended, How, IoFault, Reading, Service};
-use pawn_keeper::TableKeep;
-use pawn_opening::{open_memory, prepare};
 use pawn_store::{keep_in_memory, run_over_tables};
 use pawn_view::Writing;
-use sqlite::MemStore;
 use std::alloc::Global;
 use std::process::Abort;
 use std::test::Fail;
@@ -28,14 +28,16 @@ const BAD_HEAD: &[u8] =
 // A request after which its connection closes.
 const CLOSING: &[u8] = b"GET /books/7/held HTTP/1.0\r\n\r\n";
 
+// One whose field closes it, and a byte behind it.
+const CLOSING_FIELD: &[u8] = b"GET /books/7/held HTTP/1.1\r\nConnection: CLOSE\r\n\r\n}";
+
+// A head, and half of its body.
+const HALF_BODY: &[u8] = b"POST / HTTP/1.1\r\nContent-Length: 2\r\n\r\n{";
+
 // Rows enough for all turns.
 const ROWS: u64 = 100;
 
-fn service(rt: &impl Abort, alloc: Global) -> Service<ListKeep> {
-    service_of(rt, alloc, ROWS)
-}
-
-// A service with room for so many rows.
+// A service over lists, with room for so many rows.
 fn service_of(rt: &impl Abort, alloc: Global, rows: u64) -> Service<ListKeep> {
     service_over(rt, alloc, ListKeep::new(alloc, rows.min(2000)))
 }
@@ -48,39 +50,45 @@ fn service_over<K: Keep + Drop>(rt: &impl Abort, alloc: Global, keep: K) -> Serv
     }
 }
 
-// A service over empty tables, which were opened twice.
-fn tables_over(rt: &impl Abort, alloc: Global) -> Result<Service<TableKeep<MemStore>>, Fail> {
-    let mut conn = open_memory(alloc, 100).ok().ok_or("no store")?;
-    if !conn.is_autocommit() {
-        return Err(Fail::from("in a transaction"));
+// The stamp of a request of that day, with this word.
+fn stamp_on(rt: &impl Abort, day: &str, word: u128) -> Stamp {
+    match RequestDay::of_text(day.as_bytes()) {
+        Ok(day) => Stamp { day, word },
+        Err(_) => panic!(rt; "no day: {day}"),
     }
-    prepare(&mut conn, 3000).ok().ok_or("another's store")?;
-    let keep = TableKeep::over(alloc, conn).ok().ok_or("in a transaction")?;
-    Ok(service_over(rt, alloc, keep))
 }
 
 // The stamp of a turn with this word.
 fn stamp(rt: &impl Abort, word: u128) -> Stamp {
-    match RequestDay::of_text(DAY.as_bytes()) {
-        Ok(day) => Stamp { day, word },
-        Err(_) => panic!(rt; "no day: {DAY}"),
-    }
+    stamp_on(rt, DAY, word)
 }
 
-// Compares an answer with a reply.
-fn tells(rt: &impl Abort, answer: &Answer, reply: &[u8]) {
+// The bytes of an answer. It has none where memory was wanting.
+fn bytes_of(answer: &Answer) -> &[u8] {
     match answer {
-        Answer::Bytes(bytes) => assert_eq!(rt; bytes.as_slice(), reply),
-        Answer::Memory => panic!(rt; "no memory"),
+        Answer::Bytes(bytes) => bytes.as_slice(),
+        Answer::Memory => b"",
     }
 }
 
 // Compares the answers of a run with the replies to the turns.
 fn tells_each(rt: &impl Abort, answers: &[Answer]) {
     assert_eq!(rt; answers.len(), TURNS.len());
+    let mut place = 1usize;
     for (answer, turn) in answers.iter().zip(&TURNS) {
-        tells(rt, answer, turn.reply);
+        assert_eq!(rt; bytes_of(answer), turn.reply, "turn {place}");
+        place = place.saturating_add(1);
     }
+}
+
+// What a run over the tables of a new store in memory answers.
+fn run_in_memory(
+    rt: &impl Abort,
+    alloc: Global,
+    items: &[(Stamp, Vec<u8>)],
+) -> Result<Vec<Answer>, Fail> {
+    let keep = keep_in_memory(alloc, 100).ok().ok_or("no store")?;
+    Ok(run_over_tables(&mut service_over(rt, alloc, keep), items)?)
 }
 
 #[test]
@@ -92,17 +100,9 @@ fn the_turns_are_answered_over_lists_and_over_tables(rt: HostRuntime) -> Result<
     }
     let answers = service_of(&rt, alloc, ROWS).run(items.as_slice())?;
     tells_each(&rt, answers.as_slice());
-    let keep = keep_in_memory(alloc, 100).ok().ok_or("no store")?;
-    let answers = run_over_tables(&mut service_over(&rt, alloc, keep), items.as_slice())?;
+    let answers = run_in_memory(&rt, alloc, items.as_slice())?;
     tells_each(&rt, answers.as_slice());
     Ok(())
-}
-
-#[test]
-fn a_request_is_answered_alone(rt: HostRuntime) {
-    let stamp = stamp(&rt, 1);
-    let answer = service(&rt, rt.alloc()).answer_one(&stamp, ASKED);
-    tells(&rt, &answer, NO_RECEIPT);
 }
 
 // How the ends of a stream behave: whether a call moves one byte alone, and at which call each fails, if at any.
@@ -146,17 +146,6 @@ fn answered(
     behaviour: Behaviour,
 ) -> Came {
     let mut service = service_of(rt, alloc, ROWS);
-    answered_by(&mut service, alloc, stream, stamps, behaviour)
-}
-
-// What comes of it by a service.
-fn answered_by<K: Keep>(
-    service: &mut Service<K>,
-    alloc: Global,
-    stream: &[u8],
-    stamps: &[Stamp],
-    behaviour: Behaviour,
-) -> Came {
     let log = Log::new();
     let mut source = Source {
         bytes: stream,
@@ -199,83 +188,77 @@ fn repeated(alloc: Global, bytes: &[u8], times: u32, rest: &[u8]) -> Result<Vec<
     Ok(all)
 }
 
-#[test]
-fn slow_ends_change_no_reply(rt: HostRuntime) -> Result<(), Fail> {
-    let alloc = rt.alloc();
-    let mut stream = Vec::new(alloc);
-    let mut stamps = Vec::new(alloc);
-    let mut replies = Vec::new(alloc);
-    for turn in TURNS {
-        stream.extend_from_slice(turn.request)?;
-        stamps.push(stamp(&rt, turn.word))?;
-        replies.extend_from_slice(turn.reply)?;
+// A stream of so many requests and a rest: how it is to end, how many are acted on, and what is told behind their replies.
+#[derive(Clone, Copy)]
+struct Stream {
+    requests: u32,
+    rest: &'static [u8],
+    how: How,
+    acted: u32,
+    last: &'static [u8],
+}
+
+// A stream behind whose replies nothing is told.
+fn ending(requests: u32, rest: &'static [u8], how: How, acted: u32) -> Stream {
+    Stream {
+        requests,
+        rest,
+        how,
+        acted,
+        last: b"",
     }
-    let (stream, stamps) = (stream.as_slice(), stamps.as_slice());
-    let in_lists = answered(&rt, alloc, stream, stamps, SLOW);
-    let mut tables = tables_over(&rt, alloc)?;
-    let in_tables = answered_by(&mut tables, alloc, stream, stamps, SLOW);
-    let ended = Ended {
-        how: How::End,
-        acted: TURNS.len() as u32,
-    };
-    for all in [in_lists, in_tables] {
-        assert_eq!(rt; all.came, Ok(ended));
-        assert!(rt; all.written.as_slice() == replies.as_slice());
-    }
+}
+
+// Compares what comes of a stream with how it is to end.
+fn ends_as(rt: &impl Abort, alloc: Global, stamps: &[Stamp], wanted: Stream) -> Result<(), Fail> {
+    let stream = repeated(alloc, ASKED, wanted.requests, wanted.rest)?;
+    let replies = repeated(alloc, NO_RECEIPT, wanted.acted, wanted.last)?;
+    let all = answered(rt, alloc, stream.as_slice(), stamps, SOUND);
+    let (how, acted) = (wanted.how, wanted.acted);
+    assert_eq!(rt; all.came, Ok(Ended { how, acted }));
+    assert!(rt;
+        all.written.as_slice() == replies.as_slice(),
+        "the replies to {acted}"
+    );
     Ok(())
 }
 
 #[test]
 fn a_session_tells_how_its_stream_ended(rt: HostRuntime) -> Result<(), Fail> {
-    let alloc = rt.alloc();
     let stamps = [stamp(&rt, 1); 2];
-    for (requests, rest, how, acted, last) in [
-        (0u32, b"".as_slice(), How::End, 0u32, b"".as_slice()),
-        (2, b"", How::End, 2, b""),
-        (3, b"", How::NoStamp, 2, b""),
-        (1, b"GET /books/7/he", How::Cut, 1, b""),
-        (
-            1,
-            b"POST / HTTP/1.1\r\nContent-Length: 2\r\n\r\n{",
-            How::Cut,
-            1,
-            b"",
-        ),
-        (1, b"}", How::Faulted, 1, BAD_HEAD),
-        (
-            0,
-            b"GET /books/7/held HTTP/1.1\r\nConnection: CLOSE\r\n\r\n}",
-            How::Closed,
-            1,
-            b"",
-        ),
-        (1, CLOSING, How::Closed, 2, b""),
+    let faulted = Stream {
+        requests: 1,
+        rest: b"}",
+        how: How::Faulted,
+        acted: 1,
+        last: BAD_HEAD,
+    };
+    for wanted in [
+        ending(0, b"", How::End, 0),
+        ending(2, b"", How::End, 2),
+        ending(3, b"", How::NoStamp, 2),
+        ending(1, b"GET /books/7/he", How::Cut, 1),
+        ending(1, HALF_BODY, How::Cut, 1),
+        ending(0, CLOSING_FIELD, How::Closed, 1),
+        ending(1, CLOSING, How::Closed, 2),
+        faulted,
     ] {
-        let stream = repeated(alloc, ASKED, requests, rest)?;
-        let all = answered(&rt, alloc, stream.as_slice(), &stamps, SOUND);
-        let replies = repeated(alloc, NO_RECEIPT, acted, last)?;
-        assert_eq!(rt; all.came, Ok(Ended { how, acted }));
-        assert_eq!(rt; all.written.as_slice(), replies.as_slice());
+        ends_as(&rt, rt.alloc(), &stamps, wanted)?;
     }
     Ok(())
 }
 
 #[test]
 fn a_thousand_requests_are_answered_and_no_more(rt: HostRuntime) -> Result<(), Fail> {
-    let alloc = rt.alloc();
     let stamps = [stamp(&rt, 1); 1001];
-    for (requests, rest, how, acted) in [
-        (999u32, b"".as_slice(), How::End, 999u32),
-        (999, CLOSING, How::Closed, 1000),
-        (1000, b"", How::Limit, 1000),
-        (1001, b"", How::Limit, 1000),
-        (1000, b"}", How::Limit, 1000),
+    for wanted in [
+        ending(999, b"", How::End, 999),
+        ending(999, CLOSING, How::Closed, 1000),
+        ending(1000, b"", How::Limit, 1000),
+        ending(1001, b"", How::Limit, 1000),
+        ending(1000, b"}", How::Limit, 1000),
     ] {
-        let stream = repeated(alloc, ASKED, requests, rest)?;
-        let all = answered(&rt, alloc, stream.as_slice(), &stamps, SOUND);
-        let replies = repeated(alloc, NO_RECEIPT, acted, b"")?;
-        assert_eq!(rt; all.came, Ok(Ended { how, acted }));
-        assert!(rt; all.written.as_slice() == replies.as_slice());
+        ends_as(&rt, rt.alloc(), &stamps, wanted)?;
     }
     Ok(())
 }

@@ -1,12 +1,11 @@
-//! What the command line says, and the words of a seed.
+//! What the command line says, the words of a seed, and stamps by a clock. What is refused of a command line, and a key in a file,
+//! are shown by the script `tests/faults.py`; connections by `tests/serve.py` and `tests/connections.py`.
 
-mod serving;
-
-use pawn_program::{ServeSettings, Settings, SettingsFault, Words};
-use std::fs;
+use pawn_host::{RequestDay, Stamp};
+use pawn_program::{ClockStamps, ServeSettings, Settings, Words};
+use std::io;
 use std::test::Fail;
-
-const SEED: &str = "0000000000000000000000000000000000000000000000000000000000000000";
+use std::time::{Clock, Duration};
 
 const KEY: &str = "11111111-1111-1111-1111-111111111111";
 
@@ -21,28 +20,10 @@ fn settings_are_read(rt: HostRuntime) -> Result<(), Fail> {
     assert_eq!(rt; (settings.seed[1], settings.seed[31]), (255, 1));
     assert_eq!(rt; settings.operator.word(), KEY_WORD);
     assert_eq!(rt; settings.day.day().number(), 19753);
-    Ok(())
-}
-
-#[test]
-fn a_key_may_stand_in_a_file(rt: HostRuntime) -> Result<(), Fail> {
-    for text in [
-        "11111111-1111-1111-1111-111111111111",
-        "11111111-1111-1111-1111-111111111111\n",
-        "11111111-1111-1111-1111-111111111111\r\n",
-    ] {
-        fs::write(&rt, "key", text)?;
-        let settings = Settings::read(&rt, "2024-01-31", SEED, "key")
-            .ok()
-            .ok_or("no settings")?;
-        assert_eq!(rt; settings.operator.word(), KEY_WORD);
-    }
-    fs::write(&rt, "key", "11111111-1111-1111-1111-111111111111\n\n")?;
-    assert_eq!(rt;
-        Settings::read(&rt, "2024-01-31", SEED, "key").err(),
-        Some(SettingsFault::BadKey)
-    );
-    fs::remove_file(&rt, "key")?;
+    let of_serve = ServeSettings::read(&rt, "65535", KEY)
+        .ok()
+        .ok_or("no port")?;
+    assert_eq!(rt; of_serve.port, 65_535);
     Ok(())
 }
 
@@ -55,14 +36,36 @@ fn words_are_the_streams(rt: HostRuntime) {
     assert_eq!(rt; words.next(), 0xda41_597c_5157_488d_7724_e03f_b8d8_4a37);
 }
 
+// A clock that stands still, so many seconds after the beginning of 1970.
+#[derive(Drop)]
+struct Stopped {
+    seconds: u64,
+}
+
+impl Clock for Stopped {
+    fn monotonic(&self) -> io::Result<Duration> {
+        Ok(Duration::from_secs(self.seconds))
+    }
+
+    fn since_1970(&self) -> io::Result<Duration> {
+        Ok(Duration::from_secs(self.seconds))
+    }
+}
+
 #[test]
-fn a_port_and_a_key_are_read(rt: HostRuntime) {
-    for (port, key, wanted) in [
-        ("65535", KEY, Ok(65_535u16)),
-        ("65536", "x", Err(SettingsFault::BadPort)),
-        ("8080", "no/such/file", Err(SettingsFault::BadKey)),
+fn a_stamp_has_the_clocks_day_and_the_next_word(rt: HostRuntime) {
+    for (seconds, day) in [
+        (946_684_799u64, None),
+        (1_706_745_599, Some("2024-01-31")),
+        (1_706_745_600, Some("2024-02-01")),
+        (7_258_118_400, None),
     ] {
-        let said = ServeSettings::read(&rt, port, key).map(|settings| settings.port);
-        assert_eq!(rt; said, wanted, "at {port}");
+        let clock = Stopped { seconds };
+        let mut stamps = ClockStamps::new(&clock, Words::of_seed([0; 32]));
+        let wanted = day.map(|text| Stamp {
+            day: RequestDay::of_text(text.as_bytes()).expect(&rt, "a day"),
+            word: 0x76b8_e0ad_a0f1_3d90_405d_6ae5_5386_bd28,
+        });
+        assert!(rt; stamps.next() == wanted, "at {seconds}");
     }
 }

@@ -11,6 +11,7 @@ use pawn_book::{
 use pawn_check::{Counts, check};
 use pawn_debt::DebtFault;
 use std::alloc::Global;
+use std::process::Abort;
 use std::test::Fail;
 
 mod filling;
@@ -149,25 +150,30 @@ fn request_of(alloc: Global, turn: &Turn) -> Result<Request, Fail> {
     Ok(Request { book, caller })
 }
 
-// Whether a keeper answers a turn as it is to.
-fn answers(alloc: Global, keep: &mut ListKeep, turn: &Turn) -> Result<bool, Fail> {
+// What a keeper answers to a turn.
+fn answer_to(
+    alloc: Global,
+    keep: &mut ListKeep,
+    turn: &Turn,
+) -> Result<Option<Result<Reply, Refusal>>, Fail> {
     let stamp = Stamp {
         day: day()?,
         word: turn.word,
     };
     let request = request_of(alloc, turn)?;
     let operator = Secret::of_word(OPERATOR);
-    Ok(acted(alloc, keep, operator, &stamp, &request) == Some(turn.answer))
+    Ok(acted(alloc, keep, operator, &stamp, &request))
 }
 
-// Whether it answers each turn so.
-fn plays(alloc: Global, keep: &mut ListKeep, turns: &[Turn]) -> Result<bool, Fail> {
+// Compares what it answers to each turn with what the turn is to be answered. A turn that fails is told by its place.
+fn plays(rt: &impl Abort, alloc: Global, keep: &mut ListKeep, turns: &[Turn]) -> Result<(), Fail> {
+    let mut place = 1usize;
     for turn in turns {
-        if !answers(alloc, keep, turn)? {
-            return Ok(false);
-        }
+        let answer = answer_to(alloc, keep, turn)?;
+        assert_eq!(rt; answer, Some(turn.answer), "turn {place}");
+        place = place.saturating_add(1);
     }
-    Ok(true)
+    Ok(())
 }
 
 fn make() -> Ask {
@@ -204,7 +210,8 @@ fn told(n: u64, done: Done) -> Result<Result<Reply, Refusal>, Fail> {
     }))
 }
 
-fn books_are_made(alloc: Global, keep: &mut ListKeep) -> Result<bool, Fail> {
+#[test]
+fn a_book_and_its_terms_are_made_once(rt: HostRuntime) -> Result<(), Fail> {
     let made = Ok(Reply::BookMade(number(7)?));
     let terms = Ok(Reply::TermsPut(1));
     let stranger = Ask::Make {
@@ -228,25 +235,25 @@ fn books_are_made(alloc: Global, keep: &mut ListKeep) -> Result<bool, Fail> {
         asked(1, put(1, 5), Err(Refusal::TermsSeq)),
         asked(1, put(2, 20_001), rate),
     ];
-    plays(alloc, keep, &turns)
+    plays(
+        &rt,
+        rt.alloc(),
+        &mut ListKeep::new(rt.alloc(), 1000),
+        &turns,
+    )
 }
 
-#[test]
-fn a_book_and_its_terms_are_made_once(rt: HostRuntime) -> Result<(), Fail> {
-    let mut keep = ListKeep::new(rt.alloc(), 1000);
-    assert!(rt; books_are_made(rt.alloc(), &mut keep)?);
-    Ok(())
-}
-
-// Whether book 7 is made and takes pledges 1 and 2 of 100 pounds, by the words 33 and 44.
-fn pledges(alloc: Global, keep: &mut ListKeep) -> Result<bool, Fail> {
+// A keeper with room for so many rows, whose book 7 takes pledges 1 and 2 of 100 pounds, by the words 33 and 44.
+fn pledges(rt: &impl Abort, alloc: Global, limit: u64) -> Result<ListKeep, Fail> {
     let turns = [
         asked(1, make(), Ok(Reply::BookMade(number(7)?))),
         asked(1, put(1, 0), Ok(Reply::TermsPut(1))),
         asked(33, take(1, 10_000), Ok(Reply::Opened(receipt(1, 33)?))),
         asked(44, take(2, 10_000), Ok(Reply::Opened(receipt(2, 44)?))),
     ];
-    plays(alloc, keep, &turns)
+    let mut keep = ListKeep::new(alloc, limit.min(1000));
+    plays(rt, alloc, &mut keep, &turns)?;
+    Ok(keep)
 }
 
 const REPAY: Command = Command::Repay {
@@ -256,8 +263,7 @@ const REPAY: Command = Command::Repay {
 
 #[test]
 fn a_store_is_judged_and_counted(rt: HostRuntime) -> Result<(), Fail> {
-    let mut keep = ListKeep::new(rt.alloc(), 1000);
-    assert!(rt; pledges(rt.alloc(), &mut keep)?);
+    let mut keep = pledges(&rt, rt.alloc(), 1000)?;
     let counts = Counts {
         books: 1,
         pledges: 2,
@@ -281,7 +287,8 @@ fn repaid() -> Result<Result<Reply, Refusal>, Fail> {
 }
 
 // An opening and a repayment are told again to whoever passes, and by a receipt that was replaced to nobody.
-fn repeats_are_told(alloc: Global, keep: &mut ListKeep) -> Result<bool, Fail> {
+#[test]
+fn a_repeat_is_told_to_whoever_passes(rt: HostRuntime) -> Result<(), Fail> {
     let amount = Err(Refusal::Pledge(PledgeRefusal::Debt(DebtFault::BadAmount)));
     let declared = told(1, Done::Declared(Secret::of_word(99)))?;
     let turns = [
@@ -293,14 +300,8 @@ fn repeats_are_told(alloc: Global, keep: &mut ListKeep) -> Result<bool, Fail> {
         asked(3, bearer(1, 33, REPAY), Err(Refusal::NoSuchReceipt)),
         asked(3, bearer(1, 99, REPAY), repaid()?),
     ];
-    Ok(pledges(alloc, keep)? && plays(alloc, keep, &turns)?)
-}
-
-#[test]
-fn a_repeat_is_told_to_whoever_passes(rt: HostRuntime) -> Result<(), Fail> {
-    let mut keep = ListKeep::new(rt.alloc(), 1000);
-    assert!(rt; repeats_are_told(rt.alloc(), &mut keep)?);
-    Ok(())
+    let mut keep = pledges(&rt, rt.alloc(), 1000)?;
+    plays(&rt, rt.alloc(), &mut keep, &turns)
 }
 
 // Adds up the numbers of the pledges that it is handed, and stops after so many.
@@ -346,8 +347,9 @@ fn booked(n: u64, state: BookingState) -> Result<Result<Reply, Refusal>, Fail> {
 
 const CONFIRM: Command = Command::DecideBooking(Decision::Confirm);
 
-// Whether a booking that was confirmed is counted, and books and pledges are found.
-fn bookings_are_counted(alloc: Global, keep: &mut ListKeep) -> Result<bool, Fail> {
+// A booking that was confirmed is counted, and books and pledges are found.
+#[test]
+fn a_window_is_counted_over_all_pledges(rt: HostRuntime) -> Result<(), Fail> {
     let (book, wanted) = (number(7)?, day()?);
     let ask = Command::AskBooking {
         day: wanted,
@@ -357,19 +359,14 @@ fn bookings_are_counted(alloc: Global, keep: &mut ListKeep) -> Result<bool, Fail
         asked(3, bearer(1, 33, ask), booked(1, BookingState::Asked)?),
         asked(3, broker(1, CONFIRM), booked(1, BookingState::Confirmed)?),
     ];
-    if !pledges(alloc, keep)? || !plays(alloc, keep, &turns)? {
-        return Ok(false);
-    }
+    let mut keep = pledges(&rt, rt.alloc(), 1000)?;
+    plays(&rt, rt.alloc(), &mut keep, &turns)?;
     let count = keep.confirmed_count(book, wanted.day(), 3)?;
     let books = (keep.next_book(None)?, keep.next_book(Some(book))?);
-    let sums = (sum_of(keep, 9)?, sum_of(keep, 1)?);
-    Ok(count == 1 && books == (Some(book), None) && sums == (3, 1))
-}
-
-#[test]
-fn a_window_is_counted_over_all_pledges(rt: HostRuntime) -> Result<(), Fail> {
-    let mut keep = ListKeep::new(rt.alloc(), 1000);
-    assert!(rt; bookings_are_counted(rt.alloc(), &mut keep)?);
+    let sums = (sum_of(&mut keep, 9)?, sum_of(&mut keep, 1)?);
+    assert_eq!(rt; count, 1);
+    assert_eq!(rt; books, (Some(book), None));
+    assert_eq!(rt; sums, (3, 1));
     Ok(())
 }
 
@@ -392,34 +389,28 @@ fn made_of(
     }
 }
 
-// Whether a turn's plan is committed as the turn is to be answered.
-fn commits(alloc: Global, keep: &mut ListKeep, turn: &Turn) -> Result<bool, Fail> {
+// Compares how a turn's plan is committed with what the turn is to be answered.
+fn commits(rt: &impl Abort, alloc: Global, keep: &mut ListKeep, turn: &Turn) -> Result<(), Fail> {
     let stamp = Stamp {
         day: day()?,
         word: turn.word,
     };
     let request = request_of(alloc, turn)?;
-    Ok(made_of(alloc, keep, &stamp, &request) == Some(turn.answer))
+    assert_eq!(rt; made_of(alloc, keep, &stamp, &request), Some(turn.answer));
+    Ok(())
 }
 
-// Whether the last row is a repayment's, and what is planned and finds no row is not made.
-fn rows_run_out(alloc: Global, keep: &mut ListKeep) -> Result<bool, Fail> {
+// The last row is a repayment's, and what is planned and finds no row is not made.
+#[test]
+fn the_row_limit_comes_last(rt: HostRuntime) -> Result<(), Fail> {
+    let alloc = rt.alloc();
     let last = asked(3, bearer(1, 33, REPAY), repaid()?);
     let full = asked(3, bearer(2, 44, REPAY), Err(Refusal::Full));
     let ahead = asked(3, put(3, 0), Err(Refusal::TermsSeq));
-    Ok(
-        pledges(alloc, keep)?
-            && commits(alloc, keep, &last)?
-            && commits(alloc, keep, &full)?
-            && plays(alloc, keep, &[full, ahead])?,
-    )
-}
-
-#[test]
-fn the_row_limit_comes_last(rt: HostRuntime) -> Result<(), Fail> {
-    let mut keep = ListKeep::new(rt.alloc(), 7);
-    assert!(rt; rows_run_out(rt.alloc(), &mut keep)?);
-    Ok(())
+    let mut keep = pledges(&rt, alloc, 7)?;
+    commits(&rt, alloc, &mut keep, &last)?;
+    commits(&rt, alloc, &mut keep, &full)?;
+    plays(&rt, alloc, &mut keep, &[full, ahead])
 }
 
 // Whether a receipt of pledge 2 is live in a book.
@@ -438,23 +429,26 @@ fn opens(keep: &mut ListKeep, key: u128) -> Result<bool, Fail> {
     }
 }
 
-// Whether the book opens by its key, a receipt is live in its book, and the pledge is inside its period.
-fn reads(alloc: Global, keep: &mut ListKeep) -> Result<bool, Fail> {
-    if !pledges(alloc, keep)? || !opens(keep, KEY)? || opens(keep, OPERATOR)? {
-        return Ok(false);
-    }
-    if !is_live(keep, 7, 44)? || is_live(keep, 7, 33)? || is_live(keep, 8, 44)? {
-        return Ok(false);
-    }
+// Whether pledge 2 is inside its period.
+fn is_inside(keep: &mut ListKeep) -> Result<bool, Fail> {
     match keep.brief(number(7)?, number(2)?) {
         Ok(Some(brief)) => Ok(brief.status(day()?.day()) == Status::Inside),
         _ => Ok(false),
     }
 }
 
+// The book opens by its key, a receipt is live in its book, and the pledge is inside its period.
 #[test]
 fn a_receipt_is_live_in_its_book_alone(rt: HostRuntime) -> Result<(), Fail> {
-    let mut keep = ListKeep::new(rt.alloc(), 1000);
-    assert!(rt; reads(rt.alloc(), &mut keep)?);
+    let mut keep = pledges(&rt, rt.alloc(), 1000)?;
+    let keep = &mut keep;
+    assert_eq!(rt; (opens(keep, KEY)?, opens(keep, OPERATOR)?), (true, false));
+    let live = (
+        is_live(keep, 7, 44)?,
+        is_live(keep, 7, 33)?,
+        is_live(keep, 8, 44)?,
+    );
+    assert_eq!(rt; live, (true, false, false));
+    assert!(rt; is_inside(keep)?);
     Ok(())
 }

@@ -1,220 +1,94 @@
-//! Files that fail at some call, as at a stop of the machine: what is there when they are opened again.
+//! A log that fails at some call of a run, as at a stop of the machine which takes what was not synced: what is there when the
+//! store is opened again. The script `tests/disk.py` shows it at each call of either file, over files of the system.
 
-use super::turns::{SHOWN, TURNS, Turn};
-use super::{service_of, service_over, stamp};
-use crate::disks::{Disks, NEVER, crashed, disks, store_on};
+use super::turns::{EXPORT, TURNS};
+use super::{ROWS, bytes_of, service_of, service_over, stamp};
+use crate::disks::{Disks, crashed, disks, store_on};
 use pawn_book::Keep;
-use pawn_check::{Counts, check};
 use pawn_host::{Answer, Service};
 use pawn_keeper::TableKeep;
-use sqlite::{Alter, Connection};
+use sqlite::FileStore;
+use sqlite_disk::{Fuse, Memory};
 use std::alloc::Global;
 use std::process::Abort;
 use std::test::Fail;
 
-// What a store holds: its counts, and what shows its books.
-#[derive(Drop)]
-struct Content {
-    counts: Counts,
-    texts: Vec<Answer>,
-}
-
-fn bytes_of(answer: &Answer) -> &[u8] {
-    match answer {
-        Answer::Bytes(bytes) => bytes.as_slice(),
-        Answer::Memory => b"",
-    }
-}
-
-// What a service shows of its books.
-fn texts_of<K: Keep>(
+// A service over the store on the disks.
+fn service_on(
     rt: &impl Abort,
     alloc: Global,
-    service: &mut Service<K>,
-) -> Result<Vec<Answer>, Fail> {
-    let mut texts = Vec::new(alloc);
-    for asked in SHOWN {
-        texts.push(service.answer_one(&stamp(rt, 0), asked))?;
-    }
-    Ok(texts)
+    disks: Disks,
+) -> Option<Service<TableKeep<FileStore<Fuse<Memory>>>>> {
+    let conn = store_on(alloc, disks)?;
+    let keep = TableKeep::over(alloc, conn).ok()?;
+    Some(service_over(rt, alloc, keep))
 }
 
-// Whether two stores hold the same.
-fn is_same(one: &Content, other: &Content) -> bool {
-    for (ours, theirs) in one.texts.iter().zip(other.texts.as_slice()) {
-        if bytes_of(ours) != bytes_of(theirs) {
-            return false;
-        }
-    }
-    one.counts == other.counts
-}
-
-// What a host of lists holds after each front of these turns, the empty one first.
-fn contents(rt: &impl Abort, alloc: Global, turns: &[Turn]) -> Result<Vec<Content>, Fail> {
-    let mut contents = Vec::new(alloc);
-    for end in 0..=turns.len() {
-        let mut service = service_of(rt, alloc, 100);
-        for turn in &turns[..end] {
-            service.answer_one(&stamp(rt, turn.word), turn.request);
-        }
-        let texts = texts_of(rt, alloc, &mut service)?;
-        let counts = check(&mut service.into_keep()).ok().ok_or("judged")?;
-        contents.push(Content { counts, texts })?;
-    }
-    Ok(contents)
-}
-
-// How many of these turns are answered over a store before the first that is not, and the store after them.
-fn played<S: Alter + Drop>(
-    rt: &impl Abort,
-    alloc: Global,
-    conn: Connection<S>,
-    turns: &[Turn],
-) -> Result<(usize, S), Fail> {
-    let keep = TableKeep::over(alloc, conn).ok().ok_or("at rest")?;
-    let mut service = service_over(rt, alloc, keep);
+// How many turns a service answers before the first that it does not.
+fn played<K: Keep>(rt: &impl Abort, service: &mut Service<K>) -> usize {
     let mut answered = 0usize;
-    for turn in turns {
+    for turn in TURNS {
         let answer = service.answer_one(&stamp(rt, turn.word), turn.request);
         if bytes_of(&answer) != turn.reply {
             break;
         }
         answered = answered.saturating_add(1);
     }
-    Ok((answered, service.into_keep().into_connection().into_store()))
+    answered
 }
 
-// How many of these turns are answered over the disks before the first that is not, and what a stop then leaves of the disks.
-fn stopped(
-    rt: &impl Abort,
-    alloc: Global,
-    disks: Disks,
-    turns: &[Turn],
-) -> Result<(usize, Disks), Fail> {
-    let conn = match store_on(alloc, disks, 100) {
-        Ok(conn) => conn,
-        Err(left) => return Ok((0, crashed(left))),
-    };
-    let (answered, store) = played(rt, alloc, conn, turns)?;
-    Ok((answered, crashed(store.close())))
+// How many turns are answered over the disks before the first that is not, and what a stop then leaves of the disks.
+fn stopped(rt: &impl Abort, alloc: Global, disks: Disks) -> Option<(usize, Disks)> {
+    let mut service = service_on(rt, alloc, disks)?;
+    let answered = played(rt, &mut service);
+    let store = service.into_keep().into_connection().into_store();
+    Some((answered, crashed(store.close())))
 }
 
-// What a store holds.
-fn content_in<S: Alter + Drop>(
-    rt: &impl Abort,
-    alloc: Global,
-    conn: Connection<S>,
-) -> Result<Content, Fail> {
-    let mut keep = TableKeep::over(alloc, conn).ok().ok_or("at rest")?;
-    let counts = check(&mut keep).ok().ok_or("judged")?;
-    let texts = texts_of(rt, alloc, &mut service_over(rt, alloc, keep))?;
-    Ok(Content { counts, texts })
+// The text of book 7 on the disks.
+fn text_on(rt: &impl Abort, alloc: Global, disks: Disks) -> Option<Answer> {
+    let mut service = service_on(rt, alloc, disks)?;
+    Some(service.answer_one(&stamp(rt, 0), EXPORT))
 }
 
-// What the disks hold when they are opened again.
-fn content_of(rt: &impl Abort, alloc: Global, disks: Disks) -> Result<Content, Fail> {
-    let conn = store_on(alloc, disks, 100).ok().ok_or("opened again")?;
-    content_in(rt, alloc, conn)
-}
-
-// Stops one file at that call, and then ever so many calls later, until a run meets no stop. Tells how many runs there were.
-fn stops(rt: &impl Abort, alloc: Global, is_log: bool, first: u64, step: u64) -> Result<u32, Fail> {
-    let contents = contents(rt, alloc, &TURNS)?;
-    let mut runs = 0u32;
-    let mut calls = first;
-    for _ in 0..1000u32 {
-        let disks = if is_log {
-            disks(alloc, calls, NEVER)
-        } else {
-            disks(alloc, NEVER, calls)
-        };
-        let (answered, left) = stopped(rt, alloc, disks, &TURNS)?;
-        let found = content_of(rt, alloc, left)?;
-        let stands = contents
-            .iter()
-            .skip(answered)
-            .take(2)
-            .any(|one| is_same(one, &found));
-        assert!(rt; stands, "{answered} answered, {calls} calls");
-        runs = runs.saturating_add(1);
-        if answered == TURNS.len() {
-            return Ok(runs);
-        }
-        calls = calls.saturating_add(step);
+// The text of book 7 in a list, after so many turns.
+fn text_after(rt: &impl Abort, alloc: Global, turns: usize) -> Answer {
+    let mut service = service_of(rt, alloc, ROWS);
+    for turn in TURNS.iter().take(turns) {
+        service.answer_one(&stamp(rt, turn.word), turn.request);
     }
-    Ok(0)
+    service.answer_one(&stamp(rt, 0), EXPORT)
 }
 
-// The log stops at its calls from that one on, in steps: with each first call below the step every call has its turn.
-fn stops_of_the_log(rt: &impl Abort, alloc: Global, first: u64) -> Result<(), Fail> {
-    let runs = stops(rt, alloc, true, first, 8)?;
-    assert!(rt; runs > 5);
-    Ok(())
-}
-
-// The same of the database file.
-fn stops_of_the_database(rt: &impl Abort, alloc: Global, first: u64) -> Result<(), Fail> {
-    let runs = stops(rt, alloc, false, first, 4)?;
-    assert!(rt; runs > 5);
-    Ok(())
-}
-
-#[test]
-fn a_log_that_stops_leaves_what_was_answered_0(rt: HostRuntime) -> Result<(), Fail> {
-    stops_of_the_log(&rt, rt.alloc(), 0)
+// Lets the log stop at that call. What was answered is there then, with or without the turn in hand. Tells how many turns were
+// answered: none where the store was not made yet.
+fn stops(rt: &impl Abort, alloc: Global, calls: u64) -> Result<usize, Fail> {
+    let Some((answered, left)) = stopped(rt, alloc, disks(alloc, calls)) else {
+        return Ok(0);
+    };
+    let found = text_on(rt, alloc, left).ok_or("opened again")?;
+    let without = text_after(rt, alloc, answered);
+    let with = text_after(rt, alloc, answered.saturating_add(1));
+    let told = bytes_of(&found);
+    let stands = told == bytes_of(&without) || told == bytes_of(&with);
+    assert!(rt; stands, "{answered} answered, {calls} calls");
+    Ok(answered)
 }
 
 #[test]
-fn a_log_that_stops_leaves_what_was_answered_1(rt: HostRuntime) -> Result<(), Fail> {
-    stops_of_the_log(&rt, rt.alloc(), 1)
-}
-
-#[test]
-fn a_log_that_stops_leaves_what_was_answered_2(rt: HostRuntime) -> Result<(), Fail> {
-    stops_of_the_log(&rt, rt.alloc(), 2)
-}
-
-#[test]
-fn a_log_that_stops_leaves_what_was_answered_3(rt: HostRuntime) -> Result<(), Fail> {
-    stops_of_the_log(&rt, rt.alloc(), 3)
-}
-
-#[test]
-fn a_log_that_stops_leaves_what_was_answered_4(rt: HostRuntime) -> Result<(), Fail> {
-    stops_of_the_log(&rt, rt.alloc(), 4)
-}
-
-#[test]
-fn a_log_that_stops_leaves_what_was_answered_5(rt: HostRuntime) -> Result<(), Fail> {
-    stops_of_the_log(&rt, rt.alloc(), 5)
-}
-
-#[test]
-fn a_log_that_stops_leaves_what_was_answered_6(rt: HostRuntime) -> Result<(), Fail> {
-    stops_of_the_log(&rt, rt.alloc(), 6)
-}
-
-#[test]
-fn a_log_that_stops_leaves_what_was_answered_7(rt: HostRuntime) -> Result<(), Fail> {
-    stops_of_the_log(&rt, rt.alloc(), 7)
-}
-
-#[test]
-fn a_database_that_stops_leaves_what_was_answered_0(rt: HostRuntime) -> Result<(), Fail> {
-    stops_of_the_database(&rt, rt.alloc(), 0)
-}
-
-#[test]
-fn a_database_that_stops_leaves_what_was_answered_1(rt: HostRuntime) -> Result<(), Fail> {
-    stops_of_the_database(&rt, rt.alloc(), 1)
-}
-
-#[test]
-fn a_database_that_stops_leaves_what_was_answered_2(rt: HostRuntime) -> Result<(), Fail> {
-    stops_of_the_database(&rt, rt.alloc(), 2)
-}
-
-#[test]
-fn a_database_that_stops_leaves_what_was_answered_3(rt: HostRuntime) -> Result<(), Fail> {
-    stops_of_the_database(&rt, rt.alloc(), 3)
+fn a_log_that_stops_leaves_what_was_answered(rt: HostRuntime) -> Result<(), Fail> {
+    let mut calls = 0u64;
+    let mut stopped = 0u32;
+    for _ in 0..100u32 {
+        let answered = stops(&rt, rt.alloc(), calls)?;
+        if answered == TURNS.len() {
+            assert!(rt; stopped > 0);
+            return Ok(());
+        }
+        if answered > 0 {
+            stopped = stopped.saturating_add(1);
+        }
+        calls = calls.saturating_add(8);
+    }
+    Err(Fail::from("a stop at each call"))
 }

@@ -61,9 +61,6 @@ pub const TURNS: [Turn; 9] = [
     },
 ];
 
-/// What shows the books: the text of each, and the ring to whoever has its receipts.
-pub const SHOWN: [&[u8]; 3] = [
-    b"GET /books/7/export HTTP/1.1\r\nPledge-Key: 22222222-2222-2222-2222-222222222222\r\nContent-Length: 0\r\n\r\n",
-    b"GET /books/8/export HTTP/1.1\r\nPledge-Key: 22222222-2222-2222-2222-222222222222\r\nContent-Length: 0\r\n\r\n",
-    b"GET /books/7/held HTTP/1.1\r\nPledge-Receipt: 1-00000000-0000-0000-0000-000000000001\r\nPledge-Receipt: 1-00000000-0000-0000-0000-000000000002\r\nContent-Length: 0\r\n\r\n",
-];
+/// What shows book 7.
+pub const EXPORT: &[u8] =
+    b"GET /books/7/export HTTP/1.1\r\nPledge-Key: 22222222-2222-2222-2222-222222222222\r\nContent-Length: 0\r\n\r\n";

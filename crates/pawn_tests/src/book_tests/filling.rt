@@ -1,5 +1,5 @@
 //! Imports into a book that is kept in lists. Which rows make a book is shown by the script `tests/borders.py`.
-use super::{KEY, OPERATOR, answers, asked, day, make, number};
+use super::{KEY, OPERATOR, answer_to, asked, day, make, number};
 use crate::asking::acted;
 use pawn_book::{
     BrokerRequest, Caller, Day, Imported, Keep, ListKeep, Reference, Refusal, ReplayableRows,
@@ -45,7 +45,7 @@ fn imports(
 fn made(alloc: Global, limit: u64) -> Result<ListKeep, Fail> {
     let mut keep = ListKeep::new(alloc, limit.min(100));
     let turn = asked(1, make(), Ok(Reply::BookMade(number(7)?)));
-    if !answers(alloc, &mut keep, &turn)? {
+    if answer_to(alloc, &mut keep, &turn)? != Some(turn.answer) {
         return Err("no book")?;
     }
     Ok(keep)

@@ -1,17 +1,20 @@
-//! Texts into writers that fail at one call alone.
+//! Statements into writers that fail at one call alone, over a list and over tables.
 ghost use Rattle.std.specs.Prelude.{Some};
 
-use super::{
-    STATEMENT, acts, broker, day, make_book, number, one_pledge, opening, take_ring, taken,
-};
-use pawn_book::Keep;
-use pawn_keeper::TableKeep;
-use pawn_opening::open_memory;
+use super::turns::TURNS;
+use super::{ROWS, bytes_of, service_of, service_over, stamp};
+use pawn_book::{Keep, Number};
+use pawn_host::Service;
+use pawn_store::keep_in_memory;
 use pawn_view::{ViewFault, Writing, put, send, show_statement};
 use std::alloc::Global;
 use std::io;
 use std::io::{ErrorKind, Write};
+use std::process::Abort;
 use std::test::Fail;
+
+const STATEMENT: &[u8] =
+    b"Pledge 1\nArticle Gold ring\nKind fixed 100.00\nTaken 2024-01-31\nEnds 2024-07-31\nStatus inside\nPrincipal 100.00\nCharges 0.00\nOwing 100.00\nHeld no\nBooking none\n";
 
 // How a call fails: with an error, or by taking none of some bytes.
 #[derive(Clone, Copy, Debug, PartialEq, Eq)]
@@ -61,77 +64,86 @@ fn failing_at(alloc: Global, failing: usize, failure: Failure) -> Writing<Flaky>
     })
 }
 
+// Takes the ring of the first turns into book 7.
+fn takes_ring<K: Keep>(rt: &impl Abort, service: &mut Service<K>) {
+    for turn in TURNS.iter().take(3) {
+        service.answer_one(&stamp(rt, turn.word), turn.request);
+    }
+}
+
 // Writes the statement of the only pledge.
 fn states<K: Keep>(
+    rt: &impl Abort,
     keep: &mut K,
     writer: &mut Writing<Flaky>,
 ) -> Result<Result<(), ViewFault>, Fail> {
+    let book = Number::new(7).ok_or("no number")?;
+    let pledge = Number::new(1).ok_or("no number")?;
     if writer.has_failed() {
         return Ok(Err(ViewFault::Write));
     }
-    Ok(show_statement(keep, number(7)?, number(1)?, day()?, writer))
+    let day = stamp(rt, 0).day.day();
+    Ok(show_statement(keep, book, pledge, day, writer))
 }
 
-// How many calls the whole statement takes, or none if it is another.
-fn calls_of_all<K: Keep>(alloc: Global, keep: &mut K) -> Result<usize, Fail> {
+// How many calls the whole statement takes.
+fn calls_of_all<K: Keep>(rt: &impl Abort, alloc: Global, keep: &mut K) -> Result<usize, Fail> {
     let mut writer = failing_at(alloc, 0, Failure::Error);
-    let came = states(keep, &mut writer)?;
+    let came = states(rt, keep, &mut writer)?;
     let whole = writer.into_inner();
-    if came != Ok(()) || whole.taken.as_slice() != STATEMENT {
-        return Ok(0);
-    }
+    assert_eq!(rt; came, Ok(()));
+    assert_eq!(rt; whole.taken.as_slice(), STATEMENT);
     Ok(whole.calls)
 }
 
-// Whether the statement ends with the failing call, and a front of it went out.
+// Lets that call fail: the statement ends with it, and a front of it went out.
 fn stops_at<K: Keep>(
+    rt: &impl Abort,
     alloc: Global,
     keep: &mut K,
     at: usize,
     failure: Failure,
-) -> Result<bool, Fail> {
+) -> Result<(), Fail> {
     let mut writer = failing_at(alloc, at, failure);
-    let came = states(keep, &mut writer)?;
+    let came = states(rt, keep, &mut writer)?;
     let failed = writer.has_failed();
     let end = writer.into_inner();
     let is_front = end.taken.len() < STATEMENT.len() && STATEMENT.starts_with(end.taken.as_slice());
-    Ok(came == Err(ViewFault::Write) && failed && end.calls == at && is_front)
+    assert_eq!(rt; (came, failed), (Err(ViewFault::Write), true), "call {at}");
+    assert!(rt; end.calls == at && is_front, "call {at}");
+    Ok(())
 }
 
 #[test]
 fn no_failed_write_is_tried_again(rt: HostRuntime) -> Result<(), Fail> {
-    let mut keep = one_pledge(rt.alloc())?;
-    let calls = calls_of_all(rt.alloc(), &mut keep)?;
+    let alloc = rt.alloc();
+    let mut service = service_of(&rt, alloc, ROWS);
+    takes_ring(&rt, &mut service);
+    let calls = calls_of_all(&rt, alloc, &mut service.keep)?;
     assert!(rt; calls > 20);
     for at in 1..=calls {
-        assert!(rt; stops_at(rt.alloc(), &mut keep, at, Failure::Error)?);
-        assert!(rt; stops_at(rt.alloc(), &mut keep, at, Failure::Nothing)?);
+        stops_at(&rt, alloc, &mut service.keep, at, Failure::Error)?;
+        stops_at(&rt, alloc, &mut service.keep, at, Failure::Nothing)?;
     }
+    Ok(())
+}
+
+// Lets a write fail in the middle of a statement. The same statement is written then, and a change is made.
+fn goes_on<K: Keep>(rt: &impl Abort, alloc: Global, service: &mut Service<K>) -> Result<(), Fail> {
+    takes_ring(rt, service);
+    stops_at(rt, alloc, &mut service.keep, 5, Failure::Error)?;
+    calls_of_all(rt, alloc, &mut service.keep)?;
+    let declare = TURNS[4];
+    let answer = service.answer_one(&stamp(rt, declare.word), declare.request);
+    assert_eq!(rt; bytes_of(&answer), declare.reply);
+    calls_of_all(rt, alloc, &mut service.keep)?;
     Ok(())
 }
 
 #[test]
 fn a_writer_that_fails_leaves_the_tables(rt: HostRuntime) -> Result<(), Fail> {
-    let alloc = rt.alloc();
-    let conn = open_memory(alloc, 100).ok().ok_or("no store")?;
-    let mut keep = TableKeep::over(alloc, conn).ok().ok_or("in a transaction")?;
-    make_book(alloc, &mut keep, 2)?;
-    take_ring(alloc, &mut keep)?;
-    let calls = calls_of_all(alloc, &mut keep)?;
-    assert!(rt; calls > 20);
-    let mut writer = Writing::new(Flaky {
-        taken: Vec::new(alloc),
-        most: 1,
-        calls: 0,
-        failing: 2,
-        failure: Failure::Error,
-    });
-    assert_eq!(rt; states(&mut keep, &mut writer)?, Err(ViewFault::Write));
-    assert_eq!(rt; writer.into_inner().taken.as_slice(), b"P".as_slice());
-    let second = broker(opening(alloc, "A2", 7_500)?);
-    acts(alloc, &mut keep, taken()?, second)?;
-    assert_eq!(rt; calls_of_all(alloc, &mut keep)?, calls);
-    Ok(())
+    let keep = keep_in_memory(rt.alloc(), 100).ok().ok_or("no store")?;
+    goes_on(&rt, rt.alloc(), &mut service_over(&rt, rt.alloc(), keep))
 }
 
 // How many bytes a write took, or the sort of the inner writer's error.
