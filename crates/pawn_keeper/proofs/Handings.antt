@@ -12,7 +12,6 @@ use Rattle.pawn_book.specs.Visits.{Front, Handed, HandsOver, IsShare, Visits, Wh
 use Rattle.pawn_book.proofs.Reading.{reads_as, reads_then}
 use Rattle.pawn_book.specs.Sheet.{windows, windows_below}
 use Rattle.pawn_book.proofs.SheetLemmas.{handed-append, windows_begin, windows_more}
-use Rattle.pawn_book.proofs.VisitLemmas.{handed-snoc}
 use Rattle.pawn_keeper.specs.Handing.{Hands, flow_of}
 use Rattle.pawn_keeper.proofs.Walks.{errs_ok, reads_none}
 
@@ -120,7 +119,7 @@ module _ {K V T : Type 0} (k : Keeping K) (step : V → T → Flow → V → Typ
   visits_of a b v w r s xs same hands =
       (hands.given, flow_of r, hands.handed, reads_as hands.reads (λ h share. subst (λ end. IsShare hands.given (flow_of r) end (xs h)) (sym same) share))
 
-  -- ---- item by item
+  -- ---- page by page
 
   module _ (listed : Host → List T) (past : ℕ → Host → List T) where
     -- the items up to one were handed over, and the visitor wants more
@@ -131,32 +130,6 @@ module _ {K V T : Type 0} (k : Keeping K) (step : V → T → Flow → V → Typ
     begins_at s v whole = ([], (refl, refl), reads_none k s (λ h. past 0 h ≡ listed h) whole)
 
     module _ (old now new : K) (v u w : V) (n : ℕ) (before : HandedTo old now v u n) where
-      -- the next is handed over
-      pub goes_on : (x : T) (m : ℕ) → Reads k now new (λ h. past n h ≡ x ∷ past m h) → step u x Go w → HandedTo old new v w m
-      goes_on x m read here = (
-        before.0 ++ x ∷ [],
-        handed-snoc step v u w before.0 x Go before.1 here,
-        reads_then before.2 read (λ h are next. append_assoc before.0 (x ∷ []) (past m h) ∙ ap (λ t. before.0 ++ t) (sym next) ∙ are),
-      )
-
-      -- .. and the visitor stops
-      pub stops_at : {IsUnsound : Host → Type 0} (x : T) (m : ℕ) → Reads k now new (λ h. past n h ≡ x ∷ past m h) → step u x Stop w → Hands k IsUnsound step old new v w (Ok Stop) listed
-      stops_at x m read here = record {
-        given = before.0 ++ x ∷ [];
-        handed = handed-snoc step v u w before.0 x Stop before.1 here;
-        reads = reads_then before.2 read (λ h are next. (past m h, append_assoc before.0 (x ∷ []) (past m h) ∙ ap (λ t. before.0 ++ t) (sym next) ∙ are, λ go. cc go));
-        errs = errs_ok k old new (Ok Stop) Stop refl;
-      }
-
-      -- there is none
-      pub ends_at : {IsUnsound : Host → Type 0} → Reads k now new (λ h. past n h ≡ []) → Hands k IsUnsound step old new v u (Ok Go) listed
-      ends_at read = record {
-        given = before.0;
-        handed = before.1;
-        reads = reads_then before.2 read (λ h are none. ([], ap (λ t. before.0 ++ t) (sym none) ∙ are, λ go whole. refl));
-        errs = errs_ok k old new (Ok Go) Go refl;
-      }
-
       -- a page is handed over, and more is left
       pub goes_by : (xs : List T) (m : ℕ) → Reads k now new (λ h. past n h ≡ xs ++ past m h) → HandsOver step u xs Go w → HandedTo old new v w m
       goes_by xs m read here =

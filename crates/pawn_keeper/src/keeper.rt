@@ -13,7 +13,9 @@ use pawn_book::{
     Reference, SaveError, SheetItem, StoreFault, Terms, Visitor,
 };
 use pawn_saving::save;
-use pawn_tables::{confirmed_in, head_in, next_in, pledge_of, ref_in, rows_in, terms_under};
+use pawn_tables::{
+    brief_in, confirmed_in, head_in, next_in, pledge_of, ref_in, rows_in, terms_under,
+};
 use sqlite::{Alter, Connection, Error, ErrorCode};
 use std::alloc::Global;
 
@@ -141,15 +143,12 @@ impl<S: Alter> Keep for TableKeep<S> {
         next
     }
 
-    // Its lists are read too, since what is stored beside them is compared with what follows from them.
     fn brief(&mut self, book: Number, number: Number) -> Result<Option<Brief>, KeepError> {
-        let Some(pledge) = self.pledge(book, number)? else {
-            return Ok(None);
-        };
-        match pledge.brief() {
-            Ok(brief) => Ok(Some(brief)),
-            Err(_) => Err(KeepError::Memory),
-        }
+        let _ = self.conn.is_autocommit();
+        let mut tx = self.conn.transaction();
+        let brief = brief_in(&mut tx, self.alloc, book.get(), number);
+        tx.rollback();
+        brief
     }
 
     fn entries<V: Visitor<Entry>>(
