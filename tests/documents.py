@@ -91,7 +91,7 @@ def each_word_is_defined_where_the_glossary_says():
     rows = re.findall(r"^\| ([^|]+) \|[^|]+\| `(\w+)` in `([\w/.]+)` \|$", read("docs/GLOSSARY.md"), re.M)
     for word, name, path in rows:
         text = read(os.path.join("crates", path))
-        form = rf"^\s*(?:pub )?(?:abbrev |record |data |fn |struct |enum |trait |type |opaque )*(?:pub )?(?:record |data |fn |struct |enum |trait )?{name}\b"
+        form = rf"^\s*(?:pub(?:\(crate\))? )?(?:abbrev |record |data |fn |struct |enum |trait |type |opaque )*(?:pub )?(?:record |data |fn |struct |enum |trait )?{name}\b"
         expect(f"{word}: {name} in {path}", bool(re.search(form, text, re.M)), True)
     expect("its words", len(rows) > 50, True)
     print(f"        {len(rows)} words", flush=True)
