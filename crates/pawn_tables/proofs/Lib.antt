@@ -10,6 +10,7 @@ pub mod OneHost
 pub mod PageLemmas
 pub mod PledgeReads
 pub mod Placed
+pub mod PlacePages
 pub mod PlaceReads
 pub mod ReadTexts
 pub mod RowCells

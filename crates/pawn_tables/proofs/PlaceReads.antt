@@ -47,13 +47,13 @@ at_from b n s v = list_all (λ (x : Bool). x) (is_at (column v 0) (number b) ∷
 abbrev has_from : ℕ → Row → Bool
 has_from s v = is_from (column v 2) (number s)
 
-regroup : (a b c : Bool) → (a && (b && (c && true))) ≡ ((a && (b && true)) && c)
+pub regroup : (a b c : Bool) → (a && (b && (c && true))) ≡ ((a && (b && true)) && c)
 regroup true true true = refl
 regroup true true false = refl
 regroup true false c = refl
 regroup false b c = refl
 
-filter_both : (p q : Row → Bool) (xs : List Row) → filter q (filter p xs) ≡ filter (λ x. p x && q x) xs
+pub filter_both : (p q : Row → Bool) (xs : List Row) → filter q (filter p xs) ≡ filter (λ x. p x && q x) xs
 filter_both p q [] = refl
 filter_both p q (x ∷ xs) =
     elim (p x) as (λ b. filter q (cond b (x ∷ filter p xs) (filter p xs)) ≡ cond (b && q x) (x ∷ filter (λ y. p y && q y) xs) (filter (λ y. p y && q y) xs))

@@ -34,29 +34,29 @@ take_whole f k (x ∷ xs) = ap (λ l. x ∷ l) (take_whole f (k + 1) xs)
 
 -- what is read so far of the rows of any list
 abbrev pub AreReadTo : {A : Type 0} → (ℕ → A → Row) → (A → Type 0) → List Row → ℕ → List A → Type 0
-AreReadTo {A = A} f W rows i got = (xs : List A) → Each W xs → rows ≡ placed_from f 1 xs → got ≡ take i xs
+AreReadTo {A = A} f W rows i got = (from : ℕ) (xs : List A) → Each W xs → rows ≡ placed_from f from xs → got ≡ take i xs
 
 -- one more is read
 pub placed_more : {A : Type 0} (f : ℕ → A → Row) (W P : A → Type 0) (rows : List Row) (i : ℕ) (got more : List A) (r : Row) (y : A) → i < length rows → r ≡ get_or rows i r → more ≡ got ++ y ∷ []
     → ((place : ℕ) (x : A) → W x → r ≡ f place x → IsRead (Ok y) x (P x)) → AreReadTo f W rows i got → AreReadTo f W rows (i + 1) more
-placed_more f W P rows i got more r y lt is grown read so xs words are =
-    let at = element_at f 1 xs rows i r are lt is in
+placed_more f W P rows i got more r y lt is grown read so from xs words are =
+    let at = element_at f from xs rows i r are lt is in
     let same = read at.0 at.1 (each_at W xs i at.1 at.3 words) at.2 in
     let next : i + 1 ≡ suc i = omega arith in
-    grown ∙ ap (λ z. got ++ z ∷ []) same ∙ ap (λ l. l ++ at.1 ∷ []) (so xs words are) ∙ sym (take_next xs i at.1 at.3) ∙ ap (λ n. take n xs) (sym next)
+    grown ∙ ap (λ z. got ++ z ∷ []) same ∙ ap (λ l. l ++ at.1 ∷ []) (so from xs words are) ∙ sym (take_next xs i at.1 at.3) ∙ ap (λ n. take n xs) (sym next)
 
 -- an element that can't be kept is the reason why a row is no record
 pub placed_err : {A : Type 0} (f : ℕ → A → Row) (W P : A → Type 0) (rows : List Row) (i : ℕ) (r : Row) (e : KeepError) → i < length rows → r ≡ get_or rows i r
-    → ((place : ℕ) (x : A) → W x → r ≡ f place x → IsRead (Err e) x (P x)) → (xs : List A) → Each W xs → rows ≡ placed_from f 1 xs → IsRead (Err e) xs (Each P xs)
-placed_err f W P rows i r Keeper.Memory lt is read xs words are = tt
-placed_err f W P rows i r (Keeper.Store Database) lt is read xs words are = tt
-placed_err f W P rows i r (Keeper.Store NoRecord) lt is read xs words are = λ all.
-    let at = element_at f 1 xs rows i r are lt is in
+    → ((place : ℕ) (x : A) → W x → r ≡ f place x → IsRead (Err e) x (P x)) → (from : ℕ) (xs : List A) → Each W xs → rows ≡ placed_from f from xs → IsRead (Err e) xs (Each P xs)
+placed_err f W P rows i r Keeper.Memory lt is read from xs words are = tt
+placed_err f W P rows i r (Keeper.Store Database) lt is read from xs words are = tt
+placed_err f W P rows i r (Keeper.Store NoRecord) lt is read from xs words are = λ all.
+    let at = element_at f from xs rows i r are lt is in
     read at.0 at.1 (each_at W xs i at.1 at.3 words) at.2 (each_at P xs i at.1 at.3 all)
 
 -- all are read
-pub placed_whole : {A : Type 0} (f : ℕ → A → Row) (W : A → Type 0) (rows : List Row) (i : ℕ) (got : List A) → i ≡ length rows → AreReadTo f W rows i got → (xs : List A) → Each W xs → rows ≡ placed_from f 1 xs → got ≡ xs
-placed_whole f W rows i got end so xs words are = so xs words are ∙ ap (λ n. take n xs) (end ∙ ap length are) ∙ take_whole f 1 xs
+pub placed_whole : {A : Type 0} (f : ℕ → A → Row) (W : A → Type 0) (rows : List Row) (i : ℕ) (got : List A) → i ≡ length rows → AreReadTo f W rows i got → (from : ℕ) (xs : List A) → Each W xs → rows ≡ placed_from f from xs → got ≡ xs
+placed_whole f W rows i got end so from xs words are = so from xs words are ∙ ap (λ n. take n xs) (end ∙ ap length are) ∙ take_whole f from xs
 
 -- elements without their places
 pub mapped : {A : Type 0} (f : A → Row) (k : ℕ) (xs : List A) → map f xs ≡ placed_from (λ place x. f x) k xs

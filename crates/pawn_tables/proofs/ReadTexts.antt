@@ -230,8 +230,6 @@ pub last_place_is : Asks keep_schema last_place_text (first_of_table 17 of_pledg
 unfolding understood everything
 last_place_is = (refl, refl, (refl, refl))
 
--- ---- the parts of a day's sheet
-
 -- SQL's = with a number of the text
 abbrev is_number : ℕ → ℕ → Term
 is_number place n = op2 (Compare Eq Binary) (col 1 place) (lit (Int (pos n)))
@@ -239,6 +237,26 @@ is_number place n = op2 (Compare Eq Binary) (col 1 place) (lit (Int (pos n)))
 -- above a parameter
 abbrev is_over : ℕ → ℕ → Term
 is_over place param = op2 (Compare Gt Binary) (col 1 place) (col 0 param)
+
+-- a row of a pledge, behind a place
+abbrev pub behind_tests : List Term
+behind_tests = is_param 1 0 ∷ is_param 2 1 ∷ is_over 3 2 ∷ []
+
+abbrev pub secrets_page_text : List ℕ
+secrets_page_text = codes "SELECT place, day, sort, secret FROM secrets WHERE book = ?1 AND number = ?2 AND place > ?3 ORDER BY place LIMIT 64"
+
+pub secrets_page_is : Asks keep_schema secrets_page_text (few_of_table most_rows 8 behind_tests secrets_shows (by_column 3)) (codes "place" ∷ codes "day" ∷ codes "sort" ∷ codes "secret" ∷ [])
+unfolding understood everything
+secrets_page_is = (refl, refl, (refl, refl))
+
+abbrev pub extensions_page_text : List ℕ
+extensions_page_text = codes "SELECT place, day, until_day FROM extensions WHERE book = ?1 AND number = ?2 AND place > ?3 ORDER BY place LIMIT 64"
+
+pub extensions_page_is : Asks keep_schema extensions_page_text (few_of_table most_rows 17 behind_tests extensions_shows (by_column 3)) (codes "place" ∷ codes "day" ∷ codes "until_day" ∷ [])
+unfolding understood everything
+extensions_page_is = (refl, refl, (refl, refl))
+
+-- ---- the parts of a day's sheet
 
 abbrev pub asked_text : List ℕ
 asked_text = codes "SELECT count(*) FROM bookings WHERE book = ?1 AND day = ?2 AND state = 0"

@@ -26,7 +26,7 @@ pub use briefs::brief_in;
 pub use credits::{Credit, credit_in};
 pub use laws::tables_stand_for_one;
 pub use line::Line;
-pub use pages::{PAGE_ROWS, entries_page};
+pub use pages::{PAGE_ROWS, entries_page, extensions_page, secrets_page};
 pub use places::{entry_in, extension_in, secret_in};
 pub use queries::{booking_in, entries_in, terms_in};
 pub use sheets::{count_in, lines_page, windows_in};

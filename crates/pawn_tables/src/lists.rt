@@ -66,7 +66,7 @@ pub(crate) fn read_entries(alloc: Global, rows: &[Row]) -> Result<Entries, KeepE
 
 /// The secrets of rows, and how they were issued.
 pub(crate) fn read_secrets(alloc: Global, rows: &[Row]) -> Result<Secrets, KeepError>
-    ensures read { (is : List Issued) → AreWords is → rows.now ≡ placed_from secret_cells 1 is → IsRead result is (Each (λ i. IsDayNumber i.day) is) }
+    ensures read { (from : ℕ) (is : List Issued) → AreWords is → rows.now ≡ placed_from secret_cells from is → IsRead result is (Each (λ i. IsDayNumber i.day) is) }
 {
     let mut secrets = Secrets::new(alloc);
     for row in rows {
@@ -80,7 +80,7 @@ pub(crate) fn read_secrets(alloc: Global, rows: &[Row]) -> Result<Secrets, KeepE
 
 /// The extensions of rows.
 pub(crate) fn read_extensions(alloc: Global, rows: &[Row]) -> Result<Extensions, KeepError>
-    ensures read { (es : List Extension) → rows.now ≡ placed_from extension_cells 1 es → IsRead result es (Each (λ e. IsDayNumber e.day × IsDayNumber e.until) es) }
+    ensures read { (from : ℕ) (es : List Extension) → rows.now ≡ placed_from extension_cells from es → IsRead result es (Each (λ e. IsDayNumber e.day × IsDayNumber e.until) es) }
 {
     let mut extensions = Extensions::new(alloc);
     for row in rows {

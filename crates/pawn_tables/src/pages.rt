@@ -3,16 +3,18 @@ ghost use Rattle.std.specs.Prelude.{◌≡◌, is_ok};
 ghost use Rattle.std.specs.FinMap.{get};
 ghost use Rattle.sqlite.specs.Held.{state};
 ghost use Rattle.pawn_book.specs.BookStep.{pledge_in};
-ghost use Rattle.pawn_book.specs.Keeping.{entries_of};
+ghost use Rattle.pawn_book.specs.Keeping.{entries_of, extensions_of, secrets_of};
 ghost use Rattle.pawn_book.specs.Sound.{IsUnsoundAt};
 ghost use Rattle.one_table.specs.Lending.{IsLent};
 ghost use Rattle.pawn_tables.specs.Entries.{IsEntriesPage};
 ghost use Rattle.pawn_tables.specs.Finding.{FindsIn};
+ghost use Rattle.pawn_tables.specs.Places.{page_behind};
 
-use crate::lists::read_entries;
+use crate::lists::{read_entries, read_extensions, read_secrets};
 use crate::queries::rows_of;
 use pawn_book::KeepError;
 use pawn_debt::Entries;
+use pawn_pledge::{Extensions, Secrets};
 use sqlite::{Alter, Transaction, params};
 use std::alloc::Global;
 
@@ -37,4 +39,44 @@ pub fn entries_page<S: Alter>(
         params![book, number, from],
     )?;
     read_entries(alloc, &rows)
+}
+
+/// A page of the secrets of a pledge, behind a place. The first place is 1.
+pub fn secrets_page<S: Alter>(
+    tx: &mut Transaction<'_, S>,
+    alloc: Global,
+    book: u32,
+    number: u32,
+    behind: u32,
+) -> Result<Secrets, KeepError>
+    ensures same_reference { tx.new.conn.ghost_name ≡ tx.old.conn.ghost_name }
+    ensures finds { FindsIn (IsUnsoundAt book) (state S.Store tx.old.conn.now) (state S.Store tx.new.conn.now) result (λ h page. page ≡ page_behind behind (secrets_of (pledge_in (get h.books book) number))) }
+    ensures lent { IsLent (state S.Store tx.old.conn.now) (state S.Store tx.new.conn.now) (is_ok result) }
+{
+    let rows = rows_of(
+        tx,
+        "SELECT place, day, sort, secret FROM secrets WHERE book = ?1 AND number = ?2 AND place > ?3 ORDER BY place LIMIT 64",
+        params![book, number, behind],
+    )?;
+    read_secrets(alloc, &rows)
+}
+
+/// A page of the extensions of a pledge, behind a place. The first place is 1.
+pub fn extensions_page<S: Alter>(
+    tx: &mut Transaction<'_, S>,
+    alloc: Global,
+    book: u32,
+    number: u32,
+    behind: u32,
+) -> Result<Extensions, KeepError>
+    ensures same_reference { tx.new.conn.ghost_name ≡ tx.old.conn.ghost_name }
+    ensures finds { FindsIn (IsUnsoundAt book) (state S.Store tx.old.conn.now) (state S.Store tx.new.conn.now) result (λ h page. page ≡ page_behind behind (extensions_of (pledge_in (get h.books book) number))) }
+    ensures lent { IsLent (state S.Store tx.old.conn.now) (state S.Store tx.new.conn.now) (is_ok result) }
+{
+    let rows = rows_of(
+        tx,
+        "SELECT place, day, until_day FROM extensions WHERE book = ?1 AND number = ?2 AND place > ?3 ORDER BY place LIMIT 64",
+        params![book, number, behind],
+    )?;
+    read_extensions(alloc, &rows)
 }

@@ -15,9 +15,9 @@ loop-row-preserved c =
 pub returns-in_err-number : goal.returns-in_err-number
 returns-in_err-number c = record {
   read = λ ns are.
-      let first : IsRead (Err c.in_err-number.field-0.0) ns ⊤ = always_all c.in_err-number.field-0.0 ns ns ⊤ (placed_err (λ (place : ℕ) (n : ℕ). number_cells n) (λ (n : ℕ). Unit {0}) (λ (n : ℕ). Unit {0}) c.args.rows.now c.loop-row.row-index c.row-item.result _ c.loop-row-test.true c.row-item.is (λ place n any is. let at = cell_at _ _ 0 (number n) is (omega arith) refl in c.in_err-number.ensures.read n at.0 at.1) ns (each_any ns) (are ∙ mapped number_cells 1 ns)) in
+      let first : IsRead (Err c.in_err-number.field-0.0) ns ⊤ = always_all c.in_err-number.field-0.0 ns ns ⊤ (placed_err (λ (place : ℕ) (n : ℕ). number_cells n) (λ (n : ℕ). Unit {0}) (λ (n : ℕ). Unit {0}) c.args.rows.now c.loop-row.row-index c.row-item.result _ c.loop-row-test.true c.row-item.is (λ place n any is. let at = cell_at _ _ 0 (number n) is (omega arith) refl in c.in_err-number.ensures.read n at.0 at.1) 1 ns (each_any ns) (are ∙ mapped number_cells 1 ns)) in
       search rules;
 }
 
 pub returns : goal.returns
-returns c = record { read = λ ns are. placed_whole (λ (place : ℕ) (n : ℕ). number_cells n) (λ (n : ℕ). Unit {0}) c.args.rows.now c.loop-row.row-index c.loop-row.numbers (search rules) c.loop-row.invariant ns (each_any ns) (are ∙ mapped number_cells 1 ns) }
+returns c = record { read = λ ns are. placed_whole (λ (place : ℕ) (n : ℕ). number_cells n) (λ (n : ℕ). Unit {0}) c.args.rows.now c.loop-row.row-index c.loop-row.numbers (search rules) c.loop-row.invariant 1 ns (each_any ns) (are ∙ mapped number_cells 1 ns) }

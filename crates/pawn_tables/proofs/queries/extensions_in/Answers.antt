@@ -21,4 +21,4 @@ returns-clause-finds g c clean within h stood =
     let plain = subst (λ s. IsPlain (understood s text.extensions_text)) (sym st.schema) text.extensions_is.2 in
     let rests = plain_rests text.extensions_text _ old new rows within plain shown in
     let are = c.deref.ensures.value ∙ reads.extensions_shown old new h c.args.book c.args.number rows st shown in
-    sound.told c.read_extensions.result _ _ _ _ (c.read_extensions.ensures.read _ are) rests (sound.extensions_unsound h st.storable c.args.book c.args.number)
+    sound.told c.read_extensions.result _ _ _ _ (c.read_extensions.ensures.read 1 _ are) rests (sound.extensions_unsound h st.storable c.args.book c.args.number)

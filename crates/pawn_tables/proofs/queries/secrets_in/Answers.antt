@@ -21,4 +21,4 @@ returns-clause-finds g c clean within h stood =
     let plain = subst (λ s. IsPlain (understood s text.secrets_text)) (sym st.schema) text.secrets_is.2 in
     let rests = plain_rests text.secrets_text _ old new rows within plain shown in
     let are = c.deref.ensures.value ∙ reads.secrets_shown old new h c.args.book c.args.number rows st shown in
-    sound.told c.read_secrets.result _ _ _ _ (c.read_secrets.ensures.read _ (sound.words_in h st.storable c.args.book c.args.number) are) rests (sound.secrets_unsound h st.storable c.args.book c.args.number)
+    sound.told c.read_secrets.result _ _ _ _ (c.read_secrets.ensures.read 1 _ (sound.words_in h st.storable c.args.book c.args.number) are) rests (sound.secrets_unsound h st.storable c.args.book c.args.number)
