@@ -9,6 +9,7 @@ use crate::making::refused;
 use crate::moving::{move_first, move_second};
 use crate::telling::schema_of;
 use pawn_book::KeepError;
+use pawn_opening::SCHEMA;
 use sqlite::{Alter, Connection, Transaction};
 use std::alloc::Global;
 
