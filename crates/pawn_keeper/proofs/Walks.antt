@@ -13,7 +13,6 @@ use Rattle.pawn_book.specs.BookStep.{BookValue, pledge_from, pledge_in}
 use Rattle.pawn_book.specs.HostStep.{Host}
 use Rattle.pawn_book.specs.Keeping.{Errs, Keeping, Reads, pledges_of}
 use Rattle.pawn_book.specs.Visits.{Front, Handed, IsShare, Visits, Whole}
-use Rattle.pawn_tables.specs.Places.{at_place}
 use Rattle.pawn_book.proofs.Reading.{reads_then}
 use Rattle.pawn_book.proofs.VisitLemmas.{handed-snoc}
 
@@ -118,7 +117,3 @@ pledge_at_place k (p ∷ ps) (suc i) n is =
 pub pledge_at : (o : Option BookValue) (i n : ℕ) → n ≡ i + 1 → pledge_in o n ≡ slice_get (pledges_of o) i
 pledge_at None i n is = refl
 pledge_at (Some b) i n is = pledge_at_place 1 b.pledges i n (omega (arith, is))
-
--- the element at a place, counted from 1
-pub at_next : {A : Type 0} (xs : List A) (i : ℕ) → at_place xs (i + 1) ≡ slice_get xs i
-at_next xs i = let next : i + 1 ≡ suc i = omega arith in ap (at_place xs) next

@@ -167,16 +167,8 @@ impl<S: Alter> Keep for TableKeep<S> {
         number: Number,
         visitor: &mut V,
     ) -> Result<(), KeepError> {
-        for place in 0..u32::MAX {
-            let Some(secret) = self.secret_at(book, number, place + 1)? else {
-                return Ok(());
-            };
-            match visitor.visit(&secret) {
-                Flow::Go => {}
-                Flow::Stop => return Ok(()),
-            }
-        }
-        Err(BEYOND)
+        self.hand_secrets(book, number, visitor)?;
+        Ok(())
     }
 
     fn extensions<V: Visitor<Extension>>(
@@ -185,16 +177,8 @@ impl<S: Alter> Keep for TableKeep<S> {
         number: Number,
         visitor: &mut V,
     ) -> Result<(), KeepError> {
-        for place in 0..u32::MAX {
-            let Some(extension) = self.extension_at(book, number, place + 1)? else {
-                return Ok(());
-            };
-            match visitor.visit(&extension) {
-                Flow::Go => {}
-                Flow::Stop => return Ok(()),
-            }
-        }
-        Err(BEYOND)
+        self.hand_extensions(book, number, visitor)?;
+        Ok(())
     }
 
     fn sheet_each<V: Visitor<SheetItem>>(

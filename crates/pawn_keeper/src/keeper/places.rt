@@ -9,15 +9,21 @@ ghost use Rattle.pawn_book.specs.Sound.{IsUnsoundAt};
 ghost use Rattle.pawn_tables.specs.Entries.{IsEntriesPage, behind};
 ghost use Rattle.pawn_tables.specs.Keeps.{keeping_by};
 ghost use Rattle.pawn_tables.specs.Pages.{page_end};
-ghost use Rattle.pawn_tables.specs.Places.{at_place};
+ghost use Rattle.pawn_tables.specs.Places.{page_behind};
 ghost use Rattle.pawn_keeper.specs.Handing.{Hands};
 
 use super::handing::hand_all;
 use super::{BEYOND, TableKeep};
 use pawn_book::{Entry, Extension, Flow, Issued, KeepError, Number, Visitor};
 use pawn_debt::Entries;
-use pawn_tables::{PAGE_ROWS, entries_page, extension_in, secret_in};
+use pawn_pledge::{Extensions, Secrets};
+use pawn_tables::{PAGE_ROWS, entries_page, extensions_page, secrets_page};
 use sqlite::Alter;
+
+// How many places a page has, and how many pages there are of places that 32 bits can hold.
+const PLACES: u32 = PAGE_ROWS as u32;
+
+const PAGES: u32 = u32::MAX / PLACES;
 
 impl<S: Alter> TableKeep<S> {
     // A page of the entries of a pledge, from a number on.
@@ -62,38 +68,82 @@ impl<S: Alter> TableKeep<S> {
         Err(BEYOND)
     }
 
-    // The secret of a pledge at a place.
-    pub(super) fn secret_at(
+    // A page of the secrets of a pledge, behind a place.
+    fn secrets_behind(
         &mut self,
         book: Number,
         number: Number,
-        place: u32,
-    ) -> Result<Option<Issued>, KeepError>
-        ensures reads { Reads (keeping_by (λ k. state S.Store k.conn)) self.old self.new (λ h. IfOk result (λ x. x ≡ at_place (secrets_of (pledge_in (get h.books book) number)) place)) }
+        behind: u32,
+    ) -> Result<Secrets, KeepError>
+        ensures reads { Reads (keeping_by (λ k. state S.Store k.conn)) self.old self.new (λ h. IfOk result (λ page. page ≡ page_behind behind (secrets_of (pledge_in (get h.books book) number)))) }
         ensures errs { Errs (keeping_by (λ k. state S.Store k.conn)) self.old self.new (IsUnsoundAt book) result }
     {
         let _ = self.conn.is_autocommit();
         let mut tx = self.conn.transaction();
-        let secret = secret_in(&mut tx, book.get(), number.get(), place);
+        let page = secrets_page(&mut tx, self.alloc, book.get(), number.get(), behind);
         tx.rollback();
-        secret
+        page
     }
 
-    // The extension of a pledge at a place.
-    pub(super) fn extension_at(
+    // Hands the secrets of a pledge to the visitor until it wants no more.
+    pub(super) fn hand_secrets<V: Visitor<Issued>>(
         &mut self,
         book: Number,
         number: Number,
-        place: u32,
-    ) -> Result<Option<Extension>, KeepError>
-        ensures reads { Reads (keeping_by (λ k. state S.Store k.conn)) self.old self.new (λ h. IfOk result (λ x. x ≡ at_place (extensions_of (pledge_in (get h.books book) number)) place)) }
+        visitor: &mut V,
+    ) -> Result<Flow, KeepError>
+        ensures hands { Hands (keeping_by (λ k. state S.Store k.conn)) (IsUnsoundAt book) V.step self.old self.new visitor.old visitor.new result (λ h. secrets_of (pledge_in (get h.books book) number)) }
+    {
+        for turn in 0..PAGES {
+            let page = self.secrets_behind(book, number, turn * PLACES)?;
+            match hand_all(page.as_slice(), visitor) {
+                Flow::Go => {}
+                Flow::Stop => return Ok(Flow::Stop),
+            }
+            if page.len() < PAGE_ROWS {
+                return Ok(Flow::Go);
+            }
+        }
+        Err(BEYOND)
+    }
+
+    // A page of the extensions of a pledge, behind a place.
+    fn extensions_behind(
+        &mut self,
+        book: Number,
+        number: Number,
+        behind: u32,
+    ) -> Result<Extensions, KeepError>
+        ensures reads { Reads (keeping_by (λ k. state S.Store k.conn)) self.old self.new (λ h. IfOk result (λ page. page ≡ page_behind behind (extensions_of (pledge_in (get h.books book) number)))) }
         ensures errs { Errs (keeping_by (λ k. state S.Store k.conn)) self.old self.new (IsUnsoundAt book) result }
     {
         let _ = self.conn.is_autocommit();
         let mut tx = self.conn.transaction();
-        let extension = extension_in(&mut tx, book.get(), number.get(), place);
+        let page = extensions_page(&mut tx, self.alloc, book.get(), number.get(), behind);
         tx.rollback();
-        extension
+        page
+    }
+
+    // Hands the extensions of a pledge to the visitor until it wants no more.
+    pub(super) fn hand_extensions<V: Visitor<Extension>>(
+        &mut self,
+        book: Number,
+        number: Number,
+        visitor: &mut V,
+    ) -> Result<Flow, KeepError>
+        ensures hands { Hands (keeping_by (λ k. state S.Store k.conn)) (IsUnsoundAt book) V.step self.old self.new visitor.old visitor.new result (λ h. extensions_of (pledge_in (get h.books book) number)) }
+    {
+        for turn in 0..PAGES {
+            let page = self.extensions_behind(book, number, turn * PLACES)?;
+            match hand_all(page.as_slice(), visitor) {
+                Flow::Go => {}
+                Flow::Stop => return Ok(Flow::Stop),
+            }
+            if page.len() < PAGE_ROWS {
+                return Ok(Flow::Go);
+            }
+        }
+        Err(BEYOND)
     }
 }
 

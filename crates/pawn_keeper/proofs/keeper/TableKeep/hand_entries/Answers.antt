@@ -53,7 +53,7 @@ loop-preserved g c =
     let page = c.in_ok-page.page in
     let told : Host → Type 0 = λ h. IsEntriesPage c.loop.from (entries_of (pledge_in (get h.books c.args.book) c.args.number)) page in
     let end = page_end behind c.loop.from page in
-    subst (λ n. HandedTo (keeping_by (λ k. state g.S.Store k.conn)) g.V.Visitor.step (λ h. entries_of (pledge_in (get h.books c.args.book) c.args.number)) left c.args.self.now c.entries_from.new.self c.args.visitor.now c.hand_all.new.visitor n) (sym (rw c.as_slice-in-loop.ensures.value at c.in_ok-from.ensures.value))
+    subst (λ n. HandedTo (keeping_by (λ k. state g.S.Store k.conn)) g.V.Visitor.step (λ h. entries_of (pledge_in (get h.books c.args.book) c.args.number)) left c.args.self.now c.entries_from.new.self c.args.visitor.now c.hand_all.new.visitor n) {x = end} (sym (rw c.as_slice-in-loop.ensures.value at c.in_ok-from.ensures.value))
     (goes_by (keeping_by (λ k. state g.S.Store k.conn)) g.V.Visitor.step (λ h. entries_of (pledge_in (get h.books c.args.book) c.args.number)) left c.args.self.now c.loop.self c.entries_from.new.self c.args.visitor.now c.loop.visitor c.hand_all.new.visitor c.loop.from c.loop.invariant page end
     (reads_as {P = told} c.in_ok-page.ensures.reads (λ h one. one.goes_on ∙ ap (λ l. l ++ left end h) (map-id page))) (rw (c.as_slice.ensures.value, c.in-Go.is) at c.hand_all.ensures.hands))
 

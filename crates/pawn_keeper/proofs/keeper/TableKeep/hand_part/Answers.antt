@@ -44,6 +44,6 @@ loop-preserved g c =
     let page = c.in_ok-page.page in
     let told : Host → Type 0 = λ h. IsLinesPage c.args.part c.args.day c.loop.above (pledges_of (get h.books c.args.book)) page in
     let end = page_end (λ (l : Line). l.number) c.loop.above page in
-    subst (λ n. HandedTo (keeping_by (λ k. state g.S.Store k.conn)) g.V.Visitor.step (λ h. part_items c.args.part c.args.day (pledges_of (get h.books c.args.book))) (λ n h. items_past c.args.part c.args.day n (pledges_of (get h.books c.args.book))) c.args.self.now c.lines_above.new.self c.args.visitor.now c.hand_lines.new.visitor n) (sym (rw c.as_slice-in-loop.ensures.value at c.behind_lines-above.ensures.value))
+    subst (λ n. HandedTo (keeping_by (λ k. state g.S.Store k.conn)) g.V.Visitor.step (λ h. part_items c.args.part c.args.day (pledges_of (get h.books c.args.book))) (λ n h. items_past c.args.part c.args.day n (pledges_of (get h.books c.args.book))) c.args.self.now c.lines_above.new.self c.args.visitor.now c.hand_lines.new.visitor n) {x = end} (sym (rw c.as_slice-in-loop.ensures.value at c.behind_lines-above.ensures.value))
     (goes_by (keeping_by (λ k. state g.S.Store k.conn)) g.V.Visitor.step (λ h. part_items c.args.part c.args.day (pledges_of (get h.books c.args.book))) (λ n h. items_past c.args.part c.args.day n (pledges_of (get h.books c.args.book))) c.args.self.now c.loop.self c.lines_above.new.self c.args.visitor.now c.loop.visitor c.hand_lines.new.visitor c.loop.above c.loop.invariant (map (item_of c.args.part) page) end
     (reads_as {P = told} c.in_ok-page.ensures.reads (λ h one. one.goes_on)) (rw (c.as_slice.ensures.value, c.in-Go.is) at c.hand_lines.ensures.hands))
