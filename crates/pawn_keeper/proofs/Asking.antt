@@ -12,7 +12,7 @@ use Rattle.sqlite_value.specs.Order.{Row}
 use Rattle.pawn_book.specs.HostStep.{Host}
 use Rattle.pawn_book.specs.Keeping.{Reads}
 use Rattle.pawn_tables.specs.StandsFor.{StandsFor}
-use Rattle.pawn_tables.specs.Keeps.{IsWhole, Keeps, keeping_by}
+use Rattle.pawn_tables.specs.Keeps.{Keeps, keeping_by}
 
 -- ---- it keeps what it kept
 

@@ -8,7 +8,7 @@ use Rattle.pawn_book.specs.declared.visit.Flow.{Flow}
 use Rattle.pawn_book.specs.declared.visit.Flow.TheVariants.{Go, Stop}
 use Rattle.pawn_book.specs.HostStep.{Host}
 use Rattle.pawn_book.specs.Keeping.{Errs, Keeping, Reads}
-use Rattle.pawn_book.specs.Visits.{Front, Handed, HandsOver, IsShare, Visits, Whole, call_end}
+use Rattle.pawn_book.specs.Visits.{Handed, HandsOver, IsShare, Visits, Whole, call_end}
 use Rattle.pawn_book.proofs.Reading.{reads_as, reads_then}
 use Rattle.pawn_book.specs.Sheet.{windows, windows_below}
 use Rattle.pawn_book.proofs.SheetLemmas.{handed-append, windows_begin, windows_more}

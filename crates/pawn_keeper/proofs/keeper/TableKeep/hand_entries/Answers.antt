@@ -1,4 +1,4 @@
-use Rattle.std.proofs.Common.{rules, ◌≡◌, ◌++◌, ◌<◌, ℕ, List, Ok, Err, length, refl, sym, ap, subst, ◌∙◌, arith}
+use Rattle.std.proofs.Common.{rules, ◌≡◌, ◌++◌, ◌<◌, ℕ, List, Err, length, refl, sym, ap, subst, ◌∙◌, arith}
 use Rattle.std.proofs.lemmas.List.{map-id}
 use Rattle.std.proofs.lemmas.Bool.Decides.{nat_tests}
 use Rattle.std.specs.FinMap.{get}
@@ -21,7 +21,7 @@ loop-init g c = begins_at (keeping_by (λ k. state g.S.Store k.conn)) g.V.Visito
 
 pub returns-in_err-page : goal.returns-in_err-page
 returns-in_err-page g c = record {
-  hands = fails_at (keeping_by (λ k. state g.S.Store k.conn)) g.V.Visitor.step (λ h. entries_of (pledge_in (get h.books c.args.book) c.args.number)) (λ n h. entries_from n (entries_of (pledge_in (get h.books c.args.book) c.args.number))) c.args.self.now c.loop.self c.entries_from.new.self c.args.visitor.now c.loop.visitor c.loop.visitor c.loop.from c.loop.invariant (Err c.in_err-page.field-0.0) c.from_residual.result c.in_err-page.field-0.0 refl (search rules) c.in_err-page.ensures.reads c.in_err-page.ensures.errs;
+  hands = fails_at (keeping_by (λ k. state g.S.Store k.conn)) g.V.Visitor.step (λ h. entries_of (pledge_in (get h.books c.args.book) c.args.number)) (λ n h. entries_from n (entries_of (pledge_in (get h.books c.args.book) c.args.number))) c.args.self.now c.loop.self c.entries_from.new.self c.args.visitor.now c.loop.visitor c.loop.visitor c.loop.from c.loop.invariant {P = λ h. Unit {0}} (Err c.in_err-page.field-0.0) c.from_residual.result c.in_err-page.field-0.0 refl (search rules) c.in_err-page.ensures.reads c.in_err-page.ensures.errs;
 }
 
 pub returns-in-Stop : goal.returns-in-Stop

@@ -1,4 +1,4 @@
-use Rattle.std.proofs.Common.{rules, length, ◌<◌, ◌≡◌, ◌++◌, ℕ, List, map, Ok, Err, refl, sym, subst, arith}
+use Rattle.std.proofs.Common.{rules, length, ◌<◌, map, Err, refl, sym, subst, arith}
 use Rattle.std.proofs.lemmas.Bool.Decides.{nat_tests}
 use Rattle.std.specs.FinMap.{get}
 use Rattle.sqlite.specs.Held.{state}
@@ -15,7 +15,7 @@ use Rattle.pawn_keeper.proofs.keeper.TableKeep.hand_part.Goals as goal
 
 pub returns-in_err-page : goal.returns-in_err-page
 returns-in_err-page g c = record {
-  hands = fails_at (keeping_by (λ k. state g.S.Store k.conn)) g.V.Visitor.step (λ h. part_items c.args.part c.args.day (pledges_of (get h.books c.args.book))) (λ n h. items_past c.args.part c.args.day n (pledges_of (get h.books c.args.book))) c.args.self.now c.loop.self c.lines_above.new.self c.args.visitor.now c.loop.visitor c.loop.visitor c.loop.above c.loop.invariant (Err c.in_err-page.field-0.0) c.from_residual.result c.in_err-page.field-0.0 refl (search rules) c.in_err-page.ensures.reads c.in_err-page.ensures.errs;
+  hands = fails_at (keeping_by (λ k. state g.S.Store k.conn)) g.V.Visitor.step (λ h. part_items c.args.part c.args.day (pledges_of (get h.books c.args.book))) (λ n h. items_past c.args.part c.args.day n (pledges_of (get h.books c.args.book))) c.args.self.now c.loop.self c.lines_above.new.self c.args.visitor.now c.loop.visitor c.loop.visitor c.loop.above c.loop.invariant {P = λ h. Unit {0}} (Err c.in_err-page.field-0.0) c.from_residual.result c.in_err-page.field-0.0 refl (search rules) c.in_err-page.ensures.reads c.in_err-page.ensures.errs;
 }
 
 pub returns-in-Stop : goal.returns-in-Stop

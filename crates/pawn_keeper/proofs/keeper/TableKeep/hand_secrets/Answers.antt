@@ -16,7 +16,7 @@ use Rattle.pawn_keeper.proofs.keeper.TableKeep.hand_secrets.Goals as goal
 
 pub returns-in_err-page : goal.returns-in_err-page
 returns-in_err-page g c = record {
-  hands = fails_at (keeping_by (λ k. state g.S.Store k.conn)) g.V.Visitor.step (λ h. secrets_of (pledge_in (get h.books c.args.book) c.args.number)) (λ n h. drop n (secrets_of (pledge_in (get h.books c.args.book) c.args.number))) c.args.self.now c.loop-turn.self c.secrets_behind.new.self c.args.visitor.now c.loop-turn.visitor c.loop-turn.visitor (c.loop-turn.turn * 64) c.loop-turn.invariant (Err c.in_err-page.field-0.0) c.from_residual.result c.in_err-page.field-0.0 refl (search rules) c.in_err-page.ensures.reads c.in_err-page.ensures.errs;
+  hands = fails_at (keeping_by (λ k. state g.S.Store k.conn)) g.V.Visitor.step (λ h. secrets_of (pledge_in (get h.books c.args.book) c.args.number)) (λ n h. drop n (secrets_of (pledge_in (get h.books c.args.book) c.args.number))) c.args.self.now c.loop-turn.self c.secrets_behind.new.self c.args.visitor.now c.loop-turn.visitor c.loop-turn.visitor (c.loop-turn.turn * 64) c.loop-turn.invariant {P = λ h. Unit {0}} (Err c.in_err-page.field-0.0) c.from_residual.result c.in_err-page.field-0.0 refl (search rules) c.in_err-page.ensures.reads c.in_err-page.ensures.errs;
 }
 
 pub returns-in-Stop : goal.returns-in-Stop

@@ -1,7 +1,7 @@
-use Rattle.std.proofs.Common.{rules, ◌≡◌, Ok, Err, refl, sym, ap, ◌∙◌, arith}
+use Rattle.std.proofs.Common.{rules, Ok, Err, refl, arith}
 use Rattle.std.specs.FinMap.{get}
 use Rattle.sqlite.specs.Held.{state}
-use Rattle.pawn_book.specs.declared.visit.Flow.TheVariants.{Go, Stop}
+use Rattle.pawn_book.specs.declared.visit.Flow.TheVariants.{Stop}
 use Rattle.pawn_book.specs.Keeping.{pledges_of}
 use Rattle.pawn_tables.specs.Keeps.{keeping_by}
 use Rattle.pawn_keeper.proofs.Handings.{windows_end, windows_go}

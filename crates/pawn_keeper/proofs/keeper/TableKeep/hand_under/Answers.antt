@@ -1,4 +1,4 @@
-use Rattle.std.proofs.Common.{◌≡◌, ◌∷◌, [], List, Ok, refl, ap}
+use Rattle.std.proofs.Common.{◌∷◌, [], List, Ok, refl, ap}
 use Rattle.std.specs.FinMap.{get}
 use Rattle.sqlite.specs.Held.{state}
 use Rattle.pawn_book.specs.declared.sheet.SheetItem.{SheetItem}

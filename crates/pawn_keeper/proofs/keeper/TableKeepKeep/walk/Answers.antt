@@ -1,6 +1,8 @@
 use Rattle.std.proofs.Common.{rules, ◌≡◌, ◌+◌, Some, None, Err, sym, ap, subst, ◌∙◌}
 use Rattle.std.specs.FinMap.{get}
 use Rattle.sqlite.specs.Held.{state}
+use Rattle.pawn_book.specs.BookStep.{pledge_in}
+use Rattle.pawn_book.specs.HostStep.{Host}
 use Rattle.pawn_book.specs.Keeping.{pledges_of}
 use Rattle.pawn_book.specs.Visits.{call_end}
 use Rattle.pawn_book.proofs.Reading.{reads_as}
@@ -12,28 +14,31 @@ pub returns-in_err-pledge-clause-reads : goal.returns-in_err-pledge-clause-reads
 returns-in_err-pledge-clause-reads g c =
     let is : c.from_residual.result ≡ Err c.in_err-pledge.field-0.0 = search rules in
     subst (λ end. Goes (keeping_by (λ k. state g.S.Store k.conn)) g.V.Visitor.step (λ h. pledges_of (get h.books c.args.book)) c.args.self.now c.pledge.new.self c.args.visitor.now c.loop-place.visitor end) (sym (ap call_end is))
-    (failed (keeping_by (λ k. state g.S.Store k.conn)) g.V.Visitor.step (λ h. pledges_of (get h.books c.args.book)) _ _ _ _ _ c.loop-place.visitor c.loop-place.place c.loop-place.invariant c.in_err-pledge.ensures.reads)
+    (failed (keeping_by (λ k. state g.S.Store k.conn)) g.V.Visitor.step (λ h. pledges_of (get h.books c.args.book)) _ _ _ _ _ c.loop-place.visitor c.loop-place.place c.loop-place.invariant {P = λ h. Unit {0}} c.in_err-pledge.ensures.reads)
 
 pub returns-in_default-2-clause-reads : goal.returns-in_default-2-clause-reads
 returns-in_default-2-clause-reads g c =
+    let read : Host → Type 0 = λ h. c.in_ok-pledge.field-0 ≡ pledge_in (get h.books c.args.book) c.in-Some.number in
     let at : c.in-Some.number ≡ c.loop-place.place + 1 = search rules in
     let none : c.in_ok-pledge.field-0 ≡ None = search rules in
     ended (keeping_by (λ k. state g.S.Store k.conn)) g.V.Visitor.step (λ h. pledges_of (get h.books c.args.book)) _ _ _ _ _ c.loop-place.visitor c.loop-place.place c.loop-place.invariant
-    (reads_as c.in_ok-pledge.ensures.reads (λ h told. sym none ∙ told ∙ pledge_at (get h.books c.args.book) c.loop-place.place c.in-Some.number at))
+    (reads_as {P = read} c.in_ok-pledge.ensures.reads (λ h told. sym none ∙ told ∙ pledge_at (get h.books c.args.book) c.loop-place.place c.in-Some.number at))
 
 pub returns-in-Stop-clause-reads : goal.returns-in-Stop-clause-reads
 returns-in-Stop-clause-reads g c =
+    let read : Host → Type 0 = λ h. c.in_ok-pledge.field-0 ≡ pledge_in (get h.books c.args.book) c.in-Some.number in
     let at : c.in-Some.number ≡ c.loop-place.place + 1 = search rules in
     let some : c.in_ok-pledge.field-0 ≡ Some c.in-Some-2.pledge = search rules in
     stopped (keeping_by (λ k. state g.S.Store k.conn)) g.V.Visitor.step (λ h. pledges_of (get h.books c.args.book)) _ _ _ _ _ c.visit.new.self c.loop-place.place c.loop-place.invariant c.in-Some-2.pledge
-    (reads_as c.in_ok-pledge.ensures.reads (λ h told. sym some ∙ told ∙ pledge_at (get h.books c.args.book) c.loop-place.place c.in-Some.number at)) (rw c.in-Stop.is at c.visit.ensures.steps)
+    (reads_as {P = read} c.in_ok-pledge.ensures.reads (λ h told. sym some ∙ told ∙ pledge_at (get h.books c.args.book) c.loop-place.place c.in-Some.number at)) (rw c.in-Stop.is at c.visit.ensures.steps)
 
 pub loop-place-preserved : goal.loop-place-preserved
 loop-place-preserved g c =
+    let read : Host → Type 0 = λ h. c.in_ok-pledge.field-0 ≡ pledge_in (get h.books c.args.book) c.in-Some.number in
     let at : c.in-Some.number ≡ c.loop-place.place + 1 = search rules in
     let some : c.in_ok-pledge.field-0 ≡ Some c.in-Some-2.pledge = search rules in
     more (keeping_by (λ k. state g.S.Store k.conn)) g.V.Visitor.step (λ h. pledges_of (get h.books c.args.book)) _ _ _ _ _ c.visit.new.self c.loop-place.place c.loop-place.invariant c.in-Some-2.pledge
-    (reads_as c.in_ok-pledge.ensures.reads (λ h told. sym some ∙ told ∙ pledge_at (get h.books c.args.book) c.loop-place.place c.in-Some.number at)) (rw c.in-Go.is at c.visit.ensures.steps)
+    (reads_as {P = read} c.in_ok-pledge.ensures.reads (λ h told. sym some ∙ told ∙ pledge_at (get h.books c.args.book) c.loop-place.place c.in-Some.number at)) (rw c.in-Go.is at c.visit.ensures.steps)
 
 pub returns-clause-reads : goal.returns-clause-reads
 returns-clause-reads g c =
