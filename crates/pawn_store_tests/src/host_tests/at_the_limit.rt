@@ -9,6 +9,7 @@ use std::process::Abort;
 use std::test::Fail;
 
 // Who asks, by the fields that say so; what is asked; and the body of the reply.
+#[derive(Clone, Copy)]
 struct Line {
     by: &'static str,
     target: &'static str,
