@@ -12,7 +12,6 @@ import signal
 import socket
 import statistics
 import subprocess
-import sys
 import tempfile
 import time
 
@@ -567,4 +566,4 @@ if __name__ == "__main__":
     if provide(PACKAGES):
         not_tried("all of it", f"there is no {' and no '.join(missing(PACKAGES))}")
         main()
-    main(*(test for test in TESTS if not sys.argv[1:] or test.__name__ in sys.argv[1:]))
+    main(*TESTS)

@@ -11,18 +11,12 @@ import threading
 import time
 
 from service import BROKER, OPERATOR, PROGRAM, Failed, Server, by_python, check, copied, expect, main, opened, request, tells
-from stores import TO_FIRST, TO_SECOND, answer, bent_back, by, ends, fault, keyed, moved, opening, plain, shown, statement, stays, strange, with_its_log
+from stores import TO_FIRST, TO_SECOND, answer, bent_back, by, ends, fault, keyed, migrated, moved, opening, plain, shown, statement, stays, strange, with_its_log
 
 DAMAGED = fault(513, "Damaged")
 
 # At most so many kills of a migration, and so many seconds of them.
 KILLS, SPAN = 24, 40
-
-
-def migrate(path):
-    """How a migration ends, and what it says."""
-    ran = subprocess.run([PROGRAM, "migrate", path], capture_output=True, timeout=300)
-    return ran.returncode, ran.stdout.decode(), ran.stderr.decode()
 
 
 def schema_of(path):
@@ -97,7 +91,7 @@ def a_pledge_gets_what_it_owed_on_the_day_of_its_last_entry():
         before = answer(path, statement(1), statement(2))
         expect("the statement of pledge 1", before[0][1].splitlines()[6:9], ["Principal 98.00", "Charges 7.84", "Owing 105.84"])
         old = bent_back(path, os.path.join(room, "old"), *TO_FIRST)
-        expect("a migration", migrate(old), moved(1))
+        expect("a migration", migrated(old), moved(1))
         with opened(old) as tables:
             rows = tables.execute("SELECT book, number, day, principal, charges FROM totals ORDER BY number").fetchall()
         expect("the totals", rows, [(7, 1, 19753, 9800, 100000), (7, 2, 19723, 10000, 0)])
@@ -117,8 +111,8 @@ def every_reply_is_as_it_was():
             if number < 3:
                 expect(f"a check, schema {number}", check(old), (1, "", "fault 501 OldSchema\n"))
                 stays(old, f"schema {number}", lambda: expect("an answer", ends("answer", old, "2024-03-01", "0" * 64, OPERATOR), fault(501, "OldSchema")))
-            expect(f"a migration, schema {number}", migrate(old), moved(number))
-            expect(f"again, schema {number}", migrate(old), moved(3))
+            expect(f"a migration, schema {number}", migrated(old), moved(number))
+            expect(f"again, schema {number}", migrated(old), moved(3))
             expect(f"the tables, schema {number}", content(old), tables)
             expect(f"a check, schema {number}", check(old), told)
             expect(f"the replies, schema {number}", answer(old, *asked), before)
@@ -157,7 +151,7 @@ def thousands_of_pledges_are_moved():
         for number, statements in [(1, TO_FIRST), (2, TO_SECOND)]:
             old = bent_back(path, os.path.join(room, f"old{number}"), *statements)
             begun = time.monotonic()
-            expect(f"a migration, schema {number}", migrate(old), moved(number))
+            expect(f"a migration, schema {number}", migrated(old), moved(number))
             print(f"        schema {number}: 12,001 pledges in {time.monotonic() - begun:.1f} s")
             expect(f"the tables, schema {number}", content(old) == tables, True)
             expect(f"a check, schema {number}", check(old), told)
@@ -224,7 +218,7 @@ def a_debt_that_cannot_be_is_refused_and_stays():
                 bent = bent_back(old, os.path.join(room, "bent"))
                 with opened(bent) as tables:
                     bend(tables)
-                expect(step, migrate(bent), moved(number))
+                expect(step, migrated(bent), moved(number))
                 expect(f"a check, {step}", check(bent), (1, "", "fault 513 Damaged\n"))
 
 
@@ -291,7 +285,7 @@ def a_kill_leaves_the_old_tables_or_the_new():
         before, told, tables = answer(path, *asked), check(path), content(path)
         old = bent_back(path, os.path.join(room, "old"), *TO_FIRST)
         first, begun = content(old), time.monotonic()
-        expect("a migration", migrate(bent_back(old, os.path.join(room, "whole"))), moved(1))
+        expect("a migration", migrated(bent_back(old, os.path.join(room, "whole"))), moved(1))
         span, begun = time.monotonic() - begun, time.monotonic()
         for kill in range(KILLS):
             if time.monotonic() - begun > SPAN and kill >= 8:
@@ -308,7 +302,7 @@ def a_kill_leaves_the_old_tables_or_the_new():
                 expect(f"kill {kill}, schema {number}", content(cut) == (first if number == 1 else tables), True)
                 if said[0]:
                     expect(f"kill {kill}, once it was told", (said[0], number), (b"schema 1 to 3\n", 3))
-                expect(f"kill {kill}, again", migrate(cut), moved(number))
+                expect(f"kill {kill}, again", migrated(cut), moved(number))
                 expect(f"kill {kill}, its check", check(cut), told)
                 expect(f"kill {kill}, its replies", answer(cut, *asked) == before, True)
         print(f"        {sum(seen.values())} kills, {seen[1]} of them left the old tables")

@@ -6,7 +6,6 @@ import os
 import re
 import signal
 import subprocess
-import sys
 
 from browser import Browser, Pages, missing, provide, wait_for
 from service import BROKER, OPERATOR, TOP, Failed, expect, main, six_months_after, today
@@ -580,6 +579,5 @@ if provide():
     main(*STATIC)
 signal.signal(signal.SIGALRM, too_long)
 signal.alarm(BOUND)
-chosen = [test for test in STATIC + IN_A_BROWSER if not sys.argv[1:] or test.__name__ in sys.argv[1:]]
 with Browser() as browser:
-    main(*chosen)
+    main(*STATIC, *IN_A_BROWSER)

@@ -12,7 +12,7 @@ import subprocess
 import tempfile
 
 from service import BROKER, OPERATOR, PROGRAM, SEED, TOP, Failed, check, expect, request
-from stores import TO_FIRST, TO_SECOND, bent_back, fill, moved
+from stores import TO_FIRST, TO_SECOND, bent_back, fill, migrated, moved
 
 DAY = "2024-01-31"
 REFUSED = (b'{"code":491,"name":"Memory"}', b'{"code":492,"name":"Store"}')
@@ -172,12 +172,6 @@ def each_refused(story, kind, calls, ends, step=1, first=1, **how):
             if why:
                 raise Failed(why)
     return whole
-
-
-def migrated(path, environment=None):
-    """How a migration ends, and what it says."""
-    ran = subprocess.run([PROGRAM, "migrate", path], stdin=subprocess.DEVNULL, capture_output=True, timeout=60, env=environment)
-    return ran.returncode, ran.stdout.decode(), ran.stderr.decode()
 
 
 def each_refused_in_a_migration(calls, ends, step=1, first=lambda: 1, **how):

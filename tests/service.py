@@ -209,9 +209,19 @@ def six_months_after(day):
             pass
 
 
+def named(tests):
+    """Those of these functions that the command line names, or all where it names none. A number is no name."""
+    names = [word for word in sys.argv[1:] if not word.isdigit()]
+    of_name = {test.__name__: test for test in tests}
+    for name in names:
+        if tests and name not in of_name:
+            sys.exit(f"{sys.argv[0]}: there is no test {name}; there are {' '.join(of_name)}")
+    return [test for test in tests if not names or test.__name__ in names]
+
+
 def main(*tests):
-    """Runs these functions in turn; the last line counts them."""
-    failed = 0
+    """Runs these functions in turn, or those that the command line names; the last line counts them."""
+    tests, failed = named(tests), 0
     for test in tests:
         begun = time.monotonic()
         name = test.__name__.replace("_", " ")

@@ -7,7 +7,6 @@ import os
 import shutil
 import signal
 import subprocess
-import sys
 import tempfile
 import threading
 import time
@@ -341,4 +340,4 @@ TESTS = (copies_that_are_made_while_it_runs, a_snapshot_of_a_file_system, one_sh
 if provide(PACKAGES):
     not_tried("all of it", f"there is no {' and no '.join(missing(PACKAGES))}")
     main()
-main(*(test for test in TESTS if not sys.argv[1:] or test.__name__ in sys.argv[1:]))
+main(*TESTS)

@@ -27,7 +27,14 @@ def bent_back(path, old, *statements):
     return old
 
 
+def migrated(path, environment=None):
+    """How a migration ends, and what it says."""
+    ran = subprocess.run([PROGRAM, "migrate", path], stdin=subprocess.DEVNULL, capture_output=True, timeout=300, env=environment)
+    return ran.returncode, ran.stdout.decode(), ran.stderr.decode()
+
+
 def moved(before):
+    """The same of a store of a schema."""
     return 0, f"schema {before} to 3\n", ""
 
 

@@ -14,7 +14,6 @@ import os
 import re
 import sqlite3
 import subprocess
-import sys
 import tempfile
 from typing import NamedTuple
 
@@ -141,7 +140,7 @@ def playing(name):
                 limited(path, ROWS[name])
             plays(path, turns_in(name))
             expect("its check", check(path)[0], 0)
-    test.__name__ = f"the_turns_of_{name}"
+    test.__name__ = name
     return test
 
 
@@ -208,7 +207,4 @@ def strangers_change_no_reply_to_a_bearer():
     expect("the replies among strangers", among, alone)
 
 
-NAMED = sys.argv[1:]
-if set(NAMED) - set(FILES):
-    sys.exit(f"usage: tests/turns.py [NAME..], where NAME is one of {', '.join(FILES)}")
-main(*map(playing, NAMED or FILES), *(() if NAMED else (a_day_in_memory_is_as_over_a_file, strangers_change_no_reply_to_a_bearer)))
+main(*map(playing, FILES), a_day_in_memory_is_as_over_a_file, strangers_change_no_reply_to_a_bearer)

@@ -81,6 +81,24 @@ fn tells_each(rt: &impl Abort, answers: &[Answer]) {
     }
 }
 
+// The turns as items of a run.
+fn items(rt: &impl Abort, alloc: Global) -> Result<Vec<(Stamp, Vec<u8>)>, Fail> {
+    let mut items = Vec::new(alloc);
+    for turn in TURNS {
+        items.push((stamp(rt, turn.word), Vec::from_slice(alloc, turn.request)?))?;
+    }
+    Ok(items)
+}
+
+// What a run over a list answers.
+fn run_over_list(
+    rt: &impl Abort,
+    alloc: Global,
+    items: &[(Stamp, Vec<u8>)],
+) -> Result<Vec<Answer>, Fail> {
+    Ok(service_of(rt, alloc, ROWS).run(items)?)
+}
+
 // What a run over the tables of a new store in memory answers.
 fn run_in_memory(
     rt: &impl Abort,
@@ -91,18 +109,17 @@ fn run_in_memory(
     Ok(run_over_tables(&mut service_over(rt, alloc, keep), items)?)
 }
 
+// Compares what both keepers answer with the replies to the turns.
+fn both_tell(rt: &impl Abort, alloc: Global, items: &[(Stamp, Vec<u8>)]) -> Result<(), Fail> {
+    tells_each(rt, run_over_list(rt, alloc, items)?.as_slice());
+    tells_each(rt, run_in_memory(rt, alloc, items)?.as_slice());
+    Ok(())
+}
+
 #[test]
 fn the_turns_are_answered_over_lists_and_over_tables(rt: HostRuntime) -> Result<(), Fail> {
-    let alloc = rt.alloc();
-    let mut items = Vec::new(alloc);
-    for turn in TURNS {
-        items.push((stamp(&rt, turn.word), Vec::from_slice(alloc, turn.request)?))?;
-    }
-    let answers = service_of(&rt, alloc, ROWS).run(items.as_slice())?;
-    tells_each(&rt, answers.as_slice());
-    let answers = run_in_memory(&rt, alloc, items.as_slice())?;
-    tells_each(&rt, answers.as_slice());
-    Ok(())
+    let items = items(&rt, rt.alloc())?;
+    both_tell(&rt, rt.alloc(), items.as_slice())
 }
 
 // How the ends of a stream behave: whether a call moves one byte alone, and at which call each fails, if at any.

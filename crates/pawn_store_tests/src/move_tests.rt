@@ -4,6 +4,7 @@ use crate::disks::{Disks, connected, crashed, disks, store_on};
 use pawn_check::{CheckFault, Counts, check};
 use pawn_keeper::TableKeep;
 use pawn_move::{MoveFault, migrate, schema_of};
+use sqlite::{Alter, Connection};
 use std::alloc::Global;
 use std::process::Abort;
 use std::test::Fail;
@@ -15,28 +16,52 @@ const FIRST: &str =
 // The numbers of the schemas from which and to which a store is moved.
 type Moved = Result<(u32, u32), MoveFault>;
 
-// How a migration of a store of the first schema ends on the disks, and what a stop then leaves of them. None where they stop
-// before it.
-fn stopped(alloc: Global, disks: Disks) -> Option<(Moved, Disks)> {
-    let mut conn = store_on(alloc, disks)?;
+// How a migration of a store ends that is made one of the first schema. None where it stops before.
+fn moved_from_first<S: Alter>(alloc: Global, conn: &mut Connection<S>) -> Option<Moved> {
     conn.execute_batch(FIRST).ok()?;
     if !conn.is_autocommit() {
         return None;
     }
-    let end = migrate(alloc, &mut conn);
-    Some((end, crashed(conn.into_store().close())))
+    Some(migrate(alloc, conn))
+}
+
+// How a migration of a store of the first schema ends on the disks, and what a stop then leaves of them. None where they stop
+// before it.
+fn stopped(alloc: Global, disks: Disks) -> Option<(Moved, Disks)> {
+    let mut conn = store_on(alloc, disks)?;
+    let end = moved_from_first(alloc, &mut conn);
+    let left = crashed(conn.into_store().close());
+    match end {
+        Some(end) => Some((end, left)),
+        None => None,
+    }
+}
+
+// The number of a store's schema, and how it is moved then.
+fn moved_again<S: Alter>(alloc: Global, conn: &mut Connection<S>) -> Option<(u32, Moved)> {
+    if !conn.is_autocommit() {
+        return None;
+    }
+    let number = schema_of(conn).ok()?;
+    Some((number, migrate(alloc, conn)))
+}
+
+// How a store is judged.
+fn judged<S: Alter + Drop>(
+    alloc: Global,
+    conn: Connection<S>,
+) -> Option<Result<Counts, CheckFault>> {
+    let mut keep = TableKeep::over(alloc, conn).ok()?;
+    Some(check(&mut keep))
 }
 
 // The number of the schema on the disks, how they are moved then, and how they are judged.
 fn found(alloc: Global, disks: Disks) -> Option<(u32, Moved, Result<Counts, CheckFault>)> {
     let mut conn = connected(alloc, disks)?;
-    if !conn.is_autocommit() {
-        return None;
-    }
-    let number = schema_of(&mut conn).ok()?;
-    let end = migrate(alloc, &mut conn);
-    let mut keep = TableKeep::over(alloc, conn).ok()?;
-    Some((number, end, check(&mut keep)))
+    let moved = moved_again(alloc, &mut conn);
+    let counts = judged(alloc, conn)?;
+    let (number, end) = moved?;
+    Some((number, end, counts))
 }
 
 // Lets the log stop at that call. The old tables are there then, or the new ones, and they are moved and judged. Tells how the

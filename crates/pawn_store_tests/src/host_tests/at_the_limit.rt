@@ -9,6 +9,7 @@ use std::process::Abort;
 use std::test::Fail;
 
 // Who asks, by the fields that say so; what is asked; and the body of the reply.
+#[derive(Clone, Copy)]
 struct Line {
     by: &'static str,
     target: &'static str,
@@ -309,12 +310,15 @@ fn plays(
     Ok(())
 }
 
+// Fills a service that has room for twelve rows, and asks it for all else.
+fn fills_up(rt: &impl Abort, service: &mut Service<ListKeep>, alloc: Global) -> Result<(), Fail> {
+    plays(rt, service, alloc, "2024-01-31", &FILLING, DONE)?;
+    plays(rt, service, alloc, "2024-01-31", &ADDING, REFUSED)?;
+    plays(rt, service, alloc, "2024-01-31", &OTHERS, DONE)?;
+    plays(rt, service, alloc, "2024-08-01", &LATER, DONE)
+}
+
 #[test]
 fn what_adds_a_row_is_refused_and_all_else_is_answered(rt: HostRuntime) -> Result<(), Fail> {
-    let alloc = rt.alloc();
-    let mut service = service_of(&rt, alloc, 12);
-    plays(&rt, &mut service, alloc, "2024-01-31", &FILLING, DONE)?;
-    plays(&rt, &mut service, alloc, "2024-01-31", &ADDING, REFUSED)?;
-    plays(&rt, &mut service, alloc, "2024-01-31", &OTHERS, DONE)?;
-    plays(&rt, &mut service, alloc, "2024-08-01", &LATER, DONE)
+    fills_up(&rt, &mut service_of(&rt, rt.alloc(), 12), rt.alloc())
 }

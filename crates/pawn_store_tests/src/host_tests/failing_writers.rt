@@ -114,18 +114,22 @@ fn stops_at<K: Keep>(
     Ok(())
 }
 
-#[test]
-fn no_failed_write_is_tried_again(rt: HostRuntime) -> Result<(), Fail> {
-    let alloc = rt.alloc();
-    let mut service = service_of(&rt, alloc, ROWS);
-    takes_ring(&rt, &mut service);
-    let calls = calls_of_all(&rt, alloc, &mut service.keep)?;
+// Lets each call fail in turn, in both ways.
+fn stops_at_each<K: Keep>(rt: &impl Abort, alloc: Global, keep: &mut K) -> Result<(), Fail> {
+    let calls = calls_of_all(rt, alloc, keep)?;
     assert!(rt; calls > 20);
     for at in 1..=calls {
-        stops_at(&rt, alloc, &mut service.keep, at, Failure::Error)?;
-        stops_at(&rt, alloc, &mut service.keep, at, Failure::Nothing)?;
+        stops_at(rt, alloc, keep, at, Failure::Error)?;
+        stops_at(rt, alloc, keep, at, Failure::Nothing)?;
     }
     Ok(())
+}
+
+#[test]
+fn no_failed_write_is_tried_again(rt: HostRuntime) -> Result<(), Fail> {
+    let mut service = service_of(&rt, rt.alloc(), ROWS);
+    takes_ring(&rt, &mut service);
+    stops_at_each(&rt, rt.alloc(), &mut service.keep)
 }
 
 // Lets a write fail in the middle of a statement. The same statement is written then, and a change is made.
