@@ -22,7 +22,7 @@ use Rattle.pawn_book.specs.Sound.{IsUnsoundAt}
 use Rattle.pawn_tables.specs.Schema.{keep_schema, entries, secrets, extensions}
 use Rattle.pawn_tables.specs.Rows.{number, under, at_most_one, placed_from, entry_cells, entries_listed, secret_cells, secrets_listed, extension_cells, extensions_listed}
 use Rattle.pawn_tables.specs.At.{is_at, is_from, at_pledge}
-use Rattle.pawn_tables.specs.Entries.{RiseFrom, with_seq, entries_from}
+use Rattle.pawn_tables.specs.Entries.{IsEntryTold, RiseFrom, with_seq, entries_from}
 use Rattle.pawn_tables.specs.Pages.{most_rows}
 use Rattle.pawn_tables.specs.Places.{at_place}
 use Rattle.pawn_tables.specs.StandsFor.{StandsFor, of_pledges, AreStorable}
@@ -205,11 +205,11 @@ module _ (old new : State) (h : Host) (b n s : ℕ) (rows : List Row) (st : Stan
       shows (Some p) = shown_placed (λ place e. under b p.agreement.number (extension_cells place e)) extension_cells (λ v. column v 2 ∷ column v 3 ∷ column v 4 ∷ []) (λ place e. refl) s p.extensions
 
 module _ (h : Host) (storable : AreStorable h) (b n s : ℕ) where
-  pub entry_unsound : (IfSome (with_seq (entries_of (pledge_in (get h.books b) n)) s) (λ e. IsDayNumber e.day) → ⊥) → IsUnsoundAt b h
-  entry_unsound bad = entries_unsound h storable b n (λ all. bad (found_each (λ e. IsDayNumber e.day) (λ (e : Entry). e.seq == s) _ all))
+  pub entry_unsound : (IfSome (with_seq (entries_of (pledge_in (get h.books b) n)) s) IsEntryTold → ⊥) → IsUnsoundAt b h
+  entry_unsound bad = entries_unsound h storable b n (λ all. bad (found_each IsEntryTold (λ (e : Entry). e.seq == s) _ all))
 
-  pub entries_page_unsound : (Each (λ e. IsDayNumber e.day) (take most_rows (entries_from s (entries_of (pledge_in (get h.books b) n)))) → ⊥) → IsUnsoundAt b h
-  entries_page_unsound bad = entries_unsound h storable b n (λ all. bad (take_each (λ (e : Entry). IsDayNumber e.day) most_rows _ (filter_each (λ (e : Entry). IsDayNumber e.day) (λ (e : Entry). nat_le s e.seq) _ all)))
+  pub entries_page_unsound : (Each IsEntryTold (take most_rows (entries_from s (entries_of (pledge_in (get h.books b) n)))) → ⊥) → IsUnsoundAt b h
+  entries_page_unsound bad = entries_unsound h storable b n (λ all. bad (take_each IsEntryTold most_rows _ (filter_each IsEntryTold (λ (e : Entry). nat_le s e.seq) _ all)))
 
   pub secret_unsound : (IfSome (at_place (secrets_of (pledge_in (get h.books b) n)) s) (λ i. IsDayNumber i.day) → ⊥) → IsUnsoundAt b h
   secret_unsound bad = secrets_unsound h storable b n (λ all. bad (at_each (λ i. IsDayNumber i.day) _ s all))

@@ -211,12 +211,9 @@ unfolding understood everything
 entry_count_is = (refl, refl, (refl, refl))
 
 abbrev pub last_secret_text : List ℕ
-last_secret_text = codes "SELECT place, secret FROM secrets WHERE book = ?1 AND number = ?2 ORDER BY place DESC LIMIT 1"
+last_secret_text = codes "SELECT place, day, sort, secret FROM secrets WHERE book = ?1 AND number = ?2 ORDER BY place DESC LIMIT 1"
 
-abbrev pub last_secret_shows : List Term
-last_secret_shows = col 1 3 ∷ col 1 6 ∷ []
-
-pub last_secret_is : Asks keep_schema last_secret_text (first_of_table 8 of_pledge last_secret_shows (by_column_down 3)) (codes "place" ∷ codes "secret" ∷ [])
+pub last_secret_is : Asks keep_schema last_secret_text (first_of_table 8 of_pledge secrets_shows (by_column_down 3)) (codes "place" ∷ codes "day" ∷ codes "sort" ∷ codes "secret" ∷ [])
 unfolding understood everything
 last_secret_is = (refl, refl, (refl, refl))
 

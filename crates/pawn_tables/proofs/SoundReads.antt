@@ -1,22 +1,30 @@
 -- What is kept of a sound host can be read of its rows.
-use Rattle.std.proofs.Common.{◌≡◌, ℕ, zero, suc, ◌-◌, ◌≤◌, List, [], ◌∷◌, slice_get, Option, Some, None, Result, Ok, Err, refl, sym, subst, arith, length, option_map}
-use Rattle.std.specs.Prelude.{IfSome}
+use Rattle.std.proofs.Common.{◌≡◌, ℕ, zero, suc, ◌-◌, ◌≤◌, List, [], ◌∷◌, slice_get, Option, Some, None, Result, Ok, Err, refl, sym, subst, arith, length, option_map, ◌++◌, IsOk, false}
+use Rattle.std.specs.Prelude.{IfSome, IsTrue, is_some}
 use Rattle.std.specs.FinMap.{get}
+use Rattle.std.proofs.lemmas.Bool.Decides.{nat_tests}
 use Rattle.pawn_terms.specs.Calendar.{IsDayNumber, IsStampDay, later_of, six_months}
 use Rattle.pawn_terms.specs.Limits.{first_day, last_stamp_day}
 use Rattle.pawn_terms.specs.Terms.{IsChecked}
 use Rattle.pawn_terms.specs.declared.terms.Rates.{Rates}
 use Rattle.pawn_terms.specs.Order.{DoNotFall, last_by}
-use Rattle.pawn_debt.specs.Due.{last_of}
+use Rattle.pawn_debt.specs.declared.entry.Entry.{Entry}
+use Rattle.pawn_debt.specs.declared.entry.Sort.{Sort}
+use Rattle.pawn_debt.specs.declared.entry.Sort.TheVariants.{Draw, Repay}
+use Rattle.pawn_debt.specs.Answers.{draw_rows, is_bad_amount, repay_rows, with_entry}
+use Rattle.pawn_debt.specs.Due.{DebtValue, last_of}
+use Rattle.pawn_debt.specs.Replay.{AreAccepted, sort_answer}
 use Rattle.pawn_terms.proofs.CalendarLemmas.{page_date}
 use Rattle.pawn_terms.proofs.OrderLemmas.{last_by-le}
+use Rattle.pawn_terms.proofs.RefusalLemmas.{first_of-is_ok}
 use Rattle.pawn_terms.proofs.SixMonths.{six_months_is}
 use Rattle.pawn_pledge.specs.declared.record.Extension.{Extension}
+use Rattle.pawn_pledge.specs.declared.record.Issued.{Issued}
 use Rattle.pawn_pledge.specs.declared.record.Booking.{Booking}
 use Rattle.pawn_pledge.specs.declared.record.Closing.{Closing}
 use Rattle.pawn_pledge.specs.declared.record.Closing.TheVariants.{Open, Redeemed, Sold}
-use Rattle.pawn_pledge.specs.Pledge.{PledgeValue, end_of, last_element, last_until}
-use Rattle.pawn_pledge.specs.Replayable.{Each, AreExtended, IsBooked, IsClosed, IsStanding}
+use Rattle.pawn_pledge.specs.Pledge.{PledgeValue, debt_of, end_of, last_element, last_until}
+use Rattle.pawn_pledge.specs.Replayable.{Each, AreExtended, AreIssued, IsBooked, IsClosed, IsStanding}
 use Rattle.pawn_pledge.proofs.Briefs.{brief_is_within}
 use Rattle.pawn_pledge.proofs.Pushes.{DoNotFall-each}
 use Rattle.pawn_book.specs.BookStep.{BookValue, pledge_from, pledge_in}
@@ -29,10 +37,12 @@ use Rattle.pawn_book.specs.declared.fault.KeepError.{KeepError}
 use Rattle.pawn_book.specs.declared.fault.KeepError.TheVariants as Keeper
 use Rattle.pawn_book.specs.declared.fault.StoreFault.TheVariants.{NoRecord, Database}
 use Rattle.pawn_book.proofs.Sounds.{each_at}
+use Rattle.pawn_tables.specs.Entries.{IsAmount, IsEntryTold}
 use Rattle.pawn_tables.specs.Rows.{closed_day}
 use Rattle.pawn_tables.specs.Told.{IsBriefTold, IsCreditTold, IsRowTold, booking_of, totals_in}
 use Rattle.pawn_tables.specs.StandsFor.{AreStorable}
 use Rattle.pawn_tables.specs.Finding.{Finds, IsRead}
+use Rattle.pawn_tables.proofs.PageLemmas.{last_some}
 
 -- ---- answers
 
@@ -106,14 +116,32 @@ days_extended day ends (e ∷ es) first extended named =
       days_extended e.day e.until es (omega (arith, first, a)) extended.3 named.1,
     )
 
+-- ---- sums
+
+some_pence : (pence : ℕ) → is_bad_amount pence ≡ false → IsAmount pence
+some_pence pence h = (grind (arith, nat_tests, h), grind (arith, nat_tests, h))
+
+-- what the rules accept is a sum within the limits
+accepted_amount : (s : Sort) (d : DebtValue) (x pence : ℕ) → IsOk (sort_answer s d x pence) → IsAmount pence
+accepted_amount Draw d x pence h = some_pence pence ((first_of-is_ok (draw_rows d x pence) (Ok (with_entry d x Draw pence)) h).0.1.1.0)
+accepted_amount Repay d x pence h = some_pence pence ((first_of-is_ok (repay_rows d x pence) (Ok (with_entry d x Repay pence)) h).0.1.0)
+
+all_amounts : (d : DebtValue) (prior es : List Entry) → AreAccepted d prior es → Each (λ e. IsAmount e.pence) es
+all_amounts d prior [] h = tt
+all_amounts d prior (e ∷ es) h = (accepted_amount e.sort (record d { entries = prior }) e.day e.pence h.0.1, all_amounts d (prior ++ e ∷ []) es h.1)
+
+both_told : (es : List Entry) → Each (λ e. IsAmount e.pence) es → Each (λ e. IsDayNumber e.day) es → Each IsEntryTold es
+both_told [] amounts days = tt
+both_told (e ∷ es) amounts days = ((days.0, amounts.0), both_told es amounts.1 days.1)
+
 module _ (h : Host) (storable : AreStorable h) (b n : ℕ) where
   abbrev found : Option PledgeValue
   found = pledge_in (get h.books b) n
 
-  pub entries_unsound : (Each (λ e. IsDayNumber e.day) (entries_of found) → ⊥) → IsUnsoundAt b h
-  entries_unsound bad = unsound_pledge h b n (λ o. Each (λ e. IsDayNumber e.day) (entries_of o)) tt
+  pub entries_unsound : (Each IsEntryTold (entries_of found) → ⊥) → IsUnsoundAt b h
+  entries_unsound bad = unsound_pledge h b n (λ o. Each IsEntryTold (entries_of o)) tt
       (λ k p is sound at. let s = standing_of k n p sound at in
-      days_in (λ e. e.day) p.agreement.taken p.standing.last p.entries (taken_of h storable b n k p is at) s.replayable.entered.ordered s.replayable.entered.before s.within.last) bad
+      both_told p.entries (all_amounts (debt_of p) [] p.entries s.replayable.entered.accepted) (days_in (λ e. e.day) p.agreement.taken p.standing.last p.entries (taken_of h storable b n k p is at) s.replayable.entered.ordered s.replayable.entered.before s.within.last)) bad
 
   pub secrets_unsound : (Each (λ i. IsDayNumber i.day) (secrets_of found) → ⊥) → IsUnsoundAt b h
   secrets_unsound bad = unsound_pledge h b n (λ o. Each (λ i. IsDayNumber i.day) (secrets_of o)) tt
@@ -240,9 +268,14 @@ end_day p s first =
     let six = six_months_day p.agreement.taken first (let low = s.replayable.last_in in let high = s.within.last in omega (arith, low, high)) in
     later_day _ (last_until p.extensions) (later_day _ p.agreement.opening.agreed six (named_agreed p.agreement.opening.agreed s.within.opening.agreed)) (named_last p.extensions s.within.untils)
 
+-- a pledge has a secret
+has_secret : (taken credit : ℕ) (is : List Issued) → AreIssued taken credit is → IsTrue (is_some (last_element is))
+has_secret taken credit [] issued = absurd issued
+has_secret taken credit (i ∷ is) issued = subst (λ o. IsTrue (is_some o)) (sym (last_some i is).1) refl
+
 -- a pledge that has no brief is of a book that is not sound
 pub brief_unsound : (h : Host) → AreStorable h → (b n : ℕ) (p : PledgeValue) → pledge_in (get h.books b) n ≡ Some p → (IsBriefTold p → ⊥) → IsUnsoundAt b h
 brief_unsound h storable b n p at bad = unsound_pledge h b n (λ o. IfSome o IsBriefTold) tt
     (λ k q is sound here.
     let s = standing_of k n q sound here in
-    record { ends = end_day q s (taken_of h storable b n k q is here); within = brief_is_within q s }) (λ all. bad (subst (λ o. IfSome o IsBriefTold) at all))
+    record { secret = has_secret q.agreement.taken _ q.secrets s.replayable.issued.sorts; ends = end_day q s (taken_of h storable b n k q is here); within = brief_is_within q s }) (λ all. bad (subst (λ o. IfSome o IsBriefTold) at all))

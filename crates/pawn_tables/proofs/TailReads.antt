@@ -8,22 +8,21 @@ use Rattle.sqlite.specs.Order.{Row, column, value_cmp}
 use Rattle.sqlite.specs.Tree.{IsAscending}
 use Rattle.sqlite.specs.Table.{Table}
 use Rattle.sqlite.specs.State.{State, Shown}
+use Rattle.pawn_terms.specs.Calendar.{IsDayNumber}
 use Rattle.pawn_pledge.specs.declared.record.Issued.{Issued}
 use Rattle.pawn_pledge.specs.declared.record.Extension.{Extension}
 use Rattle.pawn_pledge.specs.Pledge.{PledgeValue, last_element}
+use Rattle.pawn_pledge.specs.Replayable.{Each}
 use Rattle.pawn_book.specs.BookStep.{pledge_in}
 use Rattle.pawn_book.specs.HostStep.{Host}
 use Rattle.pawn_book.specs.Keeping.{entries_of, extensions_of, secrets_of}
+use Rattle.pawn_book.specs.Sound.{IsUnsoundAt}
 use Rattle.pawn_book.specs.Written.{AreWords, IsWord}
-use Rattle.pawn_book.specs.declared.fault.KeepError.{KeepError}
-use Rattle.pawn_book.specs.declared.fault.KeepError.TheVariants as Keeper
-use Rattle.pawn_book.specs.declared.fault.StoreFault.TheVariants.{NoRecord, Database}
 use Rattle.one_table.proofs.Found.{last_of, shown_last}
-use Rattle.pawn_tables.specs.Finding.{IsRead}
 use Rattle.pawn_tables.specs.Heads.{number_cells}
 use Rattle.pawn_tables.specs.Rows.{number, under, at_most_one, placed_from, entry_cells, entries_listed, secret_cells, secrets_listed, extension_cells, extensions_listed}
 use Rattle.pawn_tables.specs.Schema.{keep_schema, entries, secrets, extensions}
-use Rattle.pawn_tables.specs.StandsFor.{StandsFor, of_pledges}
+use Rattle.pawn_tables.specs.StandsFor.{AreStorable, StandsFor, of_pledges}
 use Rattle.pawn_tables.specs.Tails.{AreTails, last_cells, last_issued}
 use Rattle.pawn_tables.specs.declared.joining.LastSecret.{LastSecret}
 use Rattle.pawn_tables.specs.declared.joining.Tails.{Tails}
@@ -32,6 +31,7 @@ use Rattle.pawn_tables.proofs.PageLemmas.{last_later, last_some}
 use Rattle.pawn_tables.proofs.PlaceReads.{at_each}
 use Rattle.pawn_tables.proofs.PledgeReads.{rises_at, under_map, under_placed}
 use Rattle.pawn_tables.proofs.ReadTexts as text
+use Rattle.pawn_tables.proofs.SoundReads.{secrets_unsound}
 use Rattle.pawn_tables.proofs.Sought.{at_pledge, rows_at, of_one_pledge, placed_rise}
 
 -- ---- the last of elements with their places
@@ -54,27 +54,28 @@ place_count (x ∷ xs) = let last = last_some x xs in ap (λ o. unwrap_or (optio
 pub last_place : (secrets : List Issued) (l : Option LastSecret) → l ≡ last_issued secrets → unwrap_or (option_map (λ (x : LastSecret). x.place) l) 0 ≡ length secrets
 last_place secrets l is = ap (λ o. unwrap_or (option_map (λ (x : LastSecret). x.place) o) 0) is ∙ go (last_element secrets) ∙ place_count secrets
   where
-    go : (o : Option Issued) → unwrap_or (option_map (λ (x : LastSecret). x.place) (option_map (λ (i : Issued). record { place = length secrets; secret = i.secret }) o)) 0 ≡ unwrap_or (option_map (λ (i : Issued). length secrets) o) 0
+    go : (o : Option Issued) → unwrap_or (option_map (λ (x : LastSecret). x.place) (option_map (λ (i : Issued). record { place = length secrets; issued = i }) o)) 0 ≡ unwrap_or (option_map (λ (i : Issued). length secrets) o) 0
     go None = refl
     go (Some i) = refl
 
 -- the last of words is a word
-pub last_word : (secrets : List Issued) → AreWords secrets → IfSome (last_issued secrets) (λ (l : LastSecret). IsWord l.secret)
+pub last_word : (secrets : List Issued) → AreWords secrets → IfSome (last_issued secrets) (λ (l : LastSecret). IsWord l.issued.secret)
 last_word secrets words = go (last_element secrets) (at_each (λ (i : Issued). IsWord i.secret) secrets (suc (length secrets - 1)) words)
   where
-    go : (o : Option Issued) → IfSome o (λ (i : Issued). IsWord i.secret) → IfSome (option_map (λ (i : Issued). record { place = length secrets; secret = i.secret }) o) (λ (l : LastSecret). IsWord l.secret)
+    go : (o : Option Issued) → IfSome o (λ (i : Issued). IsWord i.secret) → IfSome (option_map (λ (i : Issued). record { place = length secrets; issued = i }) o) (λ (l : LastSecret). IsWord l.issued.secret)
     go None fits = tt
     go (Some i) fits = fits
 
-any_some : {A : Type 0} (o : Option A) → IfSome o (λ x. Unit {0})
-any_some None = tt
-any_some (Some x) = tt
+-- the last of days is a day
+last_day : (secrets : List Issued) → Each (λ i. IsDayNumber i.day) secrets → IfSome (last_issued secrets) (λ (l : LastSecret). IsDayNumber l.issued.day)
+last_day secrets days = go (last_element secrets) (at_each (λ (i : Issued). IsDayNumber i.day) secrets (suc (length secrets - 1)) days)
+  where
+    go : (o : Option Issued) → IfSome o (λ (i : Issued). IsDayNumber i.day) → IfSome (option_map (λ (i : Issued). record { place = length secrets; issued = i }) o) (λ (l : LastSecret). IsDayNumber l.issued.day)
+    go None is = tt
+    go (Some i) is = is
 
--- what can be read always, if it is there, is not told to be no record
-pub always_some : {A B : Type 0} (e : KeepError) (o : Option A) (y : B) (Q : Type 0) → IsRead (Err e) o (IfSome o (λ x. Unit {0})) → IsRead (Err e) y Q
-always_some Keeper.Memory o y Q f = tt
-always_some (Keeper.Store Database) o y Q f = tt
-always_some (Keeper.Store NoRecord) o y Q f = absurd (f (any_some o))
+pub last_unsound : (h : Host) → AreStorable h → (b n : ℕ) → (IfSome (last_issued (secrets_of (pledge_in (get h.books b) n))) (λ (l : LastSecret). IsDayNumber l.issued.day) → ⊥) → IsUnsoundAt b h
+last_unsound h storable b n bad = secrets_unsound h storable b n (λ days. bad (last_day _ days))
 
 -- ---- what is shown
 
@@ -101,15 +102,15 @@ module _ (old new : State) (h : Host) (b n : ℕ) (rows : List Row) (st : Stands
       let t : Table = record secrets { tree = 8 } in
       let one = of_one_pledge h b n secrets_listed st.ordered (λ m p. under_placed m p.agreement.number secret_cells 1 p.secrets) in
       let up = rises_at found (secrets_listed b) (λ v. column v 2) (λ p is. placed_rise (λ place i. under b p.agreement.number (secret_cells place i)) (λ v. column v 2) (λ place i. refl) 1 p.secrets) in
-      shown_last keep_schema 8 (λ _. refl) t text.of_pledge text.last_secret_shows params (at_pledge b n) (λ v. column v 2 ∷ column v 5 ∷ []) (λ _. refl) (λ _. refl) 3 (λ v. column v 2) (λ _. refl)
+      shown_last keep_schema 8 (λ _. refl) t text.of_pledge text.secrets_shows params (at_pledge b n) (λ v. column v 2 ∷ column v 3 ∷ column v 4 ∷ column v 5 ∷ []) (λ _. refl) (λ _. refl) 3 (λ v. column v 2) (λ _. refl)
       text.last_secret_text _ text.last_secret_is old new (of_pledges h secrets_listed) rows st.schema st.secrets (subst (IsAscending (λ a c. value_cmp (column a 2) (column c 2) ≡ Less)) (sym one) up) shown
-      ∙ ap (λ xs. map (λ v. column v 2 ∷ column v 5 ∷ []) (last_of xs)) one ∙ cells found
+      ∙ ap (λ xs. map (λ v. column v 2 ∷ column v 3 ∷ column v 4 ∷ column v 5 ∷ []) (last_of xs)) one ∙ cells found
     where
-      cells : (o : Option PledgeValue) → map (λ v. column v 2 ∷ column v 5 ∷ []) (last_of (rows_at o (secrets_listed b))) ≡ at_most_one last_cells (last_issued (secrets_of o))
+      cells : (o : Option PledgeValue) → map (λ v. column v 2 ∷ column v 3 ∷ column v 4 ∷ column v 5 ∷ []) (last_of (rows_at o (secrets_listed b))) ≡ at_most_one last_cells (last_issued (secrets_of o))
       cells None = refl
       cells (Some p) =
-          last_placed (λ place i. under b p.agreement.number (secret_cells place i)) (λ place (i : Issued). last_cells (record { place = place; secret = i.secret })) (λ v. column v 2 ∷ column v 5 ∷ []) (λ place i. refl) 1 (length p.secrets) p.secrets (omega arith)
-          ∙ one_mapped (λ (i : Issued). record { place = length p.secrets; secret = i.secret }) last_cells (last_element p.secrets)
+          last_placed (λ place i. under b p.agreement.number (secret_cells place i)) (λ place (i : Issued). last_cells (record { place = place; issued = i })) (λ v. column v 2 ∷ column v 3 ∷ column v 4 ∷ column v 5 ∷ []) (λ place i. refl) 1 (length p.secrets) p.secrets (omega arith)
+          ∙ one_mapped (λ (i : Issued). record { place = length p.secrets; issued = i }) last_cells (last_element p.secrets)
 
   pub place_shown : Shown text.last_place_text params old new rows → rows ≡ at_most_one number_cells (option_map (λ (e : Extension). length (extensions_of found)) (last_element (extensions_of found)))
   place_shown shown =

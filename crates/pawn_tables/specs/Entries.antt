@@ -1,6 +1,8 @@
 -- The entries of a pledge, by their numbers.
 use Rattle.std.specs.Prelude.{ℕ, ◌+◌, ◌≤◌, ◌==◌, nat_le, List, [], ◌∷◌, filter, find, Option}
+use Rattle.pawn_terms.specs.Calendar.{IsDayNumber}
 use Rattle.pawn_debt.specs.declared.entry.Entry.{Entry}
+use Rattle.pawn_debt.specs.Limits.{most_pence}
 use Rattle.pawn_tables.specs.Pages.{IsPage}
 
 -- their numbers rise, and none is below this one; whether a number is left out is not asked
@@ -23,3 +25,11 @@ behind e = e.seq + 1
 -- a page of the entries from a number on
 abbrev pub IsEntriesPage : ℕ → List Entry → List Entry → Type 0
 IsEntriesPage n es page = IsPage (λ m. entries_from m es) (λ (e : Entry). e) behind n page
+
+-- a sum is at least a penny, and no larger than the largest
+abbrev pub IsAmount : ℕ → Type 0
+IsAmount pence = (1 ≤ pence) × (pence ≤ most_pence)
+
+-- the day and the sum of an entry are such
+abbrev pub IsEntryTold : Entry → Type 0
+IsEntryTold e = IsDayNumber e.day × IsAmount e.pence

@@ -1,19 +1,19 @@
 -- What the ends of a pledge's lists tell.
-use Rattle.std.specs.Prelude.{◌≡◌, List, [], ◌∷◌, length, Option, option_map}
+use Rattle.std.specs.Prelude.{◌≡◌, List, length, Option, option_map}
 use Rattle.sqlite.specs.Order.{Row}
 use Rattle.pawn_pledge.specs.declared.record.Issued.{Issued}
 use Rattle.pawn_pledge.specs.Pledge.{PledgeValue, last_element}
-use Rattle.pawn_tables.specs.Rows.{number, word}
+use Rattle.pawn_tables.specs.Rows.{secret_cells}
 use Rattle.pawn_tables.specs.declared.joining.LastSecret.{LastSecret}
 use Rattle.pawn_tables.specs.declared.joining.Tails.{Tails}
 
 -- the last of secrets; its place tells how many they are
 abbrev pub last_issued : List Issued → Option LastSecret
-last_issued secrets = option_map (λ (i : Issued). record { place = length secrets; secret = i.secret }) (last_element secrets)
+last_issued secrets = option_map (λ (i : Issued). record { place = length secrets; issued = i }) (last_element secrets)
 
 -- what its row shows
 abbrev pub last_cells : LastSecret → Row
-last_cells l = number l.place ∷ word l.secret ∷ []
+last_cells l = secret_cells l.place l.issued
 
 -- the tails are of the lists of a pledge
 pub record AreTails (t : Tails) (p : PledgeValue) : Type 0 where

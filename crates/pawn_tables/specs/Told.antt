@@ -1,5 +1,5 @@
 -- What the row of a pledge tells, and what the tables beside it tell.
-use Rattle.std.specs.Prelude.{◌≡◌, Option, Some, None, IfSome}
+use Rattle.std.specs.Prelude.{◌≡◌, Option, Some, None, IfSome, IsTrue, is_some}
 use Rattle.std.specs.Str.{IsUtf8}
 use Rattle.pawn_terms.specs.Calendar.{IsDayNumber, IsStampDay}
 use Rattle.pawn_debt.specs.declared.owing.Totals.{Totals}
@@ -9,7 +9,7 @@ use Rattle.pawn_pledge.specs.declared.record.Opening.{Opening}
 use Rattle.pawn_pledge.specs.Text.{IsText}
 use Rattle.pawn_pledge.specs.Limits.{most_article_bytes, most_reference_bytes}
 use Rattle.pawn_pledge.specs.Brief.{IsBriefWithin, brief_of}
-use Rattle.pawn_pledge.specs.Pledge.{PledgeValue, end_of, debt_of}
+use Rattle.pawn_pledge.specs.Pledge.{PledgeValue, end_of, debt_of, last_element}
 use Rattle.pawn_tables.specs.Rows.{closed_day}
 use Rattle.pawn_tables.specs.declared.credits.Credit.{Credit}
 use Rattle.pawn_tables.specs.declared.joining.Lists.{Lists}
@@ -80,7 +80,12 @@ AreTold None (Some p) = ⊥
 AreTold (Some t) None = ⊥
 AreTold (Some t) (Some p) = (t.row ≡ row_of p) × AreSides t.sides p
 
--- its end is a day, and its brief is within the limits
+-- it has a secret
+abbrev pub HasSecret : PledgeValue → Type 0
+HasSecret p = IsTrue (is_some (last_element p.secrets))
+
+-- it has a secret, its end is a day, and its brief is within the limits
 pub record IsBriefTold (p : PledgeValue) : Type 0 where
+  pub secret : HasSecret p
   pub ends : IsDayNumber (end_of p)
   pub within : IsBriefWithin (brief_of p)

@@ -10,6 +10,7 @@ ghost use Rattle.pawn_pledge.specs.declared.record.Issue.{Issue};
 ghost use Rattle.pawn_pledge.specs.declared.record.BookingState.{BookingState};
 ghost use Rattle.pawn_book.specs.Written.{IsWord};
 ghost use Rattle.pawn_tables.specs.Rows.{number, flag, flag_number, or_null, word, sort_number, issue_number, state_number};
+ghost use Rattle.pawn_tables.specs.Entries.{IsAmount};
 ghost use Rattle.pawn_tables.specs.Finding.{IsRead};
 ghost use Rattle.sqlite.specs.declared.error.Error.TheVariants as SqlError;
 ghost use Rattle.sqlite.specs.declared.error.ErrorCode.TheVariants.{OutOfMemory};
@@ -17,6 +18,7 @@ ghost use Rattle.pawn_book.specs.declared.fault.StoreFault.TheVariants.{NoRecord
 ghost use Rattle.pawn_book.specs.declared.fault.KeepError.TheVariants as Keeper;
 
 use pawn_book::{BookingState, Day, Issue, KeepError, RequestDay, Secret, Sort, StoreFault};
+use pawn_debt::MOST_PENCE;
 use pawn_pledge::Text;
 use sqlite::{Error, ErrorCode, Row};
 use std::alloc::Global;
@@ -167,6 +169,17 @@ pub(crate) fn text_at<const MOST: usize>(
         Ok(Some(text)) => Ok(text),
         Ok(None) => Err(NO_RECORD),
         Err(_) => Err(KeepError::Memory),
+    }
+}
+
+/// The sum of an entry, in pence.
+pub(crate) fn amount_of(pence: u64) -> Result<u64, KeepError>
+    ensures read { IsRead result pence (IsAmount pence) }
+{
+    if 1 <= pence && pence <= MOST_PENCE {
+        Ok(pence)
+    } else {
+        Err(NO_RECORD)
     }
 }
 

@@ -1,5 +1,5 @@
 use crate::records::PledgeRow;
-use pawn_book::{Booking, Secret, Terms};
+use pawn_book::{Booking, Issued, Terms};
 use pawn_debt::{Entries, Totals};
 use pawn_pledge::{Extensions, Secrets};
 
@@ -18,7 +18,7 @@ pub(crate) struct Lists {
 #[derive(Clone, Copy)]
 pub(crate) struct LastSecret {
     pub place: u64,
-    pub secret: Secret,
+    pub issued: Issued,
 }
 
 /// How many entries and extensions a pledge has, and its last secret.

@@ -5,10 +5,11 @@ ghost use Rattle.pawn_pledge.specs.declared.record.Issued.{Issued};
 ghost use Rattle.pawn_pledge.specs.declared.record.Extension.{Extension};
 ghost use Rattle.pawn_pledge.specs.Replayable.{Each};
 ghost use Rattle.pawn_book.specs.Written.{IsWord, AreWords};
+ghost use Rattle.pawn_tables.specs.Entries.{IsEntryTold};
 ghost use Rattle.pawn_tables.specs.Rows.{at_most_one, entry_cells, secret_cells, extension_cells, placed_from};
 ghost use Rattle.pawn_tables.specs.Finding.{IsRead};
 
-use crate::cells::{day_at, issue_of, number_at, sort_of, word_at};
+use crate::cells::{amount_of, day_at, issue_of, number_at, sort_of, word_at};
 use pawn_book::{Entry, Extension, Issued, KeepError};
 use pawn_debt::Entries;
 use pawn_pledge::{Extensions, Secrets};
@@ -17,12 +18,13 @@ use std::alloc::Global;
 
 /// The entry of a row.
 pub(crate) fn entry_of(row: &Row) -> Result<Entry, KeepError>
-    ensures read { (e : Entry) → row.now ≡ entry_cells e → IsRead result e (IsDayNumber e.day) }
+    ensures read { (e : Entry) → row.now ≡ entry_cells e → IsRead result e (IsEntryTold e) }
 {
     let seq = number_at(row, 0)?;
     let day = day_at(row, 1)?;
     let sort = sort_of(number_at(row, 2)?)?;
-    let pence = number_at(row, 3)?;
+    let number = number_at(row, 3)?;
+    let pence = amount_of(number)?;
     Ok(Entry {
         seq,
         day,
@@ -52,7 +54,7 @@ pub(crate) fn extension_of(row: &Row) -> Result<Extension, KeepError>
 
 /// The entries of rows.
 pub(crate) fn read_entries(alloc: Global, rows: &[Row]) -> Result<Entries, KeepError>
-    ensures read { (es : List Entry) → rows.now ≡ map entry_cells es → IsRead result es (Each (λ e. IsDayNumber e.day) es) }
+    ensures read { (es : List Entry) → rows.now ≡ map entry_cells es → IsRead result es (Each IsEntryTold es) }
 {
     let mut entries = Entries::new(alloc);
     for row in rows {
@@ -94,7 +96,7 @@ pub(crate) fn read_extensions(alloc: Global, rows: &[Row]) -> Result<Extensions,
 
 /// The entry of the first row, if there is a row.
 pub(crate) fn first_entry(rows: &[Row]) -> Result<Option<Entry>, KeepError>
-    ensures read { (e : Option Entry) → rows.now ≡ at_most_one entry_cells e → IsRead result e (IfSome e (λ x. IsDayNumber x.day)) }
+    ensures read { (e : Option Entry) → rows.now ≡ at_most_one entry_cells e → IsRead result e (IfSome e IsEntryTold) }
 {
     let [row, ..] = rows else {
         return Ok(None);

@@ -2,6 +2,7 @@
 ghost use Rattle.std.specs.Prelude.{◌≡◌, ℕ, IfSome, Option, is_ok, length, unwrap_or, ⊤};
 ghost use Rattle.std.specs.FinMap.{get};
 ghost use Rattle.sqlite.specs.Held.{state};
+ghost use Rattle.pawn_terms.specs.Calendar.{IsDayNumber};
 ghost use Rattle.pawn_book.specs.BookStep.{pledge_in};
 ghost use Rattle.pawn_book.specs.Keeping.{entries_of, extensions_of, secrets_of};
 ghost use Rattle.pawn_book.specs.Sound.{IsUnsoundAt};
@@ -13,25 +14,26 @@ ghost use Rattle.pawn_tables.specs.Heads.{number_cells};
 ghost use Rattle.pawn_tables.specs.Rows.{at_most_one};
 ghost use Rattle.pawn_tables.specs.Tails.{AreTails, last_cells, last_issued};
 
-use crate::cells::{number_at, word_at};
+use crate::cells::number_at;
 use crate::heads::only_count;
 use crate::joining::{LastSecret, Tails};
+use crate::lists::issued_of;
 use crate::queries::rows_of;
 use pawn_book::KeepError;
 use sqlite::{Alter, Row, Transaction, params};
 
 // The last secret of a row, and its place.
 fn last_of(row: &Row) -> Result<LastSecret, KeepError>
-    ensures read { (l : LastSecret) → IsWord l.secret → row.now ≡ last_cells l → IsRead result l ⊤ }
+    ensures read { (l : LastSecret) → IsWord l.issued.secret → row.now ≡ last_cells l → IsRead result l (IsDayNumber l.issued.day) }
 {
     let place = number_at(row, 0)?;
-    let secret = word_at(row, 1)?;
-    Ok(LastSecret { place, secret })
+    let issued = issued_of(row)?;
+    Ok(LastSecret { place, issued })
 }
 
 // The last secret of the first row, and its place, if there is a row.
 fn first_last(rows: &[Row]) -> Result<Option<LastSecret>, KeepError>
-    ensures read { (l : Option LastSecret) → IfSome l (λ x. IsWord x.secret) → rows.now ≡ at_most_one last_cells l → IsRead result l ⊤ }
+    ensures read { (l : Option LastSecret) → IfSome l (λ x. IsWord x.issued.secret) → rows.now ≡ at_most_one last_cells l → IsRead result l (IfSome l (λ x. IsDayNumber x.issued.day)) }
 {
     let [row, ..] = rows else {
         return Ok(None);
@@ -79,7 +81,7 @@ fn last_secret<S: Alter>(
 {
     let rows = rows_of(
         tx,
-        "SELECT place, secret FROM secrets WHERE book = ?1 AND number = ?2 ORDER BY place DESC LIMIT 1",
+        "SELECT place, day, sort, secret FROM secrets WHERE book = ?1 AND number = ?2 ORDER BY place DESC LIMIT 1",
         params![book, number],
     )?;
     first_last(&rows)

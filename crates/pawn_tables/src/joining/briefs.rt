@@ -5,7 +5,7 @@ ghost use Rattle.pawn_pledge.specs.Brief.{brief_of};
 ghost use Rattle.pawn_pledge.specs.Pledge.{PledgeValue, end_of, last_secret, live_under};
 ghost use Rattle.pawn_tables.specs.Finding.{IsRead};
 ghost use Rattle.pawn_tables.specs.Tails.{AreTails, last_issued};
-ghost use Rattle.pawn_tables.specs.Told.{AreSides, IsBriefTold, row_of};
+ghost use Rattle.pawn_tables.specs.Told.{AreSides, HasSecret, IsBriefTold, row_of};
 
 use super::pledges::{ends_of, record_of};
 use crate::cells::{NO_RECORD, day_of};
@@ -19,7 +19,7 @@ fn secret_of(last: Option<LastSecret>) -> Option<Secret>
     ensures value { (secrets : List Issued) → last ≡ last_issued secrets → result ≡ last_secret secrets }
 {
     match last {
-        Some(last) => Some(last.secret),
+        Some(last) => Some(last.issued.secret),
         None => None,
     }
 }
@@ -55,14 +55,14 @@ fn counts_of(tails: Tails) -> Counts
     }
 }
 
-// The fields of the brief of what was read of a pledge, where the end of its period is a day.
+// The fields of the brief of what was read of a pledge, where it has a secret, and the end of its period is a day.
 fn fields_of(
     number: Number,
     row: PledgeRow,
     sides: Sides,
     tails: Tails,
 ) -> Result<BriefFields, KeepError>
-    ensures read { (p : PledgeValue) → number ≡ p.agreement.number → row ≡ row_of p → AreSides sides p → AreTails tails p → IsRead result (brief_of p) (IsDayNumber (end_of p)) }
+    ensures read { (p : PledgeValue) → number ≡ p.agreement.number → row ≡ row_of p → AreSides sides p → AreTails tails p → IsRead result (brief_of p) (HasSecret p × IsDayNumber (end_of p)) }
 {
     let Sides {
         terms,
@@ -75,6 +75,9 @@ fn fields_of(
     let Some(totals) = totals else {
         return Err(NO_RECORD);
     };
+    if tails.last.is_none() {
+        return Err(NO_RECORD);
+    }
     let ends = day_of(ends_of(&row))?;
     let (agreement, standing) = record_of(number, row, terms, booking);
     let live = live_of(standing.closing, tails.last);

@@ -18,7 +18,7 @@ returns-in_err-number_at c = record {
   read = λ e is. let at = cell_at _ _ 2 (number (sort_number e.sort)) is (omega arith) refl in let r = c.in_err-number_at.ensures.read (sort_number e.sort) at.0 at.1 in search rules;
 }
 
-pub returns-in_err-pence : goal.returns-in_err-pence
-returns-in_err-pence c = record {
-  read = λ e is. let at = cell_at _ _ 3 (number e.pence) is (omega arith) refl in let r = c.in_err-pence.ensures.read e.pence at.0 at.1 in search rules;
+pub returns-in_err-number : goal.returns-in_err-number
+returns-in_err-number c = record {
+  read = λ e is. let at = cell_at _ _ 3 (number e.pence) is (omega arith) refl in let r = c.in_err-number.ensures.read e.pence at.0 at.1 in search rules;
 }

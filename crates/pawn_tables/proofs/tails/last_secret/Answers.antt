@@ -25,4 +25,4 @@ returns-clause-finds g c clean within h stood =
     let rests = plain_rests text.last_secret_text _ old new rows within plain shown in
     let are = c.deref.ensures.value ∙ reads.secret_shown old new h c.args.book c.args.number rows st shown in
     let words = reads.last_word (secrets_of (pledge_in (get h.books c.args.book) c.args.number)) (sound.words_in h st.storable c.args.book c.args.number) in
-    sound.told c.first_last.result _ _ _ _ (c.first_last.ensures.read _ words are) rests (λ bad. absurd (bad tt))
+    sound.told c.first_last.result _ _ _ _ (c.first_last.ensures.read _ words are) rests (reads.last_unsound h st.storable c.args.book c.args.number)
