@@ -82,7 +82,7 @@ fn tells_each(rt: &impl Abort, answers: &[Answer]) {
 }
 
 // The turns as items of a run.
-fn items(rt: &impl Abort, alloc: Global) -> Result<Vec<(Stamp, Vec<u8>)>, Fail> {
+fn items_of_turns(rt: &impl Abort, alloc: Global) -> Result<Vec<(Stamp, Vec<u8>)>, Fail> {
     let mut items = Vec::new(alloc);
     for turn in TURNS {
         items.push((stamp(rt, turn.word), Vec::from_slice(alloc, turn.request)?))?;
@@ -118,7 +118,7 @@ fn both_tell(rt: &impl Abort, alloc: Global, items: &[(Stamp, Vec<u8>)]) -> Resu
 
 #[test]
 fn the_turns_are_answered_over_lists_and_over_tables(rt: HostRuntime) -> Result<(), Fail> {
-    let items = items(&rt, rt.alloc())?;
+    let items = items_of_turns(&rt, rt.alloc())?;
     both_tell(&rt, rt.alloc(), items.as_slice())
 }
 
