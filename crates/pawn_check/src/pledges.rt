@@ -12,7 +12,7 @@ ghost use Rattle.pawn_book.specs.Rows.{IsUnder, version_of};
 ghost use Rattle.pawn_book.specs.Sound.{HasTextsAndWords};
 ghost use Rattle.pawn_check.specs.Judging.{Finds, FitsAt, IsFront, IsQuiet};
 
-use crate::fault::{CheckFault, fault_of};
+use crate::fault::CheckFault;
 use pawn_book::{Keep, Number, Reference};
 use pawn_pledge::Parts;
 
@@ -54,13 +54,12 @@ fn parts_of<K: Keep>(keep: &mut K, book: Number, number: Number) -> Result<Parts
     ensures quiet { IsQuiet K.keeping keep.old result }
 {
     let _ = number.get();
-    match keep.pledge(book, number) {
-        Ok(Some(pledge)) => match pledge.parts() {
+    match keep.pledge(book, number)? {
+        Some(pledge) => match pledge.parts() {
             Ok(parts) => Ok(parts),
             Err(_) => Err(CheckFault::Memory),
         },
-        Ok(None) => Err(CheckFault::Damaged),
-        Err(error) => Err(fault_of(error)),
+        None => Err(CheckFault::Damaged),
     }
 }
 
@@ -69,10 +68,9 @@ fn is_under<K: Keep>(keep: &mut K, book: Number, parts: &Parts) -> Result<bool, 
     ensures reads { Reads K.keeping keep.old keep.new (λ h. (k : BookValue) → get h.books book ≡ Some k → Finds h result (λ under. IsTrue under ↔ IsUnder k.terms parts.now)) }
     ensures quiet { IsQuiet K.keeping keep.old result }
 {
-    match keep.terms(book, parts.agreement.version) {
-        Ok(Some(terms)) => Ok(terms.rates() == parts.agreement.terms),
-        Ok(None) => Ok(false),
-        Err(error) => Err(fault_of(error)),
+    match keep.terms(book, parts.agreement.version)? {
+        Some(terms) => Ok(terms.rates() == parts.agreement.terms),
+        None => Ok(false),
     }
 }
 
@@ -86,10 +84,9 @@ fn is_first<K: Keep>(
     ensures reads { Reads K.keeping keep.old keep.new (λ h. (k : BookValue) → get h.books book ≡ Some k → Finds h result (λ first. IsTrue first ↔ (number_of (Some k) reference.now ≡ Some number))) }
     ensures quiet { IsQuiet K.keeping keep.old result }
 {
-    match keep.find_ref(book, reference) {
-        Ok(Some(found)) => Ok(found == number),
-        Ok(None) => Ok(false),
-        Err(error) => Err(fault_of(error)),
+    match keep.find_ref(book, reference)? {
+        Some(found) => Ok(found == number),
+        None => Ok(false),
     }
 }
 
