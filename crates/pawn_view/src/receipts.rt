@@ -11,7 +11,7 @@ ghost use Rattle.pawn_view.specs.Ends.{Puts, write_failed};
 ghost use Rattle.pawn_view.specs.Text.{statement_text, shown_text, further_texts};
 ghost use Rattle.pawn_view.specs.Shown.{PutsShare, Shows, IsQuietView, pledge_at, live_pledges, shown_of, presentation_of};
 
-use crate::fault::{ViewFault, view_fault};
+use crate::fault::ViewFault;
 use crate::statements::{ending, put_statement};
 use crate::writing::{Writing, put};
 use pawn_book::{Brief, Day, Keep, KeepError, Number, Receipt};
@@ -125,10 +125,9 @@ fn show_others<K: Keep, W: Write>(
     ensures write { IsErrOf result ViewFault.Write → write_failed writer.new ≡ true }
     ensures steady { IsQuietView K.keeping keep.old result }
 {
-    match is_any_live(keep, book, receipts) {
-        Ok(true) => {}
-        Ok(false) => return Err(ViewFault::Unknown),
-        Err(error) => return Err(view_fault(error)),
+    let live = is_any_live(keep, book, receipts)?;
+    if !live {
+        return Err(ViewFault::Unknown);
     }
     put(writer, UNKNOWN);
     let done = put_further(keep, book, receipts, day, writer);
@@ -156,12 +155,11 @@ pub fn show_presented<K: Keep, W: Write>(
     let [first, rest @ ..] = receipts else {
         return Err(ViewFault::Unknown);
     };
-    match live_brief(keep, book, first) {
-        Ok(Some(brief)) => {
+    match live_brief(keep, book, first)? {
+        Some(brief) => {
             let done = put_from(keep, book, first.number, &brief, rest, day, writer);
             ending(done, writer)
         }
-        Ok(None) => show_others(keep, book, rest, day, writer),
-        Err(error) => Err(view_fault(error)),
+        None => show_others(keep, book, rest, day, writer),
     }
 }

@@ -10,7 +10,7 @@ ghost use Rattle.pawn_view.specs.Ends.{Puts, write_failed};
 ghost use Rattle.pawn_view.specs.Text.{first_lines, state_lines, statement_text, extended_line, entry_line};
 ghost use Rattle.pawn_view.specs.Shown.{PutsLine, PutsShare, Shows, IsQuietView, pledge_at, statement_of, open_or_last};
 
-use crate::fault::{ViewFault, view_fault};
+use crate::fault::ViewFault;
 use crate::lines::{
     put_booking, put_closing, put_day, put_entry, put_extended, put_held, put_kind, put_number,
     put_owed, put_status, put_text,
@@ -124,10 +124,8 @@ pub fn show_statement<K: Keep, W: Write>(
     ensures write { IsErrOf result ViewFault.Write → write_failed writer.new ≡ true }
     ensures steady { IsQuietView K.keeping keep.old result }
 {
-    let brief = match keep.brief(book, number) {
-        Ok(Some(brief)) => brief,
-        Ok(None) => return Err(ViewFault::Unknown),
-        Err(error) => return Err(view_fault(error)),
+    let Some(brief) = keep.brief(book, number)? else {
+        return Err(ViewFault::Unknown);
     };
     let done = put_statement(keep, book, number, &brief, day, writer);
     ending(done, writer)
@@ -140,8 +138,5 @@ pub(crate) fn ending<W>(done: Result<(), KeepError>, writer: &Writing<W>) -> Res
     if writer.has_failed() {
         return Err(ViewFault::Write);
     }
-    match done {
-        Ok(()) => Ok(()),
-        Err(error) => Err(view_fault(error)),
-    }
+    Ok(done?)
 }
