@@ -40,7 +40,8 @@ fn terms_under<K: Keep>(
     book: Number,
     version: u64,
 ) -> Result<Option<Terms>, CheckFault>
-    ensures reads { Reads K.keeping keep.old keep.new (λ h. Finds h result (λ terms. terms ≡ terms_at (terms_of (get h.books book)) version)) }
+    ensures reads { Reads K.keeping keep.old keep.new
+        (λ h. Finds h result (λ terms. terms ≡ terms_at (terms_of (get h.books book)) version)) }
     ensures quiet { IsQuiet K.keeping keep.old result }
 {
     Ok(keep.terms(book, version)?)
@@ -48,7 +49,9 @@ fn terms_under<K: Keep>(
 
 // Finds that the terms of a book stand, each within the limits.
 fn find_terms<K: Keep>(keep: &mut K, book: Number, count: u64) -> Result<(), CheckFault>
-    ensures reads { Reads K.keeping keep.old keep.new (λ h. (k : BookValue) → get h.books book ≡ Some k → count ≡ length k.terms → Finds h result (λ _. Each IsChecked k.terms)) }
+    ensures reads { Reads K.keeping keep.old keep.new
+        (λ h. (k : BookValue) → get h.books book ≡ Some k → count ≡ length k.terms → Finds h result
+        (λ _. Each IsChecked k.terms)) }
     ensures quiet { IsQuiet K.keeping keep.old result }
 {
     for version in 0..count {
@@ -62,7 +65,9 @@ fn find_terms<K: Keep>(keep: &mut K, book: Number, count: u64) -> Result<(), Che
 
 // The head of a book that stands.
 fn head_of<K: Keep>(keep: &mut K, book: Number) -> Result<BookHead, CheckFault>
-    ensures reads { Reads K.keeping keep.old keep.new (λ h. (k : BookValue) → get h.books book ≡ Some k → Finds h result (λ head. head ≡ book_head k)) }
+    ensures reads { Reads K.keeping keep.old keep.new
+        (λ h. (k : BookValue) → get h.books book ≡ Some k → Finds h result
+        (λ head. head ≡ book_head k)) }
     ensures quiet { IsQuiet K.keeping keep.old result }
 {
     match keep.book_head(book)? {
@@ -93,7 +98,8 @@ fn book_counts<K: Keep>(keep: &mut K, book: Number) -> Result<BookCounts, CheckF
 
 // The next book above a number.
 fn book_after<K: Keep>(keep: &mut K, after: Option<Number>) -> Result<Option<Number>, CheckFault>
-    ensures reads { Reads K.keeping keep.old keep.new (λ h. Finds h result (λ next. IsNextBook h (unwrap_or after 0) next)) }
+    ensures reads { Reads K.keeping keep.old keep.new
+        (λ h. Finds h result (λ next. IsNextBook h (unwrap_or after 0) next)) }
     ensures quiet { IsQuiet K.keeping keep.old result }
 {
     Ok(keep.next_book(after)?)
@@ -101,7 +107,8 @@ fn book_after<K: Keep>(keep: &mut K, after: Option<Number>) -> Result<Option<Num
 
 // The rows of all books.
 fn rows_of<K: Keep>(keep: &mut K) -> Result<u64, CheckFault>
-    ensures reads { Reads K.keeping keep.old keep.new (λ h. Finds h result (λ count. count ≡ rows h)) }
+    ensures reads { Reads K.keeping keep.old keep.new
+        (λ h. Finds h result (λ count. count ≡ rows h)) }
     ensures quiet { IsQuiet K.keeping keep.old result }
 {
     Ok(keep.rows()?)
