@@ -124,6 +124,10 @@ length-map f (a ∷ xs) = ap (λ (n : ℕ). suc n) (length-map f xs)
 
 -- ---- so far
 
+-- what is left behind a request of this length
+pub left_behind : (left buffer : List ℕ) (needed n : ℕ) → left ≡ drop needed buffer → needed ≡ n → left ≡ drop n buffer
+left_behind left buffer needed n dropped same = dropped ∙ ap (λ (k : ℕ). drop k buffer) same
+
 -- what a session over this service is given
 abbrev pub given_by : {K S : Type 0} → Keeping K → Service K → Host → S → Option (List ℕ) → Option (List ℕ) → Given S
 given_by k service h stamps stream written = record { start = start_of k service h; stamps = stamps; stream = stream; written = written }
