@@ -117,7 +117,8 @@ pub fn show_day_sheet<K: Keep, W: Write>(
     writer: &mut Writing<W>,
 ) -> Result<(), ViewFault>
     requires fine { write_failed writer.old ≡ false }
-    ensures shows { Reads K.keeping keep.old keep.new (λ h. Shows W.contents writer.old (sheet_of h book day) result writer.new) }
+    ensures shows { Reads K.keeping keep.old keep.new
+        (λ h. Shows W.contents writer.old (sheet_of h book day) result writer.new) }
     ensures write { IsErrOf result ViewFault.Write → write_failed writer.new ≡ true }
     ensures steady { IsQuietView K.keeping keep.old result }
 {

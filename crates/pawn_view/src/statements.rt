@@ -47,7 +47,8 @@ impl<W: Write> Visitor<Extension> for Writing<W> {
 
 // The lines above the extensions.
 fn put_first<W: Write>(writer: &mut Writing<W>, brief: &Brief)
-    ensures puts { Puts W.contents writer.old (first_lines brief.now.agreement brief.now.ends) writer.new }
+    ensures puts { Puts W.contents writer.old
+        (first_lines brief.now.agreement brief.now.ends) writer.new }
 {
     let fields = brief.fields();
     let agreement = &fields.agreement;
@@ -61,7 +62,9 @@ fn put_first<W: Write>(writer: &mut Writing<W>, brief: &Brief)
 // The lines between the extensions and the entries.
 fn put_state<W: Write>(writer: &mut Writing<W>, brief: &Brief, day: Day)
     requires later { brief.now.totals.day ≤ day }
-    ensures puts { Puts W.contents writer.old (state_lines (brief_status brief.now day) (brief_owing brief.now day) brief.now.standing) writer.new }
+    ensures puts { Puts W.contents writer.old
+        (state_lines (brief_status brief.now day)
+        (brief_owing brief.now day) brief.now.standing) writer.new }
 {
     let status = brief.status(day);
     let owing = brief.owing(day);
@@ -95,7 +98,9 @@ pub(crate) fn put_statement<K: Keep, W: Write>(
     day: Day,
     writer: &mut Writing<W>,
 ) -> Result<(), KeepError>
-    ensures shares { Reads K.keeping keep.old keep.new (λ h. IsSound h → (p : PledgeValue) → pledge_at h book number ≡ Some p → brief.now ≡ brief_of p
+    ensures shares { Reads K.keeping keep.old keep.new
+        (λ h. IsSound h → (p : PledgeValue) → pledge_at h book number ≡ Some p
+        → brief.now ≡ brief_of p
         → PutsShare W.contents writer.old (statement_text day p) (call_end result) writer.new) }
     ensures steady { IsSteady K.keeping keep.old result }
 {
@@ -120,7 +125,9 @@ pub fn show_statement<K: Keep, W: Write>(
     writer: &mut Writing<W>,
 ) -> Result<(), ViewFault>
     requires fine { write_failed writer.old ≡ false }
-    ensures shows { Reads K.keeping keep.old keep.new (λ h. IsSound h → Shows W.contents writer.old (statement_of h book number day) result writer.new) }
+    ensures shows { Reads K.keeping keep.old keep.new
+        (λ h. IsSound h
+        → Shows W.contents writer.old (statement_of h book number day) result writer.new) }
     ensures write { IsErrOf result ViewFault.Write → write_failed writer.new ≡ true }
     ensures steady { IsQuietView K.keeping keep.old result }
 {
