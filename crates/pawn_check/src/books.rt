@@ -14,7 +14,7 @@ ghost use Rattle.pawn_book.specs.Sound.{IsWord};
 ghost use Rattle.pawn_check.specs.Judging.{AreOfBook, Finds, IsQuiet, Judges, JudgesBook};
 
 use crate::counts::{BookCounts, Counts};
-use crate::fault::{CheckFault, fault_of};
+use crate::fault::CheckFault;
 use crate::pledges::pledges_rows;
 use pawn_book::{BookHead, Keep, MOST_PLEDGES, MOST_TERMS, Number, Terms};
 
@@ -40,18 +40,18 @@ fn terms_under<K: Keep>(
     book: Number,
     version: u64,
 ) -> Result<Option<Terms>, CheckFault>
-    ensures reads { Reads K.keeping keep.old keep.new (λ h. Finds h result (λ terms. terms ≡ terms_at (terms_of (get h.books book)) version)) }
+    ensures reads { Reads K.keeping keep.old keep.new
+        (λ h. Finds h result (λ terms. terms ≡ terms_at (terms_of (get h.books book)) version)) }
     ensures quiet { IsQuiet K.keeping keep.old result }
 {
-    match keep.terms(book, version) {
-        Ok(terms) => Ok(terms),
-        Err(error) => Err(fault_of(error)),
-    }
+    Ok(keep.terms(book, version)?)
 }
 
 // Finds that the terms of a book stand, each within the limits.
 fn find_terms<K: Keep>(keep: &mut K, book: Number, count: u64) -> Result<(), CheckFault>
-    ensures reads { Reads K.keeping keep.old keep.new (λ h. (k : BookValue) → get h.books book ≡ Some k → count ≡ length k.terms → Finds h result (λ _. Each IsChecked k.terms)) }
+    ensures reads { Reads K.keeping keep.old keep.new
+        (λ h. (k : BookValue) → get h.books book ≡ Some k → count ≡ length k.terms → Finds h result
+        (λ _. Each IsChecked k.terms)) }
     ensures quiet { IsQuiet K.keeping keep.old result }
 {
     for version in 0..count {
@@ -65,13 +65,14 @@ fn find_terms<K: Keep>(keep: &mut K, book: Number, count: u64) -> Result<(), Che
 
 // The head of a book that stands.
 fn head_of<K: Keep>(keep: &mut K, book: Number) -> Result<BookHead, CheckFault>
-    ensures reads { Reads K.keeping keep.old keep.new (λ h. (k : BookValue) → get h.books book ≡ Some k → Finds h result (λ head. head ≡ book_head k)) }
+    ensures reads { Reads K.keeping keep.old keep.new
+        (λ h. (k : BookValue) → get h.books book ≡ Some k → Finds h result
+        (λ head. head ≡ book_head k)) }
     ensures quiet { IsQuiet K.keeping keep.old result }
 {
-    match keep.book_head(book) {
-        Ok(Some(head)) => Ok(head),
-        Ok(None) => Err(CheckFault::Damaged),
-        Err(error) => Err(fault_of(error)),
+    match keep.book_head(book)? {
+        Some(head) => Ok(head),
+        None => Err(CheckFault::Damaged),
     }
 }
 
@@ -97,24 +98,20 @@ fn book_counts<K: Keep>(keep: &mut K, book: Number) -> Result<BookCounts, CheckF
 
 // The next book above a number.
 fn book_after<K: Keep>(keep: &mut K, after: Option<Number>) -> Result<Option<Number>, CheckFault>
-    ensures reads { Reads K.keeping keep.old keep.new (λ h. Finds h result (λ next. IsNextBook h (unwrap_or after 0) next)) }
+    ensures reads { Reads K.keeping keep.old keep.new
+        (λ h. Finds h result (λ next. IsNextBook h (unwrap_or after 0) next)) }
     ensures quiet { IsQuiet K.keeping keep.old result }
 {
-    match keep.next_book(after) {
-        Ok(next) => Ok(next),
-        Err(error) => Err(fault_of(error)),
-    }
+    Ok(keep.next_book(after)?)
 }
 
 // The rows of all books.
 fn rows_of<K: Keep>(keep: &mut K) -> Result<u64, CheckFault>
-    ensures reads { Reads K.keeping keep.old keep.new (λ h. Finds h result (λ count. count ≡ rows h)) }
+    ensures reads { Reads K.keeping keep.old keep.new
+        (λ h. Finds h result (λ count. count ≡ rows h)) }
     ensures quiet { IsQuiet K.keeping keep.old result }
 {
-    match keep.rows() {
-        Ok(count) => Ok(count),
-        Err(error) => Err(fault_of(error)),
-    }
+    Ok(keep.rows()?)
 }
 
 /// Judges each book of a store, and counts its books, their pledges and its rows. The keeper's content

@@ -14,13 +14,14 @@ pub enum CheckFault {
     Store,
 }
 
-// What an error of a keeper is to a check.
-pub(crate) fn fault_of(error: KeepError) -> CheckFault
-    ensures value { result ≡ fault_of error }
-{
-    match error {
-        KeepError::Memory => CheckFault::Memory,
-        KeepError::Store(StoreFault::NoRecord) => CheckFault::Damaged,
-        KeepError::Store(StoreFault::Database) => CheckFault::Store,
+impl From<KeepError> for CheckFault {
+    ghost from_gives = { λ error fault. fault ≡ fault_of error };
+
+    fn from(error: KeepError) -> CheckFault {
+        match error {
+            KeepError::Memory => CheckFault::Memory,
+            KeepError::Store(StoreFault::NoRecord) => CheckFault::Damaged,
+            KeepError::Store(StoreFault::Database) => CheckFault::Store,
+        }
     }
 }

@@ -12,7 +12,7 @@ ghost use Rattle.pawn_book.specs.Rows.{IsUnder, version_of};
 ghost use Rattle.pawn_book.specs.Sound.{HasTextsAndWords};
 ghost use Rattle.pawn_check.specs.Judging.{Finds, FitsAt, IsFront, IsQuiet};
 
-use crate::fault::{CheckFault, fault_of};
+use crate::fault::CheckFault;
 use pawn_book::{Keep, Number, Reference};
 use pawn_pledge::Parts;
 
@@ -50,29 +50,31 @@ fn rows_of(parts: &Parts) -> u64
 
 // The parts of the pledge of a number.
 fn parts_of<K: Keep>(keep: &mut K, book: Number, number: Number) -> Result<Parts, CheckFault>
-    ensures reads { Reads K.keeping keep.old keep.new (λ h. (k : BookValue) → get h.books book ≡ Some k → number ≤ length k.pledges → Finds h result (λ parts. pledge_from 1 k.pledges number ≡ Some parts)) }
+    ensures reads { Reads K.keeping keep.old keep.new
+        (λ h. (k : BookValue) → get h.books book ≡ Some k → number ≤ length k.pledges
+        → Finds h result (λ parts. pledge_from 1 k.pledges number ≡ Some parts)) }
     ensures quiet { IsQuiet K.keeping keep.old result }
 {
     let _ = number.get();
-    match keep.pledge(book, number) {
-        Ok(Some(pledge)) => match pledge.parts() {
+    match keep.pledge(book, number)? {
+        Some(pledge) => match pledge.parts() {
             Ok(parts) => Ok(parts),
             Err(_) => Err(CheckFault::Memory),
         },
-        Ok(None) => Err(CheckFault::Damaged),
-        Err(error) => Err(fault_of(error)),
+        None => Err(CheckFault::Damaged),
     }
 }
 
 // Whether the terms of a pledge stand under its version.
 fn is_under<K: Keep>(keep: &mut K, book: Number, parts: &Parts) -> Result<bool, CheckFault>
-    ensures reads { Reads K.keeping keep.old keep.new (λ h. (k : BookValue) → get h.books book ≡ Some k → Finds h result (λ under. IsTrue under ↔ IsUnder k.terms parts.now)) }
+    ensures reads { Reads K.keeping keep.old keep.new
+        (λ h. (k : BookValue) → get h.books book ≡ Some k → Finds h result
+        (λ under. IsTrue under ↔ IsUnder k.terms parts.now)) }
     ensures quiet { IsQuiet K.keeping keep.old result }
 {
-    match keep.terms(book, parts.agreement.version) {
-        Ok(Some(terms)) => Ok(terms.rates() == parts.agreement.terms),
-        Ok(None) => Ok(false),
-        Err(error) => Err(fault_of(error)),
+    match keep.terms(book, parts.agreement.version)? {
+        Some(terms) => Ok(terms.rates() == parts.agreement.terms),
+        None => Ok(false),
     }
 }
 
@@ -83,13 +85,14 @@ fn is_first<K: Keep>(
     number: Number,
     reference: &Reference,
 ) -> Result<bool, CheckFault>
-    ensures reads { Reads K.keeping keep.old keep.new (λ h. (k : BookValue) → get h.books book ≡ Some k → Finds h result (λ first. IsTrue first ↔ (number_of (Some k) reference.now ≡ Some number))) }
+    ensures reads { Reads K.keeping keep.old keep.new
+        (λ h. (k : BookValue) → get h.books book ≡ Some k → Finds h result
+        (λ first. IsTrue first ↔ (number_of (Some k) reference.now ≡ Some number))) }
     ensures quiet { IsQuiet K.keeping keep.old result }
 {
-    match keep.find_ref(book, reference) {
-        Ok(Some(found)) => Ok(found == number),
-        Ok(None) => Ok(false),
-        Err(error) => Err(fault_of(error)),
+    match keep.find_ref(book, reference)? {
+        Some(found) => Ok(found == number),
+        None => Ok(false),
     }
 }
 
@@ -100,7 +103,9 @@ fn next_step<K: Keep>(
     number: Number,
     version: u64,
 ) -> Result<Step, CheckFault>
-    ensures reads { Reads K.keeping keep.old keep.new (λ h. (k : BookValue) (place : ℕ) → get h.books book ≡ Some k → number ≡ place + 1 → number ≤ length k.pledges → version ≡ last_by version_of 0 (take place k.pledges)
+    ensures reads { Reads K.keeping keep.old keep.new
+        (λ h. (k : BookValue) (place : ℕ) → get h.books book ≡ Some k → number ≡ place + 1
+        → number ≤ length k.pledges → version ≡ last_by version_of 0 (take place k.pledges)
         → Finds h result (λ step. (p : PledgeValue) × (pledge_from 1 k.pledges number ≡ Some p) × FitsAt k number p × (version ≤ step.version) × (step.version ≡ version_of p) × (step.rows ≡ pledge_rows p))) }
     ensures few { IfOk result (λ step. step.rows ≤ 10102) }
     ensures quiet { IsQuiet K.keeping keep.old result }
@@ -130,7 +135,8 @@ pub(crate) fn pledges_rows<K: Keep>(
     count: u64,
 ) -> Result<u64, CheckFault>
     requires few { count ≤ most_pledges }
-    ensures reads { Reads K.keeping keep.old keep.new (λ h. (k : BookValue) → get h.books book ≡ Some k → count ≡ length k.pledges
+    ensures reads { Reads K.keeping keep.old keep.new
+        (λ h. (k : BookValue) → get h.books book ≡ Some k → count ≡ length k.pledges
         → Finds h result (λ rows. (version : ℕ) × IsFront k k.pledges version rows)) }
     ensures few { IfOk result (λ rows. rows ≤ count * 10102) }
     ensures quiet { IsQuiet K.keeping keep.old result }

@@ -11,15 +11,16 @@ use Rattle.pawn_book.specs.Visits.{End, Front, Whole, call_end}
 use Rattle.pawn_book.specs.declared.change.BookHead.{BookHead}
 use Rattle.pawn_book.specs.declared.fault.KeepError.{KeepError}
 use Rattle.pawn_book.specs.declared.fault.KeepError.TheVariants as error
-use Rattle.pawn_view.specs.Ends.{end_by, write_failed}
+use Rattle.pawn_view.specs.Ends.{PutFront, Written, end_by, write_failed}
+use Rattle.pawn_view.specs.declared.fault.ViewFault.{ViewFault}
 use Rattle.pawn_csv.specs.Exports.{Exports, ending_by, ending_of}
 use Rattle.pawn_csv.specs.Rows.{csv_of, header, pledge_rows, row_fields, terms_rows}
-use Rattle.pawn_csv.specs.Sent.{PutFront, Puts, PutsShare, Written, has_ended, line_of}
-use Rattle.pawn_csv.specs.declared.exporting.ExportFault.{ExportFault}
+use Rattle.pawn_csv.specs.Sent.{Puts, PutsShare, has_ended, line_of, seen}
 use Rattle.pawn_csv.specs.declared.row.Row.{Row}
 use Rattle.pawn_csv.specs.declared.row.Version.TheVariants as version
 use Rattle.pawn_csv.specs.declared.writing.Sink.{Sink}
-use Rattle.pawn_csv.proofs.SentLemmas.{front-more, now_by, share_more, share_puts, share_then}
+use Rattle.pawn_csv.proofs.SentLemmas.{share_more, share_puts, share_then}
+use Rattle.pawn_view.proofs.PutLemmas.{front-more, now_by}
 
 -- the rows below the first
 abbrev pub below_text : BookValue → List ℕ
@@ -63,26 +64,27 @@ or_none : (a b : Bool) → a ≡ false → b ≡ false → (a || b) ≡ false
 or_none a b first second = ap (λ (v : Bool). v || b) first ∙ second
 
 -- however it ends, a front of the text went out
-front_sent : {W : Type 0} (contents : W → Option (List ℕ)) (a w : Sink W) (text : List ℕ) (end : End) → has_ended a ≡ false → PutsShare contents a text end w → PutFront contents a text w
+front_sent : {W : Type 0} (contents : W → Option (List ℕ)) (a w : Sink W) (text : List ℕ) (end : End) → has_ended a ≡ false → PutsShare contents a text end w → PutFront contents (seen a) text (seen w)
 front_sent contents a w text end fine (out, rest, whole, puts, all) = from (has_ended w) refl (puts.fine fine)
   where
-    from : (v : Bool) → has_ended w ≡ v → Written contents a out (end_by (has_ended w)) w → PutFront contents a text w
+    from : (v : Bool) → has_ended w ≡ v → Written contents (seen a) out (end_by (has_ended w)) (seen w) → PutFront contents (seen a) text (seen w)
     from true is written =
-        let front = now_by contents a w out true is written in
-        subst (λ (t : List ℕ). PutFront contents a t w) whole (front-more contents a w out rest front.0)
-    from false is written = let sent = now_by contents a w out false is written in (out, rest, whole, sent.0)
+        let front = now_by contents (seen a) (seen w) out true is written in
+        subst (λ (t : List ℕ). PutFront contents (seen a) t (seen w)) whole (front-more contents (seen a) (seen w) out rest front.0)
+    from false is written = let sent = now_by contents (seen a) (seen w) out false is written in (out, rest, whole, sent.0)
 
-whole_sent : {W : Type 0} (contents : W → Option (List ℕ)) (a w : Sink W) (text : List ℕ) → has_ended a ≡ false → has_ended w ≡ false → PutsShare contents a text Whole w → Written contents a text Whole w
+whole_sent : {W : Type 0} (contents : W → Option (List ℕ)) (a w : Sink W) (text : List ℕ) → has_ended a ≡ false → has_ended w ≡ false → PutsShare contents a text Whole w
+    → Written contents (seen a) text Whole (seen w)
 whole_sent contents a w text fine going (out, rest, whole, puts, all) =
-    subst (λ (t : List ℕ). Written contents a t Whole w) (sym (append-nil out) ∙ ap (λ (x : List ℕ). out ++ x) (sym (all going refl)) ∙ whole)
-    (now_by contents a w out false going (puts.fine fine))
+    subst (λ (t : List ℕ). Written contents (seen a) t Whole (seen w)) (sym (append-nil out) ∙ ap (λ (x : List ℕ). out ++ x) (sym (all going refl)) ∙ whole)
+    (now_by contents (seen a) (seen w) out false going (puts.fine fine))
 
 exports_by : {W : Type 0} (contents : W → Option (List ℕ)) (a w : Sink W) (text : List ℕ) (done : Result (Unit {0}) KeepError) (failed starved : Bool)
     → has_ended a ≡ false → write_failed w.writer ≡ failed → w.is_starved ≡ starved → PutsShare contents a text (call_end done) w → Exports contents a (Some text) (ending_by done failed starved) w
 exports_by contents a w text done true starved fine now fed share = (text, refl, front_sent contents a w text (call_end done) fine share, now)
 exports_by contents a w text done false true fine now fed share = (front_sent contents a w text (call_end done) fine share, now)
 exports_by contents a w text (Ok u) false false fine now fed share =
-    let sent = whole_sent contents a w text fine (or_none (write_failed w.writer) w.is_starved now fed) share in (text, refl, sent.0, sent.1)
+    let sent = whole_sent contents a w text fine (or_none (write_failed w.writer) w.is_starved now fed) share in (text, refl, sent)
 exports_by contents a w text (Err error.Memory) false false fine now fed share = (front_sent contents a w text Front fine share, now)
 exports_by contents a w text (Err (error.Store why)) false false fine now fed share = (front_sent contents a w text Front fine share, now)
 
@@ -90,7 +92,7 @@ head_of : (head : BookHead) (at : BookValue) → Some head ≡ Some (book_head a
 head_of head at e = ap (λ (x : Option BookHead). unwrap_or x head) e
 
 -- the text of a book was put, and the answer says how that ended
-pub book_exported : {W : Type 0} (contents : W → Option (List ℕ)) (a b c w : Sink W) (o : Option BookValue) (head : BookHead) (done : Result (Unit {0}) KeepError) (answer : Result (Unit {0}) ExportFault)
+pub book_exported : {W : Type 0} (contents : W → Option (List ℕ)) (a b c w : Sink W) (o : Option BookValue) (head : BookHead) (done : Result (Unit {0}) KeepError) (answer : Result (Unit {0}) ViewFault)
     → has_ended a ≡ false → answer ≡ ending_of done w → Some head ≡ option_map book_head o
     → Puts contents a (row_text default_writer header) b → Puts contents b (count_text head.terms head.pledges) c
     → ((at : BookValue) → o ≡ Some at → head ≡ book_head at → PutsShare contents c (below_text at) (call_end done) w)
@@ -99,7 +101,7 @@ book_exported contents a b c w None head done answer fine is at first second sha
 book_exported contents a b c w (Some book) head done answer fine is at first second share =
     let same = head_of head book at in
     let count : Puts contents b (count_text (length book.terms) (length book.pledges)) c = subst (λ (x : BookHead). Puts contents b (count_text x.terms x.pledges) c) same second in
-    subst (λ (r : Result (Unit {0}) ExportFault). Exports contents a (Some (csv_of (rows_of_book book))) r w) (sym is)
+    subst (λ (r : Result (Unit {0}) ViewFault). Exports contents a (Some (csv_of (rows_of_book book))) r w) (sym is)
     (exports_by contents a w (csv_of (rows_of_book book)) done (write_failed w.writer) w.is_starved fine refl refl
     (subst (λ (t : List ℕ). PutsShare contents a t (call_end done) w) (book_is book)
     (share_then (share_puts first) (share_then (share_puts count) (share book refl same)))))

@@ -1,22 +1,21 @@
 -- What an export writes and answers.
 use Rattle.std.specs.Prelude.{◌≡◌, ℕ, ◌+◌, ◌-◌, ◌^◌, min, Bool, true, false, if◌then◌else◌, List, [], Option, Some, None, option_map, unwrap_or, Result, Ok, Err}
 use Rattle.std.specs.FinMap.{get}
-use Rattle.std.specs.Io.KnownBytes.{Appends}
 use Rattle.pawn_debt.specs.declared.entry.Entry.{Entry}
 use Rattle.pawn_pledge.specs.declared.record.Extension.{Extension}
 use Rattle.pawn_pledge.specs.declared.record.Issued.{Issued}
 use Rattle.pawn_book.specs.BookStep.{rows_of_book}
 use Rattle.pawn_book.specs.HostStep.{Host}
-use Rattle.pawn_book.specs.Keeping.{Keeping}
 use Rattle.pawn_book.specs.declared.fault.KeepError.{KeepError}
-use Rattle.pawn_book.specs.declared.fault.KeepError.TheVariants as error
 use Rattle.pawn_book.specs.declared.visit.Flow.{Flow}
 use Rattle.pawn_book.specs.declared.visit.Flow.TheVariants.{Go, Stop}
-use Rattle.pawn_view.specs.Ends.{write_failed}
+use Rattle.pawn_book.specs.Visits.{Whole}
+use Rattle.pawn_view.specs.Ends.{PutFront, Written, write_failed}
+use Rattle.pawn_view.specs.Fault.{view_fault}
+use Rattle.pawn_view.specs.declared.fault.ViewFault.{ViewFault}
+use Rattle.pawn_view.specs.declared.fault.ViewFault.TheVariants as fault
 use Rattle.pawn_csv.specs.Rows.{csv_of}
-use Rattle.pawn_csv.specs.Sent.{PutFront, Puts, has_ended, line_of, sent_bytes}
-use Rattle.pawn_csv.specs.declared.exporting.ExportFault.{ExportFault}
-use Rattle.pawn_csv.specs.declared.exporting.ExportFault.TheVariants as fault
+use Rattle.pawn_csv.specs.Sent.{Puts, has_ended, line_of, seen}
 use Rattle.pawn_csv.specs.declared.exporting.RowWriter.{RowWriter}
 use Rattle.pawn_csv.specs.declared.row.Row.{Row}
 use Rattle.pawn_csv.specs.declared.writing.Sink.{Sink}
@@ -45,30 +44,21 @@ pub record PutsAt {W T : Type 0} (contents : W → Option (List ℕ)) (line : �
 abbrev pub text_of : Host → ℕ → Option (List ℕ)
 text_of h book = option_map (λ at. csv_of (rows_of_book at)) (get h.books book)
 
--- the fault of an export whose keeper did not answer
-abbrev pub export_fault : KeepError → ExportFault
-export_fault error.Memory = fault.Memory
-export_fault (error.Store why) = fault.Store
-
 -- how an export ends, by the keeper's last answer, by whether the writer failed, and by whether a row had no memory
-abbrev pub ending_by : Result (Unit {0}) KeepError → Bool → Bool → Result (Unit {0}) ExportFault
+abbrev pub ending_by : Result (Unit {0}) KeepError → Bool → Bool → Result (Unit {0}) ViewFault
 ending_by done true starved = Err fault.Write
 ending_by done false true = Err fault.Memory
 ending_by (Ok u) false false = Ok u
-ending_by (Err error) false false = Err (export_fault error)
+ending_by (Err error) false false = Err (view_fault error)
 
-abbrev pub ending_of : {W : Type 0} → Result (Unit {0}) KeepError → Sink W → Result (Unit {0}) ExportFault
+abbrev pub ending_of : {W : Type 0} → Result (Unit {0}) KeepError → Sink W → Result (Unit {0}) ViewFault
 ending_of done sink = ending_by done (write_failed sink.writer) sink.is_starved
 
 -- the text went out, or why not all of it. A refusal writes nothing, and comes just where there is no such book; where the
 -- writer failed, memory was wanting or the keeper failed, a front of the text went out
-abbrev pub Exports : {W U : Type 0} → (W → Option (List ℕ)) → Sink W → Option (List ℕ) → Result U ExportFault → Sink W → Type 0
-Exports contents old text (Ok u) new = (t : List ℕ) × (text ≡ Some t) × Appends (sent_bytes contents old) (sent_bytes contents new) t × (has_ended new ≡ false)
-Exports contents old text (Err fault.Write) new = (t : List ℕ) × (text ≡ Some t) × PutFront contents old t new × (write_failed new.writer ≡ true)
-Exports contents old text (Err fault.Memory) new = PutFront contents old (unwrap_or text []) new × (write_failed new.writer ≡ false)
-Exports contents old text (Err fault.Store) new = PutFront contents old (unwrap_or text []) new × (write_failed new.writer ≡ false)
-Exports contents old text (Err fault.NoSuchBook) new = (text ≡ None) × (new ≡ old)
-
--- over a steady keeper no export is refused by a fault of the store
-abbrev pub IsQuietExport : {K U : Type 0} → Keeping K → K → Result U ExportFault → Type 0
-IsQuietExport k old result = k.steady old → result ≡ Err fault.Store → ⊥
+abbrev pub Exports : {W U : Type 0} → (W → Option (List ℕ)) → Sink W → Option (List ℕ) → Result U ViewFault → Sink W → Type 0
+Exports contents old text (Ok u) new = (t : List ℕ) × (text ≡ Some t) × Written contents (seen old) t Whole (seen new)
+Exports contents old text (Err fault.Write) new = (t : List ℕ) × (text ≡ Some t) × PutFront contents (seen old) t (seen new) × (write_failed new.writer ≡ true)
+Exports contents old text (Err fault.Memory) new = PutFront contents (seen old) (unwrap_or text []) (seen new) × (write_failed new.writer ≡ false)
+Exports contents old text (Err fault.Store) new = PutFront contents (seen old) (unwrap_or text []) (seen new) × (write_failed new.writer ≡ false)
+Exports contents old text (Err fault.Unknown) new = (text ≡ None) × (new ≡ old)

@@ -1,8 +1,8 @@
 -- What clauses read of a writer of rows, and what it is to have written a text.
 use Rattle.std.specs.Prelude.{ℕ, Bool, true, false, List, [], ◌++◌, ◌||◌, ◌≡◌, Option}
-use Rattle.std.specs.Io.KnownBytes.{Appends}
-use Rattle.pawn_book.specs.Visits.{End, Front, Whole}
-use Rattle.pawn_view.specs.Ends.{end_by, write_failed, written_bytes}
+use Rattle.pawn_book.specs.Visits.{End, Whole}
+use Rattle.pawn_view.specs.Ends.{Written, end_by, write_failed}
+use Rattle.pawn_view.specs.declared.writing.Writing.{Writing}
 use Rattle.csv.specs.Writing.{default_writer, row_text}
 use Rattle.pawn_pledge.specs.declared.brief.BriefFields.{BriefFields}
 use Rattle.pawn_csv.specs.Rows.{closing_amount, closing_day, closing_word, row_fields}
@@ -14,23 +14,14 @@ use Rattle.pawn_csv.specs.declared.writing.Sink.{Sink}
 abbrev pub has_ended : {W : Type 0} → Sink W → Bool
 has_ended sink = write_failed sink.writer || sink.is_starved
 
--- the bytes that were written, where the writer tells them
-abbrev pub sent_bytes : {W : Type 0} → (W → Option (List ℕ)) → Sink W → Option (List ℕ)
-sent_bytes contents sink = written_bytes contents sink.writer
-
--- a front of the text went out
-abbrev pub PutFront : {W : Type 0} → (W → Option (List ℕ)) → Sink W → List ℕ → Sink W → Type 0
-PutFront contents old text new = (out : List ℕ) × (rest : List ℕ) × (out ++ rest ≡ text) × Appends (sent_bytes contents old) (sent_bytes contents new) out
-
--- the text went out, or a front of it where a row was not written whole
-abbrev pub Written : {W : Type 0} → (W → Option (List ℕ)) → Sink W → List ℕ → End → Sink W → Type 0
-Written contents old text Whole new = Appends (sent_bytes contents old) (sent_bytes contents new) text × (has_ended new ≡ false)
-Written contents old text Front new = PutFront contents old text new × (has_ended new ≡ true)
+-- a sink, seen as a writer that failed where a row was not written whole
+abbrev pub seen : {W : Type 0} → Sink W → Writing W
+seen sink = record { inner = sink.writer.inner; failed = has_ended sink }
 
 -- the text went out, or a front of it where a row was not written whole; nothing is written after that
 pub record Puts {W : Type 0} (contents : W → Option (List ℕ)) (old : Sink W) (text : List ℕ) (new : Sink W) : Type 0 where
   pub ended : has_ended old ≡ true → new ≡ old
-  pub fine : has_ended old ≡ false → Written contents old text (end_by (has_ended new)) new
+  pub fine : has_ended old ≡ false → Written contents (seen old) text (end_by (has_ended new)) (seen new)
 
 -- a front of the text was put, and all of it where the calls on the way succeeded and each row was written whole
 abbrev pub PutsShare : {W : Type 0} → (W → Option (List ℕ)) → Sink W → List ℕ → End → Sink W → Type 0

@@ -10,9 +10,10 @@ ghost use Rattle.pawn_book.specs.Sound.{IsSound};
 ghost use Rattle.pawn_book.specs.Keeping.{Reads, IsSteady, entries_of, extensions_of, pledges_of, secrets_of, terms_of};
 ghost use Rattle.pawn_book.specs.Visits.{call_end};
 ghost use Rattle.pawn_view.specs.Ends.{write_failed, writing_inner};
+ghost use Rattle.pawn_view.specs.Shown.{IsQuietView};
 ghost use Rattle.pawn_csv.specs.Rows.{booking_rows, entry_rows, extension_rows, pledge_rows, secret_rows, terms_rows};
 ghost use Rattle.pawn_csv.specs.Sent.{Puts, PutsShare, has_ended, line_of};
-ghost use Rattle.pawn_csv.specs.Exports.{Exports, IsQuietExport, PutsAt, ending_of, entry_line, extension_line, export_fault, secret_line, text_of};
+ghost use Rattle.pawn_csv.specs.Exports.{Exports, PutsAt, ending_of, entry_line, extension_line, secret_line, text_of};
 
 use crate::writing::{
     Sink, put_book, put_booking, put_entry, put_extension, put_header, put_pledge, put_secret,
@@ -21,21 +22,9 @@ use crate::writing::{
 use pawn_book::{
     BookHead, Booking, Brief, Entry, Extension, Flow, Issued, Keep, KeepError, Number, Visitor,
 };
+use pawn_view::ViewFault;
 use std::alloc::Global;
 use std::io::Write;
-
-/// Why a book's text was not written whole.
-#[derive(Clone, Copy, Debug, PartialEq, Eq)]
-pub enum ExportFault {
-    /// There is no such book; nothing was written.
-    NoSuchBook,
-    /// Memory was wanting; a front of the text was written.
-    Memory,
-    /// The keeper's store failed; a front of the text was written.
-    Store,
-    /// The writer failed; a front of the text was written.
-    Write,
-}
 
 /// A writer of the rows of books, round any writer of bytes.
 #[derive(Drop)]
@@ -263,51 +252,36 @@ fn put_rows<K: Keep, W: Write>(
     }
 }
 
-// The fault of an export whose keeper did not answer.
-fn export_fault(error: KeepError) -> ExportFault
-    ensures answer { result ≡ export_fault error }
-{
-    match error {
-        KeepError::Memory => ExportFault::Memory,
-        KeepError::Store(_) => ExportFault::Store,
-    }
-}
-
 // How an export ends, once its rows were put.
-fn ending<W>(done: Result<(), KeepError>, sink: &Sink<W>) -> Result<(), ExportFault>
+fn ending<W>(done: Result<(), KeepError>, sink: &Sink<W>) -> Result<(), ViewFault>
     ensures answer { result ≡ ending_of done sink.now }
 {
     if sink.has_failed() {
-        return Err(ExportFault::Write);
+        return Err(ViewFault::Write);
     }
     if sink.has_ended() {
-        return Err(ExportFault::Memory);
+        return Err(ViewFault::Memory);
     }
-    match done {
-        Ok(()) => Ok(()),
-        Err(error) => Err(export_fault(error)),
-    }
+    Ok(done?)
 }
 
 /// Writes the text of a book, row by row. The keeper's content stays as it is.
 ///
-/// The caller's condition: each row before was written whole. Errors: `NoSuchBook` where the book
+/// The caller's condition: each row before was written whole. Errors: `Unknown` where the book
 /// does not stand; `Memory` where it is wanting; `Store` where the keeper does not answer; `Write`
 /// only where the writer failed in the call.
 pub fn export<K: Keep, W: Write>(
     keep: &mut K,
     book: Number,
     rows: &mut RowWriter<W>,
-) -> Result<(), ExportFault>
+) -> Result<(), ViewFault>
     requires fine { has_ended rows.old.sink ≡ false }
     ensures exports { Reads K.keeping keep.old keep.new (λ h. IsSound h → Exports W.contents rows.old.sink (text_of h book) result rows.new.sink) }
-    ensures write { IsErrOf result ExportFault.Write → write_failed rows.new.sink.writer ≡ true }
-    ensures steady { IsQuietExport K.keeping keep.old result }
+    ensures write { IsErrOf result ViewFault.Write → write_failed rows.new.sink.writer ≡ true }
+    ensures steady { IsQuietView K.keeping keep.old result }
 {
-    let head = match keep.book_head(book) {
-        Ok(Some(head)) => head,
-        Ok(None) => return Err(ExportFault::NoSuchBook),
-        Err(error) => return Err(export_fault(error)),
+    let Some(head) = keep.book_head(book)? else {
+        return Err(ViewFault::Unknown);
     };
     put_header(&mut rows.sink);
     put_book(&mut rows.sink, head.terms, head.pledges);

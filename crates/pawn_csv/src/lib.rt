@@ -15,7 +15,7 @@ mod words;
 mod worked;
 mod writing;
 
-pub use exporting::{ExportFault, RowWriter, export};
+pub use exporting::{RowWriter, export};
 pub use fault::{Cause, CsvFault};
 pub use importing::import;
 pub use laws::{laws_of_texts, rows_have_one_spelling, texts_have_one_reading};
@@ -23,6 +23,7 @@ pub use pawn_book::{
     BookRows, Booking, Day, Entry, Extension, Issued, Keep, Number, Opening, Rates, Refusal,
     ReplayableRows, Reply, Secret, Stamp,
 };
+pub use pawn_view::ViewFault;
 pub use reading::read_book;
 pub use row::{ClosingWord, PledgeColumns, Row, Version};
 pub use worked::worked_texts;

@@ -8,5 +8,6 @@ pub mod RunMore
 pub mod LawLemmas
 pub mod HeadlineLemmas
 pub mod ShardLemmas
+pub mod ViewLemmas
 pub mod SheetLemmas
 pub mod RowsLemmas

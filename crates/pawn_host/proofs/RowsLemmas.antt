@@ -1,21 +1,18 @@
 -- Lemmas on a request for the rows of a book.
-use Rattle.std.proofs.Common.{◌≡◌, ◌∙◌, ℕ, Bool, true, List, arith, ap, sym, Option, Some, None, Ok, codes, refl, if◌then◌else◌}
-use Rattle.std.specs.Prelude.{option_map, ◌==◌}
-use Rattle.std.proofs.lemmas.Bool.Decides.{nat_tests}
+use Rattle.std.proofs.Common.{◌≡◌, ◌∙◌, ℕ, List, ap, sym, Option, Some, None, Ok, codes}
+use Rattle.std.specs.Prelude.{option_map}
 use Rattle.pawn_pledge.specs.declared.command.Stamp.{Stamp}
 use Rattle.pawn_book.specs.declared.request.Request.{Request}
 use Rattle.pawn_book.specs.declared.request.BrokerRequest.TheVariants.{Export}
-use Rattle.pawn_book.specs.declared.refusal.Refusal.TheVariants as No
-use Rattle.pawn_book.specs.BookStep.{BookValue, Out, Exported, Refuses, Says, export_rows, gate_step, out_of, rows_of_book}
-use Rattle.pawn_book.specs.HostStep.{Host, host_step, within_limit}
+use Rattle.pawn_book.specs.BookStep.{BookValue, Exported, Says, rows_of_book}
+use Rattle.pawn_book.specs.HostStep.{Host, host_step}
 use Rattle.pawn_csv.specs.Exports.{text_of}
 use Rattle.pawn_csv.specs.Rows.{csv_of}
 use Rattle.pawn_wire.specs.Request.{Reads}
-use Rattle.pawn_wire.specs.Reply.{memory_text, reply_text}
+use Rattle.pawn_wire.specs.Reply.{reply_text}
 use Rattle.pawn_host.specs.declared.service.Answer.{Answer}
-use Rattle.pawn_host.specs.declared.service.Answer.TheVariants.{Bytes, Memory}
 use Rattle.pawn_host.specs.Keeps.{Start, Kept, GoesTo, answer_bytes, IsKeyOf, Tells, IsActed}
-use Rattle.pawn_host.proofs.RunLemmas.{acted_memory, acted_said, broker_request, goes_by, some_same}
+use Rattle.pawn_host.proofs.RunLemmas.{acted_text, broker_request, some_same, step_past_gate}
 
 abbrev pub rows_request : ℕ → ℕ → Request
 rows_request book key = broker_request book key Export
@@ -23,11 +20,7 @@ rows_request book key = broker_request book key Export
 -- what comes of an export that is asked for with the book's key
 step_rows : (h : Host) (operator : ℕ) (stamp : Stamp) (book key : ℕ) (with_key : IsKeyOf h book key)
     → host_step h operator stamp (rows_request book key) ≡ Says (Exported (rows_of_book with_key.0))
-step_rows h operator stamp book key with_key =
-    let at = with_key.0 in
-    let same : (at.key == key) ≡ true = grind (arith, nat_tests, with_key.2) in
-    ap (λ (o : Option BookValue). within_limit h book (gate_step o key export_rows)) with_key.1
-    ∙ ap (λ (v : Bool). within_limit h book (if v then export_rows at else Refuses No.NoSuchBook)) same
+step_rows h operator stamp book key with_key = step_past_gate h operator stamp book key Export with_key
 
 -- the text of a book that stands
 text_is : (h : Host) (book key : ℕ) (with_key : IsKeyOf h book key) → text_of h book ≡ Some (csv_of (rows_of_book with_key.0))
@@ -42,12 +35,8 @@ pub acted_rows : (start : Start) (stamp : Stamp) (bytes : List ℕ) (answer : An
     → Reads bytes (Ok (rows_request book key)) → IsKeyOf start.host book key → text_of start.host book ≡ Some text → text ≡ out
     → Tells answer (reply_text 200 (codes "text/csv; charset=utf-8") out) → GoesTo kept start.host start.leaves
     → IsActed start stamp bytes (answer_bytes answer) kept
-acted_rows start stamp bytes Memory kept book key text out read with_key is all tells goes =
-    acted_memory start stamp bytes memory_text kept refl goes
-acted_rows start stamp bytes (Bytes v) kept book key text out read with_key is all tells goes =
-    let request : Request = rows_request book key in
-    let said : Out = Exported (rows_of_book with_key.0) in
+acted_rows start stamp bytes answer kept book key text out read with_key is all tells goes =
     let step = step_rows start.host start.operator stamp book key with_key in
     let same : out ≡ csv_of (rows_of_book with_key.0) = sym all ∙ sym (some_same (sym (text_is start.host book key with_key) ∙ is)) in
-    acted_said start stamp bytes v.items kept request said read (ap out_of step)
-    (tells ∙ ap (reply_text 200 (codes "text/csv; charset=utf-8")) same) (goes_by start stamp request kept (Says said) step goes)
+    acted_text start stamp bytes answer kept (rows_request book key) (Exported (rows_of_book with_key.0)) (codes "text/csv; charset=utf-8") out read step
+    (ap (reply_text 200 (codes "text/csv; charset=utf-8")) same) tells goes

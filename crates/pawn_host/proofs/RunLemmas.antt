@@ -17,7 +17,7 @@ use Rattle.pawn_book.specs.declared.request.BrokerRequest.TheVariants.{Show}
 use Rattle.pawn_book.specs.declared.reply.Reply.{Reply}
 use Rattle.pawn_book.specs.declared.refusal.Refusal.{Refusal}
 use Rattle.pawn_book.specs.declared.refusal.Refusal.TheVariants as No
-use Rattle.pawn_book.specs.BookStep.{BookValue, Out, Told, Denied, Shown, Outcome, Refuses, Says, out_of, are_unknown, broker_step, gate_step, pledge_from, pledge_in, show_pledge}
+use Rattle.pawn_book.specs.BookStep.{BookValue, Out, Told, Denied, Shown, Outcome, Refuses, Says, out_of, are_unknown, broker_step, gate_step, pledge_in, show_pledge}
 use Rattle.pawn_book.specs.HostStep.{Host, rows, within_limit, host_step, host_after}
 use Rattle.pawn_book.specs.Sound.{IsSound}
 use Rattle.pawn_book.specs.Runs.{read_as, no_memory, no_store, Answered}
@@ -171,6 +171,18 @@ goes_unmade start stamp request kept (Some change) why sound made (at, inr step)
 pub err_is : {V : Type 0} (r : Result V Refusal) (why : Refusal) → r ≡ Err why → why ≡ No.Store → r ≡ Err No.Store
 err_is r why is store = is ∙ ap (λ (w : Refusal). Err w) store
 
+-- a text was told that the step says
+pub acted_text : (start : Start) (stamp : Stamp) (bytes : List ℕ) (answer : Answer) (kept : Kept) (request : Request) (said : Out) (kind out : List ℕ)
+    → Reads bytes (Ok request) → host_step start.host start.operator stamp request ≡ Says said → reply_text 200 kind out ≡ said_text (Answered said)
+    → Tells answer (reply_text 200 kind out) → GoesTo kept start.host start.leaves → IsActed start stamp bytes (answer_bytes answer) kept
+acted_text start stamp bytes Memory kept request said kind out read step same tells goes = acted_memory start stamp bytes memory_text kept refl goes
+acted_text start stamp bytes (Bytes v) kept request said kind out read step same tells goes =
+    acted_said start stamp bytes v.items kept request said read (ap out_of step) (tells ∙ same) (goes_by start stamp request kept (Says said) step goes)
+
+-- the type of a plain text
+abbrev pub plain : List ℕ
+plain = codes "text/plain; charset=utf-8"
+
 -- ---- receipts
 
 abbrev pub present_request : ℕ → List Receipt → Request
@@ -207,20 +219,16 @@ nothing_shown h operator stamp book day receipts is =
 -- the text of the receipts was told
 pub acted_shown : (start : Start) (stamp : Stamp) (bytes : List ℕ) (answer : Answer) (kept : Kept) (book day : ℕ) (receipts : List Receipt) (text out : List ℕ)
     → Reads bytes (Ok (present_request book receipts)) → day ≡ stamp.day → presentation_of start.host book receipts day ≡ Some text → text ≡ out
-    → Tells answer (reply_text 200 (codes "text/plain; charset=utf-8") out) → GoesTo kept start.host start.leaves
+    → Tells answer (reply_text 200 plain out) → GoesTo kept start.host start.leaves
     → IsActed start stamp bytes (answer_bytes answer) kept
-acted_shown start stamp bytes Memory kept book day receipts text out read day_is is all tells goes = acted_memory start stamp bytes memory_text kept refl goes
-acted_shown start stamp bytes (Bytes v) kept book day receipts text out read day_is is all tells goes =
+acted_shown start stamp bytes answer kept book day receipts text out read day_is is all tells goes =
     let shown = live_pledges start.host book receipts in
     let known = text_known (are_unknown shown) (presented_text day shown) text is in
     let step = step_known start.host start.operator stamp book receipts known.0 in
-    let request : Request = present_request book receipts in
-    let said : Out = Shown stamp.day shown in
     let same : out ≡ presented_text stamp.day shown = sym all ∙ known.1 ∙ ap (λ (x : ℕ). presented_text x shown) day_is in
-    acted_said start stamp bytes v.items kept request said read (ap out_of step) (tells ∙ ap (reply_text 200 (codes "text/plain; charset=utf-8")) same)
-    (goes_by start stamp request kept (Says said) step goes)
+    acted_text start stamp bytes answer kept (present_request book receipts) (Shown stamp.day shown) plain out read step (ap (reply_text 200 plain) same) tells goes
 
--- ---- a pledge
+-- ---- what a broker asks to see
 
 abbrev pub broker_request : ℕ → ℕ → BrokerRequest → Request
 broker_request book key asked = record { book = book; caller = Broker key asked }
@@ -228,16 +236,21 @@ broker_request book key asked = record { book = book; caller = Broker key asked 
 abbrev pub show_request : ℕ → ℕ → ℕ → Request
 show_request book key number = broker_request book key (Show number)
 
--- what comes of a pledge that is asked for with the book's key
+-- what comes of a request with the book's key
+pub step_past_gate : (h : Host) (operator : ℕ) (stamp : Stamp) (book key : ℕ) (asked : BrokerRequest) (with_key : IsKeyOf h book key)
+    → host_step h operator stamp (broker_request book key asked) ≡ within_limit h book (broker_step with_key.0 book stamp asked)
+step_past_gate h operator stamp book key asked with_key =
+    let at = with_key.0 in
+    let same : (at.key == key) ≡ true = grind (arith, nat_tests, with_key.2) in
+    ap (λ (o : Option BookValue). within_limit h book (gate_step o key (λ (k : BookValue). broker_step k book stamp asked))) with_key.1
+    ∙ ap (λ (v : Bool). within_limit h book (if v then broker_step at book stamp asked else Refuses No.NoSuchBook)) same
+
+-- .. for a pledge
 step_key : (h : Host) (operator : ℕ) (stamp : Stamp) (book key number : ℕ) → IsKeyOf h book key
     → host_step h operator stamp (show_request book key number) ≡ within_limit h book (show_pledge stamp (pledge_at h book number))
 step_key h operator stamp book key number with_key =
-    let at = with_key.0 in
-    let is = with_key.1 in
-    let same : (at.key == key) ≡ true = grind (arith, nat_tests, with_key.2) in
-    ap (λ o. within_limit h book (gate_step o key (λ (k : BookValue). show_pledge stamp (pledge_from 1 k.pledges number)))) is
-    ∙ ap (λ v. within_limit h book (if v then show_pledge stamp (pledge_from 1 at.pledges number) else Refuses No.NoSuchBook)) same
-    ∙ ap (λ o. within_limit h book (show_pledge stamp (pledge_in o number))) (sym is)
+    step_past_gate h operator stamp book key (Show number) with_key
+    ∙ ap (λ (o : Option BookValue). within_limit h book (show_pledge stamp (pledge_in o number))) (sym with_key.1)
 
 -- there is no such pledge
 pub no_pledge : (h : Host) (operator : ℕ) (stamp : Stamp) (book key number day : ℕ) → IsKeyOf h book key → statement_of h book number day ≡ None
@@ -251,24 +264,20 @@ no_pledge h operator stamp book key number day with_key none = step_key h operat
 -- the statement of a pledge was told
 pub acted_statement : (start : Start) (stamp : Stamp) (bytes : List ℕ) (answer : Answer) (kept : Kept) (book key number day : ℕ) (text out : List ℕ)
     → Reads bytes (Ok (show_request book key number)) → IsKeyOf start.host book key → day ≡ stamp.day → statement_of start.host book number day ≡ Some text → text ≡ out
-    → Tells answer (reply_text 200 (codes "text/plain; charset=utf-8") out) → GoesTo kept start.host start.leaves
+    → Tells answer (reply_text 200 plain out) → GoesTo kept start.host start.leaves
     → IsActed start stamp bytes (answer_bytes answer) kept
-acted_statement start stamp bytes Memory kept book key number day text out read with_key day_is is all tells goes =
-    acted_memory start stamp bytes memory_text kept refl goes
-acted_statement start stamp bytes (Bytes v) kept book key number day text out read with_key day_is is all tells goes =
+acted_statement start stamp bytes answer kept book key number day text out read with_key day_is is all tells goes =
     from (pledge_at start.host book number) refl is
   where
-    from : (o : Option PledgeValue) → pledge_at start.host book number ≡ o → option_map (statement_text day) o ≡ Some text → IsActed start stamp bytes v.items kept
+    from : (o : Option PledgeValue) → pledge_at start.host book number ≡ o → option_map (statement_text day) o ≡ Some text → IsActed start stamp bytes (answer_bytes answer) kept
     from None there is = cc is
     from (Some p) there is =
-        let request : Request = show_request book key number in
         let said : Out = Shown stamp.day (Some p ∷ []) in
-        let step : host_step start.host start.operator stamp request ≡ Says said =
+        let step : host_step start.host start.operator stamp (show_request book key number) ≡ Says said =
         step_key start.host start.operator stamp book key number with_key ∙ ap (λ o. within_limit start.host book (show_pledge stamp o)) there in
         let same : out ≡ presented_text stamp.day (Some p ∷ []) =
         sym all ∙ sym (some_same is) ∙ ap (λ (x : ℕ). statement_text x p) day_is ∙ sym (append-nil (statement_text stamp.day p)) in
-        acted_said start stamp bytes v.items kept request said read (ap out_of step)
-        (tells ∙ ap (reply_text 200 (codes "text/plain; charset=utf-8")) same) (goes_by start stamp request kept (Says said) step goes)
+        acted_text start stamp bytes answer kept (show_request book key number) said plain out read step (ap (reply_text 200 plain) same) tells goes
 
 -- the key was another's, or the keeper did not answer
 pub gate_refused : (h : Host) (operator : ℕ) (stamp : Stamp) (book key : ℕ) (asked : BrokerRequest) (why : Refusal) → Gates (get h.books book) key (Err why)

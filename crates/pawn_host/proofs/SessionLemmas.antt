@@ -17,7 +17,7 @@ use Rattle.pawn_host.specs.Run.{Item, IsMarked, IsMarkOf, event_of, said_text}
 use Rattle.pawn_book.proofs.Reading.{on_then}
 use Rattle.pawn_book.specs.Keeping.{Keeping}
 use Rattle.pawn_host.specs.declared.service.Service.{Service}
-use Rattle.pawn_host.specs.Keeps.{Start, Kept, GoesTo, start_after, host_by, StaysOpen, IsActed}
+use Rattle.pawn_host.specs.Keeps.{Start, Kept, GoesTo, start_of, start_after, host_by, StaysOpen, IsActed}
 use Rattle.pawn_host.proofs.CrashLemmas.{seen_from, goes_from, goes-append}
 use Rattle.pawn_host.specs.Finding.{Finds, FindsRest, StopsBy, IsCausedBy}
 use Rattle.pawn_host.proofs.FindLemmas.{not_by_writer}
@@ -123,6 +123,14 @@ length-map f [] = refl
 length-map f (a ∷ xs) = ap (λ (n : ℕ). suc n) (length-map f xs)
 
 -- ---- so far
+
+-- what is left behind a request of this length
+pub left_behind : (left buffer : List ℕ) (needed n : ℕ) → left ≡ drop needed buffer → needed ≡ n → left ≡ drop n buffer
+left_behind left buffer needed n dropped same = dropped ∙ ap (λ (k : ℕ). drop k buffer) same
+
+-- what a session over this service is given
+abbrev pub given_by : {K S : Type 0} → Keeping K → Service K → Host → S → Option (List ℕ) → Option (List ℕ) → Given S
+given_by k service h stamps stream written = record { start = start_of k service h; stamps = stamps; stream = stream; written = written }
 
 module _ {S : Type 0} (steps : S → Option Stamp → S → Type 0) (given : Given S) where
   -- these requests were acted on and answered, and the rest of the stream is left

@@ -1,21 +1,18 @@
 -- Lemmas on a request for the sheet of a day.
-use Rattle.std.proofs.Common.{◌≡◌, ◌∙◌, ℕ, Bool, true, List, arith, ap, sym, Option, Some, None, Ok, codes, refl, if◌then◌else◌}
-use Rattle.std.specs.Prelude.{option_map, ◌==◌}
-use Rattle.std.proofs.lemmas.Bool.Decides.{nat_tests}
+use Rattle.std.proofs.Common.{◌≡◌, ◌∙◌, ℕ, List, ap, sym, Option, Some, None, Ok}
+use Rattle.std.specs.Prelude.{option_map}
 use Rattle.pawn_pledge.specs.declared.command.Stamp.{Stamp}
 use Rattle.pawn_book.specs.declared.request.Request.{Request}
 use Rattle.pawn_book.specs.declared.request.BrokerRequest.TheVariants.{SheetOf}
-use Rattle.pawn_book.specs.declared.refusal.Refusal.TheVariants as No
-use Rattle.pawn_book.specs.BookStep.{BookValue, Out, Listed, Refuses, Says, gate_step, out_of, show_sheet}
-use Rattle.pawn_book.specs.HostStep.{Host, host_step, within_limit}
+use Rattle.pawn_book.specs.BookStep.{BookValue, Out, Listed, Says}
+use Rattle.pawn_book.specs.HostStep.{Host, host_step}
 use Rattle.pawn_book.specs.Sheet.{day_sheet}
 use Rattle.pawn_view.specs.Sheets.{book_sheet, sheet_of}
 use Rattle.pawn_wire.specs.Request.{Reads}
-use Rattle.pawn_wire.specs.Reply.{memory_text, reply_text}
+use Rattle.pawn_wire.specs.Reply.{reply_text}
 use Rattle.pawn_host.specs.declared.service.Answer.{Answer}
-use Rattle.pawn_host.specs.declared.service.Answer.TheVariants.{Bytes, Memory}
 use Rattle.pawn_host.specs.Keeps.{Start, Kept, GoesTo, answer_bytes, IsKeyOf, Tells, IsActed}
-use Rattle.pawn_host.proofs.RunLemmas.{acted_memory, acted_said, broker_request, goes_by, some_same}
+use Rattle.pawn_host.proofs.RunLemmas.{acted_text, broker_request, plain, some_same, step_past_gate}
 
 abbrev pub sheet_request : ℕ → ℕ → ℕ → Request
 sheet_request book key day = broker_request book key (SheetOf day)
@@ -27,11 +24,7 @@ book_listed day book = Listed day book.capacity (day_sheet book.pledges day)
 -- what comes of a day that is asked for with the book's key
 step_sheet : (h : Host) (operator : ℕ) (stamp : Stamp) (book key day : ℕ) (with_key : IsKeyOf h book key)
     → host_step h operator stamp (sheet_request book key day) ≡ Says (book_listed day with_key.0)
-step_sheet h operator stamp book key day with_key =
-    let at = with_key.0 in
-    let same : (at.key == key) ≡ true = grind (arith, nat_tests, with_key.2) in
-    ap (λ (o : Option BookValue). within_limit h book (gate_step o key (λ (k : BookValue). show_sheet k day))) with_key.1
-    ∙ ap (λ (v : Bool). within_limit h book (if v then show_sheet at day else Refuses No.NoSuchBook)) same
+step_sheet h operator stamp book key day with_key = step_past_gate h operator stamp book key (SheetOf day) with_key
 
 -- the sheet of a book that stands
 sheet_is : (h : Host) (book key day : ℕ) (with_key : IsKeyOf h book key) → sheet_of h book day ≡ Some (book_sheet day with_key.0)
@@ -44,15 +37,10 @@ no_sheet h book key day with_key none = (let some = sym (sheet_is h book key day
 -- the sheet was told
 pub acted_sheet : (start : Start) (stamp : Stamp) (bytes : List ℕ) (answer : Answer) (kept : Kept) (book key day shown : ℕ) (text out : List ℕ)
     → Reads bytes (Ok (sheet_request book key day)) → IsKeyOf start.host book key → shown ≡ day → sheet_of start.host book shown ≡ Some text → text ≡ out
-    → Tells answer (reply_text 200 (codes "text/plain; charset=utf-8") out) → GoesTo kept start.host start.leaves
+    → Tells answer (reply_text 200 plain out) → GoesTo kept start.host start.leaves
     → IsActed start stamp bytes (answer_bytes answer) kept
-acted_sheet start stamp bytes Memory kept book key day shown text out read with_key day_is is all tells goes =
-    acted_memory start stamp bytes memory_text kept refl goes
-acted_sheet start stamp bytes (Bytes v) kept book key day shown text out read with_key day_is is all tells goes =
-    let request : Request = sheet_request book key day in
-    let said : Out = book_listed day with_key.0 in
+acted_sheet start stamp bytes answer kept book key day shown text out read with_key day_is is all tells goes =
     let step = step_sheet start.host start.operator stamp book key day with_key in
     let same : out ≡ book_sheet day with_key.0 =
     sym all ∙ sym (some_same (sym (sheet_is start.host book key shown with_key) ∙ is)) ∙ ap (λ (x : ℕ). book_sheet x with_key.0) day_is in
-    acted_said start stamp bytes v.items kept request said read (ap out_of step)
-    (tells ∙ ap (reply_text 200 (codes "text/plain; charset=utf-8")) same) (goes_by start stamp request kept (Says said) step goes)
+    acted_text start stamp bytes answer kept (sheet_request book key day) (book_listed day with_key.0) plain out read step (ap (reply_text 200 plain) same) tells goes

@@ -58,7 +58,8 @@ impl<R: Read> Reading<R> {
     pub fn read(&mut self, buf: &mut [u8]) -> io::Result<usize>
         requires few { reads self.old < MOST_READS }
         ensures bound { ReadsAtMost result buf.new }
-        ensures bytes { ReadConsumes (left_of R.remaining self.old) (left_of R.remaining self.new) result buf.new }
+        ensures bytes { ReadConsumes (left_of R.remaining self.old)
+            (left_of R.remaining self.new) result buf.new }
         ensures counted { reads self.new ≡ reads self.old + 1 }
         ensures failed { read_failed self.new ≡ (read_failed self.old || is_err result) }
     {

@@ -6,13 +6,14 @@ ghost use Rattle.pawn_book.specs.declared.request.BrokerRequest.TheVariants.{Exp
 ghost use Rattle.pawn_book.specs.Plans.{IsWritten};
 ghost use Rattle.pawn_wire.specs.Reply.{out_text};
 ghost use Rattle.pawn_host.specs.Headline.{IsRunOfSlots};
+ghost use Rattle.pawn_host.specs.Views.{TellsView, asked_of};
 ghost use Rattle.pawn_host.specs.Keeps.{service_keep, service_operator, answer_bytes, IsKeyOf, Tells, StaysOpen, Serves, Answers, IsActed, IsRun};
 
 use pawn_book::{
     BearerRequest, BrokerRequest, Caller, Keep, Number, Receipts, Refusal, Request, RequestDay,
     Secret, Stamp, commit, gate, plan,
 };
-use pawn_csv::{ExportFault, RowWriter, export};
+use pawn_csv::{RowWriter, export};
 use pawn_view::{ViewFault, Writing, show_day_sheet, show_presented, show_statement};
 use pawn_wire::{Out, Router, read_request, write_reply};
 use std::alloc::{AllocError, Global};
@@ -22,6 +23,14 @@ use std::alloc::{AllocError, Global};
 pub enum Answer {
     Bytes(Vec<u8>),
     Memory,
+}
+
+// What the holder of a book's key may ask to see of it.
+#[derive(Clone, Copy)]
+enum View {
+    Pledge(Number),
+    Sheet(RequestDay),
+    Rows,
 }
 
 /// The service over a keeper of books, for the operator with a key.
@@ -41,6 +50,21 @@ fn tell(alloc: Global, out: &Out) -> Answer
     match write_reply(alloc, out) {
         Ok(bytes) => Answer::Bytes(bytes),
         Err(_) => Answer::Memory,
+    }
+}
+
+// The answer of a view: its text where that was written whole, or why not. Where there is nothing to
+// show it is this refusal.
+fn tell_view(alloc: Global, shown: Result<(), ViewFault>, text: &Out, unknown: Refusal) -> Answer
+    ensures tells { TellsView result shown (out_text text.now) unknown }
+{
+    match shown {
+        Ok(()) => tell(alloc, text),
+        Err(ViewFault::Unknown) => tell(alloc, &Out::Refused(unknown)),
+        Err(ViewFault::Store) => tell(alloc, &Out::Refused(Refusal::Store)),
+        // The text is built in memory, so a failed write is want of it.
+        Err(ViewFault::Memory) => Answer::Memory,
+        Err(ViewFault::Write) => Answer::Memory,
     }
 }
 
@@ -71,112 +95,101 @@ impl<K: Keep> Service<K> {
     }
 
     // Shows what receipts stand for.
-    fn show(&mut self, stamp: &Stamp, book: Number, receipts: &Receipts) -> Answer
+    fn show_receipts(&mut self, stamp: &Stamp, book: Number, receipts: &Receipts) -> Answer
         ensures stays { StaysOpen K.keeping self.old self.new }
         ensures acted { Serves K.keeping self.old self.new
-            (λ start. Answers start stamp.now (record { book = book; caller = Bearer (Present receipts.now) }) (answer_bytes result)) }
+            (λ start. Answers start stamp.now (record { book = book; caller = Bearer (Present receipts.now) })
+            (answer_bytes result)) }
     {
         let mut writer = Writing::new(Vec::new(self.alloc));
         let day = stamp.day.day();
-        match show_presented(&mut self.keep, book, receipts.as_slice(), day, &mut writer) {
-            Ok(()) => tell(self.alloc, &Out::Plain(writer.into_inner())),
-            Err(ViewFault::Unknown) => { tell(self.alloc, &Out::Refused(Refusal::NoSuchReceipt)) }
-            Err(ViewFault::Store) => tell(self.alloc, &Out::Refused(Refusal::Store)),
-            // The text is built in memory, so a failed write is want of it.
-            Err(ViewFault::Memory) => Answer::Memory,
-            Err(ViewFault::Write) => Answer::Memory,
-        }
+        let shown = show_presented(&mut self.keep, book, receipts.as_slice(), day, &mut writer);
+        let text = Out::Plain(writer.into_inner());
+        tell_view(self.alloc, shown, &text, Refusal::NoSuchReceipt)
     }
 
-    // Shows a pledge to the holder of its book's key.
-    fn show_pledge(&mut self, stamp: &Stamp, book: Number, key: Secret, number: Number) -> Answer
+    // Checks the key of a book, and shows its holder what was asked for.
+    fn gate_and_show(&mut self, stamp: &Stamp, book: Number, key: Secret, view: View) -> Answer
         ensures stays { StaysOpen K.keeping self.old self.new }
         ensures acted { Serves K.keeping self.old self.new
-            (λ start. Answers start stamp.now (record { book = book; caller = Broker key (Show number) }) (answer_bytes result)) }
+            (λ start. Answers start stamp.now (record { book = book; caller = Broker key (asked_of view) })
+            (answer_bytes result)) }
     {
         match gate(&mut self.keep, book, key) {
             Err(refusal) => return tell(self.alloc, &Out::Refused(refusal)),
             Ok(_) => {}
         }
-        self.show_number(stamp, book, key, number)
+        self.show_past_gate(stamp, book, key, view)
+    }
+
+    // Shows what was asked for of a book whose key was given.
+    fn show_past_gate(&mut self, stamp: &Stamp, book: Number, key: Secret, view: View) -> Answer
+        ensures stays { StaysOpen K.keeping self.old self.new }
+        ensures acted { Serves K.keeping self.old self.new
+            (λ start kept. IsKeyOf start.host book key
+            → Answers start stamp.now (record { book = book; caller = Broker key (asked_of view) })
+            (answer_bytes result) kept) }
+    {
+        match view {
+            View::Pledge(number) => self.pledge_past_gate(stamp, book, key, number),
+            View::Sheet(day) => self.sheet_past_gate(stamp, book, key, day),
+            View::Rows => self.rows_past_gate(stamp, book, key),
+        }
     }
 
     // Shows a pledge of a book whose key was given.
-    fn show_number(&mut self, stamp: &Stamp, book: Number, key: Secret, number: Number) -> Answer
+    fn pledge_past_gate(
+        &mut self,
+        stamp: &Stamp,
+        book: Number,
+        key: Secret,
+        number: Number,
+    ) -> Answer
         ensures stays { StaysOpen K.keeping self.old self.new }
-        ensures acted { Serves K.keeping self.old self.new (λ start kept. IsKeyOf start.host book key
-            → Answers start stamp.now (record { book = book; caller = Broker key (Show number) }) (answer_bytes result) kept) }
+        ensures acted { Serves K.keeping self.old self.new
+            (λ start kept. IsKeyOf start.host book key
+            → Answers start stamp.now (record { book = book; caller = Broker key (Show number) })
+            (answer_bytes result) kept) }
     {
         let mut writer = Writing::new(Vec::new(self.alloc));
         let day = stamp.day.day();
-        match show_statement(&mut self.keep, book, number, day, &mut writer) {
-            Ok(()) => tell(self.alloc, &Out::Plain(writer.into_inner())),
-            Err(ViewFault::Unknown) => tell(self.alloc, &Out::Refused(Refusal::NoSuchPledge)),
-            Err(ViewFault::Store) => tell(self.alloc, &Out::Refused(Refusal::Store)),
-            // The text is built in memory, so a failed write is want of it.
-            Err(ViewFault::Memory) => Answer::Memory,
-            Err(ViewFault::Write) => Answer::Memory,
-        }
-    }
-
-    // Shows the sheet of a day to the holder of its book's key.
-    fn show_sheet(&mut self, stamp: &Stamp, book: Number, key: Secret, day: RequestDay) -> Answer
-        ensures stays { StaysOpen K.keeping self.old self.new }
-        ensures acted { Serves K.keeping self.old self.new
-            (λ start. Answers start stamp.now (record { book = book; caller = Broker key (SheetOf day) }) (answer_bytes result)) }
-    {
-        match gate(&mut self.keep, book, key) {
-            Err(why) => return tell(self.alloc, &Out::Refused(why)),
-            Ok(_) => {}
-        }
-        self.show_day(stamp, book, key, day)
+        let shown = show_statement(&mut self.keep, book, number, day, &mut writer);
+        let text = Out::Plain(writer.into_inner());
+        tell_view(self.alloc, shown, &text, Refusal::NoSuchPledge)
     }
 
     // Shows the sheet of a day of a book whose key was given.
-    fn show_day(&mut self, stamp: &Stamp, book: Number, key: Secret, day: RequestDay) -> Answer
-        ensures stays { StaysOpen K.keeping self.old self.new }
-        ensures acted { Serves K.keeping self.old self.new (λ start kept. IsKeyOf start.host book key
-            → Answers start stamp.now (record { book = book; caller = Broker key (SheetOf day) }) (answer_bytes result) kept) }
-    {
-        let mut writer = Writing::new(Vec::new(self.alloc));
-        match show_day_sheet(&mut self.keep, book, day.day(), &mut writer) {
-            Ok(()) => tell(self.alloc, &Out::Plain(writer.into_inner())),
-            Err(ViewFault::Unknown) => tell(self.alloc, &Out::Refused(Refusal::NoSuchBook)),
-            Err(ViewFault::Store) => tell(self.alloc, &Out::Refused(Refusal::Store)),
-            // The text is built in memory, so a failed write is want of it.
-            Err(ViewFault::Memory) => Answer::Memory,
-            Err(ViewFault::Write) => Answer::Memory,
-        }
-    }
-
-    // Shows the rows of a book to the holder of its key.
-    fn show_rows(&mut self, stamp: &Stamp, book: Number, key: Secret) -> Answer
+    fn sheet_past_gate(
+        &mut self,
+        stamp: &Stamp,
+        book: Number,
+        key: Secret,
+        day: RequestDay,
+    ) -> Answer
         ensures stays { StaysOpen K.keeping self.old self.new }
         ensures acted { Serves K.keeping self.old self.new
-            (λ start. Answers start stamp.now (record { book = book; caller = Broker key Export }) (answer_bytes result)) }
+            (λ start kept. IsKeyOf start.host book key
+            → Answers start stamp.now (record { book = book; caller = Broker key (SheetOf day) })
+            (answer_bytes result) kept) }
     {
-        match gate(&mut self.keep, book, key) {
-            Err(why) => return tell(self.alloc, &Out::Refused(why)),
-            Ok(_) => {}
-        }
-        self.show_book(stamp, book, key)
+        let mut writer = Writing::new(Vec::new(self.alloc));
+        let shown = show_day_sheet(&mut self.keep, book, day.day(), &mut writer);
+        let text = Out::Plain(writer.into_inner());
+        tell_view(self.alloc, shown, &text, Refusal::NoSuchBook)
     }
 
     // Shows the rows of a book whose key was given.
-    fn show_book(&mut self, stamp: &Stamp, book: Number, key: Secret) -> Answer
+    fn rows_past_gate(&mut self, stamp: &Stamp, book: Number, key: Secret) -> Answer
         ensures stays { StaysOpen K.keeping self.old self.new }
-        ensures acted { Serves K.keeping self.old self.new (λ start kept. IsKeyOf start.host book key
-            → Answers start stamp.now (record { book = book; caller = Broker key Export }) (answer_bytes result) kept) }
+        ensures acted { Serves K.keeping self.old self.new
+            (λ start kept. IsKeyOf start.host book key
+            → Answers start stamp.now (record { book = book; caller = Broker key Export })
+            (answer_bytes result) kept) }
     {
         let mut rows = RowWriter::new(self.alloc, Vec::new(self.alloc));
-        match export(&mut self.keep, book, &mut rows) {
-            Ok(()) => tell(self.alloc, &Out::Csv(rows.into_inner())),
-            Err(ExportFault::NoSuchBook) => tell(self.alloc, &Out::Refused(Refusal::NoSuchBook)),
-            Err(ExportFault::Store) => tell(self.alloc, &Out::Refused(Refusal::Store)),
-            // The text is built in memory, so a failed write is want of it.
-            Err(ExportFault::Memory) => Answer::Memory,
-            Err(ExportFault::Write) => Answer::Memory,
-        }
+        let shown = export(&mut self.keep, book, &mut rows);
+        let text = Out::Csv(rows.into_inner());
+        tell_view(self.alloc, shown, &text, Refusal::NoSuchBook)
     }
 
     // Answers what a broker asks.
@@ -189,16 +202,21 @@ impl<K: Keep> Service<K> {
     ) -> Answer
         requires asks { request.now.caller ≡ Broker key asked.now }
         ensures stays { StaysOpen K.keeping self.old self.new }
-        ensures acted { Serves K.keeping self.old self.new (λ start. Answers start stamp.now request.now (answer_bytes result)) }
+        ensures acted { Serves K.keeping self.old self.new
+            (λ start. Answers start stamp.now request.now (answer_bytes result)) }
     {
         match asked {
             BrokerRequest::PutTerms(_) => self.act(stamp, request),
             BrokerRequest::TakePledge(_) => self.act(stamp, request),
             BrokerRequest::OnPledge { .. } => self.act(stamp, request),
             BrokerRequest::Import { .. } => self.act(stamp, request),
-            BrokerRequest::Show(number) => self.show_pledge(stamp, request.book, key, *number),
-            BrokerRequest::SheetOf(day) => self.show_sheet(stamp, request.book, key, *day),
-            BrokerRequest::Export => self.show_rows(stamp, request.book, key),
+            BrokerRequest::Show(number) => {
+                self.gate_and_show(stamp, request.book, key, View::Pledge(*number))
+            }
+            BrokerRequest::SheetOf(day) => {
+                self.gate_and_show(stamp, request.book, key, View::Sheet(*day))
+            }
+            BrokerRequest::Export => self.gate_and_show(stamp, request.book, key, View::Rows),
         }
     }
 
@@ -206,10 +224,11 @@ impl<K: Keep> Service<K> {
     fn answer_bearer(&mut self, stamp: &Stamp, request: &Request, asked: &BearerRequest) -> Answer
         requires asks { request.now.caller ≡ Bearer asked.now }
         ensures stays { StaysOpen K.keeping self.old self.new }
-        ensures acted { Serves K.keeping self.old self.new (λ start. Answers start stamp.now request.now (answer_bytes result)) }
+        ensures acted { Serves K.keeping self.old self.new
+            (λ start. Answers start stamp.now request.now (answer_bytes result)) }
     {
         match asked {
-            BearerRequest::Present(receipts) => self.show(stamp, request.book, receipts),
+            BearerRequest::Present(receipts) => self.show_receipts(stamp, request.book, receipts),
             BearerRequest::OnPledge { .. } => self.act(stamp, request),
         }
     }
@@ -218,7 +237,8 @@ impl<K: Keep> Service<K> {
     fn act(&mut self, stamp: &Stamp, request: &Request) -> Answer
         requires written { IsWritten request.now.caller }
         ensures stays { StaysOpen K.keeping self.old self.new }
-        ensures acted { Serves K.keeping self.old self.new (λ start. Answers start stamp.now request.now (answer_bytes result)) }
+        ensures acted { Serves K.keeping self.old self.new
+            (λ start. Answers start stamp.now request.now (answer_bytes result)) }
     {
         match plan(self.alloc, &mut self.keep, self.operator, stamp, request) {
             Err(refusal) => tell(self.alloc, &Out::Refused(refusal)),
@@ -235,7 +255,8 @@ impl<K: Keep> Service<K> {
     /// Answers one whole request.
     pub fn answer_one(&mut self, stamp: &Stamp, bytes: &[u8]) -> Answer
         ensures stays { StaysOpen K.keeping self.old self.new }
-        ensures acted { Serves K.keeping self.old self.new (λ start. IsActed start stamp.now bytes.now (answer_bytes result)) }
+        ensures acted { Serves K.keeping self.old self.new
+            (λ start. IsActed start stamp.now bytes.now (answer_bytes result)) }
     {
         let request = match read_request(self.alloc, &self.router, bytes) {
             Ok(request) => request,

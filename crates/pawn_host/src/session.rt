@@ -83,8 +83,10 @@ enum Rest {
 
 // One read, added to the buffer.
 fn fill<R: Read>(reader: &mut Reading<R>, buffer: &mut Vec<u8>) -> Filled
-    ensures filled { IsFilled result (left_of R.remaining reader.old) (left_of R.remaining reader.new) buffer.old.items buffer.new.items }
-    ensures by { FilledBy result (read_failed reader.old) (read_failed reader.new) (reads reader.old) (reads reader.new) }
+    ensures filled { IsFilled result (left_of R.remaining reader.old)
+        (left_of R.remaining reader.new) buffer.old.items buffer.new.items }
+    ensures by { FilledBy result (read_failed reader.old) (read_failed reader.new)
+        (reads reader.old) (reads reader.new) }
 {
     if reader.reads() >= MOST_READS {
         return Filled::OutOfReads;
@@ -106,10 +108,16 @@ fn fill<R: Read>(reader: &mut Reading<R>, buffer: &mut Vec<u8>) -> Filled
 fn await_head<R: Read>(reader: &mut Reading<R>, buffer: &mut Vec<u8>) -> Result<HeadFacts, Rest>
     ensures head { IfOk result (HasHead buffer.new.items) }
     ensures small { IfOk result (λ h. h.len + h.body ≤ most_request_bytes) }
-    ensures kept { IfOk result (λ _. Keeps (prepend_known buffer.old.items (left_of R.remaining reader.old)) (prepend_known buffer.new.items (left_of R.remaining reader.new))) }
-    ensures rest { IfSome (prepend_known buffer.old.items (left_of R.remaining reader.old)) (λ s. IfErr result (FindsRest s)) }
-    ensures stops { StopsBy result (read_failed reader.old) (read_failed reader.new) (reads reader.new) }
-    ensures fetched { IsFetched result buffer.old.items buffer.new.items (left_of R.remaining reader.old) (left_of R.remaining reader.new) (reads reader.old) (reads reader.new) }
+    ensures kept { IfOk result (λ _. Keeps
+        (prepend_known buffer.old.items (left_of R.remaining reader.old))
+        (prepend_known buffer.new.items (left_of R.remaining reader.new))) }
+    ensures rest { IfSome (prepend_known buffer.old.items (left_of R.remaining reader.old))
+        (λ s. IfErr result (FindsRest s)) }
+    ensures stops { StopsBy result (read_failed reader.old) (read_failed reader.new)
+        (reads reader.new) }
+    ensures fetched { IsFetched result buffer.old.items buffer.new.items
+        (left_of R.remaining reader.old) (left_of R.remaining reader.new) (reads reader.old)
+        (reads reader.new) }
 {
     loop {
         match read_head(buffer.as_slice()) {
@@ -152,10 +160,16 @@ fn await_body<R: Read>(
     ensures head { IfOk result (HasHead buffer.new.items) }
     ensures small { IfOk result (λ h. h.len + h.body ≤ most_request_bytes) }
     ensures buffered { IfOk result (λ h. h.len + h.body ≤ vec_len buffer.new) }
-    ensures kept { IfOk result (λ _. Keeps (prepend_known buffer.old.items (left_of R.remaining reader.old)) (prepend_known buffer.new.items (left_of R.remaining reader.new))) }
-    ensures found { IfSome (prepend_known buffer.old.items (left_of R.remaining reader.old)) (λ s. Finds s result) }
-    ensures stops { StopsBy result (read_failed reader.old) (read_failed reader.new) (reads reader.new) }
-    ensures fetched { IsFetched result buffer.old.items buffer.new.items (left_of R.remaining reader.old) (left_of R.remaining reader.new) (reads reader.old) (reads reader.new) }
+    ensures kept { IfOk result (λ _. Keeps
+        (prepend_known buffer.old.items (left_of R.remaining reader.old))
+        (prepend_known buffer.new.items (left_of R.remaining reader.new))) }
+    ensures found { IfSome (prepend_known buffer.old.items (left_of R.remaining reader.old))
+        (λ s. Finds s result) }
+    ensures stops { StopsBy result (read_failed reader.old) (read_failed reader.new)
+        (reads reader.new) }
+    ensures fetched { IsFetched result buffer.old.items buffer.new.items
+        (left_of R.remaining reader.old) (left_of R.remaining reader.new) (reads reader.old)
+        (reads reader.new) }
 {
     let needed = request_len(&head);
     while buffer.len() < needed {
@@ -175,10 +189,16 @@ fn next_request<R: Read>(reader: &mut Reading<R>, buffer: &mut Vec<u8>) -> Resul
     ensures head { IfOk result (HasHead buffer.new.items) }
     ensures small { IfOk result (λ h. h.len + h.body ≤ most_request_bytes) }
     ensures buffered { IfOk result (λ h. h.len + h.body ≤ vec_len buffer.new) }
-    ensures kept { IfOk result (λ _. Keeps (prepend_known buffer.old.items (left_of R.remaining reader.old)) (prepend_known buffer.new.items (left_of R.remaining reader.new))) }
-    ensures found { IfSome (prepend_known buffer.old.items (left_of R.remaining reader.old)) (λ s. Finds s result) }
-    ensures stops { StopsBy result (read_failed reader.old) (read_failed reader.new) (reads reader.new) }
-    ensures fetched { IsFetched result buffer.old.items buffer.new.items (left_of R.remaining reader.old) (left_of R.remaining reader.new) (reads reader.old) (reads reader.new) }
+    ensures kept { IfOk result (λ _. Keeps
+        (prepend_known buffer.old.items (left_of R.remaining reader.old))
+        (prepend_known buffer.new.items (left_of R.remaining reader.new))) }
+    ensures found { IfSome (prepend_known buffer.old.items (left_of R.remaining reader.old))
+        (λ s. Finds s result) }
+    ensures stops { StopsBy result (read_failed reader.old) (read_failed reader.new)
+        (reads reader.new) }
+    ensures fetched { IsFetched result buffer.old.items buffer.new.items
+        (left_of R.remaining reader.old) (left_of R.remaining reader.new) (reads reader.old)
+        (reads reader.new) }
 {
     match await_head(reader, buffer) {
         Ok(head) => await_body(reader, buffer, head),
@@ -214,7 +234,8 @@ fn write_last<W: Write>(
 ) -> Result<Ended, IoFault>
     requires fine { write_failed writer.old ≡ false }
     requires room { sent ≤ acted * 2 ^ 64 }
-    ensures finished { IsFinished how acted sent text.now (written_bytes W.contents writer.old) (written_bytes W.contents writer.new) (write_failed writer.new) result }
+    ensures finished { IsFinished how acted sent text.now (written_bytes W.contents writer.old)
+        (written_bytes W.contents writer.new) (write_failed writer.new) result }
 {
     let count = send(writer, text);
     if count < text.len() {
@@ -236,7 +257,8 @@ fn finish<W: Write>(
 ) -> Result<Ended, IoFault>
     requires fine { write_failed writer.old ≡ false }
     requires room { sent ≤ acted * 2 ^ 64 }
-    ensures over { IsOver rest acted sent (written_bytes W.contents writer.old) (written_bytes W.contents writer.new) (write_failed writer.new) result }
+    ensures over { IsOver rest acted sent (written_bytes W.contents writer.old)
+        (written_bytes W.contents writer.new) (write_failed writer.new) result }
 {
     match rest {
         Rest::AtEnd => write_last(writer, &[], How::End, acted, sent),
@@ -269,9 +291,12 @@ impl<K: Keep> Service<K> {
             stamps.new (written_bytes W.contents writer.new) result) }
         ensures stamps { AreTaken I.next_gives stamps.old stamps.new result }
         ensures room { IsWithinMost result }
-        ensures whole { OnOk result ((read_failed reader.new ≡ false) × (write_failed writer.new ≡ false)) }
-        ensures cause { IfErr result (λ fault. IsCausedBy fault.cause (read_failed reader.new) (reads reader.new) (write_failed writer.new)) }
-        ensures reads { IsRead (reads reader.new) (left_of R.remaining reader.old) (left_of R.remaining reader.new) }
+        ensures whole { OnOk result ((read_failed reader.new ≡ false)
+            × (write_failed writer.new ≡ false)) }
+        ensures cause { IfErr result (λ fault. IsCausedBy fault.cause (read_failed reader.new)
+            (reads reader.new) (write_failed writer.new)) }
+        ensures reads { IsRead (reads reader.new) (left_of R.remaining reader.old)
+            (left_of R.remaining reader.new) }
     {
         let mut buffer = Vec::new(self.alloc);
         let mut sent = 0u128;

@@ -35,7 +35,8 @@ pub fn serve_on<K: Keep, C: Clock>(
 ) -> Served
     ensures counted { result.answered + result.failed ≡ connections }
     ensures stays { StaysOpen K.keeping service.old service.new }
-    ensures served { Serves K.keeping service.old service.new (λ start. AreServed GivesDated stamps.old stamps.new start result.answered) }
+    ensures served { Serves K.keeping service.old service.new
+        (λ start. AreServed GivesDated stamps.old stamps.new start result.answered) }
 {
     let mut served = Served {
         answered: 0,

@@ -6,9 +6,9 @@ use pawn_book::KeepError;
 /// Why a text was not written whole.
 #[derive(Clone, Copy, Debug, PartialEq, Eq)]
 pub enum ViewFault {
-    /// There is no such pledge, or none of the receipts is live; nothing was written.
+    /// There is no such book or pledge, or none of the receipts is live; nothing was written.
     Unknown,
-    /// The keeper wanted memory; a front of the text was written.
+    /// Memory was wanting; a front of the text was written.
     Memory,
     /// The keeper's store failed; a front of the text was written.
     Store,
@@ -16,12 +16,13 @@ pub enum ViewFault {
     Write,
 }
 
-// The fault of a text whose keeper did not answer.
-pub(crate) fn view_fault(error: KeepError) -> ViewFault
-    ensures answer { result ≡ view_fault error }
-{
-    match error {
-        KeepError::Memory => ViewFault::Memory,
-        KeepError::Store(_) => ViewFault::Store,
+impl From<KeepError> for ViewFault {
+    ghost from_gives = { λ error fault. fault ≡ view_fault error };
+
+    fn from(error: KeepError) -> ViewFault {
+        match error {
+            KeepError::Memory => ViewFault::Memory,
+            KeepError::Store(_) => ViewFault::Store,
+        }
     }
 }

@@ -107,7 +107,10 @@ pub(crate) fn put_status<W: Write>(writer: &mut Writing<W>, status: Status)
 
 // `Principal 100.00`, `Charges 0.00` and `Owing 100.00`.
 fn put_owing<W: Write>(writer: &mut Writing<W>, owing: &Owing)
-    ensures puts { Puts W.contents writer.old (amount_line (codes "Principal ") owing.now.principal ++ (amount_line (codes "Charges ") owing.now.charges ++ amount_line (codes "Owing ") owing.now.total)) writer.new }
+    ensures puts { Puts W.contents writer.old
+        (amount_line (codes "Principal ") owing.now.principal
+        ++ (amount_line (codes "Charges ") owing.now.charges
+        ++ amount_line (codes "Owing ") owing.now.total)) writer.new }
 {
     put_amount(writer, b"Principal ", owing.principal);
     put_amount(writer, b"Charges ", owing.charges);

@@ -11,7 +11,7 @@ ghost use Rattle.pawn_view.specs.Ends.{Puts, write_failed};
 ghost use Rattle.pawn_view.specs.Text.{statement_text, shown_text, further_texts};
 ghost use Rattle.pawn_view.specs.Shown.{PutsShare, Shows, IsQuietView, pledge_at, live_pledges, shown_of, presentation_of};
 
-use crate::fault::{ViewFault, view_fault};
+use crate::fault::ViewFault;
 use crate::statements::{ending, put_statement};
 use crate::writing::{Writing, put};
 use pawn_book::{Brief, Day, Keep, KeepError, Number, Receipt};
@@ -25,7 +25,9 @@ fn live_brief<K: Keep>(
     book: Number,
     receipt: &Receipt,
 ) -> Result<Option<Brief>, KeepError>
-    ensures reads { Reads K.keeping keep.old keep.new (λ h. IfOk result (λ brief. brief ≡ option_map brief_of (live_at (pledge_in (get h.books book)) receipt.now))) }
+    ensures reads { Reads K.keeping keep.old keep.new
+        (λ h. IfOk result (λ brief. brief
+        ≡ option_map brief_of (live_at (pledge_in (get h.books book)) receipt.now))) }
     ensures steady { IsSteady K.keeping keep.old result }
 {
     match keep.brief(book, receipt.number) {
@@ -37,7 +39,8 @@ fn live_brief<K: Keep>(
 
 // Whether one of the receipts is live.
 fn is_any_live<K: Keep>(keep: &mut K, book: Number, receipts: &[Receipt]) -> Result<bool, KeepError>
-    ensures reads { Reads K.keeping keep.old keep.new (λ h. IfOk result (λ live. live ≡ not (are_unknown (live_pledges h book receipts.now)))) }
+    ensures reads { Reads K.keeping keep.old keep.new
+        (λ h. IfOk result (λ live. live ≡ not (are_unknown (live_pledges h book receipts.now)))) }
     ensures steady { IsSteady K.keeping keep.old result }
 {
     for receipt in receipts {
@@ -58,7 +61,11 @@ fn put_shown<K: Keep, W: Write>(
     day: Day,
     writer: &mut Writing<W>,
 ) -> Result<(), KeepError>
-    ensures shares { Reads K.keeping keep.old keep.new (λ h. IsSound h → PutsShare W.contents writer.old (shown_text day (live_at (pledge_in (get h.books book)) receipt.now)) (call_end result) writer.new) }
+    ensures shares { Reads K.keeping keep.old keep.new
+        (λ h. IsSound h
+        → PutsShare W.contents writer.old
+        (shown_text day (live_at (pledge_in (get h.books book)) receipt.now))
+        (call_end result) writer.new) }
     ensures steady { IsSteady K.keeping keep.old result }
 {
     match live_brief(keep, book, receipt) {
@@ -79,7 +86,10 @@ fn put_further<K: Keep, W: Write>(
     day: Day,
     writer: &mut Writing<W>,
 ) -> Result<(), KeepError>
-    ensures shares { Reads K.keeping keep.old keep.new (λ h. IsSound h → PutsShare W.contents writer.old (further_texts day (live_pledges h book receipts.now)) (call_end result) writer.new) }
+    ensures shares { Reads K.keeping keep.old keep.new
+        (λ h. IsSound h
+        → PutsShare W.contents writer.old (further_texts day (live_pledges h book receipts.now))
+        (call_end result) writer.new) }
     ensures steady { IsSteady K.keeping keep.old result }
 {
     for receipt in receipts {
@@ -102,7 +112,9 @@ fn put_from<K: Keep, W: Write>(
     day: Day,
     writer: &mut Writing<W>,
 ) -> Result<(), KeepError>
-    ensures shares { Reads K.keeping keep.old keep.new (λ h. IsSound h → (p : PledgeValue) → pledge_at h book number ≡ Some p → brief.now ≡ brief_of p
+    ensures shares { Reads K.keeping keep.old keep.new
+        (λ h. IsSound h → (p : PledgeValue) → pledge_at h book number ≡ Some p
+        → brief.now ≡ brief_of p
         → PutsShare W.contents writer.old (statement_text day p ++ further_texts day (live_pledges h book receipts.now)) (call_end result) writer.new) }
     ensures steady { IsSteady K.keeping keep.old result }
 {
@@ -121,14 +133,16 @@ fn show_others<K: Keep, W: Write>(
     writer: &mut Writing<W>,
 ) -> Result<(), ViewFault>
     requires fine { write_failed writer.old ≡ false }
-    ensures shows { Reads K.keeping keep.old keep.new (λ h. IsSound h → Shows W.contents writer.old (shown_of day (None ∷ live_pledges h book receipts.now)) result writer.new) }
+    ensures shows { Reads K.keeping keep.old keep.new
+        (λ h. IsSound h
+        → Shows W.contents writer.old
+        (shown_of day (None ∷ live_pledges h book receipts.now)) result writer.new) }
     ensures write { IsErrOf result ViewFault.Write → write_failed writer.new ≡ true }
     ensures steady { IsQuietView K.keeping keep.old result }
 {
-    match is_any_live(keep, book, receipts) {
-        Ok(true) => {}
-        Ok(false) => return Err(ViewFault::Unknown),
-        Err(error) => return Err(view_fault(error)),
+    let live = is_any_live(keep, book, receipts)?;
+    if !live {
+        return Err(ViewFault::Unknown);
     }
     put(writer, UNKNOWN);
     let done = put_further(keep, book, receipts, day, writer);
@@ -149,19 +163,20 @@ pub fn show_presented<K: Keep, W: Write>(
     writer: &mut Writing<W>,
 ) -> Result<(), ViewFault>
     requires fine { write_failed writer.old ≡ false }
-    ensures shows { Reads K.keeping keep.old keep.new (λ h. IsSound h → Shows W.contents writer.old (presentation_of h book receipts.now day) result writer.new) }
+    ensures shows { Reads K.keeping keep.old keep.new
+        (λ h. IsSound h
+        → Shows W.contents writer.old (presentation_of h book receipts.now day) result writer.new) }
     ensures write { IsErrOf result ViewFault.Write → write_failed writer.new ≡ true }
     ensures steady { IsQuietView K.keeping keep.old result }
 {
     let [first, rest @ ..] = receipts else {
         return Err(ViewFault::Unknown);
     };
-    match live_brief(keep, book, first) {
-        Ok(Some(brief)) => {
+    match live_brief(keep, book, first)? {
+        Some(brief) => {
             let done = put_from(keep, book, first.number, &brief, rest, day, writer);
             ending(done, writer)
         }
-        Ok(None) => show_others(keep, book, rest, day, writer),
-        Err(error) => Err(view_fault(error)),
+        None => show_others(keep, book, rest, day, writer),
     }
 }

@@ -8,7 +8,7 @@ ghost use Rattle.pawn_view.specs.Sheets.{PutsItem, asked_line, day_lines, sheet_
 ghost use Rattle.pawn_view.specs.Shown.{PutsShare, Shows, IsQuietView};
 ghost use Rattle.pawn_view.specs.Text.{number_line};
 
-use crate::fault::{ViewFault, view_fault};
+use crate::fault::ViewFault;
 use crate::lines::{put_day, put_number};
 use crate::statements::ending;
 use crate::writing::{Writing, put_all};
@@ -117,17 +117,19 @@ pub fn show_day_sheet<K: Keep, W: Write>(
     writer: &mut Writing<W>,
 ) -> Result<(), ViewFault>
     requires fine { write_failed writer.old ≡ false }
-    ensures shows { Reads K.keeping keep.old keep.new (λ h. Shows W.contents writer.old (sheet_of h book day) result writer.new) }
+    ensures shows { Reads K.keeping keep.old keep.new
+        (λ h. Shows W.contents writer.old (sheet_of h book day) result writer.new) }
     ensures write { IsErrOf result ViewFault.Write → write_failed writer.new ≡ true }
     ensures steady { IsQuietView K.keeping keep.old result }
 {
-    let capacity = match keep.book_head(book) {
-        Ok(Some(head)) => head.capacity,
-        Ok(None) => return Err(ViewFault::Unknown),
-        Err(error) => return Err(view_fault(error)),
+    let Some(head) = keep.book_head(book)? else {
+        return Err(ViewFault::Unknown);
     };
     put_day(writer, b"Day sheet ", day);
-    let mut lines = SheetLines { writer, capacity };
+    let mut lines = SheetLines {
+        writer,
+        capacity: head.capacity,
+    };
     let done = lines.put_day(keep, book, day);
     ending(done, writer)
 }

@@ -10,7 +10,7 @@ ghost use Rattle.pawn_view.specs.Ends.{Puts, write_failed};
 ghost use Rattle.pawn_view.specs.Text.{first_lines, state_lines, statement_text, extended_line, entry_line};
 ghost use Rattle.pawn_view.specs.Shown.{PutsLine, PutsShare, Shows, IsQuietView, pledge_at, statement_of, open_or_last};
 
-use crate::fault::{ViewFault, view_fault};
+use crate::fault::ViewFault;
 use crate::lines::{
     put_booking, put_closing, put_day, put_entry, put_extended, put_held, put_kind, put_number,
     put_owed, put_status, put_text,
@@ -47,7 +47,8 @@ impl<W: Write> Visitor<Extension> for Writing<W> {
 
 // The lines above the extensions.
 fn put_first<W: Write>(writer: &mut Writing<W>, brief: &Brief)
-    ensures puts { Puts W.contents writer.old (first_lines brief.now.agreement brief.now.ends) writer.new }
+    ensures puts { Puts W.contents writer.old
+        (first_lines brief.now.agreement brief.now.ends) writer.new }
 {
     let fields = brief.fields();
     let agreement = &fields.agreement;
@@ -61,7 +62,9 @@ fn put_first<W: Write>(writer: &mut Writing<W>, brief: &Brief)
 // The lines between the extensions and the entries.
 fn put_state<W: Write>(writer: &mut Writing<W>, brief: &Brief, day: Day)
     requires later { brief.now.totals.day ≤ day }
-    ensures puts { Puts W.contents writer.old (state_lines (brief_status brief.now day) (brief_owing brief.now day) brief.now.standing) writer.new }
+    ensures puts { Puts W.contents writer.old
+        (state_lines (brief_status brief.now day)
+        (brief_owing brief.now day) brief.now.standing) writer.new }
 {
     let status = brief.status(day);
     let owing = brief.owing(day);
@@ -95,7 +98,9 @@ pub(crate) fn put_statement<K: Keep, W: Write>(
     day: Day,
     writer: &mut Writing<W>,
 ) -> Result<(), KeepError>
-    ensures shares { Reads K.keeping keep.old keep.new (λ h. IsSound h → (p : PledgeValue) → pledge_at h book number ≡ Some p → brief.now ≡ brief_of p
+    ensures shares { Reads K.keeping keep.old keep.new
+        (λ h. IsSound h → (p : PledgeValue) → pledge_at h book number ≡ Some p
+        → brief.now ≡ brief_of p
         → PutsShare W.contents writer.old (statement_text day p) (call_end result) writer.new) }
     ensures steady { IsSteady K.keeping keep.old result }
 {
@@ -120,14 +125,14 @@ pub fn show_statement<K: Keep, W: Write>(
     writer: &mut Writing<W>,
 ) -> Result<(), ViewFault>
     requires fine { write_failed writer.old ≡ false }
-    ensures shows { Reads K.keeping keep.old keep.new (λ h. IsSound h → Shows W.contents writer.old (statement_of h book number day) result writer.new) }
+    ensures shows { Reads K.keeping keep.old keep.new
+        (λ h. IsSound h
+        → Shows W.contents writer.old (statement_of h book number day) result writer.new) }
     ensures write { IsErrOf result ViewFault.Write → write_failed writer.new ≡ true }
     ensures steady { IsQuietView K.keeping keep.old result }
 {
-    let brief = match keep.brief(book, number) {
-        Ok(Some(brief)) => brief,
-        Ok(None) => return Err(ViewFault::Unknown),
-        Err(error) => return Err(view_fault(error)),
+    let Some(brief) = keep.brief(book, number)? else {
+        return Err(ViewFault::Unknown);
     };
     let done = put_statement(keep, book, number, &brief, day, writer);
     ending(done, writer)
@@ -140,8 +145,5 @@ pub(crate) fn ending<W>(done: Result<(), KeepError>, writer: &Writing<W>) -> Res
     if writer.has_failed() {
         return Err(ViewFault::Write);
     }
-    match done {
-        Ok(()) => Ok(()),
-        Err(error) => Err(view_fault(error)),
-    }
+    Ok(done?)
 }

@@ -50,8 +50,10 @@ impl<W: Write> Writing<W> {
     /// once alone after a failure too, no contract of a writer can say: so much is tested.
     pub fn write(&mut self, bytes: &[u8]) -> io::Result<usize>
         ensures bound { WritesAtMost result bytes.now }
-        ensures bytes { WriteAppends (written_bytes W.contents self.old) (written_bytes W.contents self.new) result bytes.now }
-        ensures failed { write_failed self.new ≡ (write_failed self.old || is_write_failure result bytes.now) }
+        ensures bytes { WriteAppends (written_bytes W.contents self.old)
+            (written_bytes W.contents self.new) result bytes.now }
+        ensures failed { write_failed self.new
+            ≡ (write_failed self.old || is_write_failure result bytes.now) }
     {
         let answer = self.inner.write(bytes);
         match &answer {
@@ -74,7 +76,8 @@ impl<W: Write> Writing<W> {
 pub fn send<W: Write>(writer: &mut Writing<W>, bytes: &[u8]) -> usize
     requires fine { write_failed writer.old ≡ false }
     ensures bound { result ≤ length bytes.now }
-    ensures bytes { Appends (written_bytes W.contents writer.old) (written_bytes W.contents writer.new) (take result bytes.now) }
+    ensures bytes { Appends (written_bytes W.contents writer.old)
+        (written_bytes W.contents writer.new) (take result bytes.now) }
     ensures done { result ≡ length bytes.now → write_failed writer.new ≡ false }
     ensures failed { result < length bytes.now → write_failed writer.new ≡ true }
 {

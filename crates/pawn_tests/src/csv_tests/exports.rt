@@ -5,7 +5,7 @@ use crate::asking::acted;
 use pawn_book::{
     Caller, Capacity, ListKeep, Name, NewBook, Number, Request, RequestDay, Secret, Stamp,
 };
-use pawn_csv::{ExportFault, RowWriter, export};
+use pawn_csv::{RowWriter, ViewFault, export};
 use std::alloc::Global;
 use std::io;
 use std::io::{ErrorKind, Write};
@@ -68,7 +68,7 @@ fn a_book_that_stands_is_exported(rt: HostRuntime) -> Result<(), Fail> {
     let mut keep = one_book(rt.alloc())?;
     for (book, came, text) in [
         (7u64, Ok(()), TEXT),
-        (8, Err(ExportFault::NoSuchBook), b"".as_slice()),
+        (8, Err(ViewFault::Unknown), b"".as_slice()),
     ] {
         let mut rows = RowWriter::new(rt.alloc(), Vec::new(rt.alloc()));
         assert_eq!(rt; export(&mut keep, number(book)?, &mut rows), came);
@@ -84,7 +84,7 @@ fn what_a_writer_took_before_it_failed_is_a_front(rt: HostRuntime) -> Result<(),
     let mut rows = RowWriter::new(rt.alloc(), OneByte { taken });
     assert_eq!(rt;
         export(&mut keep, number(7)?, &mut rows),
-        Err(ExportFault::Write)
+        Err(ViewFault::Write)
     );
     assert_eq!(rt; rows.into_inner().taken.as_slice(), b"r".as_slice());
     Ok(())

@@ -3,7 +3,7 @@ use Rattle.pawn_book.proofs.Reading.{reads_as}
 use Rattle.pawn_check.proofs.Fronts.{unfound}
 use Rattle.pawn_check.proofs.pledges.parts_of.Goals as goal
 
-pub returns-in-Ok-None-clause-reads : goal.returns-in-Ok-None-clause-reads
-returns-in-Ok-None-clause-reads g c = reads_as c.pledge.ensures.reads (λ h said k is within.
+pub returns-clause-reads : goal.returns-clause-reads
+returns-clause-reads g c = reads_as c.in_ok-pledge.ensures.reads (λ h said k is within.
     let low : 1 ≤ c.args.number = c.get.ensures.in_range.0 in
-    absurd (unfound h c.args.book c.args.number k is low within (rw (c.in-Ok-None.is, c.in-Ok-None.field-0-is) at said)))
+    absurd (unfound h c.args.book c.args.number k is low within (rw c.in-None.is at said)))

@@ -1,4 +1,6 @@
 use Rattle.std.proofs.Common.{arith, ◌∙◌}
+use Rattle.std.specs.Io.KnownBytes.{prepend_known}
+use Rattle.pawn_host.specs.Ends.{left_of}
 use Rattle.pawn_host.specs.declared.session.Cause.TheVariants.{Read}
 use Rattle.pawn_host.specs.declared.session.Rest.TheVariants.{CutOff, NoMemory, Stopped}
 use Rattle.pawn_host.proofs.FindLemmas.{kept_more, head_more, found_short, found_request}
@@ -19,11 +21,11 @@ loop-reader-preserved g c =
 pub returns-in-Done-clause-found : goal.returns-in-Done-clause-found
 returns-in-Done-clause-found g c =
     let f = c.in-Done.ensures.filled in
-    found_short _ _ _ c.loop-reader.buffer.items c.args.head c.loop-reader.invariant.kept f.1 f.2 c.loop-reader.invariant.head (omega (arith, c.loop-reader.buffer.ok.0))
+    found_short (prepend_known c.args.buffer.now.items (left_of g.R.Read.remaining c.args.reader.now)) (left_of g.R.Read.remaining c.loop-reader.reader) (left_of g.R.Read.remaining c.fill.new.reader) c.loop-reader.buffer.items c.args.head c.loop-reader.invariant.kept f.1 f.2 c.loop-reader.invariant.head (omega (arith, c.loop-reader.buffer.ok.0))
 
 pub returns-clause-found : goal.returns-clause-found
 returns-clause-found g c =
-    found_request _ _ c.loop-reader.buffer.items c.args.head c.loop-reader.invariant.kept c.loop-reader.invariant.head (omega (arith, c.loop-reader.buffer.ok.0))
+    found_request (prepend_known c.args.buffer.now.items (left_of g.R.Read.remaining c.args.reader.now)) (left_of g.R.Read.remaining c.loop-reader.reader) c.loop-reader.buffer.items c.args.head c.loop-reader.invariant.kept c.loop-reader.invariant.head (omega (arith, c.loop-reader.buffer.ok.0))
 
 pub returns-in-Done-clause-fetched : goal.returns-in-Done-clause-fetched
 returns-in-Done-clause-fetched g c =

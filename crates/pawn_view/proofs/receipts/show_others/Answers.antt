@@ -1,3 +1,4 @@
+use Rattle.std.proofs.Common.{◌∙◌, sym}
 use Rattle.pawn_book.specs.BookStep.{are_unknown}
 use Rattle.pawn_book.proofs.Reading.{reads_then}
 use Rattle.pawn_view.specs.Shown.{live_pledges}
@@ -6,6 +7,6 @@ use Rattle.pawn_view.proofs.receipts.show_others.Goals as goal
 
 pub returns-clause-shows : goal.returns-clause-shows
 returns-clause-shows g c =
-    reads_then c.is_any_live.ensures.reads c.put_further-done.ensures.shares (λ h said share sound.
+    reads_then c.in_ok-live.ensures.reads c.put_further-done.ensures.shares (λ h said share sound.
     dead_first_shows g.W.Write.contents c.args.writer.now c.put.new.writer c.put_further-done.new.writer c.args.day (live_pledges h c.args.book c.args.receipts.now) (are_unknown (live_pledges h c.args.book c.args.receipts.now)) c.put_further-done.result c.ending.result
-    c.requires.fine c.ending.ensures.answer (rw (c.in-Ok-true.is, c.in-Ok-true.field-0-test) at said) c.put.ensures.puts (share sound))
+    c.requires.fine c.ending.ensures.answer (sym c.if-not-live.false ∙ said) c.put.ensures.puts (share sound))

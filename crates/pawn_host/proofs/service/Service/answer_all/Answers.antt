@@ -1,8 +1,8 @@
-use Rattle.std.proofs.Common.{ℕ, arith, refl, drop, ap, subst, Bool, Ok, Err, ◌∙◌, take, ◌+◌}
-use Rattle.pawn_view.specs.Ends.{write_failed}
-use Rattle.pawn_host.specs.Ends.{reads, read_failed}
+use Rattle.std.proofs.Common.{ℕ, arith, refl, ap, subst, Bool, Ok, Err, ◌∙◌, take, ◌+◌}
+use Rattle.pawn_view.specs.Ends.{write_failed, written_bytes}
+use Rattle.pawn_host.specs.Ends.{reads, read_failed, left_of}
 use Rattle.pawn_host.specs.Finding.{StopsBy}
-use Rattle.pawn_host.proofs.SessionLemmas.{over, over_leaves, ended_limit, ended_dry, broken_write, ended_closed, goes_on, acted_at, starts, taken_none, taken_more, are_taken, open_then}
+use Rattle.pawn_host.proofs.SessionLemmas.{over, over_leaves, ended_limit, ended_dry, broken_write, ended_closed, goes_on, acted_at, starts, taken_none, taken_more, are_taken, open_then, given_by, left_behind}
 use Rattle.pawn_host.proofs.ReadLemmas.{read_none, read_then, read_more, read_all}
 use Rattle.pawn_host.specs.Keeps.{service_keep, start_of, start_after, host_by}
 use Rattle.pawn_host.proofs.CrashLemmas.{goes_none}
@@ -26,7 +26,7 @@ returns-in-Err g c =
     let leaves = over_leaves g.I.Iterator.next_gives c.loop-acted.stamps c.loop-acted.acted c.loop-acted.sent (reads c.next_request.new.reader) _ _ (read_failed c.next_request.new.reader) (write_failed c.finish.new.writer) c.in-Err.rest c.finish.result c.loop-acted-test.true readable c.finish.ensures.over in
     record {
       stays = c.loop-acted.invariant.stays;
-      session = λ honest h sound at. over _ _ _ _ _ c.in-Err.rest _ (c.loop-acted.invariant.so_far honest h sound at) c.loop-acted-test.true c.in-Err.ensures.found c.in-Err.ensures.stops c.finish.ensures.over;
+      session = λ honest h sound at. over {given = given_by g.K.Keep.keeping c.args.self.now h c.args.stamps.now (left_of g.R.Read.remaining c.args.reader.now) (written_bytes g.W.Write.contents c.args.writer.now)} _ _ _ _ _ c.in-Err.rest _ (c.loop-acted.invariant.so_far honest h sound at) c.loop-acted-test.true c.in-Err.ensures.found c.in-Err.ensures.stops c.finish.ensures.over;
       stamps = are_taken _ _ c.loop-acted.invariant.taken leaves.count leaves.left;
       reads = read_then (Err c.in-Err.rest) _ _ _ _ _ c.loop-acted.acted _ _ c.loop-acted.invariant.fetched c.loop-acted-test.true c.in-Err.ensures.fetched;
       room = leaves.room;
@@ -37,7 +37,7 @@ returns-in-Err g c =
 pub returns-in_default : goal.returns-in_default
 returns-in_default g c = record {
   stays = c.loop-acted.invariant.stays;
-  session = λ honest h sound at. ended_dry c.in-Ok.head (c.loop-acted.invariant.so_far honest h sound at) c.loop-acted-test.true c.in_default.ensures.steps c.in-Ok.ensures.found;
+  session = λ honest h sound at. ended_dry {given = given_by g.K.Keep.keeping c.args.self.now h c.args.stamps.now (left_of g.R.Read.remaining c.args.reader.now) (written_bytes g.W.Write.contents c.args.writer.now)} c.in-Ok.head (c.loop-acted.invariant.so_far honest h sound at) c.loop-acted-test.true c.in_default.ensures.steps c.in-Ok.ensures.found;
   stamps = are_taken _ _ c.loop-acted.invariant.taken refl c.in_default.ensures.steps;
   reads = read_then (Ok c.in-Ok.head) _ _ _ _ _ c.loop-acted.acted _ _ c.loop-acted.invariant.fetched c.loop-acted-test.true c.in-Ok.ensures.fetched;
   room = c.loop-acted-test.true;
@@ -53,7 +53,7 @@ returns-then-count-text g c = record {
       let start = start_of g.K.Keep.keeping c.args.self.now h in
       let mid = host_by start so.items in
       let acted = acted_at _ (start_after start so.items) c.in-Some.stamp _ (take (c.in-Ok.head.len + c.in-Ok.head.body) c.next_request.new.buffer.items) _ c.answer_slice-text.result.now _ (c.answer_one-answer.ensures.acted honest mid so.served.goes.sound so.served.goes.stands_for) c.loop-acted.invariant.stays.on.stays c.loop-acted.invariant.stays.operator so.served.goes.crash (ap (take c.request_len-needed.result) c.deref.ensures.value ∙ ap (λ (k : ℕ). take k c.next_request.new.buffer.items) c.request_len-needed.ensures.answer) c.answer_slice-text.ensures.bytes in
-      broken_write _ _ _ _ c.in-Some.stamp c.in-Ok.head c.send-count.result c.answer_slice-text.result.now c.next_request.new.buffer.items so c.loop-acted-test.true c.in-Some.ensures.steps acted c.in-Ok.ensures.found c.in-Ok.ensures.kept (omega (arith, c.in-Ok.ensures.buffered, c.next_request.new.buffer.ok.0)) c.if-count-text.true c.send-count.ensures.bytes;
+      broken_write {given = given_by g.K.Keep.keeping c.args.self.now h c.args.stamps.now (left_of g.R.Read.remaining c.args.reader.now) (written_bytes g.W.Write.contents c.args.writer.now)} _ _ _ _ c.in-Some.stamp c.in-Ok.head c.send-count.result c.answer_slice-text.result.now c.next_request.new.buffer.items so c.loop-acted-test.true c.in-Some.ensures.steps acted c.in-Ok.ensures.found c.in-Ok.ensures.kept (omega (arith, c.in-Ok.ensures.buffered, c.next_request.new.buffer.ok.0)) c.if-count-text.true c.send-count.ensures.bytes;
   stamps = are_taken _ _ (taken_more _ c.in-Some.stamp c.loop-acted.invariant.taken c.in-Some.ensures.steps) refl refl;
   reads = read_then (Ok c.in-Ok.head) _ _ _ _ _ c.loop-acted.acted _ _ c.loop-acted.invariant.fetched c.loop-acted-test.true c.in-Ok.ensures.fetched;
   room = omega (arith, c.loop-acted-test.true);
@@ -69,7 +69,7 @@ returns-then-head g c = record {
       let start = start_of g.K.Keep.keeping c.args.self.now h in
       let mid = host_by start so.items in
       let acted = acted_at _ (start_after start so.items) c.in-Some.stamp _ (take (c.in-Ok.head.len + c.in-Ok.head.body) c.next_request.new.buffer.items) _ c.answer_slice-text.result.now _ (c.answer_one-answer.ensures.acted honest mid so.served.goes.sound so.served.goes.stands_for) c.loop-acted.invariant.stays.on.stays c.loop-acted.invariant.stays.operator so.served.goes.crash (ap (take c.request_len-needed.result) c.deref.ensures.value ∙ ap (λ (k : ℕ). take k c.next_request.new.buffer.items) c.request_len-needed.ensures.answer) c.answer_slice-text.ensures.bytes in
-      ended_closed _ _ _ _ c.in-Some.stamp c.in-Ok.head c.send-count.result c.answer_slice-text.result.now c.next_request.new.buffer.items so c.loop-acted-test.true c.in-Some.ensures.steps acted c.in-Ok.ensures.found c.in-Ok.ensures.kept (omega (arith, c.in-Ok.ensures.buffered, c.next_request.new.buffer.ok.0)) (omega (arith, c.send-count.ensures.bound, c.if-count-text.false)) c.send-count.ensures.bytes c.if-head.true;
+      ended_closed {given = given_by g.K.Keep.keeping c.args.self.now h c.args.stamps.now (left_of g.R.Read.remaining c.args.reader.now) (written_bytes g.W.Write.contents c.args.writer.now)} _ _ _ _ c.in-Some.stamp c.in-Ok.head c.send-count.result c.answer_slice-text.result.now c.next_request.new.buffer.items so c.loop-acted-test.true c.in-Some.ensures.steps acted c.in-Ok.ensures.found c.in-Ok.ensures.kept (omega (arith, c.in-Ok.ensures.buffered, c.next_request.new.buffer.ok.0)) (omega (arith, c.send-count.ensures.bound, c.if-count-text.false)) c.send-count.ensures.bytes c.if-head.true;
   stamps = are_taken _ _ (taken_more _ c.in-Some.stamp c.loop-acted.invariant.taken c.in-Some.ensures.steps) refl refl;
   reads = read_then (Ok c.in-Ok.head) _ _ _ _ _ c.loop-acted.acted _ _ c.loop-acted.invariant.fetched c.loop-acted-test.true c.in-Ok.ensures.fetched;
   room = omega (arith, c.loop-acted-test.true);
@@ -83,7 +83,7 @@ loop-acted-preserved g c = record {
   readable = c.in-Ok.ensures.stops ∙ c.loop-acted.invariant.readable;
   taken = taken_more _ c.in-Some.stamp c.loop-acted.invariant.taken c.in-Some.ensures.steps;
   fetched = read_more c.in-Ok.head _ _ _ _ _ c.loop-acted.acted _ c.next_request.new.buffer.items _ c.loop-acted.invariant.fetched c.loop-acted-test.true c.in-Ok.ensures.fetched c.in-Ok.ensures.head (omega (arith, c.in-Ok.ensures.buffered, c.next_request.new.buffer.ok.0)) c.if-head.false
-      (c.drop_front.ensures.rest ∙ ap (λ (k : ℕ). drop k c.next_request.new.buffer.items) c.request_len-needed.ensures.answer);
+      (left_behind c.drop_front.new.buffer.items c.next_request.new.buffer.items c.request_len-needed.result (c.in-Ok.head.len + c.in-Ok.head.body) c.drop_front.ensures.rest c.request_len-needed.ensures.answer);
   can = c.in-Some.ensures.goes.keeps;
   room = omega (arith, c.loop-acted.invariant.room);
   stays = open_then c.loop-acted.invariant.stays c.answer_one-answer.ensures.stays;
@@ -92,13 +92,13 @@ loop-acted-preserved g c = record {
       let start = start_of g.K.Keep.keeping c.args.self.now h in
       let mid = host_by start so.items in
       let acted = acted_at _ (start_after start so.items) c.in-Some.stamp _ (take (c.in-Ok.head.len + c.in-Ok.head.body) c.next_request.new.buffer.items) _ c.answer_slice-text.result.now _ (c.answer_one-answer.ensures.acted honest mid so.served.goes.sound so.served.goes.stands_for) c.loop-acted.invariant.stays.on.stays c.loop-acted.invariant.stays.operator so.served.goes.crash (ap (take c.request_len-needed.result) c.deref.ensures.value ∙ ap (λ (k : ℕ). take k c.next_request.new.buffer.items) c.request_len-needed.ensures.answer) c.answer_slice-text.ensures.bytes in
-      goes_on _ _ _ _ c.in-Some.stamp c.in-Ok.head c.send-count.result c.answer_slice-text.result.now c.next_request.new.buffer.items _ so c.loop-acted-test.true c.in-Some.ensures.steps acted c.in-Ok.ensures.found c.in-Ok.ensures.kept (omega (arith, c.in-Ok.ensures.buffered, c.next_request.new.buffer.ok.0)) (omega (arith, c.send-count.ensures.bound, c.if-count-text.false)) c.send-count.ensures.bytes c.if-head.false (c.drop_front.ensures.rest ∙ ap (λ (k : ℕ). drop k c.next_request.new.buffer.items) c.request_len-needed.ensures.answer);
+      goes_on {given = given_by g.K.Keep.keeping c.args.self.now h c.args.stamps.now (left_of g.R.Read.remaining c.args.reader.now) (written_bytes g.W.Write.contents c.args.writer.now)} _ _ _ _ c.in-Some.stamp c.in-Ok.head c.send-count.result c.answer_slice-text.result.now c.next_request.new.buffer.items _ so c.loop-acted-test.true c.in-Some.ensures.steps acted c.in-Ok.ensures.found c.in-Ok.ensures.kept (omega (arith, c.in-Ok.ensures.buffered, c.next_request.new.buffer.ok.0)) (omega (arith, c.send-count.ensures.bound, c.if-count-text.false)) c.send-count.ensures.bytes c.if-head.false (left_behind c.drop_front.new.buffer.items c.next_request.new.buffer.items c.request_len-needed.result (c.in-Ok.head.len + c.in-Ok.head.body) c.drop_front.ensures.rest c.request_len-needed.ensures.answer);
 }
 
 pub returns : goal.returns
 returns g c = record {
   stays = c.loop-acted.invariant.stays;
-  session = λ honest h sound at. ended_limit (c.loop-acted.invariant.so_far honest h sound at) (omega arith);
+  session = λ honest h sound at. ended_limit {given = given_by g.K.Keep.keeping c.args.self.now h c.args.stamps.now (left_of g.R.Read.remaining c.args.reader.now) (written_bytes g.W.Write.contents c.args.writer.now)} (c.loop-acted.invariant.so_far honest h sound at) (omega arith);
   stamps = are_taken _ _ c.loop-acted.invariant.taken (omega arith) refl;
   reads = read_all _ _ _ _ _ c.loop-acted.invariant.fetched;
   room = refl;

@@ -1,0 +1,32 @@
+-- A view that was written into memory, and told.
+use Rattle.std.proofs.Common.{◌≡◌, ℕ, List, Result, Ok, Err, inl, inr, refl, ap}
+use Rattle.pawn_pledge.specs.declared.command.Stamp.{Stamp}
+use Rattle.pawn_book.specs.BookStep.{Refuses}
+use Rattle.pawn_book.specs.HostStep.{host_step}
+use Rattle.pawn_book.specs.declared.request.Request.{Request}
+use Rattle.pawn_book.specs.declared.refusal.Refusal.{Refusal}
+use Rattle.pawn_book.specs.declared.refusal.Refusal.TheVariants as No
+use Rattle.pawn_view.specs.declared.fault.ViewFault.{ViewFault}
+use Rattle.pawn_view.specs.declared.fault.ViewFault.TheVariants as fault
+use Rattle.pawn_wire.specs.Request.{Reads}
+use Rattle.pawn_host.specs.declared.service.Answer.{Answer}
+use Rattle.pawn_host.specs.Keeps.{Start, Kept, GoesTo, answer_bytes, Tells, IsActed}
+use Rattle.pawn_host.specs.Views.{TellsView}
+use Rattle.pawn_host.proofs.RunLemmas.{acted_memory, acted_refused}
+
+-- what is answered, if a text that was written whole is the step's, and one of which there is nothing to show is refused
+pub view_acted : (start : Start) (stamp : Stamp) (bytes : List ℕ) (answer : Answer) (kept : Kept) (request : Request) (unknown : Refusal) (told : List ℕ) (shown : Result (Unit {0}) ViewFault)
+    → Reads bytes (Ok request) → TellsView answer shown told unknown → GoesTo kept start.host start.leaves → (unknown ≡ No.Store → ⊥)
+    → ((u : Unit {0}) → shown ≡ Ok u → Tells answer told → IsActed start stamp bytes (answer_bytes answer) kept)
+    → (shown ≡ Err fault.Unknown → host_step start.host start.operator stamp request ≡ Refuses unknown)
+    → (start.Steady → shown ≡ Err fault.Store → ⊥)
+    → IsActed start stamp bytes (answer_bytes answer) kept
+view_acted start stamp bytes answer kept request unknown told (Ok u) read tells goes other whole none calm = whole u refl tells
+view_acted start stamp bytes answer kept request unknown told (Err fault.Unknown) read tells goes other whole none calm =
+    acted_refused start stamp bytes answer kept request unknown read tells goes (inr (none refl)) (λ steady store. other store)
+view_acted start stamp bytes answer kept request unknown told (Err fault.Store) read tells goes other whole none calm =
+    acted_refused start stamp bytes answer kept request No.Store read tells goes (inl (inr refl)) (λ steady store. calm steady refl)
+view_acted start stamp bytes answer kept request unknown told (Err fault.Memory) read tells goes other whole none calm =
+    acted_memory start stamp bytes (answer_bytes answer) kept (ap answer_bytes tells) goes
+view_acted start stamp bytes answer kept request unknown told (Err fault.Write) read tells goes other whole none calm =
+    acted_memory start stamp bytes (answer_bytes answer) kept (ap answer_bytes tells) goes

@@ -1,0 +1,30 @@
+-- What the holder of a book's key may ask to see of it, and how a view is told.
+use Rattle.std.specs.Prelude.{◌≡◌, ℕ, List, Result, Ok, Err}
+use Rattle.pawn_book.specs.declared.request.BrokerRequest.{BrokerRequest}
+use Rattle.pawn_book.specs.declared.request.BrokerRequest.TheVariants as broker
+use Rattle.pawn_book.specs.declared.refusal.Refusal.{Refusal}
+use Rattle.pawn_book.specs.declared.refusal.Refusal.TheVariants as No
+use Rattle.pawn_view.specs.declared.fault.ViewFault.{ViewFault}
+use Rattle.pawn_view.specs.declared.fault.ViewFault.TheVariants as fault
+use Rattle.pawn_wire.specs.Reply.{out_text}
+use Rattle.pawn_wire.specs.declared.reply.Out.TheVariants as wire
+use Rattle.pawn_host.specs.declared.service.Answer.{Answer}
+use Rattle.pawn_host.specs.declared.service.Answer.TheVariants.{Memory}
+use Rattle.pawn_host.specs.declared.service.View.{View}
+use Rattle.pawn_host.specs.declared.service.View.TheVariants.{Pledge, Sheet, Rows}
+use Rattle.pawn_host.specs.Keeps.{Tells}
+
+-- the request for a view
+abbrev pub asked_of : View → BrokerRequest
+asked_of (Pledge number) = broker.Show number
+asked_of (Sheet day) = broker.SheetOf day
+asked_of Rows = broker.Export
+
+-- a view is told: the text where it was written whole; this refusal where there is nothing to show, or that the store failed;
+-- else that memory was wanting. Each may be want of memory in place of it
+abbrev pub TellsView : {U : Type 0} → Answer → Result U ViewFault → List ℕ → Refusal → Type 0
+TellsView answer (Ok u) text unknown = Tells answer text
+TellsView answer (Err fault.Unknown) text unknown = Tells answer (out_text (wire.Refused unknown))
+TellsView answer (Err fault.Store) text unknown = Tells answer (out_text (wire.Refused No.Store))
+TellsView answer (Err fault.Memory) text unknown = answer ≡ Memory
+TellsView answer (Err fault.Write) text unknown = answer ≡ Memory
