@@ -46,8 +46,8 @@ fn moved_again<S: Alter>(alloc: Global, conn: &mut Connection<S>) -> Option<(u32
     Some((number, migrate(alloc, conn)))
 }
 
-// How a store is judged.
-fn judged<S: Alter + Drop>(
+// The counts of a store, as it is judged.
+fn counts_in<S: Alter + Drop>(
     alloc: Global,
     conn: Connection<S>,
 ) -> Option<Result<Counts, CheckFault>> {
@@ -59,7 +59,7 @@ fn judged<S: Alter + Drop>(
 fn found(alloc: Global, disks: Disks) -> Option<(u32, Moved, Result<Counts, CheckFault>)> {
     let mut conn = connected(alloc, disks)?;
     let moved = moved_again(alloc, &mut conn);
-    let counts = judged(alloc, conn)?;
+    let counts = counts_in(alloc, conn)?;
     let (number, end) = moved?;
     Some((number, end, counts))
 }
@@ -94,6 +94,9 @@ fn a_log_that_stops_leaves_the_old_tables_or_the_new(rt: HostRuntime) -> Result<
             Some(Err(why)) => {
                 assert_eq!(rt; why, MoveFault::Store);
                 stopped = stopped.saturating_add(1);
+                if stopped == 3 {
+                    return Ok(());
+                }
             }
             Some(Ok(numbers)) => {
                 assert_eq!(rt; numbers, (1, 3));
