@@ -1,7 +1,7 @@
 -- Rows put one after the other.
 use Rattle.std.proofs.lemmas.List.{append-nil}
 use Rattle.std.proofs.lemmas.Bool.{cases_Bool}
-use Rattle.std.proofs.Common.{◌≡◌, ◌∙◌, ℕ, Bool, true, false, List, [], ◌++◌, Option, refl, sym, inl, inr, ap, subst, append_assoc}
+use Rattle.std.proofs.Common.{◌≡◌, ◌∙◌, ℕ, List, [], ◌++◌, Option, refl, sym, inl, inr, ap, subst, append_assoc}
 use Rattle.pawn_book.specs.Visits.{End, Front, Whole}
 use Rattle.pawn_view.specs.Ends as view
 use Rattle.pawn_view.proofs.PutLemmas as put
@@ -9,7 +9,7 @@ use Rattle.pawn_csv.specs.declared.writing.Sink.{Sink}
 use Rattle.pawn_csv.specs.Sent.{has_ended, seen, Puts, PutsShare}
 
 -- what was put into a sink, as what was put into a writer
-pub as_writer : {W : Type 0} {contents : W → Option (List ℕ)} {a b : Sink W} {s : List ℕ} → Puts contents a s b → view.Puts contents (seen a) s (seen b)
+as_writer : {W : Type 0} {contents : W → Option (List ℕ)} {a b : Sink W} {s : List ℕ} → Puts contents a s b → view.Puts contents (seen a) s (seen b)
 as_writer puts = record { failed = λ ended. ap seen (puts.ended ended); fine = puts.fine }
 
 -- an empty text
@@ -28,10 +28,6 @@ puts_then first second = let both = put.puts_then (as_writer first) (as_writer s
 -- a text that was put
 pub share_puts : {W : Type 0} {contents : W → Option (List ℕ)} {a b : Sink W} {s : List ℕ} → Puts contents a s b → PutsShare contents a s Whole b
 share_puts {s = s} puts = (s, [], append-nil s, puts, λ fine done. refl)
-
--- an empty text
-pub share_nil : {W : Type 0} (contents : W → Option (List ℕ)) (a : Sink W) → PutsShare contents a [] Whole a
-share_nil contents a = share_puts (puts_nil contents a)
 
 -- a text that was cut, and what would have come behind it
 pub share_more : {W : Type 0} {contents : W → Option (List ℕ)} {a b : Sink W} {s : List ℕ} (t : List ℕ) → PutsShare contents a s Front b → PutsShare contents a (s ++ t) Front b

@@ -189,7 +189,8 @@ pub(crate) fn read_text<const MOST: usize>(
     alloc: Global,
     field: &[u8],
 ) -> Result<Option<Text<MOST>>, AllocError>
-    ensures value { IfOk result (λ text. Reads (λ (bytes : List ℕ). bytes) (IsTextColumn MOST) field.now text) }
+    ensures value { IfOk result
+        (λ text. Reads (λ (bytes : List ℕ). bytes) (IsTextColumn MOST) field.now text) }
 {
     let Ok(text) = str::from_utf8(field) else {
         return Ok(None);
@@ -199,8 +200,10 @@ pub(crate) fn read_text<const MOST: usize>(
 
 // The credit of a pledge whose kind and amount two columns spell.
 pub(crate) fn read_kind(word: &[u8], amount: &[u8]) -> Option<Kind>
-    ensures found { IfSome result (λ kind. (word.now ≡ kind_text kind) × IsShort (credit_of kind) × (amount.now ≡ decimal (credit_of kind))) }
-    ensures none { IfNone result ((kind : Kind) → word.now ≡ kind_text kind → IsShort (credit_of kind) → amount.now ≡ decimal (credit_of kind) → ⊥) }
+    ensures found { IfSome result (λ kind. (word.now ≡ kind_text kind) × IsShort (credit_of kind)
+        × (amount.now ≡ decimal (credit_of kind))) }
+    ensures none { IfNone result ((kind : Kind) → word.now ≡ kind_text kind
+        → IsShort (credit_of kind) → amount.now ≡ decimal (credit_of kind) → ⊥) }
 {
     let Some(amount) = read_number(amount) else {
         return None;

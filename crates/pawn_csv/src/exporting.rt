@@ -148,7 +148,8 @@ fn put_extensions<K: Keep, W: Write>(
 
 // Puts the booking of a pledge, if one stands.
 fn put_booked<W: Write>(sink: &mut Sink<W>, number: Number, booking: Option<Booking>)
-    ensures puts { Puts W.contents sink.old (flat_map line_of (booking_rows number booking)) sink.new }
+    ensures puts { Puts W.contents sink.old
+        (flat_map line_of (booking_rows number booking)) sink.new }
 {
     match booking {
         Some(booking) => put_booking(sink, u64::from(number.get()), booking),
@@ -164,7 +165,9 @@ fn put_record<K: Keep, W: Write>(
     brief: &Brief,
     rows: &mut RowWriter<W>,
 ) -> Result<(), KeepError>
-    ensures shares { Reads K.keeping keep.old keep.new (λ h. IsSound h → (p : PledgeValue) → pledge_in (get h.books book) number ≡ Some p → brief.now ≡ brief_of p
+    ensures shares { Reads K.keeping keep.old keep.new
+        (λ h. IsSound h → (p : PledgeValue) → pledge_in (get h.books book) number ≡ Some p
+        → brief.now ≡ brief_of p
         → PutsShare W.contents rows.old.sink (flat_map line_of (pledge_rows p)) (call_end result) rows.new.sink) }
     ensures steady { IsSteady K.keeping keep.old result }
 {
@@ -193,7 +196,8 @@ fn put_versions<K: Keep, W: Write>(
     count: u64,
     rows: &mut RowWriter<W>,
 ) -> Result<(), KeepError>
-    ensures shares { Reads K.keeping keep.old keep.new (λ h. count ≡ length (terms_of (get h.books book))
+    ensures shares { Reads K.keeping keep.old keep.new
+        (λ h. count ≡ length (terms_of (get h.books book))
         → PutsShare W.contents rows.old.sink (flat_map line_of (terms_rows 1 (terms_of (get h.books book)))) (call_end result) rows.new.sink) }
     ensures steady { IsSteady K.keeping keep.old result }
 {
@@ -214,7 +218,8 @@ fn put_pledges<K: Keep, W: Write>(
     count: u64,
     rows: &mut RowWriter<W>,
 ) -> Result<(), KeepError>
-    ensures shares { Reads K.keeping keep.old keep.new (λ h. IsSound h → count ≡ length (pledges_of (get h.books book))
+    ensures shares { Reads K.keeping keep.old keep.new
+        (λ h. IsSound h → count ≡ length (pledges_of (get h.books book))
         → PutsShare W.contents rows.old.sink (flat_map line_of (flat_map pledge_rows (pledges_of (get h.books book)))) (call_end result) rows.new.sink) }
     ensures steady { IsSteady K.keeping keep.old result }
 {
@@ -242,7 +247,8 @@ fn put_rows<K: Keep, W: Write>(
     head: &BookHead,
     rows: &mut RowWriter<W>,
 ) -> Result<(), KeepError>
-    ensures shares { Reads K.keeping keep.old keep.new (λ h. IsSound h → (at : BookValue) → get h.books book ≡ Some at → head.now ≡ book_head at
+    ensures shares { Reads K.keeping keep.old keep.new
+        (λ h. IsSound h → (at : BookValue) → get h.books book ≡ Some at → head.now ≡ book_head at
         → PutsShare W.contents rows.old.sink (flat_map line_of (terms_rows 1 at.terms) ++ flat_map line_of (flat_map pledge_rows at.pledges)) (call_end result) rows.new.sink) }
     ensures steady { IsSteady K.keeping keep.old result }
 {
@@ -276,7 +282,8 @@ pub fn export<K: Keep, W: Write>(
     rows: &mut RowWriter<W>,
 ) -> Result<(), ViewFault>
     requires fine { has_ended rows.old.sink ≡ false }
-    ensures exports { Reads K.keeping keep.old keep.new (λ h. IsSound h → Exports W.contents rows.old.sink (text_of h book) result rows.new.sink) }
+    ensures exports { Reads K.keeping keep.old keep.new
+        (λ h. IsSound h → Exports W.contents rows.old.sink (text_of h book) result rows.new.sink) }
     ensures write { IsErrOf result ViewFault.Write → write_failed rows.new.sink.writer ≡ true }
     ensures steady { IsQuietView K.keeping keep.old result }
 {

@@ -99,8 +99,10 @@ fn all_parts(
     raws: Vec<RawPledge>,
     terms: &[Rates],
 ) -> Result<Option<Vec<Parts>>, AllocError>
-    ensures found { IfOk result (λ all. IfSome all (λ parts. AreRawOf terms.now raws.items parts.items)) }
-    ensures none { IfOk result (λ all. IfNone all ((pledges : _) → AreRawOf terms.now raws.items pledges → ⊥)) }
+    ensures found { IfOk result
+        (λ all. IfSome all (λ parts. AreRawOf terms.now raws.items parts.items)) }
+    ensures none { IfOk result
+        (λ all. IfNone all ((pledges : _) → AreRawOf terms.now raws.items pledges → ⊥)) }
 {
     let mut all = Vec::new(alloc);
     for raw in raws {
@@ -133,7 +135,8 @@ impl BegunBook {
     // The book's rows, if the columns of each pledge go together.
     fn into_rows(self, alloc: Global) -> Result<Option<BookRows>, AllocError>
         ensures found { IfOk result (λ rows. IfSome rows (IsBegunOf (view_begun self))) }
-        ensures none { IfOk result (λ rows. IfNone rows ((k : BookRows) → IsBegunOf (view_begun self) k → ⊥)) }
+        ensures none { IfOk result
+            (λ rows. IfNone rows ((k : BookRows) → IsBegunOf (view_begun self) k → ⊥)) }
     {
         let BegunBook {
             terms,
@@ -155,7 +158,8 @@ impl BegunBook {
 // The same rows, if a book can have come to them.
 fn judge(rows: Option<BookRows>) -> Result<ReplayableRows, Cause>
     ensures found { IfOk result (λ k. (rows ≡ Some k) × AreReplayable k.terms k.pledges) }
-    ensures refused { IfErr result (λ e. (e ≡ Cause.NotReplayable) × IfSome rows (λ k. AreReplayable k.terms k.pledges → ⊥)) }
+    ensures refused { IfErr result (λ e. (e ≡ Cause.NotReplayable)
+        × IfSome rows (λ k. AreReplayable k.terms k.pledges → ⊥)) }
 {
     let Some(rows) = rows else {
         return Err(Cause::NotReplayable);

@@ -29,8 +29,11 @@ pub fn import<K: Keep>(
     rows: ReplayableRows,
 ) -> Result<Reply, Refusal>
     ensures on { GoesOn K.keeping keep.old keep.new }
-    ensures acts { (operator : ℕ) → Of K.keeping keep.old keep.new (λ h. Acts h operator stamp.now (import_of book broker key rows) result (K.keeping.stands keep.new)) }
-    ensures crash { (operator : ℕ) → Of K.keeping keep.old keep.new (λ h. (left : Host) → K.keeping.leaves keep.new left
+    ensures acts { (operator : ℕ) → Of K.keeping keep.old keep.new
+        (λ h. Acts h operator stamp.now (import_of book broker key rows) result
+        (K.keeping.stands keep.new)) }
+    ensures crash { (operator : ℕ) → Of K.keeping keep.old keep.new
+        (λ h. (left : Host) → K.keeping.leaves keep.new left
         → IsLeftByAct h operator stamp.now (import_of book broker key rows) (K.keeping.leaves keep.old) result left) }
     ensures steady { IsQuiet K.keeping keep.old result }
 {

@@ -174,7 +174,8 @@ impl BegunBook {
 
     // Takes the row of a version of terms.
     fn place_terms(&mut self, version: u64, rates: Rates) -> Result<(), Cause>
-        ensures answer { Places (place_terms (view_begun self.old) version rates) result (view_begun self.new) }
+        ensures answer { Places (place_terms (view_begun self.old) version rates) result
+            (view_begun self.new) }
     {
         if self.terms.len() as u64 >= self.terms_due || version != self.terms.len() as u64 + 1 {
             return Err(Cause::Order);
@@ -190,7 +191,8 @@ impl BegunBook {
 
     // Takes the row of a pledge.
     fn place_pledge(&mut self, alloc: Global, columns: PledgeColumns) -> Result<(), Cause>
-        ensures answer { Places (place_pledge (view_begun self.old) columns) result (view_begun self.new) }
+        ensures answer { Places (place_pledge (view_begun self.old) columns) result
+            (view_begun self.new) }
     {
         if self.terms.len() as u64 != self.terms_due || !self.may_end() {
             return Err(Cause::Order);
@@ -209,7 +211,8 @@ impl BegunBook {
 
     // Takes the row of a secret of the pledge at hand.
     fn place_secret(&mut self, number: u64, place: u64, issued: Issued) -> Result<(), Cause>
-        ensures answer { Places (on_hand (view_begun self.old) number self.old.at_hand (λ p. place_secret p place issued)) result (view_begun self.new) }
+        ensures answer { Places (on_hand (view_begun self.old) number self.old.at_hand
+            (λ p. place_secret p place issued)) result (view_begun self.new) }
     {
         match &mut self.at_hand {
             None => Err(Cause::Order),
@@ -224,7 +227,8 @@ impl BegunBook {
 
     // Takes the row of an entry of the pledge at hand.
     fn place_entry(&mut self, number: u64, entry: Entry) -> Result<(), Cause>
-        ensures answer { Places (on_hand (view_begun self.old) number self.old.at_hand (λ p. place_entry p entry)) result (view_begun self.new) }
+        ensures answer { Places (on_hand (view_begun self.old) number self.old.at_hand
+            (λ p. place_entry p entry)) result (view_begun self.new) }
     {
         match &mut self.at_hand {
             None => Err(Cause::Order),
@@ -244,7 +248,9 @@ impl BegunBook {
         place: u64,
         extension: Extension,
     ) -> Result<(), Cause>
-        ensures answer { Places (on_second self.old.version (on_hand (view_begun self.old) number self.old.at_hand (λ p. place_extension p place extension))) result (view_begun self.new) }
+        ensures answer { Places (on_second self.old.version
+            (on_hand (view_begun self.old) number self.old.at_hand
+            (λ p. place_extension p place extension))) result (view_begun self.new) }
     {
         if let Version::One = self.version {
             return Err(Cause::BadField);
@@ -262,7 +268,8 @@ impl BegunBook {
 
     // Takes the row of the booking of the pledge at hand.
     fn place_booking(&mut self, number: u64, booking: Booking) -> Result<(), Cause>
-        ensures answer { Places (on_hand (view_begun self.old) number self.old.at_hand (λ p. place_booking p booking)) result (view_begun self.new) }
+        ensures answer { Places (on_hand (view_begun self.old) number self.old.at_hand
+            (λ p. place_booking p booking)) result (view_begun self.new) }
     {
         match &mut self.at_hand {
             None => Err(Cause::Order),
@@ -277,7 +284,8 @@ impl BegunBook {
 
     // Takes a row after the first.
     fn place(&mut self, alloc: Global, row: Row) -> Result<(), Cause>
-        ensures answer { Places (place_after (view_begun self.old) row) result (view_begun self.new) }
+        ensures answer { Places (place_after (view_begun self.old) row) result
+            (view_begun self.new) }
     {
         match row {
             Row::Book { terms, pledges, .. } => {

@@ -26,7 +26,8 @@ fn cause_of(error: &Error) -> Cause
 
 // Takes the next record: the header, or a row.
 fn take(alloc: Global, raw: &mut RawBook, columns: &ByteRecord, first: bool) -> Result<(), Cause>
-    ensures taking { Taking first (fields_of columns.now) (begun_of raw.old) result (begun_of raw.new) }
+    ensures taking { Taking first (fields_of columns.now) (begun_of raw.old) result
+        (begun_of raw.new) }
 {
     if first {
         return if is_header(columns) {
@@ -49,8 +50,10 @@ fn take(alloc: Global, raw: &mut RawBook, columns: &ByteRecord, first: bool) -> 
 
 // Takes the records of a text in turn, and makes the book at their end.
 fn take_all<R: Read + Drop>(alloc: Global, reader: R) -> Result<ReplayableRows, CsvFault>
-    ensures found { IfOk result (λ k. IfSome (R.remaining reader) (λ text. IsReadAs (strip_bom text) k)) }
-    ensures fault { IfErr result (λ f. IfSome (R.remaining reader) (λ text. IsFaultOf (strip_bom text) f.cause f.row)) }
+    ensures found { IfOk result (λ k. IfSome (R.remaining reader)
+        (λ text. IsReadAs (strip_bom text) k)) }
+    ensures fault { IfErr result (λ f. IfSome (R.remaining reader)
+        (λ text. IsFaultOf (strip_bom text) f.cause f.row)) }
 {
     let mut rdr = ReaderBuilder::new()
         .has_headers(false)
@@ -105,8 +108,10 @@ fn take_all<R: Read + Drop>(alloc: Global, reader: R) -> Result<ReplayableRows, 
 /// passed over. The reader may fail, and memory be wanting, at any row, once those before it were
 /// taken.
 pub fn read_book<R: Read + Drop>(alloc: Global, reader: R) -> Result<ReplayableRows, CsvFault>
-    ensures found { IfOk result (λ k. IfSome (R.remaining reader) (λ text. IsTextOf (strip_bom text) k)) }
-    ensures fault { IfErr result (λ f. IfSome (R.remaining reader) (λ text. IsFaultOf (strip_bom text) f.cause f.row)) }
+    ensures found { IfOk result (λ k. IfSome (R.remaining reader)
+        (λ text. IsTextOf (strip_bom text) k)) }
+    ensures fault { IfErr result (λ f. IfSome (R.remaining reader)
+        (λ text. IsFaultOf (strip_bom text) f.cause f.row)) }
 {
     take_all(alloc, reader)
 }

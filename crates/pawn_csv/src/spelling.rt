@@ -144,7 +144,8 @@ fn read_booking_row(columns: &ByteRecord) -> Option<Row>
 // The opening in the columns of a pledge's own row.
 fn read_opening(alloc: Global, columns: &ByteRecord) -> Result<Option<Opening>, AllocError>
     ensures found { IfOk result (λ opening. IfSome opening (IsOpeningOf (fields_of columns.now))) }
-    ensures none { IfOk result (λ opening. IfNone opening ((o : _) → IsOpeningOf (fields_of columns.now) o → ⊥)) }
+    ensures none { IfOk result
+        (λ opening. IfNone opening ((o : _) → IsOpeningOf (fields_of columns.now) o → ⊥)) }
 {
     let Some(kind) = read_kind(column(columns, 4), column(columns, 5)) else {
         return Ok(None);

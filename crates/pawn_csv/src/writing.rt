@@ -66,7 +66,8 @@ impl<W> Sink<W> {
 
 // The text of a row of these columns.
 fn row_text(alloc: Global, columns: &[&[u8]]) -> Result<Vec<u8>, AllocError>
-    ensures value { IfOk result (λ text. text.items ≡ row_text default_writer (map (λ c. c.now) columns.now)) }
+    ensures value { IfOk result
+        (λ text. text.items ≡ row_text default_writer (map (λ c. c.now) columns.now)) }
 {
     let mut writer = Writer::from_writer(Vec::new(alloc));
     match writer.write_fields(columns) {
@@ -81,7 +82,8 @@ fn row_text(alloc: Global, columns: &[&[u8]]) -> Result<Vec<u8>, AllocError>
 
 /// Puts a row of these columns, unless one before it was not written whole.
 pub(crate) fn put_row<W: Write>(sink: &mut Sink<W>, columns: &[&[u8]])
-    ensures puts { Puts W.contents sink.old (row_text default_writer (map (λ c. c.now) columns.now)) sink.new }
+    ensures puts { Puts W.contents sink.old
+        (row_text default_writer (map (λ c. c.now) columns.now)) sink.new }
 {
     if sink.has_ended() {
         return;
@@ -107,7 +109,8 @@ pub(crate) fn put_header<W: Write>(sink: &mut Sink<W>)
 
 /// `B,2,1,1`: a text of the second version, with so many versions of terms and so many pledges.
 pub(crate) fn put_book<W: Write>(sink: &mut Sink<W>, terms: u64, pledges: u64)
-    ensures puts { Puts W.contents sink.old (line_of (Row.Book version.Two terms pledges)) sink.new }
+    ensures puts { Puts W.contents sink.old
+        (line_of (Row.Book version.Two terms pledges)) sink.new }
 {
     put_row(
         sink,
@@ -160,7 +163,8 @@ pub(crate) fn put_terms<W: Write>(sink: &mut Sink<W>, version: u64, rates: Rates
 /// `P,1,A1,Gold ring,fixed,10000,2024-01-31,,no,1,no,2024-02-01,open,,`: what was agreed when a
 /// pledge was taken, and how it stands.
 pub(crate) fn put_pledge<W: Write>(sink: &mut Sink<W>, brief: &BriefFields)
-    ensures puts { Puts W.contents sink.old (line_of (Row.Pledge (brief_columns brief.now))) sink.new }
+    ensures puts { Puts W.contents sink.old
+        (line_of (Row.Pledge (brief_columns brief.now))) sink.new }
 {
     let opening = &brief.agreement.opening;
     let standing = &brief.standing;
@@ -236,7 +240,8 @@ fn agreed_end(agreed: Option<RequestDay>) -> Option<Day>
 
 /// `S,1,2,2024-02-01,sworn,00000000-0000-0000-0000-000000000004`: a secret, at its place from 1.
 pub(crate) fn put_secret<W: Write>(sink: &mut Sink<W>, number: u64, place: u64, issued: &Issued)
-    ensures puts { Puts W.contents sink.old (line_of (Row.Secret number place issued.now)) sink.new }
+    ensures puts { Puts W.contents sink.old
+        (line_of (Row.Secret number place issued.now)) sink.new }
 {
     put_row(
         sink,
@@ -293,7 +298,8 @@ pub(crate) fn put_extension<W: Write>(
     place: u64,
     extension: &Extension,
 )
-    ensures puts { Puts W.contents sink.old (line_of (Row.Extension number place extension.now)) sink.new }
+    ensures puts { Puts W.contents sink.old
+        (line_of (Row.Extension number place extension.now)) sink.new }
 {
     put_row(
         sink,

@@ -48,7 +48,8 @@ fn key(fields: &Fields<'_>) -> Result<Secret, WireFault>
 
 // Who makes a book.
 fn create(alloc: Global, sent: &Sent<'_>) -> Result<Asks, WireFault>
-    ensures value { Says result (asks_said Create Nothing (pairs_of sent.now.fields) sent.now.body.now) }
+    ensures value { Says result (asks_said Create Nothing
+        (pairs_of sent.now.fields) sent.now.body.now) }
 {
     let key = key(&sent.fields)?;
     let value = member::json(alloc, sent.body)?;
@@ -58,7 +59,8 @@ fn create(alloc: Global, sent: &Sent<'_>) -> Result<Asks, WireFault>
 
 // Who puts terms.
 fn put_terms(alloc: Global, sent: &Sent<'_>) -> Result<Asks, WireFault>
-    ensures value { Says result (asks_said PutTerms Nothing (pairs_of sent.now.fields) sent.now.body.now) }
+    ensures value { Says result (asks_said PutTerms Nothing
+        (pairs_of sent.now.fields) sent.now.body.now) }
 {
     let key = key(&sent.fields)?;
     let value = member::json(alloc, sent.body)?;
@@ -71,7 +73,8 @@ fn put_terms(alloc: Global, sent: &Sent<'_>) -> Result<Asks, WireFault>
 
 // Who takes a pledge.
 fn take_pledge(alloc: Global, sent: &Sent<'_>) -> Result<Asks, WireFault>
-    ensures value { Says result (asks_said TakePledge Nothing (pairs_of sent.now.fields) sent.now.body.now) }
+    ensures value { Says result (asks_said TakePledge Nothing
+        (pairs_of sent.now.fields) sent.now.body.now) }
 {
     let key = key(&sent.fields)?;
     let value = member::json(alloc, sent.body)?;
@@ -101,7 +104,8 @@ fn command_pledge(
     action: Action,
     sent: &Sent<'_>,
 ) -> Result<Asks, WireFault>
-    ensures value { Says result (asks_said (OnPledge action) item (pairs_of sent.now.fields) sent.now.body.now) }
+    ensures value { Says result (asks_said (OnPledge action) item
+        (pairs_of sent.now.fields) sent.now.body.now) }
 {
     let key = key(&sent.fields)?;
     let number = item.number().ok_or(WireFault::BadBody)?;
@@ -117,7 +121,8 @@ fn command_pledge(
 
 // Who sees the sheet of a day.
 fn show_day(item: Item, sent: &Sent<'_>) -> Result<Asks, WireFault>
-    ensures value { Says result (asks_said ShowDay item (pairs_of sent.now.fields) sent.now.body.now) }
+    ensures value { Says result (asks_said ShowDay item
+        (pairs_of sent.now.fields) sent.now.body.now) }
 {
     let key = key(&sent.fields)?;
     let day = item.day().ok_or(WireFault::BadBody)?;
@@ -129,7 +134,8 @@ fn show_day(item: Item, sent: &Sent<'_>) -> Result<Asks, WireFault>
 
 // Who has the rows of the book as a text.
 fn export(sent: &Sent<'_>) -> Result<Asks, WireFault>
-    ensures value { Says result (asks_said Export Nothing (pairs_of sent.now.fields) sent.now.body.now) }
+    ensures value { Says result (asks_said Export Nothing
+        (pairs_of sent.now.fields) sent.now.body.now) }
 {
     let key = key(&sent.fields)?;
     Ok(Asks::Whole(Caller::Broker {
@@ -140,7 +146,8 @@ fn export(sent: &Sent<'_>) -> Result<Asks, WireFault>
 
 // Who fills the book with rows.
 fn import(sent: &Sent<'_>) -> Result<Asks, WireFault>
-    ensures value { Says result (asks_said Import Nothing (pairs_of sent.now.fields) sent.now.body.now) }
+    ensures value { Says result (asks_said Import Nothing
+        (pairs_of sent.now.fields) sent.now.body.now) }
 {
     let key = key(&sent.fields)?;
     let importing = key_under(b"import-key", &sent.fields)?;
@@ -149,7 +156,8 @@ fn import(sent: &Sent<'_>) -> Result<Asks, WireFault>
 
 // Who sees what receipts stand for.
 fn present(alloc: Global, sent: &Sent<'_>) -> Result<Asks, WireFault>
-    ensures value { Says result (asks_said Present Nothing (pairs_of sent.now.fields) sent.now.body.now) }
+    ensures value { Says result (asks_said Present Nothing
+        (pairs_of sent.now.fields) sent.now.body.now) }
 {
     let receipts = receipts::receipts(alloc, &sent.fields)?;
     Ok(Asks::Whole(Caller::Bearer(BearerRequest::Present(receipts))))
@@ -157,7 +165,8 @@ fn present(alloc: Global, sent: &Sent<'_>) -> Result<Asks, WireFault>
 
 // Who commands the pledge of a receipt.
 fn command_receipt(alloc: Global, action: Action, sent: &Sent<'_>) -> Result<Asks, WireFault>
-    ensures value { Says result (asks_said (OnReceipt action) Nothing (pairs_of sent.now.fields) sent.now.body.now) }
+    ensures value { Says result (asks_said (OnReceipt action) Nothing
+        (pairs_of sent.now.fields) sent.now.body.now) }
 {
     let receipt = receipts::one(&sent.fields)?;
     let command = commands::command(alloc, action, sent.body)?;
@@ -169,7 +178,8 @@ fn command_receipt(alloc: Global, action: Action, sent: &Sent<'_>) -> Result<Ask
 
 // Who asks at an endpoint, and what for.
 pub(crate) fn who_asks(alloc: Global, place: Place, sent: &Sent<'_>) -> Result<Asks, WireFault>
-    ensures value { Says result (asks_said place.endpoint place.item (pairs_of sent.now.fields) sent.now.body.now) }
+    ensures value { Says result (asks_said place.endpoint place.item
+        (pairs_of sent.now.fields) sent.now.body.now) }
 {
     match place.endpoint {
         Endpoint::Create => create(alloc, sent),

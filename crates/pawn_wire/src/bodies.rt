@@ -56,7 +56,8 @@ fn refusal_with_total(
     name: &str,
     total: u64,
 ) -> Result<String, AllocError>
-    ensures text { IfOk result (λ s. string_bytes s ≡ refusal_text code name.now (Some (Total total))) }
+    ensures text { IfOk result (λ s. string_bytes s ≡ refusal_text code name.now
+        (Some (Total total))) }
 {
     format!(in alloc; "{{\"code\":{code},\"name\":\"{name}\",\"total\":{total}}}")
 }

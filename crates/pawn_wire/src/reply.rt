@@ -121,7 +121,8 @@ fn filled_reply(alloc: Global, pledges: u64) -> Result<Vec<u8>, AllocError>
 }
 
 fn opening_reply(alloc: Global, receipt: Receipt) -> Result<Vec<u8>, AllocError>
-    ensures text { IfOk result (λ v. v.items ≡ json_text 200 (opened_text receipt.number (receipt_text receipt))) }
+    ensures text { IfOk result (λ v. v.items ≡ json_text 200
+        (opened_text receipt.number (receipt_text receipt))) }
 {
     let number = receipt.number.get();
     let text = receipt.text(alloc)?;

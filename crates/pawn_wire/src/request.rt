@@ -34,7 +34,8 @@ fn outline_by(
     target: &[u8],
     sent: &Sent<'_>,
 ) -> Result<Outline, WireFault>
-    ensures value { Says result (outline_by method.now target.now (pairs_of sent.now.fields) sent.now.body.now) }
+    ensures value { Says result (outline_by method.now target.now
+        (pairs_of sent.now.fields) sent.now.body.now) }
 {
     let length = body_length(&sent.fields)?;
     if length != sent.body.len() {
@@ -92,7 +93,8 @@ fn request_by(
     target: &[u8],
     sent: &Sent<'_>,
 ) -> Result<Request, WireFault>
-    ensures value { OrMemory (IsOutlined sent.now.body.now (outline_by method.now target.now (pairs_of sent.now.fields) sent.now.body.now)) result }
+    ensures value { OrMemory (IsOutlined sent.now.body.now
+        (outline_by method.now target.now (pairs_of sent.now.fields) sent.now.body.now)) result }
 {
     let outline = outline_by(alloc, router, method, target, sent)?;
     request_of(alloc, outline, sent.body)

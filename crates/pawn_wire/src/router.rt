@@ -73,8 +73,12 @@ impl Router {
 // The first two parts of a target that parameters took.
 fn first_two<'v>(params: &Params<'_, 'v>) -> (Option<&'v str>, Option<&'v str>)
     requires ascii { IsAscii params.now.path.now }
-    ensures first { option_copied result.0 ≡ slice_get (map (λ p. p.1) (walk params.now.pattern.now params.now.text.now params.now.path.now params.now.names.now 0 0)) 0 }
-    ensures second { option_copied result.1 ≡ slice_get (map (λ p. p.1) (walk params.now.pattern.now params.now.text.now params.now.path.now params.now.names.now 0 0)) 1 }
+    ensures first { option_copied result.0 ≡ slice_get
+        (map (λ p. p.1) (walk params.now.pattern.now params.now.text.now params.now.path.now
+        params.now.names.now 0 0)) 0 }
+    ensures second { option_copied result.1 ≡ slice_get
+        (map (λ p. p.1) (walk params.now.pattern.now params.now.text.now params.now.path.now
+        params.now.names.now 0 0)) 1 }
 {
     let mut parts = params.iter();
     let Some((_, first)) = parts.next() else {
