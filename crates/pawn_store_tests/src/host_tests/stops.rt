@@ -7,22 +7,10 @@ use crate::disks::{Disks, crashed, disks, store_on};
 use pawn_book::Keep;
 use pawn_host::{Answer, Service};
 use pawn_keeper::TableKeep;
-use sqlite::FileStore;
-use sqlite_disk::{Fuse, Memory};
+use sqlite::{Alter, Connection};
 use std::alloc::Global;
 use std::process::Abort;
 use std::test::Fail;
-
-// A service over the store on the disks.
-fn service_on(
-    rt: &impl Abort,
-    alloc: Global,
-    disks: Disks,
-) -> Option<Service<TableKeep<FileStore<Fuse<Memory>>>>> {
-    let conn = store_on(alloc, disks)?;
-    let keep = TableKeep::over(alloc, conn).ok()?;
-    Some(service_over(rt, alloc, keep))
-}
 
 // How many turns a service answers before the first that it does not.
 fn played<K: Keep>(rt: &impl Abort, service: &mut Service<K>) -> usize {
@@ -37,18 +25,41 @@ fn played<K: Keep>(rt: &impl Abort, service: &mut Service<K>) -> usize {
     answered
 }
 
-// How many turns are answered over the disks before the first that is not, and what a stop then leaves of the disks.
-fn stopped(rt: &impl Abort, alloc: Global, disks: Disks) -> Option<(usize, Disks)> {
-    let mut service = service_on(rt, alloc, disks)?;
+// How many turns are answered over a store before the first that is not, and the store after them.
+fn played_over<S: Alter + Drop>(
+    rt: &impl Abort,
+    alloc: Global,
+    conn: Connection<S>,
+) -> Option<(usize, S)> {
+    let keep = TableKeep::over(alloc, conn).ok()?;
+    let mut service = service_over(rt, alloc, keep);
     let answered = played(rt, &mut service);
     let store = service.into_keep().into_connection().into_store();
+    Some((answered, store))
+}
+
+// How many turns are answered over the disks before the first that is not, and what a stop then leaves of the disks.
+fn stopped(rt: &impl Abort, alloc: Global, disks: Disks) -> Option<(usize, Disks)> {
+    let conn = store_on(alloc, disks)?;
+    let (answered, store) = played_over(rt, alloc, conn)?;
     Some((answered, crashed(store.close())))
+}
+
+// The text of book 7 in a store.
+fn text_over<S: Alter + Drop>(
+    rt: &impl Abort,
+    alloc: Global,
+    conn: Connection<S>,
+) -> Option<Answer> {
+    let keep = TableKeep::over(alloc, conn).ok()?;
+    let mut service = service_over(rt, alloc, keep);
+    Some(service.answer_one(&stamp(rt, 0), EXPORT))
 }
 
 // The text of book 7 on the disks.
 fn text_on(rt: &impl Abort, alloc: Global, disks: Disks) -> Option<Answer> {
-    let mut service = service_on(rt, alloc, disks)?;
-    Some(service.answer_one(&stamp(rt, 0), EXPORT))
+    let conn = store_on(alloc, disks)?;
+    text_over(rt, alloc, conn)
 }
 
 // The text of book 7 in a list, after so many turns.
