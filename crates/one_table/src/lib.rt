@@ -3,4 +3,4 @@
 
 mod asking;
 
-pub use asking::{ask, run};
+pub use asking::{ask, know_settled, run};

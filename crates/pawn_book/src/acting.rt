@@ -16,10 +16,13 @@ use std::alloc::Global;
 
 /// Makes what was planned. Refused as `Full` where the rows would be above the limit.
 pub fn commit<K: Keep>(keep: &mut K, planned: &Planned) -> Result<(), Refusal>
-    requires saves { K.keeping.serves keep.old → Of K.keeping keep.old keep.old (λ h. IfSome planned.now.change (CanSave h)) }
+    requires saves { K.keeping.serves keep.old → Of K.keeping keep.old keep.old
+        (λ h. IfSome planned.now.change (CanSave h)) }
     ensures on { GoesOn K.keeping keep.old keep.new }
-    ensures commits { Of K.keeping keep.old keep.new (λ h. Commits h planned.now.change result (K.keeping.stands keep.new)) }
-    ensures crash { Of K.keeping keep.old keep.new (λ h. (left : Host) → K.keeping.leaves keep.new left
+    ensures commits { Of K.keeping keep.old keep.new
+        (λ h. Commits h planned.now.change result (K.keeping.stands keep.new)) }
+    ensures crash { Of K.keeping keep.old keep.new
+        (λ h. (left : Host) → K.keeping.leaves keep.new left
         → IsLeftByCommit h planned.now.change (K.keeping.leaves keep.old) result left) }
     ensures steady { IsQuiet K.keeping keep.old result }
 {
@@ -44,8 +47,10 @@ pub fn act<K: Keep>(
 ) -> Result<Reply, Refusal>
     requires written { IsWritten request.now.caller }
     ensures on { GoesOn K.keeping keep.old keep.new }
-    ensures acts { Of K.keeping keep.old keep.new (λ h. Acts h operator stamp.now request.now result (K.keeping.stands keep.new)) }
-    ensures crash { Of K.keeping keep.old keep.new (λ h. (left : Host) → K.keeping.leaves keep.new left
+    ensures acts { Of K.keeping keep.old keep.new
+        (λ h. Acts h operator stamp.now request.now result (K.keeping.stands keep.new)) }
+    ensures crash { Of K.keeping keep.old keep.new
+        (λ h. (left : Host) → K.keeping.leaves keep.new left
         → IsLeftByAct h operator stamp.now request.now (K.keeping.leaves keep.old) result left) }
     ensures steady { IsQuiet K.keeping keep.old result }
 {

@@ -28,8 +28,10 @@ pub(crate) fn plan_number<K: Keep>(
     command: &Command,
 ) -> Result<Planned, Refusal>
     requires within { IsCommand command.now }
-    ensures reads { Reads K.keeping keep.old keep.new (λ h. IsSound h → (at : BookValue) → get h.books book ≡ Some at → head.now ≡ book_head at →
-        Plans h book (broker_commands at book number stamp.now command.now (pledge_from 1 at.pledges number)) result) }
+    ensures reads { Reads K.keeping keep.old keep.new
+        (λ h. IsSound h → (at : BookValue) → get h.books book ≡ Some at → head.now ≡ book_head at →
+        Plans h book (broker_commands at book number stamp.now command.now
+        (pledge_from 1 at.pledges number)) result) }
     ensures steady { IsQuiet K.keeping keep.old result }
 {
     let pledge = match keep.pledge(book, number) {
@@ -54,7 +56,8 @@ pub(crate) fn plan_receipt<K: Keep>(
 ) -> Result<Planned, Refusal>
     requires within { IsCommand command.now }
     ensures reads { Reads K.keeping keep.old keep.new (λ h. IsSound h →
-        Plans h book (bearer_commands book receipt.now.number stamp.now command.now (live_at (pledge_in (get h.books book)) receipt.now)) result) }
+        Plans h book (bearer_commands book receipt.now.number stamp.now command.now
+        (live_at (pledge_in (get h.books book)) receipt.now)) result) }
     ensures steady { IsQuiet K.keeping keep.old result }
 {
     match find_live(keep, book, receipt) {
@@ -72,7 +75,8 @@ fn plan_command(
     stamp: &Stamp,
     command: &Command,
 ) -> Result<Planned, Refusal>
-    ensures judged { IsOutcome (judged_outcome book number (pledge_step pledge stamp.now command.now)) result }
+    ensures judged { IsOutcome (judged_outcome book number
+        (pledge_step pledge stamp.now command.now)) result }
     ensures day { IsStampDay stamp.now.day }
     ensures word { IsWord stamp.now.word }
     ensures store { result ≡ Err Refusal.Store → ⊥ }
@@ -113,7 +117,8 @@ fn find_room<K: Keep>(
     head: &BookHead,
     planned: Planned,
 ) -> Result<Planned, Refusal>
-    ensures reads { Reads K.keeping keep.old keep.new (λ h. (at : BookValue) → get h.books book ≡ Some at → head.now ≡ book_head at →
+    ensures reads { Reads K.keeping keep.old keep.new
+        (λ h. (at : BookValue) → get h.books book ≡ Some at → head.now ≡ book_head at →
         IsOutcome (within_window at (outcome_of planned.change planned.reply)) result) }
     ensures same { IfOk result (λ p. p ≡ planned) }
     ensures steady { IsQuiet K.keeping keep.old result }

@@ -37,7 +37,8 @@ pub fn find_live<K: Keep>(
     book: Number,
     receipt: &Receipt,
 ) -> Result<Option<Pledge>, KeepError>
-    ensures reads { Reads K.keeping keep.old keep.new (λ h. IfOk result (λ pledge. pledge ≡ live_at (pledge_in (get h.books book)) receipt.now)) }
+    ensures reads { Reads K.keeping keep.old keep.new
+        (λ h. IfOk result (λ pledge. pledge ≡ live_at (pledge_in (get h.books book)) receipt.now)) }
     ensures steady { IsSteady K.keeping keep.old result }
 {
     match keep.pledge(book, receipt.number) {

@@ -41,7 +41,8 @@ pub fn day_sheet<K: Keep>(
     book: Number,
     day: Day,
 ) -> Result<Vec<SheetItem>, KeepError>
-    ensures reads { Reads K.keeping keep.old keep.new (λ h. IfOk result (λ items. items.items ≡ day_sheet (pledges_of (get h.books book)) day)) }
+    ensures reads { Reads K.keeping keep.old keep.new
+        (λ h. IfOk result (λ items. items.items ≡ day_sheet (pledges_of (get h.books book)) day)) }
     ensures errs { Errs K.keeping keep.old keep.new (IsUnsoundAt book) result }
 {
     let mut gathering = Gathering {

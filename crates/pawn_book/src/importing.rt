@@ -70,7 +70,8 @@ pub(crate) fn plan_import(
     key: Secret,
     rows: &ReplayableRows,
 ) -> Result<Planned, Refusal>
-    ensures plans { (h : Host) (at : BookValue) → IsSound h → get h.books book ≡ Some at → head.now ≡ book_head at →
+    ensures plans { (h : Host) (at : BookValue) → IsSound h → get h.books book ≡ Some at
+        → head.now ≡ book_head at →
         Plans h book (import_rows (book_head at) book key rows.now at.imported) result }
     ensures quiet { result ≡ Err Refusal.Store → ⊥ }
 {
@@ -95,7 +96,11 @@ pub(crate) fn plan_import(
 
 // The rows are to fill a book that has none.
 fn fill_book(book: Number, key: Secret, rows: &ReplayableRows) -> Result<Planned, Refusal>
-    ensures planned { IfOk result (λ planned. planned ≡ record { change = Some (Change.ImportBook book key rows.now); reply = Reply.BookFilled (length rows.now.pledges) }) }
+    ensures planned { IfOk result (λ planned. planned ≡ record {
+      change = Some (Change.ImportBook book key rows.now);
+      reply = Reply.BookFilled
+          (length rows.now.pledges);
+    }) }
     ensures memory { IfErr result (λ why. why ≡ Refusal.Memory) }
     ensures key { IsWord key }
     ensures replayable { AreReplayable rows.now.terms rows.now.pledges }

@@ -26,43 +26,53 @@ pub trait Keep {
 
     /// The head of a book, if the book stands.
     fn book_head(&mut self, book: Number) -> Result<Option<BookHead>, KeepError>
-        ensures reads { Reads keeping self.old self.new (λ h. IfOk result (λ head. head ≡ option_map book_head (get h.books book))) }
+        ensures reads { Reads keeping self.old self.new
+            (λ h. IfOk result (λ head. head ≡ option_map book_head (get h.books book))) }
         ensures errs { Errs keeping self.old self.new (IsUnsoundAt book) result };
 
     /// The terms of a version.
     fn terms(&mut self, book: Number, version: u64) -> Result<Option<Terms>, KeepError>
-        ensures reads { Reads keeping self.old self.new (λ h. IfOk result (λ terms. terms ≡ terms_at (terms_of (get h.books book)) version)) }
+        ensures reads { Reads keeping self.old self.new
+            (λ h. IfOk result (λ terms. terms ≡ terms_at (terms_of (get h.books book)) version)) }
         ensures errs { Errs keeping self.old self.new (IsUnsoundAt book) result };
 
     /// The pledge of a number.
     fn pledge(&mut self, book: Number, number: Number) -> Result<Option<Pledge>, KeepError>
-        ensures reads { Reads keeping self.old self.new (λ h. IfOk result (λ pledge. pledge ≡ pledge_in (get h.books book) number)) }
+        ensures reads { Reads keeping self.old self.new
+            (λ h. IfOk result (λ pledge. pledge ≡ pledge_in (get h.books book) number)) }
         ensures errs { Errs keeping self.old self.new (IsUnsoundAt book) result };
 
     /// The number of the pledge with a reference.
     fn find_ref(&mut self, book: Number, reference: &Reference) -> Result<Option<Number>, KeepError>
-        ensures reads { Reads keeping self.old self.new (λ h. IfOk result (λ number. number ≡ number_of (get h.books book) reference.now)) }
+        ensures reads { Reads keeping self.old self.new
+            (λ h. IfOk result (λ number. number ≡ number_of (get h.books book) reference.now)) }
         ensures errs { Errs keeping self.old self.new (IsUnsoundAt book) result };
 
     /// How many pledges have a confirmed booking for a day and a window.
     fn confirmed_count(&mut self, book: Number, day: Day, window: u64) -> Result<u64, KeepError>
-        ensures reads { Reads keeping self.old self.new (λ h. IfOk result (λ count. count ≡ confirmed_count (pledges_of (get h.books book)) day window)) }
+        ensures reads { Reads keeping self.old self.new
+            (λ h. IfOk result
+            (λ count. count ≡ confirmed_count (pledges_of (get h.books book)) day window)) }
         ensures errs { Errs keeping self.old self.new (IsUnsoundAt book) result };
 
     /// Hands the visitor the pledges of a book in order of their numbers, until it wants no more.
     fn walk<V: Visitor<Pledge>>(&mut self, book: Number, visitor: &mut V) -> Result<(), KeepError>
         ensures reads { Visits V.step visitor.old visitor.new (λ given flow.
-            Reads keeping self.old self.new (λ h. IsShare given flow (call_end result) (pledges_of (get h.books book)))) }
+            Reads keeping self.old self.new
+            (λ h. IsShare given flow (call_end result) (pledges_of (get h.books book)))) }
         ensures errs { Errs keeping self.old self.new (IsUnsoundAt book) result };
 
     /// The least number of a book above one, or above none at all.
     fn next_book(&mut self, after: Option<Number>) -> Result<Option<Number>, KeepError>
-        ensures reads { Reads keeping self.old self.new (λ h. IfOk result (λ next. IsNextBook h (unwrap_or after 0) next)) }
+        ensures reads { Reads keeping self.old self.new
+            (λ h. IfOk result (λ next. IsNextBook h (unwrap_or after 0) next)) }
         ensures errs { Errs keeping self.old self.new HasUnsoundBook result };
 
     /// The pledge of a number without its lists.
     fn brief(&mut self, book: Number, number: Number) -> Result<Option<Brief>, KeepError>
-        ensures reads { Reads keeping self.old self.new (λ h. IfOk result (λ brief. brief ≡ option_map brief_of (pledge_in (get h.books book) number))) }
+        ensures reads { Reads keeping self.old self.new
+            (λ h. IfOk result
+            (λ brief. brief ≡ option_map brief_of (pledge_in (get h.books book) number))) }
         ensures errs { Errs keeping self.old self.new (IsUnsoundAt book) result };
 
     /// Hands the visitor the entries of a pledge in order, until it wants no more.
@@ -73,7 +83,9 @@ pub trait Keep {
         visitor: &mut V,
     ) -> Result<(), KeepError>
         ensures reads { Visits V.step visitor.old visitor.new (λ given flow.
-            Reads keeping self.old self.new (λ h. IsShare given flow (call_end result) (entries_of (pledge_in (get h.books book) number)))) }
+            Reads keeping self.old self.new
+            (λ h. IsShare given flow (call_end result)
+            (entries_of (pledge_in (get h.books book) number)))) }
         ensures errs { Errs keeping self.old self.new (IsUnsoundAt book) result };
 
     /// Hands the visitor the secrets of a pledge in order, until it wants no more.
@@ -84,7 +96,9 @@ pub trait Keep {
         visitor: &mut V,
     ) -> Result<(), KeepError>
         ensures reads { Visits V.step visitor.old visitor.new (λ given flow.
-            Reads keeping self.old self.new (λ h. IsShare given flow (call_end result) (secrets_of (pledge_in (get h.books book) number)))) }
+            Reads keeping self.old self.new
+            (λ h. IsShare given flow (call_end result)
+            (secrets_of (pledge_in (get h.books book) number)))) }
         ensures errs { Errs keeping self.old self.new (IsUnsoundAt book) result };
 
     /// Hands the visitor the extensions of a pledge in order, until it wants no more.
@@ -95,7 +109,9 @@ pub trait Keep {
         visitor: &mut V,
     ) -> Result<(), KeepError>
         ensures reads { Visits V.step visitor.old visitor.new (λ given flow.
-            Reads keeping self.old self.new (λ h. IsShare given flow (call_end result) (extensions_of (pledge_in (get h.books book) number)))) }
+            Reads keeping self.old self.new
+            (λ h. IsShare given flow (call_end result)
+            (extensions_of (pledge_in (get h.books book) number)))) }
         ensures errs { Errs keeping self.old self.new (IsUnsoundAt book) result };
 
     /// Hands the visitor the items of a day's sheet in order, until it wants no more.
@@ -106,16 +122,20 @@ pub trait Keep {
         visitor: &mut V,
     ) -> Result<(), KeepError>
         ensures reads { Visits V.step visitor.old visitor.new (λ given flow.
-            Reads keeping self.old self.new (λ h. IsShare given flow (call_end result) (day_sheet (pledges_of (get h.books book)) day))) }
+            Reads keeping self.old self.new
+            (λ h. IsShare given flow (call_end result)
+            (day_sheet (pledges_of (get h.books book)) day))) }
         ensures errs { Errs keeping self.old self.new (IsUnsoundAt book) result };
 
     /// The rows of all books.
     fn rows(&mut self) -> Result<u64, KeepError>
-        ensures reads { Reads keeping self.old self.new (λ h. IfOk result (λ count. count ≡ rows h)) }
+        ensures reads { Reads keeping self.old self.new
+            (λ h. IfOk result (λ count. count ≡ rows h)) }
         ensures errs { Errs keeping self.old self.new HasUnsoundBook result };
 
     /// Makes a change, unless the rows would be above the limit.
     fn save(&mut self, change: &Change) -> Result<(), SaveError>
-        requires can_save { keeping.serves self.old → Of keeping self.old self.old (λ h. CanSave h change.now) }
+        requires can_save { keeping.serves self.old → Of keeping self.old self.old
+            (λ h. CanSave h change.now) }
         ensures saves { Saves keeping self.old self.new change.now result };
 }

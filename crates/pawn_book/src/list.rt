@@ -55,7 +55,8 @@ impl Model for ListKeep {
 
     ghost view = { λ k. record { books = map entry_of k.books.items; limit = k.limit } };
 
-    ghost invariant = { λ k. IsKept (record { books = map entry_of k.books.items; limit = k.limit }) k.rows };
+    ghost invariant = { λ k. IsKept (record { books = map entry_of k.books.items; limit = k.limit })
+        k.rows };
 }
 
 impl ListKeep {
@@ -213,7 +214,8 @@ fn place_of(books: &[Kept], book: Number) -> Option<usize>
 
 // The book of a number.
 fn kept_at(books: &[Kept], book: Number) -> Option<&Kept>
-    ensures found { MatchOption result (book_at (map entry_of books.now) book ≡ None) (λ kept. book_at (map entry_of books.now) book ≡ Some (entry_of kept.now).1) }
+    ensures found { MatchOption result (book_at (map entry_of books.now) book ≡ None)
+        (λ kept. book_at (map entry_of books.now) book ≡ Some (entry_of kept.now).1) }
 {
     match place_of(books, book) {
         None => None,
@@ -233,7 +235,8 @@ fn standing_terms(terms: &[Terms], version: u64) -> Option<Terms>
 
 // The pledge of a number.
 fn pledge_at(pledges: &[Pledge], number: Number) -> Option<&Pledge>
-    ensures found { MatchOption result (pledge_from 1 pledges.now number ≡ None) (λ pledge. pledge_from 1 pledges.now number ≡ Some pledge.now) }
+    ensures found { MatchOption result (pledge_from 1 pledges.now number ≡ None)
+        (λ pledge. pledge_from 1 pledges.now number ≡ Some pledge.now) }
 {
     let place = number.get() as usize - 1;
     if place < pledges.len() {
@@ -245,7 +248,9 @@ fn pledge_at(pledges: &[Pledge], number: Number) -> Option<&Pledge>
 
 // The pledge of a number in a book.
 fn standing_pledge(books: &[Kept], book: Number, number: Number) -> Option<&Pledge>
-    ensures found { MatchOption result (pledge_in (book_at (map entry_of books.now) book) number ≡ None) (λ pledge. pledge_in (book_at (map entry_of books.now) book) number ≡ Some pledge.now) }
+    ensures found { MatchOption result
+        (pledge_in (book_at (map entry_of books.now) book) number ≡ None)
+        (λ pledge. pledge_in (book_at (map entry_of books.now) book) number ≡ Some pledge.now) }
 {
     match kept_at(books, book) {
         None => None,
@@ -255,7 +260,8 @@ fn standing_pledge(books: &[Kept], book: Number, number: Number) -> Option<&Pled
 
 // The number of the pledge with a reference.
 fn number_with(pledges: &[Pledge], reference: &Reference) -> Option<Number>
-    ensures value { result ≡ option_map (λ p. p.agreement.number) (with_reference pledges.now reference.now) }
+    ensures value { result ≡ option_map (λ p. p.agreement.number)
+        (with_reference pledges.now reference.now) }
 {
     for pledge in pledges {
         if pledge.agreement().opening.reference.as_str() == reference.as_str() {
@@ -267,7 +273,8 @@ fn number_with(pledges: &[Pledge], reference: &Reference) -> Option<Number>
 
 // What a book has beside its terms and pledges.
 fn head_in(books: &[Kept], book: Number) -> Result<Option<BookHead>, AllocError>
-    ensures value { IfOk result (λ head. head ≡ option_map book_head (book_at (map entry_of books.now) book)) }
+    ensures value { IfOk result (λ head. head ≡ option_map book_head
+        (book_at (map entry_of books.now) book)) }
 {
     let Some(kept) = kept_at(books, book) else {
         return Ok(None);
@@ -305,7 +312,8 @@ fn number_in(books: &[Kept], book: Number, reference: &Reference) -> Option<Numb
 
 // The pledge of a number in a book, as a value of its own.
 fn pledge_copy(books: &[Kept], book: Number, number: Number) -> Result<Option<Pledge>, AllocError>
-    ensures value { IfOk result (λ pledge. pledge ≡ pledge_in (book_at (map entry_of books.now) book) number) }
+    ensures value { IfOk result (λ pledge. pledge ≡ pledge_in
+        (book_at (map entry_of books.now) book) number) }
 {
     let Some(pledge) = standing_pledge(books, book, number) else {
         return Ok(None);
@@ -316,7 +324,8 @@ fn pledge_copy(books: &[Kept], book: Number, number: Number) -> Result<Option<Pl
 
 // The pledge of a number in a book, without its lists.
 fn brief_in(books: &[Kept], book: Number, number: Number) -> Result<Option<Brief>, AllocError>
-    ensures value { IfOk result (λ brief. brief ≡ option_map brief_of (pledge_in (book_at (map entry_of books.now) book) number)) }
+    ensures value { IfOk result (λ brief. brief ≡ option_map brief_of
+        (pledge_in (book_at (map entry_of books.now) book) number)) }
 {
     let Some(pledge) = standing_pledge(books, book, number) else {
         return Ok(None);
@@ -368,7 +377,8 @@ fn next_number(books: &[Kept], after: u32) -> Option<Number>
 
 // A number in place of another, if it is less and above a third.
 fn nearer_number(number: Number, after: u32, next: Option<Number>) -> Option<Number>
-    ensures value { result ≡ (if nat_lt after number && nat_lt number (unwrap_or next (number + 1)) then Some number else next) }
+    ensures value { result ≡ (if nat_lt after number && nat_lt number
+        (unwrap_or next (number + 1)) then Some number else next) }
 {
     let is_less = match next {
         None => true,
@@ -382,7 +392,8 @@ fn nearer_number(number: Number, after: u32, next: Option<Number>) -> Option<Num
 
 // The entries of a pledge in a book.
 fn entries_in(books: &[Kept], book: Number, number: Number) -> &[Entry]
-    ensures value { result.now ≡ entries_of (pledge_in (book_at (map entry_of books.now) book) number) }
+    ensures value { result.now ≡ entries_of
+        (pledge_in (book_at (map entry_of books.now) book) number) }
 {
     match standing_pledge(books, book, number) {
         None => &[],
@@ -392,7 +403,8 @@ fn entries_in(books: &[Kept], book: Number, number: Number) -> &[Entry]
 
 // The secrets of a pledge in a book.
 fn secrets_in(books: &[Kept], book: Number, number: Number) -> &[Issued]
-    ensures value { result.now ≡ secrets_of (pledge_in (book_at (map entry_of books.now) book) number) }
+    ensures value { result.now ≡ secrets_of
+        (pledge_in (book_at (map entry_of books.now) book) number) }
 {
     match standing_pledge(books, book, number) {
         None => &[],
@@ -402,7 +414,8 @@ fn secrets_in(books: &[Kept], book: Number, number: Number) -> &[Issued]
 
 // The extensions of a pledge in a book.
 fn extensions_in(books: &[Kept], book: Number, number: Number) -> &[Extension]
-    ensures value { result.now ≡ extensions_of (pledge_in (book_at (map entry_of books.now) book) number) }
+    ensures value { result.now ≡ extensions_of
+        (pledge_in (book_at (map entry_of books.now) book) number) }
 {
     match standing_pledge(books, book, number) {
         None => &[],
@@ -412,7 +425,8 @@ fn extensions_in(books: &[Kept], book: Number, number: Number) -> &[Extension]
 
 // Hands the items to the visitor until it wants no more.
 fn hand<T, V: Visitor<T>>(items: &[T], visitor: &mut V)
-    ensures visits { Visits V.step visitor.old visitor.new (λ given flow. IsShare given flow Whole items.now) }
+    ensures visits { Visits V.step visitor.old visitor.new
+        (λ given flow. IsShare given flow Whole items.now) }
 {
     for item in items {
         match visitor.visit(item) {
@@ -435,9 +449,11 @@ fn rows_of(pledge: &Pledge) -> u64
 
 // The rows once a change is made, where so many are counted.
 fn rows_with(books: &[Kept], rows: u64, change: &Change) -> u128
-    requires counted { replaced_rows (map entry_of books.now) change.now ≤ rows + added_rows change.now }
+    requires counted { replaced_rows
+        (map entry_of books.now) change.now ≤ rows + added_rows change.now }
     requires fits { Fits (map entry_of books.now) change.now }
-    ensures rows { result + replaced_rows (map entry_of books.now) change.now ≡ rows + added_rows change.now }
+    ensures rows { result + replaced_rows
+        (map entry_of books.now) change.now ≡ rows + added_rows change.now }
 {
     match change {
         Change::MakeBook { .. } => u128::from(rows) + 1,
@@ -462,7 +478,8 @@ fn rows_with(books: &[Kept], rows: u64, change: &Change) -> u128
 // Makes a change of the books.
 fn make_change(alloc: Global, books: &mut Vec<Kept>, change: &Change) -> Result<(), AllocError>
     requires fits { Fits (map entry_of books.old.items) change.now }
-    ensures ok { OnOk result (HasChange (map entry_of books.old.items) change.now (map entry_of books.new.items)) }
+    ensures ok { OnOk result (HasChange (map entry_of books.old.items) change.now
+        (map entry_of books.new.items)) }
     ensures err { OnErr result (map entry_of books.new.items ≡ map entry_of books.old.items) }
 {
     match change {
@@ -489,7 +506,8 @@ fn push_book(
     new_book: &NewBook,
 ) -> Result<(), AllocError>
     requires none { book_at (map entry_of books.old.items) book ≡ None }
-    ensures ok { OnOk result (HasChange (map entry_of books.old.items) (Change.MakeBook book new_book.now) (map entry_of books.new.items)) }
+    ensures ok { OnOk result (HasChange (map entry_of books.old.items)
+        (Change.MakeBook book new_book.now) (map entry_of books.new.items)) }
     ensures err { OnErr result (books.new.items ≡ books.old.items) }
 {
     let made = match new_book.copy() {
@@ -515,7 +533,8 @@ fn push_terms(
     terms: Terms,
 ) -> Result<(), AllocError>
     requires stands { (at : BookValue) × (book_at (map entry_of books.old.items) book ≡ Some at) }
-    ensures ok { OnOk result (HasChange (map entry_of books.old.items) (Change.AddTerms book version terms) (map entry_of books.new.items)) }
+    ensures ok { OnOk result (HasChange (map entry_of books.old.items)
+        (Change.AddTerms book version terms) (map entry_of books.new.items)) }
     ensures err { OnErr result (map entry_of books.new.items ≡ map entry_of books.old.items) }
 {
     let Some(place) = place_of(books, book) else {
@@ -535,8 +554,10 @@ fn put_pledge(
     number: Number,
     pledge: &Pledge,
 ) -> Result<(), AllocError>
-    requires stands { (at : BookValue) × (book_at (map entry_of books.old.items) book ≡ Some at) × (number ≤ 1 + length at.pledges) }
-    ensures ok { OnOk result (HasChange (map entry_of books.old.items) (Change.PutPledge book number pledge.now) (map entry_of books.new.items)) }
+    requires stands { (at : BookValue) × (book_at (map entry_of books.old.items) book ≡ Some at)
+        × (number ≤ 1 + length at.pledges) }
+    ensures ok { OnOk result (HasChange (map entry_of books.old.items)
+        (Change.PutPledge book number pledge.now) (map entry_of books.new.items)) }
     ensures err { OnErr result (map entry_of books.new.items ≡ map entry_of books.old.items) }
 {
     let Some(place) = place_of(books, book) else {

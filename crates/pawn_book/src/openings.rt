@@ -31,8 +31,10 @@ pub(crate) fn plan_pledge<K: Keep>(
     opening: &Opening,
     stamp: &Stamp,
 ) -> Result<Planned, Refusal>
-    ensures reads { Reads K.keeping keep.old keep.new (λ h. IsSound h → (at : BookValue) → get h.books book ≡ Some at → head.now ≡ book_head at →
-        Plans h book (take_pledge at book opening.now stamp.now (with_reference at.pledges opening.now.reference)) result) }
+    ensures reads { Reads K.keeping keep.old keep.new
+        (λ h. IsSound h → (at : BookValue) → get h.books book ≡ Some at → head.now ≡ book_head at →
+        Plans h book (take_pledge at book opening.now stamp.now
+        (with_reference at.pledges opening.now.reference)) result) }
     ensures steady { IsQuiet K.keeping keep.old result }
 {
     know_given(opening, stamp);
@@ -85,7 +87,9 @@ fn find_reference<K: Keep>(
     book: Number,
     reference: &Reference,
 ) -> Result<Option<Pledge>, KeepError>
-    ensures reads { Reads K.keeping keep.old keep.new (λ h. IsSound h → IfOk result (λ pledge. pledge ≡ with_reference (pledges_of (get h.books book)) reference.now)) }
+    ensures reads { Reads K.keeping keep.old keep.new
+        (λ h. IsSound h → IfOk result
+        (λ pledge. pledge ≡ with_reference (pledges_of (get h.books book)) reference.now)) }
     ensures steady { IsSteady K.keeping keep.old result }
 {
     match keep.find_ref(book, reference) {
@@ -104,7 +108,8 @@ fn take<K: Keep>(
     opening: &Opening,
     stamp: &Stamp,
 ) -> Result<Pledge, Refusal>
-    ensures reads { Reads K.keeping keep.old keep.new (λ h. (at : BookValue) → get h.books book ≡ Some at → head.now ≡ book_head at →
+    ensures reads { Reads K.keeping keep.old keep.new
+        (λ h. (at : BookValue) → get h.books book ≡ Some at → head.now ≡ book_head at →
         IsSaid IsUnwell (next_pledge head.now opening.now stamp.now (newest at.terms)) result) }
     ensures standing { IfOk result IsStanding }
     ensures steady { IsQuiet K.keeping keep.old result }
@@ -124,7 +129,8 @@ fn start(
     terms: Terms,
     stamp: &Stamp,
 ) -> Result<Pledge, Refusal>
-    ensures taken { IsSaid IsUnwell (next_pledge head.now opening.now stamp.now (Some terms)) result }
+    ensures taken { IsSaid IsUnwell
+        (next_pledge head.now opening.now stamp.now (Some terms)) result }
     ensures standing { IfOk result IsStanding }
     ensures store { result ≡ Err Refusal.Store → ⊥ }
 {

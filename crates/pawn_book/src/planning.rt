@@ -28,7 +28,10 @@ pub fn plan<K: Keep>(
     request: &Request,
 ) -> Result<Planned, Refusal>
     requires written { IsWritten request.now.caller }
-    ensures reads { Reads K.keeping keep.old keep.new (λ h. IsSound h → Plans h request.now.book (book_step (get h.books request.now.book) operator request.now.book stamp.now request.now.caller) result) }
+    ensures reads { Reads K.keeping keep.old keep.new
+        (λ h. IsSound h → Plans h request.now.book
+        (book_step (get h.books request.now.book) operator request.now.book stamp.now
+        request.now.caller) result) }
     ensures steady { IsQuiet K.keeping keep.old result }
 {
     match &request.caller {

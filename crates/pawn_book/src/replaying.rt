@@ -18,7 +18,8 @@ use pawn_pledge::{Parts, Rates, Reference};
 /// number of pledges.
 pub fn replayable(rows: &BookRows) -> bool
     ensures answer { IsTrue result ↔ AreReplayable rows.now.terms rows.now.pledges }
-    ensures sound { (book : BookValue) (key : ℕ) → IsSoundBook book → IsWord key → (IsTrue result ↔ IsSoundBook (filled_book book key rows.now)) }
+    ensures sound { (book : BookValue) (key : ℕ) → IsSoundBook book → IsWord key
+        → (IsTrue result ↔ IsSoundBook (filled_book book key rows.now)) }
 {
     are_replayable(rows.terms.as_slice(), rows.pledges.as_slice())
 }
@@ -37,7 +38,8 @@ fn are_replayable(terms: &[Rates], pledges: &[Parts]) -> bool
 
 // Whether a book may have as many.
 fn are_few(terms: &[Rates], pledges: &[Parts]) -> bool
-    ensures answer { IsTrue result ↔ ((length terms.now ≤ most_terms) × (length pledges.now ≤ most_pledges)) }
+    ensures answer { IsTrue result ↔
+        ((length terms.now ≤ most_terms) × (length pledges.now ≤ most_pledges)) }
 {
     terms.len() as u64 <= MOST_TERMS && pledges.len() as u64 <= MOST_PLEDGES
 }

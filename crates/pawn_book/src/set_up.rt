@@ -23,7 +23,8 @@ pub(crate) fn plan_book<K: Keep>(
     book: Number,
     new_book: &NewBook,
 ) -> Result<Planned, Refusal>
-    ensures reads { Reads K.keeping keep.old keep.new (λ h. IsSound h → Plans h book (make_book (get h.books book) book new_book.now) result) }
+    ensures reads { Reads K.keeping keep.old keep.new
+        (λ h. IsSound h → Plans h book (make_book (get h.books book) book new_book.now) result) }
     ensures steady { IsQuiet K.keeping keep.old result }
 {
     // Whoever reads the number knows that it is one that a book may have.
@@ -68,8 +69,10 @@ pub(crate) fn plan_terms<K: Keep>(
     head: &BookHead,
     new_terms: &NewTerms,
 ) -> Result<Planned, Refusal>
-    ensures reads { Reads K.keeping keep.old keep.new (λ h. IsSound h → (at : BookValue) → get h.books book ≡ Some at → head.now ≡ book_head at →
-        Plans h book (put_terms at book new_terms.now (terms_at at.terms new_terms.now.version)) result) }
+    ensures reads { Reads K.keeping keep.old keep.new
+        (λ h. IsSound h → (at : BookValue) → get h.books book ≡ Some at → head.now ≡ book_head at →
+        Plans h book (put_terms at book new_terms.now (terms_at at.terms new_terms.now.version))
+        result) }
     ensures steady { IsQuiet K.keeping keep.old result }
 {
     let version = new_terms.version;

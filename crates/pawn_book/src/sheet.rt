@@ -123,7 +123,8 @@ fn hand_part<V: Visitor<SheetItem>>(
     pledges: &[Pledge],
     visitor: &mut V,
 ) -> Flow
-    ensures hands { HandsOver V.step visitor.old (part_items part day pledges.now) result visitor.new }
+    ensures hands { HandsOver V.step visitor.old
+        (part_items part day pledges.now) result visitor.new }
 {
     for pledge in pledges {
         if let Some(item) = part.item(day, pledge) {
@@ -143,7 +144,8 @@ fn hand_headed<V: Visitor<SheetItem>>(
     pledges: &[Pledge],
     visitor: &mut V,
 ) -> Flow
-    ensures hands { HandsOver V.step visitor.old (with_head part (part_items part day pledges.now)) result visitor.new }
+    ensures hands { HandsOver V.step visitor.old
+        (with_head part (part_items part day pledges.now)) result visitor.new }
 {
     let heading = part.heading(part.count(day, pledges));
     match visitor.visit(&heading) {
@@ -159,7 +161,8 @@ fn hand_window<V: Visitor<SheetItem>>(
     pledges: &[Pledge],
     visitor: &mut V,
 ) -> Flow
-    ensures hands { HandsOver V.step visitor.old (window_sheet pledges.now day window) result visitor.new }
+    ensures hands { HandsOver V.step visitor.old
+        (window_sheet pledges.now day window) result visitor.new }
 {
     let part = Part::Confirmed { window };
     if part.count(day, pledges) == 0 {
@@ -170,7 +173,8 @@ fn hand_window<V: Visitor<SheetItem>>(
 
 // Hands the windows' items to the visitor until it wants no more.
 fn hand_windows<V: Visitor<SheetItem>>(day: Day, pledges: &[Pledge], visitor: &mut V) -> Flow
-    ensures hands { HandsOver V.step visitor.old (windows_sheet pledges.now day) result visitor.new }
+    ensures hands { HandsOver V.step visitor.old
+        (windows_sheet pledges.now day) result visitor.new }
 {
     for window in 0..LAST_WINDOW + 1 {
         match hand_window(window, day, pledges, visitor) {

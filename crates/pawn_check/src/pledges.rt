@@ -106,7 +106,9 @@ fn next_step<K: Keep>(
     ensures reads { Reads K.keeping keep.old keep.new
         (λ h. (k : BookValue) (place : ℕ) → get h.books book ≡ Some k → number ≡ place + 1
         → number ≤ length k.pledges → version ≡ last_by version_of 0 (take place k.pledges)
-        → Finds h result (λ step. (p : PledgeValue) × (pledge_from 1 k.pledges number ≡ Some p) × FitsAt k number p × (version ≤ step.version) × (step.version ≡ version_of p) × (step.rows ≡ pledge_rows p))) }
+        → Finds h result
+        (λ step. (p : PledgeValue) × (pledge_from 1 k.pledges number ≡ Some p) × FitsAt k number p
+        × (version ≤ step.version) × (step.version ≡ version_of p) × (step.rows ≡ pledge_rows p))) }
     ensures few { IfOk result (λ step. step.rows ≤ 10102) }
     ensures quiet { IsQuiet K.keeping keep.old result }
 {

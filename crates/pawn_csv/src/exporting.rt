@@ -106,7 +106,9 @@ fn put_secrets<K: Keep, W: Write>(
     rows: &mut RowWriter<W>,
 ) -> Result<(), KeepError>
     ensures shares { Reads K.keeping keep.old keep.new (λ h. IsSound h
-        → PutsShare W.contents rows.old.sink (flat_map line_of (secret_rows number 1 (secrets_of (pledge_in (get h.books book) number)))) (call_end result) rows.new.sink) }
+        → PutsShare W.contents rows.old.sink
+        (flat_map line_of (secret_rows number 1 (secrets_of (pledge_in (get h.books book) number))))
+        (call_end result) rows.new.sink) }
     ensures steady { IsSteady K.keeping keep.old result }
 {
     rows.number = u64::from(number.get());
@@ -122,7 +124,9 @@ fn put_entries<K: Keep, W: Write>(
     rows: &mut RowWriter<W>,
 ) -> Result<(), KeepError>
     ensures shares { Reads K.keeping keep.old keep.new (λ h. IsSound h
-        → PutsShare W.contents rows.old.sink (flat_map line_of (entry_rows number (entries_of (pledge_in (get h.books book) number)))) (call_end result) rows.new.sink) }
+        → PutsShare W.contents rows.old.sink
+        (flat_map line_of (entry_rows number (entries_of (pledge_in (get h.books book) number))))
+        (call_end result) rows.new.sink) }
     ensures steady { IsSteady K.keeping keep.old result }
 {
     rows.number = u64::from(number.get());
@@ -138,7 +142,10 @@ fn put_extensions<K: Keep, W: Write>(
     rows: &mut RowWriter<W>,
 ) -> Result<(), KeepError>
     ensures shares { Reads K.keeping keep.old keep.new (λ h. IsSound h
-        → PutsShare W.contents rows.old.sink (flat_map line_of (extension_rows number 1 (extensions_of (pledge_in (get h.books book) number)))) (call_end result) rows.new.sink) }
+        → PutsShare W.contents rows.old.sink
+        (flat_map line_of
+        (extension_rows number 1 (extensions_of (pledge_in (get h.books book) number))))
+        (call_end result) rows.new.sink) }
     ensures steady { IsSteady K.keeping keep.old result }
 {
     rows.number = u64::from(number.get());
@@ -168,7 +175,8 @@ fn put_record<K: Keep, W: Write>(
     ensures shares { Reads K.keeping keep.old keep.new
         (λ h. IsSound h → (p : PledgeValue) → pledge_in (get h.books book) number ≡ Some p
         → brief.now ≡ brief_of p
-        → PutsShare W.contents rows.old.sink (flat_map line_of (pledge_rows p)) (call_end result) rows.new.sink) }
+        → PutsShare W.contents rows.old.sink (flat_map line_of (pledge_rows p))
+        (call_end result) rows.new.sink) }
     ensures steady { IsSteady K.keeping keep.old result }
 {
     let fields = brief.fields();
@@ -198,7 +206,9 @@ fn put_versions<K: Keep, W: Write>(
 ) -> Result<(), KeepError>
     ensures shares { Reads K.keeping keep.old keep.new
         (λ h. count ≡ length (terms_of (get h.books book))
-        → PutsShare W.contents rows.old.sink (flat_map line_of (terms_rows 1 (terms_of (get h.books book)))) (call_end result) rows.new.sink) }
+        → PutsShare W.contents rows.old.sink
+        (flat_map line_of (terms_rows 1 (terms_of (get h.books book))))
+        (call_end result) rows.new.sink) }
     ensures steady { IsSteady K.keeping keep.old result }
 {
     for index in 0..count {
@@ -220,7 +230,9 @@ fn put_pledges<K: Keep, W: Write>(
 ) -> Result<(), KeepError>
     ensures shares { Reads K.keeping keep.old keep.new
         (λ h. IsSound h → count ≡ length (pledges_of (get h.books book))
-        → PutsShare W.contents rows.old.sink (flat_map line_of (flat_map pledge_rows (pledges_of (get h.books book)))) (call_end result) rows.new.sink) }
+        → PutsShare W.contents rows.old.sink
+        (flat_map line_of (flat_map pledge_rows (pledges_of (get h.books book))))
+        (call_end result) rows.new.sink) }
     ensures steady { IsSteady K.keeping keep.old result }
 {
     for index in 0..count {
@@ -249,7 +261,9 @@ fn put_rows<K: Keep, W: Write>(
 ) -> Result<(), KeepError>
     ensures shares { Reads K.keeping keep.old keep.new
         (λ h. IsSound h → (at : BookValue) → get h.books book ≡ Some at → head.now ≡ book_head at
-        → PutsShare W.contents rows.old.sink (flat_map line_of (terms_rows 1 at.terms) ++ flat_map line_of (flat_map pledge_rows at.pledges)) (call_end result) rows.new.sink) }
+        → PutsShare W.contents rows.old.sink
+        (flat_map line_of (terms_rows 1 at.terms) ++ flat_map line_of
+        (flat_map pledge_rows at.pledges)) (call_end result) rows.new.sink) }
     ensures steady { IsSteady K.keeping keep.old result }
 {
     match put_versions(keep, book, head.terms, rows) {

@@ -34,7 +34,8 @@ pub fn import<K: Keep>(
         (K.keeping.stands keep.new)) }
     ensures crash { (operator : ℕ) → Of K.keeping keep.old keep.new
         (λ h. (left : Host) → K.keeping.leaves keep.new left
-        → IsLeftByAct h operator stamp.now (import_of book broker key rows) (K.keeping.leaves keep.old) result left) }
+        → IsLeftByAct h operator stamp.now (import_of book broker key rows)
+        (K.keeping.leaves keep.old) result left) }
     ensures steady { IsQuiet K.keeping keep.old result }
 {
     let asked = BrokerRequest::Import { key, rows };

@@ -199,7 +199,8 @@ fn put_columns<'a, W: Write>(
 )
     ensures puts { Puts W.contents sink.old (row_text default_writer (
         codes "P" ∷ decimal brief.now.agreement.number ∷ reference.now ∷ article.now ∷ kind.now ∷ decimal (credit_of brief.now.agreement.opening.kind)
-        ∷ day_text brief.now.agreement.taken ∷ agreed.now ∷ five_days.now ∷ decimal brief.now.agreement.version ∷ held.now
+        ∷ day_text brief.now.agreement.taken ∷ agreed.now ∷ five_days.now ∷ decimal
+        brief.now.agreement.version ∷ held.now
         ∷ day_text brief.now.standing.last ∷ closing.now ∷ closed.now ∷ amount.now ∷ [])) sink.new }
 {
     put_row(

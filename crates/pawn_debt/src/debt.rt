@@ -33,9 +33,17 @@ impl Model for Debt {
 
     ghost Value = { DebtValue };
 
-    ghost view = { λ a. record { kind = a.kind; terms = a.terms; taken = a.taken; ends = a.ends; entries = a.entries } };
+    ghost view = { λ a. record {
+      kind = a.kind;
+      terms = a.terms;
+      taken = a.taken;
+      ends = a.ends;
+      entries = a.entries;
+    } };
 
-    ghost invariant = { λ a. IsKept (record { kind = a.kind; terms = a.terms; taken = a.taken; ends = a.ends; entries = a.entries }) a.totals };
+    ghost invariant = { λ a. IsKept (record
+        { kind = a.kind; terms = a.terms; taken = a.taken; ends = a.ends; entries = a.entries })
+        a.totals };
 }
 
 impl Debt {
@@ -76,8 +84,10 @@ impl Debt {
         entries: Entries,
         totals: Totals,
     ) -> Debt
-        requires kept { IsKept (record { kind = kind; terms = terms; taken = taken; ends = ends; entries = entries }) totals }
-        ensures value { result ≡ record { kind = kind; terms = terms; taken = taken; ends = ends; entries = entries } }
+        requires kept { IsKept (record
+            { kind = kind; terms = terms; taken = taken; ends = ends; entries = entries }) totals }
+        ensures value { result ≡ record
+            { kind = kind; terms = terms; taken = taken; ends = ends; entries = entries } }
     {
         Debt {
             kind,
@@ -97,9 +107,18 @@ impl Debt {
         ends: Day,
         entries: Entries,
     ) -> Result<Debt, Entries>
-        ensures ok { IfOk result (λ d. (d ≡ record { kind = kind; terms = terms; taken = taken; ends = ends; entries = entries }) × CanStand d) }
+        ensures ok { IfOk result (λ d.
+            (d ≡ record {
+              kind = kind;
+              terms = terms;
+              taken = taken;
+              ends = ends;
+              entries = entries;
+            }) × CanStand d) }
         ensures err { IfErr result (λ e. e ≡ entries) }
-        ensures refused { OnErr result (CanStand (record { kind = kind; terms = terms; taken = taken; ends = ends; entries = entries }) → ⊥) }
+        ensures refused { OnErr result
+            (CanStand (record
+            { kind = kind; terms = terms; taken = taken; ends = ends; entries = entries }) → ⊥) }
     {
         if kind.credit() == 0 || kind.credit() > MOST_PENCE {
             return Err(entries);
@@ -148,7 +167,8 @@ impl Debt {
 
     /// A drawing on a running account.
     pub fn draw(&mut self, day: Day, pence: u64) -> Result<(), DebtFault>
-        ensures answer { IsAnswer DebtFault.Memory (draw_answer self.old day pence) self.old result self.new }
+        ensures answer { IsAnswer DebtFault.Memory
+            (draw_answer self.old day pence) self.old result self.new }
         ensures entered { OnOk result (self.new ≡ with_entry self.old day Sort.Draw pence) }
         ensures last { OnOk result (last_of self.new.taken self.new.entries ≡ day) }
     {
@@ -174,7 +194,8 @@ impl Debt {
 
     /// A repayment: whole pence of charges first, then principal.
     pub fn repay(&mut self, day: Day, pence: u64) -> Result<(), DebtFault>
-        ensures answer { IsAnswer DebtFault.Memory (repay_answer self.old day pence) self.old result self.new }
+        ensures answer { IsAnswer DebtFault.Memory
+            (repay_answer self.old day pence) self.old result self.new }
         ensures entered { OnOk result (self.new ≡ with_entry self.old day Sort.Repay pence) }
         ensures last { OnOk result (last_of self.new.taken self.new.entries ≡ day) }
     {

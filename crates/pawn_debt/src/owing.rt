@@ -33,9 +33,11 @@ pub(crate) fn after_days(totals: &Totals, terms: Terms, ends: Day, day: Day) -> 
     requires principal_in { totals.now.principal ≤ most_pence }
     requires millionths_in { totals.now.millionths ≤ most_millionths }
     ensures day { result.day ≡ day }
-    ensures owed { sums_of result ≡ after_days terms ends totals.now.day (day - totals.now.day) (sums_of totals.now) }
+    ensures owed { sums_of result ≡ after_days terms ends totals.now.day (day - totals.now.day)
+        (sums_of totals.now) }
     ensures principal { result.principal ≡ totals.now.principal }
-    ensures small { result.millionths ≤ totals.now.millionths + (day - totals.now.day) * most_a_day }
+    ensures small { result.millionths ≤ totals.now.millionths + (day - totals.now.day) *
+        most_a_day }
     ensures in_range { IsDayNumber result.day }
 {
     let start = totals.day.count();
@@ -56,7 +58,8 @@ pub fn owing_from(totals: &Totals, terms: &Terms, ends: Day, day: Day) -> Owing
     requires later { totals.now.day ≤ day }
     requires principal_in { totals.now.principal ≤ most_pence }
     requires millionths_in { totals.now.millionths ≤ most_millionths }
-    ensures value { result ≡ owing_of (after_days terms.now ends totals.now.day (day - totals.now.day) (sums_of totals.now)) }
+    ensures value { result ≡ owing_of
+        (after_days terms.now ends totals.now.day (day - totals.now.day) (sums_of totals.now)) }
 {
     owing_after(&after_days(totals, *terms, ends, day))
 }

@@ -21,10 +21,14 @@ fn owed_at(
     totals: &Totals,
     day: Day,
 ) -> Totals
-    requires kept { IsKept (record { kind = kind; terms = terms; taken = taken; ends = ends; entries = prior.now }) totals.now }
+    requires kept { IsKept (record
+        { kind = kind; terms = terms; taken = taken; ends = ends; entries = prior.now })
+        totals.now }
     requires later { totals.now.day ≤ day }
     ensures day { result.day ≡ day }
-    ensures owed { sums_of result ≡ due (record { kind = kind; terms = terms; taken = taken; ends = ends; entries = prior.now }) day }
+    ensures owed { sums_of result ≡ due
+        (record { kind = kind; terms = terms; taken = taken; ends = ends; entries = prior.now })
+        day }
     ensures principal_in { result.principal ≤ most_pence }
     ensures millionths_in { result.millionths ≤ (day - taken) * most_a_day }
     ensures in_range { IsDayNumber day }
@@ -43,10 +47,25 @@ fn accept(
     totals: &Totals,
     e: &Entry,
 ) -> Option<Totals>
-    requires kept { IsKept (record { kind = kind; terms = terms; taken = taken; ends = ends; entries = prior.now }) totals.now }
-    ensures accepted { IfSome result (λ t. IsAccepted (record { kind = kind; terms = terms; taken = taken; ends = ends; entries = prior.now }) e.now) }
-    ensures kept { IfSome result (λ t. IsKept (record { kind = kind; terms = terms; taken = taken; ends = ends; entries = prior.now ++ e.now ∷ [] }) t) }
-    ensures refused { IfNone result (IsAccepted (record { kind = kind; terms = terms; taken = taken; ends = ends; entries = prior.now }) e.now → ⊥) }
+    requires kept { IsKept (record
+        { kind = kind; terms = terms; taken = taken; ends = ends; entries = prior.now })
+        totals.now }
+    ensures accepted { IfSome result
+        (λ t. IsAccepted
+        (record { kind = kind; terms = terms; taken = taken; ends = ends; entries = prior.now })
+        e.now) }
+    ensures kept { IfSome result
+        (λ t. IsKept (record {
+          kind = kind;
+          terms = terms;
+          taken = taken;
+          ends = ends;
+          entries = prior.now ++ e.now ∷ [];
+        }) t) }
+    ensures refused { IfNone result
+        (IsAccepted (record
+        { kind = kind; terms = terms; taken = taken; ends = ends; entries = prior.now }) e.now
+        → ⊥) }
 {
     if e.seq != prior.len() as u64 + 1 {
         return None;
@@ -83,7 +102,8 @@ fn accept(
 // What is owed before there are entries.
 fn first_totals(kind: Kind, terms: Terms, taken: Day, ends: Day) -> Totals
     requires within { credit_of kind ≤ most_pence }
-    ensures kept { IsKept (record { kind = kind; terms = terms; taken = taken; ends = ends; entries = [] }) result }
+    ensures kept { IsKept (record
+        { kind = kind; terms = terms; taken = taken; ends = ends; entries = [] }) result }
 {
     let _ = taken.count();
     Totals {
@@ -102,9 +122,17 @@ pub fn replay_entries(
     entries: &[Entry],
 ) -> Option<Totals>
     requires within { credit_of kind ≤ most_pence }
-    ensures kept { IfSome result (λ t. IsKept (record { kind = kind; terms = terms; taken = taken; ends = ends; entries = entries.now }) t) }
-    ensures accepted { IfSome result (λ t. AreAccepted (record { kind = kind; terms = terms; taken = taken; ends = ends; entries = entries.now }) [] entries.now) }
-    ensures refused { IfNone result (AreAccepted (record { kind = kind; terms = terms; taken = taken; ends = ends; entries = entries.now }) [] entries.now → ⊥) }
+    ensures kept { IfSome result
+        (λ t. IsKept (record
+        { kind = kind; terms = terms; taken = taken; ends = ends; entries = entries.now }) t) }
+    ensures accepted { IfSome result
+        (λ t. AreAccepted
+        (record { kind = kind; terms = terms; taken = taken; ends = ends; entries = entries.now })
+        [] entries.now) }
+    ensures refused { IfNone result
+        (AreAccepted (record
+        { kind = kind; terms = terms; taken = taken; ends = ends; entries = entries.now }) []
+        entries.now → ⊥) }
 {
     let mut totals = first_totals(kind, terms, taken, ends);
     for i in 0..entries.len() {
@@ -134,9 +162,18 @@ pub fn owing_at(
     totals: &Totals,
     day: Day,
 ) -> Owing
-    requires kept { IsKept (record { kind = kind; terms = terms; taken = taken; ends = ends; entries = entries.now }) totals.now }
+    requires kept { IsKept (record
+        { kind = kind; terms = terms; taken = taken; ends = ends; entries = entries.now })
+        totals.now }
     requires later { totals.now.day ≤ day }
-    ensures value { result ≡ owing_of (due (record { kind = kind; terms = terms; taken = taken; ends = ends; entries = entries.now }) day) }
+    ensures value { result ≡ owing_of
+        (due (record {
+          kind = kind;
+          terms = terms;
+          taken = taken;
+          ends = ends;
+          entries = entries.now;
+        }) day) }
 {
     owing_after(&owed_at(kind, terms, taken, ends, entries, totals, day))
 }

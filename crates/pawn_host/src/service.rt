@@ -98,7 +98,8 @@ impl<K: Keep> Service<K> {
     fn show_receipts(&mut self, stamp: &Stamp, book: Number, receipts: &Receipts) -> Answer
         ensures stays { StaysOpen K.keeping self.old self.new }
         ensures acted { Serves K.keeping self.old self.new
-            (λ start. Answers start stamp.now (record { book = book; caller = Bearer (Present receipts.now) })
+            (λ start. Answers start stamp.now
+            (record { book = book; caller = Bearer (Present receipts.now) })
             (answer_bytes result)) }
     {
         let mut writer = Writing::new(Vec::new(self.alloc));
@@ -112,7 +113,8 @@ impl<K: Keep> Service<K> {
     fn gate_and_show(&mut self, stamp: &Stamp, book: Number, key: Secret, view: View) -> Answer
         ensures stays { StaysOpen K.keeping self.old self.new }
         ensures acted { Serves K.keeping self.old self.new
-            (λ start. Answers start stamp.now (record { book = book; caller = Broker key (asked_of view) })
+            (λ start. Answers start stamp.now
+            (record { book = book; caller = Broker key (asked_of view) })
             (answer_bytes result)) }
     {
         match gate(&mut self.keep, book, key) {
@@ -273,9 +275,11 @@ impl<K: Keep> Service<K> {
     pub fn run(&mut self, items: &[(Stamp, Vec<u8>)]) -> Result<Vec<Answer>, AllocError>
         ensures stays { StaysOpen K.keeping self.old self.new }
         ensures run { IfOk result (λ answers. Serves K.keeping self.old self.new
-            (λ start. IsRun start (map (λ p. (p.0, p.1.items)) items.now) (map answer_bytes answers.items))) }
+            (λ start. IsRun start (map (λ p. (p.0, p.1.items)) items.now)
+            (map answer_bytes answers.items))) }
         ensures headline { IfOk result (λ answers. Serves K.keeping self.old self.new
-            (λ start. IsRunOfSlots start (map (λ p. (p.0, p.1.items)) items.now) (map answer_bytes answers.items))) }
+            (λ start. IsRunOfSlots start (map (λ p. (p.0, p.1.items)) items.now)
+            (map answer_bytes answers.items))) }
         ensures err { OnErr result (self.new ≡ self.old) }
     {
         let mut answers = Vec::with_capacity(self.alloc, items.len())?;

@@ -287,7 +287,12 @@ impl<K: Keep> Service<K> {
         requires can { I.can_next stamps.old }
         ensures stays { StaysOpen K.keeping self.old self.new }
         ensures session { Serves K.keeping self.old self.new (λ start. IsSession I.next_gives
-            (record { start = start; stamps = stamps.old; stream = left_of R.remaining reader.old; written = written_bytes W.contents writer.old })
+            (record {
+              start = start;
+              stamps = stamps.old;
+              stream = left_of R.remaining reader.old;
+              written = written_bytes W.contents writer.old;
+            })
             stamps.new (written_bytes W.contents writer.new) result) }
         ensures stamps { AreTaken I.next_gives stamps.old stamps.new result }
         ensures room { IsWithinMost result }

@@ -56,7 +56,8 @@ impl<S: Alter> TableKeep<S> {
     /// Whether a fault has shut the store, so that it answers nothing more until it is opened anew. The store is asked by
     /// a text that says nothing, which a store that is shut refuses as any other. What it keeps stays.
     pub fn is_shut(&mut self) -> bool
-        ensures reads { Reads (keeping_by (λ k. state S.Store k.conn)) self.old self.new (λ h. Unit {0}) }
+        ensures reads { Reads (keeping_by (λ k. state S.Store k.conn)) self.old self.new
+            (λ h. Unit {0}) }
         ensures shut { IsTrue result → (state S.Store self.new.conn).is_open ≡ false }
     {
         let _ = self.conn.is_autocommit();

@@ -22,8 +22,10 @@ pub(crate) fn judge_pledge<S: Alter>(
     number: u32,
 ) -> Result<bool, KeepError>
     ensures same_reference { tx.new.conn.ghost_name ≡ tx.old.conn.ghost_name }
-    ensures judges { FindsOf ListFirstDebts (IsUnsoundAt book) (state S.Store tx.old.conn.now) (state S.Store tx.new.conn.now) result (λ h stands. IsJudgedAt h book number stands) }
-    ensures lent { IsLent (state S.Store tx.old.conn.now) (state S.Store tx.new.conn.now) (is_ok result) }
+    ensures judges { FindsOf ListFirstDebts (IsUnsoundAt book) (state S.Store tx.old.conn.now)
+        (state S.Store tx.new.conn.now) result (λ h stands. IsJudgedAt h book number stands) }
+    ensures lent { IsLent (state S.Store tx.old.conn.now) (state S.Store tx.new.conn.now)
+        (is_ok result) }
 {
     match totals_for(tx, alloc, book, number) {
         Ok(totals) => Ok(totals.is_some()),
@@ -38,8 +40,10 @@ pub(crate) fn judge_book<S: Alter>(
     book: u32,
 ) -> Result<(), KeepError>
     ensures same_reference { tx.new.conn.ghost_name ≡ tx.old.conn.ghost_name }
-    ensures judges { FindsOf ListFirstDebts (IsUnsoundAt book) (state S.Store tx.old.conn.now) (state S.Store tx.new.conn.now) result (λ h done. AreOwedIn h book) }
-    ensures carried { IsCarried (state S.Store tx.old.conn.now) (state S.Store tx.new.conn.now) (is_ok result) }
+    ensures judges { FindsOf ListFirstDebts (IsUnsoundAt book) (state S.Store tx.old.conn.now)
+        (state S.Store tx.new.conn.now) result (λ h done. AreOwedIn h book) }
+    ensures carried { IsCarried (state S.Store tx.old.conn.now) (state S.Store tx.new.conn.now)
+        (is_ok result) }
 {
     for place in 0..u32::MAX {
         if !judge_pledge(tx, alloc, book, place + 1)? {
@@ -56,8 +60,10 @@ pub(crate) fn judge_next<S: Alter>(
     above: u32,
 ) -> Result<Option<Number>, KeepError>
     ensures same_reference { tx.new.conn.ghost_name ≡ tx.old.conn.ghost_name }
-    ensures judges { FindsOf ListFirstDebts HasUnsoundBook (state S.Store tx.old.conn.now) (state S.Store tx.new.conn.now) result (λ h next. IsNextJudged h above next) }
-    ensures lent { IsLent (state S.Store tx.old.conn.now) (state S.Store tx.new.conn.now) (is_ok result) }
+    ensures judges { FindsOf ListFirstDebts HasUnsoundBook (state S.Store tx.old.conn.now)
+        (state S.Store tx.new.conn.now) result (λ h next. IsNextJudged h above next) }
+    ensures lent { IsLent (state S.Store tx.old.conn.now) (state S.Store tx.new.conn.now)
+        (is_ok result) }
 {
     let Some(book) = next_in(tx, above)? else {
         return Ok(None);
@@ -74,8 +80,10 @@ pub(crate) fn judge_books<S: Alter>(
     alloc: Global,
 ) -> Result<(), KeepError>
     ensures same_reference { tx.new.conn.ghost_name ≡ tx.old.conn.ghost_name }
-    ensures judges { FindsOf ListFirstDebts HasUnsoundBook (state S.Store tx.old.conn.now) (state S.Store tx.new.conn.now) result (λ h done. get h.books 0 ≡ None → AreAllOwed h) }
-    ensures carried { IsCarried (state S.Store tx.old.conn.now) (state S.Store tx.new.conn.now) (is_ok result) }
+    ensures judges { FindsOf ListFirstDebts HasUnsoundBook (state S.Store tx.old.conn.now)
+        (state S.Store tx.new.conn.now) result (λ h done. get h.books 0 ≡ None → AreAllOwed h) }
+    ensures carried { IsCarried (state S.Store tx.old.conn.now) (state S.Store tx.new.conn.now)
+        (is_ok result) }
 {
     let mut above = 0;
     for _ in 0..u32::MAX {

@@ -32,9 +32,13 @@ fn write<S: Alter>(
     params: &[ValueRef<'_>],
 ) -> Result<(), KeepError>
     ensures same_reference { tx.new.conn.ghost_name ≡ tx.old.conn.ghost_name }
-    ensures ran { HasCleanDisk (state S.Store tx.new.conn.now) → IsTrue (state S.Store tx.old.conn.now).in_transaction → OnOk result ((count : ℕ) × Executes sql.now (bound params.now) (state S.Store tx.old.conn.now) (state S.Store tx.new.conn.now) (Ok count)) }
+    ensures ran { HasCleanDisk (state S.Store tx.new.conn.now) → IsTrue
+        (state S.Store tx.old.conn.now).in_transaction → OnOk result
+        ((count : ℕ) × Executes sql.now (bound params.now) (state S.Store tx.old.conn.now)
+        (state S.Store tx.new.conn.now) (Ok count)) }
     ensures no_row { result ≢ Err (Keeper.Store NoRecord) }
-    ensures lent { IsLent (state S.Store tx.old.conn.now) (state S.Store tx.new.conn.now) (is_ok result) }
+    ensures lent { IsLent (state S.Store tx.old.conn.now) (state S.Store tx.new.conn.now)
+        (is_ok result) }
 {
     match run(tx, sql, params) {
         Ok(()) => Ok(()),
@@ -45,9 +49,11 @@ fn write<S: Alter>(
 /// Makes the table of totals, beside those of the first schema.
 pub(crate) fn make_totals<S: Alter>(tx: &mut Transaction<'_, S>) -> Result<(), KeepError>
     ensures same_reference { tx.new.conn.ghost_name ≡ tx.old.conn.ghost_name }
-    ensures made { AddsTable (state S.Store tx.old.conn.now) (state S.Store tx.new.conn.now) result first_schema second_schema totals_tree }
+    ensures made { AddsTable (state S.Store tx.old.conn.now)
+        (state S.Store tx.new.conn.now) result first_schema second_schema totals_tree }
     ensures no_row { result ≢ Err (Keeper.Store NoRecord) }
-    ensures lent { IsLent (state S.Store tx.old.conn.now) (state S.Store tx.new.conn.now) (is_ok result) }
+    ensures lent { IsLent (state S.Store tx.old.conn.now) (state S.Store tx.new.conn.now)
+        (is_ok result) }
 {
     match pawn_opening::make_totals(tx) {
         Ok(()) => Ok(()),
@@ -58,9 +64,11 @@ pub(crate) fn make_totals<S: Alter>(tx: &mut Transaction<'_, S>) -> Result<(), K
 /// Makes the table of extensions, beside those of the second schema.
 pub(crate) fn make_extensions<S: Alter>(tx: &mut Transaction<'_, S>) -> Result<(), KeepError>
     ensures same_reference { tx.new.conn.ghost_name ≡ tx.old.conn.ghost_name }
-    ensures made { AddsTable (state S.Store tx.old.conn.now) (state S.Store tx.new.conn.now) result second_schema keep_schema extensions_tree }
+    ensures made { AddsTable (state S.Store tx.old.conn.now)
+        (state S.Store tx.new.conn.now) result second_schema keep_schema extensions_tree }
     ensures no_row { result ≢ Err (Keeper.Store NoRecord) }
-    ensures lent { IsLent (state S.Store tx.old.conn.now) (state S.Store tx.new.conn.now) (is_ok result) }
+    ensures lent { IsLent (state S.Store tx.old.conn.now) (state S.Store tx.new.conn.now)
+        (is_ok result) }
 {
     match pawn_opening::make_extensions(tx) {
         Ok(()) => Ok(()),
@@ -71,9 +79,11 @@ pub(crate) fn make_extensions<S: Alter>(tx: &mut Transaction<'_, S>) -> Result<(
 /// Notes the number of the program's schema.
 pub(crate) fn note_schema<S: Alter>(tx: &mut Transaction<'_, S>) -> Result<(), KeepError>
     ensures same_reference { tx.new.conn.ghost_name ≡ tx.old.conn.ghost_name }
-    ensures noted { NotesProgram (state S.Store tx.old.conn.now) (state S.Store tx.new.conn.now) result }
+    ensures noted { NotesProgram (state S.Store tx.old.conn.now)
+        (state S.Store tx.new.conn.now) result }
     ensures no_row { result ≢ Err (Keeper.Store NoRecord) }
-    ensures lent { IsLent (state S.Store tx.old.conn.now) (state S.Store tx.new.conn.now) (is_ok result) }
+    ensures lent { IsLent (state S.Store tx.old.conn.now) (state S.Store tx.new.conn.now)
+        (is_ok result) }
 {
     write(
         tx,

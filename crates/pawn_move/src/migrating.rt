@@ -21,9 +21,12 @@ fn move_tables<S: Alter>(
 ) -> Result<(), KeepError>
     requires older { (from ≡ 1) ⊎ (from ≡ 2) }
     ensures same_reference { tx.new.conn.ghost_name ≡ tx.old.conn.ghost_name }
-    ensures moves { Moves from (state S.Store tx.old.conn.now) (state S.Store tx.new.conn.now) result }
-    ensures judges { MovesOwed from (state S.Store tx.old.conn.now) (state S.Store tx.new.conn.now) result }
-    ensures lent { IsLent (state S.Store tx.old.conn.now) (state S.Store tx.new.conn.now) (is_ok result) }
+    ensures moves { Moves from (state S.Store tx.old.conn.now)
+        (state S.Store tx.new.conn.now) result }
+    ensures judges { MovesOwed from (state S.Store tx.old.conn.now)
+        (state S.Store tx.new.conn.now) result }
+    ensures lent { IsLent (state S.Store tx.old.conn.now) (state S.Store tx.new.conn.now)
+        (is_ok result) }
 {
     if from == 1 {
         move_first(tx, alloc)

@@ -15,8 +15,10 @@ use sqlite::{Alter, Error, Transaction};
 #[tactic(auto, using(crate::proofs::Lent::lent_then))]
 fn make_tables<S: Alter>(tx: &mut Transaction<'_, S>) -> Result<(), Error>
     ensures same_reference { tx.new.conn.ghost_name ≡ tx.old.conn.ghost_name }
-    ensures made { Makes (state S.Store tx.old.conn.now) (state S.Store tx.new.conn.now) result no_schema keep_schema }
-    ensures lent { IsLent (state S.Store tx.old.conn.now) (state S.Store tx.new.conn.now) (is_ok result) }
+    ensures made { Makes (state S.Store tx.old.conn.now)
+        (state S.Store tx.new.conn.now) result no_schema keep_schema }
+    ensures lent { IsLent (state S.Store tx.old.conn.now) (state S.Store tx.new.conn.now)
+        (is_ok result) }
 {
     make_books(tx)?;
     make_lists(tx)?;
@@ -27,8 +29,10 @@ fn make_tables<S: Alter>(tx: &mut Transaction<'_, S>) -> Result<(), Error>
 #[tactic(auto, using(crate::proofs::Lent::lent_then))]
 pub(crate) fn fill<S: Alter>(tx: &mut Transaction<'_, S>, limit: u32) -> Result<(), Error>
     ensures same_reference { tx.new.conn.ghost_name ≡ tx.old.conn.ghost_name }
-    ensures filled { Fills (state S.Store tx.old.conn.now) (state S.Store tx.new.conn.now) limit result }
-    ensures lent { IsLent (state S.Store tx.old.conn.now) (state S.Store tx.new.conn.now) (is_ok result) }
+    ensures filled { Fills (state S.Store tx.old.conn.now)
+        (state S.Store tx.new.conn.now) limit result }
+    ensures lent { IsLent (state S.Store tx.old.conn.now) (state S.Store tx.new.conn.now)
+        (is_ok result) }
 {
     make_tables(tx)?;
     note(tx, "limit", limit)?;

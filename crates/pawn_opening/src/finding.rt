@@ -19,7 +19,8 @@ pub(crate) fn files_at<S: Start>(
     path: &str,
     start: S,
 ) -> Result<Files<FileFrom<S>>, OpenFault>
-    ensures usable { IfOk result (λ files. IsTrue (file_is_usable S.Start files.log) × IsTrue (file_is_usable S.Start files.db)) }
+    ensures usable { IfOk result (λ files. IsTrue (file_is_usable S.Start files.log) × IsTrue
+        (file_is_usable S.Start files.db)) }
     ensures fresh { IfOk result (λ files. IsFresh true files.log × IsFresh false files.db) }
     ensures refuses { IfErr result IsStoreFault }
 {

@@ -12,8 +12,10 @@ use sqlite::{Alter, Error, Transaction};
 #[tactic(auto, using(crate::proofs::Lent::lent_then))]
 pub(crate) fn make_books<S: Alter>(tx: &mut Transaction<'_, S>) -> Result<(), Error>
     ensures same_reference { tx.new.conn.ghost_name ≡ tx.old.conn.ghost_name }
-    ensures made { Makes (state S.Store tx.old.conn.now) (state S.Store tx.new.conn.now) result no_schema first_three }
-    ensures lent { IsLent (state S.Store tx.old.conn.now) (state S.Store tx.new.conn.now) (is_ok result) }
+    ensures made { Makes (state S.Store tx.old.conn.now)
+        (state S.Store tx.new.conn.now) result no_schema first_three }
+    ensures lent { IsLent (state S.Store tx.old.conn.now) (state S.Store tx.new.conn.now)
+        (is_ok result) }
 {
     run(
         tx,
@@ -36,8 +38,10 @@ pub(crate) fn make_books<S: Alter>(tx: &mut Transaction<'_, S>) -> Result<(), Er
 #[tactic(auto, using(crate::proofs::Lent::lent_then))]
 pub(crate) fn make_lists<S: Alter>(tx: &mut Transaction<'_, S>) -> Result<(), Error>
     ensures same_reference { tx.new.conn.ghost_name ≡ tx.old.conn.ghost_name }
-    ensures made { Makes (state S.Store tx.old.conn.now) (state S.Store tx.new.conn.now) result first_three first_six }
-    ensures lent { IsLent (state S.Store tx.old.conn.now) (state S.Store tx.new.conn.now) (is_ok result) }
+    ensures made { Makes (state S.Store tx.old.conn.now)
+        (state S.Store tx.new.conn.now) result first_three first_six }
+    ensures lent { IsLent (state S.Store tx.old.conn.now) (state S.Store tx.new.conn.now)
+        (is_ok result) }
 {
     run(
         tx,
@@ -60,8 +64,10 @@ pub(crate) fn make_lists<S: Alter>(tx: &mut Transaction<'_, S>) -> Result<(), Er
 #[tactic(auto, using(crate::proofs::Lent::lent_then))]
 pub(crate) fn make_notes<S: Alter>(tx: &mut Transaction<'_, S>) -> Result<(), Error>
     ensures same_reference { tx.new.conn.ghost_name ≡ tx.old.conn.ghost_name }
-    ensures made { Makes (state S.Store tx.old.conn.now) (state S.Store tx.new.conn.now) result first_six keep_schema }
-    ensures lent { IsLent (state S.Store tx.old.conn.now) (state S.Store tx.new.conn.now) (is_ok result) }
+    ensures made { Makes (state S.Store tx.old.conn.now)
+        (state S.Store tx.new.conn.now) result first_six keep_schema }
+    ensures lent { IsLent (state S.Store tx.old.conn.now) (state S.Store tx.new.conn.now)
+        (is_ok result) }
 {
     run(
         tx,
@@ -75,8 +81,10 @@ pub(crate) fn make_notes<S: Alter>(tx: &mut Transaction<'_, S>) -> Result<(), Er
 /// Makes the table of totals, beside those of the first schema.
 pub fn make_totals<S: Alter>(tx: &mut Transaction<'_, S>) -> Result<(), Error>
     ensures same_reference { tx.new.conn.ghost_name ≡ tx.old.conn.ghost_name }
-    ensures made { AddsTable (state S.Store tx.old.conn.now) (state S.Store tx.new.conn.now) result first_schema second_schema totals_tree }
-    ensures lent { IsLent (state S.Store tx.old.conn.now) (state S.Store tx.new.conn.now) (is_ok result) }
+    ensures made { AddsTable (state S.Store tx.old.conn.now)
+        (state S.Store tx.new.conn.now) result first_schema second_schema totals_tree }
+    ensures lent { IsLent (state S.Store tx.old.conn.now) (state S.Store tx.new.conn.now)
+        (is_ok result) }
 {
     run(
         tx,
@@ -88,8 +96,10 @@ pub fn make_totals<S: Alter>(tx: &mut Transaction<'_, S>) -> Result<(), Error>
 /// Makes the table of extensions, beside those of the second schema.
 pub fn make_extensions<S: Alter>(tx: &mut Transaction<'_, S>) -> Result<(), Error>
     ensures same_reference { tx.new.conn.ghost_name ≡ tx.old.conn.ghost_name }
-    ensures made { AddsTable (state S.Store tx.old.conn.now) (state S.Store tx.new.conn.now) result second_schema keep_schema extensions_tree }
-    ensures lent { IsLent (state S.Store tx.old.conn.now) (state S.Store tx.new.conn.now) (is_ok result) }
+    ensures made { AddsTable (state S.Store tx.old.conn.now)
+        (state S.Store tx.new.conn.now) result second_schema keep_schema extensions_tree }
+    ensures lent { IsLent (state S.Store tx.old.conn.now) (state S.Store tx.new.conn.now)
+        (is_ok result) }
 {
     run(
         tx,

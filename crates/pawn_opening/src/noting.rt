@@ -14,8 +14,10 @@ pub(crate) fn note<S: Alter>(
     value: u32,
 ) -> Result<(), Error>
     ensures same_reference { tx.new.conn.ghost_name ≡ tx.old.conn.ghost_name }
-    ensures noted { Notes (state S.Store tx.old.conn.now) (state S.Store tx.new.conn.now) result (meta_row name.now value) }
-    ensures lent { IsLent (state S.Store tx.old.conn.now) (state S.Store tx.new.conn.now) (is_ok result) }
+    ensures noted { Notes (state S.Store tx.old.conn.now) (state S.Store tx.new.conn.now) result
+        (meta_row name.now value) }
+    ensures lent { IsLent (state S.Store tx.old.conn.now) (state S.Store tx.new.conn.now)
+        (is_ok result) }
 {
     run(tx, "INSERT INTO meta VALUES (?1, ?2)", params![name, value])
 }

@@ -55,7 +55,9 @@ impl Model for Brief {
 
     ghost view = { λ b. b.fields };
 
-    ghost invariant = { λ b. (b.terms ≡ b.fields.agreement.terms) × (b.fields.agreement.taken ≤ last_stamp_day) × (b.fields.totals.principal ≤ most_pence) × (b.fields.totals.millionths ≤ most_millionths) };
+    ghost invariant = { λ b. (b.terms ≡ b.fields.agreement.terms)
+        × (b.fields.agreement.taken ≤ last_stamp_day) × (b.fields.totals.principal ≤ most_pence)
+        × (b.fields.totals.millionths ≤ most_millionths) };
 }
 
 impl Brief {
@@ -154,7 +156,9 @@ fn are_days_within(taken: Day, last: Day) -> bool
 
 // Whether there are no more entries, secrets and extensions than a pledge may have.
 fn are_counts_within(counts: Counts) -> bool
-    ensures answer { IsTrue result ↔ ((counts.entries ≤ most_entries) × (counts.secrets ≤ most_secrets) × (counts.extensions ≤ most_extensions)) }
+    ensures answer { IsTrue result ↔
+        ((counts.entries ≤ most_entries) × (counts.secrets ≤ most_secrets)
+        × (counts.extensions ≤ most_extensions)) }
 {
     counts.entries <= MOST_ENTRIES
         && counts.secrets <= MOST_SECRETS

@@ -120,7 +120,8 @@ impl TryFrom<Command> for BrokerCommand {
 
     type Error = Command;
 
-    ghost try_from_gives = { λ command result. result ≡ (if is_brokers command then Ok command else Err command) };
+    ghost try_from_gives = { λ command result. result
+        ≡ (if is_brokers command then Ok command else Err command) };
 
     /// The command, where a broker may send it, or it is handed back.
     fn try_from(command: Command) -> Result<BrokerCommand, Command> {
@@ -169,7 +170,8 @@ impl TryFrom<Command> for BearerCommand {
 
     type Error = Command;
 
-    ghost try_from_gives = { λ command result. result ≡ (if is_bearers command then Ok command else Err command) };
+    ghost try_from_gives = { λ command result. result
+        ≡ (if is_bearers command then Ok command else Err command) };
 
     /// The command, where a bearer may send it, or it is handed back.
     fn try_from(command: Command) -> Result<BearerCommand, Command> {

@@ -55,7 +55,9 @@ impl Parts {
 
 // Whether each extension was agreed in the period as it then was, for a later end, and none after the last change.
 fn are_extended(taken: Day, first_end: Day, last: Day, extensions: &[Extension]) -> bool
-    ensures answer { IsTrue result ↔ (AreExtended taken first_end extensions.now × (last_by (λ e. e.day) taken extensions.now ≤ last)) }
+    ensures answer { IsTrue result ↔
+        (AreExtended taken first_end extensions.now
+        × (last_by (λ e. e.day) taken extensions.now ≤ last)) }
 {
     let mut day = taken;
     let mut ends = first_end;
@@ -126,7 +128,8 @@ fn are_distinct(issued: &[Issued]) -> bool
 
 // Whether days don't fall, from the day taken to the last.
 fn do_not_fall(taken: Day, last: Day, issued: &[Issued]) -> bool
-    ensures answer { IsTrue result ↔ (DoNotFall (λ i. i.day) taken issued.now × (last_by (λ i. i.day) taken issued.now ≤ last)) }
+    ensures answer { IsTrue result ↔
+        (DoNotFall (λ i. i.day) taken issued.now × (last_by (λ i. i.day) taken issued.now ≤ last)) }
 {
     let mut day = taken;
     for i in issued {
@@ -245,7 +248,8 @@ fn are_issued(taken: Day, credit: u64, issued: &[Issued]) -> bool
 // The same of parts.
 fn are_drawn_in(parts: &Parts, ends: Day) -> bool
     requires ends { ends ≡ end_of parts.now }
-    ensures answer { IsTrue result ↔ Each (λ e. IsDrawnBy (end_of parts.now) e.sort e.day) parts.now.entries }
+    ensures answer { IsTrue result ↔ Each
+        (λ e. IsDrawnBy (end_of parts.now) e.sort e.day) parts.now.entries }
 {
     are_drawn(ends, parts.entries.as_slice())
 }

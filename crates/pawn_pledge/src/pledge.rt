@@ -40,9 +40,23 @@ impl Model for Pledge {
 
     ghost Value = { Parts };
 
-    ghost view = { λ a. record { agreement = a.agreement; entries = a.debt.entries; secrets = a.secrets; extensions = a.extensions; standing = a.standing } };
+    ghost view = { λ a. record {
+      agreement = a.agreement;
+      entries = a.debt.entries;
+      secrets =
+          a.secrets;
+      extensions = a.extensions;
+      standing = a.standing;
+    } };
 
-    ghost invariant = { λ a. IsKept (record { agreement = a.agreement; entries = a.debt.entries; secrets = a.secrets; extensions = a.extensions; standing = a.standing }) a.debt };
+    ghost invariant = { λ a. IsKept (record {
+      agreement = a.agreement;
+      entries = a.debt.entries;
+      secrets = a.secrets;
+      extensions =
+          a.extensions;
+      standing = a.standing;
+    }) a.debt };
 }
 
 impl Pledge {

@@ -78,7 +78,12 @@ fn converse<K: Keep, R: Read, W: Write, I: Iterator<Item = Stamp>>(
     requires can { I.can_next stamps.old }
     ensures stays { StaysOpen K.keeping service.old service.new }
     ensures session { Serves K.keeping service.old service.new (λ start. IsSession I.next_gives
-        (record { start = start; stamps = stamps.old; stream = left_of R.remaining reader.old; written = written_bytes W.contents writer.old })
+        (record {
+          start = start;
+          stamps = stamps.old;
+          stream = left_of R.remaining reader.old;
+          written = written_bytes W.contents writer.old;
+        })
         stamps.new (written_bytes W.contents writer.new) result) }
     ensures room { IsWithinMost result }
 {

@@ -22,8 +22,10 @@ pub(crate) fn put_book<S: Alter>(
     new_book: &NewBook,
 ) -> Result<(), KeepError>
     ensures same_reference { tx.new.conn.ghost_name ≡ tx.old.conn.ghost_name }
-    ensures wrote { Joins (state S.Store tx.old.conn.now) (state S.Store tx.new.conn.now) result books_tree (book_row book (made_book new_book.now)) }
-    ensures lent { IsLent (state S.Store tx.old.conn.now) (state S.Store tx.new.conn.now) (is_ok result) }
+    ensures wrote { Joins (state S.Store tx.old.conn.now)
+        (state S.Store tx.new.conn.now) result books_tree (book_row book (made_book new_book.now)) }
+    ensures lent { IsLent (state S.Store tx.old.conn.now) (state S.Store tx.new.conn.now)
+        (is_ok result) }
 {
     let key = new_book.key.word().to_be_bytes();
     let name = new_book.name.as_str();
@@ -43,8 +45,10 @@ pub(crate) fn set_terms_count<S: Alter>(
 ) -> Result<(), KeepError>
     ensures same_reference { tx.new.conn.ghost_name ≡ tx.old.conn.ghost_name }
     ensures wrote { (k : BookValue) (terms : List Rates) → length terms ≡ count
-        → Replaces (state S.Store tx.old.conn.now) (state S.Store tx.new.conn.now) result 0 (at_book book) (book_row book k) (book_row book (record k { terms = terms })) }
-    ensures lent { IsLent (state S.Store tx.old.conn.now) (state S.Store tx.new.conn.now) (is_ok result) }
+        → Replaces (state S.Store tx.old.conn.now) (state S.Store tx.new.conn.now) result 0
+        (at_book book) (book_row book k) (book_row book (record k { terms = terms })) }
+    ensures lent { IsLent (state S.Store tx.old.conn.now) (state S.Store tx.new.conn.now)
+        (is_ok result) }
 {
     write(
         tx,
@@ -61,8 +65,10 @@ pub(crate) fn set_pledges_count<S: Alter>(
 ) -> Result<(), KeepError>
     ensures same_reference { tx.new.conn.ghost_name ≡ tx.old.conn.ghost_name }
     ensures wrote { (k : BookValue) (pledges : List PledgeValue) → length pledges ≡ count
-        → Replaces (state S.Store tx.old.conn.now) (state S.Store tx.new.conn.now) result 0 (at_book book) (book_row book k) (book_row book (record k { pledges = pledges })) }
-    ensures lent { IsLent (state S.Store tx.old.conn.now) (state S.Store tx.new.conn.now) (is_ok result) }
+        → Replaces (state S.Store tx.old.conn.now) (state S.Store tx.new.conn.now) result 0
+        (at_book book) (book_row book k) (book_row book (record k { pledges = pledges })) }
+    ensures lent { IsLent (state S.Store tx.old.conn.now) (state S.Store tx.new.conn.now)
+        (is_ok result) }
 {
     write(
         tx,
@@ -80,9 +86,12 @@ pub(crate) fn set_import<S: Alter>(
     pledges: u32,
 ) -> Result<(), KeepError>
     ensures same_reference { tx.new.conn.ghost_name ≡ tx.old.conn.ghost_name }
-    ensures wrote { (k : BookValue) (rows : BookRows) → length rows.terms ≡ terms → length rows.pledges ≡ pledges
-        → Replaces (state S.Store tx.old.conn.now) (state S.Store tx.new.conn.now) result 0 (at_book book) (book_row book k) (book_row book (filled_book k key rows)) }
-    ensures lent { IsLent (state S.Store tx.old.conn.now) (state S.Store tx.new.conn.now) (is_ok result) }
+    ensures wrote { (k : BookValue) (rows : BookRows) → length rows.terms ≡ terms
+        → length rows.pledges ≡ pledges
+        → Replaces (state S.Store tx.old.conn.now) (state S.Store tx.new.conn.now) result 0
+        (at_book book) (book_row book k) (book_row book (filled_book k key rows)) }
+    ensures lent { IsLent (state S.Store tx.old.conn.now) (state S.Store tx.new.conn.now)
+        (is_ok result) }
 {
     let word = key.word().to_be_bytes();
     write(
@@ -100,8 +109,11 @@ pub(crate) fn put_terms<S: Alter>(
     rates: Rates,
 ) -> Result<(), KeepError>
     ensures same_reference { tx.new.conn.ghost_name ≡ tx.old.conn.ghost_name }
-    ensures wrote { Joins (state S.Store tx.old.conn.now) (state S.Store tx.new.conn.now) result terms_tree (number book ∷ number version ∷ terms_cells rates) }
-    ensures lent { IsLent (state S.Store tx.old.conn.now) (state S.Store tx.new.conn.now) (is_ok result) }
+    ensures wrote { Joins (state S.Store tx.old.conn.now)
+        (state S.Store tx.new.conn.now) result terms_tree
+        (number book ∷ number version ∷ terms_cells rates) }
+    ensures lent { IsLent (state S.Store tx.old.conn.now) (state S.Store tx.new.conn.now)
+        (is_ok result) }
 {
     let rate = small(rates.rate)?;
     let before = small(rates.keep_before)?;

@@ -136,7 +136,8 @@ fn sum_value(pence: u64) -> Result<Value, KeepError>
 
 /// The sum of a closing.
 pub(crate) fn closed_amount(closing: Closing) -> Result<Value, KeepError>
-    ensures value { IfOk result (λ amount. amount ≡ spec.or_null spec.number (spec.closed_amount closing)) }
+    ensures value { IfOk result (λ amount. amount ≡ spec.or_null spec.number
+        (spec.closed_amount closing)) }
 {
     match closing {
         Closing::Open => Ok(optional(None)),

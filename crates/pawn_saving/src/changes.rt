@@ -20,8 +20,10 @@ pub(crate) fn make_book<S: Alter>(
     new_book: &NewBook,
 ) -> Result<u32, KeepError>
     ensures same_reference { tx.new.conn.ghost_name ≡ tx.old.conn.ghost_name }
-    ensures wrote { WritesRows (state S.Store tx.old.conn.now) (state S.Store tx.new.conn.now) (MakeBook book new_book.now) result }
-    ensures lent { IsLent (state S.Store tx.old.conn.now) (state S.Store tx.new.conn.now) (is_ok result) }
+    ensures wrote { WritesRows (state S.Store tx.old.conn.now) (state S.Store tx.new.conn.now)
+        (MakeBook book new_book.now) result }
+    ensures lent { IsLent (state S.Store tx.old.conn.now) (state S.Store tx.new.conn.now)
+        (is_ok result) }
 {
     put_book(tx, book.get(), new_book)?;
     Ok(1)
@@ -36,8 +38,10 @@ pub(crate) fn add_terms<S: Alter>(
     terms: Terms,
 ) -> Result<u32, KeepError>
     ensures same_reference { tx.new.conn.ghost_name ≡ tx.old.conn.ghost_name }
-    ensures wrote { WritesRows (state S.Store tx.old.conn.now) (state S.Store tx.new.conn.now) (AddTerms book version terms) result }
-    ensures lent { IsLent (state S.Store tx.old.conn.now) (state S.Store tx.new.conn.now) (is_ok result) }
+    ensures wrote { WritesRows (state S.Store tx.old.conn.now) (state S.Store tx.new.conn.now)
+        (AddTerms book version terms) result }
+    ensures lent { IsLent (state S.Store tx.old.conn.now) (state S.Store tx.new.conn.now)
+        (is_ok result) }
 {
     let version = small(version)?;
     put_terms(tx, book.get(), version, terms.rates())?;
@@ -54,8 +58,10 @@ pub(crate) fn put_pledge<S: Alter>(
     pledge: &Pledge,
 ) -> Result<u32, KeepError>
     ensures same_reference { tx.new.conn.ghost_name ≡ tx.old.conn.ghost_name }
-    ensures wrote { WritesRows (state S.Store tx.old.conn.now) (state S.Store tx.new.conn.now) (PutPledge book number pledge.now) result }
-    ensures lent { IsLent (state S.Store tx.old.conn.now) (state S.Store tx.new.conn.now) (is_ok result) }
+    ensures wrote { WritesRows (state S.Store tx.old.conn.now) (state S.Store tx.new.conn.now)
+        (PutPledge book number pledge.now) result }
+    ensures lent { IsLent (state S.Store tx.old.conn.now) (state S.Store tx.new.conn.now)
+        (is_ok result) }
 {
     let lengths = lengths_of(pledge)?;
     let stored = stored_within(tx, book.get(), number.get(), lengths)?;

@@ -15,11 +15,15 @@ use sqlite::{Alter, Transaction, params};
 /// The limit on the rows.
 fn limit_in<S: Alter>(tx: &mut Transaction<'_, S>) -> Result<u32, KeepError>
     ensures same_reference { tx.new.conn.ghost_name ≡ tx.old.conn.ghost_name }
-    ensures found { HasCleanDisk (state S.Store tx.new.conn.now) → IsTrue (state S.Store tx.old.conn.now).in_transaction
-        → (listed : Listed) (counted limit : ℕ) → listed meta_tree ≡ meta_rows counted limit → Lists keep_schema (state S.Store tx.old.conn.now).now listed
-        → IfOk result (λ n. (n ≡ limit) × Rests (state S.Store tx.old.conn.now) (state S.Store tx.new.conn.now)) }
+    ensures found { HasCleanDisk (state S.Store tx.new.conn.now) → IsTrue
+        (state S.Store tx.old.conn.now).in_transaction
+        → (listed : Listed) (counted limit : ℕ) → listed meta_tree ≡ meta_rows counted limit
+        → Lists keep_schema (state S.Store tx.old.conn.now).now listed
+        → IfOk result
+        (λ n. (n ≡ limit) × Rests (state S.Store tx.old.conn.now) (state S.Store tx.new.conn.now)) }
     ensures in_range { IfOk result (λ n. n < 2 ^ 32) }
-    ensures lent { IsLent (state S.Store tx.old.conn.now) (state S.Store tx.new.conn.now) (is_ok result) }
+    ensures lent { IsLent (state S.Store tx.old.conn.now) (state S.Store tx.new.conn.now)
+        (is_ok result) }
 {
     let rows = match ask(tx, "SELECT value FROM meta WHERE name = 'limit'", &[]) {
         Ok(rows) => rows,
@@ -37,10 +41,15 @@ fn limit_in<S: Alter>(tx: &mut Transaction<'_, S>) -> Result<u32, KeepError>
 /// Adds to the count of rows, and tells the new count.
 fn count_up<S: Alter>(tx: &mut Transaction<'_, S>, by: u32) -> Result<u64, KeepError>
     ensures same_reference { tx.new.conn.ghost_name ≡ tx.old.conn.ghost_name }
-    ensures wrote { HasCleanDisk (state S.Store tx.new.conn.now) → IsTrue (state S.Store tx.old.conn.now).in_transaction
-        → (listed : Listed) (counted limit : ℕ) → listed meta_tree ≡ meta_rows counted limit → counted + by < 2 ^ 63 → Lists keep_schema (state S.Store tx.old.conn.now).now listed
-        → IfOk result (λ now. (now ≡ counted + by) × Lists keep_schema (state S.Store tx.new.conn.now).now (with_rows listed meta_tree (meta_row (codes "rows") now ∷ other_rows limit))) }
-    ensures lent { IsLent (state S.Store tx.old.conn.now) (state S.Store tx.new.conn.now) (is_ok result) }
+    ensures wrote { HasCleanDisk (state S.Store tx.new.conn.now) → IsTrue
+        (state S.Store tx.old.conn.now).in_transaction
+        → (listed : Listed) (counted limit : ℕ) → listed meta_tree ≡ meta_rows counted limit
+        → counted + by < 2 ^ 63 → Lists keep_schema (state S.Store tx.old.conn.now).now listed
+        → IfOk result (λ now. (now ≡ counted + by) × Lists keep_schema
+        (state S.Store tx.new.conn.now).now
+        (with_rows listed meta_tree (meta_row (codes "rows") now ∷ other_rows limit))) }
+    ensures lent { IsLent (state S.Store tx.old.conn.now) (state S.Store tx.new.conn.now)
+        (is_ok result) }
 {
     let row = match tx.query_row(
         "UPDATE meta SET value = value + ?1 WHERE name = 'rows' RETURNING value",
@@ -62,8 +71,10 @@ pub(crate) fn count_within<S: Alter>(
     by: u32,
 ) -> Result<bool, KeepError>
     ensures same_reference { tx.new.conn.ghost_name ≡ tx.old.conn.ghost_name }
-    ensures counts { Counts (state S.Store tx.old.conn.now) (state S.Store tx.new.conn.now) by result }
-    ensures lent { IsLent (state S.Store tx.old.conn.now) (state S.Store tx.new.conn.now) (is_ok result) }
+    ensures counts { Counts (state S.Store tx.old.conn.now)
+        (state S.Store tx.new.conn.now) by result }
+    ensures lent { IsLent (state S.Store tx.old.conn.now) (state S.Store tx.new.conn.now)
+        (is_ok result) }
 {
     let limit = limit_in(tx)?;
     let counted = count_up(tx, by)?;

@@ -18,8 +18,11 @@ pub(crate) fn put_entry<S: Alter>(
     entry: &Entry,
 ) -> Result<(), KeepError>
     ensures same_reference { tx.new.conn.ghost_name ≡ tx.old.conn.ghost_name }
-    ensures wrote { Joins (state S.Store tx.old.conn.now) (state S.Store tx.new.conn.now) result entries_tree (under book number (entry_cells entry.now)) }
-    ensures lent { IsLent (state S.Store tx.old.conn.now) (state S.Store tx.new.conn.now) (is_ok result) }
+    ensures wrote { Joins (state S.Store tx.old.conn.now)
+        (state S.Store tx.new.conn.now) result entries_tree
+        (under book number (entry_cells entry.now)) }
+    ensures lent { IsLent (state S.Store tx.old.conn.now) (state S.Store tx.new.conn.now)
+        (is_ok result) }
 {
     let seq = small(entry.seq)?;
     let pence = small(entry.pence)?;
@@ -41,8 +44,11 @@ pub(crate) fn put_secret<S: Alter>(
     issued: &Issued,
 ) -> Result<(), KeepError>
     ensures same_reference { tx.new.conn.ghost_name ≡ tx.old.conn.ghost_name }
-    ensures wrote { Joins (state S.Store tx.old.conn.now) (state S.Store tx.new.conn.now) result secrets_tree (under book number (secret_cells place issued.now)) }
-    ensures lent { IsLent (state S.Store tx.old.conn.now) (state S.Store tx.new.conn.now) (is_ok result) }
+    ensures wrote { Joins (state S.Store tx.old.conn.now)
+        (state S.Store tx.new.conn.now) result secrets_tree
+        (under book number (secret_cells place issued.now)) }
+    ensures lent { IsLent (state S.Store tx.old.conn.now) (state S.Store tx.new.conn.now)
+        (is_ok result) }
 {
     let day = issued.day.count();
     let sort = issue_number(issued.sort);
@@ -63,8 +69,11 @@ pub(crate) fn put_extension<S: Alter>(
     extension: &Extension,
 ) -> Result<(), KeepError>
     ensures same_reference { tx.new.conn.ghost_name ≡ tx.old.conn.ghost_name }
-    ensures wrote { Joins (state S.Store tx.old.conn.now) (state S.Store tx.new.conn.now) result extensions_tree (under book number (extension_cells place extension.now)) }
-    ensures lent { IsLent (state S.Store tx.old.conn.now) (state S.Store tx.new.conn.now) (is_ok result) }
+    ensures wrote { Joins (state S.Store tx.old.conn.now)
+        (state S.Store tx.new.conn.now) result extensions_tree
+        (under book number (extension_cells place extension.now)) }
+    ensures lent { IsLent (state S.Store tx.old.conn.now) (state S.Store tx.new.conn.now)
+        (is_ok result) }
 {
     let day = extension.day.count();
     let until = extension.until.count();

@@ -48,8 +48,10 @@ fn put_parts<S: Alter>(
     parts: &Parts,
 ) -> Result<u32, KeepError>
     ensures same_reference { tx.new.conn.ghost_name ≡ tx.old.conn.ghost_name }
-    ensures wrote { AddsPledge (state S.Store tx.old.conn.now) (state S.Store tx.new.conn.now) result book (number_of parts.now) parts.now }
-    ensures lent { IsLent (state S.Store tx.old.conn.now) (state S.Store tx.new.conn.now) (is_ok result) }
+    ensures wrote { AddsPledge (state S.Store tx.old.conn.now)
+        (state S.Store tx.new.conn.now) result book (number_of parts.now) parts.now }
+    ensures lent { IsLent (state S.Store tx.old.conn.now) (state S.Store tx.new.conn.now)
+        (is_ok result) }
 {
     let pledge = as_pledge(parts)?;
     put_whole(tx, book, parts.agreement.number.get(), &pledge)
@@ -62,8 +64,10 @@ fn put_pledges<S: Alter>(
     pledges: &[Parts],
 ) -> Result<u32, KeepError>
     ensures same_reference { tx.new.conn.ghost_name ≡ tx.old.conn.ghost_name }
-    ensures wrote { AddsPledges (state S.Store tx.old.conn.now) (state S.Store tx.new.conn.now) result book pledges.now }
-    ensures carried { IsCarried (state S.Store tx.old.conn.now) (state S.Store tx.new.conn.now) (is_ok result) }
+    ensures wrote { AddsPledges (state S.Store tx.old.conn.now)
+        (state S.Store tx.new.conn.now) result book pledges.now }
+    ensures carried { IsCarried (state S.Store tx.old.conn.now) (state S.Store tx.new.conn.now)
+        (is_ok result) }
 {
     let mut counted = 0;
     for parts in pledges {
@@ -83,8 +87,10 @@ pub(crate) fn import_book<S: Alter>(
     rows: &BookRows,
 ) -> Result<u32, KeepError>
     ensures same_reference { tx.new.conn.ghost_name ≡ tx.old.conn.ghost_name }
-    ensures wrote { WritesRows (state S.Store tx.old.conn.now) (state S.Store tx.new.conn.now) (ImportBook book key rows.now) result }
-    ensures lent { IsLent (state S.Store tx.old.conn.now) (state S.Store tx.new.conn.now) (is_ok result) }
+    ensures wrote { WritesRows (state S.Store tx.old.conn.now) (state S.Store tx.new.conn.now)
+        (ImportBook book key rows.now) result }
+    ensures lent { IsLent (state S.Store tx.old.conn.now) (state S.Store tx.new.conn.now)
+        (is_ok result) }
 {
     let terms = rows.terms.as_slice();
     let pledges = rows.pledges.as_slice();

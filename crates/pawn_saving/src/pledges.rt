@@ -26,8 +26,11 @@ pub(crate) fn put_row<S: Alter>(
     pledge: &Pledge,
 ) -> Result<(), KeepError>
     ensures same_reference { tx.new.conn.ghost_name ≡ tx.old.conn.ghost_name }
-    ensures wrote { Joins (state S.Store tx.old.conn.now) (state S.Store tx.new.conn.now) result pledges_tree (under book number (pledge_cells pledge.now)) }
-    ensures lent { IsLent (state S.Store tx.old.conn.now) (state S.Store tx.new.conn.now) (is_ok result) }
+    ensures wrote { Joins (state S.Store tx.old.conn.now)
+        (state S.Store tx.new.conn.now) result pledges_tree
+        (under book number (pledge_cells pledge.now)) }
+    ensures lent { IsLent (state S.Store tx.old.conn.now) (state S.Store tx.new.conn.now)
+        (is_ok result) }
 {
     let agreement = pledge.agreement();
     let standing = pledge.standing();
@@ -65,8 +68,11 @@ pub(crate) fn set_row<S: Alter>(
 ) -> Result<(), KeepError>
     ensures same_reference { tx.new.conn.ghost_name ≡ tx.old.conn.ghost_name }
     ensures wrote { (before : PledgeValue) → before.agreement ≡ pledge.now.agreement
-        → Replaces (state S.Store tx.old.conn.now) (state S.Store tx.new.conn.now) result 3 (at_pledge book number) (under book number (pledge_cells before)) (under book number (pledge_cells pledge.now)) }
-    ensures lent { IsLent (state S.Store tx.old.conn.now) (state S.Store tx.new.conn.now) (is_ok result) }
+        → Replaces (state S.Store tx.old.conn.now) (state S.Store tx.new.conn.now) result 3
+        (at_pledge book number) (under book number (pledge_cells before))
+        (under book number (pledge_cells pledge.now)) }
+    ensures lent { IsLent (state S.Store tx.old.conn.now) (state S.Store tx.new.conn.now)
+        (is_ok result) }
 {
     let standing = pledge.standing();
     let ends = pledge.ends().count();
@@ -91,8 +97,11 @@ pub(crate) fn put_booking<S: Alter>(
 ) -> Result<(), KeepError>
     ensures same_reference { tx.new.conn.ghost_name ≡ tx.old.conn.ghost_name }
     ensures wrote { (before : Option Booking)
-        → PutsOver (state S.Store tx.old.conn.now) (state S.Store tx.new.conn.now) result 11 (at_pledge book number) (option_map (λ k. under book number (booking_cells k)) before) (under book number (booking_cells booking)) }
-    ensures lent { IsLent (state S.Store tx.old.conn.now) (state S.Store tx.new.conn.now) (is_ok result) }
+        → PutsOver (state S.Store tx.old.conn.now) (state S.Store tx.new.conn.now) result 11
+        (at_pledge book number) (option_map (λ k. under book number (booking_cells k)) before)
+        (under book number (booking_cells booking)) }
+    ensures lent { IsLent (state S.Store tx.old.conn.now) (state S.Store tx.new.conn.now)
+        (is_ok result) }
 {
     let day = booking.day.count();
     let window = small(booking.window)?;
@@ -122,8 +131,11 @@ pub fn put_totals<S: Alter>(
     totals: &Totals,
 ) -> Result<(), KeepError>
     ensures same_reference { tx.new.conn.ghost_name ≡ tx.old.conn.ghost_name }
-    ensures wrote { Joins (state S.Store tx.old.conn.now) (state S.Store tx.new.conn.now) result totals_tree (under book number (totals_cells totals.now)) }
-    ensures lent { IsLent (state S.Store tx.old.conn.now) (state S.Store tx.new.conn.now) (is_ok result) }
+    ensures wrote { Joins (state S.Store tx.old.conn.now)
+        (state S.Store tx.new.conn.now) result totals_tree
+        (under book number (totals_cells totals.now)) }
+    ensures lent { IsLent (state S.Store tx.old.conn.now) (state S.Store tx.new.conn.now)
+        (is_ok result) }
 {
     let day = totals.day.count();
     let principal = small(totals.principal)?;
@@ -144,8 +156,11 @@ pub(crate) fn set_totals<S: Alter>(
 ) -> Result<(), KeepError>
     ensures same_reference { tx.new.conn.ghost_name ≡ tx.old.conn.ghost_name }
     ensures wrote { (before : Totals)
-        → Replaces (state S.Store tx.old.conn.now) (state S.Store tx.new.conn.now) result 15 (at_pledge book number) (under book number (totals_cells before)) (under book number (totals_cells totals.now)) }
-    ensures lent { IsLent (state S.Store tx.old.conn.now) (state S.Store tx.new.conn.now) (is_ok result) }
+        → Replaces (state S.Store tx.old.conn.now) (state S.Store tx.new.conn.now) result 15
+        (at_pledge book number) (under book number (totals_cells before))
+        (under book number (totals_cells totals.now)) }
+    ensures lent { IsLent (state S.Store tx.old.conn.now) (state S.Store tx.new.conn.now)
+        (is_ok result) }
 {
     let day = totals.day.count();
     let principal = small(totals.principal)?;

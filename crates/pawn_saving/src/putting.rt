@@ -28,7 +28,8 @@ fn past<T>(items: &[T], so_many: u32) -> &[T]
 
 /// How many rows are counted of a pledge with lists so long.
 pub(crate) fn rows_within(lengths: Lengths, is_booked: bool) -> Result<u32, KeepError>
-    ensures value { IfOk result (λ n. n ≡ 1 + lengths.entries + lengths.secrets + (if is_booked then 1 else 0)) }
+    ensures value { IfOk result (λ n. n ≡ 1 + lengths.entries + lengths.secrets
+        + (if is_booked then 1 else 0)) }
 {
     let bookings = if is_booked { 1 } else { 0 };
     small(1 + lengths.entries as u64 + lengths.secrets as u64 + bookings)
@@ -52,8 +53,10 @@ pub(crate) fn put_lists<S: Alter>(
     lengths: Lengths,
 ) -> Result<(), KeepError>
     ensures same_reference { tx.new.conn.ghost_name ≡ tx.old.conn.ghost_name }
-    ensures wrote { AddRows (state S.Store tx.old.conn.now) (state S.Store tx.new.conn.now) result (lists_past lengths book number pledge.now) }
-    ensures carried { IsCarried (state S.Store tx.old.conn.now) (state S.Store tx.new.conn.now) (is_ok result) }
+    ensures wrote { AddRows (state S.Store tx.old.conn.now) (state S.Store tx.new.conn.now) result
+        (lists_past lengths book number pledge.now) }
+    ensures carried { IsCarried (state S.Store tx.old.conn.now) (state S.Store tx.new.conn.now)
+        (is_ok result) }
 {
     let secrets = next_place(lengths.secrets)?;
     let extensions = next_place(lengths.extensions)?;
@@ -83,8 +86,12 @@ pub(crate) fn put_any_booking<S: Alter>(
 ) -> Result<(), KeepError>
     ensures same_reference { tx.new.conn.ghost_name ≡ tx.old.conn.ghost_name }
     ensures wrote { (before : Option Booking) → (booking ≡ None → before ≡ None)
-        → PutsFor (state S.Store tx.old.conn.now) (state S.Store tx.new.conn.now) result bookings_tree (at_pledge book number) (at_most_one (λ k. under book number (booking_cells k)) before) (at_most_one (λ k. under book number (booking_cells k)) booking) }
-    ensures carried { IsCarried (state S.Store tx.old.conn.now) (state S.Store tx.new.conn.now) (is_ok result) }
+        → PutsFor (state S.Store tx.old.conn.now)
+        (state S.Store tx.new.conn.now) result bookings_tree (at_pledge book number)
+        (at_most_one (λ k. under book number (booking_cells k)) before)
+        (at_most_one (λ k. under book number (booking_cells k)) booking) }
+    ensures carried { IsCarried (state S.Store tx.old.conn.now) (state S.Store tx.new.conn.now)
+        (is_ok result) }
 {
     match booking {
         Some(booking) => put_booking(tx, book, number, booking),
@@ -101,8 +108,10 @@ pub(crate) fn put_sides<S: Alter>(
     pledge: &Pledge,
 ) -> Result<(), KeepError>
     ensures same_reference { tx.new.conn.ghost_name ≡ tx.old.conn.ghost_name }
-    ensures wrote { AddSides (state S.Store tx.old.conn.now) (state S.Store tx.new.conn.now) result book number pledge.now }
-    ensures lent { IsLent (state S.Store tx.old.conn.now) (state S.Store tx.new.conn.now) (is_ok result) }
+    ensures wrote { AddSides (state S.Store tx.old.conn.now)
+        (state S.Store tx.new.conn.now) result book number pledge.now }
+    ensures lent { IsLent (state S.Store tx.old.conn.now) (state S.Store tx.new.conn.now)
+        (is_ok result) }
 {
     put_row(tx, book, number, pledge)?;
     put_totals(tx, book, number, &pledge.totals())?;
@@ -118,8 +127,10 @@ pub(crate) fn put_whole<S: Alter>(
     pledge: &Pledge,
 ) -> Result<u32, KeepError>
     ensures same_reference { tx.new.conn.ghost_name ≡ tx.old.conn.ghost_name }
-    ensures wrote { AddsPledge (state S.Store tx.old.conn.now) (state S.Store tx.new.conn.now) result book number pledge.now }
-    ensures lent { IsLent (state S.Store tx.old.conn.now) (state S.Store tx.new.conn.now) (is_ok result) }
+    ensures wrote { AddsPledge (state S.Store tx.old.conn.now)
+        (state S.Store tx.new.conn.now) result book number pledge.now }
+    ensures lent { IsLent (state S.Store tx.old.conn.now) (state S.Store tx.new.conn.now)
+        (is_ok result) }
 {
     let added = rows_of(pledge)?;
     put_sides(tx, book, number, pledge)?;

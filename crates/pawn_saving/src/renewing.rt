@@ -27,8 +27,11 @@ pub(crate) fn add_pledge<S: Alter>(
     pledge: &Pledge,
 ) -> Result<u32, KeepError>
     ensures same_reference { tx.new.conn.ghost_name ≡ tx.old.conn.ghost_name }
-    ensures wrote { WritesWhere (state S.Store tx.old.conn.now) (state S.Store tx.new.conn.now) (λ h. pledge_in (get h.books book) number ≡ None) (PutPledge book number pledge.now) result }
-    ensures lent { IsLent (state S.Store tx.old.conn.now) (state S.Store tx.new.conn.now) (is_ok result) }
+    ensures wrote { WritesWhere (state S.Store tx.old.conn.now) (state S.Store tx.new.conn.now)
+        (λ h. pledge_in (get h.books book) number ≡ None)
+        (PutPledge book number pledge.now) result }
+    ensures lent { IsLent (state S.Store tx.old.conn.now) (state S.Store tx.new.conn.now)
+        (is_ok result) }
 {
     let added = put_whole(tx, book.get(), number.get(), pledge)?;
     set_pledges_count(tx, book.get(), number.get())?;
@@ -44,9 +47,12 @@ fn set_sides<S: Alter>(
     pledge: &Pledge,
 ) -> Result<(), KeepError>
     ensures same_reference { tx.new.conn.ghost_name ≡ tx.old.conn.ghost_name }
-    ensures wrote { (before : PledgeValue) → before.agreement ≡ pledge.now.agreement → (pledge.now.standing.booking ≡ None → before.standing.booking ≡ None)
-        → RenewSides (state S.Store tx.old.conn.now) (state S.Store tx.new.conn.now) result book number before pledge.now }
-    ensures lent { IsLent (state S.Store tx.old.conn.now) (state S.Store tx.new.conn.now) (is_ok result) }
+    ensures wrote { (before : PledgeValue) → before.agreement ≡ pledge.now.agreement
+        → (pledge.now.standing.booking ≡ None → before.standing.booking ≡ None)
+        → RenewSides (state S.Store tx.old.conn.now)
+        (state S.Store tx.new.conn.now) result book number before pledge.now }
+    ensures lent { IsLent (state S.Store tx.old.conn.now) (state S.Store tx.new.conn.now)
+        (is_ok result) }
 {
     set_row(tx, book, number, pledge)?;
     set_totals(tx, book, number, &pledge.totals())?;
@@ -55,8 +61,10 @@ fn set_sides<S: Alter>(
 
 /// How many rows that are counted a pledge has more than before. It keeps a booking that it had.
 fn rows_added(stored: Stored, pledge: &Pledge) -> Result<u32, KeepError>
-    ensures value { IfOk result (λ added. (before : PledgeValue) → IsStored stored (Some before) → pledge_rows pledge.now ≡ pledge_rows before + added) }
-    ensures booked { IfOk result (λ added. (before : PledgeValue) → IsStored stored (Some before) → pledge.now.standing.booking ≡ None → before.standing.booking ≡ None) }
+    ensures value { IfOk result (λ added. (before : PledgeValue) → IsStored stored (Some before)
+        → pledge_rows pledge.now ≡ pledge_rows before + added) }
+    ensures booked { IfOk result (λ added. (before : PledgeValue) → IsStored stored (Some before)
+        → pledge.now.standing.booking ≡ None → before.standing.booking ≡ None) }
 {
     if stored.is_booked && pledge.standing().booking.is_none() {
         return Err(REFUSED);
@@ -79,8 +87,11 @@ pub(crate) fn renew_pledge<S: Alter>(
 ) -> Result<u32, KeepError>
     ensures same_reference { tx.new.conn.ghost_name ≡ tx.old.conn.ghost_name }
     ensures wrote { (before : PledgeValue) → IsStored stored (Some before)
-        → WritesWhere (state S.Store tx.old.conn.now) (state S.Store tx.new.conn.now) (λ h. pledge_in (get h.books book) number ≡ Some before) (PutPledge book number pledge.now) result }
-    ensures lent { IsLent (state S.Store tx.old.conn.now) (state S.Store tx.new.conn.now) (is_ok result) }
+        → WritesWhere (state S.Store tx.old.conn.now) (state S.Store tx.new.conn.now)
+        (λ h. pledge_in (get h.books book) number ≡ Some before)
+        (PutPledge book number pledge.now) result }
+    ensures lent { IsLent (state S.Store tx.old.conn.now) (state S.Store tx.new.conn.now)
+        (is_ok result) }
 {
     let added = rows_added(stored, pledge)?;
     set_sides(tx, book.get(), number.get(), pledge)?;

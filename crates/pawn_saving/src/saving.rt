@@ -27,8 +27,10 @@ fn unsaved(error: KeepError) -> SaveError
 // Writes a change, and tells how many rows that are counted it adds.
 fn write_rows<S: Alter>(tx: &mut Transaction<'_, S>, change: &Change) -> Result<u32, KeepError>
     ensures same_reference { tx.new.conn.ghost_name ≡ tx.old.conn.ghost_name }
-    ensures wrote { WritesRows (state S.Store tx.old.conn.now) (state S.Store tx.new.conn.now) change.now result }
-    ensures lent { IsLent (state S.Store tx.old.conn.now) (state S.Store tx.new.conn.now) (is_ok result) }
+    ensures wrote { WritesRows (state S.Store tx.old.conn.now)
+        (state S.Store tx.new.conn.now) change.now result }
+    ensures lent { IsLent (state S.Store tx.old.conn.now) (state S.Store tx.new.conn.now)
+        (is_ok result) }
 {
     match change {
         Change::MakeBook { book, new_book } => make_book(tx, *book, new_book),
@@ -53,8 +55,10 @@ pub(crate) fn write_change<S: Alter>(
     change: &Change,
 ) -> Result<(), SaveError>
     ensures same_reference { tx.new.conn.ghost_name ≡ tx.old.conn.ghost_name }
-    ensures wrote { WritesChange (state S.Store tx.old.conn.now) (state S.Store tx.new.conn.now) change.now result }
-    ensures lent { IsLent (state S.Store tx.old.conn.now) (state S.Store tx.new.conn.now) (is_ok result) }
+    ensures wrote { WritesChange (state S.Store tx.old.conn.now)
+        (state S.Store tx.new.conn.now) change.now result }
+    ensures lent { IsLent (state S.Store tx.old.conn.now) (state S.Store tx.new.conn.now)
+        (is_ok result) }
 {
     let added = match write_rows(tx, change) {
         Ok(added) => added,
@@ -69,7 +73,8 @@ pub(crate) fn write_change<S: Alter>(
 
 /// Makes a change, in one transaction, unless the rows would be above the limit.
 pub fn save<S: Alter>(conn: &mut Connection<S>, change: &Change) -> Result<(), SaveError>
-    requires can_save { (keeping_by (λ c. state S.Store c)).serves conn.old → Of (keeping_by (λ c. state S.Store c)) conn.old conn.old (λ h. CanSave h change.now) }
+    requires can_save { (keeping_by (λ c. state S.Store c)).serves conn.old → Of
+        (keeping_by (λ c. state S.Store c)) conn.old conn.old (λ h. CanSave h change.now) }
     ensures ended { conn.old.in_transaction ≡ false → conn.new.in_transaction ≡ false }
     ensures saves { Saves (keeping_by (λ c. state S.Store c)) conn.old conn.new change.now result }
 {

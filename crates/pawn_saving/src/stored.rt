@@ -36,8 +36,11 @@ fn stands_at<S: Alter>(
     place: u32,
 ) -> Result<bool, KeepError>
     ensures same_reference { tx.new.conn.ghost_name ≡ tx.old.conn.ghost_name }
-    ensures reads { ReadsIn (state S.Store tx.old.conn.now) (state S.Store tx.new.conn.now) result (λ h stands. 1 ≤ place → (IsTrue stands ↔ place ≤ length_in list (pledge_in (get h.books book) number))) }
-    ensures lent { IsLent (state S.Store tx.old.conn.now) (state S.Store tx.new.conn.now) (is_ok result) }
+    ensures reads { ReadsIn (state S.Store tx.old.conn.now) (state S.Store tx.new.conn.now) result
+        (λ h stands. 1 ≤ place
+        → (IsTrue stands ↔ place ≤ length_in list (pledge_in (get h.books book) number))) }
+    ensures lent { IsLent (state S.Store tx.old.conn.now) (state S.Store tx.new.conn.now)
+        (is_ok result) }
 {
     match list {
         PledgeList::Entries => Ok(entry_in(tx, book, number, place)?.is_some()),
@@ -55,8 +58,11 @@ fn length_within<S: Alter>(
     most: u32,
 ) -> Result<u32, KeepError>
     ensures same_reference { tx.new.conn.ghost_name ≡ tx.old.conn.ghost_name }
-    ensures reads { ReadsIn (state S.Store tx.old.conn.now) (state S.Store tx.new.conn.now) result (λ h length. length_in list (pledge_in (get h.books book) number) ≤ most → length ≡ length_in list (pledge_in (get h.books book) number)) }
-    ensures carried { IsCarried (state S.Store tx.old.conn.now) (state S.Store tx.new.conn.now) (is_ok result) }
+    ensures reads { ReadsIn (state S.Store tx.old.conn.now) (state S.Store tx.new.conn.now) result
+        (λ h length. length_in list (pledge_in (get h.books book) number) ≤ most
+        → length ≡ length_in list (pledge_in (get h.books book) number)) }
+    ensures carried { IsCarried (state S.Store tx.old.conn.now) (state S.Store tx.new.conn.now)
+        (is_ok result) }
 {
     let mut length = most;
     while length > 0 {
@@ -77,8 +83,11 @@ fn lengths_within<S: Alter>(
     most: Lengths,
 ) -> Result<Lengths, KeepError>
     ensures same_reference { tx.new.conn.ghost_name ≡ tx.old.conn.ghost_name }
-    ensures reads { ReadsIn (state S.Store tx.old.conn.now) (state S.Store tx.new.conn.now) result (λ h lengths. IsWithin (pledge_in (get h.books book) number) most → AreLengths lengths (pledge_in (get h.books book) number)) }
-    ensures carried { IsCarried (state S.Store tx.old.conn.now) (state S.Store tx.new.conn.now) (is_ok result) }
+    ensures reads { ReadsIn (state S.Store tx.old.conn.now) (state S.Store tx.new.conn.now) result
+        (λ h lengths. IsWithin (pledge_in (get h.books book) number) most → AreLengths lengths
+        (pledge_in (get h.books book) number)) }
+    ensures carried { IsCarried (state S.Store tx.old.conn.now) (state S.Store tx.new.conn.now)
+        (is_ok result) }
 {
     let entries = length_within(tx, PledgeList::Entries, book, number, most.entries)?;
     let secrets = length_within(tx, PledgeList::Secrets, book, number, most.secrets)?;
@@ -99,8 +108,11 @@ pub(crate) fn stored_within<S: Alter>(
     most: Lengths,
 ) -> Result<Stored, KeepError>
     ensures same_reference { tx.new.conn.ghost_name ≡ tx.old.conn.ghost_name }
-    ensures reads { ReadsIn (state S.Store tx.old.conn.now) (state S.Store tx.new.conn.now) result (λ h stored. IsWithin (pledge_in (get h.books book) number) most → IsStored stored (pledge_in (get h.books book) number)) }
-    ensures lent { IsLent (state S.Store tx.old.conn.now) (state S.Store tx.new.conn.now) (is_ok result) }
+    ensures reads { ReadsIn (state S.Store tx.old.conn.now) (state S.Store tx.new.conn.now) result
+        (λ h stored. IsWithin (pledge_in (get h.books book) number) most → IsStored stored
+        (pledge_in (get h.books book) number)) }
+    ensures lent { IsLent (state S.Store tx.old.conn.now) (state S.Store tx.new.conn.now)
+        (is_ok result) }
 {
     let is_booked = booking_in(tx, book, number)?.is_some();
     let lengths = lengths_within(tx, book, number, most)?;

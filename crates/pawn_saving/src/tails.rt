@@ -18,8 +18,11 @@ pub(crate) fn put_entries<S: Alter>(
     entries: &[Entry],
 ) -> Result<(), KeepError>
     ensures same_reference { tx.new.conn.ghost_name ≡ tx.old.conn.ghost_name }
-    ensures wrote { AllJoin (state S.Store tx.old.conn.now) (state S.Store tx.new.conn.now) result entries_tree (map (λ e. under book number (entry_cells e)) entries.now) }
-    ensures carried { IsCarried (state S.Store tx.old.conn.now) (state S.Store tx.new.conn.now) (is_ok result) }
+    ensures wrote { AllJoin (state S.Store tx.old.conn.now)
+        (state S.Store tx.new.conn.now) result entries_tree
+        (map (λ e. under book number (entry_cells e)) entries.now) }
+    ensures carried { IsCarried (state S.Store tx.old.conn.now) (state S.Store tx.new.conn.now)
+        (is_ok result) }
 {
     for entry in entries {
         put_entry(tx, book, number, entry)?;
@@ -46,8 +49,11 @@ pub(crate) fn put_secrets<S: Alter>(
     secrets: &[Issued],
 ) -> Result<(), KeepError>
     ensures same_reference { tx.new.conn.ghost_name ≡ tx.old.conn.ghost_name }
-    ensures wrote { AllJoin (state S.Store tx.old.conn.now) (state S.Store tx.new.conn.now) result secrets_tree (placed_from (λ place i. under book number (secret_cells place i)) from secrets.now) }
-    ensures carried { IsCarried (state S.Store tx.old.conn.now) (state S.Store tx.new.conn.now) (is_ok result) }
+    ensures wrote { AllJoin (state S.Store tx.old.conn.now)
+        (state S.Store tx.new.conn.now) result secrets_tree
+        (placed_from (λ place i. under book number (secret_cells place i)) from secrets.now) }
+    ensures carried { IsCarried (state S.Store tx.old.conn.now) (state S.Store tx.new.conn.now)
+        (is_ok result) }
 {
     let mut place = from;
     for issued in secrets {
@@ -66,8 +72,11 @@ pub(crate) fn put_extensions<S: Alter>(
     extensions: &[Extension],
 ) -> Result<(), KeepError>
     ensures same_reference { tx.new.conn.ghost_name ≡ tx.old.conn.ghost_name }
-    ensures wrote { AllJoin (state S.Store tx.old.conn.now) (state S.Store tx.new.conn.now) result extensions_tree (placed_from (λ place e. under book number (extension_cells place e)) from extensions.now) }
-    ensures carried { IsCarried (state S.Store tx.old.conn.now) (state S.Store tx.new.conn.now) (is_ok result) }
+    ensures wrote { AllJoin (state S.Store tx.old.conn.now)
+        (state S.Store tx.new.conn.now) result extensions_tree
+        (placed_from (λ place e. under book number (extension_cells place e)) from extensions.now) }
+    ensures carried { IsCarried (state S.Store tx.old.conn.now) (state S.Store tx.new.conn.now)
+        (is_ok result) }
 {
     let mut place = from;
     for extension in extensions {
@@ -84,8 +93,11 @@ pub(crate) fn put_versions<S: Alter>(
     terms: &[Rates],
 ) -> Result<(), KeepError>
     ensures same_reference { tx.new.conn.ghost_name ≡ tx.old.conn.ghost_name }
-    ensures wrote { AllJoin (state S.Store tx.old.conn.now) (state S.Store tx.new.conn.now) result terms_tree (placed_from (λ version t. number book ∷ number version ∷ terms_cells t) 1 terms.now) }
-    ensures carried { IsCarried (state S.Store tx.old.conn.now) (state S.Store tx.new.conn.now) (is_ok result) }
+    ensures wrote { AllJoin (state S.Store tx.old.conn.now)
+        (state S.Store tx.new.conn.now) result terms_tree
+        (placed_from (λ version t. number book ∷ number version ∷ terms_cells t) 1 terms.now) }
+    ensures carried { IsCarried (state S.Store tx.old.conn.now) (state S.Store tx.new.conn.now)
+        (is_ok result) }
 {
     let mut version = 1;
     for rates in terms {

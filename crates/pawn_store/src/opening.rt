@@ -53,11 +53,17 @@ pub fn keep_at_path<S: Start>(
 ) -> Result<TableKeep<FileStore<FileFrom<S>>>, (OpenFault, Option<Leftover<FileFrom<S>>>)>
     requires least { 1 ≤ limit }
     requires most { limit ≤ most_rows }
-    ensures blank { IfOk result (λ keep. HasCleanDisk (file_state keep.conn) → IsBlank (image_at S.Start) → OpensAs (file_state keep.conn) (empty_host limit)) }
-    ensures stands { IfOk result (λ keep. HasCleanDisk (file_state keep.conn) → (h : Host) → StandsIn (image_at S.Start) h → OpensAs (file_state keep.conn) h) }
-    ensures reopens { IfOk result (λ keep. HasCleanDisk (file_state keep.conn) → Reopens (image_at S.Start) (file_state keep.conn)) }
+    ensures blank { IfOk result (λ keep. HasCleanDisk (file_state keep.conn) → IsBlank
+        (image_at S.Start) → OpensAs (file_state keep.conn) (empty_host limit)) }
+    ensures stands { IfOk result (λ keep. HasCleanDisk (file_state keep.conn) → (h : Host)
+        → StandsIn (image_at S.Start) h → OpensAs (file_state keep.conn) h) }
+    ensures reopens { IfOk result (λ keep. HasCleanDisk (file_state keep.conn) → Reopens
+        (image_at S.Start) (file_state keep.conn)) }
     ensures unopened { IfErr result (λ e. e.1 ≡ None → IsStoreFault e.0) }
-    ensures refuses { IfErr result (λ e. IfSome e.1 (λ rest. (files : _) × IsFresh true files.log × IsFresh false files.db × (IsCleanLeft rest → RefusesHeld (image_at S.Start) files limit e.0 rest))) }
+    ensures refuses { IfErr result
+        (λ e. IfSome e.1
+        (λ rest. (files : _) × IsFresh true files.log × IsFresh false files.db
+        × (IsCleanLeft rest → RefusesHeld (image_at S.Start) files limit e.0 rest))) }
 {
     let conn = match open_path(rt, path, start, limit) {
         Ok(conn) => conn,
@@ -73,8 +79,10 @@ pub fn keep_at_path<S: Start>(
 pub fn close_keep<D: Disk + Drop>(
     keep: TableKeep<FileStore<D>>,
 ) -> Result<Files<D>, (OpenFault, FileStore<D>)>
-    ensures usable { IfOk result (λ files. IsTrue (D.Disk.is_usable files.log) × IsTrue (D.Disk.is_usable files.db)) }
-    ensures kept { IfOk result (λ files. AreClean D.Disk files.log files.db → (h : Host) → Keeps (file_state keep.conn) h → AreClosedFor D.Disk files h) }
+    ensures usable { IfOk result (λ files. IsTrue (D.Disk.is_usable files.log) × IsTrue
+        (D.Disk.is_usable files.db)) }
+    ensures kept { IfOk result (λ files. AreClean D.Disk files.log files.db → (h : Host) → Keeps
+        (file_state keep.conn) h → AreClosedFor D.Disk files h) }
     ensures refuses { IfErr result (λ e. IsLeftUnclosed keep.conn e.0 e.1) }
 {
     match close_files(keep.into_connection()) {

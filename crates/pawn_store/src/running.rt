@@ -24,7 +24,8 @@ pub fn run_over_tables<S: Alter>(
     service: &mut Service<TableKeep<S>>,
     items: &[(Stamp, Vec<u8>)],
 ) -> Result<Vec<Answer>, AllocError>
-    ensures headline { IfOk result (λ answers. OverTables (store_of S.Store service.old) (store_of S.Store service.new) (service_operator service.old)
+    ensures headline { IfOk result (λ answers. OverTables (store_of S.Store service.old)
+        (store_of S.Store service.new) (service_operator service.old)
         (RunsItems (map (λ p. (p.0, p.1.items)) items.now) (map answer_bytes answers.items))) }
     ensures operator { service_operator service.new ≡ service_operator service.old }
     ensures err { OnErr result (service.new ≡ service.old) }
@@ -43,8 +44,11 @@ pub fn answer_over_tables<S: Alter, R: Read, W: Write, I: Iterator<Item = Stamp>
     requires fresh { reads reader.old ≡ 0 }
     requires fine { write_failed writer.old ≡ false }
     requires can { I.can_next stamps.old }
-    ensures session { OverTables (store_of S.Store service.old) (store_of S.Store service.new) (service_operator service.old)
-        (HoldsSession I.next_gives stamps.old (left_of R.remaining reader.old) (written_bytes W.contents writer.old) stamps.new (written_bytes W.contents writer.new) result) }
+    ensures session { OverTables (store_of S.Store service.old) (store_of S.Store service.new)
+        (service_operator service.old)
+        (HoldsSession I.next_gives stamps.old (left_of R.remaining reader.old)
+        (written_bytes W.contents writer.old) stamps.new
+        (written_bytes W.contents writer.new) result) }
     ensures operator { service_operator service.new ≡ service_operator service.old }
 {
     service.answer_all(reader, writer, stamps)
@@ -66,10 +70,12 @@ pub fn serve_over_tables<S: Alter, C: Clock>(
     stamps: &mut ClockStamps<'_, C>,
     connections: u32,
 ) -> ServedTables
-    ensures served { OverTables (store_of S.Store service.old) (store_of S.Store service.new) (service_operator service.old)
+    ensures served { OverTables (store_of S.Store service.old) (store_of S.Store service.new)
+        (service_operator service.old)
         (ServesConnections GivesDated stamps.old stamps.new result.served.answered) }
     ensures most { result.served.answered + result.served.failed ≤ connections }
-    ensures counted { result.is_shut ≡ false → result.served.answered + result.served.failed ≡ connections }
+    ensures counted { result.is_shut ≡ false
+        → result.served.answered + result.served.failed ≡ connections }
     ensures shut { IsTrue result.is_shut → (store_of S.Store service.new).is_open ≡ false }
     ensures operator { service_operator service.new ≡ service_operator service.old }
 {

@@ -23,8 +23,11 @@ pub fn head_in<S: Alter>(
     book: u32,
 ) -> Result<Option<BookHead>, KeepError>
     ensures same_reference { tx.new.conn.ghost_name ≡ tx.old.conn.ghost_name }
-    ensures finds { FindsIn (IsUnsoundAt book) (state S.Store tx.old.conn.now) (state S.Store tx.new.conn.now) result (λ h head. head ≡ option_map book_head (get h.books book)) }
-    ensures lent { IsLent (state S.Store tx.old.conn.now) (state S.Store tx.new.conn.now) (is_ok result) }
+    ensures finds { FindsIn (IsUnsoundAt book) (state S.Store tx.old.conn.now)
+        (state S.Store tx.new.conn.now) result
+        (λ h head. head ≡ option_map book_head (get h.books book)) }
+    ensures lent { IsLent (state S.Store tx.old.conn.now) (state S.Store tx.new.conn.now)
+        (is_ok result) }
 {
     let rows = rows_of(
         tx,
@@ -41,8 +44,11 @@ pub fn ref_in<S: Alter>(
     reference: &str,
 ) -> Result<Option<Number>, KeepError>
     ensures same_reference { tx.new.conn.ghost_name ≡ tx.old.conn.ghost_name }
-    ensures finds { FindsIn (IsUnsoundAt book) (state S.Store tx.old.conn.now) (state S.Store tx.new.conn.now) result (λ h number. number ≡ number_of (get h.books book) reference.now) }
-    ensures lent { IsLent (state S.Store tx.old.conn.now) (state S.Store tx.new.conn.now) (is_ok result) }
+    ensures finds { FindsIn (IsUnsoundAt book) (state S.Store tx.old.conn.now)
+        (state S.Store tx.new.conn.now) result
+        (λ h number. number ≡ number_of (get h.books book) reference.now) }
+    ensures lent { IsLent (state S.Store tx.old.conn.now) (state S.Store tx.new.conn.now)
+        (is_ok result) }
 {
     let rows = rows_of(
         tx,
@@ -61,8 +67,11 @@ pub fn confirmed_in<S: Alter>(
     window: u64,
 ) -> Result<u64, KeepError>
     ensures same_reference { tx.new.conn.ghost_name ≡ tx.old.conn.ghost_name }
-    ensures finds { FindsIn (IsUnsoundAt book) (state S.Store tx.old.conn.now) (state S.Store tx.new.conn.now) result (λ h count. count ≡ confirmed_count (pledges_of (get h.books book)) day window) }
-    ensures lent { IsLent (state S.Store tx.old.conn.now) (state S.Store tx.new.conn.now) (is_ok result) }
+    ensures finds { FindsIn (IsUnsoundAt book) (state S.Store tx.old.conn.now)
+        (state S.Store tx.new.conn.now) result
+        (λ h count. count ≡ confirmed_count (pledges_of (get h.books book)) day window) }
+    ensures lent { IsLent (state S.Store tx.old.conn.now) (state S.Store tx.new.conn.now)
+        (is_ok result) }
 {
     let Ok(slot) = u32::try_from(window) else {
         return Err(KeepError::Store(StoreFault::Database));
@@ -82,9 +91,12 @@ pub fn next_in<S: Alter>(
     above: u32,
 ) -> Result<Option<Number>, KeepError>
     ensures same_reference { tx.new.conn.ghost_name ≡ tx.old.conn.ghost_name }
-    ensures finds { FindsIn HasUnsoundBook (state S.Store tx.old.conn.now) (state S.Store tx.new.conn.now) result (λ h next. IsNextBook h above next) }
-    ensures told { FindsOf ListDebts HasUnsoundBook (state S.Store tx.old.conn.now) (state S.Store tx.new.conn.now) result (λ h next. IsNextBook h above next) }
-    ensures lent { IsLent (state S.Store tx.old.conn.now) (state S.Store tx.new.conn.now) (is_ok result) }
+    ensures finds { FindsIn HasUnsoundBook (state S.Store tx.old.conn.now)
+        (state S.Store tx.new.conn.now) result (λ h next. IsNextBook h above next) }
+    ensures told { FindsOf ListDebts HasUnsoundBook (state S.Store tx.old.conn.now)
+        (state S.Store tx.new.conn.now) result (λ h next. IsNextBook h above next) }
+    ensures lent { IsLent (state S.Store tx.old.conn.now) (state S.Store tx.new.conn.now)
+        (is_ok result) }
 {
     let rows = rows_of(
         tx,
@@ -97,8 +109,10 @@ pub fn next_in<S: Alter>(
 /// The rows of all books that are counted.
 pub fn rows_in<S: Alter>(tx: &mut Transaction<'_, S>) -> Result<u64, KeepError>
     ensures same_reference { tx.new.conn.ghost_name ≡ tx.old.conn.ghost_name }
-    ensures finds { FindsIn HasUnsoundBook (state S.Store tx.old.conn.now) (state S.Store tx.new.conn.now) result (λ h count. count ≡ rows h) }
-    ensures lent { IsLent (state S.Store tx.old.conn.now) (state S.Store tx.new.conn.now) (is_ok result) }
+    ensures finds { FindsIn HasUnsoundBook (state S.Store tx.old.conn.now)
+        (state S.Store tx.new.conn.now) result (λ h count. count ≡ rows h) }
+    ensures lent { IsLent (state S.Store tx.old.conn.now) (state S.Store tx.new.conn.now)
+        (is_ok result) }
 {
     let rows = rows_of(tx, "SELECT value FROM meta WHERE name = 'rows'", &[])?;
     only_number(&rows)

@@ -38,7 +38,8 @@ fn named_day(number: u64) -> Result<RequestDay, KeepError>
 
 // What a row tells of its pledge's debt.
 fn credit_of(row: &Row) -> Result<Credit, KeepError>
-    ensures read { (p : PledgeValue) → row.now ≡ credit_cells p → IsRead result (credit_told p) (IsCreditTold p) }
+    ensures read { (p : PledgeValue) → row.now ≡ credit_cells p → IsRead result (credit_told p)
+        (IsCreditTold p) }
 {
     let number = number_at(row, 0)?;
     let credit = number_at(row, 1)?;
@@ -57,7 +58,8 @@ fn credit_of(row: &Row) -> Result<Credit, KeepError>
 
 // What the first row tells of its pledge's debt, if there is a row.
 fn first_credit(rows: &[Row]) -> Result<Option<Credit>, KeepError>
-    ensures read { (p : Option PledgeValue) → rows.now ≡ at_most_one credit_cells p → IsRead result (option_map credit_told p) (IfSome p IsCreditTold) }
+    ensures read { (p : Option PledgeValue) → rows.now ≡ at_most_one credit_cells p → IsRead result
+        (option_map credit_told p) (IfSome p IsCreditTold) }
 {
     let [row, ..] = rows else {
         return Ok(None);
@@ -72,8 +74,11 @@ pub fn credit_in<S: Alter>(
     number: u32,
 ) -> Result<Option<Credit>, KeepError>
     ensures same_reference { tx.new.conn.ghost_name ≡ tx.old.conn.ghost_name }
-    ensures finds { FindsOf ListDebts (IsUnsoundAt book) (state S.Store tx.old.conn.now) (state S.Store tx.new.conn.now) result (λ h x. x ≡ option_map credit_told (pledge_in (get h.books book) number)) }
-    ensures lent { IsLent (state S.Store tx.old.conn.now) (state S.Store tx.new.conn.now) (is_ok result) }
+    ensures finds { FindsOf ListDebts (IsUnsoundAt book) (state S.Store tx.old.conn.now)
+        (state S.Store tx.new.conn.now) result
+        (λ h x. x ≡ option_map credit_told (pledge_in (get h.books book) number)) }
+    ensures lent { IsLent (state S.Store tx.old.conn.now) (state S.Store tx.new.conn.now)
+        (is_ok result) }
 {
     let rows = rows_of(
         tx,

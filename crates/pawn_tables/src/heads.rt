@@ -14,7 +14,8 @@ use std::alloc::Global;
 
 // The import that filled a book, by its key and the number of its pledges.
 fn imported_of(key: Option<Secret>, pledges: Option<u64>) -> Result<Option<Imported>, KeepError>
-    ensures read { (i : Option Imported) → key ≡ import_key i → pledges ≡ import_count i → IsRead result i ⊤ }
+    ensures read { (i : Option Imported) → key ≡ import_key i → pledges ≡ import_count i
+        → IsRead result i ⊤ }
 {
     match (key, pledges) {
         (Some(key), Some(pledges)) => Ok(Some(Imported { key, pledges })),
@@ -35,7 +36,8 @@ fn capacity_of(number: u64) -> Result<Capacity, KeepError>
 
 // What the row of a book tells.
 fn head_of(alloc: Global, row: &Row) -> Result<BookHead, KeepError>
-    ensures read { (k : BookValue) → HasKeys k → row.now ≡ head_cells k → IsRead result (book_head k) (IsHeadTold k) }
+    ensures read { (k : BookValue) → HasKeys k → row.now ≡ head_cells k → IsRead result
+        (book_head k) (IsHeadTold k) }
 {
     let key = word_at(row, 0)?;
     let name = text_at(alloc, row, 1)?;
@@ -55,7 +57,8 @@ fn head_of(alloc: Global, row: &Row) -> Result<BookHead, KeepError>
 
 /// What the first row tells of its book, if there is a row.
 pub(crate) fn first_head(alloc: Global, rows: &[Row]) -> Result<Option<BookHead>, KeepError>
-    ensures read { (k : Option BookValue) → IfSome k HasKeys → rows.now ≡ at_most_one head_cells k → IsRead result (option_map book_head k) (IfSome k IsHeadTold) }
+    ensures read { (k : Option BookValue) → IfSome k HasKeys → rows.now ≡ at_most_one head_cells k
+        → IsRead result (option_map book_head k) (IfSome k IsHeadTold) }
 {
     let [row, ..] = rows else {
         return Ok(None);
@@ -75,7 +78,8 @@ pub(crate) fn number_of(number: u64) -> Result<Number, KeepError>
 
 /// The number of a book or a pledge in the first row, if there is a row.
 pub(crate) fn first_number(rows: &[Row]) -> Result<Option<Number>, KeepError>
-    ensures read { (n : Option ℕ) → rows.now ≡ at_most_one number_cells n → IsRead result n (IfSome n IsNumber) }
+    ensures read { (n : Option ℕ) → rows.now ≡ at_most_one number_cells n → IsRead result n
+        (IfSome n IsNumber) }
 {
     let [row, ..] = rows else {
         return Ok(None);

@@ -22,8 +22,11 @@ pub fn entry_in<S: Alter>(
     seq: u32,
 ) -> Result<Option<Entry>, KeepError>
     ensures same_reference { tx.new.conn.ghost_name ≡ tx.old.conn.ghost_name }
-    ensures finds { FindsIn (IsUnsoundAt book) (state S.Store tx.old.conn.now) (state S.Store tx.new.conn.now) result (λ h x. x ≡ with_seq (entries_of (pledge_in (get h.books book) number)) seq) }
-    ensures lent { IsLent (state S.Store tx.old.conn.now) (state S.Store tx.new.conn.now) (is_ok result) }
+    ensures finds { FindsIn (IsUnsoundAt book) (state S.Store tx.old.conn.now)
+        (state S.Store tx.new.conn.now) result
+        (λ h x. x ≡ with_seq (entries_of (pledge_in (get h.books book) number)) seq) }
+    ensures lent { IsLent (state S.Store tx.old.conn.now) (state S.Store tx.new.conn.now)
+        (is_ok result) }
 {
     let rows = rows_of(
         tx,
@@ -41,8 +44,11 @@ pub fn secret_in<S: Alter>(
     place: u32,
 ) -> Result<Option<Issued>, KeepError>
     ensures same_reference { tx.new.conn.ghost_name ≡ tx.old.conn.ghost_name }
-    ensures finds { FindsIn (IsUnsoundAt book) (state S.Store tx.old.conn.now) (state S.Store tx.new.conn.now) result (λ h x. x ≡ at_place (secrets_of (pledge_in (get h.books book) number)) place) }
-    ensures lent { IsLent (state S.Store tx.old.conn.now) (state S.Store tx.new.conn.now) (is_ok result) }
+    ensures finds { FindsIn (IsUnsoundAt book) (state S.Store tx.old.conn.now)
+        (state S.Store tx.new.conn.now) result
+        (λ h x. x ≡ at_place (secrets_of (pledge_in (get h.books book) number)) place) }
+    ensures lent { IsLent (state S.Store tx.old.conn.now) (state S.Store tx.new.conn.now)
+        (is_ok result) }
 {
     let rows = rows_of(
         tx,
@@ -60,8 +66,11 @@ pub fn extension_in<S: Alter>(
     place: u32,
 ) -> Result<Option<Extension>, KeepError>
     ensures same_reference { tx.new.conn.ghost_name ≡ tx.old.conn.ghost_name }
-    ensures finds { FindsIn (IsUnsoundAt book) (state S.Store tx.old.conn.now) (state S.Store tx.new.conn.now) result (λ h x. x ≡ at_place (extensions_of (pledge_in (get h.books book) number)) place) }
-    ensures lent { IsLent (state S.Store tx.old.conn.now) (state S.Store tx.new.conn.now) (is_ok result) }
+    ensures finds { FindsIn (IsUnsoundAt book) (state S.Store tx.old.conn.now)
+        (state S.Store tx.new.conn.now) result
+        (λ h x. x ≡ at_place (extensions_of (pledge_in (get h.books book) number)) place) }
+    ensures lent { IsLent (state S.Store tx.old.conn.now) (state S.Store tx.new.conn.now)
+        (is_ok result) }
 {
     let rows = rows_of(
         tx,

@@ -55,7 +55,8 @@ pub(crate) fn closing_of(
     day: Option<Day>,
     amount: Option<u64>,
 ) -> Result<Closing, KeepError>
-    ensures read { (c : Closing) → closed ≡ closed_number c → day ≡ closed_day c → amount ≡ closed_amount c → IsRead result c ⊤ }
+    ensures read { (c : Closing) → closed ≡ closed_number c → day ≡ closed_day c
+        → amount ≡ closed_amount c → IsRead result c ⊤ }
 {
     match (closed, day, amount) {
         (0, None, None) => Ok(Closing::Open),
@@ -116,7 +117,8 @@ fn terms_of(row: &Row) -> Result<Terms, KeepError>
 
 /// The booking of the first row, if there is a row.
 pub(crate) fn first_booking(rows: &[Row]) -> Result<Option<Booking>, KeepError>
-    ensures read { (k : Option Booking) → rows.now ≡ at_most_one booking_cells k → IsRead result k (IfSome k (λ b. IsDayNumber b.day)) }
+    ensures read { (k : Option Booking) → rows.now ≡ at_most_one booking_cells k → IsRead result k
+        (IfSome k (λ b. IsDayNumber b.day)) }
 {
     let [row, ..] = rows else {
         return Ok(None);
@@ -126,7 +128,8 @@ pub(crate) fn first_booking(rows: &[Row]) -> Result<Option<Booking>, KeepError>
 
 /// The totals of the first row, if there is a row.
 pub(crate) fn first_totals(rows: &[Row]) -> Result<Option<Totals>, KeepError>
-    ensures read { (t : Option Totals) → rows.now ≡ at_most_one totals_cells t → IsRead result t (IfSome t (λ u. IsDayNumber u.day)) }
+    ensures read { (t : Option Totals) → rows.now ≡ at_most_one totals_cells t → IsRead result t
+        (IfSome t (λ u. IsDayNumber u.day)) }
 {
     let [row, ..] = rows else {
         return Ok(None);
@@ -136,7 +139,8 @@ pub(crate) fn first_totals(rows: &[Row]) -> Result<Option<Totals>, KeepError>
 
 /// The terms of the first row, if there is a row.
 pub(crate) fn first_terms(rows: &[Row]) -> Result<Option<Terms>, KeepError>
-    ensures read { (t : Option Rates) → rows.now ≡ at_most_one terms_cells t → IsRead result t (IfSome t IsChecked) }
+    ensures read { (t : Option Rates) → rows.now ≡ at_most_one terms_cells t → IsRead result t
+        (IfSome t IsChecked) }
 {
     let [row, ..] = rows else {
         return Ok(None);

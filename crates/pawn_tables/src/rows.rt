@@ -13,7 +13,8 @@ use std::alloc::Global;
 
 // What was agreed on the pledge of a row.
 fn opening_at(alloc: Global, row: &Row) -> Result<Opening, KeepError>
-    ensures read { (p : PledgeValue) → row.now ≡ pledge_cells p → IsRead result p.agreement.opening (IsTold p.agreement.opening) }
+    ensures read { (p : PledgeValue) → row.now ≡ pledge_cells p → IsRead result p.agreement.opening
+        (IsTold p.agreement.opening) }
 {
     let reference = text_at(alloc, row, 0)?;
     let article = text_at(alloc, row, 1)?;
@@ -33,7 +34,8 @@ fn opening_at(alloc: Global, row: &Row) -> Result<Opening, KeepError>
 
 // The closing of the pledge of a row.
 fn closing_at(row: &Row) -> Result<Closing, KeepError>
-    ensures read { (p : PledgeValue) → row.now ≡ pledge_cells p → IsRead result p.standing.closing (IfSome (closed_day p.standing.closing) IsDayNumber) }
+    ensures read { (p : PledgeValue) → row.now ≡ pledge_cells p → IsRead result p.standing.closing
+        (IfSome (closed_day p.standing.closing) IsDayNumber) }
 {
     let closed = number_at(row, 11)?;
     let day = optional_day(optional_at(row, 12)?)?;
@@ -43,7 +45,8 @@ fn closing_at(row: &Row) -> Result<Closing, KeepError>
 
 // What the row of a pledge tells.
 fn pledge_row(alloc: Global, row: &Row) -> Result<PledgeRow, KeepError>
-    ensures read { (p : PledgeValue) → row.now ≡ pledge_cells p → IsRead result (row_of p) (IsRowTold p) }
+    ensures read { (p : PledgeValue) → row.now ≡ pledge_cells p → IsRead result (row_of p)
+        (IsRowTold p) }
 {
     let opening = opening_at(alloc, row)?;
     let taken = day_at(row, 4)?;
@@ -65,7 +68,8 @@ fn pledge_row(alloc: Global, row: &Row) -> Result<PledgeRow, KeepError>
 
 /// What the first row tells of its pledge, if there is a row.
 pub(crate) fn first_pledge(alloc: Global, rows: &[Row]) -> Result<Option<PledgeRow>, KeepError>
-    ensures read { (p : Option PledgeValue) → rows.now ≡ at_most_one pledge_cells p → IsRead result (option_map row_of p) (IfSome p IsRowTold) }
+    ensures read { (p : Option PledgeValue) → rows.now ≡ at_most_one pledge_cells p → IsRead result
+        (option_map row_of p) (IfSome p IsRowTold) }
 {
     let [row, ..] = rows else {
         return Ok(None);

@@ -22,8 +22,11 @@ use std::alloc::Global;
 // How many bookings are asked for a day.
 fn asked_in<S: Alter>(tx: &mut Transaction<'_, S>, book: u32, day: Day) -> Result<u64, KeepError>
     ensures same_reference { tx.new.conn.ghost_name ≡ tx.old.conn.ghost_name }
-    ensures finds { FindsIn (IsUnsoundAt book) (state S.Store tx.old.conn.now) (state S.Store tx.new.conn.now) result (λ h count. count ≡ length (part_items part_of.Asked day (pledges_of (get h.books book)))) }
-    ensures lent { IsLent (state S.Store tx.old.conn.now) (state S.Store tx.new.conn.now) (is_ok result) }
+    ensures finds { FindsIn (IsUnsoundAt book) (state S.Store tx.old.conn.now)
+        (state S.Store tx.new.conn.now) result
+        (λ h count. count ≡ length (part_items part_of.Asked day (pledges_of (get h.books book)))) }
+    ensures lent { IsLent (state S.Store tx.old.conn.now) (state S.Store tx.new.conn.now)
+        (is_ok result) }
 {
     let day = day.count();
     let rows = rows_of(
@@ -37,8 +40,11 @@ fn asked_in<S: Alter>(tx: &mut Transaction<'_, S>, book: u32, day: Day) -> Resul
 // How many periods end on a day, those of the redeemed and the sold aside.
 fn ends_in<S: Alter>(tx: &mut Transaction<'_, S>, book: u32, day: Day) -> Result<u64, KeepError>
     ensures same_reference { tx.new.conn.ghost_name ≡ tx.old.conn.ghost_name }
-    ensures finds { FindsIn (IsUnsoundAt book) (state S.Store tx.old.conn.now) (state S.Store tx.new.conn.now) result (λ h count. count ≡ length (part_items part_of.Ends day (pledges_of (get h.books book)))) }
-    ensures lent { IsLent (state S.Store tx.old.conn.now) (state S.Store tx.new.conn.now) (is_ok result) }
+    ensures finds { FindsIn (IsUnsoundAt book) (state S.Store tx.old.conn.now)
+        (state S.Store tx.new.conn.now) result
+        (λ h count. count ≡ length (part_items part_of.Ends day (pledges_of (get h.books book)))) }
+    ensures lent { IsLent (state S.Store tx.old.conn.now) (state S.Store tx.new.conn.now)
+        (is_ok result) }
 {
     let day = day.count();
     let rows = rows_of(
@@ -57,8 +63,11 @@ pub fn count_in<S: Alter>(
     part: Part,
 ) -> Result<u64, KeepError>
     ensures same_reference { tx.new.conn.ghost_name ≡ tx.old.conn.ghost_name }
-    ensures finds { FindsIn (IsUnsoundAt book) (state S.Store tx.old.conn.now) (state S.Store tx.new.conn.now) result (λ h count. count ≡ length (part_items part day (pledges_of (get h.books book)))) }
-    ensures lent { IsLent (state S.Store tx.old.conn.now) (state S.Store tx.new.conn.now) (is_ok result) }
+    ensures finds { FindsIn (IsUnsoundAt book) (state S.Store tx.old.conn.now)
+        (state S.Store tx.new.conn.now) result
+        (λ h count. count ≡ length (part_items part day (pledges_of (get h.books book)))) }
+    ensures lent { IsLent (state S.Store tx.old.conn.now) (state S.Store tx.new.conn.now)
+        (is_ok result) }
 {
     match part {
         Part::Confirmed { window } => confirmed_in(tx, book, day, window),
@@ -75,8 +84,11 @@ pub fn windows_in<S: Alter>(
     day: Day,
 ) -> Result<Rows<u64>, KeepError>
     ensures same_reference { tx.new.conn.ghost_name ≡ tx.old.conn.ghost_name }
-    ensures finds { FindsIn (IsUnsoundAt book) (state S.Store tx.old.conn.now) (state S.Store tx.new.conn.now) result (λ h windows. NamesWindows day (pledges_of (get h.books book)) windows) }
-    ensures lent { IsLent (state S.Store tx.old.conn.now) (state S.Store tx.new.conn.now) (is_ok result) }
+    ensures finds { FindsIn (IsUnsoundAt book) (state S.Store tx.old.conn.now)
+        (state S.Store tx.new.conn.now) result
+        (λ h windows. NamesWindows day (pledges_of (get h.books book)) windows) }
+    ensures lent { IsLent (state S.Store tx.old.conn.now) (state S.Store tx.new.conn.now)
+        (is_ok result) }
 {
     let day = day.count();
     let rows = rows_of(
@@ -97,8 +109,12 @@ fn confirmed_page<S: Alter>(
     above: u32,
 ) -> Result<Rows<Line>, KeepError>
     ensures same_reference { tx.new.conn.ghost_name ≡ tx.old.conn.ghost_name }
-    ensures finds { FindsIn (IsUnsoundAt book) (state S.Store tx.old.conn.now) (state S.Store tx.new.conn.now) result (λ h page. IsLinesPage (part_of.Confirmed window) day above (pledges_of (get h.books book)) page) }
-    ensures lent { IsLent (state S.Store tx.old.conn.now) (state S.Store tx.new.conn.now) (is_ok result) }
+    ensures finds { FindsIn (IsUnsoundAt book) (state S.Store tx.old.conn.now)
+        (state S.Store tx.new.conn.now) result
+        (λ h page. IsLinesPage (part_of.Confirmed window) day above
+        (pledges_of (get h.books book)) page) }
+    ensures lent { IsLent (state S.Store tx.old.conn.now) (state S.Store tx.new.conn.now)
+        (is_ok result) }
 {
     let Ok(slot) = u32::try_from(window) else {
         return Err(KeepError::Store(StoreFault::Database));
@@ -121,8 +137,11 @@ fn asked_page<S: Alter>(
     above: u32,
 ) -> Result<Rows<Line>, KeepError>
     ensures same_reference { tx.new.conn.ghost_name ≡ tx.old.conn.ghost_name }
-    ensures finds { FindsIn (IsUnsoundAt book) (state S.Store tx.old.conn.now) (state S.Store tx.new.conn.now) result (λ h page. IsLinesPage part_of.Asked day above (pledges_of (get h.books book)) page) }
-    ensures lent { IsLent (state S.Store tx.old.conn.now) (state S.Store tx.new.conn.now) (is_ok result) }
+    ensures finds { FindsIn (IsUnsoundAt book) (state S.Store tx.old.conn.now)
+        (state S.Store tx.new.conn.now) result
+        (λ h page. IsLinesPage part_of.Asked day above (pledges_of (get h.books book)) page) }
+    ensures lent { IsLent (state S.Store tx.old.conn.now) (state S.Store tx.new.conn.now)
+        (is_ok result) }
 {
     let day = day.count();
     let rows = rows_of(
@@ -142,8 +161,11 @@ fn ends_page<S: Alter>(
     above: u32,
 ) -> Result<Rows<Line>, KeepError>
     ensures same_reference { tx.new.conn.ghost_name ≡ tx.old.conn.ghost_name }
-    ensures finds { FindsIn (IsUnsoundAt book) (state S.Store tx.old.conn.now) (state S.Store tx.new.conn.now) result (λ h page. IsLinesPage part_of.Ends day above (pledges_of (get h.books book)) page) }
-    ensures lent { IsLent (state S.Store tx.old.conn.now) (state S.Store tx.new.conn.now) (is_ok result) }
+    ensures finds { FindsIn (IsUnsoundAt book) (state S.Store tx.old.conn.now)
+        (state S.Store tx.new.conn.now) result
+        (λ h page. IsLinesPage part_of.Ends day above (pledges_of (get h.books book)) page) }
+    ensures lent { IsLent (state S.Store tx.old.conn.now) (state S.Store tx.new.conn.now)
+        (is_ok result) }
 {
     let day = day.count();
     let rows = rows_of(
@@ -165,8 +187,11 @@ pub fn lines_page<S: Alter>(
     above: u32,
 ) -> Result<Rows<Line>, KeepError>
     ensures same_reference { tx.new.conn.ghost_name ≡ tx.old.conn.ghost_name }
-    ensures finds { FindsIn (IsUnsoundAt book) (state S.Store tx.old.conn.now) (state S.Store tx.new.conn.now) result (λ h page. IsLinesPage part day above (pledges_of (get h.books book)) page) }
-    ensures lent { IsLent (state S.Store tx.old.conn.now) (state S.Store tx.new.conn.now) (is_ok result) }
+    ensures finds { FindsIn (IsUnsoundAt book) (state S.Store tx.old.conn.now)
+        (state S.Store tx.new.conn.now) result
+        (λ h page. IsLinesPage part day above (pledges_of (get h.books book)) page) }
+    ensures lent { IsLent (state S.Store tx.old.conn.now) (state S.Store tx.new.conn.now)
+        (is_ok result) }
 {
     match part {
         Part::Confirmed { window } => confirmed_page(tx, alloc, book, day, window, above),

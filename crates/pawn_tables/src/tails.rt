@@ -24,7 +24,8 @@ use sqlite::{Alter, Row, Transaction, params};
 
 // The last secret of a row, and its place.
 fn last_of(row: &Row) -> Result<LastSecret, KeepError>
-    ensures read { (l : LastSecret) → IsWord l.issued.secret → row.now ≡ last_cells l → IsRead result l (IsDayNumber l.issued.day) }
+    ensures read { (l : LastSecret) → IsWord l.issued.secret → row.now ≡ last_cells l
+        → IsRead result l (IsDayNumber l.issued.day) }
 {
     let place = number_at(row, 0)?;
     let issued = issued_of(row)?;
@@ -33,7 +34,9 @@ fn last_of(row: &Row) -> Result<LastSecret, KeepError>
 
 // The last secret of the first row, and its place, if there is a row.
 fn first_last(rows: &[Row]) -> Result<Option<LastSecret>, KeepError>
-    ensures read { (l : Option LastSecret) → IfSome l (λ x. IsWord x.issued.secret) → rows.now ≡ at_most_one last_cells l → IsRead result l (IfSome l (λ x. IsDayNumber x.issued.day)) }
+    ensures read { (l : Option LastSecret) → IfSome l (λ x. IsWord x.issued.secret)
+        → rows.now ≡ at_most_one last_cells l → IsRead result l
+        (IfSome l (λ x. IsDayNumber x.issued.day)) }
 {
     let [row, ..] = rows else {
         return Ok(None);
@@ -43,7 +46,8 @@ fn first_last(rows: &[Row]) -> Result<Option<LastSecret>, KeepError>
 
 // How many elements there are, by the first row, which tells the place of the last; none where there is no row.
 fn first_place(rows: &[Row]) -> Result<u64, KeepError>
-    ensures read { (n : Option ℕ) → rows.now ≡ at_most_one number_cells n → IsRead result (unwrap_or n 0) ⊤ }
+    ensures read { (n : Option ℕ) → rows.now ≡ at_most_one number_cells n → IsRead result
+        (unwrap_or n 0) ⊤ }
 {
     let [row, ..] = rows else {
         return Ok(0);
@@ -58,8 +62,11 @@ fn entry_count<S: Alter>(
     number: u32,
 ) -> Result<u64, KeepError>
     ensures same_reference { tx.new.conn.ghost_name ≡ tx.old.conn.ghost_name }
-    ensures finds { FindsIn (IsUnsoundAt book) (state S.Store tx.old.conn.now) (state S.Store tx.new.conn.now) result (λ h count. count ≡ length (entries_of (pledge_in (get h.books book) number))) }
-    ensures lent { IsLent (state S.Store tx.old.conn.now) (state S.Store tx.new.conn.now) (is_ok result) }
+    ensures finds { FindsIn (IsUnsoundAt book) (state S.Store tx.old.conn.now)
+        (state S.Store tx.new.conn.now) result
+        (λ h count. count ≡ length (entries_of (pledge_in (get h.books book) number))) }
+    ensures lent { IsLent (state S.Store tx.old.conn.now) (state S.Store tx.new.conn.now)
+        (is_ok result) }
 {
     let rows = rows_of(
         tx,
@@ -76,8 +83,11 @@ fn last_secret<S: Alter>(
     number: u32,
 ) -> Result<Option<LastSecret>, KeepError>
     ensures same_reference { tx.new.conn.ghost_name ≡ tx.old.conn.ghost_name }
-    ensures finds { FindsIn (IsUnsoundAt book) (state S.Store tx.old.conn.now) (state S.Store tx.new.conn.now) result (λ h x. x ≡ last_issued (secrets_of (pledge_in (get h.books book) number))) }
-    ensures lent { IsLent (state S.Store tx.old.conn.now) (state S.Store tx.new.conn.now) (is_ok result) }
+    ensures finds { FindsIn (IsUnsoundAt book) (state S.Store tx.old.conn.now)
+        (state S.Store tx.new.conn.now) result
+        (λ h x. x ≡ last_issued (secrets_of (pledge_in (get h.books book) number))) }
+    ensures lent { IsLent (state S.Store tx.old.conn.now) (state S.Store tx.new.conn.now)
+        (is_ok result) }
 {
     let rows = rows_of(
         tx,
@@ -94,8 +104,11 @@ fn extension_count<S: Alter>(
     number: u32,
 ) -> Result<u64, KeepError>
     ensures same_reference { tx.new.conn.ghost_name ≡ tx.old.conn.ghost_name }
-    ensures finds { FindsIn (IsUnsoundAt book) (state S.Store tx.old.conn.now) (state S.Store tx.new.conn.now) result (λ h count. count ≡ length (extensions_of (pledge_in (get h.books book) number))) }
-    ensures lent { IsLent (state S.Store tx.old.conn.now) (state S.Store tx.new.conn.now) (is_ok result) }
+    ensures finds { FindsIn (IsUnsoundAt book) (state S.Store tx.old.conn.now)
+        (state S.Store tx.new.conn.now) result
+        (λ h count. count ≡ length (extensions_of (pledge_in (get h.books book) number))) }
+    ensures lent { IsLent (state S.Store tx.old.conn.now) (state S.Store tx.new.conn.now)
+        (is_ok result) }
 {
     let rows = rows_of(
         tx,
@@ -113,8 +126,11 @@ pub(crate) fn tails_in<S: Alter>(
     number: u32,
 ) -> Result<Tails, KeepError>
     ensures same_reference { tx.new.conn.ghost_name ≡ tx.old.conn.ghost_name }
-    ensures finds { FindsIn (IsUnsoundAt book) (state S.Store tx.old.conn.now) (state S.Store tx.new.conn.now) result (λ h t. IfSome (pledge_in (get h.books book) number) (AreTails t)) }
-    ensures lent { IsLent (state S.Store tx.old.conn.now) (state S.Store tx.new.conn.now) (is_ok result) }
+    ensures finds { FindsIn (IsUnsoundAt book) (state S.Store tx.old.conn.now)
+        (state S.Store tx.new.conn.now) result
+        (λ h t. IfSome (pledge_in (get h.books book) number) (AreTails t)) }
+    ensures lent { IsLent (state S.Store tx.old.conn.now) (state S.Store tx.new.conn.now)
+        (is_ok result) }
 {
     let entries = entry_count(tx, book, number)?;
     let last = last_secret(tx, book, number)?;

@@ -26,8 +26,11 @@ pub fn terms_under<S: Alter>(
     version: u64,
 ) -> Result<Option<Terms>, KeepError>
     ensures same_reference { tx.new.conn.ghost_name ≡ tx.old.conn.ghost_name }
-    ensures finds { FindsIn (IsUnsoundAt book) (state S.Store tx.old.conn.now) (state S.Store tx.new.conn.now) result (λ h terms. terms ≡ terms_at (terms_of (get h.books book)) version) }
-    ensures lent { IsLent (state S.Store tx.old.conn.now) (state S.Store tx.new.conn.now) (is_ok result) }
+    ensures finds { FindsIn (IsUnsoundAt book) (state S.Store tx.old.conn.now)
+        (state S.Store tx.new.conn.now) result
+        (λ h terms. terms ≡ terms_at (terms_of (get h.books book)) version) }
+    ensures lent { IsLent (state S.Store tx.old.conn.now) (state S.Store tx.new.conn.now)
+        (is_ok result) }
 {
     let Ok(short) = u32::try_from(version) else {
         return terms_in(tx, book, 0);
@@ -44,8 +47,11 @@ pub(crate) fn lists_in<S: Alter>(
     number: u32,
 ) -> Result<Lists, KeepError>
     ensures same_reference { tx.new.conn.ghost_name ≡ tx.old.conn.ghost_name }
-    ensures finds { FindsIn (IsUnsoundAt book) (state S.Store tx.old.conn.now) (state S.Store tx.new.conn.now) result (λ h l. IfSome (pledge_in (get h.books book) number) (AreLists l)) }
-    ensures lent { IsLent (state S.Store tx.old.conn.now) (state S.Store tx.new.conn.now) (is_ok result) }
+    ensures finds { FindsIn (IsUnsoundAt book) (state S.Store tx.old.conn.now)
+        (state S.Store tx.new.conn.now) result
+        (λ h l. IfSome (pledge_in (get h.books book) number) (AreLists l)) }
+    ensures lent { IsLent (state S.Store tx.old.conn.now) (state S.Store tx.new.conn.now)
+        (is_ok result) }
 {
     let entries = entries_in(tx, alloc, book, number)?;
     let secrets = secrets_in(tx, alloc, book, number)?;
@@ -66,8 +72,12 @@ pub(crate) fn sides_in<S: Alter>(
     version: u32,
 ) -> Result<Sides, KeepError>
     ensures same_reference { tx.new.conn.ghost_name ≡ tx.old.conn.ghost_name }
-    ensures finds { FindsIn (IsUnsoundAt book) (state S.Store tx.old.conn.now) (state S.Store tx.new.conn.now) result (λ h s. IfSome (pledge_in (get h.books book) number) (λ p. version ≡ p.agreement.version → AreSides s p)) }
-    ensures lent { IsLent (state S.Store tx.old.conn.now) (state S.Store tx.new.conn.now) (is_ok result) }
+    ensures finds { FindsIn (IsUnsoundAt book) (state S.Store tx.old.conn.now)
+        (state S.Store tx.new.conn.now) result
+        (λ h s. IfSome (pledge_in (get h.books book) number)
+        (λ p. version ≡ p.agreement.version → AreSides s p)) }
+    ensures lent { IsLent (state S.Store tx.old.conn.now) (state S.Store tx.new.conn.now)
+        (is_ok result) }
 {
     let terms = terms_in(tx, book, version)?;
     let booking = booking_in(tx, book, number)?;
@@ -88,8 +98,11 @@ pub(crate) fn told_in<S: Alter>(
     number: u32,
 ) -> Result<Option<Told>, KeepError>
     ensures same_reference { tx.new.conn.ghost_name ≡ tx.old.conn.ghost_name }
-    ensures finds { FindsIn (IsUnsoundAt book) (state S.Store tx.old.conn.now) (state S.Store tx.new.conn.now) result (λ h t. AreTold t (pledge_in (get h.books book) number)) }
-    ensures lent { IsLent (state S.Store tx.old.conn.now) (state S.Store tx.new.conn.now) (is_ok result) }
+    ensures finds { FindsIn (IsUnsoundAt book) (state S.Store tx.old.conn.now)
+        (state S.Store tx.new.conn.now) result
+        (λ h t. AreTold t (pledge_in (get h.books book) number)) }
+    ensures lent { IsLent (state S.Store tx.old.conn.now) (state S.Store tx.new.conn.now)
+        (is_ok result) }
 {
     let Some(row) = row_in(tx, alloc, book, number)? else {
         return Ok(None);
@@ -110,8 +123,11 @@ pub fn pledge_of<S: Alter>(
     number: Number,
 ) -> Result<Option<Pledge>, KeepError>
     ensures same_reference { tx.new.conn.ghost_name ≡ tx.old.conn.ghost_name }
-    ensures finds { FindsIn (IsUnsoundAt book) (state S.Store tx.old.conn.now) (state S.Store tx.new.conn.now) result (λ h pledge. pledge ≡ pledge_in (get h.books book) number) }
-    ensures lent { IsLent (state S.Store tx.old.conn.now) (state S.Store tx.new.conn.now) (is_ok result) }
+    ensures finds { FindsIn (IsUnsoundAt book) (state S.Store tx.old.conn.now)
+        (state S.Store tx.new.conn.now) result
+        (λ h pledge. pledge ≡ pledge_in (get h.books book) number) }
+    ensures lent { IsLent (state S.Store tx.old.conn.now) (state S.Store tx.new.conn.now)
+        (is_ok result) }
 {
     let n = number.get();
     let Some(told) = told_in(tx, alloc, book, n)? else {

@@ -115,7 +115,9 @@ fn put_from<K: Keep, W: Write>(
     ensures shares { Reads K.keeping keep.old keep.new
         (λ h. IsSound h → (p : PledgeValue) → pledge_at h book number ≡ Some p
         → brief.now ≡ brief_of p
-        → PutsShare W.contents writer.old (statement_text day p ++ further_texts day (live_pledges h book receipts.now)) (call_end result) writer.new) }
+        → PutsShare W.contents writer.old
+        (statement_text day p ++ further_texts day (live_pledges h book receipts.now))
+        (call_end result) writer.new) }
     ensures steady { IsSteady K.keeping keep.old result }
 {
     match put_statement(keep, book, number, brief, day, writer) {

@@ -98,7 +98,9 @@ impl<'a, W: Write> SheetLines<'a, W> {
     // Puts the lines of a day below the heading.
     fn put_day<K: Keep>(&mut self, keep: &mut K, book: Number, day: Day) -> Result<(), KeepError>
         ensures shares { Reads K.keeping keep.old keep.new (λ h.
-            PutsShare W.contents self.old.writer.now (day_lines self.old.capacity day (pledges_of (get h.books book))) (call_end result) self.new.writer.now) }
+            PutsShare W.contents self.old.writer.now
+            (day_lines self.old.capacity day (pledges_of (get h.books book)))
+            (call_end result) self.new.writer.now) }
         ensures same_writer { self.new.writer.ghost_name ≡ self.old.writer.ghost_name }
         ensures steady { IsSteady K.keeping keep.old result }
     {

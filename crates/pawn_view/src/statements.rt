@@ -79,7 +79,8 @@ fn put_state<W: Write>(writer: &mut Writing<W>, brief: &Brief, day: Day)
 // The day of which the statement speaks. What is owed is known from the day of the last entry on, which is never past
 // the day of the last change.
 fn shown_day(brief: &Brief, day: Day) -> Day
-    ensures answer { result ≡ max (open_or_last brief.now.standing.closing brief.now.standing.last day) brief.now.totals.day }
+    ensures answer { result ≡ max
+        (open_or_last brief.now.standing.closing brief.now.standing.last day) brief.now.totals.day }
 {
     let fields = brief.fields();
     let shown = match fields.standing.closing {

@@ -26,7 +26,8 @@ fn receipt_of(text: &[u8]) -> Option<Receipt>
 fn collect(alloc: Global, fields: &Fields<'_>) -> Result<Vec<Receipt>, WireFault>
     ensures all { MatchResult result
         (λ v. all_said (receipt_values (pairs_of fields.now)) ≡ Some v.items)
-        (λ e. (e ≡ Memory) ⊎ ((e ≡ BadReceipt) × (all_said (receipt_values (pairs_of fields.now)) ≡ None))) }
+        (λ e. (e ≡ Memory) ⊎
+        ((e ≡ BadReceipt) × (all_said (receipt_values (pairs_of fields.now)) ≡ None))) }
 {
     let mut receipts = Vec::new(alloc);
     for field in fields.spans {

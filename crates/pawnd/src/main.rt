@@ -135,7 +135,8 @@ fn listen<S: Alter + Drop>(
     service: &mut Service<TableKeep<S>>,
     port: u16,
 ) -> Result<(), Stop>
-    ensures shut { result ≡ Err (Stops.Fault (Opening Store)) → (store_of S.Store service.new).is_open ≡ false }
+    ensures shut { result ≡ Err (Stops.Fault (Opening Store))
+        → (store_of S.Store service.new).is_open ≡ false }
 {
     let Ok(rng) = rand::make_rng(rt) else {
         return Err(Stop::Io);

@@ -30,7 +30,8 @@ pub fn is_memory(database: &str) -> bool
 
 /// A keeper over a new store in memory.
 pub fn memory_keep(rt: &HostRuntime) -> Result<TableKeep<MemStore>, Stop>
-    ensures opens { IfOk result (λ keep. OpensAs (state over_memory keep.conn) (empty_host 5000000)) }
+    ensures opens { IfOk result (λ keep. OpensAs (state over_memory keep.conn)
+        (empty_host 5000000)) }
 {
     match keep_in_memory(rt.alloc(), ROWS) {
         Ok(keep) => Ok(keep),

@@ -79,7 +79,8 @@ pub(super) fn fill_book(
 ) -> Result<(), AllocError>
     requires stands { (at : BookValue) × (book_at (map entry_of books.old.items) book ≡ Some at) }
     requires replayable { AreReplayable rows.now.terms rows.now.pledges }
-    ensures ok { OnOk result (HasChange (map entry_of books.old.items) (Change.ImportBook book key rows.now) (map entry_of books.new.items)) }
+    ensures ok { OnOk result (HasChange (map entry_of books.old.items)
+        (Change.ImportBook book key rows.now) (map entry_of books.new.items)) }
     ensures err { OnErr result (map entry_of books.new.items ≡ map entry_of books.old.items) }
 {
     let terms = terms_of(alloc, rows.terms.as_slice())?;

@@ -35,7 +35,8 @@ pub(super) fn hand_lines<V: Visitor<SheetItem>>(part: Part, lines: &[Line], visi
 
 // The same with their number above them, where the part has no others.
 pub(super) fn hand_whole<V: Visitor<SheetItem>>(part: Part, lines: &[Line], visitor: &mut V) -> Flow
-    ensures hands { HandsOver V.step visitor.old (with_head part (map (item_of part) lines.now)) result visitor.new }
+    ensures hands { HandsOver V.step visitor.old
+        (with_head part (map (item_of part) lines.now)) result visitor.new }
 {
     let heading = part.heading(lines.len() as u64);
     match visitor.visit(&heading) {

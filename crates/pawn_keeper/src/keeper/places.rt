@@ -33,8 +33,11 @@ impl<S: Alter> TableKeep<S> {
         number: Number,
         from: u32,
     ) -> Result<Entries, KeepError>
-        ensures reads { Reads (keeping_by (λ k. state S.Store k.conn)) self.old self.new (λ h. IfOk result (λ page. IsEntriesPage from (entries_of (pledge_in (get h.books book) number)) page)) }
-        ensures errs { Errs (keeping_by (λ k. state S.Store k.conn)) self.old self.new (IsUnsoundAt book) result }
+        ensures reads { Reads (keeping_by (λ k. state S.Store k.conn)) self.old self.new
+            (λ h. IfOk result
+            (λ page. IsEntriesPage from (entries_of (pledge_in (get h.books book) number)) page)) }
+        ensures errs { Errs (keeping_by (λ k. state S.Store k.conn)) self.old self.new
+            (IsUnsoundAt book) result }
     {
         let _ = self.conn.is_autocommit();
         let mut tx = self.conn.transaction();
@@ -51,7 +54,9 @@ impl<S: Alter> TableKeep<S> {
         number: Number,
         visitor: &mut V,
     ) -> Result<Flow, KeepError>
-        ensures hands { Hands (keeping_by (λ k. state S.Store k.conn)) (IsUnsoundAt book) V.step self.old self.new visitor.old visitor.new result (λ h. entries_of (pledge_in (get h.books book) number)) }
+        ensures hands { Hands (keeping_by (λ k. state S.Store k.conn))
+            (IsUnsoundAt book) V.step self.old self.new visitor.old visitor.new result
+            (λ h. entries_of (pledge_in (get h.books book) number)) }
     {
         let mut from = 0;
         for _ in 0..u32::MAX {
@@ -75,8 +80,12 @@ impl<S: Alter> TableKeep<S> {
         number: Number,
         behind: u32,
     ) -> Result<Secrets, KeepError>
-        ensures reads { Reads (keeping_by (λ k. state S.Store k.conn)) self.old self.new (λ h. IfOk result (λ page. page ≡ page_behind behind (secrets_of (pledge_in (get h.books book) number)))) }
-        ensures errs { Errs (keeping_by (λ k. state S.Store k.conn)) self.old self.new (IsUnsoundAt book) result }
+        ensures reads { Reads (keeping_by (λ k. state S.Store k.conn)) self.old self.new
+            (λ h. IfOk result
+            (λ page. page ≡ page_behind behind
+            (secrets_of (pledge_in (get h.books book) number)))) }
+        ensures errs { Errs (keeping_by (λ k. state S.Store k.conn)) self.old self.new
+            (IsUnsoundAt book) result }
     {
         let _ = self.conn.is_autocommit();
         let mut tx = self.conn.transaction();
@@ -92,7 +101,9 @@ impl<S: Alter> TableKeep<S> {
         number: Number,
         visitor: &mut V,
     ) -> Result<Flow, KeepError>
-        ensures hands { Hands (keeping_by (λ k. state S.Store k.conn)) (IsUnsoundAt book) V.step self.old self.new visitor.old visitor.new result (λ h. secrets_of (pledge_in (get h.books book) number)) }
+        ensures hands { Hands (keeping_by (λ k. state S.Store k.conn))
+            (IsUnsoundAt book) V.step self.old self.new visitor.old visitor.new result
+            (λ h. secrets_of (pledge_in (get h.books book) number)) }
     {
         for turn in 0..PAGES {
             let page = self.secrets_behind(book, number, turn * PLACES)?;
@@ -114,8 +125,12 @@ impl<S: Alter> TableKeep<S> {
         number: Number,
         behind: u32,
     ) -> Result<Extensions, KeepError>
-        ensures reads { Reads (keeping_by (λ k. state S.Store k.conn)) self.old self.new (λ h. IfOk result (λ page. page ≡ page_behind behind (extensions_of (pledge_in (get h.books book) number)))) }
-        ensures errs { Errs (keeping_by (λ k. state S.Store k.conn)) self.old self.new (IsUnsoundAt book) result }
+        ensures reads { Reads (keeping_by (λ k. state S.Store k.conn)) self.old self.new
+            (λ h. IfOk result
+            (λ page. page ≡ page_behind behind
+            (extensions_of (pledge_in (get h.books book) number)))) }
+        ensures errs { Errs (keeping_by (λ k. state S.Store k.conn)) self.old self.new
+            (IsUnsoundAt book) result }
     {
         let _ = self.conn.is_autocommit();
         let mut tx = self.conn.transaction();
@@ -131,7 +146,9 @@ impl<S: Alter> TableKeep<S> {
         number: Number,
         visitor: &mut V,
     ) -> Result<Flow, KeepError>
-        ensures hands { Hands (keeping_by (λ k. state S.Store k.conn)) (IsUnsoundAt book) V.step self.old self.new visitor.old visitor.new result (λ h. extensions_of (pledge_in (get h.books book) number)) }
+        ensures hands { Hands (keeping_by (λ k. state S.Store k.conn))
+            (IsUnsoundAt book) V.step self.old self.new visitor.old visitor.new result
+            (λ h. extensions_of (pledge_in (get h.books book) number)) }
     {
         for turn in 0..PAGES {
             let page = self.extensions_behind(book, number, turn * PLACES)?;

@@ -21,8 +21,11 @@ use sqlite::Alter;
 impl<S: Alter> TableKeep<S> {
     // How many items a part of a day's sheet has.
     fn count_part(&mut self, book: Number, day: Day, part: Part) -> Result<u64, KeepError>
-        ensures reads { Reads (keeping_by (λ k. state S.Store k.conn)) self.old self.new (λ h. IfOk result (λ count. count ≡ length (part_items part day (pledges_of (get h.books book))))) }
-        ensures errs { Errs (keeping_by (λ k. state S.Store k.conn)) self.old self.new (IsUnsoundAt book) result }
+        ensures reads { Reads (keeping_by (λ k. state S.Store k.conn)) self.old self.new
+            (λ h. IfOk result
+            (λ count. count ≡ length (part_items part day (pledges_of (get h.books book))))) }
+        ensures errs { Errs (keeping_by (λ k. state S.Store k.conn)) self.old self.new
+            (IsUnsoundAt book) result }
     {
         let _ = self.conn.is_autocommit();
         let mut tx = self.conn.transaction();
@@ -39,8 +42,11 @@ impl<S: Alter> TableKeep<S> {
         part: Part,
         above: u32,
     ) -> Result<Rows<Line>, KeepError>
-        ensures reads { Reads (keeping_by (λ k. state S.Store k.conn)) self.old self.new (λ h. IfOk result (λ page. IsLinesPage part day above (pledges_of (get h.books book)) page)) }
-        ensures errs { Errs (keeping_by (λ k. state S.Store k.conn)) self.old self.new (IsUnsoundAt book) result }
+        ensures reads { Reads (keeping_by (λ k. state S.Store k.conn)) self.old self.new
+            (λ h. IfOk result
+            (λ page. IsLinesPage part day above (pledges_of (get h.books book)) page)) }
+        ensures errs { Errs (keeping_by (λ k. state S.Store k.conn)) self.old self.new
+            (IsUnsoundAt book) result }
     {
         let _ = self.conn.is_autocommit();
         let mut tx = self.conn.transaction();
@@ -57,7 +63,9 @@ impl<S: Alter> TableKeep<S> {
         part: Part,
         visitor: &mut V,
     ) -> Result<Flow, KeepError>
-        ensures hands { Hands (keeping_by (λ k. state S.Store k.conn)) (IsUnsoundAt book) V.step self.old self.new visitor.old visitor.new result (λ h. part_items part day (pledges_of (get h.books book))) }
+        ensures hands { Hands (keeping_by (λ k. state S.Store k.conn))
+            (IsUnsoundAt book) V.step self.old self.new visitor.old visitor.new result
+            (λ h. part_items part day (pledges_of (get h.books book))) }
     {
         let mut above = 0;
         for _ in 0..NUMBERS {
@@ -83,7 +91,9 @@ impl<S: Alter> TableKeep<S> {
         count: u64,
         visitor: &mut V,
     ) -> Result<Flow, KeepError>
-        ensures hands { Hands (keeping_by (λ k. state S.Store k.conn)) (IsUnsoundAt book) V.step self.old self.new visitor.old visitor.new result (λ h. part_head part count ∷ part_items part day (pledges_of (get h.books book))) }
+        ensures hands { Hands (keeping_by (λ k. state S.Store k.conn))
+            (IsUnsoundAt book) V.step self.old self.new visitor.old visitor.new result
+            (λ h. part_head part count ∷ part_items part day (pledges_of (get h.books book))) }
     {
         let heading = part.heading(count);
         match visitor.visit(&heading) {
@@ -100,7 +110,9 @@ impl<S: Alter> TableKeep<S> {
         part: Part,
         visitor: &mut V,
     ) -> Result<Flow, KeepError>
-        ensures hands { Hands (keeping_by (λ k. state S.Store k.conn)) (IsUnsoundAt book) V.step self.old self.new visitor.old visitor.new result (λ h. with_head part (part_items part day (pledges_of (get h.books book)))) }
+        ensures hands { Hands (keeping_by (λ k. state S.Store k.conn))
+            (IsUnsoundAt book) V.step self.old self.new visitor.old visitor.new result
+            (λ h. with_head part (part_items part day (pledges_of (get h.books book)))) }
     {
         let count = self.count_part(book, day, part)?;
         self.hand_under(book, day, part, count, visitor)
@@ -115,7 +127,9 @@ impl<S: Alter> TableKeep<S> {
         part: Part,
         visitor: &mut V,
     ) -> Result<Flow, KeepError>
-        ensures hands { Hands (keeping_by (λ k. state S.Store k.conn)) (IsUnsoundAt book) V.step self.old self.new visitor.old visitor.new result (λ h. with_head part (part_items part day (pledges_of (get h.books book)))) }
+        ensures hands { Hands (keeping_by (λ k. state S.Store k.conn))
+            (IsUnsoundAt book) V.step self.old self.new visitor.old visitor.new result
+            (λ h. with_head part (part_items part day (pledges_of (get h.books book)))) }
     {
         let page = self.lines_above(book, day, part, 0)?;
         if page.len() < PAGE_ROWS {
@@ -132,7 +146,9 @@ impl<S: Alter> TableKeep<S> {
         window: u64,
         visitor: &mut V,
     ) -> Result<Flow, KeepError>
-        ensures hands { Hands (keeping_by (λ k. state S.Store k.conn)) (IsUnsoundAt book) V.step self.old self.new visitor.old visitor.new result (λ h. window_sheet (pledges_of (get h.books book)) day window) }
+        ensures hands { Hands (keeping_by (λ k. state S.Store k.conn))
+            (IsUnsoundAt book) V.step self.old self.new visitor.old visitor.new result
+            (λ h. window_sheet (pledges_of (get h.books book)) day window) }
     {
         let part = Part::Confirmed { window };
         let page = self.lines_above(book, day, part, 0)?;
@@ -147,8 +163,11 @@ impl<S: Alter> TableKeep<S> {
 
     // The windows in which somebody comes on a day.
     fn windows_on(&mut self, book: Number, day: Day) -> Result<Rows<u64>, KeepError>
-        ensures reads { Reads (keeping_by (λ k. state S.Store k.conn)) self.old self.new (λ h. IfOk result (λ windows. NamesWindows day (pledges_of (get h.books book)) windows)) }
-        ensures errs { Errs (keeping_by (λ k. state S.Store k.conn)) self.old self.new (IsUnsoundAt book) result }
+        ensures reads { Reads (keeping_by (λ k. state S.Store k.conn)) self.old self.new
+            (λ h. IfOk result
+            (λ windows. NamesWindows day (pledges_of (get h.books book)) windows)) }
+        ensures errs { Errs (keeping_by (λ k. state S.Store k.conn)) self.old self.new
+            (IsUnsoundAt book) result }
     {
         let _ = self.conn.is_autocommit();
         let mut tx = self.conn.transaction();
@@ -166,7 +185,9 @@ impl<S: Alter> TableKeep<S> {
         window: u64,
         visitor: &mut V,
     ) -> Result<Flow, KeepError>
-        ensures hands { Hands (keeping_by (λ k. state S.Store k.conn)) (IsUnsoundAt book) V.step self.old self.new visitor.old visitor.new result (λ h. named_sheet windows.now (pledges_of (get h.books book)) day window) }
+        ensures hands { Hands (keeping_by (λ k. state S.Store k.conn))
+            (IsUnsoundAt book) V.step self.old self.new visitor.old visitor.new result
+            (λ h. named_sheet windows.now (pledges_of (get h.books book)) day window) }
     {
         if windows.contains(&window) {
             self.hand_window(book, day, window, visitor)
@@ -183,7 +204,9 @@ impl<S: Alter> TableKeep<S> {
         windows: &[u64],
         visitor: &mut V,
     ) -> Result<Flow, KeepError>
-        ensures hands { Hands (keeping_by (λ k. state S.Store k.conn)) (IsUnsoundAt book) V.step self.old self.new visitor.old visitor.new result (λ h. named_sheets windows.now (pledges_of (get h.books book)) day) }
+        ensures hands { Hands (keeping_by (λ k. state S.Store k.conn))
+            (IsUnsoundAt book) V.step self.old self.new visitor.old visitor.new result
+            (λ h. named_sheets windows.now (pledges_of (get h.books book)) day) }
     {
         for window in 0..LAST_WINDOW + 1 {
             match self.hand_named(book, day, windows, window, visitor)? {
@@ -201,7 +224,9 @@ impl<S: Alter> TableKeep<S> {
         day: Day,
         visitor: &mut V,
     ) -> Result<Flow, KeepError>
-        ensures hands { Hands (keeping_by (λ k. state S.Store k.conn)) (IsUnsoundAt book) V.step self.old self.new visitor.old visitor.new result (λ h. windows_sheet (pledges_of (get h.books book)) day) }
+        ensures hands { Hands (keeping_by (λ k. state S.Store k.conn))
+            (IsUnsoundAt book) V.step self.old self.new visitor.old visitor.new result
+            (λ h. windows_sheet (pledges_of (get h.books book)) day) }
     {
         let windows = self.windows_on(book, day)?;
         self.hand_these(book, day, windows.as_slice(), visitor)
@@ -214,7 +239,9 @@ impl<S: Alter> TableKeep<S> {
         day: Day,
         visitor: &mut V,
     ) -> Result<Flow, KeepError>
-        ensures hands { Hands (keeping_by (λ k. state S.Store k.conn)) (IsUnsoundAt book) V.step self.old self.new visitor.old visitor.new result (λ h. day_sheet (pledges_of (get h.books book)) day) }
+        ensures hands { Hands (keeping_by (λ k. state S.Store k.conn))
+            (IsUnsoundAt book) V.step self.old self.new visitor.old visitor.new result
+            (λ h. day_sheet (pledges_of (get h.books book)) day) }
     {
         match self.hand_windows(book, day, visitor)? {
             Flow::Go => {}

@@ -19,7 +19,8 @@ impl Pledge {
     /// One command: what it answers, or the first refusal that applies. Where it is refused, the
     /// pledge is unchanged. Memory is wanted for an entry, a secret or an extension alone.
     pub fn apply(&mut self, stamp: &Stamp, command: &Command) -> Result<Done, Refusal>
-        ensures step { IsStep (pledge_step self.old stamp.now command.now) self.old result self.new }
+        ensures step { IsStep (pledge_step self.old stamp.now command.now) self.old result
+            self.new }
     {
         match self.apply_telling(stamp, command) {
             Ok(applied) => Ok(applied.done),
@@ -30,7 +31,8 @@ impl Pledge {
     /// The same, and whether the command changed the pledge: one that was made already is answered
     /// again and changes nothing.
     pub fn apply_telling(&mut self, stamp: &Stamp, command: &Command) -> Result<Applied, Refusal>
-        ensures step { IsApplied (pledge_step self.old stamp.now command.now) self.old result self.new }
+        ensures step { IsApplied (pledge_step self.old stamp.now command.now) self.old result
+            self.new }
     {
         let day = stamp.day.day();
         match *command {
@@ -70,7 +72,8 @@ impl Pledge {
 
     // A drawing or a repayment. One whose number stands already is answered as the first time.
     fn enter(&mut self, day: Day, seq: u64, sort: Sort, pence: u64) -> Result<Applied, Refusal>
-        ensures step { IsApplied (numbered_step self.old day seq sort pence (entry_of self.old seq)) self.old result self.new }
+        ensures step { IsApplied (numbered_step self.old day seq sort pence (entry_of self.old seq))
+            self.old result self.new }
     {
         let standing = self.debt.entry(seq);
         self.enter_once(standing, day, seq, sort, pence)
@@ -85,7 +88,8 @@ impl Pledge {
         sort: Sort,
         pence: u64,
     ) -> Result<Applied, Refusal>
-        ensures step { IsApplied (numbered_step self.old day seq sort pence standing) self.old result self.new }
+        ensures step { IsApplied (numbered_step self.old day seq sort pence standing) self.old
+            result self.new }
     {
         if let Some(entry) = standing {
             if !is_repeat(&entry, sort, pence) {
@@ -124,7 +128,8 @@ impl Pledge {
 
     fn draw(&mut self, day: Day, pence: u64) -> Result<Applied, Refusal>
         requires later { self.old.standing.last ≤ day }
-        ensures step { IsApplied (entry_step self.old day Sort.Draw pence) self.old result self.new }
+        ensures step { IsApplied (entry_step self.old day Sort.Draw pence) self.old result
+            self.new }
     {
         if day > self.debt.ends() {
             return Err(Refusal::PeriodOver);
@@ -137,7 +142,8 @@ impl Pledge {
 
     fn repay(&mut self, day: Day, pence: u64) -> Result<Applied, Refusal>
         requires later { self.old.standing.last ≤ day }
-        ensures step { IsApplied (entry_step self.old day Sort.Repay pence) self.old result self.new }
+        ensures step { IsApplied (entry_step self.old day Sort.Repay pence) self.old result
+            self.new }
     {
         let entry = self.next_entry(day, Sort::Repay, pence);
         self.debt.repay(day, pence)?;
@@ -147,7 +153,8 @@ impl Pledge {
 
     // Sets the flag that bars redemption.
     fn hold(&mut self, day: Day, flag: bool) -> Result<Applied, Refusal>
-        ensures step { IsApplied (unless (bars self.old day) (hold_step self.old day flag)) self.old result self.new }
+        ensures step { IsApplied (unless (bars self.old day) (hold_step self.old day flag)) self.old
+            result self.new }
     {
         self.gate(day)?;
         if self.standing.held == flag {
@@ -160,7 +167,8 @@ impl Pledge {
 
     // Issues the stamp's word as the new secret.
     fn declare(&mut self, stamp: &Stamp, paper: Paper) -> Result<Applied, Refusal>
-        ensures step { IsApplied (unless (bars self.old stamp.now.day) (declare_step self.old stamp.now paper)) self.old result self.new }
+        ensures step { IsApplied (unless (bars self.old stamp.now.day)
+            (declare_step self.old stamp.now paper)) self.old result self.new }
     {
         let day = stamp.day.day();
         self.gate(day)?;
@@ -194,7 +202,8 @@ impl Pledge {
     fn issue(&mut self, issued: Issued) -> Result<Applied, Refusal>
         requires few { length self.old.secrets < most_secrets }
         requires later { self.old.standing.last ≤ issued.day }
-        ensures step { IsApplied (Changed (with_secret self.old issued) (Done.Declared issued.secret)) self.old result self.new }
+        ensures step { IsApplied (Changed (with_secret self.old issued)
+            (Done.Declared issued.secret)) self.old result self.new }
     {
         let day = issued.day;
         let secret = issued.secret;
@@ -219,7 +228,8 @@ impl Pledge {
 
     // Asks for a day and a window.
     fn ask(&mut self, day: Day, wanted: Day, window: u64) -> Result<Applied, Refusal>
-        ensures step { IsApplied (unless (bars self.old day) (ask_step self.old day wanted window)) self.old result self.new }
+        ensures step { IsApplied (unless (bars self.old day) (ask_step self.old day wanted window))
+            self.old result self.new }
     {
         self.gate(day)?;
         if window > LAST_WINDOW {
@@ -237,7 +247,8 @@ impl Pledge {
     // The same, where nothing is to be refused any more.
     fn ask_once(&mut self, day: Day, wanted: Day, window: u64) -> Result<Applied, Refusal>
         requires later { self.old.standing.last ≤ day }
-        ensures step { IsApplied (ask_once self.old day wanted window self.old.standing.booking) self.old result self.new }
+        ensures step { IsApplied (ask_once self.old day wanted window self.old.standing.booking)
+            self.old result self.new }
     {
         let asked = Booking {
             day: wanted,
@@ -254,7 +265,8 @@ impl Pledge {
 
     // Gives a booking up.
     fn cancel(&mut self, day: Day) -> Result<Applied, Refusal>
-        ensures step { IsApplied (unless (bars self.old day) (cancel_step self.old day self.old.standing.booking)) self.old result self.new }
+        ensures step { IsApplied (unless (bars self.old day)
+            (cancel_step self.old day self.old.standing.booking)) self.old result self.new }
     {
         self.gate(day)?;
         let Some(booking) = self.standing.booking else {
@@ -271,7 +283,9 @@ impl Pledge {
 
     // Confirms or refuses a booking.
     fn decide(&mut self, day: Day, decision: Decision) -> Result<Applied, Refusal>
-        ensures step { IsApplied (unless (bars self.old day) (decide_step self.old day decision self.old.standing.booking)) self.old result self.new }
+        ensures step { IsApplied (unless (bars self.old day)
+            (decide_step self.old day decision self.old.standing.booking)) self.old result
+            self.new }
     {
         self.gate(day)?;
         let Some(booking) = self.standing.booking else {
@@ -285,7 +299,8 @@ impl Pledge {
 
     fn confirm(&mut self, day: Day, booking: &Booking) -> Result<Applied, Refusal>
         requires later { self.old.standing.last ≤ day }
-        ensures step { IsApplied (confirm_in self.old day booking.now booking.now.state) self.old result self.new }
+        ensures step { IsApplied (confirm_in self.old day booking.now booking.now.state) self.old
+            result self.new }
     {
         match booking.state {
             BookingState::Asked => {
@@ -301,7 +316,8 @@ impl Pledge {
 
     fn decline(&mut self, day: Day, booking: &Booking) -> Result<Applied, Refusal>
         requires later { self.old.standing.last ≤ day }
-        ensures step { IsApplied (decline_in self.old day booking.now booking.now.state) self.old result self.new }
+        ensures step { IsApplied (decline_in self.old day booking.now booking.now.state) self.old
+            result self.new }
     {
         match booking.state {
             BookingState::Asked | BookingState::Confirmed => {
@@ -314,7 +330,8 @@ impl Pledge {
 
     // Closes the pledge on payment of what is owed.
     fn redeem(&mut self, day: Day, paid: u64) -> Result<Applied, Refusal>
-        ensures step { IsApplied (unless (bars self.old day) (redeem_step self.old day paid)) self.old result self.new }
+        ensures step { IsApplied (unless (bars self.old day) (redeem_step self.old day paid))
+            self.old result self.new }
     {
         self.gate(day)?;
         if self.standing.held {
@@ -332,7 +349,8 @@ impl Pledge {
 
     // Closes the pledge by sale.
     fn sell(&mut self, day: Day, net: u64) -> Result<Applied, Refusal>
-        ensures step { IsApplied (unless (bars self.old day) (sell_step self.old day net)) self.old result self.new }
+        ensures step { IsApplied (unless (bars self.old day) (sell_step self.old day net)) self.old
+            result self.new }
     {
         self.gate(day)?;
         let Status::Realisable = self.open_status(day) else {
@@ -354,7 +372,8 @@ impl Pledge {
 
     // Agrees on a later end of the period.
     fn extend(&mut self, day: Day, until: Day) -> Result<Applied, Refusal>
-        ensures step { IsApplied (unless (bars self.old day) (extend_step self.old day until)) self.old result self.new }
+        ensures step { IsApplied (unless (bars self.old day) (extend_step self.old day until))
+            self.old result self.new }
     {
         self.gate(day)?;
         let ends = self.debt.ends();
@@ -378,7 +397,8 @@ impl Pledge {
         requires later { self.old.standing.last ≤ extension.day }
         requires inside { extension.day ≤ end_of self.old }
         requires longer { end_of self.old < extension.until }
-        ensures step { IsApplied (Changed (with_extension self.old extension) (Done.Extended extension.until)) self.old result self.new }
+        ensures step { IsApplied (Changed (with_extension self.old extension)
+            (Done.Extended extension.until)) self.old result self.new }
     {
         let day = extension.day;
         let until = extension.until;

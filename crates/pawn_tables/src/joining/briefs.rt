@@ -16,7 +16,8 @@ use pawn_pledge::Counts;
 
 // The last secret alone.
 fn secret_of(last: Option<LastSecret>) -> Option<Secret>
-    ensures value { (secrets : List Issued) → last ≡ last_issued secrets → result ≡ last_secret secrets }
+    ensures value { (secrets : List Issued) → last ≡ last_issued secrets
+        → result ≡ last_secret secrets }
 {
     match last {
         Some(last) => Some(last.issued.secret),
@@ -26,7 +27,8 @@ fn secret_of(last: Option<LastSecret>) -> Option<Secret>
 
 // The live secret: the last one, unless the pledge is redeemed.
 fn live_of(closing: Closing, last: Option<LastSecret>) -> Option<Secret>
-    ensures value { (secrets : List Issued) → last ≡ last_issued secrets → result ≡ live_under closing (last_secret secrets) }
+    ensures value { (secrets : List Issued) → last ≡ last_issued secrets
+        → result ≡ live_under closing (last_secret secrets) }
 {
     match closing {
         Closing::Redeemed { .. } => None,
@@ -62,7 +64,9 @@ fn fields_of(
     sides: Sides,
     tails: Tails,
 ) -> Result<BriefFields, KeepError>
-    ensures read { (p : PledgeValue) → number ≡ p.agreement.number → row ≡ row_of p → AreSides sides p → AreTails tails p → IsRead result (brief_of p) (HasSecret p × IsDayNumber (end_of p)) }
+    ensures read { (p : PledgeValue) → number ≡ p.agreement.number → row ≡ row_of p
+        → AreSides sides p → AreTails tails p → IsRead result (brief_of p)
+        (HasSecret p × IsDayNumber (end_of p)) }
 {
     let Sides {
         terms,
@@ -98,7 +102,8 @@ pub(crate) fn join(
     sides: Sides,
     tails: Tails,
 ) -> Result<Brief, KeepError>
-    ensures read { (p : PledgeValue) → number ≡ p.agreement.number → row ≡ row_of p → AreSides sides p → AreTails tails p → IsRead result (brief_of p) (IsBriefTold p) }
+    ensures read { (p : PledgeValue) → number ≡ p.agreement.number → row ≡ row_of p
+        → AreSides sides p → AreTails tails p → IsRead result (brief_of p) (IsBriefTold p) }
 {
     let fields = fields_of(number, row, sides, tails)?;
     match Brief::of_fields(fields) {

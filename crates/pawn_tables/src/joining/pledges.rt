@@ -13,7 +13,8 @@ use pawn_debt::Totals;
 
 // Whether the end of the period and the totals are the pledge's.
 fn agrees(pledge: &Pledge, ends: u64, totals: Totals) -> bool
-    ensures answer { IsTrue result ↔ ((ends ≡ end_of pledge.now) × (totals ≡ totals_of (debt_of pledge.now))) }
+    ensures answer { IsTrue result ↔
+        ((ends ≡ end_of pledge.now) × (totals ≡ totals_of (debt_of pledge.now))) }
 {
     let end = u64::from(pledge.ends().count());
     let owed = pledge.totals();
@@ -34,7 +35,9 @@ pub(super) fn record_of(
     terms: Terms,
     booking: Option<Booking>,
 ) -> (Agreement, Standing)
-    ensures value { (p : PledgeValue) → number ≡ p.agreement.number → row ≡ row_of p → terms ≡ p.agreement.terms → booking ≡ p.standing.booking → (result.0 ≡ p.agreement) × (result.1 ≡ p.standing) }
+    ensures value { (p : PledgeValue) → number ≡ p.agreement.number → row ≡ row_of p
+        → terms ≡ p.agreement.terms → booking ≡ p.standing.booking → (result.0 ≡ p.agreement)
+        × (result.1 ≡ p.standing) }
 {
     let PledgeRow {
         opening,
@@ -69,7 +72,8 @@ fn parts_of(
     booking: Option<Booking>,
     lists: Lists,
 ) -> Parts
-    ensures value { (p : PledgeValue) → number ≡ p.agreement.number → row ≡ row_of p → terms ≡ p.agreement.terms → booking ≡ p.standing.booking → AreLists lists p → result ≡ p }
+    ensures value { (p : PledgeValue) → number ≡ p.agreement.number → row ≡ row_of p
+        → terms ≡ p.agreement.terms → booking ≡ p.standing.booking → AreLists lists p → result ≡ p }
 {
     let (agreement, standing) = record_of(number, row, terms, booking);
     let Lists {
@@ -93,7 +97,8 @@ pub(crate) fn join(
     sides: Sides,
     lists: Lists,
 ) -> Result<Pledge, KeepError>
-    ensures read { (p : PledgeValue) → number ≡ p.agreement.number → row ≡ row_of p → AreSides sides p → AreLists lists p → IsRead result p (IsStanding p) }
+    ensures read { (p : PledgeValue) → number ≡ p.agreement.number → row ≡ row_of p
+        → AreSides sides p → AreLists lists p → IsRead result p (IsStanding p) }
     ensures ends { IfOk result (λ p. row.ends ≡ end_of p) }
     ensures totals { IfOk result (λ p. sides.totals ≡ Some (totals_of (debt_of p))) }
 {
