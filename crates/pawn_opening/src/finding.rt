@@ -10,7 +10,7 @@ use std::hash::{BuildHasher, RandomState};
 use std::io::ErrorKind;
 
 /// How many pages of 4,096 bytes of the database file the program keeps in memory, beside those that the system keeps.
-const KEPT_PAGES: usize = 384;
+const KEPT_PAGES: usize = 1000;
 
 /// The log and the database file at a path, which are made where there are none. A name that another program would take for a
 /// store in memory or for a URI is refused.

@@ -1,5 +1,5 @@
 -- Tables worked out: those of a host with one book, in which a ring is pawned.
-use Rattle.std.specs.Prelude.{◌≡◌, ℕ, false, [], ◌∷◌, Some, None, map, pos, codes}
+use Rattle.std.specs.Prelude.{◌≡◌, ℕ, false, [], ◌∷◌, Some, None, length, map, pos, replicate, codes}
 use Rattle.std.specs.FinMap.{empty, entries, insert}
 use Rattle.sqlite.specs.declared.types.Value.{Value}
 use Rattle.sqlite.specs.declared.types.Value.TheVariants.{Null, Int, Text, Blob}
@@ -18,6 +18,7 @@ use Rattle.pawn_book.specs.BookStep.{BookValue}
 use Rattle.pawn_book.specs.HostStep.{Host, rows}
 use Rattle.pawn_tables.specs.Entries.{IsEntriesPage, RiseFrom}
 use Rattle.pawn_tables.specs.Meta.{meta_rows}
+use Rattle.pawn_tables.specs.Places.{page_behind}
 use Rattle.pawn_tables.specs.Rows.{word, book_row, terms_listed, pledge_listed, entries_listed, secrets_listed, booking_listed, totals_listed, extensions_listed, closed_number, closed_day, closed_amount}
 use Rattle.pawn_tables.specs.StandsFor.{of_books, of_pledges}
 
@@ -73,5 +74,8 @@ pub record WorkedTables : Type 0 where
   pub gap : RiseFrom 0 (entry 1 ∷ entry 3 ∷ []) × (AreNumbered 1 (entry 1 ∷ entry 3 ∷ []) → ⊥)
   -- the page from 2 on shows entry 3, and is the last
   pub over_gap : IsEntriesPage 2 (entry 1 ∷ entry 3 ∷ []) (entry 3 ∷ [])
+  -- of 65 secrets the first page shows 64, and the page behind place 64 the last alone
+  pub full_page : length (page_behind 0 (replicate 65 4)) ≡ 64
+  pub last_page : page_behind 64 (replicate 65 4) ≡ 4 ∷ []
   -- 90 pounds are paid
   pub redeemed : (closed_number (Redeemed 19763 9000) ≡ 1) × (closed_day (Redeemed 19763 9000) ≡ Some 19763) × (closed_amount (Redeemed 19763 9000) ≡ Some 9000)

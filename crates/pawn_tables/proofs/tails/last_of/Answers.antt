@@ -1,6 +1,5 @@
-use Rattle.std.proofs.Common.{rules, refl, arith, ap}
+use Rattle.std.proofs.Common.{rules, refl, arith}
 use Rattle.pawn_tables.specs.Rows.{number}
-use Rattle.pawn_tables.specs.declared.joining.LastSecret.{LastSecret}
 use Rattle.pawn_tables.proofs.RowCells.{cell_at}
 use Rattle.pawn_tables.proofs.tails.last_of.Goals as goal
 

@@ -51,6 +51,8 @@ returns c = record {
     no_extension = refl;
     gap = ((omega arith, (omega arith, tt)), λ numbered. let two = numbered.1.0 in absurd (omega (arith, two)));
     over_gap = record { few = omega arith; goes_on = refl; is_last = λ short. refl };
+    full_page = refl;
+    last_page = refl;
     redeemed = (refl, refl, refl);
   };
 }
