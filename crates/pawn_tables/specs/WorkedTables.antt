@@ -11,6 +11,7 @@ use Rattle.pawn_terms.specs.Terms.{rates_of}
 use Rattle.pawn_pledge.specs.declared.record.BookingState.TheVariants.{Confirmed}
 use Rattle.pawn_pledge.specs.declared.record.Closing.TheVariants.{Open, Redeemed}
 use Rattle.pawn_pledge.specs.declared.record.Issue.{Issue}
+use Rattle.pawn_pledge.specs.declared.record.Issued.{Issued}
 use Rattle.pawn_pledge.specs.Pledge.{PledgeValue}
 use Rattle.pawn_pledge.specs.Replayable.{AreNumbered}
 use Rattle.pawn_pledge.specs.Worked.{ring, ring_opening}
@@ -22,13 +23,17 @@ use Rattle.pawn_tables.specs.Places.{page_behind}
 use Rattle.pawn_tables.specs.Rows.{word, book_row, terms_listed, pledge_listed, entries_listed, secrets_listed, booking_listed, totals_listed, extensions_listed, closed_number, closed_day, closed_amount}
 use Rattle.pawn_tables.specs.StandsFor.{of_books, of_pledges}
 
+-- the secret 4, sworn on 2024-01-31
+abbrev pub sworn : Issued
+sworn = record { day = date 2024 1 31; sort = Issue.Sworn; secret = 4 }
+
 -- A ring, pawned for 100 pounds on 2024-01-01 (day 19723) at 2,667 millionths a day. On 2024-01-31 (day 19753) ten pounds are
 -- repaid, the receipt is declared lost, window 2 of 2024-02-07 (day 19760) is confirmed, and 2024-09-30 (day 19996) is agreed.
 abbrev pub used_ring : PledgeValue
 used_ring = record {
   agreement = record { number = 1; opening = ring_opening (Fixed 10000) false None; taken = date 2024 1 1; version = 1; terms = rates_of 2667 0 0 };
   entries = record { seq = 1; day = date 2024 1 31; sort = Repay; pence = 1000 } ∷ [];
-  secrets = record { day = date 2024 1 1; sort = Issue.Opening; secret = 3 } ∷ record { day = date 2024 1 31; sort = Issue.Sworn; secret = 4 } ∷ [];
+  secrets = record { day = date 2024 1 1; sort = Issue.Opening; secret = 3 } ∷ sworn ∷ [];
   extensions = record { day = date 2024 1 31; until = date 2024 9 30 } ∷ [];
   standing = record { held = false; booking = Some (record { day = date 2024 2 7; window = 2; state = Confirmed }); last = date 2024 1 31; closing = Open };
 }
@@ -75,7 +80,7 @@ pub record WorkedTables : Type 0 where
   -- the page from 2 on shows entry 3, and is the last
   pub over_gap : IsEntriesPage 2 (entry 1 ∷ entry 3 ∷ []) (entry 3 ∷ [])
   -- of 65 secrets the first page shows 64, and the page behind place 64 the last alone
-  pub full_page : length (page_behind 0 (replicate 65 4)) ≡ 64
-  pub last_page : page_behind 64 (replicate 65 4) ≡ 4 ∷ []
+  pub full_page : length (page_behind 0 (replicate 65 sworn)) ≡ 64
+  pub last_page : page_behind 64 (replicate 65 sworn) ≡ sworn ∷ []
   -- 90 pounds are paid
   pub redeemed : (closed_number (Redeemed 19763 9000) ≡ 1) × (closed_day (Redeemed 19763 9000) ≡ Some 19763) × (closed_amount (Redeemed 19763 9000) ≡ Some 9000)
