@@ -1,5 +1,5 @@
 //! The books of a store, judged one after the other.
-ghost use Rattle.std.specs.Prelude.{◌≡◌, ◌≤◌, ℕ, IfOk, IfSome, Some, length, unwrap_or};
+ghost use Rattle.std.specs.Prelude.{◌≡◌, ◌≤◌, IfOk, IfSome, Some, length, unwrap_or};
 ghost use Rattle.std.specs.Str.{IsUtf8};
 ghost use Rattle.std.specs.FinMap.{get};
 ghost use Rattle.pawn_terms.specs.Terms.{IsChecked};
@@ -9,9 +9,9 @@ ghost use Rattle.pawn_book.specs.BookStep.{BookValue, book_head};
 ghost use Rattle.pawn_book.specs.HostStep.{rows};
 ghost use Rattle.pawn_book.specs.Keeping.{IsNextBook, Reads, terms_of};
 ghost use Rattle.pawn_book.specs.Rows.{terms_at};
-ghost use Rattle.pawn_book.specs.Limits.{IsCapacity, most_name_bytes, most_pledges, most_terms};
+ghost use Rattle.pawn_book.specs.Limits.{IsCapacity, most_name_bytes, most_pledges};
 ghost use Rattle.pawn_book.specs.Sound.{IsWord};
-ghost use Rattle.pawn_check.specs.Judging.{AreOfBook, Finds, IsQuiet, Judges, JudgesBook};
+ghost use Rattle.pawn_check.specs.Judging.{Finds, IsQuiet, Judges, JudgesBook};
 
 use crate::counts::{BookCounts, Counts};
 use crate::fault::CheckFault;
