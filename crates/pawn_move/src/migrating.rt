@@ -8,6 +8,7 @@ use crate::fault::{MoveFault, unmoved};
 use crate::making::refused;
 use crate::moving::{move_first, move_second};
 use crate::telling::schema_of;
+use one_table::know_settled;
 use pawn_book::KeepError;
 use pawn_opening::SCHEMA;
 use sqlite::{Alter, Connection, Transaction};
@@ -42,7 +43,7 @@ fn move_store<S: Alter>(conn: &mut Connection<S>, alloc: Global, from: u32) -> R
     ensures moves { MovesStore from (state S.Store conn.old) (state S.Store conn.new) result }
     ensures judges { MovesStoreOwed from (state S.Store conn.old) (state S.Store conn.new) result }
 {
-    let _ = conn.is_autocommit();
+    know_settled(conn);
     let _ = conn.schema();
     let mut tx = conn.transaction();
     if let Err(error) = move_tables(&mut tx, alloc, from) {
@@ -64,7 +65,7 @@ pub fn migrate<S: Alter>(alloc: Global, conn: &mut Connection<S>) -> Result<(u32
     ensures migrates { Migrates (state S.Store conn.old) (state S.Store conn.new) result }
     ensures judges { MigratesOwed (state S.Store conn.old) (state S.Store conn.new) result }
 {
-    let _ = conn.is_autocommit();
+    know_settled(conn);
     let from = match schema_of(conn) {
         Ok(from) => from,
         Err(why) => return Err(why),

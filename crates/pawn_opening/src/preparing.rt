@@ -7,6 +7,7 @@ ghost use Rattle.pawn_opening.specs.Refusing.{IsEmptyStore};
 use crate::fault::{OpenFault, refused};
 use crate::filling::fill;
 use crate::recognising::recognise;
+use one_table::know_settled;
 use sqlite::{Alter, Connection};
 
 // Lays the tables of the empty host out, in one transaction.
@@ -14,7 +15,7 @@ fn lay_out<S: Alter>(conn: &mut Connection<S>, limit: u32) -> Result<(), OpenFau
     requires rests { conn.old.in_transaction ≡ false }
     ensures laid_out { LaysOut (state S.Store conn.old) (state S.Store conn.new) limit result }
 {
-    let _ = conn.is_autocommit();
+    know_settled(conn);
     let _ = conn.schema();
     let mut tx = conn.transaction();
     if let Err(error) = fill(&mut tx, limit) {
@@ -43,7 +44,7 @@ pub fn prepare<S: Alter>(conn: &mut Connection<S>, limit: u32) -> Result<(), Ope
     requires most { limit ≤ most_rows }
     ensures prepared { Prepares (state S.Store conn.old) (state S.Store conn.new) limit result }
 {
-    let _ = conn.is_autocommit();
+    know_settled(conn);
     if is_empty(conn) {
         lay_out(conn, limit)
     } else {

@@ -4,6 +4,7 @@ ghost use Rattle.pawn_opening.specs.Opened.{Recognises, TellsSchema};
 ghost use Rattle.pawn_opening.specs.Refusing.{IsJudged, IsNumberRead};
 
 use crate::fault::{OpenFault, refused};
+use one_table::know_settled;
 use sqlite::{Alter, Connection, Error, ErrorCode, Row};
 
 // The number of the schema that this program reads and writes.
@@ -29,7 +30,7 @@ pub fn schema_noted<S: Alter>(conn: &mut Connection<S>) -> Result<Option<u64>, O
     requires rests { conn.old.in_transaction ≡ false }
     ensures tells { TellsSchema (state S.Store conn.old) (state S.Store conn.new) result }
 {
-    let _ = conn.is_autocommit();
+    know_settled(conn);
     match conn.query_all("SELECT value FROM meta WHERE name = 'schema'", &[]) {
         Ok(rows) => number_of(&rows),
         Err(Error::SqlInputError(_)) => Ok(None),
