@@ -22,7 +22,7 @@ use crate::writing::{
 use pawn_book::{
     BookHead, Booking, Brief, Entry, Extension, Flow, Issued, Keep, KeepError, Number, Visitor,
 };
-use pawn_view::ViewFault;
+use pawn_view::{ViewFault, visit_entries, visit_extensions};
 use std::alloc::Global;
 use std::io::Write;
 
@@ -116,14 +116,17 @@ fn put_secrets<K: Keep, W: Write>(
     keep.secrets(book, number, rows)
 }
 
-// Puts the entries of a pledge.
+// Puts the entries of the pledge that this brief is of.
 fn put_entries<K: Keep, W: Write>(
     keep: &mut K,
     book: Number,
     number: Number,
+    brief: &Brief,
     rows: &mut RowWriter<W>,
 ) -> Result<(), KeepError>
-    ensures shares { Reads K.keeping keep.old keep.new (λ h. IsSound h
+    ensures shares { Reads K.keeping keep.old keep.new
+        (λ h. IsSound h → (p : PledgeValue) → pledge_in (get h.books book) number ≡ Some p
+        → brief.now ≡ brief_of p
         → PutsShare W.contents rows.old.sink
         (flat_map line_of (entry_rows number (entries_of (pledge_in (get h.books book) number))))
         (call_end result) rows.new.sink) }
@@ -131,17 +134,20 @@ fn put_entries<K: Keep, W: Write>(
 {
     rows.number = u64::from(number.get());
     rows.place = 1;
-    keep.entries(book, number, rows)
+    visit_entries(keep, book, number, brief, rows)
 }
 
-// Puts the extensions of a pledge.
+// Puts the extensions of the pledge that this brief is of.
 fn put_extensions<K: Keep, W: Write>(
     keep: &mut K,
     book: Number,
     number: Number,
+    brief: &Brief,
     rows: &mut RowWriter<W>,
 ) -> Result<(), KeepError>
-    ensures shares { Reads K.keeping keep.old keep.new (λ h. IsSound h
+    ensures shares { Reads K.keeping keep.old keep.new
+        (λ h. IsSound h → (p : PledgeValue) → pledge_in (get h.books book) number ≡ Some p
+        → brief.now ≡ brief_of p
         → PutsShare W.contents rows.old.sink
         (flat_map line_of
         (extension_rows number 1 (extensions_of (pledge_in (get h.books book) number))))
@@ -150,7 +156,7 @@ fn put_extensions<K: Keep, W: Write>(
 {
     rows.number = u64::from(number.get());
     rows.place = 1;
-    keep.extensions(book, number, rows)
+    visit_extensions(keep, book, number, brief, rows)
 }
 
 // Puts the booking of a pledge, if one stands.
@@ -185,11 +191,11 @@ fn put_record<K: Keep, W: Write>(
         Ok(()) => {}
         Err(error) => return Err(error),
     }
-    match put_entries(keep, book, number, rows) {
+    match put_entries(keep, book, number, brief, rows) {
         Ok(()) => {}
         Err(error) => return Err(error),
     }
-    match put_extensions(keep, book, number, rows) {
+    match put_extensions(keep, book, number, brief, rows) {
         Ok(()) => {}
         Err(error) => return Err(error),
     }

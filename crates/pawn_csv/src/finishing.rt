@@ -4,7 +4,7 @@ ghost use Rattle.pawn_book.specs.declared.rows.BookRows.{BookRows};
 ghost use Rattle.pawn_book.specs.Rows.{AreReplayable, terms_at};
 ghost use Rattle.pawn_csv.specs.declared.fault.Cause.TheVariants as Cause;
 ghost use Rattle.pawn_csv.specs.Finishing.{AreRawOf, Ends, IsBegunOf, IsClosingOf, IsRawOf};
-ghost use Rattle.pawn_csv.specs.Order.{begun_of, hand, pledges_of, view_begun};
+ghost use Rattle.pawn_csv.specs.Order.{begun_of, hand, view_begun};
 ghost use Rattle.pawn_pledge.specs.Pledge.{PledgeValue};
 ghost use Rattle.pawn_pledge.specs.declared.record.Closing.{Closing};
 

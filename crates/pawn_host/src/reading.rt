@@ -1,5 +1,5 @@
 //! A reader whose reads are counted.
-ghost use Rattle.std.specs.Prelude.{◌≡◌, ◌+◌, ◌<◌, ◌≤◌, true, false, is_err, ◌||◌, length, take};
+ghost use Rattle.std.specs.Prelude.{◌≡◌, ◌+◌, ◌<◌, ◌≤◌, true, false, is_err, ◌||◌};
 ghost use Rattle.std.specs.Io.{ReadsAtMost};
 ghost use Rattle.pawn_host.specs.Limits.{most_reads};
 ghost use Rattle.std.specs.Io.KnownBytes.{ReadConsumes};

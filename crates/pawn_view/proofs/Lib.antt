@@ -5,3 +5,4 @@ pub mod SoundLemmas
 pub mod StatementLemmas
 pub mod PresentedLemmas
 pub mod SheetLemmas
+pub mod ListLemmas

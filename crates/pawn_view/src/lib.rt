@@ -3,6 +3,7 @@
 
 mod fault;
 mod lines;
+mod lists;
 mod money;
 mod receipts;
 mod sheets;
@@ -11,6 +12,7 @@ mod worked;
 mod writing;
 
 pub use fault::ViewFault;
+pub use lists::{visit_entries, visit_extensions};
 pub use receipts::show_presented;
 pub use sheets::show_day_sheet;
 pub use statements::show_statement;

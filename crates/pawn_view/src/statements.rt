@@ -15,6 +15,7 @@ use crate::lines::{
     put_booking, put_closing, put_day, put_entry, put_extended, put_held, put_kind, put_number,
     put_owed, put_status, put_text,
 };
+use crate::lists::{visit_entries, visit_extensions};
 use crate::writing::Writing;
 use pawn_book::{Brief, Closing, Day, Entry, Extension, Flow, Keep, KeepError, Number, Visitor};
 use std::io::Write;
@@ -106,12 +107,12 @@ pub(crate) fn put_statement<K: Keep, W: Write>(
     ensures steady { IsSteady K.keeping keep.old result }
 {
     put_first(writer, brief);
-    match keep.extensions(book, number, writer) {
+    match visit_extensions(keep, book, number, brief, writer) {
         Ok(()) => {}
         Err(error) => return Err(error),
     }
     put_state(writer, brief, shown_day(brief, day));
-    keep.entries(book, number, writer)
+    visit_entries(keep, book, number, brief, writer)
 }
 
 /// Writes the statement of a pledge, asked for on a day. The keeper's content stays as it is.

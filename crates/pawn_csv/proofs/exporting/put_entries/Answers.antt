@@ -6,7 +6,7 @@ use Rattle.pawn_csv.proofs.exporting.put_entries.Goals as goal
 
 pub returns-clause-shares : goal.returns-clause-shares
 returns-clause-shares g c =
-    let (given, flow, handed, reads) = c.entries.ensures.reads in
-    reads_as reads (λ h share sound.
-    entries_share g.W.Write.contents h c.args.book c.args.number _ c.entries.new.visitor given flow (call_end c.entries.result) sound
-    (search rules) refl handed share)
+    let (given, flow, handed, reads) = c.visit_entries.ensures.reads in
+    reads_as reads (λ h share sound p at is.
+    entries_share g.W.Write.contents h c.args.book c.args.number _ c.visit_entries.new.visitor given flow (call_end c.visit_entries.result) sound
+    (search rules) refl handed (share p at is))

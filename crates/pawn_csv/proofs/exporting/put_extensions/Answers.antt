@@ -6,7 +6,7 @@ use Rattle.pawn_csv.proofs.exporting.put_extensions.Goals as goal
 
 pub returns-clause-shares : goal.returns-clause-shares
 returns-clause-shares g c =
-    let (given, flow, handed, reads) = c.extensions.ensures.reads in
-    reads_as reads (λ h share sound.
-    extensions_share g.W.Write.contents h c.args.book c.args.number _ c.extensions.new.visitor given flow (call_end c.extensions.result) sound
-    (search rules) refl handed share)
+    let (given, flow, handed, reads) = c.visit_extensions.ensures.reads in
+    reads_as reads (λ h share sound p at is.
+    extensions_share g.W.Write.contents h c.args.book c.args.number _ c.visit_extensions.new.visitor given flow (call_end c.visit_extensions.result) sound
+    (search rules) refl handed (share p at is))
