@@ -2,6 +2,7 @@ pub mod BookChanges
 pub mod BookPuts
 pub mod Changing
 pub mod Counter
+pub mod Differing
 pub mod Hosting
 pub mod ImportWrites
 pub mod Judging

@@ -1,7 +1,9 @@
 -- What the statements of a change write.
-use Rattle.std.proofs.Common.{◌≡◌, inl, inr, ℕ, ℤ, pos, List, [], ◌∷◌, ◌++◌, Bool, true, false, ◌&&◌, ◌||◌, ◌==◌, Option, Some, None, Result, Ok, Err, refl, subst, ◌∙◌, arith, IsPermutation, filter}
+use Rattle.std.proofs.Common.{◌≡◌, inl, inr, ℕ, ℤ, pos, List, [], ◌∷◌, ◌++◌, Bool, true, false, ◌&&◌, ◌||◌, ◌==◌, Option, Some, None, Result, Ok, Err, refl, sym, ap, subst, ◌∙◌, arith, IsPermutation, filter}
 use Rattle.std.specs.Prelude.{OnOk, option_map}
+use Rattle.std.specs.List.{list_all}
 use Rattle.std.proofs.lemmas.Bool.Decides.{nat_tests}
+use Rattle.sqlite.specs.declared.types.Value.{Value}
 use Rattle.sqlite.specs.declared.types.Value.TheVariants.{Null, Int, Blob}
 use Rattle.sqlite.specs.Order.{Row, column}
 use Rattle.sqlite.specs.State.{State, Executes}
@@ -16,14 +18,14 @@ use Rattle.pawn_pledge.specs.declared.record.Issued.{Issued}
 use Rattle.one_table.specs.Listing.{Lists, Listed, with_rows, columns_of}
 use Rattle.one_table.proofs.Rowed.{plainly, cast_null, cast_int, cast_whole}
 use Rattle.one_table.proofs.Insertion.{inserted}
-use Rattle.one_table.proofs.Alteration.{set_one}
 use Rattle.one_table.proofs.Upsertion.{upserted, Splits}
 use Rattle.pawn_tables.specs.Schema.{terms, entries, secrets, bookings, totals, extensions, keep_schema}
 use Rattle.pawn_tables.specs.Rows.{number, word, under, at_most_one, sort_number, issue_number, state_number, terms_cells, entry_cells, secret_cells, extension_cells, booking_cells, totals_cells}
-use Rattle.pawn_tables.specs.At.{at_pledge}
+use Rattle.pawn_tables.specs.At.{at_pledge, is_at}
 use Rattle.pawn_tables.proofs.ReadTexts as read
 use Rattle.pawn_tables.proofs.Sought.{equals}
 use Rattle.pawn_saving.specs.Writing.{IsOnly}
+use Rattle.pawn_saving.proofs.Differing.{set_where, differ, AreEqual, all_equal, same_number}
 use Rattle.pawn_saving.proofs.WriteTexts as text
 use Rattle.pawn_saving.proofs.Places.{terms_place, entries_place, secrets_place, bookings_place, totals_place, extensions_place}
 
@@ -37,6 +39,23 @@ pub own_row : (b n : ℕ) (cells : Row) → at_pledge b n (under b n cells) ≡ 
 own_row b n cells =
     let x : (b == b) ≡ true = grind (arith, nat_tests) in let y : (n == n) ≡ true = grind (arith, nat_tests) in
     (λ i. equals b b i && (equals n n i && true)) ∙ rw (x, y) refl
+
+-- a row of the pledge, of which more is asked
+pub own_where : (b n : ℕ) (v : Row) (more : Bool) → list_all (λ (x : Bool). x) (is_at (column v 0) (number b) ∷ is_at (column v 1) (number n) ∷ more ∷ []) ≡ (at_pledge b n v && more)
+own_where b n v more = moved (is_at (column v 0) (number b)) (is_at (column v 1) (number n)) more
+  where
+    moved : (p q d : Bool) → (p && (q && (d && true))) ≡ ((p && (q && true)) && d)
+    moved true true true = refl
+    moved true true false = refl
+    moved true false d = refl
+    moved false q d = refl
+
+-- the totals of a row, beside what is to stand there, after the day
+abbrev beside : (p : ℕ) (c : ℤ) → Row → List (Value × Value)
+beside p c v = (column v 3, number p) ∷ (column v 4, Int c) ∷ []
+
+abbrev others_in : (d p : ℕ) (c : ℤ) → Row → Bool
+others_in d p c v = differ (column v 2, number d) (beside p c v)
 
 -- ---- rows that join
 
@@ -102,8 +121,16 @@ module _ (old new : State) (listed : Listed) (st : Lists keep_schema old.now lis
   totals_wrote b n d p c t before rest day principal charges only h =
       let after : Row = number b ∷ number n ∷ number d ∷ number p ∷ Int c ∷ [] in
       subst (λ cells. Lists keep_schema new.now (with_rows listed 15 (under b n cells ∷ rest))) (λ i. number (day i) ∷ number (principal i) ∷ Int (charges i) ∷ [])
-      (set_one keep_schema 7 (record totals { tree = 15 }) totals_place (λ _. refl) read.of_pledge text.totals_shows (at_pledge b n) text.totals_text text.totals_is.0 text.totals_is.1
-      old new after count listed (under b n (totals_cells before)) after rest st (λ r. refl) only.split (own_row b n (totals_cells before)) only.none
+      (set_where keep_schema 7 (record totals { tree = 15 }) totals_place (λ _. refl) text.totals_tests text.totals_shows text.totals_text text.totals_is.0 text.totals_is.1
+      old new after count listed st (at_pledge b n) (others_in d p c) (λ r. let v = columns_of (plainly (record totals { tree = 15 })) r in own_where b n v (others_in d p c v)) (under b n (totals_cells before)) after rest
+      only.split (own_row b n (totals_cells before)) only.none
+      (λ none.
+      let same = all_equal (number before.day, number d) (beside p c (under b n (totals_cells before))) none in
+      let e2 = same_number before.day d same.0 in
+      let e3 = same_number before.principal p same.1.0 in
+      let e4 = same_number before.millionths t.millionths (subst (λ z. AreEqual (number before.millionths, Int z)) charges same.1.1.0) in
+      let e5 : pos before.millionths ≡ c = ap pos e4 ∙ sym charges in
+      (λ i. number b ∷ number n ∷ number (e2 i) ∷ number (e3 i) ∷ Int (e5 i) ∷ []))
       (λ id r at cols.
       let first : column r 1 ≡ number b = (let e = cols in cc) in
       let second : column r 2 ≡ number n = (let e = cols in cc) in (

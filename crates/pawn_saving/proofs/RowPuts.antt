@@ -1,5 +1,5 @@
 -- What the statements on the rows of pledges write.
-use Rattle.std.proofs.Common.{◌≡◌, ℕ, List, [], ◌∷◌, Option, Some, None, Ok, refl, ap, subst, ◌∙◌}
+use Rattle.std.proofs.Common.{◌≡◌, ℕ, Bool, List, [], ◌∷◌, Option, Some, None, Ok, refl, ap, subst, ◌∙◌}
 use Rattle.sqlite.specs.declared.types.Value.{Value}
 use Rattle.sqlite.specs.declared.types.Value.TheVariants.{Null, Int, Text}
 use Rattle.sqlite.specs.Cast.{cast}
@@ -9,10 +9,9 @@ use Rattle.sqlite.specs.State.{State, Executes}
 use Rattle.pawn_debt.specs.Due.{credit_of}
 use Rattle.pawn_pledge.specs.declared.record.Agreement.{Agreement}
 use Rattle.pawn_pledge.specs.Pledge.{PledgeValue, end_of}
-use Rattle.one_table.specs.Listing.{Lists, Listed, with_rows}
-use Rattle.one_table.proofs.Rowed.{cast_null, cast_int, cast_whole}
+use Rattle.one_table.specs.Listing.{Lists, Listed, with_rows, columns_of}
+use Rattle.one_table.proofs.Rowed.{plainly, cast_null, cast_int, cast_whole}
 use Rattle.one_table.proofs.Insertion.{inserted}
-use Rattle.one_table.proofs.Alteration.{set_one}
 use Rattle.pawn_tables.specs.Schema.{pledges, keep_schema}
 use Rattle.pawn_tables.specs.Rows.{number, or_null, flag, flag_number, under, kind_number, pledge_cells, closed_number, closed_day, closed_amount}
 use Rattle.pawn_tables.specs.At.{at_pledge}
@@ -20,11 +19,19 @@ use Rattle.pawn_tables.proofs.ReadTexts as read
 use Rattle.pawn_saving.specs.Writing.{IsOnly}
 use Rattle.pawn_saving.proofs.WriteTexts as text
 use Rattle.pawn_saving.proofs.Places.{pledges_place}
-use Rattle.pawn_saving.proofs.Puts.{own_row}
+use Rattle.pawn_saving.proofs.Puts.{own_row, own_where}
+use Rattle.pawn_saving.proofs.Differing.{set_where, differ, all_equal, same_number, same_optional}
 
 cast_optional : (o : Option ℕ) → cast Integer (or_null number o) ≡ or_null number o
 cast_optional None = cast_null
 cast_optional (Some n) = cast_int n
+
+-- what can change of a row, beside what is to stand there, after the end
+abbrev beside : (h l x : ℕ) (y z : Option ℕ) → Row → List (Value × Value)
+beside h l x y z v = (column v 11, number h) ∷ (column v 12, number l) ∷ (column v 13, number x) ∷ (column v 14, or_null number y) ∷ (column v 15, or_null number z) ∷ []
+
+abbrev others_in : (e h l x : ℕ) (y z : Option ℕ) → Row → Bool
+others_in e h l x y z v = differ (column v 10, number e) (beside h l x y z v)
 
 module _ (old new : State) (listed : Listed) (st : Lists keep_schema old.now listed) (count : ℕ) where
   row_put : (b n : ℕ) (r a : List ℕ) (k c t : ℕ) (go : Option ℕ) (f v e h l x : ℕ) (yo zo : Option ℕ)
@@ -57,8 +64,19 @@ module _ (old new : State) (listed : Listed) (st : Lists keep_schema old.now lis
       subst (λ row. Lists keep_schema new.now (with_rows listed 3 (row ∷ rest)))
       (λ i. number b ∷ number n ∷ Text o.reference ∷ Text o.article ∷ number (kind_number o.kind) ∷ number (credit_of o.kind) ∷ number p.agreement.taken ∷ or_null number o.agreed
       ∷ flag o.five_days ∷ number p.agreement.version ∷ number (es i) ∷ number (hs i) ∷ number (ls i) ∷ number (xs i) ∷ or_null number (closed_day p.standing.closing) ∷ or_null number (closed_amount p.standing.closing) ∷ [])
-      (set_one keep_schema 2 (record pledges { tree = 3 }) pledges_place (λ _. refl) read.of_pledge text.change_shows (at_pledge b n) text.change_text text.change_is.0 text.change_is.1
-      old new (number b ∷ number n ∷ number e ∷ number h ∷ number l ∷ number x ∷ or_null number (closed_day p.standing.closing) ∷ or_null number (closed_amount p.standing.closing) ∷ []) count listed (under b n (pledge_cells before)) after rest st (λ row. refl) only.split (own_row b n (pledge_cells before)) only.none
+      (set_where keep_schema 2 (record pledges { tree = 3 }) pledges_place (λ _. refl) text.change_tests text.change_shows text.change_text text.change_is.0 text.change_is.1
+      old new (number b ∷ number n ∷ number e ∷ number h ∷ number l ∷ number x ∷ or_null number (closed_day p.standing.closing) ∷ or_null number (closed_amount p.standing.closing) ∷ []) count listed st
+      (at_pledge b n) (others_in e h l x (closed_day p.standing.closing) (closed_amount p.standing.closing)) (λ row. let v = columns_of (plainly (record pledges { tree = 3 })) row in own_where b n v (others_in e h l x (closed_day p.standing.closing) (closed_amount p.standing.closing) v)) (under b n (pledge_cells before)) after rest only.split (own_row b n (pledge_cells before)) only.none
+      (λ none.
+      let same = all_equal (number (end_of before), number e) (beside h l x (closed_day p.standing.closing) (closed_amount p.standing.closing) (under b n (pledge_cells before))) none in
+      let e10 = same_number (end_of before) e same.0 in
+      let e11 = same_number (flag_number before.standing.held) h same.1.0 in
+      let e12 = same_number before.standing.last l same.1.1.0 in
+      let e13 = same_number (closed_number before.standing.closing) x same.1.1.1.0 in
+      let e14 = same_optional (closed_day before.standing.closing) (closed_day p.standing.closing) same.1.1.1.1.0 in
+      let e15 = same_optional (closed_amount before.standing.closing) (closed_amount p.standing.closing) same.1.1.1.1.1.0 in
+      λ i. let o' = (agreed i).opening in number b ∷ number n ∷ Text o'.reference ∷ Text o'.article ∷ number (kind_number o'.kind) ∷ number (credit_of o'.kind) ∷ number (agreed i).taken ∷ or_null number o'.agreed
+      ∷ flag o'.five_days ∷ number (agreed i).version ∷ number (e10 i) ∷ number (e11 i) ∷ number (e12 i) ∷ number (e13 i) ∷ or_null number (e14 i) ∷ or_null number (e15 i) ∷ [])
       (λ id row at cols.
       let c1 : column row 1 ≡ number b = (let s = cols in cc) in
       let c2 : column row 2 ≡ number n = (let s = cols in cc) in

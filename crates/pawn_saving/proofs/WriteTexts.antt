@@ -4,9 +4,10 @@ use Rattle.sqlite.specs.Command.TheVariants.{InsertOr}
 use Rattle.sqlite_tied.specs.Compute.{everything}
 use Rattle.sqlite.specs.Listing.{understood}
 use Rattle.sqlite.specs.Collation.TheVariants.{Binary}
-use Rattle.sqlite.specs.Term.{Term, lit, col, op2}
+use Rattle.sqlite.specs.Term.{Term, lit, col, op1, op2}
 use Rattle.sqlite.specs.Source.TheVariants.{Values}
-use Rattle.sqlite_sql.specs.declared.ops.BinaryOp.TheVariants.{Compare, Arith}
+use Rattle.sqlite_sql.specs.declared.ops.BinaryOp.TheVariants.{Compare, Arith, Is, Or}
+use Rattle.sqlite_sql.specs.declared.ops.UnaryOp.TheVariants.{Not}
 use Rattle.sqlite_sql.specs.declared.ops.ArithOp.TheVariants.{Add}
 use Rattle.sqlite_sql.specs.declared.ops.CompareOp.TheVariants.{Eq}
 use Rattle.sqlite_schema.specs.declared.command.Returning.{Returning}
@@ -16,8 +17,8 @@ use Rattle.sqlite.specs.declared.types.Value.TheVariants.{Null, Int, Text}
 use Rattle.sqlite.proofs.Callers.{IsPlain, command_of}
 use Rattle.pawn_tables.specs.Schema.{keep_schema}
 use Rattle.one_table.proofs.OneTable.{over_table}
-use Rattle.one_table.proofs.Texts.{Asks, Puts, Sets, Returns}
-use Rattle.pawn_tables.proofs.ReadTexts.{of_book, of_pledge}
+use Rattle.one_table.proofs.Texts.{Asks, Puts, Sets, Returns, is_param}
+use Rattle.pawn_tables.proofs.ReadTexts.{of_book}
 
 abbrev pub book_text : List ℕ
 book_text = codes "INSERT INTO books VALUES (?1, ?2, ?3, ?4, 0, 0, NULL, NULL)"
@@ -56,24 +57,40 @@ pub extension_is : Puts keep_schema extension_text 8 five_values 6
 unfolding understood everything
 extension_is = (refl, (refl, refl))
 
+-- a column is other than a parameter
+abbrev is_other : ℕ → ℕ → Term
+is_other place param = op1 Not (op2 (Is Binary) (col 1 place) (col 0 param))
+
+-- SQL's OR of terms
+abbrev or_terms : Term → List Term → Term
+or_terms t [] = t
+or_terms t (u ∷ more) = or_terms (op2 Or t u) more
+
 -- held, last_day, ends and the closing are all that changes of a row of a pledge
 abbrev pub change_text : List ℕ
-change_text = codes "UPDATE pledges SET ends = ?3, held = ?4, last_day = ?5, closed = ?6, closed_day = ?7, amount = ?8 WHERE book = ?1 AND number = ?2"
+change_text = codes "UPDATE pledges SET ends = ?3, held = ?4, last_day = ?5, closed = ?6, closed_day = ?7, amount = ?8 WHERE book = ?1 AND number = ?2 AND (ends IS NOT ?3 OR held IS NOT ?4 OR last_day IS NOT ?5 OR closed IS NOT ?6 OR closed_day IS NOT ?7 OR amount IS NOT ?8)"
+
+-- the row is written where one of them is another
+abbrev pub change_tests : List Term
+change_tests = is_param 1 0 ∷ is_param 2 1 ∷ or_terms (is_other 11 2) (is_other 12 3 ∷ is_other 13 4 ∷ is_other 14 5 ∷ is_other 15 6 ∷ is_other 16 7 ∷ []) ∷ []
 
 abbrev pub change_shows : List Term
 change_shows = col 1 0 ∷ col 1 0 ∷ col 1 1 ∷ col 1 2 ∷ col 1 3 ∷ col 1 4 ∷ col 1 5 ∷ col 1 6 ∷ col 1 7 ∷ col 1 8 ∷ col 1 9 ∷ col 1 10 ∷ col 0 2 ∷ col 0 3 ∷ col 0 4 ∷ col 0 5 ∷ col 0 6 ∷ col 0 7 ∷ []
 
-pub change_is : Sets keep_schema change_text 2 (over_table 3 of_pledge change_shows [])
+pub change_is : Sets keep_schema change_text 2 (over_table 3 change_tests change_shows [])
 unfolding understood everything
 change_is = (refl, (refl, refl))
 
 abbrev pub totals_text : List ℕ
-totals_text = codes "UPDATE totals SET day = ?3, principal = ?4, charges = ?5 WHERE book = ?1 AND number = ?2"
+totals_text = codes "UPDATE totals SET day = ?3, principal = ?4, charges = ?5 WHERE book = ?1 AND number = ?2 AND (day IS NOT ?3 OR principal IS NOT ?4 OR charges IS NOT ?5)"
+
+abbrev pub totals_tests : List Term
+totals_tests = is_param 1 0 ∷ is_param 2 1 ∷ or_terms (is_other 3 2) (is_other 4 3 ∷ is_other 5 4 ∷ []) ∷ []
 
 abbrev pub totals_shows : List Term
 totals_shows = col 1 0 ∷ col 1 0 ∷ col 1 1 ∷ col 1 2 ∷ col 0 2 ∷ col 0 3 ∷ col 0 4 ∷ []
 
-pub totals_is : Sets keep_schema totals_text 7 (over_table 15 of_pledge totals_shows [])
+pub totals_is : Sets keep_schema totals_text 7 (over_table 15 totals_tests totals_shows [])
 unfolding understood everything
 totals_is = (refl, (refl, refl))
 

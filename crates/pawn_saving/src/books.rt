@@ -1,4 +1,4 @@
-ghost use Rattle.std.specs.Prelude.{◌≡◌, ◌∷◌, ℕ, List, is_ok, length};
+ghost use Rattle.std.specs.Prelude.{◌≡◌, ◌∷◌, List, is_ok, length};
 ghost use Rattle.sqlite.specs.Held.{state};
 ghost use Rattle.pawn_terms.specs.declared.terms.Rates.{Rates};
 ghost use Rattle.pawn_pledge.specs.Pledge.{PledgeValue};

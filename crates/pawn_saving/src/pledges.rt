@@ -59,7 +59,7 @@ pub(crate) fn put_row<S: Alter>(
 }
 
 /// Sets what changes in the row of a pledge: its end, how it is held, the day of its last change,
-/// and its closing.
+/// and its closing. A row that has all of it already is not written.
 pub(crate) fn set_row<S: Alter>(
     tx: &mut Transaction<'_, S>,
     book: u32,
@@ -83,7 +83,7 @@ pub(crate) fn set_row<S: Alter>(
     let amount = closed_amount(standing.closing)?;
     write(
         tx,
-        "UPDATE pledges SET ends = ?3, held = ?4, last_day = ?5, closed = ?6, closed_day = ?7, amount = ?8 WHERE book = ?1 AND number = ?2",
+        "UPDATE pledges SET ends = ?3, held = ?4, last_day = ?5, closed = ?6, closed_day = ?7, amount = ?8 WHERE book = ?1 AND number = ?2 AND (ends IS NOT ?3 OR held IS NOT ?4 OR last_day IS NOT ?5 OR closed IS NOT ?6 OR closed_day IS NOT ?7 OR amount IS NOT ?8)",
         params![book, number, ends, held, last, closed, &closed_on, &amount],
     )
 }
@@ -147,7 +147,7 @@ pub fn put_totals<S: Alter>(
     )
 }
 
-/// Sets the totals of a pledge that stands.
+/// Sets the totals of a pledge that stands. A row that has them already is not written.
 pub(crate) fn set_totals<S: Alter>(
     tx: &mut Transaction<'_, S>,
     book: u32,
@@ -167,7 +167,7 @@ pub(crate) fn set_totals<S: Alter>(
     let charges = charges_of(totals.millionths)?;
     write(
         tx,
-        "UPDATE totals SET day = ?3, principal = ?4, charges = ?5 WHERE book = ?1 AND number = ?2",
+        "UPDATE totals SET day = ?3, principal = ?4, charges = ?5 WHERE book = ?1 AND number = ?2 AND (day IS NOT ?3 OR principal IS NOT ?4 OR charges IS NOT ?5)",
         params![book, number, day, principal, charges],
     )
 }
