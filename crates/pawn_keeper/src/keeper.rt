@@ -8,6 +8,7 @@ mod handing;
 mod places;
 mod sheets;
 
+use one_table::know_settled;
 use pawn_book::{
     BookHead, Brief, Change, Day, Entry, Extension, Flow, Issued, Keep, KeepError, Number, Pledge,
     Reference, SaveError, SheetItem, StoreFault, Terms, Visitor,
@@ -60,7 +61,7 @@ impl<S: Alter> TableKeep<S> {
             (λ h. Unit {0}) }
         ensures shut { IsTrue result → (state S.Store self.new.conn).is_open ≡ false }
     {
-        let _ = self.conn.is_autocommit();
+        know_settled(&self.conn);
         match self.conn.prepare("") {
             Err(Error::SqliteFailure(ErrorCode::Closed)) => true,
             _ => false,
@@ -75,7 +76,7 @@ impl<S: Alter> Keep for TableKeep<S> {
     ghost keeping = { keeping_by (λ k. state S.Store k.conn) };
 
     fn book_head(&mut self, book: Number) -> Result<Option<BookHead>, KeepError> {
-        let _ = self.conn.is_autocommit();
+        know_settled(&self.conn);
         let mut tx = self.conn.transaction();
         let head = head_in(&mut tx, self.alloc, book.get());
         tx.rollback();
@@ -83,7 +84,7 @@ impl<S: Alter> Keep for TableKeep<S> {
     }
 
     fn terms(&mut self, book: Number, version: u64) -> Result<Option<Terms>, KeepError> {
-        let _ = self.conn.is_autocommit();
+        know_settled(&self.conn);
         let mut tx = self.conn.transaction();
         let terms = terms_under(&mut tx, book.get(), version);
         tx.rollback();
@@ -91,7 +92,7 @@ impl<S: Alter> Keep for TableKeep<S> {
     }
 
     fn pledge(&mut self, book: Number, number: Number) -> Result<Option<Pledge>, KeepError> {
-        let _ = self.conn.is_autocommit();
+        know_settled(&self.conn);
         let mut tx = self.conn.transaction();
         let pledge = pledge_of(&mut tx, self.alloc, book.get(), number);
         tx.rollback();
@@ -103,7 +104,7 @@ impl<S: Alter> Keep for TableKeep<S> {
         book: Number,
         reference: &Reference,
     ) -> Result<Option<Number>, KeepError> {
-        let _ = self.conn.is_autocommit();
+        know_settled(&self.conn);
         let text = reference.as_str();
         let mut tx = self.conn.transaction();
         let number = ref_in(&mut tx, book.get(), text);
@@ -112,7 +113,7 @@ impl<S: Alter> Keep for TableKeep<S> {
     }
 
     fn confirmed_count(&mut self, book: Number, day: Day, window: u64) -> Result<u64, KeepError> {
-        let _ = self.conn.is_autocommit();
+        know_settled(&self.conn);
         let mut tx = self.conn.transaction();
         let count = confirmed_in(&mut tx, book.get(), day, window);
         tx.rollback();
@@ -136,7 +137,7 @@ impl<S: Alter> Keep for TableKeep<S> {
     }
 
     fn next_book(&mut self, after: Option<Number>) -> Result<Option<Number>, KeepError> {
-        let _ = self.conn.is_autocommit();
+        know_settled(&self.conn);
         let above = bound(after);
         let mut tx = self.conn.transaction();
         let next = next_in(&mut tx, above);
@@ -145,7 +146,7 @@ impl<S: Alter> Keep for TableKeep<S> {
     }
 
     fn brief(&mut self, book: Number, number: Number) -> Result<Option<Brief>, KeepError> {
-        let _ = self.conn.is_autocommit();
+        know_settled(&self.conn);
         let mut tx = self.conn.transaction();
         let brief = brief_in(&mut tx, self.alloc, book.get(), number);
         tx.rollback();
@@ -193,7 +194,7 @@ impl<S: Alter> Keep for TableKeep<S> {
     }
 
     fn rows(&mut self) -> Result<u64, KeepError> {
-        let _ = self.conn.is_autocommit();
+        know_settled(&self.conn);
         let mut tx = self.conn.transaction();
         let count = rows_in(&mut tx);
         tx.rollback();

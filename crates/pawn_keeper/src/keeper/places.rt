@@ -14,6 +14,7 @@ ghost use Rattle.pawn_keeper.specs.Handing.{Hands};
 
 use super::handing::hand_all;
 use super::{BEYOND, TableKeep};
+use one_table::know_settled;
 use pawn_book::{Entry, Extension, Flow, Issued, KeepError, Number, Visitor};
 use pawn_debt::Entries;
 use pawn_pledge::{Extensions, Secrets};
@@ -39,7 +40,7 @@ impl<S: Alter> TableKeep<S> {
         ensures errs { Errs (keeping_by (λ k. state S.Store k.conn)) self.old self.new
             (IsUnsoundAt book) result }
     {
-        let _ = self.conn.is_autocommit();
+        know_settled(&self.conn);
         let mut tx = self.conn.transaction();
         let page = entries_page(&mut tx, self.alloc, book.get(), number.get(), from);
         tx.rollback();
@@ -87,7 +88,7 @@ impl<S: Alter> TableKeep<S> {
         ensures errs { Errs (keeping_by (λ k. state S.Store k.conn)) self.old self.new
             (IsUnsoundAt book) result }
     {
-        let _ = self.conn.is_autocommit();
+        know_settled(&self.conn);
         let mut tx = self.conn.transaction();
         let page = secrets_page(&mut tx, self.alloc, book.get(), number.get(), behind);
         tx.rollback();
@@ -132,7 +133,7 @@ impl<S: Alter> TableKeep<S> {
         ensures errs { Errs (keeping_by (λ k. state S.Store k.conn)) self.old self.new
             (IsUnsoundAt book) result }
     {
-        let _ = self.conn.is_autocommit();
+        know_settled(&self.conn);
         let mut tx = self.conn.transaction();
         let page = extensions_page(&mut tx, self.alloc, book.get(), number.get(), behind);
         tx.rollback();

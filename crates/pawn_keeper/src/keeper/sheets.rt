@@ -12,6 +12,7 @@ ghost use Rattle.pawn_keeper.specs.Windows.{named_sheet, named_sheets};
 
 use super::handing::{hand_lines, hand_whole};
 use super::{BEYOND, NUMBERS, TableKeep};
+use one_table::know_settled;
 use pawn_book::{Day, Flow, KeepError, Number, Part, SheetItem, Visitor};
 use pawn_debt::Rows;
 use pawn_pledge::LAST_WINDOW;
@@ -27,7 +28,7 @@ impl<S: Alter> TableKeep<S> {
         ensures errs { Errs (keeping_by (λ k. state S.Store k.conn)) self.old self.new
             (IsUnsoundAt book) result }
     {
-        let _ = self.conn.is_autocommit();
+        know_settled(&self.conn);
         let mut tx = self.conn.transaction();
         let count = count_in(&mut tx, book.get(), day, part);
         tx.rollback();
@@ -48,7 +49,7 @@ impl<S: Alter> TableKeep<S> {
         ensures errs { Errs (keeping_by (λ k. state S.Store k.conn)) self.old self.new
             (IsUnsoundAt book) result }
     {
-        let _ = self.conn.is_autocommit();
+        know_settled(&self.conn);
         let mut tx = self.conn.transaction();
         let page = lines_page(&mut tx, self.alloc, book.get(), day, part, above);
         tx.rollback();
@@ -169,7 +170,7 @@ impl<S: Alter> TableKeep<S> {
         ensures errs { Errs (keeping_by (λ k. state S.Store k.conn)) self.old self.new
             (IsUnsoundAt book) result }
     {
-        let _ = self.conn.is_autocommit();
+        know_settled(&self.conn);
         let mut tx = self.conn.transaction();
         let windows = windows_in(&mut tx, self.alloc, book.get(), day);
         tx.rollback();
