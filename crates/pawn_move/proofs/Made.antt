@@ -19,7 +19,7 @@ use Rattle.one_table.proofs.Rowed.{cast_int, cast_whole}
 use Rattle.one_table.proofs.Texts.{Sets}
 use Rattle.pawn_saving.proofs.Places.{meta_place}
 use Rattle.pawn_tables.specs.Meta.{meta_row}
-use Rattle.pawn_tables.specs.Schema.{keep_schema, meta}
+use Rattle.pawn_tables.specs.Schema.{keep_schema, meta, meta_tree}
 use Rattle.pawn_move.specs.Moving.{IsMoving, listed_with}
 
 -- where a statement ran, what it wrote
@@ -54,7 +54,7 @@ program_noted old new count n owed h m ran =
     let rest : List Row = meta_row (codes "rows") (rows h) ∷ meta_row (codes "limit") h.limit ∷ [] in
     let after : Row = meta_row (codes "schema") 3 in
     let only = alone n (rows h) h.limit in
-    let l = set_one keep_schema 6 (record meta { tree = 13 }) meta_place (λ _. refl) note_tests note_shows is_schema note_text note_is.0 note_is.1 old new (Int (pos 3) ∷ []) count (listed_with n owed h) (meta_row (codes "schema") n) after rest m.lists (λ row. refl)
+    let l = set_one keep_schema 6 (record meta { tree = meta_tree }) meta_place (λ _. refl) note_tests note_shows is_schema note_text note_is.0 note_is.1 old new (Int (pos 3) ∷ []) count (listed_with n owed h) (meta_row (codes "schema") n) after rest m.lists (λ row. refl)
     (IsPermutation-refl _) only.0 only.1
     (λ id row at cols.
     let name : column row 1 ≡ Text (codes "schema") = (let e = cols in cc) in

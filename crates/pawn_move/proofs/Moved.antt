@@ -7,7 +7,7 @@ use Rattle.std.specs.Prelude.{◌≢◌}
 use Rattle.pawn_pledge.specs.Pledge.{PledgeValue}
 use Rattle.pawn_pledge.specs.Replayable.{Each}
 use Rattle.pawn_book.specs.BookStep.{BookValue}
-use Rattle.pawn_tables.specs.Schema.{extensions, first_schema, second_schema}
+use Rattle.pawn_tables.specs.Schema.{extensions, first_schema, second_schema, extensions_tree}
 use Rattle.pawn_tables.specs.Rows.{extension_cells, extensions_listed, number_of, placed_from, under}
 use Rattle.one_table.specs.Listing.{Holds}
 use Rattle.pawn_move.proofs.Filled.{firsts, untold}
@@ -71,7 +71,7 @@ stands db h m = record {
   bookings = m.lists.tables.1.1.1.1.1.0;
   meta = m.lists.tables.1.1.1.1.1.1.0;
   totals = m.lists.tables.1.1.1.1.1.1.1.0;
-  extensions = subst (Holds db.trees 17 (record extensions { tree = 17 })) (sym (no_rows h m.unextended)) m.lists.tables.1.1.1.1.1.1.1.1.0;
+  extensions = subst (Holds db.trees extensions_tree (record extensions { tree = extensions_tree })) (sym (no_rows h m.unextended)) m.lists.tables.1.1.1.1.1.1.1.1.0;
   ordered = m.ordered;
   storable = m.storable;
 }

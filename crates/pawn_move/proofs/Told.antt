@@ -13,7 +13,7 @@ use Rattle.pawn_opening.specs.Refusing.{IsNoted, NotesNoSchema, NotesSchema}
 use Rattle.pawn_opening.proofs.Ours as ours
 use Rattle.pawn_saving.proofs.Hosting.{as_lists, as_stands}
 use Rattle.pawn_tables.specs.Meta.{notes}
-use Rattle.pawn_tables.specs.Schema.{first_schema, second_schema, keep_schema, meta}
+use Rattle.pawn_tables.specs.Schema.{first_schema, second_schema, keep_schema, meta, meta_tree}
 use Rattle.pawn_move.specs.declared.fault.MoveFault.{MoveFault}
 use Rattle.pawn_move.specs.declared.fault.MoveFault.TheVariants.{NotOurs, NewerSchema, Damaged, Store, Memory}
 use Rattle.pawn_move.specs.Migrating.{IsFailure, IsNumberJudged, IsTold, IsUnmovable, TellsNumber}
@@ -47,7 +47,7 @@ asks true second = asks_first
 asks false true = asks_second
 asks false false = ours.schema_is
 
-meta_held : (first second : Bool) (n : ℕ) (db : Database) (h : Host) → Lists (if first then first_schema else if second then second_schema else keep_schema) db (listed_under n h) → Holds db.trees 13 (record meta { tree = 13 }) (notes n (rows h) h.limit)
+meta_held : (first second : Bool) (n : ℕ) (db : Database) (h : Host) → Lists (if first then first_schema else if second then second_schema else keep_schema) db (listed_under n h) → Holds db.trees meta_tree (record meta { tree = meta_tree }) (notes n (rows h) h.limit)
 meta_held true second n db h l = l.tables.1.1.1.1.1.1.0
 meta_held false true n db h l = l.tables.1.1.1.1.1.1.0
 meta_held false false n db h l = l.tables.1.1.1.1.1.1.0

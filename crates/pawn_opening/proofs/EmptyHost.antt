@@ -7,7 +7,7 @@ use Rattle.one_table.specs.Listing.{Lists, Listed, with_rows, Holds}
 use Rattle.pawn_book.specs.BookStep.{BookValue}
 use Rattle.pawn_book.specs.HostStep.{book_rows}
 use Rattle.pawn_tables.specs.Meta.{meta_row, meta_rows}
-use Rattle.pawn_tables.specs.Schema.{keep_schema, books, terms, pledges, entries as entries_table, secrets, bookings, meta, totals, extensions}
+use Rattle.pawn_tables.specs.Schema.{keep_schema, books, terms, pledges, entries as entries_table, secrets, bookings, meta, totals, extensions, books_tree, terms_tree, pledges_tree, entries_tree, secrets_tree, bookings_tree, meta_tree, totals_tree, extensions_tree}
 use Rattle.pawn_tables.specs.Rows.{book_row, terms_listed, pledge_listed, entries_listed, secrets_listed, booking_listed, totals_listed, extensions_listed}
 use Rattle.pawn_tables.specs.StandsFor.{StandsFor}
 use Rattle.pawn_opening.specs.Laying.{no_rows}
@@ -25,7 +25,7 @@ no_book b k is = absurd (let e = sym (get-empty nat_cmp b) ∙ is in cc)
 
 -- what an empty store lists once its notes are made
 abbrev pub noted : ℕ → Listed
-noted limit = with_rows (with_rows (with_rows no_rows 13 (meta_row (codes "limit") limit ∷ [])) 13 (meta_row (codes "rows") 0 ∷ meta_row (codes "limit") limit ∷ [])) 13 (meta_rows 0 limit)
+noted limit = with_rows (with_rows (with_rows no_rows meta_tree (meta_row (codes "limit") limit ∷ [])) meta_tree (meta_row (codes "rows") 0 ∷ meta_row (codes "limit") limit ∷ [])) meta_tree (meta_rows 0 limit)
 
 pub stands_empty : (db : Database) (limit : ℕ) → Lists keep_schema db (noted limit) → StandsFor db (empty_host limit)
 stands_empty db limit l =
@@ -33,15 +33,15 @@ stands_empty db limit l =
     record {
       schema = l.schema_is;
       sound = l.sound;
-      books = subst (λ es. Holds db.trees 0 (record books { tree = 0 }) (map (λ (e : ℕ × BookValue). book_row e.0 e.1) es)) none l.tables.0;
-      terms = subst (λ es. Holds db.trees 1 (record terms { tree = 1 }) (flat_map (λ (e : ℕ × BookValue). terms_listed e.0 e.1) es)) none l.tables.1.0;
-      pledges = subst (λ es. Holds db.trees 3 (record pledges { tree = 3 }) (flat_map (λ (e : ℕ × BookValue). flat_map (pledge_listed e.0) e.1.pledges) es)) none l.tables.1.1.0;
-      entries = subst (λ es. Holds db.trees 6 (record entries_table { tree = 6 }) (flat_map (λ (e : ℕ × BookValue). flat_map (entries_listed e.0) e.1.pledges) es)) none l.tables.1.1.1.0;
-      secrets = subst (λ es. Holds db.trees 8 (record secrets { tree = 8 }) (flat_map (λ (e : ℕ × BookValue). flat_map (secrets_listed e.0) e.1.pledges) es)) none l.tables.1.1.1.1.0;
-      bookings = subst (λ es. Holds db.trees 11 (record bookings { tree = 11 }) (flat_map (λ (e : ℕ × BookValue). flat_map (booking_listed e.0) e.1.pledges) es)) none l.tables.1.1.1.1.1.0;
-      meta = subst (λ es. Holds db.trees 13 (record meta { tree = 13 }) (meta_rows (sum_by book_rows (map (λ (e : ℕ × BookValue). e.1) es)) limit)) none l.tables.1.1.1.1.1.1.0;
-      totals = subst (λ es. Holds db.trees 15 (record totals { tree = 15 }) (flat_map (λ (e : ℕ × BookValue). flat_map (totals_listed e.0) e.1.pledges) es)) none l.tables.1.1.1.1.1.1.1.0;
-      extensions = subst (λ es. Holds db.trees 17 (record extensions { tree = 17 }) (flat_map (λ (e : ℕ × BookValue). flat_map (extensions_listed e.0) e.1.pledges) es)) none l.tables.1.1.1.1.1.1.1.1.0;
+      books = subst (λ es. Holds db.trees books_tree (record books { tree = books_tree }) (map (λ (e : ℕ × BookValue). book_row e.0 e.1) es)) none l.tables.0;
+      terms = subst (λ es. Holds db.trees terms_tree (record terms { tree = terms_tree }) (flat_map (λ (e : ℕ × BookValue). terms_listed e.0 e.1) es)) none l.tables.1.0;
+      pledges = subst (λ es. Holds db.trees pledges_tree (record pledges { tree = pledges_tree }) (flat_map (λ (e : ℕ × BookValue). flat_map (pledge_listed e.0) e.1.pledges) es)) none l.tables.1.1.0;
+      entries = subst (λ es. Holds db.trees entries_tree (record entries_table { tree = entries_tree }) (flat_map (λ (e : ℕ × BookValue). flat_map (entries_listed e.0) e.1.pledges) es)) none l.tables.1.1.1.0;
+      secrets = subst (λ es. Holds db.trees secrets_tree (record secrets { tree = secrets_tree }) (flat_map (λ (e : ℕ × BookValue). flat_map (secrets_listed e.0) e.1.pledges) es)) none l.tables.1.1.1.1.0;
+      bookings = subst (λ es. Holds db.trees bookings_tree (record bookings { tree = bookings_tree }) (flat_map (λ (e : ℕ × BookValue). flat_map (booking_listed e.0) e.1.pledges) es)) none l.tables.1.1.1.1.1.0;
+      meta = subst (λ es. Holds db.trees meta_tree (record meta { tree = meta_tree }) (meta_rows (sum_by book_rows (map (λ (e : ℕ × BookValue). e.1) es)) limit)) none l.tables.1.1.1.1.1.1.0;
+      totals = subst (λ es. Holds db.trees totals_tree (record totals { tree = totals_tree }) (flat_map (λ (e : ℕ × BookValue). flat_map (totals_listed e.0) e.1.pledges) es)) none l.tables.1.1.1.1.1.1.1.0;
+      extensions = subst (λ es. Holds db.trees extensions_tree (record extensions { tree = extensions_tree }) (flat_map (λ (e : ℕ × BookValue). flat_map (extensions_listed e.0) e.1.pledges) es)) none l.tables.1.1.1.1.1.1.1.1.0;
       ordered = λ b k is. no_book b k is;
       storable = λ b k is. no_book b k is;
     }

@@ -13,7 +13,7 @@ use Rattle.one_table.proofs.Insertion.{IsPlace, inserted}
 use Rattle.one_table.proofs.Rowed.{cast_null, cast_int}
 use Rattle.one_table.proofs.Texts.{Puts}
 use Rattle.pawn_tables.specs.Meta.{meta_row}
-use Rattle.pawn_tables.specs.Schema.{meta, keep_schema}
+use Rattle.pawn_tables.specs.Schema.{meta, keep_schema, meta_tree}
 
 abbrev pub note_text : List ℕ
 note_text = codes "INSERT INTO meta VALUES (?1, ?2)"
@@ -30,7 +30,7 @@ idle : (olds news : List Row) → works keep_schema Enforced 0 13 olds news ≡ 
 idle olds [] = refl
 idle olds (row ∷ news) = let e : (length (row ∷ news) == 0) ≡ false = grind arith in rw e refl
 
-meta_place : IsPlace keep_schema 6 (record meta { tree = 13 })
+meta_place : IsPlace keep_schema 6 (record meta { tree = meta_tree })
 meta_place = record {
   listed = refl;
   alone = (
@@ -52,7 +52,7 @@ meta_place = record {
 pub noted : (old new : State) (name : List ℕ) (value count : ℕ) (listed : Listed) → Lists keep_schema old.now listed → Executes note_text (Text name ∷ Int (pos value) ∷ []) old new (Ok count)
     → Lists keep_schema new.now (with_rows listed 13 (meta_row name value ∷ listed 13))
 noted old new name value count listed st h =
-    inserted keep_schema 6 (record meta { tree = 13 }) note_values 3 note_text meta_place note_is.0 note_is.1 old new (Text name ∷ Int (pos value) ∷ []) (Null ∷ meta_row name value) (Null ∷ meta_row name value) (meta_row name value) count listed st refl
+    inserted keep_schema 6 (record meta { tree = meta_tree }) note_values 3 note_text meta_place note_is.0 note_is.1 old new (Text name ∷ Int (pos value) ∷ []) (Null ∷ meta_row name value) (Null ∷ meta_row name value) (meta_row name value) count listed st refl
     (λ i. cast_null i ∷ Text name ∷ cast_int value i ∷ []) (λ rows. refl) h
 
 -- where a statement ran, what it wrote

@@ -1,5 +1,5 @@
 -- Tables that stand for a host note our schema.
-use Rattle.std.proofs.Common.{◌≡◌, ◌⊎◌, inl, inr, ℕ, ◌<◌, List, [], ◌∷◌, pos, map, filter, codes, Bool, refl, sym, ap, subst, ◌∙◌, arith, IsPermutation}
+use Rattle.std.proofs.Common.{◌≡◌, inl, inr, ℕ, List, [], ◌∷◌, pos, map, filter, codes, Bool, refl, sym, ap, subst, ◌∙◌, arith, IsPermutation}
 use Rattle.std.specs.List.{list_all}
 use Rattle.sqlite.specs.declared.types.Value.TheVariants.{Null, Int, Text}
 use Rattle.sqlite.specs.Order.{Row, column, value_cmp}
@@ -22,14 +22,14 @@ use Rattle.one_table.specs.Listing.{Holds, columns_of}
 use Rattle.one_table.proofs.OneTable.{over_table, passes, shows_of, found}
 use Rattle.one_table.proofs.Texts.{Asks}
 use Rattle.pawn_book.specs.HostStep.{Host, rows}
-use Rattle.pawn_tables.specs.Schema.{keep_schema, meta}
+use Rattle.pawn_tables.specs.Schema.{keep_schema, meta, meta_tree}
 use Rattle.pawn_tables.specs.Meta.{notes}
 use Rattle.pawn_tables.specs.StandsFor.{StandsFor}
 use Rattle.pawn_opening.specs.declared.fault.OpenFault.{OpenFault}
 use Rattle.pawn_opening.specs.declared.fault.OpenFault.TheVariants.{NotOurs, OldSchema, Store, Memory}
 use Rattle.pawn_opening.specs.Refusing.{Answers, HasNoAnswer, IsEmptyStore, IsNumber, IsRefusedFor, IsStoreFault, NotesNoSchema, NotesSchema, schema_text}
 
--- the text asks meta of a schema, where it stands in tree 13
+-- the text asks meta of a schema, where it stands in its tree
 abbrev pub AsksMeta : Schema → Type 0
 AsksMeta s = Asks s schema_text (over_table 13 (op2 (Compare Eq Binary) (col 1 1) (lit (Text (codes "schema"))) ∷ []) (col 1 2 ∷ []) []) (codes "value" ∷ [])
 
@@ -45,7 +45,7 @@ unfolding binary value_cmp lib.Ieee.is_nan lib.Ieee.lt
 alone n counted limit = refl
 
 -- tables of a schema, of which meta notes a number
-module _ (db : Database) (s : Schema) (asks : AsksMeta s) (n counted limit : ℕ) (schema : db.schema ≡ s) (noted : Holds db.trees 13 (record meta { tree = 13 }) (notes n counted limit)) where
+module _ (db : Database) (s : Schema) (asks : AsksMeta s) (n counted limit : ℕ) (schema : db.schema ≡ s) (noted : Holds db.trees meta_tree (record meta { tree = meta_tree }) (notes n counted limit)) where
   known : understood db.schema schema_text ≡ understood s schema_text
   known = ap (λ s. understood s schema_text) schema
 
@@ -62,9 +62,9 @@ module _ (db : Database) (s : Schema) (asks : AsksMeta s) (n counted limit : ℕ
       let answer : IsAnswer (over_table 13 tests shows []) (overlay db.trees []) [] rows = read.answer Null in
       let by_rows = found 13 tests shows [] (overlay db.trees []) [] rows answer in
       let cells = λ (v : Row). column v 1 ∷ [] in
-      let by_columns : map (shows_of shows []) (filter (passes tests []) (db.trees 13)) ≡ map cells (filter is_schema (map (columns_of meta) (db.trees 13))) =
-      sym (ap (map cells) (filter-map is_schema (columns_of meta) (db.trees 13)) ∙ map-map cells (columns_of meta) _) in
-      let one = one_permutation _ _ (subst (λ xs. IsPermutation xs (map cells (filter is_schema (map (columns_of meta) (db.trees 13))))) (alone n counted limit) (IsPermutation-map cells _ _ (IsPermutation-filter is_schema _ _ noted.same))) in
+      let by_columns : map (shows_of shows []) (filter (passes tests []) (db.trees meta_tree)) ≡ map cells (filter is_schema (map (columns_of meta) (db.trees meta_tree))) =
+      sym (ap (map cells) (filter-map is_schema (columns_of meta) (db.trees meta_tree)) ∙ map-map cells (columns_of meta) _) in
+      let one = one_permutation _ _ (subst (λ xs. IsPermutation xs (map cells (filter is_schema (map (columns_of meta) (db.trees meta_tree))))) (alone n counted limit) (IsPermutation-map cells _ _ (IsPermutation-filter is_schema _ _ noted.same))) in
       one_permutation _ rows (subst (λ xs. IsPermutation xs rows) (by_columns ∙ one) by_rows)
 
   pub is_number : (rows : List Row) → Answers db rows → IsNumber rows n

@@ -1,5 +1,5 @@
 use Rattle.std.proofs.Common.{subst, sym}
-use Rattle.sqlite.specs.Files.{file_state, image_of}
+use Rattle.sqlite.specs.Files.{file_state}
 use Rattle.pawn_opening.specs.FilesStand.{HoldsIn}
 use Rattle.pawn_opening.proofs.Found.{as_found, finds_database}
 use Rattle.pawn_opening.proofs.Seen.{untouched}
