@@ -16,6 +16,10 @@ use std::test::Fail;
 const STATEMENT: &[u8] =
     b"Pledge 1\nArticle Gold ring\nKind fixed 100.00\nTaken 2024-01-31\nEnds 2024-07-31\nStatus inside\nPrincipal 100.00\nCharges 0.00\nOwing 100.00\nHeld no\nBooking none\n";
 
+const REPAY: &str = "POST /books/7/pledges/1/repay HTTP/1.1";
+
+const BROKER: &str = "Pledge-Key: 22222222-2222-2222-2222-222222222222";
+
 // How a call fails: with an error, or by taking none of some bytes.
 #[derive(Clone, Copy, Debug, PartialEq, Eq)]
 enum Failure {
@@ -86,14 +90,12 @@ fn states<K: Keep>(
     Ok(show_statement(keep, book, pledge, day, writer))
 }
 
-// How many calls the whole statement takes.
-fn calls_of_all<K: Keep>(rt: &impl Abort, alloc: Global, keep: &mut K) -> Result<usize, Fail> {
+// The whole statement, and how many calls it takes.
+fn whole_of<K: Keep>(rt: &impl Abort, alloc: Global, keep: &mut K) -> Result<Flaky, Fail> {
     let mut writer = failing_at(alloc, 0, Failure::Error);
     let came = states(rt, keep, &mut writer)?;
-    let whole = writer.into_inner();
     assert_eq!(rt; came, Ok(()));
-    assert_eq!(rt; whole.taken.as_slice(), STATEMENT);
-    Ok(whole.calls)
+    Ok(writer.into_inner())
 }
 
 // Lets that call fail: the statement ends with it, and a front of it went out.
@@ -101,6 +103,7 @@ fn stops_at<K: Keep>(
     rt: &impl Abort,
     alloc: Global,
     keep: &mut K,
+    whole: &[u8],
     at: usize,
     failure: Failure,
 ) -> Result<(), Fail> {
@@ -108,7 +111,7 @@ fn stops_at<K: Keep>(
     let came = states(rt, keep, &mut writer)?;
     let failed = writer.has_failed();
     let end = writer.into_inner();
-    let is_front = end.taken.len() < STATEMENT.len() && STATEMENT.starts_with(end.taken.as_slice());
+    let is_front = end.taken.len() < whole.len() && whole.starts_with(end.taken.as_slice());
     assert_eq!(rt; (came, failed), (Err(ViewFault::Write), true), "call {at}");
     assert!(rt; end.calls == at && is_front, "call {at}");
     Ok(())
@@ -116,11 +119,12 @@ fn stops_at<K: Keep>(
 
 // Lets each call fail in turn, in both ways.
 fn stops_at_each<K: Keep>(rt: &impl Abort, alloc: Global, keep: &mut K) -> Result<(), Fail> {
-    let calls = calls_of_all(rt, alloc, keep)?;
-    assert!(rt; calls > 20);
-    for at in 1..=calls {
-        stops_at(rt, alloc, keep, at, Failure::Error)?;
-        stops_at(rt, alloc, keep, at, Failure::Nothing)?;
+    let whole = whole_of(rt, alloc, keep)?;
+    assert_eq!(rt; whole.taken.as_slice(), STATEMENT);
+    assert!(rt; whole.calls > 20);
+    for at in 1..=whole.calls {
+        stops_at(rt, alloc, keep, STATEMENT, at, Failure::Error)?;
+        stops_at(rt, alloc, keep, STATEMENT, at, Failure::Nothing)?;
     }
     Ok(())
 }
@@ -132,15 +136,39 @@ fn no_failed_write_is_tried_again(rt: HostRuntime) -> Result<(), Fail> {
     stops_at_each(&rt, rt.alloc(), &mut service.keep)
 }
 
-// Lets a write fail in the middle of a statement. The same statement is written then, and a change is made.
+// Enters so many repayments of a penny, each by a request.
+fn repays<K: Keep>(
+    rt: &impl Abort,
+    alloc: Global,
+    service: &mut Service<K>,
+    times: u32,
+) -> Result<(), Fail> {
+    for seq in 1..=times {
+        let body = format!(in alloc; "{{\"pence\":1,\"seq\":{seq}}}")?;
+        let (to, by, length) = (REPAY, BROKER, body.len());
+        let request = format!(in alloc; "{to}\r\n{by}\r\nContent-Length: {length}\r\n\r\n{body}")?;
+        let answer = service.answer_one(&stamp(rt, 9), request.as_bytes());
+        assert!(rt;
+            bytes_of(&answer).starts_with(b"HTTP/1.1 200 OK"),
+            "entry {seq}"
+        );
+    }
+    Ok(())
+}
+
+// Lets a write fail among the last lines of a statement, which stand in the second page of its entries. The same statement is
+// written then, and a change is made.
 fn goes_on<K: Keep>(rt: &impl Abort, alloc: Global, service: &mut Service<K>) -> Result<(), Fail> {
     takes_ring(rt, service);
-    stops_at(rt, alloc, &mut service.keep, 5, Failure::Error)?;
-    calls_of_all(rt, alloc, &mut service.keep)?;
+    repays(rt, alloc, service, 70)?;
+    let whole = whole_of(rt, alloc, &mut service.keep)?;
+    let (text, at) = (whole.taken.as_slice(), whole.calls.saturating_sub(10));
+    stops_at(rt, alloc, &mut service.keep, text, at, Failure::Error)?;
+    let again = whole_of(rt, alloc, &mut service.keep)?;
+    assert!(rt; again.taken.as_slice() == text, "the next statement");
     let declare = TURNS[4];
     let answer = service.answer_one(&stamp(rt, declare.word), declare.request);
     assert_eq!(rt; bytes_of(&answer), declare.reply);
-    calls_of_all(rt, alloc, &mut service.keep)?;
     Ok(())
 }
 
