@@ -27,7 +27,7 @@ if len(NAMED) > 1:
 
 from service import BROKER, OPERATOR, PROGRAM, SEED, request  # noqa: E402
 
-RUNS = 5
+RUNS = 12
 TODAY, ENDS, DAY = 19753, 19935, "2024-01-31"  # 2024-01-31 and 2024-07-31, as days since 1970-01-01
 LONG = 999
 
@@ -116,11 +116,13 @@ def main():
             best, said = [None, None], [b"", b""]
             for _ in range(RUNS):
                 for at, (program, path) in enumerate(paths):
+                    # (a processor may be slow for seconds, so each turn has a process without requests too)
+                    idle[at] = min(idle[at], spent(program, path, [])[0])
                     time, said[at] = spent(program, path, asked)
-                    each = (time - idle[at]) / len(asked) * 1e6
-                    best[at] = each if best[at] is None else min(best[at], each)
+                    best[at] = time if best[at] is None else min(best[at], time)
+            each = [(best[at] - idle[at]) / len(asked) * 1e6 for at in range(len(paths))]
             alike = "" if said[0] == said[1] else "  OTHER BYTES"
-            print(f"{kind}: {best[0]:.0f}, beside {best[1]:.0f}: {best[0] / max(best[1], 0.1):.1f} times, the line is {line}{alike}", flush=True)
+            print(f"{kind}: {each[0]:.0f}, beside {each[1]:.0f}: {each[0] / max(each[1], 0.1):.1f} times, the line is {line}{alike}", flush=True)
 
 
 if __name__ == "__main__":
