@@ -27,7 +27,7 @@ if len(NAMED) > 1:
 
 from service import BROKER, OPERATOR, PROGRAM, SEED, request  # noqa: E402
 
-RUNS = 12
+RUNS = 30
 TODAY, ENDS, DAY = 19753, 19935, "2024-01-31"  # 2024-01-31 and 2024-07-31, as days since 1970-01-01
 LONG = 999
 
@@ -81,9 +81,9 @@ def streams():
         ("a view", 2.0, [request("GET", "/books/1/held", f"Pledge-Receipt: {receipt(1, number)}") for number in numbers]),
         ("a repayment", 1.7, [request("POST", f"/books/1/pledges/{number}/repay", key, body='{"pence":10,"seq":%d}' % (number % 4 + 1)) for number in once]),
         ("an opening", 1.5, [request("POST", "/books/3/pledges", key, body=opening % at) for at in range(900)]),
-        (f"a statement of {LONG} entries", 3, [request("GET", "/books/2/pledges/1", key)] * 100),
-        ("a day's sheet", 30, [request("GET", f"/books/1/days/2024-02-{3 + at % 5:02}", key) for at in range(40)]),
-        ("an export", 8, [request("GET", "/books/1/export", key)] * 2),
+        (f"a statement of {LONG} entries", 3, [request("GET", "/books/2/pledges/1", key)] * 300),
+        ("a day's sheet", 30, [request("GET", f"/books/1/days/2024-02-{3 + at % 5:02}", key) for at in range(80)]),
+        ("an export", 8, [request("GET", "/books/1/export", key)] * 4),
     ]
 
 
