@@ -33,7 +33,7 @@ use Rattle.pawn_book.specs.BookStep.{BookValue, Told, Refuses, Says, are_same_ra
 use Rattle.pawn_book.specs.Rows.{is_same_text, terms_at}
 use Rattle.pawn_book.specs.declared.request.Caller.TheVariants.{Operator, Broker, Bearer}
 use Rattle.pawn_book.specs.declared.request.BrokerRequest.TheVariants.{PutTerms, TakePledge, OnPledge, Import, Show, SheetOf, Export}
-use Rattle.pawn_book.specs.Laws.{Asks, ChangesDiffer, IsMaking, RepeatsActOnce, book_run}
+use Rattle.pawn_book.specs.Laws.{Asks, BookChangesDiffer, IsMaking, RepeatsActOnce, book_run}
 use Rattle.pawn_book.proofs.Sounds.{absurd_none, each_at, some_is}
 use Rattle.pawn_book.specs.Changes.{Continues}
 use Rattle.pawn_book.proofs.KeptLemmas.{number_kept, put_there, reference_kept}
@@ -56,7 +56,7 @@ longer : {A : Type 0} (xs : List A) (x : A) → xs ++ x ∷ [] ≡ xs → ⊥
 longer xs x is = let long = ap length is in let more = length-append xs (x ∷ []) in absurd (omega (arith, long, more))
 
 -- a change makes a book that differs
-pub change_differs : ChangesDiffer
+pub change_differs : BookChangesDiffer
 change_differs before operator b stamp caller change reply is same = from (made_by before operator b stamp caller change reply is)
   where
     from : MadeBy before operator b stamp caller change reply → ⊥

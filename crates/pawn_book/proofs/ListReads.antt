@@ -13,7 +13,7 @@ use Rattle.std.proofs.Math.Seq.{map-set_same}
 use Rattle.pawn_terms.specs.declared.terms.Rates.{Rates}
 use Rattle.pawn_book.specs.declared.request.NewBook.{NewBook}
 use Rattle.pawn_book.specs.declared.list.Kept.{Kept}
-use Rattle.pawn_book.specs.Listed.{book_at, entry_of, IsPlace}
+use Rattle.pawn_book.specs.Listed.{book_at, listed_book, IsPlace}
 
 find_book : (es : List (ℕ × BookValue)) (b : ℕ) → find nat_cmp b es ≡ book_at es b
 find_book [] b = refl
@@ -91,54 +91,54 @@ pledge_from_place k (p ∷ ps) (suc i) n d lt e = let less : i < length ps = ome
 
 -- the place that was searched for
 pub found_place : (ks : List Kept) (b i : ℕ) (k : Kept) → i < length ks → k ≡ get_or ks i k → k.number ≡ b
-    → ((j : ℕ) → IsPlace (drop i (map entry_of ks)) b j → IsPlace (map entry_of ks) b (i + j)) → IsPlace (map entry_of ks) b i
+    → ((j : ℕ) → IsPlace (drop i (map listed_book ks)) b j → IsPlace (map listed_book ks) b (i + j)) → IsPlace (map listed_book ks) b i
 found_place ks b i k less is named on =
-    let within : i < length (map entry_of ks) = omega (arith, less, length-map ks entry_of) in
-    let number : b ≡ (get_or (map entry_of ks) i (entry_of k)).0 =
-    sym named ∙ ap (λ (q : Kept). q.number) is ∙ sym (ap (λ (e : ℕ × BookValue). e.0) (get_or-map entry_of ks i k (entry_of k) less)) in
+    let within : i < length (map listed_book ks) = omega (arith, less, length-map ks listed_book) in
+    let number : b ≡ (get_or (map listed_book ks) i (listed_book k)).0 =
+    sym named ∙ ap (λ (q : Kept). q.number) is ∙ sym (ap (λ (e : ℕ × BookValue). e.0) (get_or-map listed_book ks i k (listed_book k) less)) in
     let zero_on : i + 0 ≡ i = omega arith in
-    subst (λ (n : ℕ). IsPlace (map entry_of ks) b n) zero_on (on 0 (place_here (map entry_of ks) b i (entry_of k) within number))
+    subst (λ (n : ℕ). IsPlace (map listed_book ks) b n) zero_on (on 0 (place_here (map listed_book ks) b i (listed_book k) within number))
 
 -- the search goes on
 pub next_place : (ks : List Kept) (b i : ℕ) (k : Kept) → i < length ks → k ≡ get_or ks i k → (k.number ≢ b)
-    → ((j : ℕ) → IsPlace (drop i (map entry_of ks)) b j → IsPlace (map entry_of ks) b (i + j))
-    → (j : ℕ) → IsPlace (drop (i + 1) (map entry_of ks)) b j → IsPlace (map entry_of ks) b (i + 1 + j)
+    → ((j : ℕ) → IsPlace (drop i (map listed_book ks)) b j → IsPlace (map listed_book ks) b (i + j))
+    → (j : ℕ) → IsPlace (drop (i + 1) (map listed_book ks)) b j → IsPlace (map listed_book ks) b (i + 1 + j)
 next_place ks b i k less is other on j at =
-    let within : i < length (map entry_of ks) = omega (arith, less, length-map ks entry_of) in
-    let apart : b ≢ (get_or (map entry_of ks) i (entry_of k)).0 =
-    λ same. other (ap (λ (q : Kept). q.number) is ∙ sym (ap (λ (e : ℕ × BookValue). e.0) (get_or-map entry_of ks i k (entry_of k) less)) ∙ sym same) in
+    let within : i < length (map listed_book ks) = omega (arith, less, length-map ks listed_book) in
+    let apart : b ≢ (get_or (map listed_book ks) i (listed_book k)).0 =
+    λ same. other (ap (λ (q : Kept). q.number) is ∙ sym (ap (λ (e : ℕ × BookValue). e.0) (get_or-map listed_book ks i k (listed_book k) less)) ∙ sym same) in
     let moved : i + suc j ≡ i + 1 + j = omega arith in
-    subst (λ (n : ℕ). IsPlace (map entry_of ks) b n) moved (on (suc j) (place_on (map entry_of ks) b i j (entry_of k) within apart at))
+    subst (λ (n : ℕ). IsPlace (map listed_book ks) b n) moved (on (suc j) (place_on (map listed_book ks) b i j (listed_book k) within apart at))
 
 pub next_book : (ks : List Kept) (b i : ℕ) (k : Kept) → i < length ks → k ≡ get_or ks i k → (k.number ≢ b)
-    → book_at (drop i (map entry_of ks)) b ≡ book_at (map entry_of ks) b → book_at (drop (i + 1) (map entry_of ks)) b ≡ book_at (map entry_of ks) b
+    → book_at (drop i (map listed_book ks)) b ≡ book_at (map listed_book ks) b → book_at (drop (i + 1) (map listed_book ks)) b ≡ book_at (map listed_book ks) b
 next_book ks b i k less is other rest =
-    let within : i < length (map entry_of ks) = omega (arith, less, length-map ks entry_of) in
-    let apart : b ≢ (get_or (map entry_of ks) i (entry_of k)).0 =
-    λ same. other (ap (λ (q : Kept). q.number) is ∙ sym (ap (λ (e : ℕ × BookValue). e.0) (get_or-map entry_of ks i k (entry_of k) less)) ∙ sym same) in
-    sym (missed (map entry_of ks) b i (entry_of k) within apart) ∙ rest
+    let within : i < length (map listed_book ks) = omega (arith, less, length-map ks listed_book) in
+    let apart : b ≢ (get_or (map listed_book ks) i (listed_book k)).0 =
+    λ same. other (ap (λ (q : Kept). q.number) is ∙ sym (ap (λ (e : ℕ × BookValue). e.0) (get_or-map listed_book ks i k (listed_book k) less)) ∙ sym same) in
+    sym (missed (map listed_book ks) b i (listed_book k) within apart) ∙ rest
 
-pub no_book : (ks : List Kept) (b i : ℕ) → length ks ≤ i → book_at (drop i (map entry_of ks)) b ≡ book_at (map entry_of ks) b → book_at (map entry_of ks) b ≡ None
+pub no_book : (ks : List Kept) (b i : ℕ) → length ks ≤ i → book_at (drop i (map listed_book ks)) b ≡ book_at (map listed_book ks) b → book_at (map listed_book ks) b ≡ None
 no_book ks b i past rest =
-    let beyond : length (map entry_of ks) ≤ i = omega (arith, past, length-map ks entry_of) in
-    sym rest ∙ book_past (map entry_of ks) b i beyond
+    let beyond : length (map listed_book ks) ≤ i = omega (arith, past, length-map ks listed_book) in
+    sym rest ∙ book_past (map listed_book ks) b i beyond
 
 -- the book at a place
-pub kept_is : (ks : List Kept) (b i : ℕ) (k : Kept) → i < length ks → k ≡ get_or ks i k → IsPlace (map entry_of ks) b i → book_at (map entry_of ks) b ≡ Some (entry_of k).1
+pub kept_is : (ks : List Kept) (b i : ℕ) (k : Kept) → i < length ks → k ≡ get_or ks i k → IsPlace (map listed_book ks) b i → book_at (map listed_book ks) b ≡ Some (listed_book k).1
 kept_is ks b i k less is place =
-    at_place (map entry_of ks) b i (entry_of k) place
-    ∙ ap (λ (e : ℕ × BookValue). Some e.1) (get_or-map entry_of ks i k (entry_of k) less ∙ ap entry_of (sym is))
+    at_place (map listed_book ks) b i (listed_book k) place
+    ∙ ap (λ (e : ℕ × BookValue). Some e.1) (get_or-map listed_book ks i k (listed_book k) less ∙ ap listed_book (sym is))
 
-pub within_kept : (ks : List Kept) (b i : ℕ) → IsPlace (map entry_of ks) b i → i < length ks
-within_kept ks b i place = let less = place_in (map entry_of ks) b i place in omega (arith, less, length-map ks entry_of)
+pub within_kept : (ks : List Kept) (b i : ℕ) → IsPlace (map listed_book ks) b i → i < length ks
+within_kept ks b i place = let less = place_in (map listed_book ks) b i place in omega (arith, less, length-map ks listed_book)
 
-pub kept_number : (ks : List Kept) (b i : ℕ) (k : Kept) → i < length ks → k ≡ get_or ks i k → IsPlace (map entry_of ks) b i → k.number ≡ b
+pub kept_number : (ks : List Kept) (b i : ℕ) (k : Kept) → i < length ks → k ≡ get_or ks i k → IsPlace (map listed_book ks) b i → k.number ≡ b
 kept_number ks b i k less is place =
-    ap (λ (q : Kept). q.number) is ∙ sym (ap (λ (e : ℕ × BookValue). e.0) (get_or-map entry_of ks i k (entry_of k) less)) ∙ number_at (map entry_of ks) b i (entry_of k) place
+    ap (λ (q : Kept). q.number) is ∙ sym (ap (λ (e : ℕ × BookValue). e.0) (get_or-map listed_book ks i k (listed_book k) less)) ∙ number_at (map listed_book ks) b i (listed_book k) place
 
 -- a book of the list, changed to one that reads as it
-pub kept_same : (ks : List Kept) (i : ℕ) (k next : Kept) → k ≡ get_or ks i k → entry_of next ≡ entry_of k → map entry_of (set ks i next) ≡ map entry_of ks
-kept_same ks i k next is same = map-set_same entry_of ks i next k (same ∙ ap entry_of is)
+pub kept_same : (ks : List Kept) (i : ℕ) (k next : Kept) → k ≡ get_or ks i k → listed_book next ≡ listed_book k → map listed_book (set ks i next) ≡ map listed_book ks
+kept_same ks i k next is same = map-set_same listed_book ks i next k (same ∙ ap listed_book is)
 
 -- a book as it is made
 pub entry_made : (b : ℕ) (new made : NewBook) (terms : List Rates) (pledges : List PledgeValue) → made ≡ new → terms ≡ [] → pledges ≡ []

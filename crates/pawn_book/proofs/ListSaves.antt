@@ -21,7 +21,7 @@ use Rattle.pawn_book.specs.Changes.{CanSave, Continues, Follows, book_number, wi
 use Rattle.pawn_book.specs.Books.{Books}
 use Rattle.pawn_book.specs.declared.fault.SaveError.TheVariants.{Full}
 use Rattle.pawn_book.specs.Limits.{most_rows}
-use Rattle.pawn_book.specs.Listed.{Fits, HasChange, IsKept, IsPlace, Saves, added_rows, book_at, entry_of, host_of, replaced_rows, standing_rows}
+use Rattle.pawn_book.specs.Listed.{Fits, HasChange, IsListed, IsPlace, SavesListed, added_rows, book_at, listed_book, host_of, replaced_rows, standing_rows}
 use Rattle.pawn_book.proofs.RowSums.{part, rows-with_book}
 use Rattle.pawn_book.proofs.Places.{pledge_within}
 use Rattle.pawn_book.proofs.Sounds.{absurd_none, get-with_book, some_is}
@@ -38,7 +38,7 @@ no_rows limit =
     ap (λ es. sum_by book_rows (map (λ e. e.1) es)) none
 
 -- an empty list is kept
-pub kept_empty : (limit : ℕ) → limit ≤ most_rows → IsKept (record { books = []; limit = limit }) 0
+pub kept_empty : (limit : ℕ) → limit ≤ most_rows → IsListed (record { books = []; limit = limit }) 0
 kept_empty limit few =
     let none = no_rows limit in
     record {
@@ -49,7 +49,7 @@ kept_empty limit few =
 
 -- a list that stands for the changed host is kept
 pub kept_changed : (k next : Books) (count : ℕ) (change : Change) → k.limit ≤ most_rows → next.limit ≡ k.limit → host_of next ≡ with_change (host_of k) change
-    → AreSound (with_change (host_of k) change) → count ≡ rows (with_change (host_of k) change) → count ≤ k.limit → IsKept next count
+    → AreSound (with_change (host_of k) change) → count ≡ rows (with_change (host_of k) change) → count ≤ k.limit → IsListed next count
 kept_changed k next count change few same is sound counted fits =
     let all : rows (host_of next) ≡ count = ap rows is ∙ sym counted in
     record {
@@ -136,10 +136,10 @@ change_host k next change book made has limit =
     ∙ sym (ap (with_book (host_of k) b) made)
 
 -- a change that was made
-pub change_saved : (k old next : Books) (count after : ℕ) (change : Change) → IsKept k count → k ≡ old → CanSave (host_of old) change → HasChange k.books change next.books → next.limit ≡ k.limit
-    → after + replaced_rows k.books change ≡ count + added_rows change → after ≤ k.limit → IsKept next after × Saves old change (Ok tt) next
+pub change_saved : (k old next : Books) (count after : ℕ) (change : Change) → IsListed k count → k ≡ old → CanSave (host_of old) change → HasChange k.books change next.books → next.limit ≡ k.limit
+    → after + replaced_rows k.books change ≡ count + added_rows change → after ≤ k.limit → IsListed next after × SavesListed old change (Ok tt) next
 change_saved k old next count after change kept is can has limit sums room =
-    let P : Books → Type 0 = λ old. CanSave (host_of old) change → IsKept next after × Saves old change (Ok tt) next in
+    let P : Books → Type 0 = λ old. CanSave (host_of old) change → IsListed next after × SavesListed old change (Ok tt) next in
     subst P is (λ can.
     let made = changes_to (host_of k) change can.follows in
     let same = change_host k next change made.0 made.1 has limit in
@@ -149,17 +149,17 @@ change_saved k old next count after change kept is can has limit sums room =
     (kept_changed k next after change kept.limit limit same can.sound after_is room, (same, omega (arith, after_is, room)))) can
 
 -- .. and one for which there is no room
-pub change_full : (k old : Books) (count after : ℕ) (change : Change) → IsKept k count → k ≡ old → CanSave (host_of old) change
-    → after + replaced_rows k.books change ≡ count + added_rows change → k.limit < after → Saves old change (Err Full) old
+pub change_full : (k old : Books) (count after : ℕ) (change : Change) → IsListed k count → k ≡ old → CanSave (host_of old) change
+    → after + replaced_rows k.books change ≡ count + added_rows change → k.limit < after → SavesListed old change (Err Full) old
 change_full k old count after change kept is can sums over =
-    let P : Books → Type 0 = λ old. CanSave (host_of old) change → Saves old change (Err Full) old in
+    let P : Books → Type 0 = λ old. CanSave (host_of old) change → SavesListed old change (Err Full) old in
     subst P is (λ can.
     let more = change_rows k change can.follows in
     let counted = kept.counted in
     (refl, omega (arith, more, counted, sums, over))) can
 
 -- the rows that a change replaces are counted
-pub change_counted : (k old : Books) (count : ℕ) (change : Change) → IsKept k count → k ≡ old → CanSave (host_of old) change → replaced_rows k.books change ≤ count + added_rows change
+pub change_counted : (k old : Books) (count : ℕ) (change : Change) → IsListed k count → k ≡ old → CanSave (host_of old) change → replaced_rows k.books change ≤ count + added_rows change
 change_counted k old count change kept is can =
     let P : Books → Type 0 = λ old. CanSave (host_of old) change → replaced_rows k.books change ≤ count + added_rows change in
     subst P is (λ can. let more = change_rows k change can.follows in let counted = kept.counted in omega (arith, more, counted)) can
@@ -193,23 +193,23 @@ push_changes es next b new none list q =
     ∙ ap (λ o. if q == b then Some (made_book new) else o) (get-book_at es q)
 
 -- a book, set at its place
-pub set_changes : (qs ks : List Kept) (i : ℕ) (kept next : Kept) (change : Change) → qs ≡ ks → i < length qs → IsPlace (map entry_of qs) (book_number change) i → kept ≡ get_or ks i kept
-    → next.number ≡ kept.number → Some (entry_of next).1 ≡ changed_book (Some (entry_of kept).1) change → HasChange (map entry_of ks) change (map entry_of (set ks i next))
+pub set_changes : (qs ks : List Kept) (i : ℕ) (kept next : Kept) (change : Change) → qs ≡ ks → i < length qs → IsPlace (map listed_book qs) (book_number change) i → kept ≡ get_or ks i kept
+    → next.number ≡ kept.number → Some (listed_book next).1 ≡ changed_book (Some (listed_book kept).1) change → HasChange (map listed_book ks) change (map listed_book (set ks i next))
 set_changes qs ks i kept next change same less place is named to q =
     let b = book_number change in
     let within : i < length ks = subst (λ (xs : List Kept). i < length xs) same less in
-    let here : IsPlace (map entry_of ks) b i = subst (λ (xs : List Kept). IsPlace (map entry_of xs) b i) same place in
-    ap (λ es. book_at es q) (map-set entry_of ks i next ∙ ap (λ (n : ℕ). set (map entry_of ks) i (n, (entry_of next).1)) (named ∙ kept_number ks b i kept within is here))
-    ∙ book_at-set (map entry_of ks) b i (entry_of next).1 q here
-    ∙ ap (λ o. if q == b then o else book_at (map entry_of ks) q) (to ∙ ap (λ o. changed_book o change) (sym (kept_is ks b i kept within is here)))
+    let here : IsPlace (map listed_book ks) b i = subst (λ (xs : List Kept). IsPlace (map listed_book xs) b i) same place in
+    ap (λ es. book_at es q) (map-set listed_book ks i next ∙ ap (λ (n : ℕ). set (map listed_book ks) i (n, (listed_book next).1)) (named ∙ kept_number ks b i kept within is here))
+    ∙ book_at-set (map listed_book ks) b i (listed_book next).1 q here
+    ∙ ap (λ o. if q == b then o else book_at (map listed_book ks) q) (to ∙ ap (λ o. changed_book o change) (sym (kept_is ks b i kept within is here)))
 
 -- the book of a number, at its place
-pub kept_at_place : (qs ks : List Kept) (b i : ℕ) (kept : Kept) (at : BookValue) → qs ≡ ks → i < length qs → IsPlace (map entry_of qs) b i → kept ≡ get_or ks i kept
-    → book_at (map entry_of ks) b ≡ Some at → at ≡ (entry_of kept).1
+pub kept_at_place : (qs ks : List Kept) (b i : ℕ) (kept : Kept) (at : BookValue) → qs ≡ ks → i < length qs → IsPlace (map listed_book qs) b i → kept ≡ get_or ks i kept
+    → book_at (map listed_book ks) b ≡ Some at → at ≡ (listed_book kept).1
 kept_at_place qs ks b i kept at same less place is stands =
     let within : i < length ks = subst (λ (xs : List Kept). i < length xs) same less in
-    let here : IsPlace (map entry_of ks) b i = subst (λ (xs : List Kept). IsPlace (map entry_of xs) b i) same place in
-    some_is at (entry_of kept).1 (sym stands ∙ kept_is ks b i kept within is here)
+    let here : IsPlace (map listed_book ks) b i = subst (λ (xs : List Kept). IsPlace (map listed_book xs) b i) same place in
+    some_is at (listed_book kept).1 (sym stands ∙ kept_is ks b i kept within is here)
 
 -- a book with the rows of an import is the filled one
 pub filled_is : (at : BookValue) (key : ℕ) (rows : BookRows) (ts : List Rates) (ps : List PledgeValue) (count : ℕ) → ts ≡ rows.terms → ps ≡ rows.pledges → count ≡ length ps

@@ -5,7 +5,7 @@ use Rattle.std.proofs.lemmas.Bool.Decides.{nat_tests}
 use Rattle.std.proofs.lemmas.List.{get_or-map, length-map, take_all, take_more}
 use Rattle.pawn_book.specs.declared.list.Kept.{Kept}
 use Rattle.pawn_book.specs.BookStep.{BookValue}
-use Rattle.pawn_book.specs.Listed.{IsLeastAbove, book_at, entry_of}
+use Rattle.pawn_book.specs.Listed.{IsLeastAbove, book_at, listed_book}
 use Rattle.pawn_book.proofs.Sounds.{absurd_none}
 
 -- a book stands with one more behind it
@@ -79,14 +79,14 @@ no_nearer es e after n least high =
     from {b} (inr is) past = omega (arith, is, high)
 
 -- the front of the list with one book more
-pub one_more : (ks : List Kept) (i : ℕ) (k : Kept) → i < length ks → k ≡ get_or ks i k → take (i + 1) (map entry_of ks) ≡ take i (map entry_of ks) ++ entry_of k ∷ []
+pub one_more : (ks : List Kept) (i : ℕ) (k : Kept) → i < length ks → k ≡ get_or ks i k → take (i + 1) (map listed_book ks) ≡ take i (map listed_book ks) ++ listed_book k ∷ []
 one_more ks i k less is =
-    let within : i < length (map entry_of ks) = omega (arith, less, length-map ks entry_of) in
-    take_more (map entry_of ks) i (entry_of k) within
-    ∙ ap (λ (e : ℕ × BookValue). take i (map entry_of ks) ++ e ∷ []) (get_or-map entry_of ks i k (entry_of k) less ∙ ap entry_of (sym is))
+    let within : i < length (map listed_book ks) = omega (arith, less, length-map ks listed_book) in
+    take_more (map listed_book ks) i (listed_book k) within
+    ∙ ap (λ (e : ℕ × BookValue). take i (map listed_book ks) ++ e ∷ []) (get_or-map listed_book ks i k (listed_book k) less ∙ ap listed_book (sym is))
 
-pub all_of : (ks : List Kept) (i : ℕ) → length ks ≤ i → take i (map entry_of ks) ≡ map entry_of ks
-all_of ks i past = let beyond : length (map entry_of ks) ≤ i = omega (arith, past, length-map ks entry_of) in take_all i (map entry_of ks) beyond
+pub all_of : (ks : List Kept) (i : ℕ) → length ks ≤ i → take i (map listed_book ks) ≡ map listed_book ks
+all_of ks i past = let beyond : length (map listed_book ks) ≤ i = omega (arith, past, length-map ks listed_book) in take_all i (map listed_book ks) beyond
 
 -- the search with one book more
 pub least_more : (es : List (ℕ × BookValue)) (e : ℕ × BookValue) (after : ℕ) (next : Option ℕ) → IsLeastAbove es after next

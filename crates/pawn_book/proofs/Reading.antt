@@ -13,6 +13,16 @@ on_then f s = record {
   whole = λ honest whole. s.whole honest (f.whole (s.past honest) whole);
 }
 
+-- a keeper that was not asked is as it was
+pub reads_none : {K : Type 0} (k : Keeping K) (s : K) (P : Host → Type 0) → ((h : Host) → P h) → Reads k s s P
+reads_none k s P all = record {
+  on = record { past = λ honest. honest; served = λ honest now. now; stays = λ steady. steady; whole = λ honest whole. whole };
+  same = λ honest h at. at;
+  back = λ honest now h at. at;
+  tells = λ honest h at. all h;
+  crash = λ honest left at. at;
+}
+
 -- what two reads tell, told by both together
 pub reads_then : {K : Type 0} {k : Keeping K} {a b c : K} {P Q R : Host → Type 0}
     → Reads k a b P → Reads k b c Q → ((h : Host) → P h → Q h → R h) → Reads k a c R

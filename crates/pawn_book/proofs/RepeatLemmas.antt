@@ -18,7 +18,7 @@ use Rattle.pawn_book.specs.declared.request.BearerRequest.TheVariants.{Present, 
 use Rattle.pawn_book.specs.declared.request.Caller.{Caller}
 use Rattle.pawn_book.specs.declared.request.Caller.TheVariants.{Operator, Broker, Bearer}
 use Rattle.pawn_book.specs.BookStep.{BookValue, Makes, Refuses, Says, Told, bearer_commands, book_step, broker_commands, changed_book, judged_outcome, live_at, only_live, pledge_from, pledge_in, within_window}
-use Rattle.pawn_book.specs.Laws.{Asks, EntriesActOnce, EntriesActOnceForAll, ExtensionsActOnce, Passes, StandingEndIsTold, StillPasses, book_run}
+use Rattle.pawn_book.specs.Laws.{Asks, BookEntriesActOnce, EntriesActOnceForAll, BookExtensionsActOnce, Passes, StandingEndIsTold, StillPasses, book_run}
 use Rattle.pawn_book.proofs.LawLemmas.{live_found, numbered_in, stands_after}
 use Rattle.pawn_book.proofs.MadeLemmas.{DidOn, if_makes, number_made, receipt_made}
 use Rattle.pawn_book.proofs.Sounds.{some_is}
@@ -93,7 +93,7 @@ still_passes before operator b stamp (Broker key request) n command change reply
     (stands.0, stands.1, grind (arith, nat_tests, test, same))
 still_passes before operator b stamp (Bearer request) n command change reply later asks is passes = passes
 
-pub entry_told : EntriesActOnce
+pub entry_told : BookEntriesActOnce
 entry_told before operator b stamp again caller n sort seq pence change reply later sound asks is passes =
     entry_told_to_all before operator b stamp again caller caller n sort seq pence change reply later sound asks asks is
     (still_passes before operator b stamp caller n (entry_command sort seq pence) change reply later asks is passes)
@@ -104,7 +104,7 @@ standing_end_is_told book operator b n stamp p at may =
     (standing_end_is_answered p stamp may)
 
 -- an extension is told again
-pub extension_told : ExtensionsActOnce
+pub extension_told : BookExtensionsActOnce
 extension_told before operator b key n until stamp again change reply later p is at ends may =
     let did = did_on before operator b stamp (Broker key (OnPledge n (Command.Extend until))) n (Command.Extend until) change reply (refl, refl) is in
     let passed = if_makes (before.key == key) _ _ change reply is in

@@ -25,8 +25,8 @@ book_run before operator b (asked ∷ rest) =
     book_run (book_after before (book_step before operator b asked.0 asked.1)) operator b rest
 
 -- a change makes a book that differs
-abbrev pub ChangesDiffer : Type 0
-ChangesDiffer =
+abbrev pub BookChangesDiffer : Type 0
+BookChangesDiffer =
     (before : Option BookValue) (operator b : ℕ) (stamp : Stamp) (caller : Caller) (change : Change) (reply : Reply)
     → book_step before operator b stamp caller ≡ Makes change reply → changed_book before change ≡ before → ⊥
 
@@ -103,8 +103,8 @@ StillPasses book (Bearer request) = IsStillLive book request
 
 -- a drawing or repayment that was entered is told the same again and enters nothing, whatever became of the pledge in between,
 -- on any day: to the broker, and to a bearer whose receipt is still live
-abbrev pub EntriesActOnce : Type 0
-EntriesActOnce =
+abbrev pub BookEntriesActOnce : Type 0
+BookEntriesActOnce =
     (before : BookValue) (operator b : ℕ) (stamp again : Stamp) (caller : Caller) (n : ℕ) (sort : Sort) (seq pence : ℕ)
     (change : Change) (reply : Reply) (later : List (Stamp × Caller))
     → IsSoundBook before → Asks caller n (entry_command sort seq pence) → book_step (Some before) operator b stamp caller ≡ Makes change reply
@@ -136,8 +136,8 @@ StandingEndIsTold =
     → book_step (Some book) operator b stamp (Broker book.key (asked.OnPledge n (Command.Extend (end_of p)))) ≡ Says (Told (Commanded n (Done.Extended (end_of p))))
 
 -- so an extension that was made is told the same again and makes none, whatever was asked in between, as long as its end stands
-abbrev pub ExtensionsActOnce : Type 0
-ExtensionsActOnce =
+abbrev pub BookExtensionsActOnce : Type 0
+BookExtensionsActOnce =
     (before : BookValue) (operator b key n until : ℕ) (stamp again : Stamp) (change : Change) (reply : Reply) (later : List (Stamp × Caller)) (p : PledgeValue)
     → book_step (Some before) operator b stamp (Broker key (asked.OnPledge n (Command.Extend until))) ≡ Makes change reply
     → pledge_in (book_run (changed_book (Some before) change) operator b later) n ≡ Some p → end_of p ≡ until → MayExtend p again.day

@@ -17,8 +17,8 @@ use Rattle.pawn_book.specs.Keeping.{Keeping}
 use Rattle.pawn_book.specs.Books.{Books}
 
 -- a book of the list, with its number
-abbrev pub entry_of : Kept → ℕ × BookValue
-entry_of k = (
+abbrev pub listed_book : Kept → ℕ × BookValue
+listed_book k = (
   k.number,
   record {
     key = k.made.key;
@@ -84,17 +84,17 @@ abbrev pub host_of : Books → Host
 host_of k = record { books = from_entries k.books; limit = k.limit }
 
 -- the host is sound, and its rows are counted
-pub record IsKept (k : Books) (count : ℕ) : Type 0 where
+pub record IsListed (k : Books) (count : ℕ) : Type 0 where
   pub sound : IsSound (host_of k)
   pub counted : count ≡ rows (host_of k)
   pub limit : k.limit ≤ most_rows
 
 -- the change is made, or nothing is, and then for want of rows or of memory
-abbrev pub Saves : Books → Change → Result (Unit {0}) SaveError → Books → Type 0
-Saves old change (Ok done) new = (host_of new ≡ with_change (host_of old) change) × (rows (with_change (host_of old) change) ≤ old.limit)
-Saves old change (Err Full) new = (new ≡ old) × (old.limit < rows (with_change (host_of old) change))
-Saves old change (Err Memory) new = new ≡ old
-Saves old change (Err (Store fault)) new = ⊥
+abbrev pub SavesListed : Books → Change → Result (Unit {0}) SaveError → Books → Type 0
+SavesListed old change (Ok done) new = (host_of new ≡ with_change (host_of old) change) × (rows (with_change (host_of old) change) ≤ old.limit)
+SavesListed old change (Err Full) new = (new ≡ old) × (old.limit < rows (with_change (host_of old) change))
+SavesListed old change (Err Memory) new = new ≡ old
+SavesListed old change (Err (Store fault)) new = ⊥
 
 -- a list is always honest, serves, is steady and whole, and a crash would leave what it has
 abbrev pub list_keeping : Keeping Books

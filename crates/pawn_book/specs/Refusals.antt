@@ -6,61 +6,61 @@ use Rattle.pawn_book.specs.declared.refusal.Refusal.{Refusal}
 use Rattle.pawn_book.specs.declared.refusal.Refusal.TheVariants.{Pledge, Terms, NoSuchBook, NoSuchReceipt, NoSuchPledge, BookTaken, NoTerms, TermsSeq, RefTaken, WindowFull, BookNotEmpty, NotOperator, TermsFull, PledgesFull, Full, Memory, Store}
 
 -- the refusal's number
-abbrev pub code_of : Refusal → ℕ
-code_of (Pledge refusal) = pledge.code_of refusal
-code_of (Terms fault) = terms.code_of fault
-code_of NoSuchBook = 401
-code_of NoSuchReceipt = 402
-code_of NoSuchPledge = 403
-code_of BookTaken = 404
-code_of NoTerms = 405
-code_of TermsSeq = 406
-code_of RefTaken = 407
-code_of WindowFull = 408
-code_of BookNotEmpty = 409
-code_of NotOperator = 410
-code_of TermsFull = 411
-code_of PledgesFull = 412
-code_of Full = 490
-code_of Memory = 491
-code_of Store = 492
+abbrev pub book_refusal_code : Refusal → ℕ
+book_refusal_code (Pledge refusal) = pledge.pledge_refusal_code refusal
+book_refusal_code (Terms fault) = terms.terms_fault_code fault
+book_refusal_code NoSuchBook = 401
+book_refusal_code NoSuchReceipt = 402
+book_refusal_code NoSuchPledge = 403
+book_refusal_code BookTaken = 404
+book_refusal_code NoTerms = 405
+book_refusal_code TermsSeq = 406
+book_refusal_code RefTaken = 407
+book_refusal_code WindowFull = 408
+book_refusal_code BookNotEmpty = 409
+book_refusal_code NotOperator = 410
+book_refusal_code TermsFull = 411
+book_refusal_code PledgesFull = 412
+book_refusal_code Full = 490
+book_refusal_code Memory = 491
+book_refusal_code Store = 492
 
 -- its name
-abbrev pub name_of : Refusal → List ℕ
-name_of (Pledge refusal) = pledge.name_of refusal
-name_of (Terms fault) = terms.name_of fault
-name_of NoSuchBook = codes "NoSuchBook"
-name_of NoSuchReceipt = codes "NoSuchReceipt"
-name_of NoSuchPledge = codes "NoSuchPledge"
-name_of BookTaken = codes "BookTaken"
-name_of NoTerms = codes "NoTerms"
-name_of TermsSeq = codes "TermsSeq"
-name_of RefTaken = codes "RefTaken"
-name_of WindowFull = codes "WindowFull"
-name_of BookNotEmpty = codes "BookNotEmpty"
-name_of NotOperator = codes "NotOperator"
-name_of TermsFull = codes "TermsFull"
-name_of PledgesFull = codes "PledgesFull"
-name_of Full = codes "Full"
-name_of Memory = codes "Memory"
-name_of Store = codes "Store"
+abbrev pub book_refusal_name : Refusal → List ℕ
+book_refusal_name (Pledge refusal) = pledge.pledge_refusal_name refusal
+book_refusal_name (Terms fault) = terms.terms_fault_name fault
+book_refusal_name NoSuchBook = codes "NoSuchBook"
+book_refusal_name NoSuchReceipt = codes "NoSuchReceipt"
+book_refusal_name NoSuchPledge = codes "NoSuchPledge"
+book_refusal_name BookTaken = codes "BookTaken"
+book_refusal_name NoTerms = codes "NoTerms"
+book_refusal_name TermsSeq = codes "TermsSeq"
+book_refusal_name RefTaken = codes "RefTaken"
+book_refusal_name WindowFull = codes "WindowFull"
+book_refusal_name BookNotEmpty = codes "BookNotEmpty"
+book_refusal_name NotOperator = codes "NotOperator"
+book_refusal_name TermsFull = codes "TermsFull"
+book_refusal_name PledgesFull = codes "PledgesFull"
+book_refusal_name Full = codes "Full"
+book_refusal_name Memory = codes "Memory"
+book_refusal_name Store = codes "Store"
 
 -- the total owing, where it tells it
-abbrev pub total_of : Refusal → Option ℕ
-total_of (Pledge refusal) = pledge.refusal_total refusal
-total_of (Terms fault) = None
-total_of NoSuchBook = None
-total_of NoSuchReceipt = None
-total_of NoSuchPledge = None
-total_of BookTaken = None
-total_of NoTerms = None
-total_of TermsSeq = None
-total_of RefTaken = None
-total_of WindowFull = None
-total_of BookNotEmpty = None
-total_of NotOperator = None
-total_of TermsFull = None
-total_of PledgesFull = None
-total_of Full = None
-total_of Memory = None
-total_of Store = None
+abbrev pub total_told : Refusal → Option ℕ
+total_told (Pledge refusal) = pledge.refusal_total refusal
+total_told (Terms fault) = None
+total_told NoSuchBook = None
+total_told NoSuchReceipt = None
+total_told NoSuchPledge = None
+total_told BookTaken = None
+total_told NoTerms = None
+total_told TermsSeq = None
+total_told RefTaken = None
+total_told WindowFull = None
+total_told BookNotEmpty = None
+total_told NotOperator = None
+total_told TermsFull = None
+total_told PledgesFull = None
+total_told Full = None
+total_told Memory = None
+total_told Store = None

@@ -2,9 +2,9 @@
 use Rattle.std.specs.Prelude.{ℕ, zero, suc, ◌+◌, List, [], ◌∷◌, ◌++◌, Bool, true, false, ◌&&◌, Option, Some, None, if◌then◌else◌, ◌==◌, length, filter_map}
 use Rattle.std.specs.List.{flat_map}
 use Rattle.pawn_pledge.specs.declared.record.Booking.{Booking}
-use Rattle.pawn_pledge.specs.declared.record.Closing.{Closing}
 use Rattle.pawn_pledge.specs.Pledge.{PledgeValue, end_of}
 use Rattle.pawn_pledge.specs.Limits.{last_window}
+use Rattle.pawn_pledge.specs.Words.{is_open}
 use Rattle.pawn_book.specs.declared.sheet.Part.{Part}
 use Rattle.pawn_book.specs.declared.sheet.Part.TheVariants as part
 use Rattle.pawn_book.specs.declared.sheet.SheetItem.{SheetItem}
@@ -15,11 +15,6 @@ use Rattle.pawn_book.specs.Bookings.{is_asked, is_confirmed_for}
 abbrev pub asked_item : ℕ → ℕ → Option Booking → Option SheetItem
 asked_item number day None = None
 asked_item number day (Some booking) = if (booking.day == day) && is_asked booking.state then Some (Asked number booking.window) else None
-
-abbrev pub is_open : Closing → Bool
-is_open Closing.Open = true
-is_open (Closing.Redeemed day paid) = false
-is_open (Closing.Sold day net) = false
 
 -- what a part says of a pledge, if anything: its booking for the day and window is confirmed, one is asked for the day, or
 -- its period ends on the day and it is neither redeemed nor sold

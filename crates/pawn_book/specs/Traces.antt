@@ -5,12 +5,12 @@ use Rattle.pawn_book.specs.Common.{is_live, pledge_in, Host, host_step, numbered
 use Rattle.pawn_book.specs.Common.{Moment, is_settled, moments}
 
 -- what comes of a request on its own host
-abbrev pub outcome_of : ℕ → Moment → Outcome
-outcome_of operator m = host_step m.host operator m.stamp m.request
+abbrev pub outcome_alone : ℕ → Moment → Outcome
+outcome_alone operator m = host_step m.host operator m.stamp m.request
 
 -- a request on book b, if its reply is settled
 abbrev pub asked_of : ℕ → ℕ → Moment → List (Stamp × Caller)
-asked_of b operator m = if (m.request.book == b) && is_settled (out_of (outcome_of operator m)) then (m.stamp, m.request.caller) ∷ [] else []
+asked_of b operator m = if (m.request.book == b) && is_settled (out_of (outcome_alone operator m)) then (m.stamp, m.request.caller) ∷ [] else []
 
 -- a book's trace: the requests of a run on book b whose replies are settled, in order
 abbrev pub book_trace : {F : Type 0} → ℕ → Host → ℕ → List (Event F) → List (Stamp × Caller)
@@ -55,7 +55,7 @@ slot_events slot before stamp caller other = []
 
 -- what a request on book b is to the slot
 abbrev pub seen_by : ℕ → List Receipt → ℕ → Moment → List SlotEvent
-seen_by b slot operator m = if m.request.book == b then slot_events slot (get m.host.books b) m.stamp m.request.caller (outcome_of operator m) else []
+seen_by b slot operator m = if m.request.book == b then slot_events slot (get m.host.books b) m.stamp m.request.caller (outcome_alone operator m) else []
 
 -- a slot's trace: what is in it when the run begins, by number, and then what happens to it
 abbrev pub slot_trace : {F : Type 0} → ℕ → List Receipt → Host → ℕ → List (Event F) → List SlotEvent

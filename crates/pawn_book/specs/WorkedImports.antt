@@ -19,28 +19,28 @@ empty_book = Some (record { key = 5; name = codes "High Street"; capacity = 1; t
 abbrev pub ring_rows : BookRows
 ring_rows = record { terms = free ∷ []; pledges = ring 10000 ∷ [] }
 
-abbrev pub no_rows : BookRows
-no_rows = record { terms = []; pledges = [] }
+abbrev pub no_book_rows : BookRows
+no_book_rows = record { terms = []; pledges = [] }
 
 -- what comes of the import of rows under a key, by the broker's key 5
 abbrev pub importing : ℕ → BookRows → Option BookValue → Outcome
 importing key rows book = book_step book 9 7 (at 1) (Broker 5 (Import key rows))
 
-abbrev pub filled : Option BookValue
-filled = book_after empty_book (importing 6 ring_rows empty_book)
+abbrev pub book_filled : Option BookValue
+book_filled = book_after empty_book (importing 6 ring_rows empty_book)
 
 pub record WorkedImports : Type 0 where
   -- the rows become the book's, and their key its import's
   pub first : importing 6 ring_rows empty_book ≡ Makes (ImportBook 7 6 ring_rows) (BookFilled 1)
-  pub fills : filled ≡ Some (record { key = 5; name = codes "High Street"; capacity = 1; terms = free ∷ []; pledges = ring 10000 ∷ []; imported = Some (record { key = 6; pledges = 1 }) })
+  pub fills : book_filled ≡ Some (record { key = 5; name = codes "High Street"; capacity = 1; terms = free ∷ []; pledges = ring 10000 ∷ []; imported = Some (record { key = 6; pledges = 1 }) })
   -- again under its key it is told as the first time, whatever rows come
-  pub again : importing 6 ring_rows filled ≡ Says (Told (BookFilled 1))
-  pub again_without : importing 6 no_rows filled ≡ Says (Told (BookFilled 1))
+  pub again : importing 6 ring_rows book_filled ≡ Says (Told (BookFilled 1))
+  pub again_without : importing 6 no_book_rows book_filled ≡ Says (Told (BookFilled 1))
   -- under another key, and into a book with terms, it is refused
-  pub another : importing 8 ring_rows filled ≡ Refuses BookNotEmpty
+  pub another : importing 8 ring_rows book_filled ≡ Refuses BookNotEmpty
   pub with_terms : importing 6 ring_rows one_book ≡ Refuses BookNotEmpty
   -- an import of no rows keeps its key: the book is filled by it, with nothing
-  pub nothing : importing 6 no_rows empty_book ≡ Makes (ImportBook 7 6 no_rows) (BookFilled 0)
-  pub after_nothing : importing 8 ring_rows (book_after empty_book (importing 6 no_rows empty_book)) ≡ Refuses BookNotEmpty
+  pub nothing : importing 6 no_book_rows empty_book ≡ Makes (ImportBook 7 6 no_book_rows) (BookFilled 0)
+  pub after_nothing : importing 8 ring_rows (book_after empty_book (importing 6 no_book_rows empty_book)) ≡ Refuses BookNotEmpty
   -- the key of the book comes first
-  pub other_broker : book_step filled 9 7 (at 1) (Broker 6 (Import 6 ring_rows)) ≡ Refuses NoSuchBook
+  pub other_broker : book_step book_filled 9 7 (at 1) (Broker 6 (Import 6 ring_rows)) ≡ Refuses NoSuchBook

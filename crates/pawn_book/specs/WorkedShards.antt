@@ -58,8 +58,8 @@ abbrev pub asked : List (Stamp × Request)
 asked = of_seven 1 a_ring ∷ of_eight 2 a_ring ∷ of_seven 9 hold ∷ of_eight 9 release ∷ []
 
 -- what a host tells of a run
-abbrev pub told : Host → List (Stamp × Request) → List (Said ⊥)
-told h run = run_replies h 9 (taken run)
+abbrev pub told_of_run : Host → List (Stamp × Request) → List (Said ⊥)
+told_of_run h run = run_replies h 9 (taken run)
 
 abbrev pub opened : ℕ → Said ⊥
 opened word = Answered (Told (Opened (receipt word)))
@@ -70,9 +70,9 @@ pub record WorkedShards : Type 0 where
   pub handed_second : handed shard 1 asked ≡ of_eight 2 a_ring ∷ of_eight 9 release ∷ []
   pub handed_third : handed shard 2 asked ≡ []
   -- one host tells all four, and each shard its own two, as that host does
-  pub together : told one_host asked
+  pub together : told_of_run one_host asked
       ≡ opened 1 ∷ opened 2 ∷ Answered (Told (Commanded 1 (Done.Held true))) ∷ Answered (Told (Commanded 1 (Done.Held false))) ∷ []
-  pub first : told (first_shard 1000) (handed shard 0 asked) ≡ opened 1 ∷ Answered (Told (Commanded 1 (Done.Held true))) ∷ []
-  pub second : told second_shard (handed shard 1 asked) ≡ opened 2 ∷ Answered (Told (Commanded 1 (Done.Held false))) ∷ []
+  pub first : told_of_run (first_shard 1000) (handed shard 0 asked) ≡ opened 1 ∷ Answered (Told (Commanded 1 (Done.Held true))) ∷ []
+  pub second : told_of_run second_shard (handed shard 1 asked) ≡ opened 2 ∷ Answered (Told (Commanded 1 (Done.Held false))) ∷ []
   -- the rows of a shard are its own limit: where it has no row left it refuses, and that is not settled
-  pub full : told (first_shard 3) (handed shard 0 (of_seven 1 a_ring ∷ [])) ≡ Answered (Denied Full) ∷ []
+  pub full : told_of_run (first_shard 3) (handed shard 0 (of_seven 1 a_ring ∷ [])) ≡ Answered (Denied Full) ∷ []

@@ -1,4 +1,4 @@
-ghost use Rattle.std.specs.Prelude.{◌≡◌, IfSome};
+ghost use Rattle.std.specs.Prelude.{IfSome};
 ghost use Rattle.pawn_book.specs.Changes.{CanSave};
 ghost use Rattle.pawn_book.specs.HostStep.{Host};
 ghost use Rattle.pawn_book.specs.Keeping.{GoesOn, IsQuiet, Of};

@@ -1,4 +1,4 @@
-ghost use Rattle.std.specs.Prelude.{◌≡◌, ℕ, ◌≤◌, IfSome, IsSome, ◌↔◌};
+ghost use Rattle.std.specs.Prelude.{◌≡◌, ℕ, IfSome, IsSome, ◌↔◌};
 ghost use Rattle.pawn_book.specs.Limits.{IsCapacity};
 
 use crate::limits::MOST_BOOKINGS;

@@ -1,11 +1,11 @@
-ghost use Rattle.pawn_book.specs.Laws.{ChangesDiffer, EntriesActOnce, EntriesActOnceForAll, ExtensionsActOnce, RepeatsActOnce, StandingEndIsTold};
+ghost use Rattle.pawn_book.specs.Laws.{BookChangesDiffer, BookEntriesActOnce, EntriesActOnceForAll, BookExtensionsActOnce, RepeatsActOnce, StandingEndIsTold};
 ghost use Rattle.pawn_book.specs.Passes.{IsOne, KeepsReceipts, Pass, ReplacesNone};
 ghost use Rattle.pawn_book.specs.Shards.{HandedOutAnswersAsOne, HandsAll, ShardsAnswerAsOne};
 ghost use Rattle.pawn_book.specs.Slots.{BearersJoin, BooksAnswerAlone, EarlierReceiptsAreSpent, EqualBookTracesAnswerAlike, EqualTracesAnswerAlike, OtherBooksStay, SlotsAnswerAlone, SlotsAreHeld, SpentIsUnknown, SpentReceiptsStaySpent, TracesAreAccepted};
 
 /// What a plan calls a change is one.
 pub fn changes_differ()
-    ensures law { ChangesDiffer }
+    ensures law { BookChangesDiffer }
 {}
 
 /// A book, a version of terms and a pledge are made once, however often they are asked for.
@@ -16,14 +16,14 @@ pub fn repeats_act_once()
 /// A drawing or a repayment of a number is entered once, however often it is asked for, and by
 /// whomever.
 pub fn entries_act_once()
-    ensures law { EntriesActOnce }
+    ensures law { BookEntriesActOnce }
     ensures for_all { EntriesActOnceForAll }
 {}
 
 /// An extension to the end that stands changes nothing, and so is made once.
 pub fn extensions_act_once()
     ensures standing_end { StandingEndIsTold }
-    ensures law { ExtensionsActOnce }
+    ensures law { BookExtensionsActOnce }
 {}
 
 /// Each settled reply about a book is that of the book alone, fed its own requests, so equal traces of a book are answered

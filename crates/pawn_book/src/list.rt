@@ -6,7 +6,7 @@ ghost use Rattle.pawn_book.specs.Rows.{terms_at};
 ghost use Rattle.pawn_book.specs.HostStep.{pledge_rows};
 ghost use Rattle.pawn_book.specs.Changes.{CanSave};
 ghost use Rattle.pawn_book.specs.Keeping.{entries_of, extensions_of, number_of, pledges_of, secrets_of, terms_of};
-ghost use Rattle.pawn_book.specs.Listed.{Fits, HasChange, IsLeastAbove, IsPlace, Saves, added_rows, book_at, entry_of, host_of, replaced_rows};
+ghost use Rattle.pawn_book.specs.Listed.{Fits, HasChange, IsLeastAbove, IsPlace, SavesListed, added_rows, book_at, listed_book, host_of, replaced_rows};
 ghost use Rattle.pawn_book.specs.Visits.{IsShare, Visits, Whole};
 
 mod filling;
@@ -51,11 +51,11 @@ impl Model for ListKeep {
 
     ghost Value = { Books };
 
-    ghost use Rattle.pawn_book.specs.Listed.{entry_of, IsKept};
+    ghost use Rattle.pawn_book.specs.Listed.{listed_book, IsKept};
 
-    ghost view = { λ k. record { books = map entry_of k.books.items; limit = k.limit } };
+    ghost view = { λ k. record { books = map listed_book k.books.items; limit = k.limit } };
 
-    ghost invariant = { λ k. IsKept (record { books = map entry_of k.books.items; limit = k.limit })
+    ghost invariant = { λ k. IsKept (record { books = map listed_book k.books.items; limit = k.limit })
         k.rows };
 }
 
@@ -76,7 +76,7 @@ impl ListKeep {
     // Makes a change, unless the rows would be above the limit.
     fn make(&mut self, change: &Change) -> Result<(), SaveError>
         requires can_save { CanSave (host_of self.old) change.now }
-        ensures saves { Saves self.old change.now result self.new }
+        ensures saves { SavesListed self.old change.now result self.new }
     {
         let rows = rows_with(&self.books, self.rows, change);
         if rows > u128::from(self.limit) {
@@ -201,8 +201,8 @@ impl Keep for ListKeep {
 // Where the book of a number stands.
 fn place_of(books: &[Kept], book: Number) -> Option<usize>
     ensures within { IfSome result (λ place. place < length books.now) }
-    ensures some { IfSome result (IsPlace (map entry_of books.now) book) }
-    ensures none { IfNone result (book_at (map entry_of books.now) book ≡ None) }
+    ensures some { IfSome result (IsPlace (map listed_book books.now) book) }
+    ensures none { IfNone result (book_at (map listed_book books.now) book ≡ None) }
 {
     for (place, kept) in books.iter().enumerate() {
         if kept.number == book {
@@ -214,8 +214,8 @@ fn place_of(books: &[Kept], book: Number) -> Option<usize>
 
 // The book of a number.
 fn kept_at(books: &[Kept], book: Number) -> Option<&Kept>
-    ensures found { MatchOption result (book_at (map entry_of books.now) book ≡ None)
-        (λ kept. book_at (map entry_of books.now) book ≡ Some (entry_of kept.now).1) }
+    ensures found { MatchOption result (book_at (map listed_book books.now) book ≡ None)
+        (λ kept. book_at (map listed_book books.now) book ≡ Some (listed_book kept.now).1) }
 {
     match place_of(books, book) {
         None => None,
@@ -249,8 +249,8 @@ fn pledge_at(pledges: &[Pledge], number: Number) -> Option<&Pledge>
 // The pledge of a number in a book.
 fn standing_pledge(books: &[Kept], book: Number, number: Number) -> Option<&Pledge>
     ensures found { MatchOption result
-        (pledge_in (book_at (map entry_of books.now) book) number ≡ None)
-        (λ pledge. pledge_in (book_at (map entry_of books.now) book) number ≡ Some pledge.now) }
+        (pledge_in (book_at (map listed_book books.now) book) number ≡ None)
+        (λ pledge. pledge_in (book_at (map listed_book books.now) book) number ≡ Some pledge.now) }
 {
     match kept_at(books, book) {
         None => None,
@@ -274,7 +274,7 @@ fn number_with(pledges: &[Pledge], reference: &Reference) -> Option<Number>
 // What a book has beside its terms and pledges.
 fn head_in(books: &[Kept], book: Number) -> Result<Option<BookHead>, AllocError>
     ensures value { IfOk result (λ head. head ≡ option_map book_head
-        (book_at (map entry_of books.now) book)) }
+        (book_at (map listed_book books.now) book)) }
 {
     let Some(kept) = kept_at(books, book) else {
         return Ok(None);
@@ -292,7 +292,7 @@ fn head_in(books: &[Kept], book: Number) -> Result<Option<BookHead>, AllocError>
 
 // The terms of a version of a book.
 fn terms_in(books: &[Kept], book: Number, version: u64) -> Option<Terms>
-    ensures value { result ≡ terms_at (terms_of (book_at (map entry_of books.now) book)) version }
+    ensures value { result ≡ terms_at (terms_of (book_at (map listed_book books.now) book)) version }
 {
     let Some(kept) = kept_at(books, book) else {
         return None;
@@ -302,7 +302,7 @@ fn terms_in(books: &[Kept], book: Number, version: u64) -> Option<Terms>
 
 // The number of the pledge with a reference in a book.
 fn number_in(books: &[Kept], book: Number, reference: &Reference) -> Option<Number>
-    ensures value { result ≡ number_of (book_at (map entry_of books.now) book) reference.now }
+    ensures value { result ≡ number_of (book_at (map listed_book books.now) book) reference.now }
 {
     let Some(kept) = kept_at(books, book) else {
         return None;
@@ -313,7 +313,7 @@ fn number_in(books: &[Kept], book: Number, reference: &Reference) -> Option<Numb
 // The pledge of a number in a book, as a value of its own.
 fn pledge_copy(books: &[Kept], book: Number, number: Number) -> Result<Option<Pledge>, AllocError>
     ensures value { IfOk result (λ pledge. pledge ≡ pledge_in
-        (book_at (map entry_of books.now) book) number) }
+        (book_at (map listed_book books.now) book) number) }
 {
     let Some(pledge) = standing_pledge(books, book, number) else {
         return Ok(None);
@@ -325,7 +325,7 @@ fn pledge_copy(books: &[Kept], book: Number, number: Number) -> Result<Option<Pl
 // The pledge of a number in a book, without its lists.
 fn brief_in(books: &[Kept], book: Number, number: Number) -> Result<Option<Brief>, AllocError>
     ensures value { IfOk result (λ brief. brief ≡ option_map brief_of
-        (pledge_in (book_at (map entry_of books.now) book) number)) }
+        (pledge_in (book_at (map listed_book books.now) book) number)) }
 {
     let Some(pledge) = standing_pledge(books, book, number) else {
         return Ok(None);
@@ -336,7 +336,7 @@ fn brief_in(books: &[Kept], book: Number, number: Number) -> Result<Option<Brief
 
 // The pledges of a book.
 fn pledges_in(books: &[Kept], book: Number) -> &[Pledge]
-    ensures value { result.now ≡ pledges_of (book_at (map entry_of books.now) book) }
+    ensures value { result.now ≡ pledges_of (book_at (map listed_book books.now) book) }
 {
     match kept_at(books, book) {
         None => &[],
@@ -366,7 +366,7 @@ fn bound(after: Option<Number>) -> u32
 
 // The least number of a book above one.
 fn next_number(books: &[Kept], after: u32) -> Option<Number>
-    ensures least { IsLeastAbove (map entry_of books.now) after result }
+    ensures least { IsLeastAbove (map listed_book books.now) after result }
 {
     let mut next: Option<Number> = None;
     for kept in books {
@@ -393,7 +393,7 @@ fn nearer_number(number: Number, after: u32, next: Option<Number>) -> Option<Num
 // The entries of a pledge in a book.
 fn entries_in(books: &[Kept], book: Number, number: Number) -> &[Entry]
     ensures value { result.now ≡ entries_of
-        (pledge_in (book_at (map entry_of books.now) book) number) }
+        (pledge_in (book_at (map listed_book books.now) book) number) }
 {
     match standing_pledge(books, book, number) {
         None => &[],
@@ -404,7 +404,7 @@ fn entries_in(books: &[Kept], book: Number, number: Number) -> &[Entry]
 // The secrets of a pledge in a book.
 fn secrets_in(books: &[Kept], book: Number, number: Number) -> &[Issued]
     ensures value { result.now ≡ secrets_of
-        (pledge_in (book_at (map entry_of books.now) book) number) }
+        (pledge_in (book_at (map listed_book books.now) book) number) }
 {
     match standing_pledge(books, book, number) {
         None => &[],
@@ -415,7 +415,7 @@ fn secrets_in(books: &[Kept], book: Number, number: Number) -> &[Issued]
 // The extensions of a pledge in a book.
 fn extensions_in(books: &[Kept], book: Number, number: Number) -> &[Extension]
     ensures value { result.now ≡ extensions_of
-        (pledge_in (book_at (map entry_of books.now) book) number) }
+        (pledge_in (book_at (map listed_book books.now) book) number) }
 {
     match standing_pledge(books, book, number) {
         None => &[],
@@ -450,10 +450,10 @@ fn rows_of(pledge: &Pledge) -> u64
 // The rows once a change is made, where so many are counted.
 fn rows_with(books: &[Kept], rows: u64, change: &Change) -> u128
     requires counted { replaced_rows
-        (map entry_of books.now) change.now ≤ rows + added_rows change.now }
-    requires fits { Fits (map entry_of books.now) change.now }
+        (map listed_book books.now) change.now ≤ rows + added_rows change.now }
+    requires fits { Fits (map listed_book books.now) change.now }
     ensures rows { result + replaced_rows
-        (map entry_of books.now) change.now ≡ rows + added_rows change.now }
+        (map listed_book books.now) change.now ≡ rows + added_rows change.now }
 {
     match change {
         Change::MakeBook { .. } => u128::from(rows) + 1,
@@ -477,10 +477,10 @@ fn rows_with(books: &[Kept], rows: u64, change: &Change) -> u128
 
 // Makes a change of the books.
 fn make_change(alloc: Global, books: &mut Vec<Kept>, change: &Change) -> Result<(), AllocError>
-    requires fits { Fits (map entry_of books.old.items) change.now }
-    ensures ok { OnOk result (HasChange (map entry_of books.old.items) change.now
-        (map entry_of books.new.items)) }
-    ensures err { OnErr result (map entry_of books.new.items ≡ map entry_of books.old.items) }
+    requires fits { Fits (map listed_book books.old.items) change.now }
+    ensures ok { OnOk result (HasChange (map listed_book books.old.items) change.now
+        (map listed_book books.new.items)) }
+    ensures err { OnErr result (map listed_book books.new.items ≡ map listed_book books.old.items) }
 {
     match change {
         Change::MakeBook { book, new_book } => push_book(alloc, books, *book, new_book),
@@ -505,9 +505,9 @@ fn push_book(
     book: Number,
     new_book: &NewBook,
 ) -> Result<(), AllocError>
-    requires none { book_at (map entry_of books.old.items) book ≡ None }
-    ensures ok { OnOk result (HasChange (map entry_of books.old.items)
-        (Change.MakeBook book new_book.now) (map entry_of books.new.items)) }
+    requires none { book_at (map listed_book books.old.items) book ≡ None }
+    ensures ok { OnOk result (HasChange (map listed_book books.old.items)
+        (Change.MakeBook book new_book.now) (map listed_book books.new.items)) }
     ensures err { OnErr result (books.new.items ≡ books.old.items) }
 {
     let made = match new_book.copy() {
@@ -532,10 +532,10 @@ fn push_terms(
     version: u64,
     terms: Terms,
 ) -> Result<(), AllocError>
-    requires stands { (at : BookValue) × (book_at (map entry_of books.old.items) book ≡ Some at) }
-    ensures ok { OnOk result (HasChange (map entry_of books.old.items)
-        (Change.AddTerms book version terms) (map entry_of books.new.items)) }
-    ensures err { OnErr result (map entry_of books.new.items ≡ map entry_of books.old.items) }
+    requires stands { (at : BookValue) × (book_at (map listed_book books.old.items) book ≡ Some at) }
+    ensures ok { OnOk result (HasChange (map listed_book books.old.items)
+        (Change.AddTerms book version terms) (map listed_book books.new.items)) }
+    ensures err { OnErr result (map listed_book books.new.items ≡ map listed_book books.old.items) }
 {
     let Some(place) = place_of(books, book) else {
         unreachable!();
@@ -554,11 +554,11 @@ fn put_pledge(
     number: Number,
     pledge: &Pledge,
 ) -> Result<(), AllocError>
-    requires stands { (at : BookValue) × (book_at (map entry_of books.old.items) book ≡ Some at)
+    requires stands { (at : BookValue) × (book_at (map listed_book books.old.items) book ≡ Some at)
         × (number ≤ 1 + length at.pledges) }
-    ensures ok { OnOk result (HasChange (map entry_of books.old.items)
-        (Change.PutPledge book number pledge.now) (map entry_of books.new.items)) }
-    ensures err { OnErr result (map entry_of books.new.items ≡ map entry_of books.old.items) }
+    ensures ok { OnOk result (HasChange (map listed_book books.old.items)
+        (Change.PutPledge book number pledge.now) (map listed_book books.new.items)) }
+    ensures err { OnErr result (map listed_book books.new.items ≡ map listed_book books.old.items) }
 {
     let Some(place) = place_of(books, book) else {
         unreachable!();

@@ -1,5 +1,4 @@
 //! Plans of requests.
-ghost use Rattle.std.specs.Prelude.{◌≡◌};
 ghost use Rattle.std.specs.FinMap.{get};
 ghost use Rattle.pawn_book.specs.BookStep.{book_step};
 ghost use Rattle.pawn_book.specs.Sound.{IsSound};

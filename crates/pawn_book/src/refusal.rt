@@ -1,5 +1,5 @@
 ghost use Rattle.std.specs.Prelude.{◌≡◌};
-ghost use Rattle.pawn_book.specs.Refusals.{code_of, name_of, total_of};
+ghost use Rattle.pawn_book.specs.Refusals.{book_refusal_code, book_refusal_name, total_told};
 
 use pawn_pledge::Refusal as PledgeRefusal;
 use pawn_terms::TermsFault;
@@ -46,7 +46,7 @@ pub enum Refusal {
 impl Refusal {
     /// The refusal's number.
     pub fn code(self) -> u16
-        ensures code { result ≡ code_of self }
+        ensures code { result ≡ book_refusal_code self }
     {
         match self {
             Refusal::Pledge(refusal) => refusal.code(),
@@ -71,7 +71,7 @@ impl Refusal {
 
     /// The refusal's name.
     pub fn name(self) -> &'static str
-        ensures name { result.now ≡ name_of self }
+        ensures name { result.now ≡ book_refusal_name self }
     {
         match self {
             Refusal::Pledge(refusal) => refusal.name(),
@@ -96,7 +96,7 @@ impl Refusal {
 
     /// The total owing in pence, where the refusal tells it.
     pub fn total(self) -> Option<u64>
-        ensures total { result ≡ total_of self }
+        ensures total { result ≡ total_told self }
     {
         match self {
             Refusal::Pledge(refusal) => refusal.total(),

@@ -1,7 +1,8 @@
 //! What a book's broker is to know of a day.
 ghost use Rattle.std.specs.Prelude.{◌≡◌, count_by, is_some};
 ghost use Rattle.pawn_book.specs.Bookings.{is_confirmed_for};
-ghost use Rattle.pawn_book.specs.Sheet.{asked_item, day_sheet, is_open, part_head, part_item, part_items, window_sheet, windows_sheet, with_head};
+ghost use Rattle.pawn_pledge.specs.Words.{is_open};
+ghost use Rattle.pawn_book.specs.Sheet.{asked_item, day_sheet, part_head, part_item, part_items, window_sheet, windows_sheet, with_head};
 ghost use Rattle.pawn_book.specs.Visits.{HandsOver};
 
 use crate::visit::{Flow, Visitor};

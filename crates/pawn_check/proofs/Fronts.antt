@@ -26,7 +26,7 @@ use Rattle.pawn_book.proofs.Sounds.{each_at, each_push, numbered_at}
 use Rattle.pawn_book.specs.HostStep.{Host}
 use Rattle.std.specs.Prelude.{IsTrue, Result, Err}
 use Rattle.pawn_check.specs.declared.fault.CheckFault.{CheckFault}
-use Rattle.pawn_check.specs.Judging.{AreOfBook, Blames, Finds, FitsAt, IsFront}
+use Rattle.pawn_check.specs.Judging.{AreOfBook, Blames, FindsSound, FitsAt, IsFront}
 
 -- ---- terms
 
@@ -216,8 +216,8 @@ sound_fits k n p sound is =
 -- ---- what was found is handed on
 
 -- a fault is handed on as it is
-pub handed_on : {T : Type 0} (h : Host) (fault : CheckFault) (r : Result T CheckFault) (P : T → Type 0) → r ≡ Err fault → Blames h fault → Finds h r P
-handed_on {T} h fault r P is blames = subst (λ (r : Result T CheckFault). Finds h r P) (sym is) blames
+pub handed_on : {T : Type 0} (h : Host) (fault : CheckFault) (r : Result T CheckFault) (P : T → Type 0) → r ≡ Err fault → Blames h fault → FindsSound h r P
+handed_on {T} h fault r P is blames = subst (λ (r : Result T CheckFault). FindsSound h r P) (sym is) blames
 
 -- a pledge within the book's count is found
 pub unfound : (h : Host) (b n : ℕ) (k : BookValue) → get h.books b ≡ Some k → 1 ≤ n → n ≤ length k.pledges → None ≡ pledge_in (get h.books b) n → ⊥

@@ -18,10 +18,10 @@ use Rattle.pawn_check.specs.declared.fault.CheckFault.{CheckFault}
 use Rattle.pawn_check.specs.declared.fault.CheckFault.TheVariants.{Damaged, Memory, Store}
 
 -- what an error of a keeper is to a check: a row that is no record is damage
-abbrev pub fault_of : KeepError → CheckFault
-fault_of Keeper.Memory = Memory
-fault_of (Keeper.Store NoRecord) = Damaged
-fault_of (Keeper.Store Database) = Store
+abbrev pub check_fault_of : KeepError → CheckFault
+check_fault_of Keeper.Memory = Memory
+check_fault_of (Keeper.Store NoRecord) = Damaged
+check_fault_of (Keeper.Store Database) = Store
 
 -- a check that calls a store damaged says that a book of it is not sound; one that was broken off says nothing
 abbrev pub Blames : Host → CheckFault → Type 0
@@ -30,9 +30,9 @@ Blames h Memory = Unit {0}
 Blames h Store = Unit {0}
 
 -- P of what was found, or that a book is not sound
-abbrev pub Finds : {T : Type 0} → Host → Result T CheckFault → (T → Type 0) → Type 0
-Finds h (Ok found) P = P found
-Finds h (Err fault) P = Blames h fault
+abbrev pub FindsSound : {T : Type 0} → Host → Result T CheckFault → (T → Type 0) → Type 0
+FindsSound h (Ok found) P = P found
+FindsSound h (Err fault) P = Blames h fault
 
 -- how many books a host has, how many pledges they have, and its rows
 pub record AreCounted (h : Host) (counts : Counts) : Type 0 where
@@ -42,11 +42,11 @@ pub record AreCounted (h : Host) (counts : Counts) : Type 0 where
 
 -- each book is sound, and all are counted; or one is not sound
 abbrev pub Judges : Host → Result Counts CheckFault → Type 0
-Judges h result = Finds h result (λ counts. AreSound h × AreCounted h counts)
+Judges h result = FindsSound h result (λ counts. AreSound h × AreCounted h counts)
 
 -- over a steady keeper the store does not fail
-abbrev pub IsQuiet : {K T : Type 0} → Keeping K → K → Result T CheckFault → Type 0
-IsQuiet k old result = k.steady old → IsErrOf result Store → ⊥
+abbrev pub IsQuietCheck : {K T : Type 0} → Keeping K → K → Result T CheckFault → Type 0
+IsQuietCheck k old result = k.steady old → IsErrOf result Store → ⊥
 
 -- the pledges and the rows of a book
 pub record AreOfBook (book : BookValue) (counts : BookCounts) : Type 0 where
@@ -55,7 +55,7 @@ pub record AreOfBook (book : BookValue) (counts : BookCounts) : Type 0 where
 
 -- a book that stands is sound, and this is what it has; or some book of the host is not sound
 abbrev pub JudgesBook : Host → ℕ → Result BookCounts CheckFault → Type 0
-JudgesBook h b result = (book : BookValue) → get h.books b ≡ Some book → Finds h result (λ counts. IsSoundAt b book × AreOfBook book counts)
+JudgesBook h b result = (book : BookValue) → get h.books b ≡ Some book → FindsSound h result (λ counts. IsSoundAt b book × AreOfBook book counts)
 
 -- a pledge that stands under a number as those of sound books do
 pub record FitsAt (book : BookValue) (n : ℕ) (p : PledgeValue) : Type 0 where

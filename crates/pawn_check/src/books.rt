@@ -11,7 +11,7 @@ ghost use Rattle.pawn_book.specs.Keeping.{IsNextBook, Reads, terms_of};
 ghost use Rattle.pawn_book.specs.Rows.{terms_at};
 ghost use Rattle.pawn_book.specs.Limits.{IsCapacity, most_name_bytes, most_pledges};
 ghost use Rattle.pawn_book.specs.Sound.{IsWord};
-ghost use Rattle.pawn_check.specs.Judging.{Finds, IsQuiet, Judges, JudgesBook};
+ghost use Rattle.pawn_check.specs.Judging.{FindsSound, IsQuietCheck, Judges, JudgesBook};
 
 use crate::counts::{BookCounts, Counts};
 use crate::fault::CheckFault;
@@ -41,8 +41,8 @@ fn terms_under<K: Keep>(
     version: u64,
 ) -> Result<Option<Terms>, CheckFault>
     ensures reads { Reads K.keeping keep.old keep.new
-        (λ h. Finds h result (λ terms. terms ≡ terms_at (terms_of (get h.books book)) version)) }
-    ensures quiet { IsQuiet K.keeping keep.old result }
+        (λ h. FindsSound h result (λ terms. terms ≡ terms_at (terms_of (get h.books book)) version)) }
+    ensures quiet { IsQuietCheck K.keeping keep.old result }
 {
     Ok(keep.terms(book, version)?)
 }
@@ -50,9 +50,9 @@ fn terms_under<K: Keep>(
 // Finds that the terms of a book stand, each within the limits.
 fn find_terms<K: Keep>(keep: &mut K, book: Number, count: u64) -> Result<(), CheckFault>
     ensures reads { Reads K.keeping keep.old keep.new
-        (λ h. (k : BookValue) → get h.books book ≡ Some k → count ≡ length k.terms → Finds h result
+        (λ h. (k : BookValue) → get h.books book ≡ Some k → count ≡ length k.terms → FindsSound h result
         (λ _. Each IsChecked k.terms)) }
-    ensures quiet { IsQuiet K.keeping keep.old result }
+    ensures quiet { IsQuietCheck K.keeping keep.old result }
 {
     for version in 0..count {
         let Some(terms) = terms_under(keep, book, version + 1)? else {
@@ -66,9 +66,9 @@ fn find_terms<K: Keep>(keep: &mut K, book: Number, count: u64) -> Result<(), Che
 // The head of a book that stands.
 fn head_of<K: Keep>(keep: &mut K, book: Number) -> Result<BookHead, CheckFault>
     ensures reads { Reads K.keeping keep.old keep.new
-        (λ h. (k : BookValue) → get h.books book ≡ Some k → Finds h result
+        (λ h. (k : BookValue) → get h.books book ≡ Some k → FindsSound h result
         (λ head. head ≡ book_head k)) }
-    ensures quiet { IsQuiet K.keeping keep.old result }
+    ensures quiet { IsQuietCheck K.keeping keep.old result }
 {
     match keep.book_head(book)? {
         Some(head) => Ok(head),
@@ -80,7 +80,7 @@ fn head_of<K: Keep>(keep: &mut K, book: Number) -> Result<BookHead, CheckFault>
 fn book_counts<K: Keep>(keep: &mut K, book: Number) -> Result<BookCounts, CheckFault>
     ensures reads { Reads K.keeping keep.old keep.new (λ h. JudgesBook h book result) }
     ensures few { IfOk result (λ counts. counts.pledges ≤ most_pledges) }
-    ensures quiet { IsQuiet K.keeping keep.old result }
+    ensures quiet { IsQuietCheck K.keeping keep.old result }
 {
     let head = head_of(keep, book)?;
     know_head(&head);
@@ -99,8 +99,8 @@ fn book_counts<K: Keep>(keep: &mut K, book: Number) -> Result<BookCounts, CheckF
 // The next book above a number.
 fn book_after<K: Keep>(keep: &mut K, after: Option<Number>) -> Result<Option<Number>, CheckFault>
     ensures reads { Reads K.keeping keep.old keep.new
-        (λ h. Finds h result (λ next. IsNextBook h (unwrap_or after 0) next)) }
-    ensures quiet { IsQuiet K.keeping keep.old result }
+        (λ h. FindsSound h result (λ next. IsNextBook h (unwrap_or after 0) next)) }
+    ensures quiet { IsQuietCheck K.keeping keep.old result }
 {
     Ok(keep.next_book(after)?)
 }
@@ -108,8 +108,8 @@ fn book_after<K: Keep>(keep: &mut K, after: Option<Number>) -> Result<Option<Num
 // The rows of all books.
 fn rows_of<K: Keep>(keep: &mut K) -> Result<u64, CheckFault>
     ensures reads { Reads K.keeping keep.old keep.new
-        (λ h. Finds h result (λ count. count ≡ rows h)) }
-    ensures quiet { IsQuiet K.keeping keep.old result }
+        (λ h. FindsSound h result (λ count. count ≡ rows h)) }
+    ensures quiet { IsQuietCheck K.keeping keep.old result }
 {
     Ok(keep.rows()?)
 }
@@ -121,7 +121,7 @@ fn rows_of<K: Keep>(keep: &mut K) -> Result<u64, CheckFault>
 /// store fails. It reads a pledge at a time, and asks for its terms and for its reference again.
 pub fn check<K: Keep>(keep: &mut K) -> Result<Counts, CheckFault>
     ensures judges { Reads K.keeping keep.old keep.new (λ h. Judges h result) }
-    ensures quiet { IsQuiet K.keeping keep.old result }
+    ensures quiet { IsQuietCheck K.keeping keep.old result }
 {
     let rows = rows_of(keep)?;
     let mut left = rows;

@@ -1,5 +1,5 @@
 ghost use Rattle.std.specs.Prelude.{◌≡◌};
-ghost use Rattle.pawn_check.specs.Judging.{fault_of};
+ghost use Rattle.pawn_check.specs.Judging.{check_fault_of};
 
 use pawn_book::{KeepError, StoreFault};
 
@@ -15,7 +15,7 @@ pub enum CheckFault {
 }
 
 impl From<KeepError> for CheckFault {
-    ghost from_gives = { λ error fault. fault ≡ fault_of error };
+    ghost from_gives = { λ error fault. fault ≡ check_fault_of error };
 
     fn from(error: KeepError) -> CheckFault {
         match error {

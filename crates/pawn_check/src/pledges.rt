@@ -10,7 +10,7 @@ ghost use Rattle.pawn_book.specs.Keeping.{Reads, number_of};
 ghost use Rattle.pawn_book.specs.Limits.{most_pledges};
 ghost use Rattle.pawn_book.specs.Rows.{IsUnder, version_of};
 ghost use Rattle.pawn_book.specs.Sound.{HasTextsAndWords};
-ghost use Rattle.pawn_check.specs.Judging.{Finds, FitsAt, IsFront, IsQuiet};
+ghost use Rattle.pawn_check.specs.Judging.{FindsSound, FitsAt, IsFront, IsQuietCheck};
 
 use crate::fault::CheckFault;
 use pawn_book::{Keep, Number, Reference};
@@ -52,8 +52,8 @@ fn rows_of(parts: &Parts) -> u64
 fn parts_of<K: Keep>(keep: &mut K, book: Number, number: Number) -> Result<Parts, CheckFault>
     ensures reads { Reads K.keeping keep.old keep.new
         (λ h. (k : BookValue) → get h.books book ≡ Some k → number ≤ length k.pledges
-        → Finds h result (λ parts. pledge_from 1 k.pledges number ≡ Some parts)) }
-    ensures quiet { IsQuiet K.keeping keep.old result }
+        → FindsSound h result (λ parts. pledge_from 1 k.pledges number ≡ Some parts)) }
+    ensures quiet { IsQuietCheck K.keeping keep.old result }
 {
     let _ = number.get();
     match keep.pledge(book, number)? {
@@ -68,9 +68,9 @@ fn parts_of<K: Keep>(keep: &mut K, book: Number, number: Number) -> Result<Parts
 // Whether the terms of a pledge stand under its version.
 fn is_under<K: Keep>(keep: &mut K, book: Number, parts: &Parts) -> Result<bool, CheckFault>
     ensures reads { Reads K.keeping keep.old keep.new
-        (λ h. (k : BookValue) → get h.books book ≡ Some k → Finds h result
+        (λ h. (k : BookValue) → get h.books book ≡ Some k → FindsSound h result
         (λ under. IsTrue under ↔ IsUnder k.terms parts.now)) }
-    ensures quiet { IsQuiet K.keeping keep.old result }
+    ensures quiet { IsQuietCheck K.keeping keep.old result }
 {
     match keep.terms(book, parts.agreement.version)? {
         Some(terms) => Ok(terms.rates() == parts.agreement.terms),
@@ -86,9 +86,9 @@ fn is_first<K: Keep>(
     reference: &Reference,
 ) -> Result<bool, CheckFault>
     ensures reads { Reads K.keeping keep.old keep.new
-        (λ h. (k : BookValue) → get h.books book ≡ Some k → Finds h result
+        (λ h. (k : BookValue) → get h.books book ≡ Some k → FindsSound h result
         (λ first. IsTrue first ↔ (number_of (Some k) reference.now ≡ Some number))) }
-    ensures quiet { IsQuiet K.keeping keep.old result }
+    ensures quiet { IsQuietCheck K.keeping keep.old result }
 {
     match keep.find_ref(book, reference)? {
         Some(found) => Ok(found == number),
@@ -106,11 +106,11 @@ fn next_step<K: Keep>(
     ensures reads { Reads K.keeping keep.old keep.new
         (λ h. (k : BookValue) (place : ℕ) → get h.books book ≡ Some k → number ≡ place + 1
         → number ≤ length k.pledges → version ≡ last_by version_of 0 (take place k.pledges)
-        → Finds h result
+        → FindsSound h result
         (λ step. (p : PledgeValue) × (pledge_from 1 k.pledges number ≡ Some p) × FitsAt k number p
         × (version ≤ step.version) × (step.version ≡ version_of p) × (step.rows ≡ pledge_rows p))) }
     ensures few { IfOk result (λ step. step.rows ≤ 10102) }
-    ensures quiet { IsQuiet K.keeping keep.old result }
+    ensures quiet { IsQuietCheck K.keeping keep.old result }
 {
     let parts = parts_of(keep, book, number)?;
     know_parts(&parts);
@@ -139,9 +139,9 @@ pub(crate) fn pledges_rows<K: Keep>(
     requires few { count ≤ most_pledges }
     ensures reads { Reads K.keeping keep.old keep.new
         (λ h. (k : BookValue) → get h.books book ≡ Some k → count ≡ length k.pledges
-        → Finds h result (λ rows. (version : ℕ) × IsFront k k.pledges version rows)) }
+        → FindsSound h result (λ rows. (version : ℕ) × IsFront k k.pledges version rows)) }
     ensures few { IfOk result (λ rows. rows ≤ count * 10102) }
-    ensures quiet { IsQuiet K.keeping keep.old result }
+    ensures quiet { IsQuietCheck K.keeping keep.old result }
 {
     let mut version = 0;
     let mut rows = 0;

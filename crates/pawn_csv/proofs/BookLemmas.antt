@@ -19,15 +19,15 @@ use Rattle.pawn_csv.specs.declared.row.Row.{Row}
 use Rattle.pawn_csv.specs.declared.row.Version.{Version}
 use Rattle.pawn_csv.specs.declared.row.Version.TheVariants as version
 use Rattle.pawn_csv.specs.Finishing.{IsFinishedAs, raw_of}
-use Rattle.pawn_csv.specs.Order.{Begun, hand, is_whole, may_end, on_hand, on_second, place, place_booking, place_entry, place_extension, place_pledge, place_secret, place_terms, pledges_of, put_hand, raw_pledge, run, then_run}
+use Rattle.pawn_csv.specs.Order.{Begun, hand, is_whole, may_end, on_hand, on_second, place, place_booking, place_entry, place_extension, place_pledge, place_secret, place_terms, pledges_begun, put_hand, raw_pledge, run, then_run}
 use Rattle.pawn_csv.specs.Reading.{AreTaken, IsHeldBy, IsReadAs, IsTextOf}
-use Rattle.pawn_csv.specs.Rows.{Fits, Knows, header, pledge_rows, row_fields, rows_of, terms_rows, version_rows}
+use Rattle.pawn_csv.specs.Rows.{FitsColumns, Knows, header, pledge_csv_rows, row_fields, rows_of_csv, terms_rows, version_rows}
 use Rattle.pawn_csv.proofs.OrderLemmas.{Shows, booking_shown, both, entry_shown, extension_shown, guard_err, guard_ok, ok_same, raw_rows, secret_shown}
 
 -- the rows that were taken
 abbrev pub shown : Option Begun → List Row
 shown None = []
-shown (Some b) = Row.Book b.version b.terms_due b.pledges_due ∷ (terms_rows 1 b.terms ++ flat_map raw_rows (pledges_of b))
+shown (Some b) = Row.Book b.version b.terms_due b.pledges_due ∷ (terms_rows 1 b.terms ++ flat_map raw_rows (pledges_begun b))
 
 abbrev pub HasNone : RawPledge → Type 0
 HasNone p = p.extensions ≡ []
@@ -35,7 +35,7 @@ HasNone p = p.extensions ≡ []
 -- a text of the first version has no extensions
 abbrev pub IsPlain : Option Begun → Type 0
 IsPlain None = Unit {0}
-IsPlain (Some b) = b.version ≡ version.One → Each HasNone (pledges_of b)
+IsPlain (Some b) = b.version ≡ version.One → Each HasNone (pledges_begun b)
 
 abbrev pub Grows : Option Begun → Row → Begun → Type 0
 Grows s r b = (shown (Some b) ≡ shown s ++ r ∷ []) × IsPlain (Some b)
@@ -107,13 +107,13 @@ booking_keeps p q x h = let g = guard_ok _ (record p { booking = Some x }) q cau
 terms_grows : (b c : Begun) (v : ℕ) (x : Rates) → place_terms b v x ≡ Ok c → IsPlain (Some b) → Grows (Some b) (Row.Terms v x) c
 terms_grows b c v x h plain =
     let new : Begun = record b { terms = b.terms ++ x ∷ [] } in
-    let guard = guard_ok ((v == length b.terms + 1) && nat_le v b.terms_due && (length (pledges_of b) == 0)) new c cause.Order h in
-    let w = both ((v == length b.terms + 1) && nat_le v b.terms_due) (length (pledges_of b) == 0) guard.0 in
+    let guard = guard_ok ((v == length b.terms + 1) && nat_le v b.terms_due && (length (pledges_begun b) == 0)) new c cause.Order h in
+    let w = both ((v == length b.terms + 1) && nat_le v b.terms_due) (length (pledges_begun b) == 0) guard.0 in
     let u = both (v == length b.terms + 1) (nat_le v b.terms_due) w.0 in
     let first = u.0 in
     let last = w.1 in
     let at : 1 + length b.terms ≡ v = grind (arith, nat_tests, first) in
-    let none : pledges_of b ≡ [] = none_counted (pledges_of b) (grind (arith, nat_tests, last)) in
+    let none : pledges_begun b ≡ [] = none_counted (pledges_begun b) (grind (arith, nat_tests, last)) in
     let head = Row.Book b.version b.terms_due b.pledges_due in
     let rows : shown (Some new) ≡ shown (Some b) ++ Row.Terms v x ∷ [] =
     ap (λ (ps : List RawPledge). head ∷ (terms_rows 1 (b.terms ++ x ∷ []) ++ flat_map raw_rows ps)) none
@@ -124,13 +124,13 @@ terms_grows b c v x h plain =
 
 pledge_grows : (b c : Begun) (x : PledgeColumns) → place_pledge b x ≡ Ok c → IsPlain (Some b) → Grows (Some b) (Row.Pledge x) c
 pledge_grows b c x h plain =
-    let new : Begun = record b { pledges = pledges_of b; at_hand = Some (raw_pledge x) } in
+    let new : Begun = record b { pledges = pledges_begun b; at_hand = Some (raw_pledge x) } in
     let guard = guard_ok _ new c cause.Order h in
     let head = Row.Book b.version b.terms_due b.pledges_due in
     let rows : shown (Some new) ≡ shown (Some b) ++ Row.Pledge x ∷ [] =
-    ap (λ (rs : List Row). head ∷ (terms_rows 1 b.terms ++ rs)) (flat_map-push (pledges_of b) (raw_pledge x))
-    ∙ ap (λ (rs : List Row). head ∷ rs) (sym (append_assoc (terms_rows 1 b.terms) (flat_map raw_rows (pledges_of b)) (Row.Pledge x ∷ []))) in
-    subst (λ (d : Begun). Grows (Some b) (Row.Pledge x) d) guard.1 (rows, λ one. each_push (pledges_of b) (raw_pledge x) (plain one) refl)
+    ap (λ (rs : List Row). head ∷ (terms_rows 1 b.terms ++ rs)) (flat_map-push (pledges_begun b) (raw_pledge x))
+    ∙ ap (λ (rs : List Row). head ∷ rs) (sym (append_assoc (terms_rows 1 b.terms) (flat_map raw_rows (pledges_begun b)) (Row.Pledge x ∷ []))) in
+    subst (λ (d : Begun). Grows (Some b) (Row.Pledge x) d) guard.1 (rows, λ one. each_push (pledges_begun b) (raw_pledge x) (plain one) refl)
 
 second_only : (v : Version) (x : Result Begun Cause) (c : Begun) → on_second v x ≡ Ok c → (v ≡ version.Two) × (x ≡ Ok c)
 second_only version.One x c h = cc
@@ -177,9 +177,9 @@ run_grows (r ∷ rows) s t h plain =
       | Err e ↦ λ at rest. cc
     ] refl h
 
-flat_map-raw : (ps : List PledgeValue) → flat_map raw_rows (map raw_of ps) ≡ flat_map pledge_rows ps
+flat_map-raw : (ps : List PledgeValue) → flat_map raw_rows (map raw_of ps) ≡ flat_map pledge_csv_rows ps
 flat_map-raw [] = refl
-flat_map-raw (p ∷ ps) = ap (λ (rs : List Row). pledge_rows p ++ rs) (flat_map-raw ps)
+flat_map-raw (p ∷ ps) = ap (λ (rs : List Row). pledge_csv_rows p ++ rs) (flat_map-raw ps)
 
 length-raw : (ps : List PledgeValue) → length (map raw_of ps) ≡ length ps
 length-raw [] = refl
@@ -194,18 +194,18 @@ knows version.One k h = h refl
 knows version.Two k h = tt
 
 -- what is shown once all is there
-whole_rows : (b : Begun) (k : BookRows) → is_whole (Some b) ≡ true → b.terms ≡ k.terms → pledges_of b ≡ map raw_of k.pledges → shown (Some b) ≡ rows_of b.version k
+whole_rows : (b : Begun) (k : BookRows) → is_whole (Some b) ≡ true → b.terms ≡ k.terms → pledges_begun b ≡ map raw_of k.pledges → shown (Some b) ≡ rows_of_csv b.version k
 whole_rows b k whole terms pledges =
-    let w = both ((length b.terms == b.terms_due) && (length (pledges_of b) == b.pledges_due)) (may_end b.at_hand) whole in
-    let u = both (length b.terms == b.terms_due) (length (pledges_of b) == b.pledges_due) w.0 in
+    let w = both ((length b.terms == b.terms_due) && (length (pledges_begun b) == b.pledges_due)) (may_end b.at_hand) whole in
+    let u = both (length b.terms == b.terms_due) (length (pledges_begun b) == b.pledges_due) w.0 in
     let first = u.0 in
     let second = u.1 in
     let m : b.terms_due ≡ length b.terms = grind (arith, nat_tests, first) in
-    let n : b.pledges_due ≡ length (pledges_of b) = grind (arith, nat_tests, second) in
+    let n : b.pledges_due ≡ length (pledges_begun b) = grind (arith, nat_tests, second) in
     let count = n ∙ ap (λ (ps : List RawPledge). length ps) pledges ∙ length-raw k.pledges in
-    ap (λ (d : ℕ). Row.Book b.version d b.pledges_due ∷ (terms_rows 1 b.terms ++ flat_map raw_rows (pledges_of b))) (m ∙ ap (λ (ts : List Rates). length ts) terms)
-    ∙ ap (λ (d : ℕ). Row.Book b.version (length k.terms) d ∷ (terms_rows 1 b.terms ++ flat_map raw_rows (pledges_of b))) count
-    ∙ ap (λ (ts : List Rates). Row.Book b.version (length k.terms) (length k.pledges) ∷ (terms_rows 1 ts ++ flat_map raw_rows (pledges_of b))) terms
+    ap (λ (d : ℕ). Row.Book b.version d b.pledges_due ∷ (terms_rows 1 b.terms ++ flat_map raw_rows (pledges_begun b))) (m ∙ ap (λ (ts : List Rates). length ts) terms)
+    ∙ ap (λ (d : ℕ). Row.Book b.version (length k.terms) d ∷ (terms_rows 1 b.terms ++ flat_map raw_rows (pledges_begun b))) count
+    ∙ ap (λ (ts : List Rates). Row.Book b.version (length k.terms) (length k.pledges) ∷ (terms_rows 1 ts ++ flat_map raw_rows (pledges_begun b))) terms
     ∙ ap (λ (rs : List Row). Row.Book b.version (length k.terms) (length k.pledges) ∷ (terms_rows 1 k.terms ++ rs))
     (ap (λ (ps : List RawPledge). flat_map raw_rows ps) pledges ∙ flat_map-raw k.pledges)
 
@@ -218,10 +218,10 @@ taken_is [] rows s k taken (b, is, whole, begun, replayable) = absurd (some_same
 taken_is (h ∷ rs) rows s k taken (b, is, whole, begun, replayable) =
     let grown = run_grows rows None (Some b) (taken.3 ∙ ap (λ (o : Option Begun). Ok o) is) tt in
     let whole' : is_whole (Some b) ≡ true = ap is_whole (sym is) ∙ whole in
-    let same : rows ≡ rows_of b.version k = sym grown.0 ∙ whole_rows b k whole' begun.0 begun.1.0 in (
+    let same : rows ≡ rows_of_csv b.version k = sym grown.0 ∙ whole_rows b k whole' begun.0 begun.1.0 in (
       b.version,
       ap (λ (x : List (List ℕ)). x ∷ rs) taken.0 ∙ ap (λ (xs : List (List (List ℕ))). header ∷ xs) (taken.1 ∙ ap (λ (xs : List Row). map row_fields xs) same),
-      (replayable, knows b.version k (λ one. none_known k.pledges (subst (λ (ps : List RawPledge). Each HasNone ps) begun.1.0 (grown.1 one))), subst (λ (xs : List Row). Each Fits xs) same taken.2),
+      (replayable, knows b.version k (λ one. none_known k.pledges (subst (λ (ps : List RawPledge). Each HasNone ps) begun.1.0 (grown.1 one))), subst (λ (xs : List Row). Each FitsColumns xs) same taken.2),
     )
 
 -- a text that is read as a book is a text of it

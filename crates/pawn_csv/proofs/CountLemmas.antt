@@ -18,8 +18,8 @@ use Rattle.pawn_book.specs.Limits.{most_pledges}
 use Rattle.pawn_book.specs.Rows.{terms_at}
 use Rattle.pawn_book.specs.Sound.{IsSound}
 use Rattle.pawn_book.specs.Visits.{Front, Whole}
-use Rattle.pawn_csv.specs.Rows.{pledge_rows, terms_rows}
-use Rattle.pawn_csv.specs.Sent.{Puts, PutsShare, line_of}
+use Rattle.pawn_csv.specs.Rows.{pledge_csv_rows, terms_rows}
+use Rattle.pawn_csv.specs.Sent.{PutsRow, PutsRowsShare, text_of_row}
 use Rattle.pawn_csv.specs.declared.row.Row.{Row}
 use Rattle.pawn_csv.specs.declared.writing.Sink.{Sink}
 use Rattle.pawn_csv.proofs.ListLemmas.{lines_from}
@@ -67,52 +67,52 @@ stands_there (x ∷ xs) (suc i) less none = stands_there xs i (omega (arith, les
 
 -- a front that was put, where the rest is not
 pub front_share : {W T : Type 0} {contents : W → Option (List ℕ)} {a b : Sink W} (line : ℕ → ℕ → T → List ℕ) (number place : ℕ) (xs : List T) (i : ℕ)
-    → PutsShare contents a (lines_from line number place (take i xs)) Whole b → PutsShare contents a (lines_from line number place xs) Front b
+    → PutsRowsShare contents a (lines_from line number place (take i xs)) Whole b → PutsRowsShare contents a (lines_from line number place xs) Front b
 front_share {contents = contents} {a = a} {b = b} line number place xs i share =
     let cut = lines_cut line number place xs i in
-    subst (λ (t : List ℕ). PutsShare contents a t Front b) cut.1 (share_more cut.0 (share_front share))
+    subst (λ (t : List ℕ). PutsRowsShare contents a t Front b) cut.1 (share_more cut.0 (share_front share))
 
 -- a front, and of the next a front
 pub next_front : {W T : Type 0} {contents : W → Option (List ℕ)} {a b c : Sink W} (line : ℕ → ℕ → T → List ℕ) (number place : ℕ) (xs : List T) (i : ℕ) (x : T) → slice_get xs i ≡ Some x
-    → PutsShare contents a (lines_from line number place (take i xs)) Whole b → PutsShare contents b (line number (place + i) x) Front c
-    → PutsShare contents a (lines_from line number place xs) Front c
+    → PutsRowsShare contents a (lines_from line number place (take i xs)) Whole b → PutsRowsShare contents b (line number (place + i) x) Front c
+    → PutsRowsShare contents a (lines_from line number place xs) Front c
 next_front {contents = contents} {a = a} {c = c} line number place xs i x at before share =
     let cut = lines_cut line number place xs (i + 1) in
-    subst (λ (t : List ℕ). PutsShare contents a t Front c) (ap (λ (t : List ℕ). t ++ cut.0) (sym (lines_more line number place xs i x at)) ∙ cut.1)
+    subst (λ (t : List ℕ). PutsRowsShare contents a t Front c) (ap (λ (t : List ℕ). t ++ cut.0) (sym (lines_more line number place xs i x at)) ∙ cut.1)
     (share_more cut.0 (share_then before share))
 
 -- a front, and the next
 pub next_share : {W T : Type 0} {contents : W → Option (List ℕ)} {a b c : Sink W} (line : ℕ → ℕ → T → List ℕ) (number place : ℕ) (xs : List T) (i : ℕ) (x : T) → slice_get xs i ≡ Some x
-    → PutsShare contents a (lines_from line number place (take i xs)) Whole b → PutsShare contents b (line number (place + i) x) Whole c
-    → PutsShare contents a (lines_from line number place (take (i + 1) xs)) Whole c
+    → PutsRowsShare contents a (lines_from line number place (take i xs)) Whole b → PutsRowsShare contents b (line number (place + i) x) Whole c
+    → PutsRowsShare contents a (lines_from line number place (take (i + 1) xs)) Whole c
 next_share {contents = contents} {a = a} {c = c} line number place xs i x at before share =
-    subst (λ (t : List ℕ). PutsShare contents a t Whole c) (sym (lines_more line number place xs i x at)) (share_then before share)
+    subst (λ (t : List ℕ). PutsRowsShare contents a t Whole c) (sym (lines_more line number place xs i x at)) (share_then before share)
 
 -- all of them
 pub all_share : {W T : Type 0} {contents : W → Option (List ℕ)} {a b : Sink W} (line : ℕ → ℕ → T → List ℕ) (number place : ℕ) (xs : List T) (i : ℕ) → i ≡ length xs
-    → PutsShare contents a (lines_from line number place (take i xs)) Whole b → PutsShare contents a (lines_from line number place xs) Whole b
+    → PutsRowsShare contents a (lines_from line number place (take i xs)) Whole b → PutsRowsShare contents a (lines_from line number place xs) Whole b
 all_share {contents = contents} {a = a} {b = b} line number place xs i all share =
-    subst (λ (ys : List _). PutsShare contents a (lines_from line number place ys) Whole b) (take_each xs i all) share
+    subst (λ (ys : List _). PutsRowsShare contents a (lines_from line number place ys) Whole b) (take_each xs i all) share
 
 -- ---- the terms and the pledges of a book
 
 -- the row of a version of the terms
 abbrev pub version_line : ℕ → ℕ → Rates → List ℕ
-version_line number version rates = line_of (Row.Terms version rates)
+version_line number version rates = text_of_row (Row.Terms version rates)
 
 -- the rows of a pledge
 abbrev pub record_lines : ℕ → ℕ → PledgeValue → List ℕ
-record_lines number place p = flat_map line_of (pledge_rows p)
+record_lines number place p = flat_map text_of_row (pledge_csv_rows p)
 
-pub version_lines : (version : ℕ) (ts : List Rates) → lines_from version_line 0 version ts ≡ flat_map line_of (terms_rows version ts)
+pub version_lines : (version : ℕ) (ts : List Rates) → lines_from version_line 0 version ts ≡ flat_map text_of_row (terms_rows version ts)
 version_lines version [] = refl
 version_lines version (t ∷ ts) = ap (λ (x : List ℕ). version_line 0 version t ++ x) (version_lines (version + 1) ts)
 
-pub all_records : (place : ℕ) (ps : List PledgeValue) → lines_from record_lines 0 place ps ≡ flat_map line_of (flat_map pledge_rows ps)
+pub all_records : (place : ℕ) (ps : List PledgeValue) → lines_from record_lines 0 place ps ≡ flat_map text_of_row (flat_map pledge_csv_rows ps)
 all_records place [] = refl
 all_records place (p ∷ ps) =
-    ap (λ (x : List ℕ). flat_map line_of (pledge_rows p) ++ x) (all_records (place + 1) ps)
-    ∙ sym (flat_map-append line_of (pledge_rows p) (flat_map pledge_rows ps))
+    ap (λ (x : List ℕ). flat_map text_of_row (pledge_csv_rows p) ++ x) (all_records (place + 1) ps)
+    ∙ sym (flat_map-append text_of_row (pledge_csv_rows p) (flat_map pledge_csv_rows ps))
 
 pub terms_there : (ts : List Rates) (i : ℕ) → terms_at ts (i + 1) ≡ slice_get ts i
 terms_there ts i = let next : i + 1 ≡ suc i = omega arith in ap (terms_at ts) next
@@ -146,34 +146,34 @@ has_number h book i sound less = from (get h.books book) refl less
 -- ---- the versions of the terms, one by one
 
 pub versions_front : {W : Type 0} {contents : W → Option (List ℕ)} {a b : Sink W} (ts : List Rates) (i : ℕ)
-    → PutsShare contents a (lines_from version_line 0 1 (take i ts)) Whole b → PutsShare contents a (flat_map line_of (terms_rows 1 ts)) Front b
+    → PutsRowsShare contents a (lines_from version_line 0 1 (take i ts)) Whole b → PutsRowsShare contents a (flat_map text_of_row (terms_rows 1 ts)) Front b
 versions_front {contents = contents} {a = a} {b = b} ts i share =
-    subst (λ (t : List ℕ). PutsShare contents a t Front b) (version_lines 1 ts) (front_share version_line 0 1 ts i share)
+    subst (λ (t : List ℕ). PutsRowsShare contents a t Front b) (version_lines 1 ts) (front_share version_line 0 1 ts i share)
 
 pub versions_next : {W : Type 0} {contents : W → Option (List ℕ)} {a b c : Sink W} (ts : List Rates) (i : ℕ) (rates : Rates) → Some rates ≡ terms_at ts (i + 1)
-    → PutsShare contents a (lines_from version_line 0 1 (take i ts)) Whole b → Puts contents b (line_of (Row.Terms (i + 1) rates)) c
-    → PutsShare contents a (lines_from version_line 0 1 (take (i + 1) ts)) Whole c
+    → PutsRowsShare contents a (lines_from version_line 0 1 (take i ts)) Whole b → PutsRow contents b (text_of_row (Row.Terms (i + 1) rates)) c
+    → PutsRowsShare contents a (lines_from version_line 0 1 (take (i + 1) ts)) Whole c
 versions_next {contents = contents} {b = b} {c = c} ts i rates at before puts =
     let next : i + 1 ≡ 1 + i = omega arith in
     next_share version_line 0 1 ts i rates (sym (at ∙ terms_there ts i)) before
-    (share_puts (subst (λ (k : ℕ). Puts contents b (line_of (Row.Terms k rates)) c) next puts))
+    (share_puts (subst (λ (k : ℕ). PutsRow contents b (text_of_row (Row.Terms k rates)) c) next puts))
 
 pub versions_all : {W : Type 0} {contents : W → Option (List ℕ)} {a b : Sink W} (ts : List Rates) (i : ℕ) → i ≡ length ts
-    → PutsShare contents a (lines_from version_line 0 1 (take i ts)) Whole b → PutsShare contents a (flat_map line_of (terms_rows 1 ts)) Whole b
+    → PutsRowsShare contents a (lines_from version_line 0 1 (take i ts)) Whole b → PutsRowsShare contents a (flat_map text_of_row (terms_rows 1 ts)) Whole b
 versions_all {contents = contents} {a = a} {b = b} ts i all share =
-    subst (λ (t : List ℕ). PutsShare contents a t Whole b) (version_lines 1 ts) (all_share version_line 0 1 ts i all share)
+    subst (λ (t : List ℕ). PutsRowsShare contents a t Whole b) (version_lines 1 ts) (all_share version_line 0 1 ts i all share)
 
 -- ---- the pledges, one by one
 
 pub records_front : {W : Type 0} {contents : W → Option (List ℕ)} {a b : Sink W} (ps : List PledgeValue) (i : ℕ)
-    → PutsShare contents a (lines_from record_lines 0 1 (take i ps)) Whole b → PutsShare contents a (flat_map line_of (flat_map pledge_rows ps)) Front b
+    → PutsRowsShare contents a (lines_from record_lines 0 1 (take i ps)) Whole b → PutsRowsShare contents a (flat_map text_of_row (flat_map pledge_csv_rows ps)) Front b
 records_front {contents = contents} {a = a} {b = b} ps i share =
-    subst (λ (t : List ℕ). PutsShare contents a t Front b) (all_records 1 ps) (front_share record_lines 0 1 ps i share)
+    subst (λ (t : List ℕ). PutsRowsShare contents a t Front b) (all_records 1 ps) (front_share record_lines 0 1 ps i share)
 
 pub records_all : {W : Type 0} {contents : W → Option (List ℕ)} {a b : Sink W} (ps : List PledgeValue) (i : ℕ) → i ≡ length ps
-    → PutsShare contents a (lines_from record_lines 0 1 (take i ps)) Whole b → PutsShare contents a (flat_map line_of (flat_map pledge_rows ps)) Whole b
+    → PutsRowsShare contents a (lines_from record_lines 0 1 (take i ps)) Whole b → PutsRowsShare contents a (flat_map text_of_row (flat_map pledge_csv_rows ps)) Whole b
 records_all {contents = contents} {a = a} {b = b} ps i all share =
-    subst (λ (t : List ℕ). PutsShare contents a t Whole b) (all_records 1 ps) (all_share record_lines 0 1 ps i all share)
+    subst (λ (t : List ℕ). PutsRowsShare contents a t Whole b) (all_records 1 ps) (all_share record_lines 0 1 ps i all share)
 
 -- the pledge that a brief is of
 pub record Briefed (o : Option PledgeValue) (brief : BriefFields) : Type 0 where
@@ -198,18 +198,18 @@ record_missing o i n next less said =
     none (Some p) said = cc
 
 pub records_cut : {W : Type 0} {contents : W → Option (List ℕ)} {a b c : Sink W} (o : Option BookValue) (i n : ℕ) (brief : BriefFields) → n ≡ i + 1 → Some brief ≡ option_map brief_of (pledge_in o n)
-    → PutsShare contents a (lines_from record_lines 0 1 (take i (pledges_of o))) Whole b
-    → ((p : PledgeValue) → pledge_in o n ≡ Some p → brief ≡ brief_of p → PutsShare contents b (flat_map line_of (pledge_rows p)) Front c)
-    → PutsShare contents a (flat_map line_of (flat_map pledge_rows (pledges_of o))) Front c
+    → PutsRowsShare contents a (lines_from record_lines 0 1 (take i (pledges_of o))) Whole b
+    → ((p : PledgeValue) → pledge_in o n ≡ Some p → brief ≡ brief_of p → PutsRowsShare contents b (flat_map text_of_row (pledge_csv_rows p)) Front c)
+    → PutsRowsShare contents a (flat_map text_of_row (flat_map pledge_csv_rows (pledges_of o))) Front c
 records_cut {contents = contents} {a = a} {c = c} o i n brief next said before share =
     let known = briefed (pledge_in o n) brief said in
-    subst (λ (t : List ℕ). PutsShare contents a t Front c) (all_records 1 (pledges_of o))
+    subst (λ (t : List ℕ). PutsRowsShare contents a t Front c) (all_records 1 (pledges_of o))
     (next_front record_lines 0 1 (pledges_of o) i known.pledge (placed o i n known.pledge next known.at) before (share known.pledge known.at known.is))
 
 pub records_next : {W : Type 0} {contents : W → Option (List ℕ)} {a b c : Sink W} (o : Option BookValue) (i n : ℕ) (brief : BriefFields) → n ≡ i + 1 → Some brief ≡ option_map brief_of (pledge_in o n)
-    → PutsShare contents a (lines_from record_lines 0 1 (take i (pledges_of o))) Whole b
-    → ((p : PledgeValue) → pledge_in o n ≡ Some p → brief ≡ brief_of p → PutsShare contents b (flat_map line_of (pledge_rows p)) Whole c)
-    → PutsShare contents a (lines_from record_lines 0 1 (take (i + 1) (pledges_of o))) Whole c
+    → PutsRowsShare contents a (lines_from record_lines 0 1 (take i (pledges_of o))) Whole b
+    → ((p : PledgeValue) → pledge_in o n ≡ Some p → brief ≡ brief_of p → PutsRowsShare contents b (flat_map text_of_row (pledge_csv_rows p)) Whole c)
+    → PutsRowsShare contents a (lines_from record_lines 0 1 (take (i + 1) (pledges_of o))) Whole c
 records_next o i n brief next said before share =
     let known = briefed (pledge_in o n) brief said in
     next_share record_lines 0 1 (pledges_of o) i known.pledge (placed o i n known.pledge next known.at) before (share known.pledge known.at known.is)

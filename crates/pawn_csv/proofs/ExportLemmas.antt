@@ -13,9 +13,9 @@ use Rattle.pawn_book.specs.declared.fault.KeepError.{KeepError}
 use Rattle.pawn_book.specs.declared.fault.KeepError.TheVariants as error
 use Rattle.pawn_view.specs.Ends.{PutFront, Written, end_by, write_failed}
 use Rattle.pawn_view.specs.declared.fault.ViewFault.{ViewFault}
-use Rattle.pawn_csv.specs.Exports.{Exports, ending_by, ending_of}
-use Rattle.pawn_csv.specs.Rows.{csv_of, header, pledge_rows, row_fields, terms_rows}
-use Rattle.pawn_csv.specs.Sent.{Puts, PutsShare, has_ended, line_of, seen}
+use Rattle.pawn_csv.specs.Exports.{Exports, ending_by, sink_ending}
+use Rattle.pawn_csv.specs.Rows.{csv_of, header, pledge_csv_rows, row_fields, terms_rows}
+use Rattle.pawn_csv.specs.Sent.{PutsRow, PutsRowsShare, has_ended, text_of_row, seen}
 use Rattle.pawn_csv.specs.declared.row.Row.{Row}
 use Rattle.pawn_csv.specs.declared.row.Version.TheVariants as version
 use Rattle.pawn_csv.specs.declared.writing.Sink.{Sink}
@@ -24,39 +24,39 @@ use Rattle.pawn_view.proofs.PutLemmas.{front-more, now_by}
 
 -- the rows below the first
 abbrev pub below_text : BookValue → List ℕ
-below_text at = flat_map line_of (terms_rows 1 at.terms) ++ flat_map line_of (flat_map pledge_rows at.pledges)
+below_text at = flat_map text_of_row (terms_rows 1 at.terms) ++ flat_map text_of_row (flat_map pledge_csv_rows at.pledges)
 
 pub rows_cut : {W : Type 0} {contents : W → Option (List ℕ)} {a b : Sink W} (o : Option BookValue) (at : BookValue) (head : BookHead) → o ≡ Some at → head ≡ book_head at
-    → (head.terms ≡ length (terms_of o) → PutsShare contents a (flat_map line_of (terms_rows 1 (terms_of o))) Front b)
-    → PutsShare contents a (below_text at) Front b
+    → (head.terms ≡ length (terms_of o) → PutsRowsShare contents a (flat_map text_of_row (terms_rows 1 (terms_of o))) Front b)
+    → PutsRowsShare contents a (below_text at) Front b
 rows_cut {contents = contents} {a = a} {b = b} o at head is head_is terms =
     let count : head.terms ≡ length (terms_of o) = ap (λ (x : BookHead). x.terms) head_is ∙ ap (λ (x : Option BookValue). length (terms_of x)) (sym is) in
-    share_more (flat_map line_of (flat_map pledge_rows at.pledges))
-    (subst (λ (x : Option BookValue). PutsShare contents a (flat_map line_of (terms_rows 1 (terms_of x))) Front b) is (terms count))
+    share_more (flat_map text_of_row (flat_map pledge_csv_rows at.pledges))
+    (subst (λ (x : Option BookValue). PutsRowsShare contents a (flat_map text_of_row (terms_rows 1 (terms_of x))) Front b) is (terms count))
 
 pub rows_whole : {W : Type 0} {contents : W → Option (List ℕ)} {a b c : Sink W} {end : End} (o : Option BookValue) (at : BookValue) (head : BookHead) → o ≡ Some at → head ≡ book_head at
-    → (head.terms ≡ length (terms_of o) → PutsShare contents a (flat_map line_of (terms_rows 1 (terms_of o))) Whole b)
-    → (head.pledges ≡ length (pledges_of o) → PutsShare contents b (flat_map line_of (flat_map pledge_rows (pledges_of o))) end c)
-    → PutsShare contents a (below_text at) end c
+    → (head.terms ≡ length (terms_of o) → PutsRowsShare contents a (flat_map text_of_row (terms_rows 1 (terms_of o))) Whole b)
+    → (head.pledges ≡ length (pledges_of o) → PutsRowsShare contents b (flat_map text_of_row (flat_map pledge_csv_rows (pledges_of o))) end c)
+    → PutsRowsShare contents a (below_text at) end c
 rows_whole {contents = contents} {a = a} {b = b} {c = c} {end = end} o at head is head_is terms pledges =
     let count : head.terms ≡ length (terms_of o) = ap (λ (x : BookHead). x.terms) head_is ∙ ap (λ (x : Option BookValue). length (terms_of x)) (sym is) in
     let number : head.pledges ≡ length (pledges_of o) = ap (λ (x : BookHead). x.pledges) head_is ∙ ap (λ (x : Option BookValue). length (pledges_of x)) (sym is) in
     share_then
-    (subst (λ (x : Option BookValue). PutsShare contents a (flat_map line_of (terms_rows 1 (terms_of x))) Whole b) is (terms count))
-    (subst (λ (x : Option BookValue). PutsShare contents b (flat_map line_of (flat_map pledge_rows (pledges_of x))) end c) is (pledges number))
+    (subst (λ (x : Option BookValue). PutsRowsShare contents a (flat_map text_of_row (terms_rows 1 (terms_of x))) Whole b) is (terms count))
+    (subst (λ (x : Option BookValue). PutsRowsShare contents b (flat_map text_of_row (flat_map pledge_csv_rows (pledges_of x))) end c) is (pledges number))
 
-lines_mapped : (rows : List Row) → flat_map line_of rows ≡ flat_map (row_text default_writer) (map row_fields rows)
+lines_mapped : (rows : List Row) → flat_map text_of_row rows ≡ flat_map (row_text default_writer) (map row_fields rows)
 lines_mapped [] = refl
-lines_mapped (r ∷ rs) = ap (λ (t : List ℕ). line_of r ++ t) (lines_mapped rs)
+lines_mapped (r ∷ rs) = ap (λ (t : List ℕ). text_of_row r ++ t) (lines_mapped rs)
 
 -- the first row of a book
 abbrev pub count_text : ℕ → ℕ → List ℕ
-count_text terms pledges = line_of (Row.Book version.Two terms pledges)
+count_text terms pledges = text_of_row (Row.Book version.Two terms pledges)
 
 book_is : (at : BookValue) → row_text default_writer header ++ (count_text (length at.terms) (length at.pledges) ++ below_text at) ≡ csv_of (rows_of_book at)
 book_is at =
     ap (λ (t : List ℕ). row_text default_writer header ++ (count_text (length at.terms) (length at.pledges) ++ t))
-    (sym (flat_map-append line_of (terms_rows 1 at.terms) (flat_map pledge_rows at.pledges)) ∙ lines_mapped (terms_rows 1 at.terms ++ flat_map pledge_rows at.pledges))
+    (sym (flat_map-append text_of_row (terms_rows 1 at.terms) (flat_map pledge_csv_rows at.pledges)) ∙ lines_mapped (terms_rows 1 at.terms ++ flat_map pledge_csv_rows at.pledges))
 
 -- ---- how an export ends
 
@@ -64,7 +64,7 @@ or_none : (a b : Bool) → a ≡ false → b ≡ false → (a || b) ≡ false
 or_none a b first second = ap (λ (v : Bool). v || b) first ∙ second
 
 -- however it ends, a front of the text went out
-front_sent : {W : Type 0} (contents : W → Option (List ℕ)) (a w : Sink W) (text : List ℕ) (end : End) → has_ended a ≡ false → PutsShare contents a text end w → PutFront contents (seen a) text (seen w)
+front_sent : {W : Type 0} (contents : W → Option (List ℕ)) (a w : Sink W) (text : List ℕ) (end : End) → has_ended a ≡ false → PutsRowsShare contents a text end w → PutFront contents (seen a) text (seen w)
 front_sent contents a w text end fine (out, rest, whole, puts, all) = from (has_ended w) refl (puts.fine fine)
   where
     from : (v : Bool) → has_ended w ≡ v → Written contents (seen a) out (end_by (has_ended w)) (seen w) → PutFront contents (seen a) text (seen w)
@@ -73,14 +73,14 @@ front_sent contents a w text end fine (out, rest, whole, puts, all) = from (has_
         subst (λ (t : List ℕ). PutFront contents (seen a) t (seen w)) whole (front-more contents (seen a) (seen w) out rest front.0)
     from false is written = let sent = now_by contents (seen a) (seen w) out false is written in (out, rest, whole, sent.0)
 
-whole_sent : {W : Type 0} (contents : W → Option (List ℕ)) (a w : Sink W) (text : List ℕ) → has_ended a ≡ false → has_ended w ≡ false → PutsShare contents a text Whole w
+whole_sent : {W : Type 0} (contents : W → Option (List ℕ)) (a w : Sink W) (text : List ℕ) → has_ended a ≡ false → has_ended w ≡ false → PutsRowsShare contents a text Whole w
     → Written contents (seen a) text Whole (seen w)
 whole_sent contents a w text fine going (out, rest, whole, puts, all) =
     subst (λ (t : List ℕ). Written contents (seen a) t Whole (seen w)) (sym (append-nil out) ∙ ap (λ (x : List ℕ). out ++ x) (sym (all going refl)) ∙ whole)
     (now_by contents (seen a) (seen w) out false going (puts.fine fine))
 
 exports_by : {W : Type 0} (contents : W → Option (List ℕ)) (a w : Sink W) (text : List ℕ) (done : Result (Unit {0}) KeepError) (failed starved : Bool)
-    → has_ended a ≡ false → write_failed w.writer ≡ failed → w.is_starved ≡ starved → PutsShare contents a text (call_end done) w → Exports contents a (Some text) (ending_by done failed starved) w
+    → has_ended a ≡ false → write_failed w.writer ≡ failed → w.is_starved ≡ starved → PutsRowsShare contents a text (call_end done) w → Exports contents a (Some text) (ending_by done failed starved) w
 exports_by contents a w text done true starved fine now fed share = (text, refl, front_sent contents a w text (call_end done) fine share, now)
 exports_by contents a w text done false true fine now fed share = (front_sent contents a w text (call_end done) fine share, now)
 exports_by contents a w text (Ok u) false false fine now fed share =
@@ -93,15 +93,15 @@ head_of head at e = ap (λ (x : Option BookHead). unwrap_or x head) e
 
 -- the text of a book was put, and the answer says how that ended
 pub book_exported : {W : Type 0} (contents : W → Option (List ℕ)) (a b c w : Sink W) (o : Option BookValue) (head : BookHead) (done : Result (Unit {0}) KeepError) (answer : Result (Unit {0}) ViewFault)
-    → has_ended a ≡ false → answer ≡ ending_of done w → Some head ≡ option_map book_head o
-    → Puts contents a (row_text default_writer header) b → Puts contents b (count_text head.terms head.pledges) c
-    → ((at : BookValue) → o ≡ Some at → head ≡ book_head at → PutsShare contents c (below_text at) (call_end done) w)
+    → has_ended a ≡ false → answer ≡ sink_ending done w → Some head ≡ option_map book_head o
+    → PutsRow contents a (row_text default_writer header) b → PutsRow contents b (count_text head.terms head.pledges) c
+    → ((at : BookValue) → o ≡ Some at → head ≡ book_head at → PutsRowsShare contents c (below_text at) (call_end done) w)
     → Exports contents a (option_map (λ at. csv_of (rows_of_book at)) o) answer w
 book_exported contents a b c w None head done answer fine is at first second share = cc
 book_exported contents a b c w (Some book) head done answer fine is at first second share =
     let same = head_of head book at in
-    let count : Puts contents b (count_text (length book.terms) (length book.pledges)) c = subst (λ (x : BookHead). Puts contents b (count_text x.terms x.pledges) c) same second in
+    let count : PutsRow contents b (count_text (length book.terms) (length book.pledges)) c = subst (λ (x : BookHead). PutsRow contents b (count_text x.terms x.pledges) c) same second in
     subst (λ (r : Result (Unit {0}) ViewFault). Exports contents a (Some (csv_of (rows_of_book book))) r w) (sym is)
     (exports_by contents a w (csv_of (rows_of_book book)) done (write_failed w.writer) w.is_starved fine refl refl
-    (subst (λ (t : List ℕ). PutsShare contents a t (call_end done) w) (book_is book)
+    (subst (λ (t : List ℕ). PutsRowsShare contents a t (call_end done) w) (book_is book)
     (share_then (share_puts first) (share_then (share_puts count) (share book refl same)))))

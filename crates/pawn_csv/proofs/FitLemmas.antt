@@ -17,7 +17,7 @@ use Rattle.pawn_debt.proofs.EntryLemmas.{due-from-last}
 use Rattle.pawn_debt.specs.Answers.{draw_rows, is_bad_amount, repay_rows, with_entry}
 use Rattle.pawn_debt.specs.Due.{AreOrdered, DebtValue, Due, after_days, due, keep_on, last_of}
 use Rattle.pawn_debt.specs.Limits.{most_a_day, most_pence}
-use Rattle.pawn_debt.specs.Replay.{AreAccepted, sort_answer}
+use Rattle.pawn_debt.specs.Replay.{AreEntriesAccepted, sort_answer}
 use Rattle.pawn_debt.specs.declared.entry.Entry.{Entry}
 use Rattle.pawn_debt.specs.declared.entry.Sort.{Sort}
 use Rattle.pawn_debt.specs.declared.entry.Sort.TheVariants.{Draw, Repay}
@@ -31,12 +31,12 @@ use Rattle.pawn_pledge.specs.declared.record.Issued.{Issued}
 use Rattle.pawn_book.specs.Rows.{IsUnder, terms_at}
 use Rattle.pawn_book.specs.Written.{AreWords, HasTextsAndWords}
 use Rattle.pawn_csv.specs.Laws.{BooksAreHeld, TextsAreRead, TextsOfHostsAreRead}
-use Rattle.pawn_csv.specs.Rows.{AreColumns, Fits, IsShort, booking_rows, closing_amount, closing_day, columns_of, entry_rows, extension_rows, pledge_rows, secret_rows, terms_rows}
+use Rattle.pawn_csv.specs.Rows.{AreColumns, FitsColumns, IsShort, booking_csv_rows, closing_amount, closing_day, pledge_columns, entry_rows, extension_rows, pledge_csv_rows, secret_rows, terms_rows}
 use Rattle.pawn_csv.specs.declared.row.Row.{Row}
 use Rattle.pawn_csv.specs.declared.row.Version.TheVariants as version
 use Rattle.pawn_csv.proofs.RoundLemmas.{held_texts_are_read}
 
-each_both : (xs ys : List Row) → Each Fits xs → Each Fits ys → Each Fits (xs ++ ys)
+each_both : (xs ys : List Row) → Each FitsColumns xs → Each FitsColumns ys → Each FitsColumns (xs ++ ys)
 each_both [] ys hx hy = hy
 each_both (x ∷ xs) ys hx hy = (hx.0, each_both xs ys hx.1 hy)
 
@@ -50,7 +50,7 @@ accepted_pence : (s : Sort) (d : DebtValue) (x pence : ℕ) → IsOk (sort_answe
 accepted_pence Draw d x pence h = few_pence pence ((first_of-is_ok (draw_rows d x pence) (Ok (with_entry d x Draw pence)) h).0.1.1.0)
 accepted_pence Repay d x pence h = few_pence pence ((first_of-is_ok (repay_rows d x pence) (Ok (with_entry d x Repay pence)) h).0.1.0)
 
-all_pence : (d : DebtValue) (prior es : List Entry) → AreAccepted d prior es → Each (λ e. IsShort e.pence) es
+all_pence : (d : DebtValue) (prior es : List Entry) → AreEntriesAccepted d prior es → Each (λ e. IsShort e.pence) es
 all_pence d prior [] h = tt
 all_pence d prior (e ∷ es) h = (accepted_pence e.sort (record d { entries = prior }) e.day e.pence h.0.1, all_pence d (prior ++ e ∷ []) es h.1)
 
@@ -91,14 +91,14 @@ total_short p h =
 
 -- ---- the rows of terms
 
-fit_terms : (v : ℕ) (ts : List Rates) → Each IsChecked ts → v + length ts ≤ 1000 → Each Fits (terms_rows v ts)
+fit_terms : (v : ℕ) (ts : List Rates) → Each IsChecked ts → v + length ts ≤ 1000 → Each FitsColumns (terms_rows v ts)
 fit_terms v [] h few = tt
 fit_terms v (t ∷ ts) h few = ((omega (arith, few), omega (arith, h.0.0), omega (arith, h.0.1), omega (arith, h.0.1, h.0.2)), fit_terms (v + 1) ts h.1 (omega (arith, few)))
 
 -- ---- the rows of a pledge
 
 fit_secrets : (n k low : ℕ) (is : List Issued) → IsShort n → k + length is ≤ 1000 → first_day ≤ low → DoNotFall (λ i. i.day) low is → last_by (λ i. i.day) low is ≤ last_stamp_day → AreWords is
-    → Each Fits (secret_rows n k is)
+    → Each FitsColumns (secret_rows n k is)
 fit_secrets n k low [] hn few from ordered before words = tt
 fit_secrets n k low (i ∷ is) hn few from ordered before words =
     let late = last_by-le (λ (i : Issued). i.day) i.day is ordered.1 in (
@@ -107,7 +107,7 @@ fit_secrets n k low (i ∷ is) hn few from ordered before words =
     )
 
 fit_entries : (n k low : ℕ) (es : List Entry) → IsShort n → AreNumbered k es → k + length es ≤ 100000 → first_day ≤ low → AreOrdered low es → last_of low es ≤ last_stamp_day → Each (λ e. IsShort e.pence) es
-    → Each Fits (entry_rows n es)
+    → Each FitsColumns (entry_rows n es)
 fit_entries n k low [] hn numbered few from ordered before pence = tt
 fit_entries n k low (e ∷ es) hn numbered few from ordered before pence =
     let late = last_by-le (λ (e : Entry). e.day) e.day es ordered.1 in (
@@ -116,14 +116,14 @@ fit_entries n k low (e ∷ es) hn numbered few from ordered before pence =
     )
 
 fit_extensions : (n k low ends : ℕ) (xs : List Extension) → IsShort n → k + length xs ≤ 1000 → first_day ≤ low → AreExtended low ends xs → Each (λ e. e.until ≤ last_stamp_day) xs
-    → Each Fits (extension_rows n k xs)
+    → Each FitsColumns (extension_rows n k xs)
 fit_extensions n k low ends [] hn few from extended untils = tt
 fit_extensions n k low ends (e ∷ es) hn few from extended untils = (
   (hn, omega (arith, few), (omega (arith, from, extended.0), omega (arith, extended.1, extended.2, untils.0)), (omega (arith, from, extended.0, extended.1, extended.2), untils.0)),
   fit_extensions n (k + 1) e.day e.until es hn (omega (arith, few)) (omega (arith, from, extended.0)) extended.3 untils.1,
 )
 
-fit_booking : (p : PledgeValue) (n : ℕ) (o : Option Booking) → IsShort n → first_day ≤ p.agreement.taken → IsBooked p o → IfSome o (λ b. b.day ≤ last_stamp_day) → Each Fits (booking_rows n o)
+fit_booking : (p : PledgeValue) (n : ℕ) (o : Option Booking) → IsShort n → first_day ≤ p.agreement.taken → IsBooked p o → IfSome o (λ b. b.day ≤ last_stamp_day) → Each FitsColumns (booking_csv_rows n o)
 fit_booking p n None hn from booked before = tt
 fit_booking p n (Some b) hn from booked before = ((hn, (omega (arith, from, booked.0), before), omega (arith, booked.2)), tt)
 
@@ -149,7 +149,7 @@ fit_amount p closed.Open h total = tt
 fit_amount p (closed.Redeemed day paid) h total = subst IsShort (sym (h.1 ∙ ap (total_on p) h.0)) total
 fit_amount p (closed.Sold day net) h total = omega (arith, h.2)
 
-fit_columns : (terms : List Rates) (p : PledgeValue) → length terms ≤ 1000 → IsUnder terms p → IsStanding p → HasTextsAndWords p → AreColumns (columns_of p)
+fit_columns : (terms : List Rates) (p : PledgeValue) → length terms ≤ 1000 → IsUnder terms p → IsStanding p → HasTextsAndWords p → AreColumns (pledge_columns p)
 fit_columns terms p few under h written =
     let from = written.taken.0 in
     let r = h.replayable in
@@ -168,7 +168,7 @@ fit_columns terms p few under h written =
       amount = fit_amount p p.standing.closing r.closed (total_short p h);
     }
 
-fit_pledge : (terms : List Rates) (p : PledgeValue) → length terms ≤ 1000 → IsUnder terms p → IsStanding p → HasTextsAndWords p → Each Fits (pledge_rows p)
+fit_pledge : (terms : List Rates) (p : PledgeValue) → length terms ≤ 1000 → IsUnder terms p → IsStanding p → HasTextsAndWords p → Each FitsColumns (pledge_csv_rows p)
 fit_pledge terms p few under h written =
     let from = written.taken.0 in
     let n = p.agreement.number in
@@ -180,13 +180,13 @@ fit_pledge terms p few under h written =
     let extensions = fit_extensions n 1 a.taken (end_with a None) p.extensions short (omega (arith, h.within.extensions)) from r.extended.each h.within.untils in
     let booking = fit_booking p n p.standing.booking short from r.booked h.within.booking in (
       fit_columns terms p few under h written,
-      each_both (secret_rows n 1 p.secrets) _ secrets (each_both (entry_rows n p.entries) _ entries (each_both (extension_rows n 1 p.extensions) (booking_rows n p.standing.booking) extensions booking)),
+      each_both (secret_rows n 1 p.secrets) _ secrets (each_both (entry_rows n p.entries) _ entries (each_both (extension_rows n 1 p.extensions) (booking_csv_rows n p.standing.booking) extensions booking)),
     )
 
-fit_pledges : (terms : List Rates) (ps : List PledgeValue) → length terms ≤ 1000 → Each (IsUnder terms) ps → Each IsStanding ps → Each HasTextsAndWords ps → Each Fits (flat_map pledge_rows ps)
+fit_pledges : (terms : List Rates) (ps : List PledgeValue) → length terms ≤ 1000 → Each (IsUnder terms) ps → Each IsStanding ps → Each HasTextsAndWords ps → Each FitsColumns (flat_map pledge_csv_rows ps)
 fit_pledges terms [] few under h written = tt
 fit_pledges terms (p ∷ ps) few under h written =
-    each_both (pledge_rows p) (flat_map pledge_rows ps) (fit_pledge terms p few under.0 h.0 written.0) (fit_pledges terms ps few under.1 h.1 written.1)
+    each_both (pledge_csv_rows p) (flat_map pledge_csv_rows ps) (fit_pledge terms p few under.0 h.0 written.0) (fit_pledges terms ps few under.1 h.1 written.1)
 
 -- ---- books
 
@@ -197,7 +197,7 @@ books_are_held v k h knows =
       knows,
       (
         (omega (arith, r.few_terms), omega (arith, r.few_pledges)),
-        each_both (terms_rows 1 k.terms) (flat_map pledge_rows k.pledges) (fit_terms 1 k.terms r.checked (omega (arith, r.few_terms)))
+        each_both (terms_rows 1 k.terms) (flat_map pledge_csv_rows k.pledges) (fit_terms 1 k.terms r.checked (omega (arith, r.few_terms)))
             (fit_pledges k.terms k.pledges (omega (arith, r.few_terms)) r.under r.standing h.written),
       ),
     )

@@ -18,9 +18,9 @@ use Rattle.pawn_book.specs.Visits.{End, Handed, IsShare}
 use Rattle.pawn_book.specs.declared.visit.Flow.{Flow}
 use Rattle.pawn_book.specs.declared.visit.Flow.TheVariants.{Go, Stop}
 use Rattle.pawn_book.proofs.Sounds.{standing_at}
-use Rattle.pawn_csv.specs.Exports.{PutsAt, entry_line, extension_line, secret_line}
+use Rattle.pawn_csv.specs.Exports.{PutsAt, entry_row_text, extension_line, secret_line}
 use Rattle.pawn_csv.specs.Rows.{entry_rows, extension_rows, secret_rows}
-use Rattle.pawn_csv.specs.Sent.{Puts, PutsShare, has_ended, line_of}
+use Rattle.pawn_csv.specs.Sent.{PutsRow, PutsRowsShare, has_ended, text_of_row}
 use Rattle.pawn_csv.specs.declared.exporting.RowWriter.{RowWriter}
 use Rattle.pawn_csv.proofs.SentLemmas.{puts_nil, puts_then}
 
@@ -39,8 +39,8 @@ lines_of_append line number place (x ∷ xs) ys =
 
 -- the rows of what was handed were put
 lines_put : {W T : Type 0} (contents : W → Option (List ℕ)) (line : ℕ → ℕ → T → List ℕ) (v w : RowWriter W) (xs : List T) (flow : Flow)
-    → v.place + length xs ≤ 2 ^ 64 - 1 → Handed (PutsAt contents line) v xs flow w → Puts contents v.sink (lines_from line v.number v.place xs) w.sink
-lines_put contents line v w [] flow few handed = subst (λ (u : RowWriter _). Puts contents v.sink [] u.sink) handed.1 (puts_nil contents v.sink)
+    → v.place + length xs ≤ 2 ^ 64 - 1 → Handed (PutsAt contents line) v xs flow w → PutsRow contents v.sink (lines_from line v.number v.place xs) w.sink
+lines_put contents line v w [] flow few handed = subst (λ (u : RowWriter _). PutsRow contents v.sink [] u.sink) handed.1 (puts_nil contents v.sink)
 lines_put contents line v w (x ∷ xs) flow few handed = elim handed [
   | inl going ↦
       let u = going.0 in
@@ -48,10 +48,10 @@ lines_put contents line v w (x ∷ xs) flow few handed = elim handed [
       let fewer : u.place + length xs ≤ 2 ^ 64 - 1 = omega (arith, few, next) in
       let rest = lines_put contents line u w xs flow fewer going.2 in
       puts_then going.1.puts
-      (subst (λ (k : ℕ). Puts contents u.sink (lines_from line v.number k xs) w.sink) next
-      (subst (λ (n : ℕ). Puts contents u.sink (lines_from line n u.place xs) w.sink) going.1.number rest))
-  | inr stopped ↦ subst (λ (ys : List _). Puts contents v.sink (line v.number v.place x ++ lines_from line v.number (v.place + 1) ys) w.sink) (sym stopped.1)
-      (subst (λ (t : List ℕ). Puts contents v.sink t w.sink) (sym (append-nil (line v.number v.place x))) stopped.2.puts)
+      (subst (λ (k : ℕ). PutsRow contents u.sink (lines_from line v.number k xs) w.sink) next
+      (subst (λ (n : ℕ). PutsRow contents u.sink (lines_from line n u.place xs) w.sink) going.1.number rest))
+  | inr stopped ↦ subst (λ (ys : List _). PutsRow contents v.sink (line v.number v.place x ++ lines_from line v.number (v.place + 1) ys) w.sink) (sym stopped.1)
+      (subst (λ (t : List ℕ). PutsRow contents v.sink t w.sink) (sym (append-nil (line v.number v.place x))) stopped.2.puts)
 ]
 
 -- one that has not ended never stopped
@@ -66,7 +66,7 @@ never_stopped contents line v w (x ∷ xs) flow handed fine = elim handed [
 -- what was put of the rows of a list that was handed out
 lines_share : {W T : Type 0} (contents : W → Option (List ℕ)) (line : ℕ → ℕ → T → List ℕ) (v w : RowWriter W) (given items : List T) (flow : Flow) (end : End)
     → v.place + length items ≤ 2 ^ 64 - 1 → Handed (PutsAt contents line) v given flow w → IsShare given flow end items
-    → PutsShare contents v.sink (lines_from line v.number v.place items) end w.sink
+    → PutsRowsShare contents v.sink (lines_from line v.number v.place items) end w.sink
 lines_share contents line v w given items flow end few handed (left, whole, all) =
     let longer : length given + length left ≡ length items = sym (length-append given left) ∙ ap length whole in
     let fewer : v.place + length given ≤ 2 ^ 64 - 1 = omega (arith, few, longer) in (
@@ -79,15 +79,15 @@ lines_share contents line v w given items flow end few handed (left, whole, all)
 
 -- ---- the lists of a pledge
 
-secret_lines : (number place : ℕ) (is : List Issued) → lines_from secret_line number place is ≡ flat_map line_of (secret_rows number place is)
+secret_lines : (number place : ℕ) (is : List Issued) → lines_from secret_line number place is ≡ flat_map text_of_row (secret_rows number place is)
 secret_lines number place [] = refl
 secret_lines number place (i ∷ is) = ap (λ (t : List ℕ). secret_line number place i ++ t) (secret_lines number (place + 1) is)
 
-entry_lines : (number place : ℕ) (es : List Entry) → lines_from entry_line number place es ≡ flat_map line_of (entry_rows number es)
+entry_lines : (number place : ℕ) (es : List Entry) → lines_from entry_row_text number place es ≡ flat_map text_of_row (entry_rows number es)
 entry_lines number place [] = refl
-entry_lines number place (e ∷ es) = ap (λ (t : List ℕ). entry_line number place e ++ t) (entry_lines number (place + 1) es)
+entry_lines number place (e ∷ es) = ap (λ (t : List ℕ). entry_row_text number place e ++ t) (entry_lines number (place + 1) es)
 
-extension_lines : (number place : ℕ) (es : List Extension) → lines_from extension_line number place es ≡ flat_map line_of (extension_rows number place es)
+extension_lines : (number place : ℕ) (es : List Extension) → lines_from extension_line number place es ≡ flat_map text_of_row (extension_rows number place es)
 extension_lines number place [] = refl
 extension_lines number place (e ∷ es) = ap (λ (t : List ℕ). extension_line number place e ++ t) (extension_lines number (place + 1) es)
 
@@ -102,33 +102,33 @@ few_of list h book number limit none some = from (pledge_in (get h.books book) n
 
 pub secrets_share : {W : Type 0} (contents : W → Option (List ℕ)) (h : Host) (book number : ℕ) (v w : RowWriter W) (given : List Issued) (flow : Flow) (end : End)
     → IsSound h → v.number ≡ number → v.place ≡ 1 → Handed (PutsAt contents secret_line) v given flow w → IsShare given flow end (secrets_of (pledge_in (get h.books book) number))
-    → PutsShare contents v.sink (flat_map line_of (secret_rows number 1 (secrets_of (pledge_in (get h.books book) number)))) end w.sink
+    → PutsRowsShare contents v.sink (flat_map text_of_row (secret_rows number 1 (secrets_of (pledge_in (get h.books book) number)))) end w.sink
 secrets_share contents h book number v w given flow end sound number_is place_is handed share =
     let items = secrets_of (pledge_in (get h.books book) number) in
     let few : length items ≤ most_secrets = few_of secrets_of h book number most_secrets (omega arith) (λ p at. (standing_at h book number p sound at).0.within.secrets) in
     let room : v.place + length items ≤ 2 ^ 64 - 1 = omega (arith, few, place_is) in
-    subst (λ (t : List ℕ). PutsShare contents v.sink t end w.sink)
+    subst (λ (t : List ℕ). PutsRowsShare contents v.sink t end w.sink)
     (ap (λ (n : ℕ). lines_from secret_line n v.place items) number_is ∙ ap (λ (k : ℕ). lines_from secret_line number k items) place_is ∙ secret_lines number 1 items)
     (lines_share contents secret_line v w given items flow end room handed share)
 
 pub entries_share : {W : Type 0} (contents : W → Option (List ℕ)) (h : Host) (book number : ℕ) (v w : RowWriter W) (given : List Entry) (flow : Flow) (end : End)
-    → IsSound h → v.number ≡ number → v.place ≡ 1 → Handed (PutsAt contents entry_line) v given flow w → IsShare given flow end (entries_of (pledge_in (get h.books book) number))
-    → PutsShare contents v.sink (flat_map line_of (entry_rows number (entries_of (pledge_in (get h.books book) number)))) end w.sink
+    → IsSound h → v.number ≡ number → v.place ≡ 1 → Handed (PutsAt contents entry_row_text) v given flow w → IsShare given flow end (entries_of (pledge_in (get h.books book) number))
+    → PutsRowsShare contents v.sink (flat_map text_of_row (entry_rows number (entries_of (pledge_in (get h.books book) number)))) end w.sink
 entries_share contents h book number v w given flow end sound number_is place_is handed share =
     let items = entries_of (pledge_in (get h.books book) number) in
     let few : length items ≤ most_entries = few_of entries_of h book number most_entries (omega arith) (λ p at. (standing_at h book number p sound at).0.within.entries) in
     let room : v.place + length items ≤ 2 ^ 64 - 1 = omega (arith, few, place_is) in
-    subst (λ (t : List ℕ). PutsShare contents v.sink t end w.sink)
-    (ap (λ (n : ℕ). lines_from entry_line n v.place items) number_is ∙ ap (λ (k : ℕ). lines_from entry_line number k items) place_is ∙ entry_lines number 1 items)
-    (lines_share contents entry_line v w given items flow end room handed share)
+    subst (λ (t : List ℕ). PutsRowsShare contents v.sink t end w.sink)
+    (ap (λ (n : ℕ). lines_from entry_row_text n v.place items) number_is ∙ ap (λ (k : ℕ). lines_from entry_row_text number k items) place_is ∙ entry_lines number 1 items)
+    (lines_share contents entry_row_text v w given items flow end room handed share)
 
 pub extensions_share : {W : Type 0} (contents : W → Option (List ℕ)) (h : Host) (book number : ℕ) (v w : RowWriter W) (given : List Extension) (flow : Flow) (end : End)
     → IsSound h → v.number ≡ number → v.place ≡ 1 → Handed (PutsAt contents extension_line) v given flow w → IsShare given flow end (extensions_of (pledge_in (get h.books book) number))
-    → PutsShare contents v.sink (flat_map line_of (extension_rows number 1 (extensions_of (pledge_in (get h.books book) number)))) end w.sink
+    → PutsRowsShare contents v.sink (flat_map text_of_row (extension_rows number 1 (extensions_of (pledge_in (get h.books book) number)))) end w.sink
 extensions_share contents h book number v w given flow end sound number_is place_is handed share =
     let items = extensions_of (pledge_in (get h.books book) number) in
     let few : length items ≤ most_extensions = few_of extensions_of h book number most_extensions (omega arith) (λ p at. (standing_at h book number p sound at).0.within.extensions) in
     let room : v.place + length items ≤ 2 ^ 64 - 1 = omega (arith, few, place_is) in
-    subst (λ (t : List ℕ). PutsShare contents v.sink t end w.sink)
+    subst (λ (t : List ℕ). PutsRowsShare contents v.sink t end w.sink)
     (ap (λ (n : ℕ). lines_from extension_line n v.place items) number_is ∙ ap (λ (k : ℕ). lines_from extension_line number k items) place_is ∙ extension_lines number 1 items)
     (lines_share contents extension_line v w given items flow end room handed share)

@@ -16,8 +16,8 @@ use Rattle.pawn_csv.specs.declared.row.Row.{Row}
 use Rattle.pawn_csv.specs.Finishing.{IsBegunOf, IsFinishedAs, IsOfNoBook}
 use Rattle.pawn_csv.specs.Laws.{FirstFaultsAreOne, FirstFaultsExcludeBooks}
 use Rattle.pawn_csv.specs.Order.{Begun, is_whole, place, run, then_run}
-use Rattle.pawn_csv.specs.Reading.{AreTaken, EndsAs, IsFirstFault, IsNoRow, IsReadAs, IsRefused, RefusesEnd, RefusesRow, Taking}
-use Rattle.pawn_csv.specs.Rows.{Fits, header, row_fields}
+use Rattle.pawn_csv.specs.Reading.{AreTaken, EndsReadingAs, IsFirstCause, IsNoRow, IsReadAs, IsRowRefused, RefusesEnd, RefusesRow, Taking}
+use Rattle.pawn_csv.specs.Rows.{FitsColumns, header, row_fields}
 use Rattle.pawn_csv.proofs.OneSpelling.{one_row}
 use Rattle.pawn_csv.proofs.TakenLemmas.{texts_are_read_as}
 
@@ -53,7 +53,7 @@ ended cfg s xs s2 ys a = a
 
 -- rows of records
 
-same_rows : (rs ss : List Row) → Each Fits rs → Each Fits ss → map row_fields rs ≡ map row_fields ss → rs ≡ ss
+same_rows : (rs ss : List Row) → Each FitsColumns rs → Each FitsColumns ss → map row_fields rs ≡ map row_fields ss → rs ≡ ss
 same_rows [] [] hr hs e = refl
 same_rows [] (s ∷ ss) hr hs e = absurd (omega (arith, ap length e))
 same_rows (r ∷ rs) [] hr hs e = absurd (omega (arith, ap length e))
@@ -89,19 +89,19 @@ no_answer : (o : Result Begun Cause) (b : Begun) (c : Cause) → o ≡ Ok b → 
 no_answer o b c a e = let x = sym a ∙ e in cc
 
 -- columns are refused for one cause
-one_refusal : (fields : List (List ℕ)) (s : Option Begun) (c d : Cause) → IsRefused fields s c → IsRefused fields s d → c ≡ d
+one_refusal : (fields : List (List ℕ)) (s : Option Begun) (c d : Cause) → IsRowRefused fields s c → IsRowRefused fields s d → c ≡ d
 one_refusal fields s c d a b =
     let same = one_row a.0 b.0 a.1.0 b.1.0 (sym a.1.1 ∙ b.1.1) in
     same_answer (place s a.0) c d a.2 (subst (λ (r : Row). place s r ≡ Err d) (sym same) b.2)
 
 -- columns that were taken are refused for none
-no_refusal : (fields : List (List ℕ)) (s : Option Begun) (r : Row) (b : Begun) (c : Cause) → Fits r → fields ≡ row_fields r → place s r ≡ Ok b → IsRefused fields s c → ⊥
+no_refusal : (fields : List (List ℕ)) (s : Option Begun) (r : Row) (b : Begun) (c : Cause) → FitsColumns r → fields ≡ row_fields r → place s r ≡ Ok b → IsRowRefused fields s c → ⊥
 no_refusal fields s r b c fits spelled placed a =
     let same = one_row r a.0 fits a.1.0 (sym spelled ∙ a.1.1) in
     no_answer (place s a.0) b c (subst (λ (x : Row). place s x ≡ Ok b) same placed) a.2
 
 -- columns that were taken are refused for no cause
-not_taken : (x : List (List ℕ)) (s : Option Begun) (r : Row) (u : Begun) → Fits r → x ≡ row_fields r → place s r ≡ Ok u → (e : Cause) → e ≢ cause.Memory → RefusesRow x s e → ⊥
+not_taken : (x : List (List ℕ)) (s : Option Begun) (r : Row) (u : Begun) → FitsColumns r → x ≡ row_fields r → place s r ≡ Ok u → (e : Cause) → e ≢ cause.Memory → RefusesRow x s e → ⊥
 not_taken x s r u fits spelled placed e other (inl memory) = other memory
 not_taken x s r u fits spelled placed e other (inr (inl few)) = few.1 (ap length spelled ∙ fifteen r)
 not_taken x s r u fits spelled placed e other (inr (inr (inl none))) = none.2 r fits spelled
@@ -121,8 +121,8 @@ tail_is r rs f fs e = cc
 
 -- a record behind others that were taken, and taken with them, is not refused where they leave off
 taken_after : (x : List (List ℕ)) (more fs : List (List (List ℕ))) (front whole : List Row) (from s t : Option Begun) (c : Cause) → c ≢ cause.Memory
-    → map row_fields front ≡ fs → Each Fits front → run from front ≡ Ok s
-    → map row_fields whole ≡ fs ++ x ∷ more → Each Fits whole → run from whole ≡ Ok t → RefusesRow x s c → ⊥
+    → map row_fields front ≡ fs → Each FitsColumns front → run from front ≡ Ok s
+    → map row_fields whole ≡ fs ++ x ∷ more → Each FitsColumns whole → run from whole ≡ Ok t → RefusesRow x s c → ⊥
 taken_after x more [] [] [] from s t c why e fits ran e2 fits2 ran2 refused = absurd (omega (arith, ap length e2))
 taken_after x more [] [] (w ∷ ws) from s t c why e fits ran e2 fits2 ran2 refused =
     let here : from ≡ s = cc in
@@ -152,7 +152,7 @@ taken_next (h ∷ rs) x more rows others s t c why a b refused =
 abbrev pub Stops : List (List (List ℕ)) → State → List ℕ → Option Begun → Cause → Type 0
 Stops before state rest s c =
     ((p : Read) × (next_record default_config state [] [] rest ≡ Some p) × Taking (nat_eq (length before) 0) p.0 s (let r : Result (Unit {0}) Cause = Err c in r) s)
-    ⊎ ((next_record default_config state [] [] rest ≡ None) × EndsAs before s c)
+    ⊎ ((next_record default_config state [] [] rest ≡ None) × EndsReadingAs before s c)
 
 -- they stop where no other reading goes on
 goes_on : (before : List (List (List ℕ))) (x : List (List ℕ)) (more : List (List (List ℕ))) (rows others : List Row) (s t : Option Begun) (c : Cause) (state : State) (rest : List ℕ) (s2 : State) (ys : List ℕ)
@@ -167,7 +167,7 @@ goes_on before x more rows others s t c state rest s2 ys why taken taken2 on (in
 
 -- why columns are refused: they are too few or too many, they spell no row, or their row is refused
 abbrev pub Verdict : List (List ℕ) → Option Begun → Cause → Type 0
-Verdict x s e = ((e ≡ cause.Csv) × (length x ≢ length header)) ⊎ (((e ≡ cause.BadField) × (length x ≡ length header) × IsNoRow x) ⊎ IsRefused x s e)
+Verdict x s e = ((e ≡ cause.Csv) × (length x ≢ length header)) ⊎ (((e ≡ cause.BadField) × (length x ≡ length header) × IsNoRow x) ⊎ IsRowRefused x s e)
 
 verdict_of : (x : List (List ℕ)) (s : Option Begun) (e : Cause) → e ≢ cause.Memory → RefusesRow x s e → Verdict x s e
 verdict_of x s e other (inl memory) = absurd (other memory)
@@ -203,7 +203,7 @@ end_of s cause.Memory other says = absurd (other refl)
 whole_or_not : (v : Bool) → v ≡ false → v ≡ true → ⊥
 whole_or_not v a b = let e = sym a ∙ b in cc
 
-one_end : (before : List (List (List ℕ))) (s : Option Begun) (c d : Cause) → c ≢ cause.Memory → d ≢ cause.Memory → EndsAs before s c → EndsAs before s d → c ≡ d
+one_end : (before : List (List (List ℕ))) (s : Option Begun) (c d : Cause) → c ≢ cause.Memory → d ≢ cause.Memory → EndsReadingAs before s c → EndsReadingAs before s d → c ≡ d
 one_end [] s c d hc hd a b = a ∙ sym b
 one_end (h ∷ rs) s c d hc hd a b = from (end_of s c hc a) (end_of s d hd b)
   where
@@ -226,7 +226,7 @@ one_stop before state rest s c d hc hd (inr a) (inl b) = absurd (no_read b.0 _ a
 one_stop before state rest s c d hc hd (inr a) (inr b) = one_end before s c d hc hd a.1 b.1
 
 -- of two first faults one reading goes on from the other, and so nowhere
-no_longer : (text : List ℕ) (c d : Cause) (m n : ℕ) (f : IsFirstFault text c m) (g : IsFirstFault text d n) → c ≢ cause.Memory
+no_longer : (text : List ℕ) (c d : Cause) (m n : ℕ) (f : IsFirstCause text c m) (g : IsFirstCause text d n) → c ≢ cause.Memory
     → (more : List (List (List ℕ))) → f.at.before ++ more ≡ g.at.before → Reached default_config f.at.state f.at.rest more g.at.state g.at.rest → more ≡ []
 no_longer text c d m n f g why [] whole on = refl
 no_longer text c d m n f g why (x ∷ more) whole on =
@@ -234,7 +234,7 @@ no_longer text c d m n f g why (x ∷ more) whole on =
     (subst (λ (b : List (List (List ℕ))). AreTaken b g.at.rows g.at.begun) (sym whole) g.at.taken) on f.why)
 
 -- one that is no shorter has the same cause and the same row
-same_fault : (text : List ℕ) (c d : Cause) (m n : ℕ) (f : IsFirstFault text c m) (g : IsFirstFault text d n) → c ≢ cause.Memory → d ≢ cause.Memory
+same_fault : (text : List ℕ) (c d : Cause) (m n : ℕ) (f : IsFirstCause text c m) (g : IsFirstCause text d n) → c ≢ cause.Memory → d ≢ cause.Memory
     → length f.at.before ≤ length g.at.before → (c ≡ d) × (m ≡ n)
 same_fault text c d m n f g hc hd short =
     let (more, whole, on) = reached_on default_config f.at.before g.at.before st.StartRecord text f.at.state f.at.rest g.at.state g.at.rest f.at.reached g.at.reached short in
@@ -254,7 +254,7 @@ first_faults_are_one text c d m n hc hd f g = from (nat_le (length f.at.before) 
     from false is = let same = same_fault text d c n m g f hd hc (grind (arith, nat_tests, is)) in (sym same.0, sym same.1)
 
 -- a text that is read to its end has no fault
-no_fault_in : (text : List ℕ) (c : Cause) (m : ℕ) (k : BookRows) (f : IsFirstFault text c m) (records : List (List (List ℕ))) (rows : List Row) (s : Option Begun) (s2 : State) (ys : List ℕ)
+no_fault_in : (text : List ℕ) (c : Cause) (m : ℕ) (k : BookRows) (f : IsFirstCause text c m) (records : List (List (List ℕ))) (rows : List Row) (s : Option Begun) (s2 : State) (ys : List ℕ)
     → c ≢ cause.Memory → Reached default_config st.StartRecord text records s2 ys → next_record default_config s2 [] [] ys ≡ None → AreTaken records rows s → IsFinishedAs s k
     → (more : List (List (List ℕ))) → f.at.before ++ more ≡ records → Reached default_config f.at.state f.at.rest more s2 ys → ⊥
 no_fault_in text c m k f records rows s s2 ys hc all none taken finished (x ∷ more) whole on =
@@ -273,7 +273,7 @@ no_fault_in text c m k f records rows s s2 ys hc all none taken finished [] whol
         let b : x.1.0 ≡ finished.0 = (let a = sym x.1.1 ∙ is ∙ finished.1 in cc) in
         x.1.3 k (subst (λ (v : Begun). IsBegunOf v k) (sym b) finished.3) finished.4
 
-    at_end : (before : List (List (List ℕ))) → before ≡ records → EndsAs before f.at.begun c → ⊥
+    at_end : (before : List (List (List ℕ))) → before ≡ records → EndsReadingAs before f.at.begun c → ⊥
     at_end [] is e = empty records is taken
       where
         empty : (rs : List (List (List ℕ))) → [] ≡ rs → AreTaken rs rows s → ⊥
@@ -294,7 +294,7 @@ no_further state rest [] s2 ys none on = refl
 no_further state rest (x ∷ more) s2 ys none on = let (p, next, is) = next_of default_config state rest x more s2 ys on in absurd (no_read p _ none next)
 
 -- a text with a first fault is read as no book
-no_reading : (text : List ℕ) (c : Cause) (m : ℕ) (k : BookRows) → c ≢ cause.Memory → IsFirstFault text c m → IsReadAs text k → ⊥
+no_reading : (text : List ℕ) (c : Cause) (m : ℕ) (k : BookRows) → c ≢ cause.Memory → IsFirstCause text c m → IsReadAs text k → ⊥
 no_reading text c m k hc f read = from (nat_le (length f.at.before) (length read.0)) refl
   where
     from : (v : Bool) → nat_le (length f.at.before) (length read.0) ≡ v → ⊥

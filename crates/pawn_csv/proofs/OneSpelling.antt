@@ -22,14 +22,16 @@ use Rattle.pawn_pledge.specs.declared.record.Issue.{Issue}
 use Rattle.pawn_pledge.specs.declared.record.Issue.TheVariants as issue
 use Rattle.pawn_pledge.specs.declared.record.Issued.{Issued}
 use Rattle.pawn_pledge.specs.declared.record.Opening.{Opening}
-use Rattle.pawn_csv.specs.Columns.{closing_text, issue_text, kind_text, sort_text, state_text, text_if_any, version_text, yes_text}
+use Rattle.pawn_debt.specs.Words.{sort_text}
+use Rattle.pawn_pledge.specs.Words.{state_text}
+use Rattle.pawn_csv.specs.Columns.{closing_text, issue_text, kind_text, text_if_any, form_text, yes_text}
 use Rattle.pawn_csv.specs.declared.row.ClosingWord.{ClosingWord}
 use Rattle.pawn_csv.specs.declared.row.ClosingWord.TheVariants as closing
 use Rattle.pawn_csv.specs.declared.row.PledgeColumns.{PledgeColumns}
 use Rattle.pawn_csv.specs.declared.row.Row.{Row}
 use Rattle.pawn_csv.specs.declared.row.Version.{Version}
 use Rattle.pawn_csv.specs.declared.row.Version.TheVariants as version
-use Rattle.pawn_csv.specs.Rows.{AreColumns, Fits, IsShort, pledge_fields, row_fields}
+use Rattle.pawn_csv.specs.Rows.{AreColumns, FitsColumns, IsShort, pledge_fields, row_fields}
 
 -- columns
 
@@ -64,10 +66,10 @@ number_if_any None (Some m) ha hb e = absurd (omega (arith, ap length e, decimal
 number_if_any (Some n) None ha hb e = absurd (omega (arith, ap length e, decimal_nonempty n (omega (arith, ha))))
 number_if_any (Some n) (Some m) ha hb e = ap (λ (d : ℕ). Some d) (number n m ha hb e)
 
-version_word : (a b : Version) → version_text a ≡ version_text b → a ≡ b
+version_word : (a b : Version) → form_text a ≡ form_text b → a ≡ b
 version_word version.One version.One e = refl
-version_word version.One version.Two e = absurd (omega (arith, letter 0 (version_text version.One) (version_text version.Two) e))
-version_word version.Two version.One e = absurd (omega (arith, letter 0 (version_text version.Two) (version_text version.One) e))
+version_word version.One version.Two e = absurd (omega (arith, letter 0 (form_text version.One) (form_text version.Two) e))
+version_word version.Two version.One e = absurd (omega (arith, letter 0 (form_text version.Two) (form_text version.One) e))
 version_word version.Two version.Two e = refl
 
 yes_word : (a b : Bool) → yes_text a ≡ yes_text b → a ≡ b
@@ -169,7 +171,7 @@ first_letter : (r s : Row) → row_fields r ≡ row_fields s → get_or (get_or 
 first_letter r s e = letter 0 (get_or (row_fields r) 0 []) (get_or (row_fields s) 0 []) (column 0 (row_fields r) (row_fields s) e)
 
 -- two rows with the same columns are one
-pub one_row : (r s : Row) → Fits r → Fits s → row_fields r ≡ row_fields s → r ≡ s
+pub one_row : (r s : Row) → FitsColumns r → FitsColumns s → row_fields r ≡ row_fields s → r ≡ s
 one_row (Row.Book v t p) (Row.Book v2 t2 p2) hr hs same =
     let col = λ (place : ℕ). column place (row_fields (Row.Book v t p)) (row_fields (Row.Book v2 t2 p2)) same in
     let e = version_word v v2 (col 1) in let f = number t t2 hr.0 hs.0 (col 2) in let g = number p p2 hr.1 hs.1 (col 3) in

@@ -18,9 +18,9 @@ use Rattle.pawn_csv.specs.Order.{Begun, place, run, then_run}
 use Rattle.pawn_csv.specs.Finishing.{Ends, IsFinishedAs}
 use Rattle.pawn_pledge.specs.Replayable.{Each}
 use Rattle.pawn_book.specs.declared.rows.BookRows.{BookRows}
-use Rattle.pawn_csv.specs.Rows.{Fits, row_fields}
-use Rattle.pawn_csv.specs.Reading.{AreTaken, AreTakenBefore, CauseOf, EndsAs, IsFaultOf, IsFirstFault, IsReadAs, IsSpelled, RefusesRow, Taking}
-use Rattle.pawn_csv.specs.Answers.{Answers, Fails}
+use Rattle.pawn_csv.specs.Rows.{FitsColumns, row_fields}
+use Rattle.pawn_csv.specs.Reading.{AreTaken, AreTakenBefore, CauseOf, EndsReadingAs, IsFaultOf, IsFirstCause, IsReadAs, IsSpelled, RefusesRow, Taking}
+use Rattle.pawn_csv.specs.Answers.{AnswersBegun, Fails}
 
 pub record SoFar {R : Type 0} (rem : R → Option (List ℕ)) (text : List ℕ) (rdr : Reader R) (index : ℕ) (raw : Option Begun) : Type 0 where
   pub y : List ℕ
@@ -40,7 +40,7 @@ run-push (q ∷ rows) r s t b ran placed =
       | Err e ↦ λ rest. cc
     ] ran
 
-each-push : (rows : List Row) (r : Row) → Each Fits rows → Fits r → Each Fits (rows ++ r ∷ [])
+each-push : (rows : List Row) (r : Row) → Each FitsColumns rows → FitsColumns r → Each FitsColumns (rows ++ r ∷ [])
 each-push [] r h f = (f, tt)
 each-push (q ∷ rows) r h f = (h.0, each-push rows r h.1 f)
 
@@ -82,7 +82,7 @@ where_told None P h = tt
 where_told (Some x) P h = h x refl
 
 -- a first fault is the text's, whatever its cause
-pub first_is : (text : List ℕ) (c : Cause) (row : ℕ) → IsFirstFault text c row → IsFaultOf text c row
+pub first_is : (text : List ℕ) (c : Cause) (row : ℕ) → IsFirstCause text c row → IsFaultOf text c row
 first_is text cause.Memory row h = h.at
 first_is text cause.Read row h = h.at
 first_is text cause.Csv row h = h
@@ -129,7 +129,7 @@ refused_as : (first : Bool) (f : List (List ℕ)) (raw new other : Option Begun)
 refused_as true f raw new other c h = h
 refused_as false f raw new other c h = h
 
-end_refused : (records : List (List (List ℕ))) (raw : Option Begun) (c : Cause) → length records ≢ 0 → (let r : Result BookRows Cause = Err c in Ends raw r) → EndsAs records raw c
+end_refused : (records : List (List (List ℕ))) (raw : Option Begun) (c : Cause) → length records ≢ 0 → (let r : Result BookRows Cause = Err c in Ends raw r) → EndsReadingAs records raw c
 end_refused [] raw c some h = absurd (some refl)
 end_refused (h ∷ rs) raw cause.Order some is = is
 end_refused (h ∷ rs) raw cause.NotReplayable some is = is
@@ -140,7 +140,7 @@ end_refused (h ∷ rs) raw cause.BadField some is = is
 end_refused (h ∷ rs) raw cause.TooMany some is = is
 end_refused (h ∷ rs) raw cause.Read some is = is
 
-end_empty : (records : List (List (List ℕ))) (raw : Option Begun) → length records ≡ 0 → EndsAs records raw cause.Columns
+end_empty : (records : List (List (List ℕ))) (raw : Option Begun) → length records ≡ 0 → EndsReadingAs records raw cause.Columns
 end_empty [] raw none = refl
 end_empty (h ∷ rs) raw none = absurd (omega (arith, none))
 
@@ -192,7 +192,7 @@ refused_for fs s r cause.TooMany spelled h = inr (inr (inr (r, spelled, h)))
 refused_for fs s r cause.Read spelled h = inr (inr (inr (r, spelled, h)))
 
 -- a row that is placed, or refused there
-pub placed_is : {U : Type 0} (first : Bool) (fs : List (List ℕ)) (s new : Option Begun) (r : Row) (res : Result U Cause) → first ≡ false → IsSpelled fs r → Answers (place s r) res new → Taking first fs s res new
+pub placed_is : {U : Type 0} (first : Bool) (fs : List (List ℕ)) (s new : Option Begun) (r : Row) (res : Result U Cause) → first ≡ false → IsSpelled fs r → AnswersBegun (place s r) res new → Taking first fs s res new
 placed_is true fs s new r res is spelled h = cc
 placed_is false fs s new r (Ok u) is spelled h = (r, h.0, spelled, h.1, h.2)
 placed_is false fs s new r (Err e) is spelled h = refused_for fs s r e spelled h

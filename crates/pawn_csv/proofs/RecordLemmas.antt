@@ -13,8 +13,8 @@ use Rattle.pawn_book.specs.Keeping.{Keeping, Reads, entries_of, extensions_of, s
 use Rattle.pawn_book.specs.Sound.{IsSound}
 use Rattle.pawn_book.specs.Visits.{End, Front, Whole}
 use Rattle.pawn_book.proofs.Sounds.{standing_at}
-use Rattle.pawn_csv.specs.Rows.{booking_rows, columns_of, entry_rows, extension_rows, pledge_rows, secret_rows}
-use Rattle.pawn_csv.specs.Sent.{Puts, PutsShare, brief_columns, line_of}
+use Rattle.pawn_csv.specs.Rows.{booking_csv_rows, pledge_columns, entry_rows, extension_rows, pledge_csv_rows, secret_rows}
+use Rattle.pawn_csv.specs.Sent.{PutsRow, PutsRowsShare, brief_columns, text_of_row}
 use Rattle.pawn_csv.specs.declared.row.Row.{Row}
 use Rattle.pawn_csv.specs.declared.writing.Sink.{Sink}
 use Rattle.pawn_csv.proofs.SentLemmas.{share_more, share_puts, share_then}
@@ -25,34 +25,34 @@ reads_both f s = reads_then f s (λ h p q. (p, q))
 
 -- the parts of a pledge's text
 abbrev pub own_text : PledgeValue → List ℕ
-own_text p = line_of (Row.Pledge (columns_of p))
+own_text p = text_of_row (Row.Pledge (pledge_columns p))
 
 abbrev pub secrets_text : ℕ → Option PledgeValue → List ℕ
-secrets_text number o = flat_map line_of (secret_rows number 1 (secrets_of o))
+secrets_text number o = flat_map text_of_row (secret_rows number 1 (secrets_of o))
 
 abbrev pub entries_text : ℕ → Option PledgeValue → List ℕ
-entries_text number o = flat_map line_of (entry_rows number (entries_of o))
+entries_text number o = flat_map text_of_row (entry_rows number (entries_of o))
 
 abbrev pub extensions_text : ℕ → Option PledgeValue → List ℕ
-extensions_text number o = flat_map line_of (extension_rows number 1 (extensions_of o))
+extensions_text number o = flat_map text_of_row (extension_rows number 1 (extensions_of o))
 
 abbrev pub booking_text : ℕ → BriefFields → List ℕ
-booking_text number b = flat_map line_of (booking_rows number b.standing.booking)
+booking_text number b = flat_map text_of_row (booking_csv_rows number b.standing.booking)
 
 abbrev pub record_text : ℕ → PledgeValue → List ℕ
 record_text n p = own_text p ++ (secrets_text n (Some p) ++ (entries_text n (Some p) ++ (extensions_text n (Some p) ++ booking_text n (brief_of p))))
 
-record_is : (p : PledgeValue) → record_text p.agreement.number p ≡ flat_map line_of (pledge_rows p)
+record_is : (p : PledgeValue) → record_text p.agreement.number p ≡ flat_map text_of_row (pledge_csv_rows p)
 record_is p =
     let n = p.agreement.number in
     let ss = secret_rows n 1 p.secrets in
     let es = entry_rows n p.entries in
     let xs = extension_rows n 1 p.extensions in
-    let ks = booking_rows n p.standing.booking in
+    let ks = booking_csv_rows n p.standing.booking in
     ap (λ (t : List ℕ). own_text p ++ t)
-    (sym (flat_map-append line_of ss (es ++ (xs ++ ks))
-    ∙ ap (λ (t : List ℕ). flat_map line_of ss ++ t) (flat_map-append line_of es (xs ++ ks)
-    ∙ ap (λ (t : List ℕ). flat_map line_of es ++ t) (flat_map-append line_of xs ks))))
+    (sym (flat_map-append text_of_row ss (es ++ (xs ++ ks))
+    ∙ ap (λ (t : List ℕ). flat_map text_of_row ss ++ t) (flat_map-append text_of_row es (xs ++ ks)
+    ∙ ap (λ (t : List ℕ). flat_map text_of_row es ++ t) (flat_map-append text_of_row xs ks))))
 
 -- what the brief of a pledge of a sound host is of
 pub record IsBriefAt (o : Option PledgeValue) (number : ℕ) (p : PledgeValue) (brief : BriefFields) : Type 0 where
@@ -65,52 +65,52 @@ pub brief_at : (h : Host) (book number : ℕ) (p : PledgeValue) (brief : BriefFi
 brief_at h book number p brief sound at is = record { at = at; number_is = (standing_at h book number p sound at).1; is = is }
 
 whole_record : {W : Type 0} {contents : W → Option (List ℕ)} {a b : Sink W} {end : End} (o : Option PledgeValue) (number : ℕ) (p : PledgeValue) (brief : BriefFields) → IsBriefAt o number p brief
-    → PutsShare contents a (record_text number p) end b → PutsShare contents a (flat_map line_of (pledge_rows p)) end b
+    → PutsRowsShare contents a (record_text number p) end b → PutsRowsShare contents a (flat_map text_of_row (pledge_csv_rows p)) end b
 whole_record {contents = contents} {a = a} {b = b} {end = end} o number p brief known share =
-    subst (λ (t : List ℕ). PutsShare contents a t end b) (ap (λ (n : ℕ). record_text n p) (sym known.number_is) ∙ record_is p) share
+    subst (λ (t : List ℕ). PutsRowsShare contents a t end b) (ap (λ (n : ℕ). record_text n p) (sym known.number_is) ∙ record_is p) share
 
 own_put : {W : Type 0} {contents : W → Option (List ℕ)} {a b : Sink W} (o : Option PledgeValue) (number : ℕ) (p : PledgeValue) (brief : BriefFields) → IsBriefAt o number p brief
-    → Puts contents a (line_of (Row.Pledge (brief_columns brief))) b → PutsShare contents a (own_text p) Whole b
+    → PutsRow contents a (text_of_row (Row.Pledge (brief_columns brief))) b → PutsRowsShare contents a (own_text p) Whole b
 own_put {contents = contents} {a = a} {b = b} o number p brief known puts =
-    share_puts (subst (λ (x : BriefFields). Puts contents a (line_of (Row.Pledge (brief_columns x))) b) known.is puts)
+    share_puts (subst (λ (x : BriefFields). PutsRow contents a (text_of_row (Row.Pledge (brief_columns x))) b) known.is puts)
 
 list_put : {W : Type 0} {contents : W → Option (List ℕ)} {a b : Sink W} {end : End} (text : Option PledgeValue → List ℕ) (o : Option PledgeValue) (number : ℕ) (p : PledgeValue) (brief : BriefFields) → IsBriefAt o number p brief
-    → PutsShare contents a (text o) end b → PutsShare contents a (text (Some p)) end b
+    → PutsRowsShare contents a (text o) end b → PutsRowsShare contents a (text (Some p)) end b
 list_put {contents = contents} {a = a} {b = b} {end = end} text o number p brief known share =
-    subst (λ (x : Option PledgeValue). PutsShare contents a (text x) end b) known.at share
+    subst (λ (x : Option PledgeValue). PutsRowsShare contents a (text x) end b) known.at share
 
 booking_put : {W : Type 0} {contents : W → Option (List ℕ)} {a b : Sink W} (o : Option PledgeValue) (number : ℕ) (p : PledgeValue) (brief : BriefFields) → IsBriefAt o number p brief
-    → Puts contents a (booking_text number brief) b → PutsShare contents a (booking_text number (brief_of p)) Whole b
+    → PutsRow contents a (booking_text number brief) b → PutsRowsShare contents a (booking_text number (brief_of p)) Whole b
 booking_put {contents = contents} {a = a} {b = b} o number p brief known puts =
-    share_puts (subst (λ (x : BriefFields). Puts contents a (booking_text number x) b) known.is puts)
+    share_puts (subst (λ (x : BriefFields). PutsRow contents a (booking_text number x) b) known.is puts)
 
 -- a record that was cut among its secrets
 pub cut_secrets : {W : Type 0} {contents : W → Option (List ℕ)} {a b c : Sink W} (o : Option PledgeValue) (number : ℕ) (p : PledgeValue) (brief : BriefFields) → IsBriefAt o number p brief
-    → Puts contents a (line_of (Row.Pledge (brief_columns brief))) b → PutsShare contents b (secrets_text number o) Front c
-    → PutsShare contents a (flat_map line_of (pledge_rows p)) Front c
+    → PutsRow contents a (text_of_row (Row.Pledge (brief_columns brief))) b → PutsRowsShare contents b (secrets_text number o) Front c
+    → PutsRowsShare contents a (flat_map text_of_row (pledge_csv_rows p)) Front c
 cut_secrets o number p brief known own secrets =
     whole_record o number p brief known (share_then (own_put o number p brief known own) (share_more _ (list_put (secrets_text number) o number p brief known secrets)))
 
 -- .. among its entries
 pub cut_entries : {W : Type 0} {contents : W → Option (List ℕ)} {a b c d : Sink W} (o : Option PledgeValue) (number : ℕ) (p : PledgeValue) (brief : BriefFields) → IsBriefAt o number p brief
-    → Puts contents a (line_of (Row.Pledge (brief_columns brief))) b → PutsShare contents b (secrets_text number o) Whole c → PutsShare contents c (entries_text number o) Front d
-    → PutsShare contents a (flat_map line_of (pledge_rows p)) Front d
+    → PutsRow contents a (text_of_row (Row.Pledge (brief_columns brief))) b → PutsRowsShare contents b (secrets_text number o) Whole c → PutsRowsShare contents c (entries_text number o) Front d
+    → PutsRowsShare contents a (flat_map text_of_row (pledge_csv_rows p)) Front d
 cut_entries o number p brief known own secrets entries =
     whole_record o number p brief known (share_then (own_put o number p brief known own) (share_then (list_put (secrets_text number) o number p brief known secrets)
     (share_more _ (list_put (entries_text number) o number p brief known entries))))
 
 -- .. among its extensions
 pub cut_extensions : {W : Type 0} {contents : W → Option (List ℕ)} {a b c d e : Sink W} (o : Option PledgeValue) (number : ℕ) (p : PledgeValue) (brief : BriefFields) → IsBriefAt o number p brief
-    → Puts contents a (line_of (Row.Pledge (brief_columns brief))) b → PutsShare contents b (secrets_text number o) Whole c → PutsShare contents c (entries_text number o) Whole d
-    → PutsShare contents d (extensions_text number o) Front e → PutsShare contents a (flat_map line_of (pledge_rows p)) Front e
+    → PutsRow contents a (text_of_row (Row.Pledge (brief_columns brief))) b → PutsRowsShare contents b (secrets_text number o) Whole c → PutsRowsShare contents c (entries_text number o) Whole d
+    → PutsRowsShare contents d (extensions_text number o) Front e → PutsRowsShare contents a (flat_map text_of_row (pledge_csv_rows p)) Front e
 cut_extensions o number p brief known own secrets entries extensions =
     whole_record o number p brief known (share_then (own_put o number p brief known own) (share_then (list_put (secrets_text number) o number p brief known secrets)
     (share_then (list_put (entries_text number) o number p brief known entries) (share_more _ (list_put (extensions_text number) o number p brief known extensions)))))
 
 -- a record that was put whole
 pub record_whole : {W : Type 0} {contents : W → Option (List ℕ)} {a b c d e f : Sink W} (o : Option PledgeValue) (number : ℕ) (p : PledgeValue) (brief : BriefFields) → IsBriefAt o number p brief
-    → Puts contents a (line_of (Row.Pledge (brief_columns brief))) b → PutsShare contents b (secrets_text number o) Whole c → PutsShare contents c (entries_text number o) Whole d
-    → PutsShare contents d (extensions_text number o) Whole e → Puts contents e (booking_text number brief) f → PutsShare contents a (flat_map line_of (pledge_rows p)) Whole f
+    → PutsRow contents a (text_of_row (Row.Pledge (brief_columns brief))) b → PutsRowsShare contents b (secrets_text number o) Whole c → PutsRowsShare contents c (entries_text number o) Whole d
+    → PutsRowsShare contents d (extensions_text number o) Whole e → PutsRow contents e (booking_text number brief) f → PutsRowsShare contents a (flat_map text_of_row (pledge_csv_rows p)) Whole f
 record_whole o number p brief known own secrets entries extensions booking =
     whole_record o number p brief known (share_then (own_put o number p brief known own) (share_then (list_put (secrets_text number) o number p brief known secrets)
     (share_then (list_put (entries_text number) o number p brief known entries) (share_then (list_put (extensions_text number) o number p brief known extensions)

@@ -11,7 +11,7 @@ use Rattle.pawn_csv.specs.declared.row.Row.{Row}
 use Rattle.pawn_csv.specs.declared.row.Version.TheVariants as version
 use Rattle.pawn_book.specs.declared.rows.BookRows.{BookRows}
 use Rattle.pawn_csv.specs.Reading.{IsHeldBy, IsTextOf}
-use Rattle.pawn_csv.specs.Rows.{csv_of, header, row_fields, rows_of}
+use Rattle.pawn_csv.specs.Rows.{csv_of, header, row_fields, rows_of_csv}
 
 -- a record of more than one column is read as it is
 row_back : (r : Row) → read_back (row_fields r) ≡ row_fields r
@@ -42,5 +42,5 @@ no_mark rest = refl
 pub held_texts_are_read : (k : BookRows) → IsHeldBy version.Two k → IsTextOf (strip_bom (csv_of k)) k
 unfolding Reached
 held_texts_are_read k held =
-    let tail = flat_map (row_text default_writer) (map row_fields (rows_of version.Two k)) in
-    (version.Two, rw (no_mark tail) (st.StartRecord, [], ((header, st.StartRecord, tail), read-write header tail, refl, rows_reached (rows_of version.Two k)), at_end), held)
+    let tail = flat_map (row_text default_writer) (map row_fields (rows_of_csv version.Two k)) in
+    (version.Two, rw (no_mark tail) (st.StartRecord, [], ((header, st.StartRecord, tail), read-write header tail, refl, rows_reached (rows_of_csv version.Two k)), at_end), held)

@@ -8,12 +8,14 @@ use Rattle.pawn_pledge.specs.Secret.{secret_text}
 use Rattle.pawn_pledge.specs.declared.record.Booking.{Booking}
 use Rattle.pawn_pledge.specs.declared.record.Extension.{Extension}
 use Rattle.pawn_pledge.specs.declared.record.Issued.{Issued}
-use Rattle.pawn_csv.specs.Columns.{version_text, issue_text, sort_text, state_text, yes_text, closing_text, text_if_any}
+use Rattle.pawn_debt.specs.Words.{sort_text}
+use Rattle.pawn_pledge.specs.Words.{state_text}
+use Rattle.pawn_csv.specs.Columns.{form_text, issue_text, yes_text, closing_text, text_if_any}
 use Rattle.pawn_csv.specs.declared.row.PledgeColumns.{PledgeColumns}
 use Rattle.pawn_csv.specs.declared.row.Row.{Row}
 use Rattle.pawn_csv.specs.declared.row.Version.{Version}
 use Rattle.pawn_csv.specs.Reading.{IsNoRow}
-use Rattle.pawn_csv.specs.Rows.{AreColumns, Fits, header, pledge_fields, row_fields}
+use Rattle.pawn_csv.specs.Rows.{AreColumns, FitsColumns, header, pledge_fields, row_fields}
 use Rattle.pawn_csv.specs.Spelling.{AreBlankFrom, IsOpeningOf, column_at}
 
 -- fifteen columns, one by one
@@ -57,7 +59,7 @@ differ : (fs : List (List ℕ)) (xs ys : List ℕ) → column_at fs 0 ≡ xs →
 differ fs xs ys a b = ap (λ (l : List ℕ). get_or l 0 0) (sym a ∙ b)
 
 -- a record of the letter B is no row where it is none of that kind
-pub no_book : (fs : List (List ℕ)) → column_at fs 0 ≡ codes "B" → ((version : Version) (terms : ℕ) (pledges : ℕ) → Fits (Row.Book version terms pledges) → fs ≡ row_fields (Row.Book version terms pledges) → ⊥) → IsNoRow fs
+pub no_book : (fs : List (List ℕ)) → column_at fs 0 ≡ codes "B" → ((version : Version) (terms : ℕ) (pledges : ℕ) → FitsColumns (Row.Book version terms pledges) → fs ≡ row_fields (Row.Book version terms pledges) → ⊥) → IsNoRow fs
 no_book fs is none (Row.Book version terms pledges) fits spelled = none version terms pledges fits spelled
 no_book fs is none (Row.Terms version rates) fits spelled = let e : 66 ≡ 84 = differ fs (codes "B") (codes "T") is (ap (λ f. column_at f 0) spelled) in omega (arith, e)
 no_book fs is none (Row.Pledge columns) fits spelled = let e : 66 ≡ 80 = differ fs (codes "B") (codes "P") is (ap (λ f. column_at f 0) spelled) in omega (arith, e)
@@ -67,7 +69,7 @@ no_book fs is none (Row.Extension number place extension) fits spelled = let e :
 no_book fs is none (Row.Booking number booking) fits spelled = let e : 66 ≡ 75 = differ fs (codes "B") (codes "K") is (ap (λ f. column_at f 0) spelled) in omega (arith, e)
 
 -- a record of the letter T is no row where it is none of that kind
-pub no_terms : (fs : List (List ℕ)) → column_at fs 0 ≡ codes "T" → ((version : ℕ) (rates : Rates) → Fits (Row.Terms version rates) → fs ≡ row_fields (Row.Terms version rates) → ⊥) → IsNoRow fs
+pub no_terms : (fs : List (List ℕ)) → column_at fs 0 ≡ codes "T" → ((version : ℕ) (rates : Rates) → FitsColumns (Row.Terms version rates) → fs ≡ row_fields (Row.Terms version rates) → ⊥) → IsNoRow fs
 no_terms fs is none (Row.Book version terms pledges) fits spelled = let e : 84 ≡ 66 = differ fs (codes "T") (codes "B") is (ap (λ f. column_at f 0) spelled) in omega (arith, e)
 no_terms fs is none (Row.Terms version rates) fits spelled = none version rates fits spelled
 no_terms fs is none (Row.Pledge columns) fits spelled = let e : 84 ≡ 80 = differ fs (codes "T") (codes "P") is (ap (λ f. column_at f 0) spelled) in omega (arith, e)
@@ -77,7 +79,7 @@ no_terms fs is none (Row.Extension number place extension) fits spelled = let e 
 no_terms fs is none (Row.Booking number booking) fits spelled = let e : 84 ≡ 75 = differ fs (codes "T") (codes "K") is (ap (λ f. column_at f 0) spelled) in omega (arith, e)
 
 -- a record of the letter P is no row where it is none of that kind
-pub no_pledge : (fs : List (List ℕ)) → column_at fs 0 ≡ codes "P" → ((columns : PledgeColumns) → Fits (Row.Pledge columns) → fs ≡ row_fields (Row.Pledge columns) → ⊥) → IsNoRow fs
+pub no_pledge : (fs : List (List ℕ)) → column_at fs 0 ≡ codes "P" → ((columns : PledgeColumns) → FitsColumns (Row.Pledge columns) → fs ≡ row_fields (Row.Pledge columns) → ⊥) → IsNoRow fs
 no_pledge fs is none (Row.Book version terms pledges) fits spelled = let e : 80 ≡ 66 = differ fs (codes "P") (codes "B") is (ap (λ f. column_at f 0) spelled) in omega (arith, e)
 no_pledge fs is none (Row.Terms version rates) fits spelled = let e : 80 ≡ 84 = differ fs (codes "P") (codes "T") is (ap (λ f. column_at f 0) spelled) in omega (arith, e)
 no_pledge fs is none (Row.Pledge columns) fits spelled = none columns fits spelled
@@ -87,7 +89,7 @@ no_pledge fs is none (Row.Extension number place extension) fits spelled = let e
 no_pledge fs is none (Row.Booking number booking) fits spelled = let e : 80 ≡ 75 = differ fs (codes "P") (codes "K") is (ap (λ f. column_at f 0) spelled) in omega (arith, e)
 
 -- a record of the letter S is no row where it is none of that kind
-pub no_secret : (fs : List (List ℕ)) → column_at fs 0 ≡ codes "S" → ((number : ℕ) (place : ℕ) (issued : Issued) → Fits (Row.Secret number place issued) → fs ≡ row_fields (Row.Secret number place issued) → ⊥) → IsNoRow fs
+pub no_secret : (fs : List (List ℕ)) → column_at fs 0 ≡ codes "S" → ((number : ℕ) (place : ℕ) (issued : Issued) → FitsColumns (Row.Secret number place issued) → fs ≡ row_fields (Row.Secret number place issued) → ⊥) → IsNoRow fs
 no_secret fs is none (Row.Book version terms pledges) fits spelled = let e : 83 ≡ 66 = differ fs (codes "S") (codes "B") is (ap (λ f. column_at f 0) spelled) in omega (arith, e)
 no_secret fs is none (Row.Terms version rates) fits spelled = let e : 83 ≡ 84 = differ fs (codes "S") (codes "T") is (ap (λ f. column_at f 0) spelled) in omega (arith, e)
 no_secret fs is none (Row.Pledge columns) fits spelled = let e : 83 ≡ 80 = differ fs (codes "S") (codes "P") is (ap (λ f. column_at f 0) spelled) in omega (arith, e)
@@ -97,7 +99,7 @@ no_secret fs is none (Row.Extension number place extension) fits spelled = let e
 no_secret fs is none (Row.Booking number booking) fits spelled = let e : 83 ≡ 75 = differ fs (codes "S") (codes "K") is (ap (λ f. column_at f 0) spelled) in omega (arith, e)
 
 -- a record of the letter E is no row where it is none of that kind
-pub no_entry : (fs : List (List ℕ)) → column_at fs 0 ≡ codes "E" → ((number : ℕ) (entry : Entry) → Fits (Row.Entry number entry) → fs ≡ row_fields (Row.Entry number entry) → ⊥) → IsNoRow fs
+pub no_entry : (fs : List (List ℕ)) → column_at fs 0 ≡ codes "E" → ((number : ℕ) (entry : Entry) → FitsColumns (Row.Entry number entry) → fs ≡ row_fields (Row.Entry number entry) → ⊥) → IsNoRow fs
 no_entry fs is none (Row.Book version terms pledges) fits spelled = let e : 69 ≡ 66 = differ fs (codes "E") (codes "B") is (ap (λ f. column_at f 0) spelled) in omega (arith, e)
 no_entry fs is none (Row.Terms version rates) fits spelled = let e : 69 ≡ 84 = differ fs (codes "E") (codes "T") is (ap (λ f. column_at f 0) spelled) in omega (arith, e)
 no_entry fs is none (Row.Pledge columns) fits spelled = let e : 69 ≡ 80 = differ fs (codes "E") (codes "P") is (ap (λ f. column_at f 0) spelled) in omega (arith, e)
@@ -107,7 +109,7 @@ no_entry fs is none (Row.Extension number place extension) fits spelled = let e 
 no_entry fs is none (Row.Booking number booking) fits spelled = let e : 69 ≡ 75 = differ fs (codes "E") (codes "K") is (ap (λ f. column_at f 0) spelled) in omega (arith, e)
 
 -- a record of the letter X is no row where it is none of that kind
-pub no_extension : (fs : List (List ℕ)) → column_at fs 0 ≡ codes "X" → ((number : ℕ) (place : ℕ) (extension : Extension) → Fits (Row.Extension number place extension) → fs ≡ row_fields (Row.Extension number place extension) → ⊥) → IsNoRow fs
+pub no_extension : (fs : List (List ℕ)) → column_at fs 0 ≡ codes "X" → ((number : ℕ) (place : ℕ) (extension : Extension) → FitsColumns (Row.Extension number place extension) → fs ≡ row_fields (Row.Extension number place extension) → ⊥) → IsNoRow fs
 no_extension fs is none (Row.Book version terms pledges) fits spelled = let e : 88 ≡ 66 = differ fs (codes "X") (codes "B") is (ap (λ f. column_at f 0) spelled) in omega (arith, e)
 no_extension fs is none (Row.Terms version rates) fits spelled = let e : 88 ≡ 84 = differ fs (codes "X") (codes "T") is (ap (λ f. column_at f 0) spelled) in omega (arith, e)
 no_extension fs is none (Row.Pledge columns) fits spelled = let e : 88 ≡ 80 = differ fs (codes "X") (codes "P") is (ap (λ f. column_at f 0) spelled) in omega (arith, e)
@@ -117,7 +119,7 @@ no_extension fs is none (Row.Extension number place extension) fits spelled = no
 no_extension fs is none (Row.Booking number booking) fits spelled = let e : 88 ≡ 75 = differ fs (codes "X") (codes "K") is (ap (λ f. column_at f 0) spelled) in omega (arith, e)
 
 -- a record of the letter K is no row where it is none of that kind
-pub no_booking : (fs : List (List ℕ)) → column_at fs 0 ≡ codes "K" → ((number : ℕ) (booking : Booking) → Fits (Row.Booking number booking) → fs ≡ row_fields (Row.Booking number booking) → ⊥) → IsNoRow fs
+pub no_booking : (fs : List (List ℕ)) → column_at fs 0 ≡ codes "K" → ((number : ℕ) (booking : Booking) → FitsColumns (Row.Booking number booking) → fs ≡ row_fields (Row.Booking number booking) → ⊥) → IsNoRow fs
 no_booking fs is none (Row.Book version terms pledges) fits spelled = let e : 75 ≡ 66 = differ fs (codes "K") (codes "B") is (ap (λ f. column_at f 0) spelled) in omega (arith, e)
 no_booking fs is none (Row.Terms version rates) fits spelled = let e : 75 ≡ 84 = differ fs (codes "K") (codes "T") is (ap (λ f. column_at f 0) spelled) in omega (arith, e)
 no_booking fs is none (Row.Pledge columns) fits spelled = let e : 75 ≡ 80 = differ fs (codes "K") (codes "P") is (ap (λ f. column_at f 0) spelled) in omega (arith, e)
@@ -126,7 +128,7 @@ no_booking fs is none (Row.Entry number entry) fits spelled = let e : 75 ≡ 69 
 no_booking fs is none (Row.Extension number place extension) fits spelled = let e : 75 ≡ 88 = differ fs (codes "K") (codes "X") is (ap (λ f. column_at f 0) spelled) in omega (arith, e)
 no_booking fs is none (Row.Booking number booking) fits spelled = none number booking fits spelled
 
-pub is_book : (fs : List (List ℕ)) (version : Version) (terms : ℕ) (pledges : ℕ) → length fs ≡ 15 → column_at fs 0 ≡ codes "B" → column_at fs 1 ≡ version_text version → column_at fs 2 ≡ decimal terms → column_at fs 3 ≡ decimal pledges → AreBlankFrom 4 fs → fs ≡ row_fields (Row.Book version terms pledges)
+pub is_book : (fs : List (List ℕ)) (version : Version) (terms : ℕ) (pledges : ℕ) → length fs ≡ 15 → column_at fs 0 ≡ codes "B" → column_at fs 1 ≡ form_text version → column_at fs 2 ≡ decimal terms → column_at fs 3 ≡ decimal pledges → AreBlankFrom 4 fs → fs ≡ row_fields (Row.Book version terms pledges)
 is_book fs version terms pledges n e0 e1 e2 e3 blank = fifteen_are fs _ _ _ _ _ _ _ _ _ _ _ _ _ _ _ n e0 e1 e2 e3 (blank 4 (omega arith) (omega arith)) (blank 5 (omega arith) (omega arith)) (blank 6 (omega arith) (omega arith)) (blank 7 (omega arith) (omega arith)) (blank 8 (omega arith) (omega arith)) (blank 9 (omega arith) (omega arith)) (blank 10 (omega arith) (omega arith)) (blank 11 (omega arith) (omega arith)) (blank 12 (omega arith) (omega arith)) (blank 13 (omega arith) (omega arith)) (blank 14 (omega arith) (omega arith))
 
 pub is_terms : (fs : List (List ℕ)) (version : ℕ) (rates : Rates) → length fs ≡ 15 → column_at fs 0 ≡ codes "T" → column_at fs 1 ≡ decimal version → column_at fs 2 ≡ decimal rates.rate → column_at fs 3 ≡ decimal rates.keep_before → column_at fs 4 ≡ decimal rates.keep_after → AreBlankFrom 5 fs → fs ≡ row_fields (Row.Terms version rates)

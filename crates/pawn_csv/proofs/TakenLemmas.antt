@@ -27,7 +27,7 @@ use Rattle.pawn_csv.specs.declared.row.Version.TheVariants as version
 use Rattle.pawn_csv.specs.Finishing.{IsBegunOf, raw_of}
 use Rattle.pawn_csv.specs.Laws.{TextsAreReadAs}
 use Rattle.pawn_csv.specs.Order.{Begun, hand, in_order, is_nil, is_whole, may_end, on_hand, place, place_booking, place_entry, place_extension, place_secret, put_hand, raw_pledge, run, then_run, unless_full}
-use Rattle.pawn_csv.specs.Rows.{Knows, booking_rows, columns_of, entry_rows, extension_rows, pledge_rows, rows_of, secret_rows, terms_rows, version_rows}
+use Rattle.pawn_csv.specs.Rows.{Knows, booking_csv_rows, pledge_columns, entry_rows, extension_rows, pledge_csv_rows, rows_of_csv, secret_rows, terms_rows, version_rows}
 
 -- ---- tests that hold, and rows one after the other
 
@@ -149,7 +149,7 @@ run_known version.One m n terms pledges c i is entries xs known few = rw (known 
 run_known version.Two m n terms pledges c i is entries xs known few = run_extensions m n 1 terms pledges c i is entries [] xs refl (omega (arith, few))
 
 run_booking : (v : Version) (m n : ℕ) (terms : List Rates) (pledges : List RawPledge) (c : PledgeColumns) (i : Issued) (is : List Issued) (entries : List Entry) (xs : List Extension) (o : Option Booking)
-    → run (Some (begun v m n terms pledges (Some (raw c (i ∷ is) entries xs None)))) (booking_rows c.number o) ≡ Ok (Some (begun v m n terms pledges (Some (raw c (i ∷ is) entries xs o))))
+    → run (Some (begun v m n terms pledges (Some (raw c (i ∷ is) entries xs None)))) (booking_csv_rows c.number o) ≡ Ok (Some (begun v m n terms pledges (Some (raw c (i ∷ is) entries xs o))))
 run_booking v m n terms pledges c i is entries xs None = refl
 run_booking v m n terms pledges c i is entries xs (Some x) =
     let old = raw c (i ∷ is) entries xs None in
@@ -161,11 +161,11 @@ run_booking v m n terms pledges c i is entries xs (Some x) =
 run_lists : (v : Version) (m n : ℕ) (terms : List Rates) (pledges : List RawPledge) (c : PledgeColumns) (i : Issued) (is : List Issued) (entries : List Entry) (xs : List Extension) (o : Option Booking)
     → length (i ∷ is) ≤ most_secrets → AreNumbered 1 entries → length entries ≤ most_entries → (v ≡ version.One → xs ≡ []) → length xs ≤ most_extensions
     → run (Some (begun v m n terms pledges (Some (raw c [] [] [] None))))
-    (secret_rows c.number 1 (i ∷ is) ++ (entry_rows c.number entries ++ (extension_rows c.number 1 xs ++ booking_rows c.number o)))
+    (secret_rows c.number 1 (i ∷ is) ++ (entry_rows c.number entries ++ (extension_rows c.number 1 xs ++ booking_csv_rows c.number o)))
     ≡ Ok (Some (begun v m n terms pledges (Some (raw c (i ∷ is) entries xs o))))
 run_lists v m n terms pledges c i is entries xs o secrets numbered few known extensions =
     let at = λ (p : RawPledge). Some (begun v m n terms pledges (Some p)) in
-    let booking = booking_rows c.number o in
+    let booking = booking_csv_rows c.number o in
     let rest = extension_rows c.number 1 xs ++ booking in
     run_on (secret_rows c.number 1 (i ∷ is)) (entry_rows c.number entries ++ rest) (at (raw c [] [] [] None)) (at (raw c (i ∷ is) [] [] None))
     (run_secrets v m n 1 terms pledges c [] (i ∷ is) refl (omega (arith, secrets)))
@@ -186,12 +186,12 @@ first_there taken credit (i ∷ is) h = tt
 -- the rows of a pledge that is next
 run_pledge : (v : Version) (m n : ℕ) (terms : List Rates) (done : List RawPledge) (at_hand : Option RawPledge) (p : PledgeValue)
     → length terms ≡ m → may_end at_hand ≡ true → p.agreement.number ≡ length (done ++ hand at_hand) + 1 → p.agreement.number ≤ n → IsStanding p → (v ≡ version.One → p.extensions ≡ [])
-    → run (Some (begun v m n terms done at_hand)) (pledge_rows p) ≡ Ok (Some (begun v m n terms (done ++ hand at_hand) (Some (raw_of p))))
+    → run (Some (begun v m n terms done at_hand)) (pledge_csv_rows p) ≡ Ok (Some (begun v m n terms (done ++ hand at_hand) (Some (raw_of p))))
 run_pledge v m n terms done at_hand p all over at due stands known =
     from p.secrets refl (first_there _ _ p.secrets stands.replayable.issued.sorts)
   where
     c : PledgeColumns
-    c = columns_of p
+    c = pledge_columns p
 
     begins : place (Some (begun v m n terms done at_hand)) (Row.Pledge c) ≡ Ok (begun v m n terms (done ++ hand at_hand) (Some (raw_pledge c)))
     begins =
@@ -200,7 +200,7 @@ run_pledge v m n terms done at_hand p all over at due stands known =
         (both_hold ((length terms == m) && may_end at_hand) (c.number == length (done ++ hand at_hand) + 1)
         (both_hold (length terms == m) (may_end at_hand) (equal (length terms) m all) over) (equal c.number (length (done ++ hand at_hand) + 1) at)) (at_most c.number n due))
 
-    from : (is : List Issued) → p.secrets ≡ is → has_first is → run (Some (begun v m n terms done at_hand)) (pledge_rows p) ≡ Ok (Some (begun v m n terms (done ++ hand at_hand) (Some (raw_of p))))
+    from : (is : List Issued) → p.secrets ≡ is → has_first is → run (Some (begun v m n terms done at_hand)) (pledge_csv_rows p) ≡ Ok (Some (begun v m n terms (done ++ hand at_hand) (Some (raw_of p))))
     from [] e none = absurd none
     from (i ∷ is) e first =
         let few : length (i ∷ is) ≤ most_secrets = subst (λ (x : List Issued). length x ≤ most_secrets) e stands.within.secrets in
@@ -214,7 +214,7 @@ run_pledge v m n terms done at_hand p all over at due stands known =
 abbrev Follows : Version → ℕ → ℕ → List Rates → List RawPledge → Option RawPledge → List PledgeValue → Type 0
 Follows v m n terms done at_hand ps =
     (now : List RawPledge) × (last : Option RawPledge)
-    × (run (Some (begun v m n terms done at_hand)) (flat_map pledge_rows ps) ≡ Ok (Some (begun v m n terms now last)))
+    × (run (Some (begun v m n terms done at_hand)) (flat_map pledge_csv_rows ps) ≡ Ok (Some (begun v m n terms now last)))
     × (now ++ hand last ≡ (done ++ hand at_hand) ++ map raw_of ps) × (may_end last ≡ true)
 
 begins_with : (is : List Issued) → has_first is → not (is_nil is) ≡ true
@@ -225,12 +225,12 @@ raw_ends : (p : PledgeValue) → IsStanding p → may_end (Some (raw_of p)) ≡ 
 raw_ends p stands = begins_with p.secrets (first_there _ _ p.secrets stands.replayable.issued.sorts)
 
 follows_first : (v : Version) (m n : ℕ) (terms : List Rates) (done : List RawPledge) (at_hand : Option RawPledge) (p : PledgeValue) (ps : List PledgeValue)
-    → run (Some (begun v m n terms done at_hand)) (pledge_rows p) ≡ Ok (Some (begun v m n terms (done ++ hand at_hand) (Some (raw_of p))))
+    → run (Some (begun v m n terms done at_hand)) (pledge_csv_rows p) ≡ Ok (Some (begun v m n terms (done ++ hand at_hand) (Some (raw_of p))))
     → Follows v m n terms (done ++ hand at_hand) (Some (raw_of p)) ps → Follows v m n terms done at_hand (p ∷ ps)
 follows_first v m n terms done at_hand p ps here (now, last, ran, same, ends) = (
   now,
   last,
-  run_on (pledge_rows p) (flat_map pledge_rows ps) (Some (begun v m n terms done at_hand)) (Some (begun v m n terms (done ++ hand at_hand) (Some (raw_of p)))) here ∙ ran,
+  run_on (pledge_csv_rows p) (flat_map pledge_csv_rows ps) (Some (begun v m n terms done at_hand)) (Some (begun v m n terms (done ++ hand at_hand) (Some (raw_of p)))) here ∙ ran,
   same ∙ append_assoc (done ++ hand at_hand) (raw_of p ∷ []) (map raw_of ps),
   ends,
 )
@@ -260,7 +260,7 @@ begins v m n few_terms few_pledges =
 
 -- the rows of a book were taken, and make it
 abbrev Makes : Version → BookRows → Type 0
-Makes v k = (b : Begun) × (run None (rows_of v k) ≡ Ok (Some b)) × (is_whole (Some b) ≡ true) × IsBegunOf b k
+Makes v k = (b : Begun) × (run None (rows_of_csv v k) ≡ Ok (Some b)) × (is_whole (Some b) ≡ true) × IsBegunOf b k
 
 makes_book : (v : Version) (k : BookRows) → AreReplayable k.terms k.pledges → Follows v (length k.terms) (length k.pledges) k.terms [] None k.pledges → Makes v k
 makes_book v k replayable (now, last, ran, same, ends) =
@@ -268,8 +268,8 @@ makes_book v k replayable (now, last, ran, same, ends) =
     let n = length k.pledges in
     let count : length (now ++ hand last) ≡ n = ap length same ∙ counted k.pledges in (
       begun v m n k.terms now last,
-      step None (Row.Book v m n) (terms_rows 1 k.terms ++ flat_map pledge_rows k.pledges) (begun v m n [] [] None) (begins v m n replayable.few_terms replayable.few_pledges)
-          ∙ run_on (terms_rows 1 k.terms) (flat_map pledge_rows k.pledges) (Some (begun v m n [] [] None)) (Some (begun v m n k.terms [] None)) (run_terms v m n 1 [] k.terms refl (omega arith))
+      step None (Row.Book v m n) (terms_rows 1 k.terms ++ flat_map pledge_csv_rows k.pledges) (begun v m n [] [] None) (begins v m n replayable.few_terms replayable.few_pledges)
+          ∙ run_on (terms_rows 1 k.terms) (flat_map pledge_csv_rows k.pledges) (Some (begun v m n [] [] None)) (Some (begun v m n k.terms [] None)) (run_terms v m n 1 [] k.terms refl (omega arith))
           ∙ ran,
       both_hold ((m == m) && (length (now ++ hand last) == n)) (may_end last) (both_hold (m == m) (length (now ++ hand last) == n) (equal m m refl) (equal (length (now ++ hand last)) n count)) ends,
       (refl, (same, replayable.under, are_raw k.pledges replayable.standing)),
@@ -288,4 +288,4 @@ run_book v k replayable knows =
 pub texts_are_read_as : TextsAreReadAs
 texts_are_read_as text k (v, are, held) =
     let (b, ran, whole, is) = run_book v k held.0 held.1 in
-    (version_rows v k, rows_of v k, Some b, are, (refl, refl, held.2, ran), (b, refl, whole, is, held.0))
+    (version_rows v k, rows_of_csv v k, Some b, are, (refl, refl, held.2, ran), (b, refl, whole, is, held.0))

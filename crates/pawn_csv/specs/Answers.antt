@@ -15,11 +15,11 @@ Places said (Ok u) new = said ≡ Ok new
 Places said (Err e) new = Fails said e
 
 -- the same of a value that is seen in another form
-abbrev pub Gives : {A B : Type 0} → (A → B) → Result B Cause → Result A Cause → Type 0
-Gives view said (Ok value) = said ≡ Ok (view value)
-Gives view said (Err e) = Fails said e
+abbrev pub GivesAs : {A B : Type 0} → (A → B) → Result B Cause → Result A Cause → Type 0
+GivesAs view said (Ok value) = said ≡ Ok (view value)
+GivesAs view said (Err e) = Fails said e
 
 -- the same of a book that has begun
-abbrev pub Answers : {U : Type 0} → Result Begun Cause → Result U Cause → Option Begun → Type 0
-Answers said (Ok u) new = (b : Begun) × (said ≡ Ok b) × (new ≡ Some b)
-Answers said (Err e) new = Fails said e
+abbrev pub AnswersBegun : {U : Type 0} → Result Begun Cause → Result U Cause → Option Begun → Type 0
+AnswersBegun said (Ok u) new = (b : Begun) × (said ≡ Ok b) × (new ≡ Some b)
+AnswersBegun said (Err e) new = Fails said e

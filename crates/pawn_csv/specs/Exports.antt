@@ -15,27 +15,27 @@ use Rattle.pawn_view.specs.Fault.{view_fault}
 use Rattle.pawn_view.specs.declared.fault.ViewFault.{ViewFault}
 use Rattle.pawn_view.specs.declared.fault.ViewFault.TheVariants as fault
 use Rattle.pawn_csv.specs.Rows.{csv_of}
-use Rattle.pawn_csv.specs.Sent.{Puts, has_ended, line_of, seen}
+use Rattle.pawn_csv.specs.Sent.{PutsRow, has_ended, text_of_row, seen}
 use Rattle.pawn_csv.specs.declared.exporting.RowWriter.{RowWriter}
 use Rattle.pawn_csv.specs.declared.row.Row.{Row}
 use Rattle.pawn_csv.specs.declared.writing.Sink.{Sink}
 
 -- the row of a pledge's secret, at its place
 abbrev pub secret_line : ℕ → ℕ → Issued → List ℕ
-secret_line number place issued = line_of (Row.Secret number place issued)
+secret_line number place issued = text_of_row (Row.Secret number place issued)
 
 -- the row of a pledge's entry, wherever it stands
-abbrev pub entry_line : ℕ → ℕ → Entry → List ℕ
-entry_line number place entry = line_of (Row.Entry number entry)
+abbrev pub entry_row_text : ℕ → ℕ → Entry → List ℕ
+entry_row_text number place entry = text_of_row (Row.Entry number entry)
 
 -- the row of a pledge's extension, at its place
 abbrev pub extension_line : ℕ → ℕ → Extension → List ℕ
-extension_line number place extension = line_of (Row.Extension number place extension)
+extension_line number place extension = text_of_row (Row.Extension number place extension)
 
 -- a visitor that is a writer of rows: it puts a pledge's row at its place and goes to the next, and stops once a row was not
 -- written whole
 pub record PutsAt {W T : Type 0} (contents : W → Option (List ℕ)) (line : ℕ → ℕ → T → List ℕ) (v : RowWriter W) (item : T) (flow : Flow) (w : RowWriter W) : Type 0 where
-  pub puts : Puts contents v.sink (line v.number v.place item) w.sink
+  pub puts : PutsRow contents v.sink (line v.number v.place item) w.sink
   pub number : w.number ≡ v.number
   pub place : w.place ≡ min (v.place + 1) (2 ^ 64 - 1)
   pub flow_is : flow ≡ (if has_ended w.sink then Stop else Go)
@@ -51,8 +51,8 @@ ending_by done false true = Err fault.Memory
 ending_by (Ok u) false false = Ok u
 ending_by (Err error) false false = Err (view_fault error)
 
-abbrev pub ending_of : {W : Type 0} → Result (Unit {0}) KeepError → Sink W → Result (Unit {0}) ViewFault
-ending_of done sink = ending_by done (write_failed sink.writer) sink.is_starved
+abbrev pub sink_ending : {W : Type 0} → Result (Unit {0}) KeepError → Sink W → Result (Unit {0}) ViewFault
+sink_ending done sink = ending_by done (write_failed sink.writer) sink.is_starved
 
 -- the text went out, or why not all of it. A refusal writes nothing, and comes just where there is no such book; where the
 -- writer failed, memory was wanting or the keeper failed, a front of the text went out

@@ -4,23 +4,23 @@ use Rattle.pawn_csv.specs.declared.fault.Cause.{Cause}
 use Rattle.pawn_csv.specs.declared.fault.Cause.TheVariants.{Csv, Columns, BadField, Order, NotReplayable, TooMany, Read, Memory}
 
 -- a fault's number
-abbrev pub code_of : Cause → ℕ
-code_of Csv = 601
-code_of Columns = 602
-code_of BadField = 603
-code_of Order = 604
-code_of NotReplayable = 605
-code_of TooMany = 606
-code_of Read = 607
-code_of Memory = 491
+abbrev pub cause_code : Cause → ℕ
+cause_code Csv = 601
+cause_code Columns = 602
+cause_code BadField = 603
+cause_code Order = 604
+cause_code NotReplayable = 605
+cause_code TooMany = 606
+cause_code Read = 607
+cause_code Memory = 491
 
 -- a fault's name
-abbrev pub name_of : Cause → List ℕ
-name_of Csv = codes "Csv"
-name_of Columns = codes "Columns"
-name_of BadField = codes "BadField"
-name_of Order = codes "Order"
-name_of NotReplayable = codes "NotReplayable"
-name_of TooMany = codes "TooMany"
-name_of Read = codes "Read"
-name_of Memory = codes "Memory"
+abbrev pub cause_name : Cause → List ℕ
+cause_name Csv = codes "Csv"
+cause_name Columns = codes "Columns"
+cause_name BadField = codes "BadField"
+cause_name Order = codes "Order"
+cause_name NotReplayable = codes "NotReplayable"
+cause_name TooMany = codes "TooMany"
+cause_name Read = codes "Read"
+cause_name Memory = codes "Memory"

@@ -11,12 +11,12 @@ use Rattle.pawn_csv.specs.declared.fault.Cause.{Cause}
 use Rattle.pawn_csv.specs.declared.fault.Cause.TheVariants as cause
 use Rattle.pawn_csv.specs.declared.order.RawPledge.{RawPledge}
 use Rattle.pawn_csv.specs.declared.row.PledgeColumns.{PledgeColumns}
-use Rattle.pawn_csv.specs.Order.{Begun, is_whole, pledges_of}
-use Rattle.pawn_csv.specs.Rows.{closing_amount, closing_day, closing_word, columns_of}
+use Rattle.pawn_csv.specs.Order.{Begun, is_whole, pledges_begun}
+use Rattle.pawn_csv.specs.Rows.{closing_amount, closing_day, closing_word, pledge_columns}
 
 -- a pledge as its rows tell it
 abbrev pub raw_of : PledgeValue → RawPledge
-raw_of p = record { columns = columns_of p; secrets = p.secrets; entries = p.entries; extensions = p.extensions; booking = p.standing.booking }
+raw_of p = record { columns = pledge_columns p; secrets = p.secrets; entries = p.entries; extensions = p.extensions; booking = p.standing.booking }
 
 -- columns that tell this closing
 abbrev pub IsClosingOf : PledgeColumns → Closing → Type 0
@@ -34,7 +34,7 @@ AreRawOf terms raws pledges =
 
 -- what was read is this book
 abbrev pub IsBegunOf : Begun → BookRows → Type 0
-IsBegunOf b k = (b.terms ≡ k.terms) × AreRawOf b.terms (pledges_of b) k.pledges
+IsBegunOf b k = (b.terms ≡ k.terms) × AreRawOf b.terms (pledges_begun b) k.pledges
 
 -- what was read is whole, and the book is replayable
 abbrev pub IsFinishedAs : Option Begun → BookRows → Type 0

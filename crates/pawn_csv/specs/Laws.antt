@@ -10,8 +10,8 @@ use Rattle.pawn_csv.specs.declared.fault.Cause.{Cause}
 use Rattle.pawn_csv.specs.declared.fault.Cause.TheVariants as cause
 use Rattle.pawn_csv.specs.declared.row.Row.{Row}
 use Rattle.pawn_csv.specs.declared.row.Version.{Version}
-use Rattle.pawn_csv.specs.Reading.{CanBeWritten, IsFirstFault, IsHeldBy, IsReadAs, IsTextOf}
-use Rattle.pawn_csv.specs.Rows.{Fits, Knows, csv_of, row_fields}
+use Rattle.pawn_csv.specs.Reading.{CanBeWritten, IsFirstCause, IsHeldBy, IsReadAs, IsTextOf}
+use Rattle.pawn_csv.specs.Rows.{FitsColumns, Knows, csv_of, row_fields}
 
 -- a book that can be written is one that a text can hold, in each version that knows what it has
 abbrev pub BooksAreHeld : Type 0
@@ -33,18 +33,18 @@ TextsAreReadAs = (text : List ℕ) (k : BookRows) → IsTextOf text k → IsRead
 
 -- two rows with the same columns are one
 abbrev pub RowsHaveOneSpelling : Type 0
-RowsHaveOneSpelling = (r s : Row) → Fits r → Fits s → row_fields r ≡ row_fields s → r ≡ s
+RowsHaveOneSpelling = (r s : Row) → FitsColumns r → FitsColumns s → row_fields r ≡ row_fields s → r ≡ s
 
 -- two first faults of a text are one, in one row
 abbrev pub FirstFaultsAreOne : Type 0
 FirstFaultsAreOne =
     (text : List ℕ) (c d : Cause) (m n : ℕ) → c ≢ cause.Memory → d ≢ cause.Memory
-    → IsFirstFault text c m → IsFirstFault text d n → (c ≡ d) × (m ≡ n)
+    → IsFirstCause text c m → IsFirstCause text d n → (c ≡ d) × (m ≡ n)
 
 -- a text with a first fault is of no book
 abbrev pub FirstFaultsExcludeBooks : Type 0
 FirstFaultsExcludeBooks =
-    (text : List ℕ) (c : Cause) (m : ℕ) (k : BookRows) → c ≢ cause.Memory → IsFirstFault text c m → IsTextOf text k → ⊥
+    (text : List ℕ) (c : Cause) (m : ℕ) (k : BookRows) → c ≢ cause.Memory → IsFirstCause text c m → IsTextOf text k → ⊥
 
 -- no text is of two books
 abbrev pub TextsHoldOneBook : Type 0

@@ -63,8 +63,8 @@ hand None = []
 hand (Some p) = p ∷ []
 
 -- the pledges so far
-abbrev pub pledges_of : Begun → List RawPledge
-pledges_of b = b.pledges ++ hand b.at_hand
+abbrev pub pledges_begun : Begun → List RawPledge
+pledges_begun b = b.pledges ++ hand b.at_hand
 
 abbrev pub is_none : {A : Type 0} → Option A → Bool
 is_none None = true
@@ -96,14 +96,14 @@ place_book s version terms pledges =
 -- the next version of terms, as long as some are due; the pledges come after all of them
 abbrev pub place_terms : Begun → ℕ → Rates → Result Begun Cause
 place_terms b version rates =
-    in_order ((version == length b.terms + 1) && nat_le version b.terms_due && (length (pledges_of b) == 0))
+    in_order ((version == length b.terms + 1) && nat_le version b.terms_due && (length (pledges_begun b) == 0))
     (record b { terms = b.terms ++ rates ∷ [] })
 
 -- the next pledge, as long as some are due, where the one before it may end
 abbrev pub place_pledge : Begun → PledgeColumns → Result Begun Cause
 place_pledge b columns =
-    in_order ((length b.terms == b.terms_due) && may_end b.at_hand && (columns.number == length (pledges_of b) + 1) && nat_le columns.number b.pledges_due)
-    (record b { pledges = pledges_of b; at_hand = Some (raw_pledge columns) })
+    in_order ((length b.terms == b.terms_due) && may_end b.at_hand && (columns.number == length (pledges_begun b) + 1) && nat_le columns.number b.pledges_due)
+    (record b { pledges = pledges_begun b; at_hand = Some (raw_pledge columns) })
 
 -- the next secret, before the other lists
 abbrev pub place_secret : RawPledge → ℕ → Issued → Result RawPledge Cause
@@ -178,4 +178,4 @@ run s (r ∷ rs) = then_run (place s r) (λ t. run t rs)
 -- all that the first row says is there, and the last pledge may end
 abbrev pub is_whole : Option Begun → Bool
 is_whole None = false
-is_whole (Some b) = (length b.terms == b.terms_due) && (length (pledges_of b) == b.pledges_due) && may_end b.at_hand
+is_whole (Some b) = (length b.terms == b.terms_due) && (length (pledges_begun b) == b.pledges_due) && may_end b.at_hand

@@ -16,11 +16,11 @@ use Rattle.pawn_csv.specs.declared.row.Row.{Row}
 use Rattle.pawn_csv.specs.declared.row.Version.{Version}
 use Rattle.pawn_csv.specs.Finishing.{IsFinishedAs, IsOfNoBook}
 use Rattle.pawn_csv.specs.Order.{Begun, place, run, is_whole}
-use Rattle.pawn_csv.specs.Rows.{Fits, Knows, header, row_fields, rows_of, version_rows}
+use Rattle.pawn_csv.specs.Rows.{FitsColumns, Knows, header, row_fields, rows_of_csv, version_rows}
 
 -- a book that a text of this version can hold: it can have come about, and each column can be spelled
 abbrev pub IsHeldBy : Version → BookRows → Type 0
-IsHeldBy version k = AreReplayable k.terms k.pledges × Knows version k × Each Fits (rows_of version k)
+IsHeldBy version k = AreReplayable k.terms k.pledges × Knows version k × Each FitsColumns (rows_of_csv version k)
 
 -- a book that can be written: it can have come about, its texts are UTF-8, its secrets words, and its days those of the calendar
 pub record CanBeWritten (k : BookRows) : Type 0 where
@@ -34,15 +34,15 @@ IsTextOf text k =
 
 -- these columns spell this row
 abbrev pub IsSpelled : List (List ℕ) → Row → Type 0
-IsSpelled fields r = Fits r × (fields ≡ row_fields r)
+IsSpelled fields r = FitsColumns r × (fields ≡ row_fields r)
 
 -- these columns spell no row
 abbrev pub IsNoRow : List (List ℕ) → Type 0
-IsNoRow fields = (r : Row) → Fits r → fields ≡ row_fields r → ⊥
+IsNoRow fields = (r : Row) → FitsColumns r → fields ≡ row_fields r → ⊥
 
 -- the columns spell a row that is refused there
-abbrev pub IsRefused : List (List ℕ) → Option Begun → Cause → Type 0
-IsRefused fields old c = (r : Row) × IsSpelled fields r × (place old r ≡ Err c)
+abbrev pub IsRowRefused : List (List ℕ) → Option Begun → Cause → Type 0
+IsRowRefused fields old c = (r : Row) × IsSpelled fields r × (place old r ≡ Err c)
 
 -- why a record after the header is not taken: memory is wanting, it has another number of columns, they spell no row, or the
 -- row is refused there
@@ -51,7 +51,7 @@ RefusesRow fields old c =
     (c ≡ cause.Memory)
     ⊎ (((c ≡ cause.Csv) × (length fields ≢ length header))
     ⊎ (((c ≡ cause.BadField) × (length fields ≡ length header) × IsNoRow fields)
-    ⊎ IsRefused fields old c))
+    ⊎ IsRowRefused fields old c))
 
 -- what taking the next record does: the header is first, and then rows
 abbrev pub Taking : {U : Type 0} → Bool → List (List ℕ) → Option Begun → Result U Cause → Option Begun → Type 0
@@ -63,7 +63,7 @@ Taking false fields old (Err e) new = RefusesRow fields old e
 -- these records were taken: the header, and these rows
 abbrev pub AreTaken : List (List (List ℕ)) → List Row → Option Begun → Type 0
 AreTaken [] rows s = (rows ≡ []) × (s ≡ None)
-AreTaken (h ∷ rs) rows s = (h ≡ header) × (rs ≡ map row_fields rows) × Each Fits rows × (run None rows ≡ Ok s)
+AreTaken (h ∷ rs) rows s = (h ≡ header) × (rs ≡ map row_fields rows) × Each FitsColumns rows × (run None rows ≡ Ok s)
 
 -- why the end of the records is refused: rows are wanting, or they make no book
 abbrev pub RefusesEnd : Option Begun → Cause → Type 0
@@ -73,9 +73,9 @@ RefusesEnd s cause.Memory = Unit {0}
 RefusesEnd s _ = ⊥
 
 -- a text without a record wants the header
-abbrev pub EndsAs : List (List (List ℕ)) → Option Begun → Cause → Type 0
-EndsAs [] s c = c ≡ cause.Columns
-EndsAs (h ∷ rs) s c = RefusesEnd s c
+abbrev pub EndsReadingAs : List (List (List ℕ)) → Option Begun → Cause → Type 0
+EndsReadingAs [] s c = c ≡ cause.Columns
+EndsReadingAs (h ∷ rs) s c = RefusesEnd s c
 
 -- each record before this row is taken: the header, and rows
 pub record AreTakenBefore (text : List ℕ) (row : ℕ) : Type 0 where
@@ -89,17 +89,17 @@ pub record AreTakenBefore (text : List ℕ) (row : ℕ) : Type 0 where
   pub place : length before + 1 ≡ row
 
 -- each record before this one is taken, and this one, or the end, is refused for that cause
-pub record IsFirstFault (text : List ℕ) (c : Cause) (row : ℕ) : Type 0 where
+pub record IsFirstCause (text : List ℕ) (c : Cause) (row : ℕ) : Type 0 where
   pub at : AreTakenBefore text row
   pub why : ((p : Read) × (next_record default_config at.state [] [] at.rest ≡ Some p)
       × Taking (nat_eq (length at.before) 0) p.0 at.begun (let r : Result (Unit {0}) Cause = Err c in r) at.begun)
-      ⊎ ((next_record default_config at.state [] [] at.rest ≡ None) × EndsAs at.before at.begun c)
+      ⊎ ((next_record default_config at.state [] [] at.rest ≡ None) × EndsReadingAs at.before at.begun c)
 
 -- a fault of the memory or of the reader may come at any row, once those before it are taken; any other is the first of the text
 abbrev pub IsFaultOf : List ℕ → Cause → ℕ → Type 0
 IsFaultOf text cause.Memory row = AreTakenBefore text row
 IsFaultOf text cause.Read row = AreTakenBefore text row
-IsFaultOf text c row = IsFirstFault text c row
+IsFaultOf text c row = IsFirstCause text c row
 
 -- the records of this text are taken to their end, and make the book
 abbrev pub IsReadAs : List ℕ → BookRows → Type 0

@@ -17,7 +17,9 @@ use Rattle.pawn_pledge.specs.declared.record.Extension.{Extension}
 use Rattle.pawn_pledge.specs.declared.record.Issued.{Issued}
 use Rattle.pawn_book.specs.Written.{IsWord}
 use Rattle.pawn_book.specs.declared.rows.BookRows.{BookRows}
-use Rattle.pawn_csv.specs.Columns.{version_text, yes_text, kind_text, closing_text, issue_text, sort_text, state_text, text_if_any}
+use Rattle.pawn_debt.specs.Words.{sort_text}
+use Rattle.pawn_pledge.specs.Words.{state_text}
+use Rattle.pawn_csv.specs.Columns.{form_text, yes_text, kind_text, closing_text, issue_text, text_if_any}
 use Rattle.pawn_csv.specs.declared.row.ClosingWord.{ClosingWord}
 use Rattle.pawn_csv.specs.declared.row.ClosingWord.TheVariants as closing
 use Rattle.pawn_csv.specs.declared.row.PledgeColumns.{PledgeColumns}
@@ -32,8 +34,8 @@ header =
     ∷ codes "c9" ∷ codes "c10" ∷ codes "c11" ∷ codes "c12" ∷ codes "c13" ∷ codes "c14" ∷ []
 
 -- so many empty columns
-abbrev pub blank : ℕ → List (List ℕ)
-blank n = replicate n []
+abbrev pub empty_columns : ℕ → List (List ℕ)
+empty_columns n = replicate n []
 
 abbrev pub pledge_fields : PledgeColumns → List (List ℕ)
 pledge_fields c =
@@ -44,18 +46,18 @@ pledge_fields c =
 
 -- the columns of a row
 abbrev pub row_fields : Row → List (List ℕ)
-row_fields (Row.Book version terms pledges) = codes "B" ∷ version_text version ∷ decimal terms ∷ decimal pledges ∷ blank 11
+row_fields (Row.Book version terms pledges) = codes "B" ∷ form_text version ∷ decimal terms ∷ decimal pledges ∷ empty_columns 11
 row_fields (Row.Terms version rates) =
-    codes "T" ∷ decimal version ∷ decimal rates.rate ∷ decimal rates.keep_before ∷ decimal rates.keep_after ∷ blank 10
+    codes "T" ∷ decimal version ∷ decimal rates.rate ∷ decimal rates.keep_before ∷ decimal rates.keep_after ∷ empty_columns 10
 row_fields (Row.Pledge columns) = pledge_fields columns
 row_fields (Row.Secret number place i) =
-    codes "S" ∷ decimal number ∷ decimal place ∷ day_text i.day ∷ issue_text i.sort ∷ secret_text i.secret ∷ blank 9
+    codes "S" ∷ decimal number ∷ decimal place ∷ day_text i.day ∷ issue_text i.sort ∷ secret_text i.secret ∷ empty_columns 9
 row_fields (Row.Entry number e) =
-    codes "E" ∷ decimal number ∷ decimal e.seq ∷ day_text e.day ∷ sort_text e.sort ∷ decimal e.pence ∷ blank 9
+    codes "E" ∷ decimal number ∷ decimal e.seq ∷ day_text e.day ∷ sort_text e.sort ∷ decimal e.pence ∷ empty_columns 9
 row_fields (Row.Extension number place e) =
-    codes "X" ∷ decimal number ∷ decimal place ∷ day_text e.day ∷ day_text e.until ∷ blank 10
+    codes "X" ∷ decimal number ∷ decimal place ∷ day_text e.day ∷ day_text e.until ∷ empty_columns 10
 row_fields (Row.Booking number b) =
-    codes "K" ∷ decimal number ∷ day_text b.day ∷ decimal b.window ∷ state_text b.state ∷ blank 10
+    codes "K" ∷ decimal number ∷ day_text b.day ∷ decimal b.window ∷ state_text b.state ∷ empty_columns 10
 
 -- a number of at most twelve digits
 abbrev pub IsShort : ℕ → Type 0
@@ -75,14 +77,14 @@ pub record AreColumns (c : PledgeColumns) : Type 0 where
   pub amount : IfSome c.amount IsShort
 
 -- what the columns of a row keep, each by itself
-abbrev pub Fits : Row → Type 0
-Fits (Row.Book version terms pledges) = IsShort terms × IsShort pledges
-Fits (Row.Terms version rates) = IsShort version × IsShort rates.rate × IsShort rates.keep_before × IsShort rates.keep_after
-Fits (Row.Pledge columns) = AreColumns columns
-Fits (Row.Secret number place i) = IsShort number × IsShort place × IsStampDay i.day × IsWord i.secret
-Fits (Row.Entry number e) = IsShort number × IsShort e.seq × IsStampDay e.day × IsShort e.pence
-Fits (Row.Extension number place e) = IsShort number × IsShort place × IsStampDay e.day × IsStampDay e.until
-Fits (Row.Booking number b) = IsShort number × IsStampDay b.day × IsShort b.window
+abbrev pub FitsColumns : Row → Type 0
+FitsColumns (Row.Book version terms pledges) = IsShort terms × IsShort pledges
+FitsColumns (Row.Terms version rates) = IsShort version × IsShort rates.rate × IsShort rates.keep_before × IsShort rates.keep_after
+FitsColumns (Row.Pledge columns) = AreColumns columns
+FitsColumns (Row.Secret number place i) = IsShort number × IsShort place × IsStampDay i.day × IsWord i.secret
+FitsColumns (Row.Entry number e) = IsShort number × IsShort e.seq × IsStampDay e.day × IsShort e.pence
+FitsColumns (Row.Extension number place e) = IsShort number × IsShort place × IsStampDay e.day × IsStampDay e.until
+FitsColumns (Row.Booking number b) = IsShort number × IsStampDay b.day × IsShort b.window
 
 abbrev pub closing_word : Closing → ClosingWord
 closing_word closed.Open = closing.Open
@@ -101,8 +103,8 @@ closing_amount (closed.Redeemed day paid) = Some paid
 closing_amount (closed.Sold day net) = Some net
 
 -- the columns of a pledge's own row
-abbrev pub columns_of : PledgeValue → PledgeColumns
-columns_of p = record {
+abbrev pub pledge_columns : PledgeValue → PledgeColumns
+pledge_columns p = record {
   number = p.agreement.number;
   opening = p.agreement.opening;
   taken = p.agreement.taken;
@@ -132,25 +134,25 @@ abbrev pub extension_rows : ℕ → ℕ → List Extension → List Row
 extension_rows number place [] = []
 extension_rows number place (e ∷ es) = Row.Extension number place e ∷ extension_rows number (place + 1) es
 
-abbrev pub booking_rows : ℕ → Option Booking → List Row
-booking_rows number None = []
-booking_rows number (Some b) = Row.Booking number b ∷ []
+abbrev pub booking_csv_rows : ℕ → Option Booking → List Row
+booking_csv_rows number None = []
+booking_csv_rows number (Some b) = Row.Booking number b ∷ []
 
 -- a pledge's row, then those of its secrets, its entries, its extensions and its booking
-abbrev pub pledge_rows : PledgeValue → List Row
-pledge_rows p =
+abbrev pub pledge_csv_rows : PledgeValue → List Row
+pledge_csv_rows p =
     let n = p.agreement.number in
-    Row.Pledge (columns_of p)
-    ∷ (secret_rows n 1 p.secrets ++ (entry_rows n p.entries ++ (extension_rows n 1 p.extensions ++ booking_rows n p.standing.booking)))
+    Row.Pledge (pledge_columns p)
+    ∷ (secret_rows n 1 p.secrets ++ (entry_rows n p.entries ++ (extension_rows n 1 p.extensions ++ booking_csv_rows n p.standing.booking)))
 
 -- a book's rows: its counts, its terms by version, and its pledges by number
-abbrev pub rows_of : Version → BookRows → List Row
-rows_of version k =
-    Row.Book version (length k.terms) (length k.pledges) ∷ (terms_rows 1 k.terms ++ flat_map pledge_rows k.pledges)
+abbrev pub rows_of_csv : Version → BookRows → List Row
+rows_of_csv version k =
+    Row.Book version (length k.terms) (length k.pledges) ∷ (terms_rows 1 k.terms ++ flat_map pledge_csv_rows k.pledges)
 
 -- the records of a book in a version of the form
 abbrev pub version_rows : Version → BookRows → List (List (List ℕ))
-version_rows version k = header ∷ map row_fields (rows_of version k)
+version_rows version k = header ∷ map row_fields (rows_of_csv version k)
 
 -- a book's records
 abbrev pub csv_rows : BookRows → List (List (List ℕ))

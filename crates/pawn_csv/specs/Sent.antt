@@ -19,18 +19,18 @@ abbrev pub seen : {W : Type 0} → Sink W → Writing W
 seen sink = record { inner = sink.writer.inner; failed = has_ended sink }
 
 -- the text went out, or a front of it where a row was not written whole; nothing is written after that
-pub record Puts {W : Type 0} (contents : W → Option (List ℕ)) (old : Sink W) (text : List ℕ) (new : Sink W) : Type 0 where
+pub record PutsRow {W : Type 0} (contents : W → Option (List ℕ)) (old : Sink W) (text : List ℕ) (new : Sink W) : Type 0 where
   pub ended : has_ended old ≡ true → new ≡ old
   pub fine : has_ended old ≡ false → Written contents (seen old) text (end_by (has_ended new)) (seen new)
 
 -- a front of the text was put, and all of it where the calls on the way succeeded and each row was written whole
-abbrev pub PutsShare : {W : Type 0} → (W → Option (List ℕ)) → Sink W → List ℕ → End → Sink W → Type 0
-PutsShare contents old text end new =
-    (out : List ℕ) × (rest : List ℕ) × (out ++ rest ≡ text) × Puts contents old out new × (has_ended new ≡ false → end ≡ Whole → rest ≡ [])
+abbrev pub PutsRowsShare : {W : Type 0} → (W → Option (List ℕ)) → Sink W → List ℕ → End → Sink W → Type 0
+PutsRowsShare contents old text end new =
+    (out : List ℕ) × (rest : List ℕ) × (out ++ rest ≡ text) × PutsRow contents old out new × (has_ended new ≡ false → end ≡ Whole → rest ≡ [])
 
 -- the text of a row
-abbrev pub line_of : Row → List ℕ
-line_of row = row_text default_writer (row_fields row)
+abbrev pub text_of_row : Row → List ℕ
+text_of_row row = row_text default_writer (row_fields row)
 
 -- the columns of a pledge's own row, which none of its lists is needed for
 abbrev pub brief_columns : BriefFields → PledgeColumns

@@ -10,9 +10,9 @@ use Rattle.pawn_csv.specs.Columns.{kind_text, text_if_any, yes_text}
 use Rattle.pawn_csv.specs.Rows.{IsShort}
 
 -- what a spelling reads as: the value that is spelled so and keeps its rule, or none where there is no such value
-abbrev pub Reads : {A B : Type 0} → (A → B) → (A → Type 0) → B → Option A → Type 0
-Reads text Keeps spelled (Some x) = Keeps x × (spelled ≡ text x)
-Reads text Keeps spelled None = (x : _) → Keeps x → spelled ≡ text x → ⊥
+abbrev pub ReadsAs : {A B : Type 0} → (A → B) → (A → Type 0) → B → Option A → Type 0
+ReadsAs text Keeps spelled (Some x) = Keeps x × (spelled ≡ text x)
+ReadsAs text Keeps spelled None = (x : _) → Keeps x → spelled ≡ text x → ⊥
 
 -- the column at a place, from 0; empty past the last
 abbrev pub column_at : List (List ℕ) → ℕ → List ℕ

@@ -13,7 +13,7 @@ use Rattle.pawn_csv.specs.declared.fault.Cause.TheVariants as cause
 use Rattle.pawn_csv.specs.declared.row.Row.{Row}
 use Rattle.pawn_csv.specs.declared.row.Version.TheVariants as version
 use Rattle.pawn_csv.specs.Order.{Begun, is_whole, run}
-use Rattle.pawn_csv.specs.Rows.{columns_of, csv1_rows, row_fields, rows_of}
+use Rattle.pawn_csv.specs.Rows.{pledge_columns, csv1_rows, row_fields, rows_of_csv}
 
 -- a ring whose period was made longer
 abbrev pub extended_ring : PledgeValue
@@ -28,8 +28,8 @@ abbrev pub extended_book : BookRows
 extended_book = record { terms = free ∷ []; pledges = extended_ring ∷ [] }
 
 -- a ring for which a declaration was tendered, and a booking asked for
-abbrev pub declared_ring : PledgeValue
-declared_ring =
+abbrev pub ring_tendered : PledgeValue
+ring_tendered =
     let p = ring 10000 in
     record p {
       secrets = record { day = date 2024 1 31; sort = Issue.Opening; secret = 3 } ∷ record { day = date 2024 2 1; sort = Issue.Sworn; secret = 4 } ∷ [];
@@ -37,7 +37,7 @@ declared_ring =
     }
 
 abbrev pub declared_book : BookRows
-declared_book = record { terms = free ∷ []; pledges = declared_ring ∷ [] }
+declared_book = record { terms = free ∷ []; pledges = ring_tendered ∷ [] }
 
 -- the lines of a text
 abbrev pub lines_of : List (List (List ℕ)) → List (List ℕ)
@@ -51,13 +51,13 @@ ended (Err e) = Err e
 abbrev pub comes_to : List Row → Result Bool Cause
 comes_to rows = ended (run None rows)
 
-pub record WorkedTexts : Type 0 where
+pub record WorkedRowTexts : Type 0 where
   -- a version of terms is a row of fifteen columns
   pub terms : row_fields (Row.Terms 1 free) ≡ codes "T" ∷ codes "1" ∷ codes "0" ∷ codes "0" ∷ codes "0" ∷ [] ∷ [] ∷ [] ∷ [] ∷ [] ∷ [] ∷ [] ∷ [] ∷ [] ∷ [] ∷ []
   -- an extension, and a pledge
   pub extension : row_fields (Row.Extension 1 1 (record { day = date 2024 2 1; until = date 2024 9 30 })) ≡ codes "X" ∷ codes "1" ∷ codes "1" ∷ codes "2024-02-01" ∷ codes "2024-09-30" ∷ [] ∷ [] ∷ [] ∷ [] ∷ [] ∷ [] ∷ [] ∷ [] ∷ [] ∷ [] ∷ []
   pub pledge :
-      row_fields (Row.Pledge (columns_of (ring 10000)))
+      row_fields (Row.Pledge (pledge_columns (ring 10000)))
       ≡ codes "P" ∷ codes "1" ∷ codes "A1" ∷ codes "Gold ring" ∷ codes "fixed" ∷ codes "10000" ∷ codes "2024-01-31" ∷ [] ∷ codes "no" ∷ codes "1" ∷ codes "no" ∷ codes "2024-01-31" ∷ codes "open" ∷ [] ∷ [] ∷ []
   -- a whole book, line by line
   pub example :
@@ -73,12 +73,12 @@ pub record WorkedTexts : Type 0 where
   -- a column with a comma or a quote is quoted
   pub quoted : row_text default_writer (codes "a,b" ∷ codes "\"" ∷ []) ≡ codes "\"a,b\",\"\"\"\"\n"
   -- the rows of a book may end
-  pub declared : comes_to (rows_of version.One declared_book) ≡ Ok true
-  pub unbooked : comes_to (rows_of version.One (record { terms = free ∷ []; pledges = record declared_ring { standing = record declared_ring.standing { booking = None } } ∷ [] })) ≡ Ok true
-  pub whole : comes_to (rows_of version.Two ring_book) ≡ Ok true
-  pub extended : comes_to (rows_of version.Two extended_book) ≡ Ok true
+  pub declared : comes_to (rows_of_csv version.One declared_book) ≡ Ok true
+  pub unbooked : comes_to (rows_of_csv version.One (record { terms = free ∷ []; pledges = record ring_tendered { standing = record ring_tendered.standing { booking = None } } ∷ [] })) ≡ Ok true
+  pub whole : comes_to (rows_of_csv version.Two ring_book) ≡ Ok true
+  pub extended : comes_to (rows_of_csv version.Two extended_book) ≡ Ok true
   -- the first version knows no extension
-  pub first_version : comes_to (rows_of version.One extended_book) ≡ Err cause.BadField
+  pub first_version : comes_to (rows_of_csv version.One extended_book) ≡ Err cause.BadField
   -- no row at all, and rows that are wanting
   pub empty : comes_to [] ≡ Ok false
   pub wanting : comes_to (Row.Book version.Two 1 1 ∷ Row.Terms 1 free ∷ []) ≡ Ok false

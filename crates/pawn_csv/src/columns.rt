@@ -5,9 +5,11 @@ ghost use Rattle.pawn_terms.specs.Calendar.{day_text, IsStampDay};
 ghost use Rattle.pawn_debt.specs.Due.{credit_of};
 ghost use Rattle.pawn_pledge.specs.Secret.{secret_text};
 ghost use Rattle.pawn_book.specs.Written.{IsWord};
-ghost use Rattle.pawn_csv.specs.Columns.{version_text, yes_text, kind_text, closing_text, issue_text, sort_text, state_text, text_if_any, IsAny};
+ghost use Rattle.pawn_debt.specs.Words.{sort_text};
+ghost use Rattle.pawn_pledge.specs.Words.{state_text};
+ghost use Rattle.pawn_csv.specs.Columns.{form_text, yes_text, kind_text, closing_text, issue_text, text_if_any, IsAny};
 ghost use Rattle.pawn_csv.specs.Rows.{IsShort};
-ghost use Rattle.pawn_csv.specs.Spelling.{Reads, column_at, AreBlankFrom, IsTextColumn, IsShortIfAny, IsStampDayIfAny};
+ghost use Rattle.pawn_csv.specs.Spelling.{ReadsAs, column_at, AreBlankFrom, IsTextColumn, IsShortIfAny, IsStampDayIfAny};
 
 use crate::row::{ClosingWord, Version};
 use csv::ByteRecord;
@@ -28,7 +30,7 @@ pub(crate) fn column(columns: &ByteRecord, place: usize) -> &[u8]
 
 // The number that a column spells.
 pub(crate) fn read_number(field: &[u8]) -> Option<u64>
-    ensures value { Reads decimal IsShort field.now result }
+    ensures value { ReadsAs decimal IsShort field.now result }
 {
     let Ok(text) = str::from_utf8(field) else {
         return None;
@@ -49,7 +51,7 @@ pub(crate) fn read_number(field: &[u8]) -> Option<u64>
 
 // The day that a column spells.
 pub(crate) fn read_day(field: &[u8]) -> Option<Day>
-    ensures value { Reads day_text IsStampDay field.now result }
+    ensures value { ReadsAs day_text IsStampDay field.now result }
 {
     match Day::of_text(field) {
         Ok(day) => Some(day),
@@ -59,7 +61,7 @@ pub(crate) fn read_day(field: &[u8]) -> Option<Day>
 
 // The secret that a column spells.
 pub(crate) fn read_secret(field: &[u8]) -> Option<Secret>
-    ensures value { Reads secret_text IsWord field.now result }
+    ensures value { ReadsAs secret_text IsWord field.now result }
 {
     let Some(secret) = Secret::of_text(field) else {
         return None;
@@ -77,7 +79,7 @@ pub(crate) fn read_secret(field: &[u8]) -> Option<Secret>
 
 // The version that a column spells.
 pub(crate) fn read_version(field: &[u8]) -> Option<Version>
-    ensures value { Reads version_text IsAny field.now result }
+    ensures value { ReadsAs form_text IsAny field.now result }
 {
     match field {
         b"1" => Some(Version::One),
@@ -88,7 +90,7 @@ pub(crate) fn read_version(field: &[u8]) -> Option<Version>
 
 // The answer that a column spells.
 pub(crate) fn read_yes(field: &[u8]) -> Option<bool>
-    ensures value { Reads yes_text IsAny field.now result }
+    ensures value { ReadsAs yes_text IsAny field.now result }
 {
     match field {
         b"yes" => Some(true),
@@ -99,7 +101,7 @@ pub(crate) fn read_yes(field: &[u8]) -> Option<bool>
 
 // How a column says that a pledge was closed.
 pub(crate) fn read_closing(field: &[u8]) -> Option<ClosingWord>
-    ensures value { Reads closing_text IsAny field.now result }
+    ensures value { ReadsAs closing_text IsAny field.now result }
 {
     match field {
         b"open" => Some(ClosingWord::Open),
@@ -111,7 +113,7 @@ pub(crate) fn read_closing(field: &[u8]) -> Option<ClosingWord>
 
 // How a column says that a secret was issued.
 pub(crate) fn read_issue(field: &[u8]) -> Option<Issue>
-    ensures value { Reads issue_text IsAny field.now result }
+    ensures value { ReadsAs issue_text IsAny field.now result }
 {
     match field {
         b"opening" => Some(Issue::Opening),
@@ -123,7 +125,7 @@ pub(crate) fn read_issue(field: &[u8]) -> Option<Issue>
 
 // What a column says that an entry is.
 pub(crate) fn read_sort(field: &[u8]) -> Option<Sort>
-    ensures value { Reads sort_text IsAny field.now result }
+    ensures value { ReadsAs sort_text IsAny field.now result }
 {
     match field {
         b"draw" => Some(Sort::Draw),
@@ -134,7 +136,7 @@ pub(crate) fn read_sort(field: &[u8]) -> Option<Sort>
 
 // Where a column says that a booking stands.
 pub(crate) fn read_state(field: &[u8]) -> Option<BookingState>
-    ensures value { Reads state_text IsAny field.now result }
+    ensures value { ReadsAs state_text IsAny field.now result }
 {
     match field {
         b"asked" => Some(BookingState::Asked),
@@ -147,7 +149,7 @@ pub(crate) fn read_state(field: &[u8]) -> Option<BookingState>
 
 // The number that a column spells, if it is not empty.
 pub(crate) fn read_number_if_any(field: &[u8]) -> Option<Option<u64>>
-    ensures value { Reads (text_if_any decimal) IsShortIfAny field.now result }
+    ensures value { ReadsAs (text_if_any decimal) IsShortIfAny field.now result }
 {
     if field.is_empty() {
         return Some(None);
@@ -160,7 +162,7 @@ pub(crate) fn read_number_if_any(field: &[u8]) -> Option<Option<u64>>
 
 // The day that a column spells, if it is not empty.
 pub(crate) fn read_day_if_any(field: &[u8]) -> Option<Option<Day>>
-    ensures value { Reads (text_if_any day_text) IsStampDayIfAny field.now result }
+    ensures value { ReadsAs (text_if_any day_text) IsStampDayIfAny field.now result }
 {
     if field.is_empty() {
         return Some(None);
@@ -173,7 +175,7 @@ pub(crate) fn read_day_if_any(field: &[u8]) -> Option<Option<Day>>
 
 // The day of an agreed end that a column spells, if it is not empty.
 pub(crate) fn read_agreed(field: &[u8]) -> Option<Option<RequestDay>>
-    ensures value { Reads (text_if_any day_text) IsStampDayIfAny field.now result }
+    ensures value { ReadsAs (text_if_any day_text) IsStampDayIfAny field.now result }
 {
     if field.is_empty() {
         return Some(None);
@@ -190,7 +192,7 @@ pub(crate) fn read_text<const MOST: usize>(
     field: &[u8],
 ) -> Result<Option<Text<MOST>>, AllocError>
     ensures value { IfOk result
-        (λ text. Reads (λ (bytes : List ℕ). bytes) (IsTextColumn MOST) field.now text) }
+        (λ text. ReadsAs (λ (bytes : List ℕ). bytes) (IsTextColumn MOST) field.now text) }
 {
     let Ok(text) = str::from_utf8(field) else {
         return Ok(None);

@@ -11,9 +11,9 @@ ghost use Rattle.pawn_book.specs.Keeping.{Reads, IsSteady, entries_of, extension
 ghost use Rattle.pawn_book.specs.Visits.{call_end};
 ghost use Rattle.pawn_view.specs.Ends.{write_failed, writing_inner};
 ghost use Rattle.pawn_view.specs.Shown.{IsQuietView};
-ghost use Rattle.pawn_csv.specs.Rows.{booking_rows, entry_rows, extension_rows, pledge_rows, secret_rows, terms_rows};
-ghost use Rattle.pawn_csv.specs.Sent.{Puts, PutsShare, has_ended, line_of};
-ghost use Rattle.pawn_csv.specs.Exports.{Exports, PutsAt, ending_of, entry_line, extension_line, secret_line, text_of};
+ghost use Rattle.pawn_csv.specs.Rows.{booking_csv_rows, entry_rows, extension_rows, pledge_csv_rows, secret_rows, terms_rows};
+ghost use Rattle.pawn_csv.specs.Sent.{PutsRow, PutsRowsShare, has_ended, text_of_row};
+ghost use Rattle.pawn_csv.specs.Exports.{Exports, PutsAt, sink_ending, entry_row_text, extension_line, secret_line, text_of};
 
 use crate::writing::{
     Sink, put_book, put_booking, put_entry, put_extension, put_header, put_pledge, put_secret,
@@ -81,7 +81,7 @@ impl<W: Write> Visitor<Issued> for RowWriter<W> {
 }
 
 impl<W: Write> Visitor<Entry> for RowWriter<W> {
-    ghost step = { λ v entry flow w. PutsAt W.contents entry_line v entry flow w };
+    ghost step = { λ v entry flow w. PutsAt W.contents entry_row_text v entry flow w };
 
     fn visit(&mut self, entry: &Entry) -> Flow {
         put_entry(&mut self.sink, self.number, entry);
@@ -106,8 +106,8 @@ fn put_secrets<K: Keep, W: Write>(
     rows: &mut RowWriter<W>,
 ) -> Result<(), KeepError>
     ensures shares { Reads K.keeping keep.old keep.new (λ h. IsSound h
-        → PutsShare W.contents rows.old.sink
-        (flat_map line_of (secret_rows number 1 (secrets_of (pledge_in (get h.books book) number))))
+        → PutsRowsShare W.contents rows.old.sink
+        (flat_map text_of_row (secret_rows number 1 (secrets_of (pledge_in (get h.books book) number))))
         (call_end result) rows.new.sink) }
     ensures steady { IsSteady K.keeping keep.old result }
 {
@@ -127,8 +127,8 @@ fn put_entries<K: Keep, W: Write>(
     ensures shares { Reads K.keeping keep.old keep.new
         (λ h. IsSound h → (p : PledgeValue) → pledge_in (get h.books book) number ≡ Some p
         → brief.now ≡ brief_of p
-        → PutsShare W.contents rows.old.sink
-        (flat_map line_of (entry_rows number (entries_of (pledge_in (get h.books book) number))))
+        → PutsRowsShare W.contents rows.old.sink
+        (flat_map text_of_row (entry_rows number (entries_of (pledge_in (get h.books book) number))))
         (call_end result) rows.new.sink) }
     ensures steady { IsSteady K.keeping keep.old result }
 {
@@ -148,8 +148,8 @@ fn put_extensions<K: Keep, W: Write>(
     ensures shares { Reads K.keeping keep.old keep.new
         (λ h. IsSound h → (p : PledgeValue) → pledge_in (get h.books book) number ≡ Some p
         → brief.now ≡ brief_of p
-        → PutsShare W.contents rows.old.sink
-        (flat_map line_of
+        → PutsRowsShare W.contents rows.old.sink
+        (flat_map text_of_row
         (extension_rows number 1 (extensions_of (pledge_in (get h.books book) number))))
         (call_end result) rows.new.sink) }
     ensures steady { IsSteady K.keeping keep.old result }
@@ -161,8 +161,8 @@ fn put_extensions<K: Keep, W: Write>(
 
 // Puts the booking of a pledge, if one stands.
 fn put_booked<W: Write>(sink: &mut Sink<W>, number: Number, booking: Option<Booking>)
-    ensures puts { Puts W.contents sink.old
-        (flat_map line_of (booking_rows number booking)) sink.new }
+    ensures puts { PutsRow W.contents sink.old
+        (flat_map text_of_row (booking_csv_rows number booking)) sink.new }
 {
     match booking {
         Some(booking) => put_booking(sink, u64::from(number.get()), booking),
@@ -181,7 +181,7 @@ fn put_record<K: Keep, W: Write>(
     ensures shares { Reads K.keeping keep.old keep.new
         (λ h. IsSound h → (p : PledgeValue) → pledge_in (get h.books book) number ≡ Some p
         → brief.now ≡ brief_of p
-        → PutsShare W.contents rows.old.sink (flat_map line_of (pledge_rows p))
+        → PutsRowsShare W.contents rows.old.sink (flat_map text_of_row (pledge_csv_rows p))
         (call_end result) rows.new.sink) }
     ensures steady { IsSteady K.keeping keep.old result }
 {
@@ -212,8 +212,8 @@ fn put_versions<K: Keep, W: Write>(
 ) -> Result<(), KeepError>
     ensures shares { Reads K.keeping keep.old keep.new
         (λ h. count ≡ length (terms_of (get h.books book))
-        → PutsShare W.contents rows.old.sink
-        (flat_map line_of (terms_rows 1 (terms_of (get h.books book))))
+        → PutsRowsShare W.contents rows.old.sink
+        (flat_map text_of_row (terms_rows 1 (terms_of (get h.books book))))
         (call_end result) rows.new.sink) }
     ensures steady { IsSteady K.keeping keep.old result }
 {
@@ -236,8 +236,8 @@ fn put_pledges<K: Keep, W: Write>(
 ) -> Result<(), KeepError>
     ensures shares { Reads K.keeping keep.old keep.new
         (λ h. IsSound h → count ≡ length (pledges_of (get h.books book))
-        → PutsShare W.contents rows.old.sink
-        (flat_map line_of (flat_map pledge_rows (pledges_of (get h.books book))))
+        → PutsRowsShare W.contents rows.old.sink
+        (flat_map text_of_row (flat_map pledge_csv_rows (pledges_of (get h.books book))))
         (call_end result) rows.new.sink) }
     ensures steady { IsSteady K.keeping keep.old result }
 {
@@ -267,9 +267,9 @@ fn put_rows<K: Keep, W: Write>(
 ) -> Result<(), KeepError>
     ensures shares { Reads K.keeping keep.old keep.new
         (λ h. IsSound h → (at : BookValue) → get h.books book ≡ Some at → head.now ≡ book_head at
-        → PutsShare W.contents rows.old.sink
-        (flat_map line_of (terms_rows 1 at.terms) ++ flat_map line_of
-        (flat_map pledge_rows at.pledges)) (call_end result) rows.new.sink) }
+        → PutsRowsShare W.contents rows.old.sink
+        (flat_map text_of_row (terms_rows 1 at.terms) ++ flat_map text_of_row
+        (flat_map pledge_csv_rows at.pledges)) (call_end result) rows.new.sink) }
     ensures steady { IsSteady K.keeping keep.old result }
 {
     match put_versions(keep, book, head.terms, rows) {
@@ -280,7 +280,7 @@ fn put_rows<K: Keep, W: Write>(
 
 // How an export ends, once its rows were put.
 fn ending<W>(done: Result<(), KeepError>, sink: &Sink<W>) -> Result<(), ViewFault>
-    ensures answer { result ≡ ending_of done sink.now }
+    ensures answer { result ≡ sink_ending done sink.now }
 {
     if sink.has_failed() {
         return Err(ViewFault::Write);

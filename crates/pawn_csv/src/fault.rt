@@ -1,6 +1,6 @@
 //! Why a text is no book.
 ghost use Rattle.std.specs.Prelude.{◌≡◌};
-ghost use Rattle.pawn_csv.specs.Fault.{code_of, name_of};
+ghost use Rattle.pawn_csv.specs.Fault.{cause_code, cause_name};
 
 use std::error::Error;
 use std::fmt;
@@ -37,7 +37,7 @@ pub struct CsvFault {
 impl CsvFault {
     /// The fault's number in replies.
     pub fn code(self) -> u16
-        ensures value { result ≡ code_of self.cause }
+        ensures value { result ≡ cause_code self.cause }
     {
         match self.cause {
             Cause::Csv => 601,
@@ -53,7 +53,7 @@ impl CsvFault {
 
     /// The fault's name in replies.
     pub fn name(self) -> &'static str
-        ensures value { result.now ≡ name_of self.cause }
+        ensures value { result.now ≡ cause_name self.cause }
     {
         match self.cause {
             Cause::Csv => "Csv",
@@ -70,9 +70,9 @@ impl CsvFault {
 
 impl fmt::Display for CsvFault {
     ghost use Rattle.std.specs.Prelude.{Some};
-    ghost use Rattle.pawn_csv.specs.Fault.{name_of};
+    ghost use Rattle.pawn_csv.specs.Fault.{cause_name};
 
-    ghost output = { λ fault. Some (name_of fault.cause) };
+    ghost output = { λ fault. Some (cause_name fault.cause) };
 
     fn fmt<W: fmt::Write>(&self, f: &mut fmt::Formatter<W>) -> fmt::Result {
         f.write_str(self.name())

@@ -1,7 +1,7 @@
 //! The order of a book's rows.
 ghost use Rattle.std.specs.Prelude.{◌≡◌, Some, length};
-ghost use Rattle.pawn_csv.specs.Order.{begun_of, has_secret, is_whole, may_end, on_hand, on_second, place, place_after, place_before, place_booking, place_entry, place_extension, place_pledge, place_secret, place_terms, pledges_of, raw_pledge, view_begun};
-ghost use Rattle.pawn_csv.specs.Answers.{Answers, Gives, Places};
+ghost use Rattle.pawn_csv.specs.Order.{begun_of, has_secret, is_whole, may_end, on_hand, on_second, place, place_after, place_before, place_booking, place_entry, place_extension, place_pledge, place_secret, place_terms, pledges_begun, raw_pledge, view_begun};
+ghost use Rattle.pawn_csv.specs.Answers.{AnswersBegun, GivesAs, Places};
 
 use crate::fault::Cause;
 use crate::row::{PledgeColumns, Row, Version};
@@ -126,7 +126,7 @@ pub(crate) struct BegunBook {
 
 // The book that a first row begins.
 fn begin(alloc: Global, row: &Row) -> Result<BegunBook, Cause>
-    ensures answer { Gives view_begun (place_before row.now) result }
+    ensures answer { GivesAs view_begun (place_before row.now) result }
 {
     let Row::Book {
         version,
@@ -152,7 +152,7 @@ fn begin(alloc: Global, row: &Row) -> Result<BegunBook, Cause>
 impl BegunBook {
     // How many pledges there are so far.
     fn count_pledges(&self) -> u64
-        ensures value { result ≡ length (pledges_of (view_begun self.now)) }
+        ensures value { result ≡ length (pledges_begun (view_begun self.now)) }
     {
         let over = self.pledges.len() as u64;
         if self.at_hand.is_some() {
@@ -330,7 +330,7 @@ pub(crate) struct RawBook {
 impl RawBook {
     /// Takes the next row.
     pub(crate) fn place(&mut self, alloc: Global, row: Row) -> Result<(), Cause>
-        ensures answer { Answers (place (begun_of self.old) row) result (begun_of self.new) }
+        ensures answer { AnswersBegun (place (begun_of self.old) row) result (begun_of self.new) }
     {
         match &mut self.begun {
             Some(begun) => begun.place(alloc, row),

@@ -1,8 +1,8 @@
 //! Rows from their columns.
 ghost use Rattle.std.specs.Prelude.{◌≡◌, ◌↔◌, IfOk, IfNone, IfSome, IsTrue, codes, length};
 ghost use Rattle.csv.specs.Records.{fields_of};
-ghost use Rattle.pawn_csv.specs.Rows.{AreColumns, Fits, header, pledge_fields, row_fields};
-ghost use Rattle.pawn_csv.specs.Spelling.{IsOpeningOf, Reads, column_at};
+ghost use Rattle.pawn_csv.specs.Rows.{AreColumns, FitsColumns, header, pledge_fields, row_fields};
+ghost use Rattle.pawn_csv.specs.Spelling.{IsOpeningOf, ReadsAs, column_at};
 
 use crate::columns::{
     are_blank, column, read_agreed, read_closing, read_day, read_day_if_any, read_issue, read_kind,
@@ -18,7 +18,7 @@ use std::alloc::{AllocError, Global};
 fn read_book_row(columns: &ByteRecord) -> Option<Row>
     requires wide { length (fields_of columns.now) ≡ 15 }
     requires letter { column_at (fields_of columns.now) 0 ≡ codes "B" }
-    ensures value { Reads row_fields Fits (fields_of columns.now) result }
+    ensures value { ReadsAs row_fields FitsColumns (fields_of columns.now) result }
 {
     let version = read_version(column(columns, 1))?;
     let terms = read_number(column(columns, 2))?;
@@ -37,7 +37,7 @@ fn read_book_row(columns: &ByteRecord) -> Option<Row>
 fn read_terms_row(columns: &ByteRecord) -> Option<Row>
     requires wide { length (fields_of columns.now) ≡ 15 }
     requires letter { column_at (fields_of columns.now) 0 ≡ codes "T" }
-    ensures value { Reads row_fields Fits (fields_of columns.now) result }
+    ensures value { ReadsAs row_fields FitsColumns (fields_of columns.now) result }
 {
     let version = read_number(column(columns, 1))?;
     let rate = read_number(column(columns, 2))?;
@@ -60,7 +60,7 @@ fn read_terms_row(columns: &ByteRecord) -> Option<Row>
 fn read_secret_row(columns: &ByteRecord) -> Option<Row>
     requires wide { length (fields_of columns.now) ≡ 15 }
     requires letter { column_at (fields_of columns.now) 0 ≡ codes "S" }
-    ensures value { Reads row_fields Fits (fields_of columns.now) result }
+    ensures value { ReadsAs row_fields FitsColumns (fields_of columns.now) result }
 {
     let number = read_number(column(columns, 1))?;
     let place = read_number(column(columns, 2))?;
@@ -81,7 +81,7 @@ fn read_secret_row(columns: &ByteRecord) -> Option<Row>
 fn read_entry_row(columns: &ByteRecord) -> Option<Row>
     requires wide { length (fields_of columns.now) ≡ 15 }
     requires letter { column_at (fields_of columns.now) 0 ≡ codes "E" }
-    ensures value { Reads row_fields Fits (fields_of columns.now) result }
+    ensures value { ReadsAs row_fields FitsColumns (fields_of columns.now) result }
 {
     let number = read_number(column(columns, 1))?;
     let seq = read_number(column(columns, 2))?;
@@ -106,7 +106,7 @@ fn read_entry_row(columns: &ByteRecord) -> Option<Row>
 fn read_extension_row(columns: &ByteRecord) -> Option<Row>
     requires wide { length (fields_of columns.now) ≡ 15 }
     requires letter { column_at (fields_of columns.now) 0 ≡ codes "X" }
-    ensures value { Reads row_fields Fits (fields_of columns.now) result }
+    ensures value { ReadsAs row_fields FitsColumns (fields_of columns.now) result }
 {
     let number = read_number(column(columns, 1))?;
     let place = read_number(column(columns, 2))?;
@@ -126,7 +126,7 @@ fn read_extension_row(columns: &ByteRecord) -> Option<Row>
 fn read_booking_row(columns: &ByteRecord) -> Option<Row>
     requires wide { length (fields_of columns.now) ≡ 15 }
     requires letter { column_at (fields_of columns.now) 0 ≡ codes "K" }
-    ensures value { Reads row_fields Fits (fields_of columns.now) result }
+    ensures value { ReadsAs row_fields FitsColumns (fields_of columns.now) result }
 {
     let number = read_number(column(columns, 1))?;
     let day = read_day(column(columns, 2))?;
@@ -176,7 +176,7 @@ fn with_opening(columns: &ByteRecord, opening: Opening) -> Option<PledgeColumns>
     requires wide { length (fields_of columns.now) ≡ 15 }
     requires letter { column_at (fields_of columns.now) 0 ≡ codes "P" }
     requires opening { IsOpeningOf (fields_of columns.now) opening }
-    ensures value { Reads pledge_fields AreColumns (fields_of columns.now) result }
+    ensures value { ReadsAs pledge_fields AreColumns (fields_of columns.now) result }
 {
     let number = read_number(column(columns, 1))?;
     let taken = read_day(column(columns, 6))?;
@@ -203,7 +203,7 @@ fn with_opening(columns: &ByteRecord, opening: Opening) -> Option<PledgeColumns>
 fn read_pledge_row(alloc: Global, columns: &ByteRecord) -> Result<Option<Row>, AllocError>
     requires wide { length (fields_of columns.now) ≡ 15 }
     requires letter { column_at (fields_of columns.now) 0 ≡ codes "P" }
-    ensures value { IfOk result (λ row. Reads row_fields Fits (fields_of columns.now) row) }
+    ensures value { IfOk result (λ row. ReadsAs row_fields FitsColumns (fields_of columns.now) row) }
 {
     let Some(opening) = read_opening(alloc, columns)? else {
         return Ok(None);
@@ -217,7 +217,7 @@ fn read_pledge_row(alloc: Global, columns: &ByteRecord) -> Result<Option<Row>, A
 // The row that fifteen columns spell.
 pub(crate) fn read_row(alloc: Global, columns: &ByteRecord) -> Result<Option<Row>, AllocError>
     requires wide { length (fields_of columns.now) ≡ 15 }
-    ensures value { IfOk result (λ row. Reads row_fields Fits (fields_of columns.now) row) }
+    ensures value { IfOk result (λ row. ReadsAs row_fields FitsColumns (fields_of columns.now) row) }
 {
     match column(columns, 0) {
         b"B" => Ok(read_book_row(columns)),

@@ -2,11 +2,11 @@
 ghost use Rattle.std.specs.Prelude.{◌≡◌, decimal};
 ghost use Rattle.pawn_terms.specs.Calendar.{day_text};
 ghost use Rattle.pawn_pledge.specs.Secret.{secret_text};
-ghost use Rattle.pawn_csv.specs.Columns.{yes_text, kind_text, closing_text, issue_text, sort_text, state_text, text_if_any};
+ghost use Rattle.pawn_csv.specs.Columns.{yes_text, kind_text, closing_text, issue_text, text_if_any};
 ghost use Rattle.pawn_csv.specs.Rows.{closing_word, closing_day, closing_amount};
 
 use itoa::Buffer;
-use pawn_book::{BookingState, Closing, Day, Issue, Kind, Secret, Sort};
+use pawn_book::{Closing, Day, Issue, Kind, Secret};
 use uuid::Uuid;
 
 // `yes` or `no`.
@@ -70,28 +70,6 @@ pub(crate) fn issue_word(issue: Issue) -> &'static [u8]
         Issue::Opening => b"opening",
         Issue::Sworn => b"sworn",
         Issue::Written => b"written",
-    }
-}
-
-// `draw` or `repay`.
-pub(crate) fn sort_word(sort: Sort) -> &'static [u8]
-    ensures value { result.now ≡ sort_text sort }
-{
-    match sort {
-        Sort::Draw => b"draw",
-        Sort::Repay => b"repay",
-    }
-}
-
-// `asked`, `confirmed`, `refused` or `cancelled`.
-pub(crate) fn state_word(state: BookingState) -> &'static [u8]
-    ensures value { result.now ≡ state_text state }
-{
-    match state {
-        BookingState::Asked => b"asked",
-        BookingState::Confirmed => b"confirmed",
-        BookingState::Refused => b"refused",
-        BookingState::Cancelled => b"cancelled",
     }
 }
 

@@ -1,6 +1,6 @@
-ghost use Rattle.pawn_csv.specs.WorkedTexts.{WorkedTexts};
+ghost use Rattle.pawn_csv.specs.WorkedTexts.{WorkedRowTexts};
 
 /// Rows that are taken, and rows that are refused.
 pub fn worked_texts()
-    ensures texts { WorkedTexts }
+    ensures texts { WorkedRowTexts }
 {}

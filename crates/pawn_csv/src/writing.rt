@@ -5,13 +5,13 @@ ghost use Rattle.pawn_debt.specs.Due.{credit_of};
 ghost use Rattle.csv.specs.Writing.{default_writer, row_text};
 ghost use Rattle.pawn_view.specs.Ends.{writing_inner, write_failed};
 ghost use Rattle.pawn_csv.specs.Rows.{header};
-ghost use Rattle.pawn_csv.specs.Sent.{Puts, brief_columns, has_ended, line_of};
+ghost use Rattle.pawn_csv.specs.Sent.{PutsRow, brief_columns, has_ended, text_of_row};
 ghost use Rattle.pawn_csv.specs.declared.row.Row.{Row};
 ghost use Rattle.pawn_csv.specs.declared.row.Version.TheVariants as version;
 
 use crate::words::{
     closing_amount, closing_day, closing_word, day_if_any, issue_word, kind_word, number_if_any,
-    secret_text, sort_word, state_word, yes_word,
+    secret_text, yes_word,
 };
 use csv::Writer;
 use itoa::Buffer;
@@ -82,7 +82,7 @@ fn row_text(alloc: Global, columns: &[&[u8]]) -> Result<Vec<u8>, AllocError>
 
 /// Puts a row of these columns, unless one before it was not written whole.
 pub(crate) fn put_row<W: Write>(sink: &mut Sink<W>, columns: &[&[u8]])
-    ensures puts { Puts W.contents sink.old
+    ensures puts { PutsRow W.contents sink.old
         (row_text default_writer (map (λ c. c.now) columns.now)) sink.new }
 {
     if sink.has_ended() {
@@ -96,7 +96,7 @@ pub(crate) fn put_row<W: Write>(sink: &mut Sink<W>, columns: &[&[u8]])
 
 /// The names of the columns.
 pub(crate) fn put_header<W: Write>(sink: &mut Sink<W>)
-    ensures puts { Puts W.contents sink.old (row_text default_writer header) sink.new }
+    ensures puts { PutsRow W.contents sink.old (row_text default_writer header) sink.new }
 {
     put_row(
         sink,
@@ -109,8 +109,8 @@ pub(crate) fn put_header<W: Write>(sink: &mut Sink<W>)
 
 /// `B,2,1,1`: a text of the second version, with so many versions of terms and so many pledges.
 pub(crate) fn put_book<W: Write>(sink: &mut Sink<W>, terms: u64, pledges: u64)
-    ensures puts { Puts W.contents sink.old
-        (line_of (Row.Book version.Two terms pledges)) sink.new }
+    ensures puts { PutsRow W.contents sink.old
+        (text_of_row (Row.Book version.Two terms pledges)) sink.new }
 {
     put_row(
         sink,
@@ -136,7 +136,7 @@ pub(crate) fn put_book<W: Write>(sink: &mut Sink<W>, terms: u64, pledges: u64)
 
 /// `T,1,0,0,0`: a version of the terms.
 pub(crate) fn put_terms<W: Write>(sink: &mut Sink<W>, version: u64, rates: Rates)
-    ensures puts { Puts W.contents sink.old (line_of (Row.Terms version rates)) sink.new }
+    ensures puts { PutsRow W.contents sink.old (text_of_row (Row.Terms version rates)) sink.new }
 {
     put_row(
         sink,
@@ -163,8 +163,8 @@ pub(crate) fn put_terms<W: Write>(sink: &mut Sink<W>, version: u64, rates: Rates
 /// `P,1,A1,Gold ring,fixed,10000,2024-01-31,,no,1,no,2024-02-01,open,,`: what was agreed when a
 /// pledge was taken, and how it stands.
 pub(crate) fn put_pledge<W: Write>(sink: &mut Sink<W>, brief: &BriefFields)
-    ensures puts { Puts W.contents sink.old
-        (line_of (Row.Pledge (brief_columns brief.now))) sink.new }
+    ensures puts { PutsRow W.contents sink.old
+        (text_of_row (Row.Pledge (brief_columns brief.now))) sink.new }
 {
     let opening = &brief.agreement.opening;
     let standing = &brief.standing;
@@ -197,7 +197,7 @@ fn put_columns<'a, W: Write>(
     closed: &'a [u8],
     amount: &'a [u8],
 )
-    ensures puts { Puts W.contents sink.old (row_text default_writer (
+    ensures puts { PutsRow W.contents sink.old (row_text default_writer (
         codes "P" ∷ decimal brief.now.agreement.number ∷ reference.now ∷ article.now ∷ kind.now ∷ decimal (credit_of brief.now.agreement.opening.kind)
         ∷ day_text brief.now.agreement.taken ∷ agreed.now ∷ five_days.now ∷ decimal
         brief.now.agreement.version ∷ held.now
@@ -241,8 +241,8 @@ fn agreed_end(agreed: Option<RequestDay>) -> Option<Day>
 
 /// `S,1,2,2024-02-01,sworn,00000000-0000-0000-0000-000000000004`: a secret, at its place from 1.
 pub(crate) fn put_secret<W: Write>(sink: &mut Sink<W>, number: u64, place: u64, issued: &Issued)
-    ensures puts { Puts W.contents sink.old
-        (line_of (Row.Secret number place issued.now)) sink.new }
+    ensures puts { PutsRow W.contents sink.old
+        (text_of_row (Row.Secret number place issued.now)) sink.new }
 {
     put_row(
         sink,
@@ -268,7 +268,7 @@ pub(crate) fn put_secret<W: Write>(sink: &mut Sink<W>, number: u64, place: u64, 
 
 /// `E,1,1,2024-02-01,repay,1000`: an entry.
 pub(crate) fn put_entry<W: Write>(sink: &mut Sink<W>, number: u64, entry: &Entry)
-    ensures puts { Puts W.contents sink.old (line_of (Row.Entry number entry.now)) sink.new }
+    ensures puts { PutsRow W.contents sink.old (text_of_row (Row.Entry number entry.now)) sink.new }
 {
     put_row(
         sink,
@@ -277,7 +277,7 @@ pub(crate) fn put_entry<W: Write>(sink: &mut Sink<W>, number: u64, entry: &Entry
             Buffer::new().format(number).as_bytes(),
             Buffer::new().format(entry.seq).as_bytes(),
             &entry.day.text(),
-            sort_word(entry.sort),
+            entry.sort.word().as_bytes(),
             Buffer::new().format(entry.pence).as_bytes(),
             b"",
             b"",
@@ -299,8 +299,8 @@ pub(crate) fn put_extension<W: Write>(
     place: u64,
     extension: &Extension,
 )
-    ensures puts { Puts W.contents sink.old
-        (line_of (Row.Extension number place extension.now)) sink.new }
+    ensures puts { PutsRow W.contents sink.old
+        (text_of_row (Row.Extension number place extension.now)) sink.new }
 {
     put_row(
         sink,
@@ -326,7 +326,7 @@ pub(crate) fn put_extension<W: Write>(
 
 /// `K,1,2024-02-10,3,asked`: a booking.
 pub(crate) fn put_booking<W: Write>(sink: &mut Sink<W>, number: u64, booking: Booking)
-    ensures puts { Puts W.contents sink.old (line_of (Row.Booking number booking)) sink.new }
+    ensures puts { PutsRow W.contents sink.old (text_of_row (Row.Booking number booking)) sink.new }
 {
     put_row(
         sink,
@@ -335,7 +335,7 @@ pub(crate) fn put_booking<W: Write>(sink: &mut Sink<W>, number: u64, booking: Bo
             Buffer::new().format(number).as_bytes(),
             &booking.day.text(),
             Buffer::new().format(booking.window).as_bytes(),
-            state_word(booking.state),
+            booking.state.word().as_bytes(),
             b"",
             b"",
             b"",

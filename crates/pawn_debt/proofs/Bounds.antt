@@ -14,7 +14,7 @@ use Rattle.pawn_debt.specs.declared.entry.Sort.{Sort}
 use Rattle.pawn_debt.specs.declared.entry.Sort.TheVariants.{Draw, Repay}
 use Rattle.pawn_debt.specs.Due.{Due, DebtValue, due, due_after, after_days, keep_on, last_of, AreOrdered, after_sort, first_principal, credit_of}
 use Rattle.pawn_debt.specs.Answers.{draw_rows, repay_rows, with_entry}
-use Rattle.pawn_debt.specs.Replay.{IsAccepted, AreAccepted, sort_answer}
+use Rattle.pawn_debt.specs.Replay.{IsEntryAccepted, AreEntriesAccepted, sort_answer}
 use Rattle.pawn_debt.proofs.DueLemmas.{after_days-principal}
 use Rattle.pawn_debt.proofs.EntryLemmas.{due-from-last, due-pushed, due-start, pushed}
 use Rattle.pawn_debt.specs.Limits.{most_pence, most_a_day}
@@ -73,7 +73,7 @@ entered-bounded p Repay x pence credit b h =
     let early : nat_lt x (last_of p.taken p.entries) ≡ false = a.0.0 in
     (omega (arith, b.principal), omega (arith, b.millionths), grind (arith, nat_tests, early))
 
-next-running : (p : DebtValue) (e : Entry) → IsChecked p.terms → credit_of p.kind ≤ most_pence → IsRunning p → IsAccepted p e → IsRunning (pushed p e)
+next-running : (p : DebtValue) (e : Entry) → IsChecked p.terms → credit_of p.kind ≤ most_pence → IsRunning p → IsEntryAccepted p e → IsRunning (pushed p e)
 next-running p e h credit r ok =
     let low = last_by-le (λ (e : Entry). e.day) p.taken p.entries r.ordered in
     let late = late_of p e.sort e.day e.pence ok.1 in
@@ -98,7 +98,7 @@ next-running p e h credit r ok =
         let early : nat_lt x (last_of p.taken p.entries) ≡ false = a.0.0 in
         grind (arith, nat_tests, early)
 
-all-running : (d : DebtValue) (prior es : List Entry) → IsChecked d.terms → credit_of d.kind ≤ most_pence → IsRunning (record d { entries = prior }) → AreAccepted d prior es → IsRunning (record d { entries = prior ++ es })
+all-running : (d : DebtValue) (prior es : List Entry) → IsChecked d.terms → credit_of d.kind ≤ most_pence → IsRunning (record d { entries = prior }) → AreEntriesAccepted d prior es → IsRunning (record d { entries = prior ++ es })
 all-running d prior [] h credit r ok =
     let R : List Entry → Type 0 = λ l. IsRunning (record d { entries = l }) in
     subst R (sym (append-nil prior)) r
@@ -124,5 +124,5 @@ none-running d credit low =
     }
 
 -- so a debt whose entries were accepted in turn is within the bounds on the day of the last
-pub accepted-bounded : (d : DebtValue) → IsChecked d.terms → credit_of d.kind ≤ most_pence → AreAccepted d [] d.entries → IsBounded d (last_of d.taken d.entries)
+pub accepted-bounded : (d : DebtValue) → IsChecked d.terms → credit_of d.kind ≤ most_pence → AreEntriesAccepted d [] d.entries → IsBounded d (last_of d.taken d.entries)
 accepted-bounded d h credit ok = (all-running d [] d.entries h credit (none-running d credit (first-low d.kind)) ok).bounded

@@ -6,13 +6,13 @@ use Rattle.pawn_debt.specs.declared.entry.Entry.{Entry}
 use Rattle.pawn_debt.specs.declared.owing.Totals.{Totals}
 use Rattle.pawn_debt.specs.declared.entry.Sort.{Sort}
 use Rattle.pawn_debt.specs.Due.{Due, DebtValue, due, after_days, last_of, after_sort, due_after, first_principal, credit_of}
-use Rattle.pawn_debt.specs.Kept.{IsKept, sums_of}
+use Rattle.pawn_debt.specs.Kept.{IsDebtKept, sums_of}
 use Rattle.pawn_debt.specs.Answers.{with_entry}
 use Rattle.pawn_debt.proofs.EntryLemmas.{due-from-last, due-pushed, due-start, due-extended}
 use Rattle.pawn_debt.specs.Limits.{most_pence, most_entries, most_a_day}
 
 -- what is owed on a later day; v is the value that a contract sees, and p what the fields hold
-pub owed-later : (p v : DebtValue) (t : Totals) (x : ℕ) → IsKept p t → p ≡ v → last_of v.taken v.entries ≤ x → after_days p.terms p.ends t.day (x - t.day) (sums_of t) ≡ due v x
+pub owed-later : (p v : DebtValue) (t : Totals) (x : ℕ) → IsDebtKept p t → p ≡ v → last_of v.taken v.entries ≤ x → after_days p.terms p.ends t.day (x - t.day) (sums_of t) ≡ due v x
 owed-later p v t x h is late =
     let P : DebtValue → Type 0 = λ q. last_of q.taken q.entries ≤ x in
     let held : last_of p.taken p.entries ≤ x = subst P (sym is) late in
@@ -21,7 +21,7 @@ owed-later p v t x h is late =
     ∙ due-from-last p x h.ordered held ∙ ap (λ (q : DebtValue). due q x) is
 
 -- and a bound on its charges
-pub millionths-later : (p v : DebtValue) (t : Totals) (x charges : ℕ) → IsKept p t → p ≡ v → last_of v.taken v.entries ≤ x → charges ≤ t.millionths + (x - t.day) * most_a_day → charges ≤ (x - v.taken) * most_a_day
+pub millionths-later : (p v : DebtValue) (t : Totals) (x charges : ℕ) → IsDebtKept p t → p ≡ v → last_of v.taken v.entries ≤ x → charges ≤ t.millionths + (x - t.day) * most_a_day → charges ≤ (x - v.taken) * most_a_day
 millionths-later p v t x charges h is late small =
     let P : DebtValue → Type 0 = λ q. last_of q.taken q.entries ≤ x in
     let Q : DebtValue → Type 0 = λ q. charges ≤ (x - q.taken) * most_a_day in
@@ -31,9 +31,9 @@ millionths-later p v t x charges h is late small =
     subst Q is bound
 
 -- one more entry keeps all of it
-pub IsKept-entry : (p : DebtValue) (t after : Totals) (sort : Sort) (pence : ℕ) → IsKept p t → last_of p.taken p.entries ≤ after.day → length p.entries < most_entries
+pub IsKept-entry : (p : DebtValue) (t after : Totals) (sort : Sort) (pence : ℕ) → IsDebtKept p t → last_of p.taken p.entries ≤ after.day → length p.entries < most_entries
     → sums_of after ≡ after_sort sort pence (due p after.day) → after.principal ≤ most_pence → after.millionths ≤ (after.day - p.taken) * most_a_day → IsDayNumber after.day
-    → IsKept (with_entry p after.day sort pence) after
+    → IsDebtKept (with_entry p after.day sort pence) after
 IsKept-entry p t after sort pence h late few owed principal charges day =
     let e : Entry = record { seq = length p.entries + 1; day = after.day; sort = sort; pence = pence } in
     let low = last_by-le (λ (e : Entry). e.day) p.taken p.entries h.ordered in
@@ -58,21 +58,21 @@ pub record CanEnter (v : DebtValue) (after : Totals) (sort : Sort) (pence : ℕ)
   pub millionths_in : after.millionths ≤ (after.day - v.taken) * most_a_day
   pub in_range : IsDayNumber after.day
 
-pub IsKept-enter : (p v : DebtValue) (t after : Totals) (sort : Sort) (pence n : ℕ) (es : List Entry) → IsKept p t → p ≡ v → CanEnter v after sort pence
+pub IsKept-enter : (p v : DebtValue) (t after : Totals) (sort : Sort) (pence n : ℕ) (es : List Entry) → IsDebtKept p t → p ≡ v → CanEnter v after sort pence
     → n ≡ length p.entries → es ≡ p.entries ++ record { seq = n + 1; day = after.day; sort = sort; pence = pence } ∷ []
-    → IsKept (record p { entries = es }) after
+    → IsDebtKept (record p { entries = es }) after
 IsKept-enter p v t after sort pence n es h is can len entries =
     let P : DebtValue → Type 0 = λ q. CanEnter q after sort pence in
     let a = subst P (sym is) can in
     let kept = IsKept-entry p t after sort pence h a.later a.few a.owed a.principal_in a.millionths_in a.in_range in
-    let K : List Entry → Type 0 = λ l. IsKept (record p { entries = l }) after in
+    let K : List Entry → Type 0 = λ l. IsDebtKept (record p { entries = l }) after in
     let e : es ≡ p.entries ++ record { seq = length p.entries + 1; day = after.day; sort = sort; pence = pence } ∷ [] =
     entries ∙ ap (λ (k : ℕ). p.entries ++ record { seq = k + 1; day = after.day; sort = sort; pence = pence } ∷ []) len in
     subst K (sym e) kept
 
 -- a debt with no entries
 pub IsKept-start : (p : DebtValue) (principal : ℕ) → p.entries ≡ [] → principal ≡ first_principal p.kind → credit_of p.kind ≤ most_pence → first_principal p.kind ≤ credit_of p.kind → IsDayNumber p.taken
-    → IsKept p (record { day = p.taken; principal = principal; millionths = 0 })
+    → IsDebtKept p (record { day = p.taken; principal = principal; millionths = 0 })
 IsKept-start p principal none first small low day =
     let start : due_after p 0 ≡ record { principal = first_principal p.kind; millionths = 0 } = due-start p none in
     record {
@@ -88,7 +88,7 @@ IsKept-start p principal none first small low day =
     }
 
 -- a longer period keeps what was kept, where the last entry was inside the old one
-pub IsKept-extended : (p v : DebtValue) (t : Totals) (ends : ℕ) → IsKept p t → p ≡ v → v.ends ≤ ends → last_of v.taken v.entries ≤ v.ends → IsKept (record p { ends = ends }) t
+pub IsKept-extended : (p v : DebtValue) (t : Totals) (ends : ℕ) → IsDebtKept p t → p ≡ v → v.ends ≤ ends → last_of v.taken v.entries ≤ v.ends → IsDebtKept (record p { ends = ends }) t
 IsKept-extended p v t ends h is later inside =
     let P : DebtValue → Type 0 = λ q. (q.ends ≤ ends) × (last_of q.taken q.entries ≤ q.ends) in
     let a : P p = subst P (sym is) (later, inside) in
@@ -106,9 +106,9 @@ IsKept-extended p v t ends h is later inside =
     }
 
 -- one more entry, as it stands
-pub IsKept-next : (p : DebtValue) (t after : Totals) (e : Entry) (s : Sort) → IsKept p t → t.day ≤ e.day → length p.entries < most_entries → e.sort ≡ s → after.day ≡ e.day
+pub IsKept-next : (p : DebtValue) (t after : Totals) (e : Entry) (s : Sort) → IsDebtKept p t → t.day ≤ e.day → length p.entries < most_entries → e.sort ≡ s → after.day ≡ e.day
     → sums_of after ≡ after_sort s e.pence (due p e.day) → after.principal ≤ most_pence → after.millionths ≤ (e.day - p.taken) * most_a_day → IsDayNumber e.day
-    → IsKept (record p { entries = p.entries ++ e ∷ [] }) after
+    → IsDebtKept (record p { entries = p.entries ++ e ∷ [] }) after
 IsKept-next p t after e s h late few sort same owed principal charges day =
     let low = last_by-le (λ (e : Entry). e.day) p.taken p.entries h.ordered in
     let D : ℕ → Type 0 = λ x. IsDayNumber x in

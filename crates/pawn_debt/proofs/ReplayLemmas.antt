@@ -11,7 +11,7 @@ use Rattle.pawn_debt.specs.Due.{Due, DebtValue, due, credit_of, last_of, AreOrde
 use Rattle.pawn_debt.specs.Owing.{total_of}
 use Rattle.pawn_debt.proofs.EntryLemmas.{due-extended}
 use Rattle.pawn_debt.specs.Answers.{draw_rows, repay_rows, with_entry}
-use Rattle.pawn_debt.specs.Replay.{sort_answer, IsAccepted, AreAccepted}
+use Rattle.pawn_debt.specs.Replay.{sort_answer, IsEntryAccepted, AreEntriesAccepted}
 use Rattle.pawn_debt.specs.Limits.{most_entries}
 
 -- tests on numbers
@@ -31,50 +31,50 @@ sort_answer-ok Repay p v x pence h =
     (not_below x (last_of p.taken p.entries) a.0.0, not_most most_entries (length p.entries) a.0.1.1.0, cc)
 
 -- entries that are accepted in turn, and then one more
-pub AreAccepted-push : (d : DebtValue) (prior es : List Entry) (e : Entry) → AreAccepted d prior es → IsAccepted (record d { entries = prior ++ es }) e → AreAccepted d prior (es ++ e ∷ [])
+pub AreAccepted-push : (d : DebtValue) (prior es : List Entry) (e : Entry) → AreEntriesAccepted d prior es → IsEntryAccepted (record d { entries = prior ++ es }) e → AreEntriesAccepted d prior (es ++ e ∷ [])
 AreAccepted-push d prior [] e h last =
-    let P : List Entry → Type 0 = λ l. IsAccepted (record d { entries = l }) e in
+    let P : List Entry → Type 0 = λ l. IsEntryAccepted (record d { entries = l }) e in
     (subst P (append-nil prior) last, tt)
 AreAccepted-push d prior (f ∷ es) e h last =
-    let P : List Entry → Type 0 = λ l. IsAccepted (record d { entries = l }) e in
+    let P : List Entry → Type 0 = λ l. IsEntryAccepted (record d { entries = l }) e in
     (h.0, AreAccepted-push d (prior ++ f ∷ []) es e h.1 (subst P (sym (append_assoc prior (f ∷ []) es)) last))
 
 -- so the entry after some is accepted after them
-pub AreAccepted-next : (d : DebtValue) (prior es : List Entry) (e : Entry) (rest : List Entry) → AreAccepted d prior (es ++ e ∷ rest) → IsAccepted (record d { entries = prior ++ es }) e
+pub AreAccepted-next : (d : DebtValue) (prior es : List Entry) (e : Entry) (rest : List Entry) → AreEntriesAccepted d prior (es ++ e ∷ rest) → IsEntryAccepted (record d { entries = prior ++ es }) e
 AreAccepted-next d prior [] e rest h =
-    let P : List Entry → Type 0 = λ l. IsAccepted (record d { entries = l }) e in
+    let P : List Entry → Type 0 = λ l. IsEntryAccepted (record d { entries = l }) e in
     subst P (sym (append-nil prior)) h.0
 AreAccepted-next d prior (f ∷ es) e rest h =
-    let P : List Entry → Type 0 = λ l. IsAccepted (record d { entries = l }) e in
+    let P : List Entry → Type 0 = λ l. IsEntryAccepted (record d { entries = l }) e in
     subst P (append_assoc prior (f ∷ []) es) (AreAccepted-next d (prior ++ f ∷ []) es e rest h.1)
 
 -- one more of a list
-pub AreAccepted-more : (d : DebtValue) (es : List Entry) (i : ℕ) (x : Entry) → i < length es → AreAccepted d [] (take i es) → IsAccepted (record d { entries = take i es }) (get_or es i x) → AreAccepted d [] (take (i + 1) es)
+pub AreAccepted-more : (d : DebtValue) (es : List Entry) (i : ℕ) (x : Entry) → i < length es → AreEntriesAccepted d [] (take i es) → IsEntryAccepted (record d { entries = take i es }) (get_or es i x) → AreEntriesAccepted d [] (take (i + 1) es)
 AreAccepted-more d es i x lt h last =
-    let P : List Entry → Type 0 = λ l. AreAccepted d [] l in
+    let P : List Entry → Type 0 = λ l. AreEntriesAccepted d [] l in
     subst P (sym (take_more es i x lt)) (AreAccepted-push d [] (take i es) (get_or es i x) h last)
 
 split : (es : List Entry) (i : ℕ) (x : Entry) → i < length es → take i es ++ get_or es i x ∷ drop (i + 1) es ≡ es
 split es i x lt = ap (λ (l : List Entry). take i es ++ l) (sym (drop_more es i x lt)) ∙ take-append-drop i es
 
 -- one that is refused
-pub AreAccepted-not : (d : DebtValue) (es : List Entry) (i : ℕ) (x : Entry) → i < length es → (IsAccepted (record d { entries = take i es }) (get_or es i x) → ⊥) → AreAccepted d [] es → ⊥
+pub AreAccepted-not : (d : DebtValue) (es : List Entry) (i : ℕ) (x : Entry) → i < length es → (IsEntryAccepted (record d { entries = take i es }) (get_or es i x) → ⊥) → AreEntriesAccepted d [] es → ⊥
 AreAccepted-not d es i x lt refused h =
-    let P : List Entry → Type 0 = λ l. AreAccepted d [] l in
+    let P : List Entry → Type 0 = λ l. AreEntriesAccepted d [] l in
     refused (AreAccepted-next d [] (take i es) (get_or es i x) (drop (i + 1) es) (subst P (sym (split es i x lt)) h))
 
 -- the same of an element that was read
 pub taken-more : (es : List Entry) (i : ℕ) (e : Entry) → i < length es → e ≡ get_or es i e → take i es ++ e ∷ [] ≡ take (i + 1) es
 taken-more es i e lt is = ap (λ (x : Entry). take i es ++ x ∷ []) is ∙ sym (take_more es i e lt)
 
-pub accepted-more : (d : DebtValue) (es : List Entry) (i : ℕ) (e : Entry) → i < length es → e ≡ get_or es i e → AreAccepted d [] (take i es) → IsAccepted (record d { entries = take i es }) e → AreAccepted d [] (take (i + 1) es)
+pub accepted-more : (d : DebtValue) (es : List Entry) (i : ℕ) (e : Entry) → i < length es → e ≡ get_or es i e → AreEntriesAccepted d [] (take i es) → IsEntryAccepted (record d { entries = take i es }) e → AreEntriesAccepted d [] (take (i + 1) es)
 accepted-more d es i e lt is h last =
-    let P : List Entry → Type 0 = λ l. AreAccepted d [] l in
+    let P : List Entry → Type 0 = λ l. AreEntriesAccepted d [] l in
     subst P (taken-more es i e lt is) (AreAccepted-push d [] (take i es) e h last)
 
-pub accepted-not : (d : DebtValue) (es : List Entry) (i : ℕ) (e : Entry) → i < length es → e ≡ get_or es i e → (IsAccepted (record d { entries = take i es }) e → ⊥) → AreAccepted d [] es → ⊥
+pub accepted-not : (d : DebtValue) (es : List Entry) (i : ℕ) (e : Entry) → i < length es → e ≡ get_or es i e → (IsEntryAccepted (record d { entries = take i es }) e → ⊥) → AreEntriesAccepted d [] es → ⊥
 accepted-not d es i e lt is refused h =
-    let P : Entry → Type 0 = λ x. (IsAccepted (record d { entries = take i es }) x → ⊥) in
+    let P : Entry → Type 0 = λ x. (IsEntryAccepted (record d { entries = take i es }) x → ⊥) in
     AreAccepted-not d es i e lt (subst P is refused) h
 
 -- a later end changes no answer on a day inside the old one
@@ -90,7 +90,7 @@ sort_answer-ended Repay d ends x pence same h =
     let e : nat_lt (total_of (due p x)) pence ≡ false = ap (λ (o : Due). nat_lt (total_of o) pence) same ∙ a.1.1.1.0 in
     first_of-accepts (repay_rows p x pence) (with_entry p x Repay pence) (a.0, (a.1.0, (a.1.1.0, (e, tt))))
 
-IsAccepted-ended : (d : DebtValue) (ends : ℕ) (e : Entry) → d.ends ≤ ends → d.taken ≤ e.day → e.day ≤ d.ends → IsAccepted d e → IsAccepted (record d { ends = ends }) e
+IsAccepted-ended : (d : DebtValue) (ends : ℕ) (e : Entry) → d.ends ≤ ends → d.taken ≤ e.day → e.day ≤ d.ends → IsEntryAccepted d e → IsEntryAccepted (record d { ends = ends }) e
 IsAccepted-ended d ends e later low high h = (h.0, sort_answer-ended e.sort d ends e.day e.pence (due-extended d ends e.day later high low) h.1)
 
 -- each entry's day is from the day taken to the end
@@ -99,7 +99,7 @@ AreInside d [] = Unit {0}
 AreInside d (e ∷ es) = ((d.taken ≤ e.day) × (e.day ≤ d.ends)) × AreInside d es
 
 -- and so the entries stay accepted
-pub AreAccepted-ended : (d : DebtValue) (ends : ℕ) (prior es : List Entry) → d.ends ≤ ends → AreInside d es → AreAccepted d prior es → AreAccepted (record d { ends = ends }) prior es
+pub AreAccepted-ended : (d : DebtValue) (ends : ℕ) (prior es : List Entry) → d.ends ≤ ends → AreInside d es → AreEntriesAccepted d prior es → AreEntriesAccepted (record d { ends = ends }) prior es
 AreAccepted-ended d ends prior [] later days h = tt
 AreAccepted-ended d ends prior (e ∷ es) later days h = (
   IsAccepted-ended (record d { entries = prior }) ends e later days.0.0 days.0.1 h.0,

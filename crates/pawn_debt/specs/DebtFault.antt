@@ -4,24 +4,24 @@ use Rattle.pawn_debt.specs.declared.fault.DebtFault.{DebtFault}
 use Rattle.pawn_debt.specs.declared.fault.DebtFault.TheVariants.{BadAmount, FixedSum, OverLimit, OverOwing, EarlierDay, EntriesFull, Memory}
 
 -- the fault's number
-abbrev pub code_of : DebtFault → ℕ
-code_of BadAmount = 201
-code_of FixedSum = 202
-code_of OverLimit = 203
-code_of (OverOwing total) = 204
-code_of EarlierDay = 205
-code_of EntriesFull = 206
-code_of Memory = 491
+abbrev pub debt_fault_code : DebtFault → ℕ
+debt_fault_code BadAmount = 201
+debt_fault_code FixedSum = 202
+debt_fault_code OverLimit = 203
+debt_fault_code (OverOwing total) = 204
+debt_fault_code EarlierDay = 205
+debt_fault_code EntriesFull = 206
+debt_fault_code Memory = 491
 
 -- the fault's name
-abbrev pub name_of : DebtFault → List ℕ
-name_of BadAmount = codes "BadAmount"
-name_of FixedSum = codes "FixedSum"
-name_of OverLimit = codes "OverLimit"
-name_of (OverOwing total) = codes "OverOwing"
-name_of EarlierDay = codes "EarlierDay"
-name_of EntriesFull = codes "EntriesFull"
-name_of Memory = codes "Memory"
+abbrev pub debt_fault_name : DebtFault → List ℕ
+debt_fault_name BadAmount = codes "BadAmount"
+debt_fault_name FixedSum = codes "FixedSum"
+debt_fault_name OverLimit = codes "OverLimit"
+debt_fault_name (OverOwing total) = codes "OverOwing"
+debt_fault_name EarlierDay = codes "EarlierDay"
+debt_fault_name EntriesFull = codes "EntriesFull"
+debt_fault_name Memory = codes "Memory"
 
 -- what was owing, where more was paid
 abbrev pub fault_total : DebtFault → Option ℕ

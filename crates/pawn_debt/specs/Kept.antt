@@ -18,7 +18,7 @@ totals_of p = record {
 }
 
 -- the totals are what is owed on the day of the last entry, and all numbers keep their limits
-pub record IsKept (p : DebtValue) (t : Totals) : Type 0 where
+pub record IsDebtKept (p : DebtValue) (t : Totals) : Type 0 where
   pub ordered : AreOrdered p.taken p.entries
   pub day : t.day ≡ last_of p.taken p.entries
   pub owed : sums_of t ≡ due p t.day

@@ -1,5 +1,6 @@
 pub mod Limits
 pub mod Due
+pub mod Words
 pub mod Owing
 pub mod DebtFault
 pub mod Answers

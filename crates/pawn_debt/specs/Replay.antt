@@ -14,15 +14,15 @@ sort_answer Draw p day pence = draw_answer p day pence
 sort_answer Repay p day pence = repay_answer p day pence
 
 -- the rules accept an entry: it has the next number and is not refused
-abbrev pub IsAccepted : DebtValue → Entry → Type 0
-IsAccepted p e = (e.seq ≡ length p.entries + 1) × IsOk (sort_answer e.sort p e.day e.pence)
+abbrev pub IsEntryAccepted : DebtValue → Entry → Type 0
+IsEntryAccepted p e = (e.seq ≡ length p.entries + 1) × IsOk (sort_answer e.sort p e.day e.pence)
 
 -- the rules accept each entry in turn, after those before it
-abbrev pub AreAccepted : DebtValue → List Entry → List Entry → Type 0
-AreAccepted debt prior [] = Unit {0}
-AreAccepted debt prior (e ∷ es) =
-    IsAccepted (record debt { entries = prior }) e × AreAccepted debt (prior ++ e ∷ []) es
+abbrev pub AreEntriesAccepted : DebtValue → List Entry → List Entry → Type 0
+AreEntriesAccepted debt prior [] = Unit {0}
+AreEntriesAccepted debt prior (e ∷ es) =
+    IsEntryAccepted (record debt { entries = prior }) e × AreEntriesAccepted debt (prior ++ e ∷ []) es
 
 -- a debt that can have come about
 abbrev pub CanStand : DebtValue → Type 0
-CanStand p = (1 ≤ credit_of p.kind) × (credit_of p.kind ≤ most_pence) × AreAccepted p [] p.entries
+CanStand p = (1 ≤ credit_of p.kind) × (credit_of p.kind ≤ most_pence) × AreEntriesAccepted p [] p.entries

@@ -3,7 +3,7 @@ ghost use Rattle.pawn_terms.specs.Calendar.{IsDayNumber};
 ghost use Rattle.pawn_debt.specs.Due.{due, last_of, credit_of, after_sort};
 ghost use Rattle.pawn_debt.specs.Owing.{owing_of};
 ghost use Rattle.pawn_debt.specs.Answers.{start_answer, draw_answer, repay_answer, with_entry, IsAnswer};
-ghost use Rattle.pawn_debt.specs.Kept.{IsKept, sums_of, totals_of};
+ghost use Rattle.pawn_debt.specs.Kept.{IsDebtKept, sums_of, totals_of};
 ghost use Rattle.pawn_debt.specs.Replay.{CanStand};
 ghost use Rattle.pawn_debt.specs.Limits.{most_pence, most_entries, most_a_day, most_millionths};
 
@@ -29,7 +29,7 @@ pub struct Debt {
 
 impl Model for Debt {
     ghost use Rattle.pawn_debt.specs.Due.{DebtValue};
-    ghost use Rattle.pawn_debt.specs.Kept.{IsKept};
+    ghost use Rattle.pawn_debt.specs.Kept.{IsDebtKept};
 
     ghost Value = { DebtValue };
 
@@ -41,7 +41,7 @@ impl Model for Debt {
       entries = a.entries;
     } };
 
-    ghost invariant = { λ a. IsKept (record
+    ghost invariant = { λ a. IsDebtKept (record
         { kind = a.kind; terms = a.terms; taken = a.taken; ends = a.ends; entries = a.entries })
         a.totals };
 }
@@ -84,7 +84,7 @@ impl Debt {
         entries: Entries,
         totals: Totals,
     ) -> Debt
-        requires kept { IsKept (record
+        requires kept { IsDebtKept (record
             { kind = kind; terms = terms; taken = taken; ends = ends; entries = entries }) totals }
         ensures value { result ≡ record
             { kind = kind; terms = terms; taken = taken; ends = ends; entries = entries } }

@@ -1,5 +1,6 @@
 ghost use Rattle.std.specs.Prelude.{find, ◌==◌, ◌≡◌, ◌≤◌};
 ghost use Rattle.pawn_debt.specs.Due.{credit_of, first_principal};
+ghost use Rattle.pawn_debt.specs.Words.{sort_text};
 
 use crate::rows::Rows;
 use pawn_terms::Day;
@@ -41,6 +42,18 @@ impl Kind {
 pub enum Sort {
     Draw,
     Repay,
+}
+
+impl Sort {
+    /// The word for it in replies, statements and CSV: `draw` or `repay`.
+    pub fn word(self) -> &'static str
+        ensures word { result.now ≡ sort_text self }
+    {
+        match self {
+            Sort::Draw => "draw",
+            Sort::Repay => "repay",
+        }
+    }
 }
 
 /// A drawing or a repayment: its number among the debt's entries, from 1, its day, and its pence.

@@ -2,8 +2,8 @@ ghost use Rattle.std.specs.Prelude.{◌≡◌, ◌-◌, ◌*◌, ◌≤◌, [], 
 ghost use Rattle.pawn_terms.specs.Calendar.{IsDayNumber};
 ghost use Rattle.pawn_debt.specs.Due.{credit_of, due};
 ghost use Rattle.pawn_debt.specs.Owing.{owing_of};
-ghost use Rattle.pawn_debt.specs.Kept.{IsKept, sums_of};
-ghost use Rattle.pawn_debt.specs.Replay.{IsAccepted, AreAccepted};
+ghost use Rattle.pawn_debt.specs.Kept.{IsDebtKept, sums_of};
+ghost use Rattle.pawn_debt.specs.Replay.{IsEntryAccepted, AreEntriesAccepted};
 ghost use Rattle.pawn_debt.specs.Limits.{most_pence, most_a_day};
 
 use crate::entry::{Entry, Kind, Sort};
@@ -21,7 +21,7 @@ fn owed_at(
     totals: &Totals,
     day: Day,
 ) -> Totals
-    requires kept { IsKept (record
+    requires kept { IsDebtKept (record
         { kind = kind; terms = terms; taken = taken; ends = ends; entries = prior.now })
         totals.now }
     requires later { totals.now.day ≤ day }
@@ -47,15 +47,15 @@ fn accept(
     totals: &Totals,
     e: &Entry,
 ) -> Option<Totals>
-    requires kept { IsKept (record
+    requires kept { IsDebtKept (record
         { kind = kind; terms = terms; taken = taken; ends = ends; entries = prior.now })
         totals.now }
     ensures accepted { IfSome result
-        (λ t. IsAccepted
+        (λ t. IsEntryAccepted
         (record { kind = kind; terms = terms; taken = taken; ends = ends; entries = prior.now })
         e.now) }
     ensures kept { IfSome result
-        (λ t. IsKept (record {
+        (λ t. IsDebtKept (record {
           kind = kind;
           terms = terms;
           taken = taken;
@@ -63,7 +63,7 @@ fn accept(
           entries = prior.now ++ e.now ∷ [];
         }) t) }
     ensures refused { IfNone result
-        (IsAccepted (record
+        (IsEntryAccepted (record
         { kind = kind; terms = terms; taken = taken; ends = ends; entries = prior.now }) e.now
         → ⊥) }
 {
@@ -102,7 +102,7 @@ fn accept(
 // What is owed before there are entries.
 fn first_totals(kind: Kind, terms: Terms, taken: Day, ends: Day) -> Totals
     requires within { credit_of kind ≤ most_pence }
-    ensures kept { IsKept (record
+    ensures kept { IsDebtKept (record
         { kind = kind; terms = terms; taken = taken; ends = ends; entries = [] }) result }
 {
     let _ = taken.count();
@@ -123,14 +123,14 @@ pub fn replay_entries(
 ) -> Option<Totals>
     requires within { credit_of kind ≤ most_pence }
     ensures kept { IfSome result
-        (λ t. IsKept (record
+        (λ t. IsDebtKept (record
         { kind = kind; terms = terms; taken = taken; ends = ends; entries = entries.now }) t) }
     ensures accepted { IfSome result
-        (λ t. AreAccepted
+        (λ t. AreEntriesAccepted
         (record { kind = kind; terms = terms; taken = taken; ends = ends; entries = entries.now })
         [] entries.now) }
     ensures refused { IfNone result
-        (AreAccepted (record
+        (AreEntriesAccepted (record
         { kind = kind; terms = terms; taken = taken; ends = ends; entries = entries.now }) []
         entries.now → ⊥) }
 {
@@ -162,7 +162,7 @@ pub fn owing_at(
     totals: &Totals,
     day: Day,
 ) -> Owing
-    requires kept { IsKept (record
+    requires kept { IsDebtKept (record
         { kind = kind; terms = terms; taken = taken; ends = ends; entries = entries.now })
         totals.now }
     requires later { totals.now.day ≤ day }

@@ -9,7 +9,7 @@ use Rattle.pawn_book.specs.Keeping.{Keeping, Reads}
 use Rattle.pawn_book.specs.Plans.{IsLeftByStep, next_host}
 use Rattle.pawn_book.specs.Runs.{Mark, read_as, no_memory, no_store, host_after_event, host_after_mark}
 use Rattle.pawn_wire.specs.declared.fault.WireFault.{WireFault}
-use Rattle.pawn_host.specs.Run.{Item, event_of, host_after}
+use Rattle.pawn_host.specs.Run.{Item, event_of, host_after_run}
 use Rattle.pawn_host.specs.Crashes.{IsDone, IsLeftByMark, IsLeftByRun, IsLeftWhole, IsOneMore}
 use Rattle.pawn_host.specs.Keeps.{Start, Kept, GoesTo, GoesBy, start_after}
 
@@ -46,7 +46,7 @@ seen_from before now = record { Steady = before.Steady; operator = before.operat
 pub goes_from : (before now : Start) (items : List Item) (kept : Kept) → now.operator ≡ before.operator → ((left : Host) → now.leaves left → before.leaves left)
     → GoesBy now items kept → GoesBy (seen_from before now) items kept
 goes_from before now items kept same wider goes =
-    goes_wider (subst (λ (o : ℕ). GoesTo kept (host_after now.host o items) (IsLeftByRun now.host o items now.leaves)) same goes)
+    goes_wider (subst (λ (o : ℕ). GoesTo kept (host_after_run now.host o items) (IsLeftByRun now.host o items now.leaves)) same goes)
     (run_wider now.host before.operator items now.leaves before.leaves wider)
 
 -- ---- a call that changes nothing
@@ -62,12 +62,12 @@ goes_read reads honest h at sound = record { stands_for = reads.same honest h at
 
 -- ---- two runs in turn
 
-pub host_after-append : (h : Host) (operator : ℕ) (a b : List Item) → host_after h operator (a ++ b) ≡ host_after (host_after h operator a) operator b
+pub host_after-append : (h : Host) (operator : ℕ) (a b : List Item) → host_after_run h operator (a ++ b) ≡ host_after_run (host_after_run h operator a) operator b
 host_after-append h operator [] b = refl
 host_after-append h operator (x ∷ a) b = host_after-append (host_after_event h operator (event_of x)) operator a b
 
 pub left_by-append : (h : Host) (operator : ℕ) (a b : List Item) (before : Host → Type 0) (left : Host)
-    → IsLeftByRun (host_after h operator a) operator b (IsLeftByRun h operator a before) left → IsLeftByRun h operator (a ++ b) before left
+    → IsLeftByRun (host_after_run h operator a) operator b (IsLeftByRun h operator a before) left → IsLeftByRun h operator (a ++ b) before left
 left_by-append h operator [] b before left by = by
 left_by-append h operator (x ∷ a) b before left by =
     left_by-append (host_after_event h operator (event_of x)) operator a b (IsLeftByMark h operator x.stamp x.bytes x.mark before) left by
@@ -107,7 +107,7 @@ whole_item h operator stamp bytes no_store before left (inr done) = more (inr re
 -- .. after the items of a run
 abbrev IsWhole : Host → ℕ → List Item → (Host → Type 0) → Host → Type 0
 IsWhole h operator items before left =
-    (before left × (host_after h operator items ≡ h)) ⊎ (left ≡ host_after h operator items) ⊎ IsOneMore (host_after h operator items) operator items left
+    (before left × (host_after_run h operator items ≡ h)) ⊎ (left ≡ host_after_run h operator items) ⊎ IsOneMore (host_after_run h operator items) operator items left
 
 whole_run : (h : Host) (operator : ℕ) (items : List Item) (before : Host → Type 0) (left : Host) → IsLeftByRun h operator items before left → IsWhole h operator items before left
 whole_run h operator [] before left by = inl (by, refl)
@@ -116,11 +116,11 @@ whole_run h operator (x ∷ items) before left by = from (whole_run next operato
     next : Host
     next = host_after_event h operator (event_of x)
 
-    here : host_after next operator items ≡ next → WholeItem h operator x.stamp x.bytes x.mark before left → IsWhole h operator (x ∷ items) before left
+    here : host_after_run next operator items ≡ next → WholeItem h operator x.stamp x.bytes x.mark before left → IsWhole h operator (x ∷ items) before left
     here still (same was unchanged) = inl (was, still ∙ unchanged)
     here still (after is) = inr (inl (is ∙ sym still))
     here still (more unwell unchanged done) =
-        let at : left ≡ next_host (host_after next operator items) operator x.stamp done.0 = done.2 ∙ ap (λ (g : Host). next_host g operator x.stamp done.0) (sym (still ∙ unchanged)) in
+        let at : left ≡ next_host (host_after_run next operator items) operator x.stamp done.0 = done.2 ∙ ap (λ (g : Host). next_host g operator x.stamp done.0) (sym (still ∙ unchanged)) in
         inr (inr record { place = 0; item = x; there = refl; unwell = unwell; done = (done.0, done.1, at) })
 
     from : IsWhole next operator items (IsLeftByMark h operator x.stamp x.bytes x.mark before) left → IsWhole h operator (x ∷ items) before left

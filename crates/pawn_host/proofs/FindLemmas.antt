@@ -11,7 +11,7 @@ use Rattle.pawn_wire.specs.declared.head.HeadRead.TheVariants.{Partial, Fault}
 use Rattle.pawn_wire.specs.declared.head.HeadFacts.{HeadFacts}
 use Rattle.pawn_wire.proofs.StreamLemmas.{reads_more, bad_head_stays}
 use Rattle.pawn_host.specs.Split.{IsCut, HasFault}
-use Rattle.pawn_host.specs.Finding.{Finds, FindsRest, HasHead, IsCausedBy}
+use Rattle.pawn_host.specs.Finding.{FindsHead, FindsRest, HasHead, IsCausedBy}
 use Rattle.pawn_host.specs.declared.session.Cause.{Cause}
 use Rattle.pawn_host.specs.declared.session.Cause.TheVariants.{Read, Write, Reads}
 use Rattle.pawn_host.specs.declared.session.Rest.{Rest}
@@ -78,19 +78,19 @@ found_short (Some x) b c old f k kept end has short =
     let less : length has.1 < f.body = omega (arith, len, short, has.3.len) in
     subst (λ (s : List ℕ). IsCut s) (sym (all_read x old b c k kept end)) (inr (has.0, has.1, f.body, has.2, has.3.body, less))
 
-pub found_request : (a b : Option (List ℕ)) (old : List ℕ) (f : HeadFacts) → Keeps a (prepend_known old b) → HasHead old f → f.len + f.body ≤ length old → IfSome a (λ s. Finds s (Ok f))
+pub found_request : (a b : Option (List ℕ)) (old : List ℕ) (f : HeadFacts) → Keeps a (prepend_known old b) → HasHead old f → f.len + f.body ≤ length old → IfSome a (λ s. FindsHead s (Ok f))
 found_request None b old f k has fits = tt
 found_request (Some x) None old f k has fits = absurd k
 found_request (Some x) (Some y) old f k has fits =
     let len = rest_length old has.0 has.1 has.2 in
     let more : f.body ≤ length (has.1 ++ y) = omega (arith, length-append has.1 y, len, has.3.len, fits) in
-    subst (λ (s : List ℕ). Finds s (Ok f)) k (has.0, has.1 ++ y, reads_more old y has.0 has.1 has.2, has.3, more)
+    subst (λ (s : List ℕ). FindsHead s (Ok f)) k (has.0, has.1 ++ y, reads_more old y has.0 has.1 has.2, has.3, more)
 
 -- what a later search finds on the stream from its start
-pub found_later : (a b : Option (List ℕ)) (found : Result HeadFacts Rest) → Keeps a b → IfSome b (λ s. Finds s found) → IfSome a (λ s. Finds s found)
+pub found_later : (a b : Option (List ℕ)) (found : Result HeadFacts Rest) → Keeps a b → IfSome b (λ s. FindsHead s found) → IfSome a (λ s. FindsHead s found)
 found_later None b found k h = tt
 found_later (Some x) None found k h = absurd k
-found_later (Some x) (Some y) found k h = subst (λ (s : List ℕ). Finds s found) k h
+found_later (Some x) (Some y) found k h = subst (λ (s : List ℕ). FindsHead s found) k h
 
 -- what stopped a search is not the writer
 pub not_by_writer : (cause : Cause) (failed : Bool) (reads : ℕ) → IsCausedBy cause failed reads false → cause ≢ Write

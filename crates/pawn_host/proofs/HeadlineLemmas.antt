@@ -14,18 +14,18 @@ use Rattle.pawn_book.specs.Traces.{book_trace, slot_trace}
 use Rattle.pawn_book.specs.Machines.{reply_alone, solo_reply}
 use Rattle.pawn_book.proofs.Sounds.{absurd_none, some_is}
 use Rattle.pawn_book.proofs.SlotRuns.{books_answer_alone, slots_answer_alone}
-use Rattle.pawn_wire.specs.Request.{Reads}
+use Rattle.pawn_wire.specs.Request.{SaysRequest}
 use Rattle.pawn_wire.specs.declared.fault.WireFault.{WireFault}
 use Rattle.pawn_wire.proofs.RequestLemmas.{reads_unique}
-use Rattle.pawn_host.specs.Run.{Item, IsMarkOf, IsMarked, event_of, events, host_after, replies, said_text}
+use Rattle.pawn_host.specs.Run.{Item, IsMarkOf, IsMarked, event_of, events, host_after_run, replies, said_text}
 use Rattle.pawn_host.specs.Keeps.{Start, Kept, IsRun}
 use Rattle.pawn_host.specs.Headline.{AnswerAlone, IsRunOfSlots, IsSettled, by_bearer, reply_bytes}
-use Rattle.pawn_host.specs.Laws.{EqualBookTracesAnswerAlike, EqualTracesAnswerAlike, RunsAnswerAlone}
+use Rattle.pawn_host.specs.Laws.{EqualBookTracesReplyAlike, EqualTracesReplyAlike, RunsAnswerAlone}
 use Rattle.pawn_host.proofs.RunMore.{marked_all}
 
 -- the answer at a place is what its item was told
 answer_at : (h : Host) (operator : ℕ) (items : List Item) (i : ℕ) (item : Item) (answer : List ℕ) → slice_get items i ≡ Some item → slice_get (replies h operator items) i ≡ Some answer
-    → answer ≡ said_text (mark_reply (host_after h operator (take i items)) operator item.stamp item.mark)
+    → answer ≡ said_text (mark_reply (host_after_run h operator (take i items)) operator item.stamp item.mark)
 answer_at h operator [] i item answer is told = absurd_none is
 answer_at h operator (x ∷ items) zero item answer is told =
     sym (some_is _ answer told) ∙ ap (λ (y : Item). said_text (mark_reply h operator y.stamp y.mark)) (some_is x item is)
@@ -65,7 +65,7 @@ settled_out (Listed day capacity items) settled = refl
 settled_out (Exported rows) settled = refl
 
 -- bytes that are a request were read as that request
-request_read : (bytes : List ℕ) (request : Request) (said : Result Request WireFault) → Reads bytes (Ok request) → Reads bytes said → said ≡ Ok request
+request_read : (bytes : List ℕ) (request : Request) (said : Result Request WireFault) → SaysRequest bytes (Ok request) → SaysRequest bytes said → said ≡ Ok request
 request_read bytes request said asked read = reads_unique bytes said (Ok request) read asked
 
 -- a settled answer is the host's reply to the request, and that is settled
@@ -74,7 +74,7 @@ pub record IsHostsReply (h : Host) (operator : ℕ) (stamp : Stamp) (request : R
   pub settled : is_settled (out_of (host_step h operator stamp request)) ≡ true
 
 hosts_reply : (Steady : Type 0) (h : Host) (operator : ℕ) (stamp : Stamp) (bytes : List ℕ) (mark : Mark WireFault) (request : Request) (answer : List ℕ)
-    → IsMarkOf Steady bytes mark → answer ≡ said_text (mark_reply h operator stamp mark) → Reads bytes (Ok request) → IsSettled answer → IsHostsReply h operator stamp request answer
+    → IsMarkOf Steady bytes mark → answer ≡ said_text (mark_reply h operator stamp mark) → SaysRequest bytes (Ok request) → IsSettled answer → IsHostsReply h operator stamp request answer
 hosts_reply Steady h operator stamp bytes (read_as said) request answer marked told asked settled =
     let text : answer ≡ reply_bytes (out_of (host_step h operator stamp request)) =
     told ∙ ap (λ (r : Result Request WireFault). said_text (mark_reply h operator stamp (read_as r))) (request_read bytes request said asked marked.0) in
@@ -83,9 +83,9 @@ hosts_reply Steady h operator stamp bytes no_memory request answer marked told a
 hosts_reply Steady h operator stamp bytes no_store request answer marked told asked settled = absurd (settled.2 told)
 
 reply_at : (h : Host) (operator : ℕ) (items : List Item) (i : ℕ) (item : Item) (request : Request) (answer : List ℕ) → All (IsMarked ⊥) items → slice_get items i ≡ Some item → slice_get (replies h operator items) i ≡ Some answer
-    → Reads item.bytes (Ok request) → IsSettled answer → IsHostsReply (host_after h operator (take i items)) operator item.stamp request answer
+    → SaysRequest item.bytes (Ok request) → IsSettled answer → IsHostsReply (host_after_run h operator (take i items)) operator item.stamp request answer
 reply_at h operator items i item request answer marked is told asked settled =
-    hosts_reply ⊥ (host_after h operator (take i items)) operator item.stamp item.bytes item.mark request answer
+    hosts_reply ⊥ (host_after_run h operator (take i items)) operator item.stamp item.bytes item.mark request answer
     (marked_at ⊥ items i item marked is) (answer_at h operator items i item answer is told) asked settled
 
 pub runs_answer_alone : RunsAnswerAlone
@@ -98,14 +98,14 @@ runs_answer_alone h operator items marked = record {
       reply.text ∙ ap reply_bytes (slots_answer_alone h operator b slot (events (take i items)) item.stamp asked mine reply.settled);
 }
 
-pub equal_traces_answer_alike : EqualTracesAnswerAlike
+pub equal_traces_answer_alike : EqualTracesReplyAlike
 equal_traces_answer_alike h g operator items others marked also i j item twin answer other is told twin_is twin_told b slot asked read twin_read stamps mine settled twin_settled same =
     (runs_answer_alone h operator items marked).slots i item answer is told b slot asked read mine settled
     ∙ ap (λ trace. reply_bytes (solo_reply slot trace b item.stamp asked)) same
     ∙ ap (λ (stamp : Stamp). reply_bytes (solo_reply slot (slot_trace b slot g operator (events (take j others))) b stamp asked)) stamps
     ∙ sym ((runs_answer_alone g operator others also).slots j twin other twin_is twin_told b slot asked twin_read mine twin_settled)
 
-pub equal_book_traces_answer_alike : EqualBookTracesAnswerAlike
+pub equal_book_traces_answer_alike : EqualBookTracesReplyAlike
 equal_book_traces_answer_alike h g operator items others marked also i j item twin answer other is told twin_is twin_told request read twin_read stamps settled twin_settled start same =
     (runs_answer_alone h operator items marked).books i item answer is told request read settled
     ∙ ap (λ book. reply_bytes (reply_alone book operator request.book (book_trace request.book h operator (events (take i items))) item.stamp request.caller)) start

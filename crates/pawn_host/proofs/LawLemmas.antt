@@ -5,8 +5,8 @@ use Rattle.httparse.specs.Grammar.{EndsInTarget}
 use Rattle.pawn_pledge.specs.declared.command.Stamp.{Stamp}
 use Rattle.pawn_book.specs.HostStep.{Host}
 use Rattle.pawn_book.specs.Runs.{Mark, read_as, no_memory, no_store, Event, run_host, run_replies}
-use Rattle.pawn_host.specs.Run.{Item, IsMarked, IsMarkOf, input_of, events, said_text, host_after, replies}
-use Rattle.pawn_host.specs.Laws.{refusal_of, refusals, MayGoOn}
+use Rattle.pawn_host.specs.Run.{Item, IsMarked, IsMarkOf, input_of, events, said_text, host_after_run, replies}
+use Rattle.pawn_host.specs.Laws.{refusal_of_mark, refusals, MayGoOn}
 use Rattle.std.specs.Prelude.{nat_le}
 use Rattle.std.proofs.lemmas.Bool.Decides.{nat_tests}
 use Rattle.httparse.specs.Grammar.{HasNoRequest}
@@ -23,7 +23,7 @@ use Rattle.pawn_wire.specs.declared.fault.HeadFault.{HeadFault}
 use Rattle.pawn_wire.specs.declared.fault.HeadFault.TheVariants.{BadHead}
 use Rattle.pawn_wire.proofs.StreamLemmas.{reads_more, bad_head_never, head_some, nil_is_no_bad_head}
 use Rattle.pawn_wire.proofs.RequestLemmas.{reads_unique}
-use Rattle.pawn_host.specs.Split.{Ending, at_end, cut, closed, faulted, at_limit, IsRequest, IsCut, HasFault, Passes, StopsAt, ClosesAfter, Splits, Begins, BeginsAndGoesOn, HasNoWhole, IsWanting}
+use Rattle.pawn_host.specs.Split.{Ending, at_end, cut, closed, faulted, at_limit, IsRequest, IsCut, HasFault, PassesOver, StopsAt, ClosesAfter, Splits, Begins, BeginsAndGoesOn, HasNoWhole, IsWanting}
 use Rattle.pawn_host.specs.Laws.{IsOpen, AreCutAndFault, IsLeftOpen}
 use Rattle.pawn_host.proofs.SplitLemmas.{passes-snoc}
 
@@ -142,14 +142,14 @@ stops_alike (faulted f) (faulted g) n rest x y = inl (ap faulted (faults_same re
 -- ---- one goes on where the other has stopped
 
 abbrev pub GoesOn : List (List ℕ) → List ℕ → List (List ℕ) → List ℕ → Type 0
-GoesOn a p b q = (more : List (List ℕ)) × (b ≡ a ++ more) × Passes p more q
+GoesOn a p b q = (more : List (List ℕ)) × (b ≡ a ++ more) × PassesOver p more q
 
-pub aligned : (s : List ℕ) (a b : List (List ℕ)) (p q : List ℕ) → Passes s a p → Passes s b q → GoesOn a p b q ⊎ GoesOn b q a p
-aligned s [] b p q x y = inl (b, refl, subst (λ (l : List ℕ). Passes l b q) x y)
-aligned s (m ∷ a) [] p q x y = inr (m ∷ a, refl, subst (λ (l : List ℕ). Passes l (m ∷ a) p) y x)
+pub aligned : (s : List ℕ) (a b : List (List ℕ)) (p q : List ℕ) → PassesOver s a p → PassesOver s b q → GoesOn a p b q ⊎ GoesOn b q a p
+aligned s [] b p q x y = inl (b, refl, subst (λ (l : List ℕ). PassesOver l b q) x y)
+aligned s (m ∷ a) [] p q x y = inr (m ∷ a, refl, subst (λ (l : List ℕ). PassesOver l (m ∷ a) p) y x)
 aligned s (m ∷ a) (k ∷ b) p q x y =
     let same = fronts_same m k x.0 y.0 false false (sym x.1 ∙ y.1) x.2 y.2 in
-    elim (aligned y.0 a b p q (subst (λ (l : List ℕ). Passes l a p) same.1 x.3) y.3) [
+    elim (aligned y.0 a b p q (subst (λ (l : List ℕ). PassesOver l a p) same.1 x.3) y.3) [
       | inl z ↦ inl (z.0, (λ i. sym same.0 i ∷ z.1 i), z.2)
       | inr z ↦ inr (z.0, (λ i. same.0 i ∷ z.1 i), z.2)
     ]
@@ -163,7 +163,7 @@ stopped e a p b q s few ([], is, x) = (sym (is ∙ append-nil a), x)
 stopped e a p b q s few (m ∷ ms, is, x) = absurd (none_in_stop e (length a) p s (omega (arith, few, longer a m ms b is)) m x.0 false x.1 x.2)
 
 -- a split that stops does not close
-closes_or_stops : (s : List ℕ) (a b : List (List ℕ)) (e : Ending) (p : List ℕ) → Passes s a p → StopsAt e (length a) p → ClosesAfter s b → ⊥
+closes_or_stops : (s : List ℕ) (a b : List (List ℕ)) (e : Ending) (p : List ℕ) → PassesOver s a p → StopsAt e (length a) p → ClosesAfter s b → ⊥
 closes_or_stops s a b e p x stops y = elim (aligned s a y.0 p (y.1 ++ y.2) x y.3) [
   | inl z ↦ (let same = stopped e a p y.0 (y.1 ++ y.2) stops (omega (arith, y.5)) z in
       none_in_stop e (length a) p stops (subst (λ (l : List (List ℕ)). length l < 1000) (sym same.0) y.5) y.1 y.2 true same.1 y.4)
@@ -211,13 +211,13 @@ open_ends rest x = elim x.0.3 [
   | inr y ↦ inr y
 ]
 
-begins_stop : (s : List ℕ) (requests all : List (List ℕ)) (e : Ending) (p q : List ℕ) → Passes s requests p → length requests ≤ 1000 → Passes s all q → StopsAt e (length all) q → (more : List (List ℕ)) × (all ≡ requests ++ more)
+begins_stop : (s : List ℕ) (requests all : List (List ℕ)) (e : Ending) (p q : List ℕ) → PassesOver s requests p → length requests ≤ 1000 → PassesOver s all q → StopsAt e (length all) q → (more : List (List ℕ)) × (all ≡ requests ++ more)
 begins_stop s requests all e p q x few y stops = elim (aligned s requests all p q x y) [
   | inl z ↦ (z.0, z.1)
   | inr z ↦ (let same = stopped e all q requests p stops few z in ([], same.0 ∙ sym (append-nil requests)))
 ]
 
-begins_close : (s : List ℕ) (requests all : List (List ℕ)) (p : List ℕ) → Passes s requests p → ClosesAfter s all → (more : List (List ℕ)) × (all ≡ requests ++ more)
+begins_close : (s : List ℕ) (requests all : List (List ℕ)) (p : List ℕ) → PassesOver s requests p → ClosesAfter s all → (more : List (List ℕ)) × (all ≡ requests ++ more)
 begins_close s requests all p x y = elim (aligned s requests y.0 p (y.1 ++ y.2) x y.3) [
   | inl z ↦ (z.0 ++ y.1 ∷ [], y.6 ∙ ap (λ (l : List (List ℕ)). l ++ y.1 ∷ []) z.1 ∙ append_assoc requests z.0 (y.1 ∷ []))
   | inr z ↦ back z
@@ -236,7 +236,7 @@ split_begins s requests all e (inr y) (inr x) = ([], closes_same s all requests 
 length_snoc : (requests : List (List ℕ)) (x : List ℕ) → length (requests ++ x ∷ []) ≡ suc (length requests)
 length_snoc requests x = length-append requests (x ∷ []) ∙ (omega arith)
 
-begins_next : (s : List ℕ) (requests : List (List ℕ)) (next more : List ℕ) (c : Bool) → Passes s requests (next ++ more) → IsRequest next c → length requests < 1000 → Begins s (requests ++ next ∷ [])
+begins_next : (s : List ℕ) (requests : List (List ℕ)) (next more : List ℕ) (c : Bool) → PassesOver s requests (next ++ more) → IsRequest next c → length requests < 1000 → Begins s (requests ++ next ∷ [])
 begins_next s requests next more true p q few = inr (requests, next, more, p, q, few, refl)
 begins_next s requests next more false p q few = inl (more, passes-snoc s requests next more p q, omega (arith, length_snoc requests next))
 
@@ -245,7 +245,7 @@ split_goes_on s requests all e y x =
     let k = split_begins s (requests ++ x.0 ∷ []) all e y (begins_next s requests x.0 x.1 x.2 x.3 x.4 x.5) in
     (x.0, k.0, k.1 ∙ append_assoc requests (x.0 ∷ []) k.0)
 
-passes_front : (s : List ℕ) (requests : List (List ℕ)) (rest : List ℕ) → Passes s requests rest → s ≡ concat requests ++ rest
+passes_front : (s : List ℕ) (requests : List (List ℕ)) (rest : List ℕ) → PassesOver s requests rest → s ≡ concat requests ++ rest
 passes_front s [] rest x = x
 passes_front s (r ∷ rs) rest x = x.1 ∙ ap (λ (l : List ℕ). r ++ l) (passes_front x.0 rs rest x.3) ∙ sym (append_assoc r (concat rs) rest)
 
@@ -262,7 +262,7 @@ split_is_front s requests e (inr (x, is)) = (
 
 -- ---- items
 
-marks_same : (bytes : List ℕ) (m n : Mark WireFault) → IsMarkOf ⊥ bytes m → IsMarkOf ⊥ bytes n → refusal_of m ≡ refusal_of n → m ≡ n
+marks_same : (bytes : List ℕ) (m n : Mark WireFault) → IsMarkOf ⊥ bytes m → IsMarkOf ⊥ bytes n → refusal_of_mark m ≡ refusal_of_mark n → m ≡ n
 marks_same bytes (read_as r) (read_as q) x y e = ap read_as (reads_unique bytes r q x.0 y.0)
 marks_same bytes (read_as r) no_memory x y e = absurd cc
 marks_same bytes (read_as r) no_store x y e = absurd cc
@@ -286,11 +286,11 @@ items_unique (x ∷ a) [] p q e f = absurd cc
 items_unique (x ∷ a) (y ∷ b) p q e f =
     let given : input_of x ≡ input_of y = cons_head (input_of x) (input_of y) (map input_of a) (map input_of b) e in
     let bytes : x.bytes ≡ y.bytes = ap (λ (g : Stamp × List ℕ). g.1) given in
-    let mark : x.mark ≡ y.mark = marks_same y.bytes x.mark y.mark (subst (λ (l : List ℕ). IsMarkOf ⊥ l x.mark) bytes (All-head (IsMarked ⊥) x a p)) (All-head (IsMarked ⊥) y b q) (cons_head (refusal_of x.mark) (refusal_of y.mark) (refusals a) (refusals b) f) in
-    let rest : a ≡ b = items_unique a b (All-tail (IsMarked ⊥) x a p) (All-tail (IsMarked ⊥) y b q) (cons_tail (input_of x) (input_of y) (map input_of a) (map input_of b) e) (cons_tail (refusal_of x.mark) (refusal_of y.mark) (refusals a) (refusals b) f) in
+    let mark : x.mark ≡ y.mark = marks_same y.bytes x.mark y.mark (subst (λ (l : List ℕ). IsMarkOf ⊥ l x.mark) bytes (All-head (IsMarked ⊥) x a p)) (All-head (IsMarked ⊥) y b q) (cons_head (refusal_of_mark x.mark) (refusal_of_mark y.mark) (refusals a) (refusals b) f) in
+    let rest : a ≡ b = items_unique a b (All-tail (IsMarked ⊥) x a p) (All-tail (IsMarked ⊥) y b q) (cons_tail (input_of x) (input_of y) (map input_of a) (map input_of b) e) (cons_tail (refusal_of_mark x.mark) (refusal_of_mark y.mark) (refusals a) (refusals b) f) in
     (λ i. record { stamp = (given i).0; bytes = bytes i; mark = mark i } ∷ rest i)
 
-pub run_events : (h : Host) (operator : ℕ) (a b : List Item) → events a ≡ events b → (host_after h operator a ≡ host_after h operator b) × (replies h operator a ≡ replies h operator b)
+pub run_events : (h : Host) (operator : ℕ) (a b : List Item) → events a ≡ events b → (host_after_run h operator a ≡ host_after_run h operator b) × (replies h operator a ≡ replies h operator b)
 run_events h operator a b e =
     (ap (λ (es : List (Event WireFault)). run_host h operator es) e, ap (λ (es : List (Event WireFault)). map said_text (run_replies h operator es)) e)
 
@@ -312,7 +312,7 @@ fault_is_exact rest = (never, bad)
 -- ---- what is wanted
 
 -- where requests that do not close come first, and then one more, nothing else was wanted before it
-wants_no_more : (come : List ℕ) (a b : List (List ℕ)) (last rest tail : List ℕ) (closes : Bool) → Passes come a (last ++ tail) → IsRequest last closes → Passes come b rest → HasNoWhole rest → (length a < length b) × (closes ≡ false)
+wants_no_more : (come : List ℕ) (a b : List (List ℕ)) (last rest tail : List ℕ) (closes : Bool) → PassesOver come a (last ++ tail) → IsRequest last closes → PassesOver come b rest → HasNoWhole rest → (length a < length b) × (closes ≡ false)
 wants_no_more come [] [] last rest tail closes p q w none = absurd (none last tail closes (sym w ∙ p) q)
 wants_no_more come [] (r ∷ rs) last rest tail closes p q w none =
     let same = fronts_same r last w.0 tail false closes (sym w.1 ∙ p) w.2 q in
@@ -320,7 +320,7 @@ wants_no_more come [] (r ∷ rs) last rest tail closes p q w none =
 wants_no_more come (r ∷ rs) [] last rest tail closes p q w none = absurd (none r p.0 false (sym w ∙ p.1) p.2)
 wants_no_more come (r ∷ rs) (t ∷ ts) last rest tail closes p q w none =
     let same = fronts_same r t p.0 w.0 false false (sym p.1 ∙ w.1) p.2 w.2 in
-    let more = wants_no_more p.0 rs ts last rest tail closes p.3 q (subst (λ (l : List ℕ). Passes l ts rest) (sym same.1) w.3) none in
+    let more = wants_no_more p.0 rs ts last rest tail closes p.3 q (subst (λ (l : List ℕ). PassesOver l ts rest) (sym same.1) w.3) none in
     (omega (arith, more.0), more.1)
 
 pub closed_wants_nothing : (come : List ℕ) (requests : List (List ℕ)) → ClosesAfter come requests → IsWanting come → ⊥
@@ -329,13 +329,13 @@ closed_wants_nothing come requests c w =
     not_both more.1
 
 -- requests that stand are among those behind which more is wanted
-wants_all : (come : List ℕ) (a b : List (List ℕ)) (rest tail : List ℕ) → Passes come a tail → Passes come b rest → HasNoWhole rest → length a ≤ length b
+wants_all : (come : List ℕ) (a b : List (List ℕ)) (rest tail : List ℕ) → PassesOver come a tail → PassesOver come b rest → HasNoWhole rest → length a ≤ length b
 wants_all come [] b rest tail p w none = omega arith
 wants_all come (r ∷ rs) [] rest tail p w none = absurd (none r p.0 false (sym w ∙ p.1) p.2)
 wants_all come (r ∷ rs) (t ∷ ts) rest tail p w none =
     let same = fronts_same r t p.0 w.0 false false (sym p.1 ∙ w.1) p.2 w.2 in
-    let more = wants_all p.0 rs ts rest tail p.3 (subst (λ (l : List ℕ). Passes l ts rest) (sym same.1) w.3) none in
+    let more = wants_all p.0 rs ts rest tail p.3 (subst (λ (l : List ℕ). PassesOver l ts rest) (sym same.1) w.3) none in
     omega (arith, more)
 
-pub full_wants_nothing : (come : List ℕ) (requests : List (List ℕ)) (rest : List ℕ) → Passes come requests rest → 1000 ≤ length requests → IsWanting come → ⊥
+pub full_wants_nothing : (come : List ℕ) (requests : List (List ℕ)) (rest : List ℕ) → PassesOver come requests rest → 1000 ≤ length requests → IsWanting come → ⊥
 full_wants_nothing come requests rest p many w = omega (arith, wants_all come requests w.0 w.1 rest p w.2 w.4, many, w.3)

@@ -13,9 +13,9 @@ use Rattle.pawn_wire.specs.declared.head.HeadRead.TheVariants.{Partial}
 use Rattle.pawn_wire.specs.declared.fault.HeadFault.{HeadFault}
 use Rattle.pawn_wire.specs.declared.head.HeadFacts.{HeadFacts}
 use Rattle.pawn_wire.proofs.StreamLemmas.{reads_more}
-use Rattle.pawn_host.specs.Split.{IsRequest, Passes, HasNoWhole, AreWanted, most_requests}
-use Rattle.pawn_host.specs.Finding.{Finds, HasHead, AreMissing, IsFetched}
-use Rattle.pawn_host.specs.Session.{IsRead}
+use Rattle.pawn_host.specs.Split.{IsRequest, PassesOver, HasNoWhole, AreWanted, most_requests}
+use Rattle.pawn_host.specs.Finding.{FindsHead, HasHead, AreMissing, IsFetched}
+use Rattle.pawn_host.specs.Session.{IsReadWhileWanted}
 use Rattle.pawn_host.specs.declared.session.Rest.{Rest}
 use Rattle.pawn_host.proofs.SplitLemmas.{passes-snoc, front_request, length_snoc}
 
@@ -128,13 +128,13 @@ fetched_then found head buffer now now' a b c reads reads' reads'' one two = rec
 
 -- ---- over the requests of a session
 
-passes-append : (s : List ℕ) (requests : List (List ℕ)) (rest more : List ℕ) → Passes s requests rest → Passes (s ++ more) requests (rest ++ more)
+passes-append : (s : List ℕ) (requests : List (List ℕ)) (rest more : List ℕ) → PassesOver s requests rest → PassesOver (s ++ more) requests (rest ++ more)
 passes-append s [] rest more p = ap (λ (l : List ℕ). l ++ more) p
 passes-append s (r ∷ rs) rest more p =
     (p.0 ++ more, ap (λ (l : List ℕ). l ++ more) p.1 ∙ append_assoc r p.0 more, p.2, passes-append p.0 rs rest more p.3)
 
 -- what is missing in the buffer is wanted behind all that has come
-wanted_of : (come : List ℕ) (requests : List (List ℕ)) (buffer : List ℕ) (pieces : List (List ℕ)) → Passes come requests buffer → length requests < most_requests → AreMissing buffer pieces → AreWanted come pieces
+wanted_of : (come : List ℕ) (requests : List (List ℕ)) (buffer : List ℕ) (pieces : List (List ℕ)) → PassesOver come requests buffer → length requests < most_requests → AreMissing buffer pieces → AreWanted come pieces
 wanted_of come requests buffer [] passes few missing = tt
 wanted_of come requests buffer (p ∷ ps) passes few missing =
     ((requests, buffer, passes, few, missing.0), wanted_of (come ++ p) requests (buffer ++ p) ps (passes-append come requests buffer p passes) few missing.1)
@@ -152,17 +152,17 @@ pub record ReadSoFar (before after : Option (List ℕ)) (count acted : ℕ) (buf
   pub gave : Consumes before after (concat pieces)
   pub requests : List (List ℕ)
   pub acted_is : length requests ≡ acted
-  pub passes : Passes (concat pieces) requests buffer
+  pub passes : PassesOver (concat pieces) requests buffer
 
 pub read_none : (a : Option (List ℕ)) (count : ℕ) (buffer : List ℕ) → count ≡ 0 → buffer ≡ [] → ReadSoFar a a count 0 buffer
 read_none a count buffer none empty = record { pieces = []; count_is = sym none; wanted = tt; gave = Consumes-nil a; requests = []; acted_is = refl; passes = sym empty }
 
 -- the session is over
-pub read_all : (a b : Option (List ℕ)) (count acted : ℕ) (buffer : List ℕ) → ReadSoFar a b count acted buffer → IsRead count a b
+pub read_all : (a b : Option (List ℕ)) (count acted : ℕ) (buffer : List ℕ) → ReadSoFar a b count acted buffer → IsReadWhileWanted count a b
 read_all a b count acted buffer so = record { pieces = so.pieces; count_is = so.count_is; wanted = so.wanted; gave = so.gave }
 
 -- the session is over after a search
-pub read_then : (found : Result HeadFacts Rest) (a b c : Option (List ℕ)) (count count' acted : ℕ) (buffer buffer' : List ℕ) → ReadSoFar a b count acted buffer → acted < 1000 → IsFetched found buffer buffer' b c count count' → IsRead count' a c
+pub read_then : (found : Result HeadFacts Rest) (a b c : Option (List ℕ)) (count count' acted : ℕ) (buffer buffer' : List ℕ) → ReadSoFar a b count acted buffer → acted < 1000 → IsFetched found buffer buffer' b c count count' → IsReadWhileWanted count' a c
 read_then found a b c count count' acted buffer buffer' so few fetched = record {
   pieces = so.pieces ++ fetched.pieces;
   count_is = omega (arith, length-append so.pieces fetched.pieces, so.count_is, fetched.count);
@@ -171,7 +171,7 @@ read_then found a b c count count' acted buffer buffer' so few fetched = record 
 }
 
 -- the buffer begins with a whole request
-stands_whole : (buffer : List ℕ) (f : HeadFacts) → HasHead buffer f → f.len + f.body ≤ length buffer → Finds buffer (Ok f)
+stands_whole : (buffer : List ℕ) (f : HeadFacts) → HasHead buffer f → f.len + f.body ≤ length buffer → FindsHead buffer (Ok f)
 stands_whole buffer f has fits =
     let len : length buffer ≡ length (print_request has.0) + length has.1 = ap length has.2.0.1 ∙ length-append (print_request has.0) has.1 in
     let whole : f.body ≤ length has.1 = omega (arith, len, has.3.len, fits) in
@@ -187,9 +187,9 @@ read_more head a b c count count' acted buffer buffer' left so few fetched has f
     let come : concat (so.pieces ++ fetched.pieces) ≡ concat so.pieces ++ concat fetched.pieces = concat-append so.pieces fetched.pieces in
     let grown : buffer' ≡ buffer ++ concat fetched.pieces = fetched.grown in
     let parts : buffer' ≡ take n buffer' ++ left = sym (take-append-drop n buffer') ∙ ap (λ (l : List ℕ). take n buffer' ++ l) (sym dropped) in
-    let passes : Passes (concat (so.pieces ++ fetched.pieces)) so.requests (take n buffer' ++ left) =
-    subst (λ (l : List ℕ). Passes l so.requests (take n buffer' ++ left)) (sym come)
-    (subst (λ (l : List ℕ). Passes (concat so.pieces ++ concat fetched.pieces) so.requests l) (sym grown ∙ parts) (passes-append (concat so.pieces) so.requests buffer (concat fetched.pieces) so.passes)) in
+    let passes : PassesOver (concat (so.pieces ++ fetched.pieces)) so.requests (take n buffer' ++ left) =
+    subst (λ (l : List ℕ). PassesOver l so.requests (take n buffer' ++ left)) (sym come)
+    (subst (λ (l : List ℕ). PassesOver (concat so.pieces ++ concat fetched.pieces) so.requests l) (sym grown ∙ parts) (passes-append (concat so.pieces) so.requests buffer (concat fetched.pieces) so.passes)) in
     record {
       pieces = so.pieces ++ fetched.pieces;
       count_is = read.count_is;

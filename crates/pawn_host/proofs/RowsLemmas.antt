@@ -8,7 +8,7 @@ use Rattle.pawn_book.specs.BookStep.{BookValue, Exported, Says, rows_of_book}
 use Rattle.pawn_book.specs.HostStep.{Host, host_step}
 use Rattle.pawn_csv.specs.Exports.{text_of}
 use Rattle.pawn_csv.specs.Rows.{csv_of}
-use Rattle.pawn_wire.specs.Request.{Reads}
+use Rattle.pawn_wire.specs.Request.{SaysRequest}
 use Rattle.pawn_wire.specs.Reply.{reply_text}
 use Rattle.pawn_host.specs.declared.service.Answer.{Answer}
 use Rattle.pawn_host.specs.Keeps.{Start, Kept, GoesTo, answer_bytes, IsKeyOf, Tells, IsActed}
@@ -32,7 +32,7 @@ no_text h book key with_key none = (let some = sym (text_is h book key with_key)
 
 -- the text was told
 pub acted_rows : (start : Start) (stamp : Stamp) (bytes : List ℕ) (answer : Answer) (kept : Kept) (book key : ℕ) (text out : List ℕ)
-    → Reads bytes (Ok (rows_request book key)) → IsKeyOf start.host book key → text_of start.host book ≡ Some text → text ≡ out
+    → SaysRequest bytes (Ok (rows_request book key)) → IsKeyOf start.host book key → text_of start.host book ≡ Some text → text ≡ out
     → Tells answer (reply_text 200 (codes "text/csv; charset=utf-8") out) → GoesTo kept start.host start.leaves
     → IsActed start stamp bytes (answer_bytes answer) kept
 acted_rows start stamp bytes answer kept book key text out read with_key is all tells goes =

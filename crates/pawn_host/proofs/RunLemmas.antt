@@ -26,7 +26,7 @@ use Rattle.pawn_book.specs.Changes.{with_change}
 use Rattle.pawn_book.specs.declared.change.Change.{Change}
 use Rattle.pawn_view.specs.Text.{presented_text, statement_text}
 use Rattle.pawn_view.specs.Shown.{live_pledges, presentation_of, pledge_at, statement_of}
-use Rattle.pawn_wire.specs.Request.{Reads}
+use Rattle.pawn_wire.specs.Request.{SaysRequest}
 use Rattle.pawn_wire.specs.Reply.{out_text, reply_text, fault_text, memory_text}
 use Rattle.pawn_wire.specs.declared.reply.Out.TheVariants as wire
 use Rattle.pawn_wire.specs.declared.fault.WireFault.{WireFault}
@@ -70,7 +70,7 @@ err_same : (a b : WireFault) → ◌≡◌ {A = Result Request WireFault} (Err a
 err_same a b e = cc
 
 faulted_bytes : (start : Start) (stamp : Stamp) (bytes reply : List ℕ) (kept : Kept) (e : WireFault)
-    → (e ≡ f.Memory) ⊎ Reads bytes (Err e) → reply ≡ fault_text e → GoesTo kept start.host start.leaves → IsActed start stamp bytes reply kept
+    → (e ≡ f.Memory) ⊎ SaysRequest bytes (Err e) → reply ≡ fault_text e → GoesTo kept start.host start.leaves → IsActed start stamp bytes reply kept
 faulted_bytes start stamp bytes reply kept e (inl m) is goes = acted_memory start stamp bytes reply kept (is ∙ ap fault_text m) goes
 faulted_bytes start stamp bytes reply kept e (inr x) is goes = elim (is_memory e) [
   | inl m ↦ acted_memory start stamp bytes reply kept (is ∙ ap fault_text m) goes
@@ -78,7 +78,7 @@ faulted_bytes start stamp bytes reply kept e (inr x) is goes = elim (is_memory e
 ]
 
 pub acted_fault : (start : Start) (stamp : Stamp) (bytes : List ℕ) (answer : Answer) (kept : Kept) (e : WireFault)
-    → (e ≡ f.Memory) ⊎ Reads bytes (Err e) → Tells answer (out_text (wire.Fault e)) → GoesTo kept start.host start.leaves → IsActed start stamp bytes (answer_bytes answer) kept
+    → (e ≡ f.Memory) ⊎ SaysRequest bytes (Err e) → Tells answer (out_text (wire.Fault e)) → GoesTo kept start.host start.leaves → IsActed start stamp bytes (answer_bytes answer) kept
 acted_fault start stamp bytes (Bytes v) kept e read is goes = faulted_bytes start stamp bytes v.items kept e read is goes
 acted_fault start stamp bytes Memory kept e read is goes = acted_memory start stamp bytes memory_text kept refl goes
 
@@ -97,7 +97,7 @@ goes_by start stamp request kept o is goes =
 
 -- the step of the host was told
 pub acted_said : (start : Start) (stamp : Stamp) (bytes reply : List ℕ) (kept : Kept) (request : Request) (out : Out)
-    → Reads bytes (Ok request) → out_of (host_step start.host start.operator stamp request) ≡ out → reply ≡ said_text (Answered out)
+    → SaysRequest bytes (Ok request) → out_of (host_step start.host start.operator stamp request) ≡ out → reply ≡ said_text (Answered out)
     → GoesByStep start stamp request kept → IsActed start stamp bytes reply kept
 acted_said start stamp bytes reply kept request out read is text goes = record {
   mark = read_as (Ok request);
@@ -113,7 +113,7 @@ GoesUnmade start stamp request why kept =
     ⊎ ((host_step start.host start.operator stamp request ≡ Refuses why) × GoesTo kept start.host start.leaves)
 
 -- it was not answered
-goes_unwell : (start : Start) (stamp : Stamp) (bytes : List ℕ) (request : Request) (why : Refusal) (kept : Kept) → Reads bytes (Ok request)
+goes_unwell : (start : Start) (stamp : Stamp) (bytes : List ℕ) (request : Request) (why : Refusal) (kept : Kept) → SaysRequest bytes (Ok request)
     → GoesTo kept start.host (IsLeftByAct start.host start.operator stamp request start.leaves (Err why))
     → GoesTo kept start.host (λ left. start.leaves left ⊎ IsDone start.host start.operator stamp bytes left)
 goes_unwell start stamp bytes request why kept read goes = goes_wider goes from
@@ -124,7 +124,7 @@ goes_unwell start stamp bytes request why kept read goes = goes_wider goes from
 
 -- it was refused, and that was told
 pub acted_unmade : (start : Start) (stamp : Stamp) (bytes : List ℕ) (answer : Answer) (kept : Kept) (request : Request) (why : Refusal)
-    → Reads bytes (Ok request) → Tells answer (out_text (wire.Refused why)) → GoesUnmade start stamp request why kept → (start.Steady → why ≡ No.Store → ⊥)
+    → SaysRequest bytes (Ok request) → Tells answer (out_text (wire.Refused why)) → GoesUnmade start stamp request why kept → (start.Steady → why ≡ No.Store → ⊥)
     → IsActed start stamp bytes (answer_bytes answer) kept
 acted_unmade start stamp bytes Memory kept request why read is (inl unwell) calm =
     record { mark = no_memory; marked = tt; text = refl; goes = goes_unwell start stamp bytes request why kept read unwell.1 }
@@ -138,7 +138,7 @@ acted_unmade start stamp bytes (Bytes v) kept request why read is (inr refused) 
 
 -- the same, where the keeper was read alone
 pub acted_refused : (start : Start) (stamp : Stamp) (bytes : List ℕ) (answer : Answer) (kept : Kept) (request : Request) (why : Refusal)
-    → Reads bytes (Ok request) → Tells answer (out_text (wire.Refused why)) → GoesTo kept start.host start.leaves → IsRefused (host_step start.host start.operator stamp request) why → (start.Steady → why ≡ No.Store → ⊥)
+    → SaysRequest bytes (Ok request) → Tells answer (out_text (wire.Refused why)) → GoesTo kept start.host start.leaves → IsRefused (host_step start.host start.operator stamp request) why → (start.Steady → why ≡ No.Store → ⊥)
     → IsActed start stamp bytes (answer_bytes answer) kept
 acted_refused start stamp bytes answer kept request why read is goes (inl unwell) calm =
     acted_unmade start stamp bytes answer kept request why read is (inl (unwell, goes_wider goes (λ left by. inl by))) calm
@@ -146,7 +146,7 @@ acted_refused start stamp bytes answer kept request why read is goes (inr step) 
 
 -- it was acted on, and that was told
 pub acted_done : (start : Start) (stamp : Stamp) (bytes text : List ℕ) (kept : Kept) (request : Request) (reply : Reply)
-    → Reads bytes (Ok request) → text ≡ out_text (wire.Done reply) → Acts start.host start.operator stamp request (Ok reply) kept.stands
+    → SaysRequest bytes (Ok request) → text ≡ out_text (wire.Done reply) → Acts start.host start.operator stamp request (Ok reply) kept.stands
     → ((left : Host) → kept.leaves left → IsLeftByAct start.host start.operator stamp request start.leaves (Ok reply) left) → IsActed start stamp bytes text kept
 acted_done start stamp bytes text kept request reply read is acts crash =
     acted_said start stamp bytes text kept request (Told reply) read acts.0 is (record { stands_for = acts.1; sound = acts.2; crash = crash })
@@ -173,7 +173,7 @@ err_is r why is store = is ∙ ap (λ (w : Refusal). Err w) store
 
 -- a text was told that the step says
 pub acted_text : (start : Start) (stamp : Stamp) (bytes : List ℕ) (answer : Answer) (kept : Kept) (request : Request) (said : Out) (kind out : List ℕ)
-    → Reads bytes (Ok request) → host_step start.host start.operator stamp request ≡ Says said → reply_text 200 kind out ≡ said_text (Answered said)
+    → SaysRequest bytes (Ok request) → host_step start.host start.operator stamp request ≡ Says said → reply_text 200 kind out ≡ said_text (Answered said)
     → Tells answer (reply_text 200 kind out) → GoesTo kept start.host start.leaves → IsActed start stamp bytes (answer_bytes answer) kept
 acted_text start stamp bytes Memory kept request said kind out read step same tells goes = acted_memory start stamp bytes memory_text kept refl goes
 acted_text start stamp bytes (Bytes v) kept request said kind out read step same tells goes =
@@ -218,7 +218,7 @@ nothing_shown h operator stamp book day receipts is =
 
 -- the text of the receipts was told
 pub acted_shown : (start : Start) (stamp : Stamp) (bytes : List ℕ) (answer : Answer) (kept : Kept) (book day : ℕ) (receipts : List Receipt) (text out : List ℕ)
-    → Reads bytes (Ok (present_request book receipts)) → day ≡ stamp.day → presentation_of start.host book receipts day ≡ Some text → text ≡ out
+    → SaysRequest bytes (Ok (present_request book receipts)) → day ≡ stamp.day → presentation_of start.host book receipts day ≡ Some text → text ≡ out
     → Tells answer (reply_text 200 plain out) → GoesTo kept start.host start.leaves
     → IsActed start stamp bytes (answer_bytes answer) kept
 acted_shown start stamp bytes answer kept book day receipts text out read day_is is all tells goes =
@@ -263,7 +263,7 @@ no_pledge h operator stamp book key number day with_key none = step_key h operat
 
 -- the statement of a pledge was told
 pub acted_statement : (start : Start) (stamp : Stamp) (bytes : List ℕ) (answer : Answer) (kept : Kept) (book key number day : ℕ) (text out : List ℕ)
-    → Reads bytes (Ok (show_request book key number)) → IsKeyOf start.host book key → day ≡ stamp.day → statement_of start.host book number day ≡ Some text → text ≡ out
+    → SaysRequest bytes (Ok (show_request book key number)) → IsKeyOf start.host book key → day ≡ stamp.day → statement_of start.host book number day ≡ Some text → text ≡ out
     → Tells answer (reply_text 200 plain out) → GoesTo kept start.host start.leaves
     → IsActed start stamp bytes (answer_bytes answer) kept
 acted_statement start stamp bytes answer kept book key number day text out read with_key day_is is all tells goes =
@@ -293,12 +293,12 @@ pub all_written : (old new out text : List ℕ) → out ≡ new → new ≡ old 
 all_written old new out text same written empty = sym (same ∙ written ∙ ap (λ (x : List ℕ). x ++ text) empty)
 
 -- a request, by its parts
-pub read_present : (bytes : List ℕ) (request : Request) (asked : BearerRequest) (receipts : List Receipt) → request.caller ≡ Bearer asked → asked ≡ Present receipts → Reads bytes (Ok request)
-    → Reads bytes (Ok (present_request request.book receipts))
+pub read_present : (bytes : List ℕ) (request : Request) (asked : BearerRequest) (receipts : List Receipt) → request.caller ≡ Bearer asked → asked ≡ Present receipts → SaysRequest bytes (Ok request)
+    → SaysRequest bytes (Ok (present_request request.book receipts))
 read_present bytes request asked receipts called is read =
-    subst (λ (caller : Caller). Reads bytes (Ok (record { book = request.book; caller = caller }))) (called ∙ ap Bearer is) read
+    subst (λ (caller : Caller). SaysRequest bytes (Ok (record { book = request.book; caller = caller }))) (called ∙ ap Bearer is) read
 
-pub read_broker : (bytes : List ℕ) (request : Request) (key : ℕ) (asked this : BrokerRequest) → request.caller ≡ Broker key asked → asked ≡ this → Reads bytes (Ok request)
-    → Reads bytes (Ok (broker_request request.book key this))
+pub read_broker : (bytes : List ℕ) (request : Request) (key : ℕ) (asked this : BrokerRequest) → request.caller ≡ Broker key asked → asked ≡ this → SaysRequest bytes (Ok request)
+    → SaysRequest bytes (Ok (broker_request request.book key this))
 read_broker bytes request key asked this called is read =
-    subst (λ (caller : Caller). Reads bytes (Ok (record { book = request.book; caller = caller }))) (called ∙ ap (Broker key) is) read
+    subst (λ (caller : Caller). SaysRequest bytes (Ok (record { book = request.book; caller = caller }))) (called ∙ ap (Broker key) is) read

@@ -7,13 +7,13 @@ use Rattle.pawn_pledge.specs.declared.command.Stamp.{Stamp}
 use Rattle.pawn_book.specs.HostStep.{Host}
 use Rattle.pawn_book.specs.Runs.{host_after_event, event_reply}
 use Rattle.pawn_host.specs.declared.service.Answer.{Answer}
-use Rattle.pawn_host.specs.Run.{Item, IsMarked, input_of, event_of, said_text, host_after, replies}
+use Rattle.pawn_host.specs.Run.{Item, IsMarked, input_of, event_of, said_text, host_after_run, replies}
 use Rattle.pawn_host.specs.Keeps.{Start, Kept, start_after, replies_by, IsActed, IsRun, answer_bytes}
 use Rattle.pawn_host.proofs.CrashLemmas.{goes-append}
 use Rattle.pawn_host.proofs.SessionLemmas.{map-snoc, marked_since}
 
 -- two runs in turn
-pub replies-append : (h : Host) (operator : ℕ) (a b : List Item) → replies h operator (a ++ b) ≡ replies h operator a ++ replies (host_after h operator a) operator b
+pub replies-append : (h : Host) (operator : ℕ) (a b : List Item) → replies h operator (a ++ b) ≡ replies h operator a ++ replies (host_after_run h operator a) operator b
 replies-append h operator [] b = refl
 replies-append h operator (x ∷ a) b = ap (λ (l : List (List ℕ)). said_text (event_reply h operator (event_of x)) ∷ l) (replies-append (host_after_event h operator (event_of x)) operator a b)
 

@@ -19,7 +19,7 @@ use Rattle.pawn_book.specs.Keeping.{Keeping}
 use Rattle.pawn_host.specs.declared.service.Service.{Service}
 use Rattle.pawn_host.specs.Keeps.{Start, Kept, GoesTo, start_of, start_after, host_by, StaysOpen, IsActed}
 use Rattle.pawn_host.proofs.CrashLemmas.{seen_from, goes_from, goes-append}
-use Rattle.pawn_host.specs.Finding.{Finds, FindsRest, StopsBy, IsCausedBy}
+use Rattle.pawn_host.specs.Finding.{FindsHead, FindsRest, StopsBy, IsCausedBy}
 use Rattle.pawn_host.proofs.FindLemmas.{not_by_writer}
 use Rattle.pawn_host.specs.Session.{Given, IsServed, IsSession, HasRoom, HadRoom, IsWithinMost, EndsAs, DueAfter, IsFinished, IsLeftBy, IsLeft, IsOver, AreTaken, acted_count, answer_text, requests_of, stamps_of}
 use Rattle.pawn_wire.specs.declared.fault.WireFault.{WireFault}
@@ -223,7 +223,7 @@ module _ {S : Type 0} {steps : S → Option Stamp → S → Type 0} {given : Giv
       (ended Limit so to refl (refl, splits_ending given.stream rest (requests_of so.items) at_limit so.splits (stops_limit rest (length (requests_of so.items)) (omega (arith, so.count, length-map (λ (i : Item). i.bytes) so.items)))))
 
   pub ended_dry : {to u : S} {kept : Kept} {rest new : Option (List ℕ)} {acted sent : ℕ} (head : HeadFacts) (so : SoFar steps given to kept rest new acted sent)
-      → acted < 1000 → steps to None u → IfSome rest (λ r. Finds r (Ok head)) → IsSession steps given u new (Ok (record { how = NoStamp; acted = acted })) kept
+      → acted < 1000 → steps to None u → IfSome rest (λ r. FindsHead r (Ok head)) → IsSession steps given u new (Ok (record { how = NoStamp; acted = acted })) kept
   ended_dry {u = u} {rest = rest} {acted = acted} head so few dry first =
       ended NoStamp so u dry (refl, splits_goes_on given.stream rest (requests_of so.items) head so.splits first (few_requests so.items acted so.count few))
 
@@ -331,7 +331,7 @@ module _ {S : Type 0} {steps : S → Option Stamp → S → Type 0} {given : Giv
   -- the reply could not be written whole
   pub broken_write : {to : S} {kept : Kept} {rest new : Option (List ℕ)} {acted sent : ℕ} (to' : S) (kept' : Kept) (new' left : Option (List ℕ)) (stamp : Stamp) (head : HeadFacts) (count : ℕ) (text buffer : List ℕ) (so : SoFar steps given to kept rest new acted sent)
       → acted < 1000 → steps to (Some stamp) to' → IsActed (start_after given.start so.items) stamp (take (head.len + head.body) buffer) text kept'
-      → IfSome rest (λ r. Finds r (Ok head)) → Keeps rest (prepend_known buffer left) → head.len + head.body ≤ length buffer
+      → IfSome rest (λ r. FindsHead r (Ok head)) → Keeps rest (prepend_known buffer left) → head.len + head.body ≤ length buffer
       → count < length text → Appends new new' (take count text)
       → IsSession steps given to' new' (Err (record { cause = Write; acted = acted + 1; sent = sent + count })) kept'
   broken_write {rest = rest} {new = new} {acted = acted} {sent = sent} to' kept' new' left stamp head count text buffer so few step a first kept fits short send =
@@ -354,7 +354,7 @@ module _ {S : Type 0} {steps : S → Option Stamp → S → Type 0} {given : Giv
   -- the reply was written, and the stream is closed
   pub ended_closed : {to : S} {kept : Kept} {rest new : Option (List ℕ)} {acted sent : ℕ} (to' : S) (kept' : Kept) (new' left : Option (List ℕ)) (stamp : Stamp) (head : HeadFacts) (count : ℕ) (text buffer : List ℕ) (so : SoFar steps given to kept rest new acted sent)
       → acted < 1000 → steps to (Some stamp) to' → IsActed (start_after given.start so.items) stamp (take (head.len + head.body) buffer) text kept'
-      → IfSome rest (λ r. Finds r (Ok head)) → Keeps rest (prepend_known buffer left) → head.len + head.body ≤ length buffer
+      → IfSome rest (λ r. FindsHead r (Ok head)) → Keeps rest (prepend_known buffer left) → head.len + head.body ≤ length buffer
       → count ≡ length text → Appends new new' (take count text) → head.closes ≡ true
       → IsSession steps given to' new' (Ok (record { how = Closed; acted = acted + 1 })) kept'
   ended_closed {rest = rest} {new = new} {acted = acted} {sent = sent} to' kept' new' left stamp head count text buffer so few step a first kept fits full send closes =
@@ -377,7 +377,7 @@ module _ {S : Type 0} {steps : S → Option Stamp → S → Type 0} {given : Giv
   -- the reply was written, and the session goes on
   pub goes_on : {to : S} {kept : Kept} {rest new : Option (List ℕ)} {acted sent : ℕ} (to' : S) (kept' : Kept) (new' left : Option (List ℕ)) (stamp : Stamp) (head : HeadFacts) (count : ℕ) (text buffer buffer' : List ℕ) (so : SoFar steps given to kept rest new acted sent)
       → acted < 1000 → steps to (Some stamp) to' → IsActed (start_after given.start so.items) stamp (take (head.len + head.body) buffer) text kept'
-      → IfSome rest (λ r. Finds r (Ok head)) → Keeps rest (prepend_known buffer left) → head.len + head.body ≤ length buffer
+      → IfSome rest (λ r. FindsHead r (Ok head)) → Keeps rest (prepend_known buffer left) → head.len + head.body ≤ length buffer
       → count ≡ length text → Appends new new' (take count text) → head.closes ≡ false → buffer' ≡ drop (head.len + head.body) buffer
       → SoFar steps given to' kept' (prepend_known buffer' left) new' (acted + 1) (sent + count)
   goes_on {rest = rest} {new = new} {acted = acted} {sent = sent} to' kept' new' left stamp head count text buffer buffer' so few step a first kept fits full send closes dropped =

@@ -8,7 +8,7 @@ use Rattle.pawn_book.specs.BookStep.{BookValue, Out, Listed, Says}
 use Rattle.pawn_book.specs.HostStep.{Host, host_step}
 use Rattle.pawn_book.specs.Sheet.{day_sheet}
 use Rattle.pawn_view.specs.Sheets.{book_sheet, sheet_of}
-use Rattle.pawn_wire.specs.Request.{Reads}
+use Rattle.pawn_wire.specs.Request.{SaysRequest}
 use Rattle.pawn_wire.specs.Reply.{reply_text}
 use Rattle.pawn_host.specs.declared.service.Answer.{Answer}
 use Rattle.pawn_host.specs.Keeps.{Start, Kept, GoesTo, answer_bytes, IsKeyOf, Tells, IsActed}
@@ -36,7 +36,7 @@ no_sheet h book key day with_key none = (let some = sym (sheet_is h book key day
 
 -- the sheet was told
 pub acted_sheet : (start : Start) (stamp : Stamp) (bytes : List ℕ) (answer : Answer) (kept : Kept) (book key day shown : ℕ) (text out : List ℕ)
-    → Reads bytes (Ok (sheet_request book key day)) → IsKeyOf start.host book key → shown ≡ day → sheet_of start.host book shown ≡ Some text → text ≡ out
+    → SaysRequest bytes (Ok (sheet_request book key day)) → IsKeyOf start.host book key → shown ≡ day → sheet_of start.host book shown ≡ Some text → text ≡ out
     → Tells answer (reply_text 200 plain out) → GoesTo kept start.host start.leaves
     → IsActed start stamp bytes (answer_bytes answer) kept
 acted_sheet start stamp bytes answer kept book key day shown text out read with_key day_is is all tells goes =

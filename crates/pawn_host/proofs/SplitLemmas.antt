@@ -7,22 +7,22 @@ use Rattle.pawn_wire.specs.Head.{ReadsHead}
 use Rattle.pawn_wire.specs.declared.fault.HeadFault.{HeadFault}
 use Rattle.pawn_wire.specs.declared.head.HeadFacts.{HeadFacts}
 use Rattle.pawn_wire.proofs.StreamLemmas.{whole_front}
-use Rattle.pawn_host.specs.Split.{Ending, at_end, cut, closed, faulted, at_limit, IsRequest, Passes, StopsAt, Splits, Begins, BeginsAndGoesOn, IsUnderWay}
-use Rattle.pawn_host.specs.Finding.{Finds, FindsRest}
+use Rattle.pawn_host.specs.Split.{Ending, at_end, cut, closed, faulted, at_limit, IsRequest, PassesOver, StopsAt, Splits, Begins, BeginsAndGoesOn, IsUnderWay}
+use Rattle.pawn_host.specs.Finding.{FindsHead, FindsRest}
 use Rattle.pawn_host.specs.declared.session.Rest.TheVariants.{AtEnd, CutOff, Faulty}
 
 -- the stream from its start is these requests and then what is left
 abbrev pub SplitsOn : Option (List ℕ) → Option (List ℕ) → List (List ℕ) → Type 0
 SplitsOn None rest requests = Unit {0}
 SplitsOn (Some s) None requests = ⊥
-SplitsOn (Some s) (Some r) requests = Passes s requests r
+SplitsOn (Some s) (Some r) requests = PassesOver s requests r
 
-pub passes-snoc : (s : List ℕ) (requests : List (List ℕ)) (x rest : List ℕ) → Passes s requests (x ++ rest) → IsRequest x false → Passes s (requests ++ x ∷ []) rest
+pub passes-snoc : (s : List ℕ) (requests : List (List ℕ)) (x rest : List ℕ) → PassesOver s requests (x ++ rest) → IsRequest x false → PassesOver s (requests ++ x ∷ []) rest
 passes-snoc s [] x rest p q = (rest, p, q, refl)
 passes-snoc s (r ∷ rs) x rest p q = (p.0, p.1, p.2, passes-snoc p.0 rs x rest p.3 q)
 
 -- a head and its body stand by themselves
-pub front_request : (s : List ℕ) (f : HeadFacts) (closes : Bool) → f.closes ≡ closes → Finds s (Ok f) → IsRequest (take (f.len + f.body) s) closes
+pub front_request : (s : List ℕ) (f : HeadFacts) (closes : Bool) → f.closes ≡ closes → FindsHead s (Ok f) → IsRequest (take (f.len + f.body) s) closes
 front_request s f closes c x =
     let front : ReadsHead (take (length (print_request x.0) + f.body) s) x.0 (take f.body x.1) = whole_front s x.0 x.1 f.body x.2 in
     let size : length (take f.body x.1) ≡ f.body = length-take f.body x.1 ∙ omega (arith, x.4) in
@@ -42,7 +42,7 @@ pub length_snoc : (requests : List (List ℕ)) (x : List ℕ) → length (reques
 length_snoc requests x = length-append requests (x ∷ []) ∙ (omega arith)
 
 -- a request was taken, and the stream goes on
-pub splits_more : (s rest left : Option (List ℕ)) (requests : List (List ℕ)) (buffer : List ℕ) (f : HeadFacts) → SplitsOn s rest requests → IfSome rest (λ r. Finds r (Ok f)) → f.closes ≡ false
+pub splits_more : (s rest left : Option (List ℕ)) (requests : List (List ℕ)) (buffer : List ℕ) (f : HeadFacts) → SplitsOn s rest requests → IfSome rest (λ r. FindsHead r (Ok f)) → f.closes ≡ false
     → Keeps rest (prepend_known buffer left) → f.len + f.body ≤ length buffer → SplitsOn s (prepend_known (drop (f.len + f.body) buffer) left) (requests ++ take (f.len + f.body) buffer ∷ [])
 splits_more None rest left requests buffer f on first c k fits = tt
 splits_more (Some s) None left requests buffer f on first c k fits = absurd on
@@ -52,11 +52,11 @@ splits_more (Some s) (Some r) (Some l) requests buffer f on first c k fits =
     let front : take n r ≡ take n buffer = ap (take n) (sym k) ∙ take-append-le n buffer l fits in
     let parts : r ≡ take n buffer ++ (drop n buffer ++ l) = sym k ∙ ap (λ (b : List ℕ). b ++ l) (sym (take-append-drop n buffer)) ∙ append_assoc (take n buffer) (drop n buffer) l in
     passes-snoc s requests (take n buffer) (drop n buffer ++ l)
-    (subst (λ (x : List ℕ). Passes s requests x) parts on)
+    (subst (λ (x : List ℕ). PassesOver s requests x) parts on)
     (subst (λ (x : List ℕ). IsRequest x false) front (front_request r f false c first))
 
 -- a request was taken, and the stream is closed
-pub splits_closed : (s rest left : Option (List ℕ)) (requests : List (List ℕ)) (buffer : List ℕ) (f : HeadFacts) → SplitsOn s rest requests → IfSome rest (λ r. Finds r (Ok f)) → f.closes ≡ true
+pub splits_closed : (s rest left : Option (List ℕ)) (requests : List (List ℕ)) (buffer : List ℕ) (f : HeadFacts) → SplitsOn s rest requests → IfSome rest (λ r. FindsHead r (Ok f)) → f.closes ≡ true
     → Keeps rest (prepend_known buffer left) → f.len + f.body ≤ length buffer → length requests < 1000 → IfSome s (λ x. Splits x (requests ++ take (f.len + f.body) buffer ∷ []) closed)
 splits_closed None rest left requests buffer f on first c k fits few = tt
 splits_closed (Some s) None left requests buffer f on first c k fits few = absurd on
@@ -65,7 +65,7 @@ splits_closed (Some s) (Some r) (Some l) requests buffer f on first c k fits few
     let n : ℕ = f.len + f.body in
     let front : take n r ≡ take n buffer = ap (take n) (sym k) ∙ take-append-le n buffer l fits in
     let parts : r ≡ take n buffer ++ (drop n buffer ++ l) = sym k ∙ ap (λ (b : List ℕ). b ++ l) (sym (take-append-drop n buffer)) ∙ append_assoc (take n buffer) (drop n buffer) l in
-    inr ((requests, take n buffer, drop n buffer ++ l, subst (λ (x : List ℕ). Passes s requests x) parts on, subst (λ (x : List ℕ). IsRequest x true) front (front_request r f true c first), few, refl), refl)
+    inr ((requests, take n buffer, drop n buffer ++ l, subst (λ (x : List ℕ). PassesOver s requests x) parts on, subst (λ (x : List ℕ). IsRequest x true) front (front_request r f true c first), few, refl), refl)
 
 -- the split begins with the requests that were taken
 pub splits_begin : (s rest : Option (List ℕ)) (requests : List (List ℕ)) → SplitsOn s rest requests → length requests ≤ 1000 → IfSome s (λ x. Begins x requests)
@@ -79,7 +79,7 @@ closed_begins (Some s) requests (inl x) = absurd x.2
 closed_begins (Some s) requests (inr x) = inr x.0
 
 -- the request that was taken is one of the split's
-pub splits_begun : (s rest left : Option (List ℕ)) (requests : List (List ℕ)) (buffer : List ℕ) (f : HeadFacts) → SplitsOn s rest requests → IfSome rest (λ r. Finds r (Ok f))
+pub splits_begun : (s rest left : Option (List ℕ)) (requests : List (List ℕ)) (buffer : List ℕ) (f : HeadFacts) → SplitsOn s rest requests → IfSome rest (λ r. FindsHead r (Ok f))
     → Keeps rest (prepend_known buffer left) → f.len + f.body ≤ length buffer → length requests < 1000 → IfSome s (λ x. Begins x (requests ++ take (f.len + f.body) buffer ∷ []))
 splits_begun s rest left requests buffer f on first k fits few =
     elim f.closes as (λ v. f.closes ≡ v → IfSome s (λ x. Begins x (requests ++ take (f.len + f.body) buffer ∷ []))) [
@@ -87,12 +87,12 @@ splits_begun s rest left requests buffer f on first k fits few =
       | false ↦ λ c. splits_begin s (prepend_known (drop (f.len + f.body) buffer) left) (requests ++ take (f.len + f.body) buffer ∷ []) (splits_more s rest left requests buffer f on first c k fits) (omega (arith, length_snoc requests (take (f.len + f.body) buffer)))
     ] refl
 
-pub splits_goes_on : (s rest : Option (List ℕ)) (requests : List (List ℕ)) (f : HeadFacts) → SplitsOn s rest requests → IfSome rest (λ r. Finds r (Ok f)) → length requests < 1000 → IfSome s (λ x. BeginsAndGoesOn x requests)
+pub splits_goes_on : (s rest : Option (List ℕ)) (requests : List (List ℕ)) (f : HeadFacts) → SplitsOn s rest requests → IfSome rest (λ r. FindsHead r (Ok f)) → length requests < 1000 → IfSome s (λ x. BeginsAndGoesOn x requests)
 splits_goes_on None rest requests f on first few = tt
 splits_goes_on (Some s) None requests f on first few = absurd on
 splits_goes_on (Some s) (Some r) requests f on first few =
     let n : ℕ = f.len + f.body in
-    (take n r, drop n r, f.closes, subst (λ (x : List ℕ). Passes s requests x) (sym (take-append-drop n r)) on, front_request r f f.closes refl first, few)
+    (take n r, drop n r, f.closes, subst (λ (x : List ℕ). PassesOver s requests x) (sym (take-append-drop n r)) on, front_request r f f.closes refl first, few)
 
 pub splits_ending : (s rest : Option (List ℕ)) (requests : List (List ℕ)) (ending : Ending) → SplitsOn s rest requests → IfSome rest (λ r. StopsAt ending (length requests) r) → IfSome s (λ x. Splits x requests ending)
 splits_ending None rest requests ending on first = tt

@@ -8,7 +8,7 @@ use Rattle.pawn_book.specs.declared.refusal.Refusal.{Refusal}
 use Rattle.pawn_book.specs.declared.refusal.Refusal.TheVariants as No
 use Rattle.pawn_view.specs.declared.fault.ViewFault.{ViewFault}
 use Rattle.pawn_view.specs.declared.fault.ViewFault.TheVariants as fault
-use Rattle.pawn_wire.specs.Request.{Reads}
+use Rattle.pawn_wire.specs.Request.{SaysRequest}
 use Rattle.pawn_host.specs.declared.service.Answer.{Answer}
 use Rattle.pawn_host.specs.Keeps.{Start, Kept, GoesTo, answer_bytes, Tells, IsActed}
 use Rattle.pawn_host.specs.Views.{TellsView}
@@ -16,7 +16,7 @@ use Rattle.pawn_host.proofs.RunLemmas.{acted_memory, acted_refused}
 
 -- what is answered, if a text that was written whole is the step's, and one of which there is nothing to show is refused
 pub view_acted : (start : Start) (stamp : Stamp) (bytes : List ℕ) (answer : Answer) (kept : Kept) (request : Request) (unknown : Refusal) (told : List ℕ) (shown : Result (Unit {0}) ViewFault)
-    → Reads bytes (Ok request) → TellsView answer shown told unknown → GoesTo kept start.host start.leaves → (unknown ≡ No.Store → ⊥)
+    → SaysRequest bytes (Ok request) → TellsView answer shown told unknown → GoesTo kept start.host start.leaves → (unknown ≡ No.Store → ⊥)
     → ((u : Unit {0}) → shown ≡ Ok u → Tells answer told → IsActed start stamp bytes (answer_bytes answer) kept)
     → (shown ≡ Err fault.Unknown → host_step start.host start.operator stamp request ≡ Refuses unknown)
     → (start.Steady → shown ≡ Err fault.Store → ⊥)

@@ -6,13 +6,13 @@ use Rattle.pawn_book.specs.HostStep.{Host, host_step}
 use Rattle.pawn_book.specs.Keeping.{Keeping}
 use Rattle.pawn_book.specs.Plans.{IsLeftByStep, next_host}
 use Rattle.pawn_book.specs.Runs.{Mark, read_as, no_memory, no_store, host_after_event}
-use Rattle.pawn_wire.specs.Request.{Reads}
+use Rattle.pawn_wire.specs.Request.{SaysRequest}
 use Rattle.pawn_wire.specs.declared.fault.WireFault.{WireFault}
-use Rattle.pawn_host.specs.Run.{Item, event_of, host_after}
+use Rattle.pawn_host.specs.Run.{Item, event_of, host_after_run}
 
 -- the host with the request done that the bytes say
 abbrev pub IsDone : Host → ℕ → Stamp → List ℕ → Host → Type 0
-IsDone h operator stamp bytes left = (request : Request) × Reads bytes (Ok request) × (left ≡ next_host h operator stamp request)
+IsDone h operator stamp bytes left = (request : Request) × SaysRequest bytes (Ok request) × (left ≡ next_host h operator stamp request)
 
 -- a host that a crash may leave after an item, where it might have left these before: the changed host alone, once a change was
 -- made; these, where nothing was to change; else, where memory was wanting or the store failed, these or the host with the
@@ -39,7 +39,7 @@ pub record IsOneMore (h : Host) (operator : ℕ) (items : List Item) (left : Hos
 
 -- a host that a crash may leave once these items were answered from the host: the one after them, or that one with one request more
 abbrev pub IsLeftWhole : Host → ℕ → List Item → Host → Type 0
-IsLeftWhole h operator items left = (left ≡ host_after h operator items) ⊎ IsOneMore (host_after h operator items) operator items left
+IsLeftWhole h operator items left = (left ≡ host_after_run h operator items) ⊎ IsOneMore (host_after_run h operator items) operator items left
 
 -- where a crash could have left no host but this one of a keeper before a run, it leaves no others than these
 abbrev pub CrashLeavesWhole : {K : Type 0} → Keeping K → Type 0
@@ -51,5 +51,5 @@ CrashLeavesWhole {K} k =
 abbrev pub CrashesJoin : {K : Type 0} → Keeping K → Type 0
 CrashesJoin {K} k =
     (keep : K) (h : Host) (operator : ℕ) (a b : List Item) (left : Host)
-    → IsLeftByRun (host_after h operator a) operator b (IsLeftByRun h operator a (k.leaves keep)) left
+    → IsLeftByRun (host_after_run h operator a) operator b (IsLeftByRun h operator a (k.leaves keep)) left
     → IsLeftByRun h operator (a ++ b) (k.leaves keep) left

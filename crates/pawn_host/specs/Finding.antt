@@ -31,9 +31,9 @@ FindsRest s NoMemory = Unit {0}
 FindsRest s (Stopped cause) = Unit {0}
 
 -- what the stream begins with was found
-abbrev pub Finds : List ℕ → Result HeadFacts Rest → Type 0
-Finds s (Ok f) = (h : RequestHead) × (rest : List ℕ) × ReadsHead s h rest × IsHead h f × (f.body ≤ length rest)
-Finds s (Err rest) = FindsRest s rest
+abbrev pub FindsHead : List ℕ → Result HeadFacts Rest → Type 0
+FindsHead s (Ok f) = (h : RequestHead) × (rest : List ℕ) × ReadsHead s h rest × IsHead h f × (f.body ≤ length rest)
+FindsHead s (Err rest) = FindsRest s rest
 
 -- the buffer begins with a head of these facts
 abbrev pub HasHead : List ℕ → HeadFacts → Type 0

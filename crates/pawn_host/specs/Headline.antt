@@ -8,7 +8,7 @@ use Rattle.pawn_book.specs.declared.request.BearerRequest.{BearerRequest}
 use Rattle.pawn_book.specs.Runs.{Answered}
 use Rattle.pawn_book.specs.Traces.{book_trace, slot_trace}
 use Rattle.pawn_book.specs.Machines.{is_slots, reply_alone, solo_reply}
-use Rattle.pawn_wire.specs.Request.{Reads}
+use Rattle.pawn_wire.specs.Request.{SaysRequest}
 use Rattle.pawn_host.specs.Run.{Item, events, said_text}
 use Rattle.pawn_host.specs.Keeps.{Start, Kept, IsRun}
 
@@ -24,7 +24,7 @@ IsSettled answer = (answer ≢ reply_bytes (Denied Full)) × (answer ≢ reply_b
 abbrev pub BookAnswersAlone : Host → ℕ → List Item → Item → List ℕ → Type 0
 BookAnswersAlone h operator before item answer =
     (request : Request)
-    → Reads item.bytes (Ok request) → IsSettled answer
+    → SaysRequest item.bytes (Ok request) → IsSettled answer
     → answer ≡ reply_bytes (reply_alone (get h.books request.book) operator request.book (book_trace request.book h operator (events before)) item.stamp request.caller)
 
 -- a bearer's request on book b
@@ -35,7 +35,7 @@ by_bearer b asked = record { book = b; caller = Bearer asked }
 abbrev pub SlotAnswersAlone : Host → ℕ → List Item → Item → List ℕ → Type 0
 SlotAnswersAlone h operator before item answer =
     (b : ℕ) (slot : List Receipt) (asked : BearerRequest)
-    → Reads item.bytes (Ok (by_bearer b asked)) → is_slots slot asked ≡ true → IsSettled answer
+    → SaysRequest item.bytes (Ok (by_bearer b asked)) → is_slots slot asked ≡ true → IsSettled answer
     → answer ≡ reply_bytes (solo_reply slot (slot_trace b slot h operator (events before)) b item.stamp asked)
 
 -- each answer of a run is so

@@ -9,12 +9,12 @@ use Rattle.pawn_book.specs.Sound.{IsSound}
 use Rattle.pawn_book.specs.declared.request.Request.{Request}
 use Rattle.pawn_book.specs.Runs.{Mark, host_after_mark, mark_reply}
 use Rattle.pawn_wire.specs.Reply.{memory_text}
-use Rattle.pawn_wire.specs.Request.{Reads}
+use Rattle.pawn_wire.specs.Request.{SaysRequest}
 use Rattle.pawn_wire.specs.declared.fault.WireFault.{WireFault}
 use Rattle.pawn_host.specs.declared.service.Service.{Service}
 use Rattle.pawn_host.specs.declared.service.Answer.{Answer}
 use Rattle.pawn_host.specs.declared.service.Answer.TheVariants.{Bytes, Memory}
-use Rattle.pawn_host.specs.Run.{Item, IsMarkOf, IsMarked, input_of, said_text, host_after, replies}
+use Rattle.pawn_host.specs.Run.{Item, IsMarkOf, IsMarked, input_of, said_text, host_after_run, replies}
 use Rattle.pawn_host.specs.Crashes.{IsLeftByMark, IsLeftByRun}
 
 abbrev pub service_keep : {K : Type 0} → Service K → K
@@ -81,11 +81,11 @@ pub record IsActed (start : Start) (stamp : Stamp) (bytes reply : List ℕ) (kep
 
 -- the same of whatever bytes say the request
 abbrev pub Answers : Start → Stamp → Request → List ℕ → Kept → Type 0
-Answers start stamp request reply kept = (bytes : List ℕ) → Reads bytes (Ok request) → IsActed start stamp bytes reply kept
+Answers start stamp request reply kept = (bytes : List ℕ) → SaysRequest bytes (Ok request) → IsActed start stamp bytes reply kept
 
 -- the host after these items, and their replies
 abbrev pub host_by : Start → List Item → Host
-host_by start items = host_after start.host start.operator items
+host_by start items = host_after_run start.host start.operator items
 
 abbrev pub replies_by : Start → List Item → List (List ℕ)
 replies_by start items = replies start.host start.operator items

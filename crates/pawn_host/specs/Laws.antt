@@ -10,14 +10,14 @@ use Rattle.pawn_book.specs.declared.request.Request.{Request}
 use Rattle.pawn_book.specs.Traces.{book_trace, slot_trace}
 use Rattle.pawn_book.specs.Machines.{is_slots}
 use Rattle.pawn_wire.specs.Limits.{max_fields, max_head}
-use Rattle.pawn_wire.specs.Request.{Reads}
+use Rattle.pawn_wire.specs.Request.{SaysRequest}
 use Rattle.pawn_wire.specs.declared.fault.HeadFault.{HeadFault}
 use Rattle.pawn_wire.specs.declared.fault.HeadFault.TheVariants.{BadHead}
 use Rattle.pawn_wire.specs.declared.fault.WireFault.{WireFault}
-use Rattle.pawn_host.specs.Split.{Ending, cut, faulted, most_requests, IsCutHead, IsRequest, HasFault, Passes, ClosesAfter, StopsAt, Splits, Begins, BeginsAndGoesOn, IsWanting}
+use Rattle.pawn_host.specs.Split.{Ending, cut, faulted, most_requests, IsCutHead, IsRequest, HasFault, PassesOver, ClosesAfter, StopsAt, Splits, Begins, BeginsAndGoesOn, IsWanting}
 use Rattle.pawn_book.specs.HostStep.{Host}
 use Rattle.pawn_book.specs.Runs.{Mark, read_as, no_memory, no_store}
-use Rattle.pawn_host.specs.Run.{Item, IsMarked, input_of, events, host_after, replies}
+use Rattle.pawn_host.specs.Run.{Item, IsMarked, input_of, events, host_after_run, replies}
 use Rattle.pawn_host.specs.Headline.{AnswerAlone, IsSettled, by_bearer}
 
 -- the rest has begun with a head that may go on, and no head of so few fields can come of it
@@ -30,7 +30,7 @@ AreCutAndFault e f = ((e ≡ cut) × (f ≡ faulted BadHead)) ⊎ ((e ≡ faulte
 
 -- the two endings are left open by what is left after these requests
 abbrev pub IsLeftOpen : List ℕ → List (List ℕ) → Ending → Ending → Type 0
-IsLeftOpen stream requests e f = (rest : List ℕ) × Passes stream requests rest × IsOpen rest × AreCutAndFault e f
+IsLeftOpen stream requests e f = (rest : List ℕ) × PassesOver stream requests rest × IsOpen rest × AreCutAndFault e f
 
 -- a stream has one split, but for the ending in a rest that is open
 abbrev pub SplitIsUnique : Type 0
@@ -69,13 +69,13 @@ pub data Refusal : Type 0 where
   for_memory : Refusal
   by_store : Refusal
 
-abbrev pub refusal_of : Mark WireFault → Refusal
-refusal_of (read_as said) = unrefused
-refusal_of no_memory = for_memory
-refusal_of no_store = by_store
+abbrev pub refusal_of_mark : Mark WireFault → Refusal
+refusal_of_mark (read_as said) = unrefused
+refusal_of_mark no_memory = for_memory
+refusal_of_mark no_store = by_store
 
 abbrev pub refusals : List Item → List Refusal
-refusals items = map (λ i. refusal_of i.mark) items
+refusals items = map (λ i. refusal_of_mark i.mark) items
 
 -- what was handed in, and which items were refused, decide the items
 abbrev pub ItemsAreUnique : Type 0
@@ -86,21 +86,21 @@ ItemsAreUnique =
 abbrev pub RunReadsEvents : Type 0
 RunReadsEvents =
     (h : Host) (operator : ℕ) (a b : List Item) → events a ≡ events b
-    → (host_after h operator a ≡ host_after h operator b) × (replies h operator a ≡ replies h operator b)
+    → (host_after_run h operator a ≡ host_after_run h operator b) × (replies h operator a ≡ replies h operator b)
 
 -- two runs in turn are one run
 abbrev pub RunsJoin : Type 0
 RunsJoin =
     (h : Host) (operator : ℕ) (a b : List Item)
-    → (host_after h operator (a ++ b) ≡ host_after (host_after h operator a) operator b)
-    × (replies h operator (a ++ b) ≡ replies h operator a ++ replies (host_after h operator a) operator b)
+    → (host_after_run h operator (a ++ b) ≡ host_after_run (host_after_run h operator a) operator b)
+    × (replies h operator (a ++ b) ≡ replies h operator a ++ replies (host_after_run h operator a) operator b)
 
 -- once a request that closes has come, or as many requests as are answered, nothing more is wanted
 abbrev pub NothingIsWanted : Type 0
 NothingIsWanted =
     (come : List ℕ) (requests : List (List ℕ)) (rest : List ℕ)
     → (ClosesAfter come requests → IsWanting come → ⊥)
-    × (Passes come requests rest → most_requests ≤ length requests → IsWanting come → ⊥)
+    × (PassesOver come requests rest → most_requests ≤ length requests → IsWanting come → ⊥)
 
 -- a head of no more fields than allowed can still come of the rest, how long it grows aside
 abbrev pub MayGoOn : List ℕ → Type 0
@@ -121,28 +121,28 @@ RunsAnswerAlone = (h : Host) (operator : ℕ) (items : List Item) → All (IsMar
 
 -- after runs under one operator's key, from two hosts that had the same book, or none, of a number, that left it one trace, its
 -- next request is answered alike
-abbrev pub EqualBookTracesAnswerAlike : Type 0
-EqualBookTracesAnswerAlike =
+abbrev pub EqualBookTracesReplyAlike : Type 0
+EqualBookTracesReplyAlike =
     (h g : Host) (operator : ℕ) (items others : List Item) → All (IsMarked ⊥) items → All (IsMarked ⊥) others
     → (i j : ℕ) (item twin : Item) (answer other : List ℕ)
     → slice_get items i ≡ Some item → slice_get (replies h operator items) i ≡ Some answer
     → slice_get others j ≡ Some twin → slice_get (replies g operator others) j ≡ Some other
     → (request : Request)
-    → Reads item.bytes (Ok request) → Reads twin.bytes (Ok request) → item.stamp ≡ twin.stamp
+    → SaysRequest item.bytes (Ok request) → SaysRequest twin.bytes (Ok request) → item.stamp ≡ twin.stamp
     → IsSettled answer → IsSettled other
     → get h.books request.book ≡ get g.books request.book
     → book_trace request.book h operator (events (take i items)) ≡ book_trace request.book g operator (events (take j others))
     → answer ≡ other
 
 -- after runs from two hosts, under one operator's key, that left a slot one trace, its next request is answered alike
-abbrev pub EqualTracesAnswerAlike : Type 0
-EqualTracesAnswerAlike =
+abbrev pub EqualTracesReplyAlike : Type 0
+EqualTracesReplyAlike =
     (h g : Host) (operator : ℕ) (items others : List Item) → All (IsMarked ⊥) items → All (IsMarked ⊥) others
     → (i j : ℕ) (item twin : Item) (answer other : List ℕ)
     → slice_get items i ≡ Some item → slice_get (replies h operator items) i ≡ Some answer
     → slice_get others j ≡ Some twin → slice_get (replies g operator others) j ≡ Some other
     → (b : ℕ) (slot : List Receipt) (asked : BearerRequest)
-    → Reads item.bytes (Ok (by_bearer b asked)) → Reads twin.bytes (Ok (by_bearer b asked)) → item.stamp ≡ twin.stamp
+    → SaysRequest item.bytes (Ok (by_bearer b asked)) → SaysRequest twin.bytes (Ok (by_bearer b asked)) → item.stamp ≡ twin.stamp
     → is_slots slot asked ≡ true → IsSettled answer → IsSettled other
     → slot_trace b slot h operator (events (take i items)) ≡ slot_trace b slot g operator (events (take j others))
     → answer ≡ other

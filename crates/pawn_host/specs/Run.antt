@@ -7,7 +7,7 @@ use Rattle.pawn_book.specs.Runs.{Mark, read_as, no_memory, no_store, Event, Said
 use Rattle.pawn_view.specs.Text.{presented_text}
 use Rattle.pawn_view.specs.Sheets.{sheet_text}
 use Rattle.pawn_csv.specs.Rows.{csv_of}
-use Rattle.pawn_wire.specs.Request.{Reads}
+use Rattle.pawn_wire.specs.Request.{SaysRequest}
 use Rattle.pawn_wire.specs.Reply.{out_text, reply_text, fault_text}
 use Rattle.pawn_wire.specs.declared.reply.Out.TheVariants as wire
 use Rattle.pawn_wire.specs.declared.fault.WireFault.{WireFault}
@@ -22,7 +22,7 @@ pub record Item : Type 0 where
 -- the mark tells what the bytes say, where they were answered for that; want of memory is nothing that bytes say,
 -- and a fault of the store is met over a keeper alone that isn't steady
 abbrev pub IsMarkOf : Type 0 → List ℕ → Mark WireFault → Type 0
-IsMarkOf Steady bytes (read_as said) = Reads bytes said × (said ≢ Err Memory)
+IsMarkOf Steady bytes (read_as said) = SaysRequest bytes said × (said ≢ Err Memory)
 IsMarkOf Steady bytes no_memory = Unit {0}
 IsMarkOf Steady bytes no_store = Steady → ⊥
 
@@ -50,8 +50,8 @@ said_text (Answered (Exported rows)) = reply_text 200 (codes "text/csv; charset=
 said_text (Faulted fault) = fault_text fault
 
 -- the host after a run
-abbrev pub host_after : Host → ℕ → List Item → Host
-host_after h operator items = run_host h operator (events items)
+abbrev pub host_after_run : Host → ℕ → List Item → Host
+host_after_run h operator items = run_host h operator (events items)
 
 -- the replies of a run, in order
 abbrev pub replies : Host → ℕ → List Item → List (List ℕ)

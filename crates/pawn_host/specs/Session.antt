@@ -78,7 +78,7 @@ IsWithinMost (Ok ended) = HasRoom ended.how ended.acted
 IsWithinMost (Err fault) = HadRoom fault.cause fault.acted
 
 -- so many reads were made, each while more was wanted, and they took their bytes from the front of what was left
-pub record IsRead (count : ℕ) (before after : Option (List ℕ)) : Type 0 where
+pub record IsReadWhileWanted (count : ℕ) (before after : Option (List ℕ)) : Type 0 where
   pub pieces : List (List ℕ)
   pub count_is : length pieces ≡ count
   pub wanted : AreWanted [] pieces

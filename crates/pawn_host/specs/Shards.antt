@@ -6,21 +6,21 @@ use Rattle.pawn_pledge.specs.declared.command.Stamp.{Stamp}
 use Rattle.pawn_book.specs.declared.request.Request.{Request}
 use Rattle.pawn_book.specs.HostStep.{Host}
 use Rattle.pawn_book.specs.Traces.{book_trace}
-use Rattle.pawn_wire.specs.Request.{Reads}
-use Rattle.pawn_host.specs.Split.{Passes}
+use Rattle.pawn_wire.specs.Request.{SaysRequest}
+use Rattle.pawn_host.specs.Split.{PassesOver}
 use Rattle.pawn_host.specs.Run.{Item, IsMarked, input_of, events, replies}
 use Rattle.pawn_host.specs.Headline.{IsSettled}
 
 -- the bytes are a request on a book of shard k
 abbrev pub IsFor : (ℕ → ℕ) → ℕ → List ℕ → Type 0
-IsFor shard k bytes = (request : Request) × Reads bytes (Ok request) × (shard request.book ≡ k)
+IsFor shard k bytes = (request : Request) × SaysRequest bytes (Ok request) × (shard request.book ≡ k)
 
 -- of what came, each with its stamp, shard k is handed the requests on its books, in order, with their bytes and stamps
-abbrev pub Hands : (ℕ → ℕ) → ℕ → List (Stamp × List ℕ) → List (Stamp × List ℕ) → Type 0
-Hands shard k [] part = part ≡ []
-Hands shard k (came ∷ all) part =
-    (IsFor shard k came.1 × ((rest : List (Stamp × List ℕ)) × (part ≡ came ∷ rest) × Hands shard k all rest))
-    ⊎ ((IsFor shard k came.1 → ⊥) × Hands shard k all part)
+abbrev pub HandsToShards : (ℕ → ℕ) → ℕ → List (Stamp × List ℕ) → List (Stamp × List ℕ) → Type 0
+HandsToShards shard k [] part = part ≡ []
+HandsToShards shard k (came ∷ all) part =
+    (IsFor shard k came.1 × ((rest : List (Stamp × List ℕ)) × (part ≡ came ∷ rest) × HandsToShards shard k all rest))
+    ⊎ ((IsFor shard k came.1 → ⊥) × HandsToShards shard k all part)
 
 abbrev pub inputs : List Item → List (Stamp × List ℕ)
 inputs items = map input_of items
@@ -32,7 +32,7 @@ bytes_of came = map (λ c. c.1) came
 abbrev pub HandedSplits : Type 0
 HandedSplits =
     (shard : ℕ → ℕ) (k : ℕ) (came part : List (Stamp × List ℕ)) (stream rest : List ℕ)
-    → Passes stream (bytes_of came) rest → Hands shard k came part → Passes (concat (bytes_of part)) (bytes_of part) []
+    → PassesOver stream (bytes_of came) rest → HandsToShards shard k came part → PassesOver (concat (bytes_of part)) (bytes_of part) []
 
 -- where a request stands in what its shard was handed: with the same bytes and stamp, behind what came for that shard before it
 pub record IsPlaced (shard : ℕ → ℕ) (k : ℕ) (all part : List Item) (i : ℕ) (item : Item) : Type 0 where
@@ -40,22 +40,22 @@ pub record IsPlaced (shard : ℕ → ℕ) (k : ℕ) (all part : List Item) (i : 
   pub twin : Item
   pub stands : slice_get part place ≡ Some twin
   pub same : input_of twin ≡ input_of item
-  pub before : Hands shard k (inputs (take i all)) (inputs (take place part))
+  pub before : HandsToShards shard k (inputs (take i all)) (inputs (take place part))
 
 -- each request stands in what its shard was handed
 abbrev pub RequestsArePlaced : Type 0
 RequestsArePlaced =
-    (shard : ℕ → ℕ) (k : ℕ) (all part : List Item) → Hands shard k (inputs all) (inputs part)
+    (shard : ℕ → ℕ) (k : ℕ) (all part : List Item) → HandsToShards shard k (inputs all) (inputs part)
     → (i : ℕ) (item : Item) → slice_get all i ≡ Some item → IsFor shard k item.bytes → IsPlaced shard k all part i item
 
 -- Its settled answer there is, byte for byte, that of one host that was asked everything: whichever way the books are given
 -- out, where the book began alike in both, and the same of its earlier requests were settled in both.
-abbrev pub ShardsAnswerAsOne : Type 0
-ShardsAnswerAsOne =
+abbrev pub ShardsReplyAsOne : Type 0
+ShardsReplyAsOne =
     (shard : ℕ → ℕ) (k : ℕ) (own one : Host) (operator : ℕ) (all part : List Item)
-    → All (IsMarked ⊥) all → All (IsMarked ⊥) part → Hands shard k (inputs all) (inputs part)
+    → All (IsMarked ⊥) all → All (IsMarked ⊥) part → HandsToShards shard k (inputs all) (inputs part)
     → (i : ℕ) (item : Item) (placed : IsPlaced shard k all part i item) (request : Request) (answer other : List ℕ)
-    → slice_get all i ≡ Some item → Reads item.bytes (Ok request) → shard request.book ≡ k
+    → slice_get all i ≡ Some item → SaysRequest item.bytes (Ok request) → shard request.book ≡ k
     → slice_get (replies own operator part) placed.place ≡ Some answer → slice_get (replies one operator all) i ≡ Some other
     → IsSettled answer → IsSettled other
     → get own.books request.book ≡ get one.books request.book

@@ -48,9 +48,9 @@ HasFault rest f =
     ⊎ ((h : RequestHead) × (body : List ℕ) × ReadsHead rest h body × (body_length (fields_of h) ≡ Err f))
 
 -- the stream is these requests, after none of which the connection closes, and then the rest
-abbrev pub Passes : List ℕ → List (List ℕ) → List ℕ → Type 0
-Passes stream [] rest = stream ≡ rest
-Passes stream (r ∷ rs) rest = (next : List ℕ) × (stream ≡ r ++ next) × IsRequest r false × Passes next rs rest
+abbrev pub PassesOver : List ℕ → List (List ℕ) → List ℕ → Type 0
+PassesOver stream [] rest = stream ≡ rest
+PassesOver stream (r ∷ rs) rest = (next : List ℕ) × (stream ≡ r ++ next) × IsRequest r false × PassesOver next rs rest
 
 -- after n requests no further one is taken from the rest
 abbrev pub StopsAt : Ending → ℕ → List ℕ → Type 0
@@ -64,33 +64,33 @@ StopsAt closed n rest = ⊥
 abbrev pub ClosesAfter : List ℕ → List (List ℕ) → Type 0
 ClosesAfter stream requests =
     (passed : List (List ℕ)) × (last : List ℕ) × (rest : List ℕ)
-    × Passes stream passed (last ++ rest) × IsRequest last true
+    × PassesOver stream passed (last ++ rest) × IsRequest last true
     × (length passed < most_requests) × (requests ≡ passed ++ last ∷ [])
 
 -- the split of the stream: its requests, and how it ends
 abbrev pub Splits : List ℕ → List (List ℕ) → Ending → Type 0
 Splits stream requests ending =
-    ((rest : List ℕ) × Passes stream requests rest × StopsAt ending (length requests) rest)
+    ((rest : List ℕ) × PassesOver stream requests rest × StopsAt ending (length requests) rest)
     ⊎ (ClosesAfter stream requests × (ending ≡ closed))
 
 -- the split of the stream begins with these requests
 abbrev pub Begins : List ℕ → List (List ℕ) → Type 0
 Begins stream requests =
-    ((rest : List ℕ) × Passes stream requests rest × (length requests ≤ most_requests)) ⊎ ClosesAfter stream requests
+    ((rest : List ℕ) × PassesOver stream requests rest × (length requests ≤ most_requests)) ⊎ ClosesAfter stream requests
 
 -- the same, and a further request is there
 abbrev pub BeginsAndGoesOn : List ℕ → List (List ℕ) → Type 0
 BeginsAndGoesOn stream requests =
     (next : List ℕ) × (more : List ℕ) × (closes : Bool)
-    × Passes stream requests (next ++ more) × IsRequest next closes × (length requests < most_requests)
+    × PassesOver stream requests (next ++ more) × IsRequest next closes × (length requests < most_requests)
 
 -- the stream begins with these requests, none of which closes the connection, and more may be taken
 abbrev pub IsUnderWay : List ℕ → List (List ℕ) → Type 0
-IsUnderWay stream requests = (rest : List ℕ) × Passes stream requests rest × (length requests < most_requests)
+IsUnderWay stream requests = (rest : List ℕ) × PassesOver stream requests rest × (length requests < most_requests)
 
 -- more is wanted behind what has come: it is requests after which more may be taken, and a rest that holds no whole one
 abbrev pub IsWanting : List ℕ → Type 0
-IsWanting come = (requests : List (List ℕ)) × (rest : List ℕ) × Passes come requests rest × (length requests < most_requests) × HasNoWhole rest
+IsWanting come = (requests : List (List ℕ)) × (rest : List ℕ) × PassesOver come requests rest × (length requests < most_requests) × HasNoWhole rest
 
 -- each read gave a piece, and was made while more was wanted behind what had come
 abbrev pub AreWanted : List ℕ → List (List ℕ) → Type 0

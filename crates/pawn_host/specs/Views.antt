@@ -15,10 +15,10 @@ use Rattle.pawn_host.specs.declared.service.View.TheVariants.{Pledge, Sheet, Row
 use Rattle.pawn_host.specs.Keeps.{Tells}
 
 -- the request for a view
-abbrev pub asked_of : View → BrokerRequest
-asked_of (Pledge number) = broker.Show number
-asked_of (Sheet day) = broker.SheetOf day
-asked_of Rows = broker.Export
+abbrev pub view_asked : View → BrokerRequest
+view_asked (Pledge number) = broker.Show number
+view_asked (Sheet day) = broker.SheetOf day
+view_asked Rows = broker.Export
 
 -- a view is told: the text where it was written whole; this refusal where there is nothing to show, or that the store failed;
 -- else that memory was wanting. Each may be want of memory in place of it

@@ -1,7 +1,7 @@
 //! Laws of the definitions.
 ghost use Rattle.pawn_host.specs.Crashes.{CrashLeavesWhole, CrashesJoin};
-ghost use Rattle.pawn_host.specs.Laws.{SplitIsUnique, EqualBookTracesAnswerAlike, EqualTracesAnswerAlike, OpenEnds, SplitEndsEarly, SplitBegins, SplitIsFront, ItemsAreUnique, RunReadsEvents, RunsAnswerAlone, RunsJoin, FaultIsExact, NothingIsWanted};
-ghost use Rattle.pawn_host.specs.Shards.{HandedSplits, RequestsArePlaced, ShardsAnswerAsOne};
+ghost use Rattle.pawn_host.specs.Laws.{SplitIsUnique, EqualBookTracesReplyAlike, EqualTracesReplyAlike, OpenEnds, SplitEndsEarly, SplitBegins, SplitIsFront, ItemsAreUnique, RunReadsEvents, RunsAnswerAlone, RunsJoin, FaultIsExact, NothingIsWanted};
+ghost use Rattle.pawn_host.specs.Shards.{HandedSplits, RequestsArePlaced, ShardsReplyAsOne};
 
 use pawn_book::Keep;
 
@@ -58,15 +58,15 @@ pub fn fault_is_exact()
 /// Each answer of a run is that of one slot alone, and slots with equal traces are answered alike, and so are books.
 pub fn runs_answer_alone()
     ensures alone { RunsAnswerAlone }
-    ensures alike { EqualTracesAnswerAlike }
-    ensures books_alike { EqualBookTracesAnswerAlike }
+    ensures alike { EqualTracesReplyAlike }
+    ensures books_alike { EqualBookTracesReplyAlike }
 {}
 
 /// Where each request of a stream is handed to the shard of its book, each settled answer is, byte for byte, that of one host
 /// that was asked everything; and what a shard is handed is a stream of whole requests, as they came.
 pub fn shards_answer_as_one()
     ensures placed { RequestsArePlaced }
-    ensures as_one { ShardsAnswerAsOne }
+    ensures as_one { ShardsReplyAsOne }
     ensures splits { HandedSplits }
 {}
 

@@ -6,7 +6,7 @@ ghost use Rattle.pawn_book.specs.declared.request.BrokerRequest.TheVariants.{Exp
 ghost use Rattle.pawn_book.specs.Plans.{IsWritten};
 ghost use Rattle.pawn_wire.specs.Reply.{out_text};
 ghost use Rattle.pawn_host.specs.Headline.{IsRunOfSlots};
-ghost use Rattle.pawn_host.specs.Views.{TellsView, asked_of};
+ghost use Rattle.pawn_host.specs.Views.{TellsView, view_asked};
 ghost use Rattle.pawn_host.specs.Keeps.{service_keep, service_operator, answer_bytes, IsKeyOf, Tells, StaysOpen, Serves, Answers, IsActed, IsRun};
 
 use pawn_book::{
@@ -114,7 +114,7 @@ impl<K: Keep> Service<K> {
         ensures stays { StaysOpen K.keeping self.old self.new }
         ensures acted { Serves K.keeping self.old self.new
             (λ start. Answers start stamp.now
-            (record { book = book; caller = Broker key (asked_of view) })
+            (record { book = book; caller = Broker key (view_asked view) })
             (answer_bytes result)) }
     {
         match gate(&mut self.keep, book, key) {
@@ -129,7 +129,7 @@ impl<K: Keep> Service<K> {
         ensures stays { StaysOpen K.keeping self.old self.new }
         ensures acted { Serves K.keeping self.old self.new
             (λ start kept. IsKeyOf start.host book key
-            → Answers start stamp.now (record { book = book; caller = Broker key (asked_of view) })
+            → Answers start stamp.now (record { book = book; caller = Broker key (view_asked view) })
             (answer_bytes result) kept) }
     {
         match view {

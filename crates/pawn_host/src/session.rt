@@ -4,8 +4,8 @@ ghost use Rattle.std.specs.Io.KnownBytes.{Keeps, prepend_known};
 ghost use Rattle.pawn_view.specs.Ends.{write_failed, written_bytes};
 ghost use Rattle.pawn_host.specs.Limits.{most_request_bytes};
 ghost use Rattle.pawn_host.specs.Ends.{reads, read_failed, left_of};
-ghost use Rattle.pawn_host.specs.Finding.{IsFilled, Finds, FindsRest, HasHead, IsCausedBy, StopsBy, FilledBy, IsFetched};
-ghost use Rattle.pawn_host.specs.Session.{AreTaken, IsFinished, IsOver, IsRead, IsSession, IsWithinMost};
+ghost use Rattle.pawn_host.specs.Finding.{IsFilled, FindsHead, FindsRest, HasHead, IsCausedBy, StopsBy, FilledBy, IsFetched};
+ghost use Rattle.pawn_host.specs.Session.{AreTaken, IsFinished, IsOver, IsReadWhileWanted, IsSession, IsWithinMost};
 ghost use Rattle.pawn_host.specs.Keeps.{StaysOpen, Serves, answer_bytes};
 
 use crate::limits::{MOST_READS, MOST_REQUESTS};
@@ -164,7 +164,7 @@ fn await_body<R: Read>(
         (prepend_known buffer.old.items (left_of R.remaining reader.old))
         (prepend_known buffer.new.items (left_of R.remaining reader.new))) }
     ensures found { IfSome (prepend_known buffer.old.items (left_of R.remaining reader.old))
-        (λ s. Finds s result) }
+        (λ s. FindsHead s result) }
     ensures stops { StopsBy result (read_failed reader.old) (read_failed reader.new)
         (reads reader.new) }
     ensures fetched { IsFetched result buffer.old.items buffer.new.items
@@ -193,7 +193,7 @@ fn next_request<R: Read>(reader: &mut Reading<R>, buffer: &mut Vec<u8>) -> Resul
         (prepend_known buffer.old.items (left_of R.remaining reader.old))
         (prepend_known buffer.new.items (left_of R.remaining reader.new))) }
     ensures found { IfSome (prepend_known buffer.old.items (left_of R.remaining reader.old))
-        (λ s. Finds s result) }
+        (λ s. FindsHead s result) }
     ensures stops { StopsBy result (read_failed reader.old) (read_failed reader.new)
         (reads reader.new) }
     ensures fetched { IsFetched result buffer.old.items buffer.new.items
@@ -300,7 +300,7 @@ impl<K: Keep> Service<K> {
             × (write_failed writer.new ≡ false)) }
         ensures cause { IfErr result (λ fault. IsCausedBy fault.cause (read_failed reader.new)
             (reads reader.new) (write_failed writer.new)) }
-        ensures reads { IsRead (reads reader.new) (left_of R.remaining reader.old)
+        ensures reads { IsReadWhileWanted (reads reader.new) (left_of R.remaining reader.old)
             (left_of R.remaining reader.new) }
     {
         let mut buffer = Vec::new(self.alloc);

@@ -9,11 +9,11 @@ use Rattle.pawn_book.specs.declared.visit.Flow.TheVariants.{Go, Stop}
 use Rattle.pawn_book.specs.HostStep.{Host}
 use Rattle.pawn_book.specs.Keeping.{Errs, Keeping, Reads}
 use Rattle.pawn_book.specs.Visits.{Handed, HandsOver, IsShare, Visits, Whole, call_end}
-use Rattle.pawn_book.proofs.Reading.{reads_as, reads_then}
+use Rattle.pawn_book.proofs.Reading.{reads_as, reads_none, reads_then}
 use Rattle.pawn_book.specs.Sheet.{windows, windows_below}
 use Rattle.pawn_book.proofs.SheetLemmas.{handed-append, windows_begin, windows_more}
-use Rattle.pawn_keeper.specs.Handing.{Hands, flow_of}
-use Rattle.pawn_keeper.proofs.Walks.{errs_ok, reads_none}
+use Rattle.pawn_keeper.specs.Handing.{HandsRows, flow_of}
+use Rattle.pawn_keeper.proofs.Walks.{errs_ok}
 
 -- the errors of a call after a read
 pub errs_after : {K A : Type 0} {IsUnsound : Host → Type 0} (k : Keeping K) (a b c : K) {P Q : Host → Type 0} (r : Result A KeepError) → Reads k a b P → Reads k b c Q → Errs k b c IsUnsound r → Errs k a c IsUnsound r
@@ -31,7 +31,7 @@ errs_as k a b r s e is same errs = record {
 
 module _ {K V T : Type 0} (k : Keeping K) (step : V → T → Flow → V → Type 0) where
   -- the same items, in other words
-  pub hands_as : {IsUnsound : Host → Type 0} (a b : K) (v w : V) (r : Result Flow KeepError) (xs ys : Host → List T) → ((h : Host) → xs h ≡ ys h) → Hands k IsUnsound step a b v w r xs → Hands k IsUnsound step a b v w r ys
+  pub hands_as : {IsUnsound : Host → Type 0} (a b : K) (v w : V) (r : Result Flow KeepError) (xs ys : Host → List T) → ((h : Host) → xs h ≡ ys h) → HandsRows k IsUnsound step a b v w r xs → HandsRows k IsUnsound step a b v w r ys
   hands_as a b v w r xs ys same hands = record {
     given = hands.given;
     handed = hands.handed;
@@ -40,7 +40,7 @@ module _ {K V T : Type 0} (k : Keeping K) (step : V → T → Flow → V → Typ
   }
 
   -- after a read that tells what they are
-  pub hands_after : {IsUnsound : Host → Type 0} (a b c : K) (v w : V) (r : Result Flow KeepError) (xs ys : Host → List T) {P : Host → Type 0} → Reads k a b P → ((h : Host) → P h → xs h ≡ ys h) → Hands k IsUnsound step b c v w r xs → Hands k IsUnsound step a c v w r ys
+  pub hands_after : {IsUnsound : Host → Type 0} (a b c : K) (v w : V) (r : Result Flow KeepError) (xs ys : Host → List T) {P : Host → Type 0} → Reads k a b P → ((h : Host) → P h → xs h ≡ ys h) → HandsRows k IsUnsound step b c v w r xs → HandsRows k IsUnsound step a c v w r ys
   hands_after a b c v w r xs ys before same hands = record {
     given = hands.given;
     handed = hands.handed;
@@ -49,7 +49,7 @@ module _ {K V T : Type 0} (k : Keeping K) (step : V → T → Flow → V → Typ
   }
 
   -- there is nothing to hand over
-  pub hands_nothing : {IsUnsound : Host → Type 0} (a b : K) (v : V) (xs : Host → List T) {P : Host → Type 0} → Reads k a b P → ((h : Host) → P h → xs h ≡ []) → Hands k IsUnsound step a b v v (Ok Go) xs
+  pub hands_nothing : {IsUnsound : Host → Type 0} (a b : K) (v : V) (xs : Host → List T) {P : Host → Type 0} → Reads k a b P → ((h : Host) → P h → xs h ≡ []) → HandsRows k IsUnsound step a b v v (Ok Go) xs
   hands_nothing a b v xs read none = record {
     given = [];
     handed = (refl, refl);
@@ -58,7 +58,7 @@ module _ {K V T : Type 0} (k : Keeping K) (step : V → T → Flow → V → Typ
   }
 
   -- one item
-  pub hands_item : {IsUnsound : Host → Type 0} (a : K) (v w : V) (x : T) (flow : Flow) → step v x flow w → Hands k IsUnsound step a a v w (Ok flow) (λ h. x ∷ [])
+  pub hands_item : {IsUnsound : Host → Type 0} (a : K) (v w : V) (x : T) (flow : Flow) → step v x flow w → HandsRows k IsUnsound step a a v w (Ok flow) (λ h. x ∷ [])
   hands_item a v w x Go here = record {
     given = x ∷ [];
     handed = inl (w, here, (refl, refl));
@@ -73,7 +73,7 @@ module _ {K V T : Type 0} (k : Keeping K) (step : V → T → Flow → V → Typ
   }
 
   -- items that are known
-  pub hands_over : {IsUnsound : Host → Type 0} (a : K) (v w : V) (xs : List T) (flow : Flow) → HandsOver step v xs flow w → Hands k IsUnsound step a a v w (Ok flow) (λ h. xs)
+  pub hands_over : {IsUnsound : Host → Type 0} (a : K) (v w : V) (xs : List T) (flow : Flow) → HandsOver step v xs flow w → HandsRows k IsUnsound step a a v w (Ok flow) (λ h. xs)
   hands_over a v w xs flow here = record {
     given = here.0;
     handed = here.1;
@@ -82,8 +82,8 @@ module _ {K V T : Type 0} (k : Keeping K) (step : V → T → Flow → V → Typ
   }
 
   -- a read errs before anything is handed over
-  pub hands_unread : {IsUnsound : Host → Type 0} {A : Type 0} (a b : K) (v : V) (r : Result A KeepError) (s : Result Flow KeepError) (e : KeepError) (xs : Host → List T) {P : Host → Type 0} → r ≡ Err e → s ≡ Err e → Reads k a b P → Errs k a b IsUnsound r → Hands k IsUnsound step a b v v s xs
-  hands_unread {IsUnsound = IsUnsound} a b v r s e xs is same read errs = subst (λ t. Hands k IsUnsound step a b v v t xs) (sym same) (record {
+  pub hands_unread : {IsUnsound : Host → Type 0} {A : Type 0} (a b : K) (v : V) (r : Result A KeepError) (s : Result Flow KeepError) (e : KeepError) (xs : Host → List T) {P : Host → Type 0} → r ≡ Err e → s ≡ Err e → Reads k a b P → Errs k a b IsUnsound r → HandsRows k IsUnsound step a b v v s xs
+  hands_unread {IsUnsound = IsUnsound} a b v r s e xs is same read errs = subst (λ t. HandsRows k IsUnsound step a b v v t xs) (sym same) (record {
     given = [];
     handed = (refl, refl);
     reads = reads_as read (λ h p. (xs h, refl, λ go whole. cc whole));
@@ -91,7 +91,7 @@ module _ {K V T : Type 0} (k : Keeping K) (step : V → T → Flow → V → Typ
   })
 
   -- one list and then another
-  pub hands_then : {IsUnsound : Host → Type 0} (a b c : K) (v u w : V) (r : Result Flow KeepError) (xs ys : Host → List T) → Hands k IsUnsound step a b v u (Ok Go) xs → Hands k IsUnsound step b c u w r ys → Hands k IsUnsound step a c v w r (λ h. xs h ++ ys h)
+  pub hands_then : {IsUnsound : Host → Type 0} (a b c : K) (v u w : V) (r : Result Flow KeepError) (xs ys : Host → List T) → HandsRows k IsUnsound step a b v u (Ok Go) xs → HandsRows k IsUnsound step b c u w r ys → HandsRows k IsUnsound step a c v w r (λ h. xs h ++ ys h)
   hands_then a b c v u w r xs ys first then = record {
     given = first.given ++ then.given;
     handed = handed-append step v u w first.given then.given (flow_of r) first.handed then.handed;
@@ -102,8 +102,8 @@ module _ {K V T : Type 0} (k : Keeping K) (step : V → T → Flow → V → Typ
   }
 
   -- it stopped in the first list, or the call errs there: nothing of the next is handed over
-  pub hands_ended : {IsUnsound : Host → Type 0} (a b : K) (v w : V) (r s : Result Flow KeepError) (xs ys : Host → List T) → (r ≡ Ok Go → ⊥) → s ≡ r → Hands k IsUnsound step a b v w r xs → Hands k IsUnsound step a b v w s (λ h. xs h ++ ys h)
-  hands_ended {IsUnsound = IsUnsound} a b v w r s xs ys ended same first = subst (λ t. Hands k IsUnsound step a b v w t (λ h. xs h ++ ys h)) (sym same) (record {
+  pub hands_ended : {IsUnsound : Host → Type 0} (a b : K) (v w : V) (r s : Result Flow KeepError) (xs ys : Host → List T) → (r ≡ Ok Go → ⊥) → s ≡ r → HandsRows k IsUnsound step a b v w r xs → HandsRows k IsUnsound step a b v w s (λ h. xs h ++ ys h)
+  hands_ended {IsUnsound = IsUnsound} a b v w r s xs ys ended same first = subst (λ t. HandsRows k IsUnsound step a b v w t (λ h. xs h ++ ys h)) (sym same) (record {
     given = first.given;
     handed = first.handed;
     reads = reads_as first.reads (λ h share. (share.0 ++ ys h, sym (append_assoc first.given share.0 (ys h)) ∙ ap (λ t. t ++ ys h) share.1, none r ended));
@@ -115,7 +115,7 @@ module _ {K V T : Type 0} (k : Keeping K) (step : V → T → Flow → V → Typ
       none (Err e) ended' go whole = cc whole
 
   -- what was handed over is all that the visitor was handed
-  pub visits_of : {IsUnsound : Host → Type 0} {A : Type 0} (a b : K) (v w : V) (r : Result Flow KeepError) (s : Result A KeepError) (xs : Host → List T) → call_end s ≡ call_end r → Hands k IsUnsound step a b v w r xs → Visits step v w (λ given flow. Reads k a b (λ h. IsShare given flow (call_end s) (xs h)))
+  pub visits_of : {IsUnsound : Host → Type 0} {A : Type 0} (a b : K) (v w : V) (r : Result Flow KeepError) (s : Result A KeepError) (xs : Host → List T) → call_end s ≡ call_end r → HandsRows k IsUnsound step a b v w r xs → Visits step v w (λ given flow. Reads k a b (λ h. IsShare given flow (call_end s) (xs h)))
   visits_of a b v w r s xs same hands =
       (hands.given, flow_of r, hands.handed, reads_as hands.reads (λ h share. subst (λ end. IsShare hands.given (flow_of r) end (xs h)) (sym same) share))
 
@@ -140,7 +140,7 @@ module _ {K V T : Type 0} (k : Keeping K) (step : V → T → Flow → V → Typ
           )
 
       -- .. and it is the last
-      pub ends_by : {IsUnsound : Host → Type 0} (xs : List T) (m : ℕ) → Reads k now new (λ h. (past n h ≡ xs ++ past m h) × (past m h ≡ [])) → HandsOver step u xs Go w → Hands k IsUnsound step old new v w (Ok Go) listed
+      pub ends_by : {IsUnsound : Host → Type 0} (xs : List T) (m : ℕ) → Reads k now new (λ h. (past n h ≡ xs ++ past m h) × (past m h ≡ [])) → HandsOver step u xs Go w → HandsRows k IsUnsound step old new v w (Ok Go) listed
       ends_by xs m read here =
           let all : here.0 ≡ xs = sym (append-nil here.0) ∙ ap (λ t. here.0 ++ t) (sym (here.2.2 refl refl)) ∙ here.2.1 in record {
             given = before.0 ++ here.0;
@@ -150,7 +150,7 @@ module _ {K V T : Type 0} (k : Keeping K) (step : V → T → Flow → V → Typ
           }
 
       -- .. and the visitor stops in it
-      pub stops_by : {IsUnsound : Host → Type 0} (xs : List T) (m : ℕ) → Reads k now new (λ h. past n h ≡ xs ++ past m h) → HandsOver step u xs Stop w → Hands k IsUnsound step old new v w (Ok Stop) listed
+      pub stops_by : {IsUnsound : Host → Type 0} (xs : List T) (m : ℕ) → Reads k now new (λ h. past n h ≡ xs ++ past m h) → HandsOver step u xs Stop w → HandsRows k IsUnsound step old new v w (Ok Stop) listed
       stops_by xs m read here = record {
         given = before.0 ++ here.0;
         handed = handed-append step v u w before.0 here.0 Stop before.1 here.1;
@@ -163,8 +163,8 @@ module _ {K V T : Type 0} (k : Keeping K) (step : V → T → Flow → V → Typ
       }
 
       -- the call errs
-      pub fails_at : {IsUnsound : Host → Type 0} {A : Type 0} {P : Host → Type 0} (r : Result A KeepError) (s : Result Flow KeepError) (e : KeepError) → r ≡ Err e → s ≡ Err e → Reads k now new P → Errs k now new IsUnsound r → Hands k IsUnsound step old new v u s listed
-      fails_at {IsUnsound = IsUnsound} r s e is same read errs = subst (λ t. Hands k IsUnsound step old new v u t listed) (sym same) (record {
+      pub fails_at : {IsUnsound : Host → Type 0} {A : Type 0} {P : Host → Type 0} (r : Result A KeepError) (s : Result Flow KeepError) (e : KeepError) → r ≡ Err e → s ≡ Err e → Reads k now new P → Errs k now new IsUnsound r → HandsRows k IsUnsound step old new v u s listed
+      fails_at {IsUnsound = IsUnsound} r s e is same read errs = subst (λ t. HandsRows k IsUnsound step old new v u t listed) (sym same) (record {
         given = before.0;
         handed = before.1;
         reads = reads_then before.2 read (λ h are p. (past n h, are, λ go whole. cc whole));
@@ -173,15 +173,15 @@ module _ {K V T : Type 0} (k : Keeping K) (step : V → T → Flow → V → Typ
 
   -- ---- window by window
 
-  module _ {IsUnsound : Host → Type 0} (f : Host → ℕ → List T) (a b c : K) (v u w : V) (n : ℕ) (before : Hands k IsUnsound step a b v u (Ok Go) (λ h. flat_map (f h) (windows_below n))) where
-    pub windows_go : Hands k IsUnsound step b c u w (Ok Go) (λ h. f h n) → Hands k IsUnsound step a c v w (Ok Go) (λ h. flat_map (f h) (windows_below (n + 1)))
+  module _ {IsUnsound : Host → Type 0} (f : Host → ℕ → List T) (a b c : K) (v u w : V) (n : ℕ) (before : HandsRows k IsUnsound step a b v u (Ok Go) (λ h. flat_map (f h) (windows_below n))) where
+    pub windows_go : HandsRows k IsUnsound step b c u w (Ok Go) (λ h. f h n) → HandsRows k IsUnsound step a c v w (Ok Go) (λ h. flat_map (f h) (windows_below (n + 1)))
     windows_go here =
         let next : suc n ≡ n + 1 = omega arith in
         hands_as a c v w (Ok Go) (λ h. flat_map (f h) (windows_below n) ++ f h n) (λ h. flat_map (f h) (windows_below (n + 1))) (λ h. sym (windows_more (f h) n) ∙ ap (λ m. flat_map (f h) (windows_below m)) next)
         (hands_then a b c v u w (Ok Go) (λ h. flat_map (f h) (windows_below n)) (λ h. f h n) before here)
 
     -- it stopped in one, or the call errs there
-    pub windows_end : (r s : Result Flow KeepError) → n < 16 → (r ≡ Ok Go → ⊥) → s ≡ r → Hands k IsUnsound step b c u w r (λ h. f h n) → Hands k IsUnsound step a c v w s (λ h. flat_map (f h) windows)
+    pub windows_end : (r s : Result Flow KeepError) → n < 16 → (r ≡ Ok Go → ⊥) → s ≡ r → HandsRows k IsUnsound step b c u w r (λ h. f h n) → HandsRows k IsUnsound step a c v w s (λ h. flat_map (f h) windows)
     windows_end r s few ended same here =
         let left : (16 - suc n) + suc n ≡ 16 = omega (arith, few) in
         let rest : (h : Host) → (ys : List T) × (flat_map (f h) (windows_below ((16 - suc n) + suc n)) ≡ flat_map (f h) (windows_below (suc n)) ++ ys) = λ h. windows_begin (f h) (suc n) (16 - suc n) in

@@ -5,7 +5,7 @@ use Rattle.pawn_book.specs.declared.visit.Flow.{Flow}
 use Rattle.pawn_book.specs.declared.visit.Flow.TheVariants.{Go, Stop}
 use Rattle.pawn_book.specs.Visits.{Handed, HandsOver}
 use Rattle.pawn_book.proofs.VisitLemmas.{handed-snoc}
-use Rattle.pawn_tables.specs.Pages.{most_rows}
+use Rattle.pawn_tables.specs.Pages.{most_page_rows}
 use Rattle.pawn_tables.specs.Places.{page_behind}
 
 module _ {V A T : Type 0} (step : V → T → Flow → V → Type 0) (shows : A → T) (xs : List A) where
@@ -40,9 +40,9 @@ short_last (suc k) (x ∷ xs) short = short_last k xs (omega (arith, short))
 
 module _ {A : Type 0} (n : ℕ) (xs page : List A) (is : page ≡ page_behind n xs) where
   -- what is left goes on behind the page
-  pub page_next : drop n xs ≡ page ++ drop (n + most_rows) xs
-  page_next = sym (take-append-drop most_rows (drop n xs)) ∙ (λ i. sym is i ++ drop-drop most_rows n xs i)
+  pub page_next : drop n xs ≡ page ++ drop (n + most_page_rows) xs
+  page_next = sym (take-append-drop most_page_rows (drop n xs)) ∙ (λ i. sym is i ++ drop-drop most_page_rows n xs i)
 
   -- nothing is left behind one that is not full
-  pub page_ends : length page < most_rows → drop (n + most_rows) xs ≡ []
-  page_ends short = sym (drop-drop most_rows n xs) ∙ short_last most_rows (drop n xs) (subst (λ l. length l < most_rows) is short)
+  pub page_ends : length page < most_page_rows → drop (n + most_page_rows) xs ≡ []
+  page_ends short = sym (drop-drop most_page_rows n xs) ∙ short_last most_page_rows (drop n xs) (subst (λ l. length l < most_page_rows) is short)

@@ -8,7 +8,7 @@ use Rattle.pawn_book.specs.declared.sheet.Part.TheVariants as part_of
 use Rattle.pawn_book.specs.Sheet.{part_items, window_items, window_sheet, windows_below, windows_sheet, with_head}
 use Rattle.pawn_book.proofs.SheetLemmas.{windows_more}
 use Rattle.pawn_tables.specs.Lines.{IsLinesPage, NamesWindows, item_of, items_past}
-use Rattle.pawn_tables.specs.Pages.{most_rows, page_end}
+use Rattle.pawn_tables.specs.Pages.{most_page_rows, page_end}
 use Rattle.pawn_tables.specs.declared.line.Line.{Line}
 use Rattle.pawn_keeper.specs.Windows.{named_sheet, named_sheets}
 
@@ -17,7 +17,7 @@ items_of part page = map (item_of part) page
 
 module _ (part : Part) (day : ℕ) (ps : List PledgeValue) (page : List Line) (told : IsLinesPage part day 0 ps page) where
   -- a page that is not full has them all
-  pub whole_page : length page < most_rows → part_items part day ps ≡ items_of part page
+  pub whole_page : length page < most_page_rows → part_items part day ps ≡ items_of part page
   whole_page short = told.goes_on ∙ ap (λ xs. items_of part page ++ xs) (told.is_last short) ∙ append-nil (items_of part page)
 
 -- a window for which somebody comes is named

@@ -13,7 +13,7 @@ use Rattle.pawn_book.specs.BookStep.{BookValue, pledge_from, pledge_in}
 use Rattle.pawn_book.specs.HostStep.{Host}
 use Rattle.pawn_book.specs.Keeping.{Errs, Keeping, Reads, pledges_of}
 use Rattle.pawn_book.specs.Visits.{Front, Handed, IsShare, Visits, Whole}
-use Rattle.pawn_book.proofs.Reading.{reads_then}
+use Rattle.pawn_book.proofs.Reading.{reads_none, reads_then}
 use Rattle.pawn_book.proofs.VisitLemmas.{handed-snoc}
 
 take_next : {A : Type 0} (xs : List A) (i : ℕ) (x : A) → slice_get xs i ≡ Some x → take (suc i) xs ≡ take i xs ++ x ∷ []
@@ -29,16 +29,6 @@ take_past : {A : Type 0} (xs : List A) (i : ℕ) → slice_get xs i ≡ None →
 take_past [] i none = take_nothing i
 take_past (y ∷ xs) zero none = absurd (let e = none in cc)
 take_past (y ∷ xs) (suc i) none = ap (λ l. y ∷ l) (take_past xs i none)
-
--- a call that read nothing
-pub reads_none : {K : Type 0} (k : Keeping K) (s : K) (P : Host → Type 0) → ((h : Host) → P h) → Reads k s s P
-reads_none k s P all = record {
-  on = record { past = λ honest. honest; served = λ honest now. now; stays = λ steady. steady; whole = λ honest whole. whole };
-  same = λ honest h at. at;
-  back = λ honest now h at. at;
-  tells = λ honest h at. all h;
-  crash = λ honest left at. at;
-}
 
 module _ {K V T : Type 0} (k : Keeping K) (step : V → T → Flow → V → Type 0) (listed : Host → List T) where
   -- the first elements were handed over, and the visitor wants more

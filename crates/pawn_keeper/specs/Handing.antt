@@ -14,7 +14,7 @@ flow_of (Err e) = Go
 
 -- the visitor was handed the items that are listed of the host, all of them unless it stopped or the call errs, and then a
 -- front; a row is no record only of a host that is unsound in this way
-pub record Hands {K V T : Type 0} (k : Keeping K) (IsUnsound : Host → Type 0) (step : V → T → Flow → V → Type 0) (old new : K) (v w : V) (result : Result Flow KeepError) (listed : Host → List T) : Type 0 where
+pub record HandsRows {K V T : Type 0} (k : Keeping K) (IsUnsound : Host → Type 0) (step : V → T → Flow → V → Type 0) (old new : K) (v w : V) (result : Result Flow KeepError) (listed : Host → List T) : Type 0 where
   pub given : List T
   pub handed : Handed step v given (flow_of result) w
   pub reads : Reads k old new (λ h. IsShare given (flow_of result) (call_end result) (listed h))

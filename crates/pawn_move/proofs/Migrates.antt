@@ -19,7 +19,7 @@ use Rattle.pawn_tables.specs.StandsFor.{StandsFor}
 use Rattle.pawn_move.proofs.Told.{third_is_ours}
 use Rattle.pawn_move.specs.declared.fault.MoveFault.{MoveFault}
 use Rattle.pawn_move.specs.declared.fault.MoveFault.TheVariants.{NotOurs, NewerSchema, Damaged, Store, Memory}
-use Rattle.pawn_move.specs.Migrating.{HoldMoved, HoldSameHost, IsFailure, IsMoved, IsUnmovable, Migrates, MigratesOwed, MovesStore, MovesStoreOwed, TellsNumber, fault_of}
+use Rattle.pawn_move.specs.Migrating.{HoldMoved, HoldSameHost, IsFailure, IsMoved, IsUnmovable, Migrates, MigratesOwed, MovesStore, MovesStoreOwed, TellsNumber, move_fault_of}
 use Rattle.pawn_move.specs.StandsUnder.{IsSchema, StandsUnder}
 
 -- an older schema is the first or the second
@@ -129,7 +129,7 @@ module _ (s0 s1 : State) (last : IsTrue s0.is_open → (trees : Trees) → s0.ma
   pub went_owed : (s2 : State) (from : ℕ) → TellsNumber s0 s1 (Ok from) → MovesStore from s1 s2 (Ok tt) → MovesStoreOwed from s1 s2 (Ok tt) → MigratesOwed s0 s2 (Ok (from, 3))
   went_owed s2 from it mv owed clean n h schema less none st = owed clean h none (on s2 from it (Ok tt) mv (early s2 from it (Ok tt) mv clean) n h schema st).1
 
-  pub failed : (s2 : State) (from : ℕ) (e : KeepError) → TellsNumber s0 s1 (Ok from) → MovesStore from s1 s2 (Err e) → Migrates s0 s2 (Err (fault_of e))
+  pub failed : (s2 : State) (from : ℕ) (e : KeepError) → TellsNumber s0 s1 (Ok from) → MovesStore from s1 s2 (Err e) → Migrates s0 s2 (Err (move_fault_of e))
   failed s2 from e it mv = record {
     found = λ clean. tt;
     moved = λ clean n h schema none st. unmoved n h e (moves s2 from it (Err e) mv clean n h schema none st);
@@ -140,7 +140,7 @@ module _ (s0 s1 : State) (last : IsTrue s0.is_open → (trees : Trees) → s0.ma
     crash = crashed s0 s2 last (survived s2 from it (Err e) mv);
   }
     where
-      unmoved : (n : ℕ) (h : Host) (x : KeepError) → Finds {A = Unit {0}} (Err x) (λ done. OpensAs s2 h) (HasUnsoundBook h) → IsMoved n h s2 (Err (fault_of x))
+      unmoved : (n : ℕ) (h : Host) (x : KeepError) → Finds {A = Unit {0}} (Err x) (λ done. OpensAs s2 h) (HasUnsoundBook h) → IsMoved n h s2 (Err (move_fault_of x))
       unmoved n h Keeper.Memory it = tt
       unmoved n h (Keeper.Store NoRecord) it = it
       unmoved n h (Keeper.Store Database) it = tt
@@ -149,7 +149,7 @@ module _ (s0 s1 : State) (last : IsTrue s0.is_open → (trees : Trees) → s0.ma
       no_sound h None at found = found at
       no_sound h (Some k) at found = (0, (k, at, λ sound. absurd (let least = sound.0.0 in omega (arith, least))))
 
-      refuses : (x : KeepError) → ((n : ℕ) (h : Host) → IsSchema n → get h.books 0 ≡ None → StandsUnder n s0.now h → Finds {A = Unit {0}} (Err x) (λ done. OpensAs s2 h) (HasUnsoundBook h)) → IsUnmovable s0.now (fault_of x)
+      refuses : (x : KeepError) → ((n : ℕ) (h : Host) → IsSchema n → get h.books 0 ≡ None → StandsUnder n s0.now h → Finds {A = Unit {0}} (Err x) (λ done. OpensAs s2 h) (HasUnsoundBook h)) → IsUnmovable s0.now (move_fault_of x)
       refuses Keeper.Memory it = tt
       refuses (Keeper.Store NoRecord) it = λ n h schema st. no_sound h (get h.books 0) refl (λ none. it n h schema none st)
       refuses (Keeper.Store Database) it = tt

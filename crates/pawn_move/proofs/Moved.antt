@@ -8,7 +8,7 @@ use Rattle.pawn_pledge.specs.Pledge.{PledgeValue}
 use Rattle.pawn_pledge.specs.Replayable.{Each}
 use Rattle.pawn_book.specs.BookStep.{BookValue}
 use Rattle.pawn_tables.specs.Schema.{extensions, first_schema, second_schema, extensions_tree}
-use Rattle.pawn_tables.specs.Rows.{extension_cells, extensions_listed, number_of, placed_from, under}
+use Rattle.pawn_tables.specs.Rows.{extension_cells, extensions_listed, number_in_book, placed_from, under}
 use Rattle.one_table.specs.Listing.{Holds}
 use Rattle.pawn_move.proofs.Filled.{firsts, untold}
 use Rattle.pawn_move.proofs.Upto.{Entry, below_key, here_found, low, past_head}
@@ -46,7 +46,7 @@ second_lists db h st = record { schema_is = st.lists.schema_is; sound = st.lists
 none_of_pledges : (b : ℕ) (ps : List PledgeValue) → Each (λ p. p.extensions ≡ []) ps → flat_map (extensions_listed b) ps ≡ []
 none_of_pledges b [] none = refl
 none_of_pledges b (p ∷ ps) none =
-    ap (λ es. placed_from (λ place e. under b (number_of p) (extension_cells place e)) 1 es ++ flat_map (extensions_listed b) ps) none.0 ∙ none_of_pledges b ps none.1
+    ap (λ es. placed_from (λ place e. under b (number_in_book p) (extension_cells place e)) 1 es ++ flat_map (extensions_listed b) ps) none.0 ∙ none_of_pledges b ps none.1
 
 none_of_books : (f : ℕ → BookValue → List Row) (es : List Entry) → T (is_sorted nat_cmp es) → ((c : ℕ) (x : BookValue) → find_key nat_cmp c es ≡ Some x → f c x ≡ []) → flat_map (λ (e : Entry). f e.0 e.1) es ≡ []
 none_of_books f [] sorted none = refl

@@ -16,7 +16,7 @@ use Rattle.pawn_tables.specs.Meta.{notes}
 use Rattle.pawn_tables.specs.Schema.{first_schema, second_schema, keep_schema, meta, meta_tree}
 use Rattle.pawn_move.specs.declared.fault.MoveFault.{MoveFault}
 use Rattle.pawn_move.specs.declared.fault.MoveFault.TheVariants.{NotOurs, NewerSchema, Damaged, Store, Memory}
-use Rattle.pawn_move.specs.Migrating.{IsFailure, IsNumberJudged, IsTold, IsUnmovable, TellsNumber}
+use Rattle.pawn_move.specs.Migrating.{IsFailure, IsNumberJudged, IsMoveTold, IsUnmovable, TellsNumber}
 use Rattle.pawn_move.specs.StandsUnder.{IsSchema, StandsUnder, ThirdIsOurs, listed_under, schema_numbered}
 
 -- ---- the third schema is the program's
@@ -71,7 +71,7 @@ module _ (old new : State) where
   known (Ok n) o v = v.1
   known (Err why) o v = tt
 
-  standing : (n : ℕ) (h : Host) → IsSchema n → StandsUnder n old.now h → (r : Result ℕ MoveFault) (o : Option ℕ) → IsNumberJudged o r → IsNoted old.now o → IsTold n r
+  standing : (n : ℕ) (h : Host) → IsSchema n → StandsUnder n old.now h → (r : Result ℕ MoveFault) (o : Option ℕ) → IsNumberJudged o r → IsNoted old.now o → IsMoveTold n r
   standing n h schema st (Ok m) None v is = absurd (let e = v.0 in cc)
   standing n h schema st (Ok m) (Some k) v is = let same : k ≡ m = (let e = v.0 in cc) in sym same ∙ only_number n old.now h st k is
   standing n h schema st (Err NotOurs) None v is = notes_some n old.now h st is

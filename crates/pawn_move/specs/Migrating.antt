@@ -41,17 +41,17 @@ IsFailure Store = Unit {0}
 IsFailure Memory = Unit {0}
 
 -- what is told where the transaction failed
-abbrev pub fault_of : KeepError → MoveFault
-fault_of Keeper.Memory = Memory
-fault_of (Keeper.Store NoRecord) = Damaged
-fault_of (Keeper.Store Database) = Store
+abbrev pub move_fault_of : KeepError → MoveFault
+move_fault_of Keeper.Memory = Memory
+move_fault_of (Keeper.Store NoRecord) = Damaged
+move_fault_of (Keeper.Store Database) = Store
 
 -- ---- the schema that is told
 
 -- of tables that stand for a host under a schema, its number is told, unless the store failed
-abbrev pub IsTold : ℕ → Result ℕ MoveFault → Type 0
-IsTold n (Ok m) = m ≡ n
-IsTold n (Err why) = IsFailure why
+abbrev pub IsMoveTold : ℕ → Result ℕ MoveFault → Type 0
+IsMoveTold n (Ok m) = m ≡ n
+IsMoveTold n (Err why) = IsFailure why
 
 -- what is made of the number that a store notes
 abbrev pub IsNumberJudged : Option ℕ → Result ℕ MoveFault → Type 0
@@ -66,7 +66,7 @@ IsNumberJudged noted (Err Memory) = ⊥
 pub record TellsNumber (old new : State) (result : Result ℕ MoveFault) : Type 0 where
   pub known : IfOk result IsSchema
   pub ok : HasCleanDisk new → IfOk result (λ n. NotesSchema old.now n × IsTrue new.is_open)
-  pub stands : HasCleanDisk new → (n : ℕ) (h : Host) → IsSchema n → StandsUnder n old.now h → IsTold n result
+  pub stands : HasCleanDisk new → (n : ℕ) (h : Host) → IsSchema n → StandsUnder n old.now h → IsMoveTold n result
   pub refuses : HasCleanDisk new → IfErr result (IsUnmovable old.now)
   pub same : HasCleanDisk new → IsAsBefore old new
   pub ended : new.in_transaction ≡ false

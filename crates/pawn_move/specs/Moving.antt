@@ -19,7 +19,7 @@ use Rattle.pawn_tables.specs.Finding.{Finds}
 use Rattle.pawn_tables.specs.Rows.{totals_listed}
 use Rattle.pawn_tables.specs.Schema.{keep_schema, extensions_tree, totals_tree}
 use Rattle.pawn_tables.specs.Told.{totals_in}
-use Rattle.pawn_tables.specs.StandsFor.{AreOrdered, AreStorable, ListDebts, StandsFor, of_pledges}
+use Rattle.pawn_tables.specs.StandsFor.{AreBooksOrdered, AreStorable, ListDebts, StandsFor, of_pledges}
 use Rattle.pawn_move.specs.StandsUnder.{HasNoExtension, StandsUnder, listed_under}
 
 -- the rows of a host, where this number of a schema is noted, these rows of totals stand, and none of extensions
@@ -29,7 +29,7 @@ listed_with n owed h = with_rows (with_rows (listed_under n h) totals_tree owed)
 -- the program's tables list a host without extensions, but for its totals and the number of the schema
 pub record IsMoving (n : ℕ) (owed : List Row) (db : Tables) (h : Host) : Type 0 where
   pub lists : Lists keep_schema db (listed_with n owed h)
-  pub ordered : AreOrdered h
+  pub ordered : AreBooksOrdered h
   pub storable : AreStorable h
   pub unextended : HasNoExtension h
 
@@ -67,9 +67,9 @@ IsNextJudged h above next = IsNextBook h above next × IfSome next (AreOwedIn h)
 -- ---- totals that are put
 
 -- the rows of something, if it is there
-abbrev pub rows_of : {X : Type 0} → Option X → (X → List Row) → List Row
-rows_of None f = []
-rows_of (Some x) f = f x
+abbrev pub rows_if_any : {X : Type 0} → Option X → (X → List Row) → List Row
+rows_if_any None f = []
+rows_if_any (Some x) f = f x
 
 -- the rows of totals of the pledges of a book
 abbrev pub totals_of_book : Host → ℕ → List Row

@@ -10,7 +10,7 @@ use Rattle.one_table.specs.Listing.{Lists, Listed, with_rows}
 use Rattle.pawn_saving.specs.Counted.{listed_as}
 use Rattle.pawn_tables.specs.Meta.{notes}
 use Rattle.pawn_tables.specs.Schema.{first_schema, second_schema, keep_schema, meta_tree}
-use Rattle.pawn_tables.specs.StandsFor.{AreOrdered, AreStorable, StandsFor}
+use Rattle.pawn_tables.specs.StandsFor.{AreBooksOrdered, AreStorable, StandsFor}
 
 -- the number of a schema; the program's is the third
 abbrev pub IsSchema : ℕ → Type 0
@@ -37,7 +37,7 @@ pub record StandsUnder (n : ℕ) (db : Database) (h : Host) : Type 0 where
   -- what the tables of an older schema can't tell of
   pub unextended : n < 3 → HasNoExtension h
   -- what no row tells
-  pub ordered : AreOrdered h
+  pub ordered : AreBooksOrdered h
   pub storable : AreStorable h
 
 -- so the tables that stand for a host stand for it under the third schema, and none else do

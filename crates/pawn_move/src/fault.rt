@@ -1,5 +1,5 @@
 ghost use Rattle.std.specs.Prelude.{◌≡◌};
-ghost use Rattle.pawn_move.specs.Migrating.{IsFailure, fault_of};
+ghost use Rattle.pawn_move.specs.Migrating.{IsFailure, move_fault_of};
 
 use pawn_book::{KeepError, StoreFault};
 use pawn_opening::OpenFault;
@@ -32,7 +32,7 @@ impl MoveFault {
 
 /// Why a transaction did not move a store.
 pub(crate) fn unmoved(error: KeepError) -> MoveFault
-    ensures told { result ≡ fault_of error }
+    ensures told { result ≡ move_fault_of error }
 {
     match error {
         KeepError::Memory => MoveFault::Memory,

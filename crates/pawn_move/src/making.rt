@@ -1,7 +1,5 @@
-ghost use Rattle.std.specs.Prelude.{◌≡◌, ◌≢◌, ℕ, IsTrue, Ok, Err, OnOk, is_ok};
-ghost use Rattle.sqlite.specs.Values.{bound};
+ghost use Rattle.std.specs.Prelude.{◌≡◌, ◌≢◌, Ok, Err, is_ok};
 ghost use Rattle.sqlite.specs.Held.{state};
-ghost use Rattle.sqlite.specs.State.{Executes, HasCleanDisk};
 ghost use Rattle.pawn_book.specs.declared.fault.KeepError.TheVariants as Keeper;
 ghost use Rattle.pawn_book.specs.declared.fault.StoreFault.TheVariants.{NoRecord};
 ghost use Rattle.one_table.specs.Lending.{IsLent};
@@ -9,42 +7,10 @@ ghost use Rattle.pawn_tables.specs.Schema.{first_schema, second_schema, keep_sch
 ghost use Rattle.pawn_opening.specs.Laying.{AddsTable};
 ghost use Rattle.pawn_move.specs.Moving.{NotesProgram};
 
-use one_table::run;
-use pawn_book::{KeepError, StoreFault};
+use pawn_book::KeepError;
 use pawn_opening::SCHEMA;
-use sqlite::{Alter, Error, ErrorCode, Transaction, params};
-use sqlite_value::value::ValueRef;
-
-/// Why a statement was not run.
-pub(crate) fn refused(error: Error) -> KeepError
-    ensures no_row { result ≢ Keeper.Store NoRecord }
-{
-    match error {
-        Error::SqliteFailure(ErrorCode::OutOfMemory) => KeepError::Memory,
-        _ => KeepError::Store(StoreFault::Database),
-    }
-}
-
-// Runs a statement that shows no rows.
-fn write<S: Alter>(
-    tx: &mut Transaction<'_, S>,
-    sql: &str,
-    params: &[ValueRef<'_>],
-) -> Result<(), KeepError>
-    ensures same_reference { tx.new.conn.ghost_name ≡ tx.old.conn.ghost_name }
-    ensures ran { HasCleanDisk (state S.Store tx.new.conn.now) → IsTrue
-        (state S.Store tx.old.conn.now).in_transaction → OnOk result
-        ((count : ℕ) × Executes sql.now (bound params.now) (state S.Store tx.old.conn.now)
-        (state S.Store tx.new.conn.now) (Ok count)) }
-    ensures no_row { result ≢ Err (Keeper.Store NoRecord) }
-    ensures lent { IsLent (state S.Store tx.old.conn.now) (state S.Store tx.new.conn.now)
-        (is_ok result) }
-{
-    match run(tx, sql, params) {
-        Ok(()) => Ok(()),
-        Err(error) => Err(refused(error)),
-    }
-}
+use pawn_tables::write;
+use sqlite::{Alter, Transaction, params};
 
 /// Makes the table of totals, beside those of the first schema.
 pub(crate) fn make_totals<S: Alter>(tx: &mut Transaction<'_, S>) -> Result<(), KeepError>

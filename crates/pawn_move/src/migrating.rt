@@ -5,12 +5,12 @@ ghost use Rattle.pawn_move.specs.Migrating.{Migrates, MigratesOwed, MovesStore, 
 ghost use Rattle.pawn_move.specs.Moving.{Moves, MovesOwed};
 
 use crate::fault::{MoveFault, unmoved};
-use crate::making::refused;
 use crate::moving::{move_first, move_second};
 use crate::telling::schema_of;
 use one_table::know_settled;
 use pawn_book::KeepError;
 use pawn_opening::SCHEMA;
+use pawn_tables::refused;
 use sqlite::{Alter, Connection, Transaction};
 use std::alloc::Global;
 

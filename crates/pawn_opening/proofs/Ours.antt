@@ -27,7 +27,7 @@ use Rattle.pawn_tables.specs.Meta.{notes}
 use Rattle.pawn_tables.specs.StandsFor.{StandsFor}
 use Rattle.pawn_opening.specs.declared.fault.OpenFault.{OpenFault}
 use Rattle.pawn_opening.specs.declared.fault.OpenFault.TheVariants.{NotOurs, OldSchema, Store, Memory}
-use Rattle.pawn_opening.specs.Refusing.{Answers, HasNoAnswer, IsEmptyStore, IsNumber, IsRefusedFor, IsStoreFault, NotesNoSchema, NotesSchema, schema_text}
+use Rattle.pawn_opening.specs.Refusing.{AnswersOpening, HasNoAnswer, IsEmptyStore, IsOneNumber, IsRefusedFor, IsStoreFault, NotesNoSchema, NotesSchema, schema_text}
 
 -- the text asks meta of a schema, where it stands in its tree
 abbrev pub AsksMeta : Schema → Type 0
@@ -52,7 +52,7 @@ module _ (db : Database) (s : Schema) (asks : AsksMeta s) (n counted limit : ℕ
   pub is_understood : HasNoAnswer db → ⊥
   is_understood none = subst IsPlain (sym known ∙ none.1) asks.2
 
-  answers_number : (rows : List Row) → Answers db rows → rows ≡ (Int (pos n) ∷ []) ∷ []
+  answers_number : (rows : List Row) → AnswersOpening db rows → rows ≡ (Int (pos n) ∷ []) ∷ []
   answers_number rows a =
       let tests : List Term = op2 (Compare Eq Binary) (col 1 1) (lit (Text (codes "schema"))) ∷ [] in
       let shows : List Term = col 1 2 ∷ [] in
@@ -67,7 +67,7 @@ module _ (db : Database) (s : Schema) (asks : AsksMeta s) (n counted limit : ℕ
       let one = one_permutation _ _ (subst (λ xs. IsPermutation xs (map cells (filter is_schema (map (columns_of meta) (db.trees meta_tree))))) (alone n counted limit) (IsPermutation-map cells _ _ (IsPermutation-filter is_schema _ _ noted.same))) in
       one_permutation _ rows (subst (λ xs. IsPermutation xs rows) (by_columns ∙ one) by_rows)
 
-  pub is_number : (rows : List Row) → Answers db rows → IsNumber rows n
+  pub is_number : (rows : List Row) → AnswersOpening db rows → IsOneNumber rows n
   is_number rows a = (Int (pos n) ∷ [], answers_number rows a, refl)
 
   -- no other number is noted

@@ -20,7 +20,7 @@ use Rattle.sqlite_trees.specs.declared.error.StoreError.{StoreError}
 use Rattle.sqlite_trees.specs.declared.error.StoreError.TheVariants.{OutOfMemory, Io, Corrupt, Full, Broken, Unstorable}
 use Rattle.one_table.proofs.Queries.{IsQuery, OnlyReads, only_reads}
 use Rattle.pawn_opening.specs.Opened.{IsAsBefore}
-use Rattle.pawn_opening.specs.Refusing.{Answers, HasNoAnswer, schema_text}
+use Rattle.pawn_opening.specs.Refusing.{AnswersOpening, HasNoAnswer, schema_text}
 
 asks : IsQuery (first schema_text)
 unfolding everything
@@ -42,7 +42,7 @@ rolled old new settled it = record {
 
 -- an answer came from the open store as it was
 pub record IsAnswered (old new : State) (rows : List Row) : Type 0 where
-  pub answers : Answers old.now rows
+  pub answers : AnswersOpening old.now rows
   pub unchanged : IsUnchanged old new
 
 pub answered : (old new : State) (rows : List Row) → Shown schema_text [] old new rows → IsAnswered old new rows

@@ -15,7 +15,7 @@ abbrev pub schema_text : List ℕ
 schema_text = codes "SELECT value FROM meta WHERE name = 'schema'"
 
 -- it answers with these rows
-pub record Answers (db : Database) (rows : List Row) : Type 0 where
+pub record AnswersOpening (db : Database) (rows : List Row) : Type 0 where
   pub means : Compiled
   pub is_understood : understood db.schema schema_text ≡ Ok means
   pub source : Database
@@ -27,16 +27,16 @@ abbrev pub HasNoAnswer : Database → Type 0
 HasNoAnswer db = (fault : CompileError) × (understood db.schema schema_text ≡ Err fault)
 
 -- the answer is one row, of this number
-abbrev pub IsNumber : List Row → ℕ → Type 0
-IsNumber rows n = (row : Row) × (rows ≡ row ∷ []) × (column row 0 ≡ Int (pos n))
+abbrev pub IsOneNumber : List Row → ℕ → Type 0
+IsOneNumber rows n = (row : Row) × (rows ≡ row ∷ []) × (column row 0 ≡ Int (pos n))
 
 -- the store notes this number of its schema
 abbrev pub NotesSchema : Database → ℕ → Type 0
-NotesSchema db n = (rows : List Row) × Answers db rows × IsNumber rows n
+NotesSchema db n = (rows : List Row) × AnswersOpening db rows × IsOneNumber rows n
 
 -- it notes no number
 abbrev pub NotesNoSchema : Database → Type 0
-NotesNoSchema db = HasNoAnswer db ⊎ ((rows : List Row) × Answers db rows × ((n : ℕ) → IsNumber rows n → ⊥))
+NotesNoSchema db = HasNoAnswer db ⊎ ((rows : List Row) × AnswersOpening db rows × ((n : ℕ) → IsOneNumber rows n → ⊥))
 
 -- the number that the store notes, if it notes one
 abbrev pub IsNoted : Database → Option ℕ → Type 0
@@ -71,8 +71,8 @@ IsRefusedFor db Memory = Unit {0}
 
 -- what is read of an answer
 abbrev pub IsNumberRead : List Row → Result (Option ℕ) OpenFault → Type 0
-IsNumberRead rows (Ok None) = (n : ℕ) → IsNumber rows n → ⊥
-IsNumberRead rows (Ok (Some n)) = IsNumber rows n
+IsNumberRead rows (Ok None) = (n : ℕ) → IsOneNumber rows n → ⊥
+IsNumberRead rows (Ok (Some n)) = IsOneNumber rows n
 IsNumberRead rows (Err why) = IsStoreFault why
 
 -- what is made of a number

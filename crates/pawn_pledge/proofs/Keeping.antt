@@ -5,13 +5,13 @@ use Rattle.pawn_debt.specs.Due.{DebtValue}
 use Rattle.pawn_pledge.specs.declared.record.Extension.{Extension}
 use Rattle.pawn_pledge.specs.Words.{with_last, with_extension}
 use Rattle.pawn_pledge.specs.Pledge.{PledgeValue, end_with, end_of, debt_of}
-use Rattle.pawn_pledge.specs.Kept.{IsKept}
+use Rattle.pawn_pledge.specs.Kept.{IsPledgeKept}
 use Rattle.pawn_pledge.proofs.Pushes.{later_of-push}
 
 -- p is what the fields hold, v the value that a contract sees
-pub kept-extended : (p v : PledgeValue) (d new : DebtValue) (es : List Entry) (xs : List Extension) (x : Extension) → p ≡ v → IsKept p d → es ≡ p.entries → new ≡ record d { ends = x.until }
+pub kept-extended : (p v : PledgeValue) (d new : DebtValue) (es : List Entry) (xs : List Extension) (x : Extension) → p ≡ v → IsPledgeKept p d → es ≡ p.entries → new ≡ record d { ends = x.until }
     → xs ≡ p.extensions ++ x ∷ [] → v.standing.last ≤ x.day → end_of v < x.until
-    → IsKept (record { agreement = p.agreement; entries = es; secrets = p.secrets; extensions = xs; standing = with_last p.standing x.day }) new
+    → IsPledgeKept (record { agreement = p.agreement; entries = es; secrets = p.secrets; extensions = xs; standing = with_last p.standing x.day }) new
 kept-extended p v d new es xs x is h entries moved more later longer =
     let P : PledgeValue → Type 0 = λ q. (q.standing.last ≤ x.day) × (end_of q < x.until) in
     let a : P p = subst P (sym is) (later, longer) in

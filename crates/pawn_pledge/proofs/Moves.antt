@@ -28,7 +28,7 @@ use Rattle.pawn_pledge.specs.declared.command.Done.{Done}
 use Rattle.pawn_pledge.specs.declared.refusal.Refusal.{Refusal}
 use Rattle.pawn_pledge.specs.Words.{with_last, with_standing, is_open, is_repeat, is_ahead, new_entry, same_flag, with_secret, issue_of, with_booking, in_state, is_standing, stands_for, with_extension}
 use Rattle.pawn_pledge.specs.Pledge.{PledgeValue, end_of, debt_of, total_on, open_status, is_realisable}
-use Rattle.pawn_pledge.specs.Step.{Judged, Answered, Changed, past, unless, bars, period_bars, under_debt, entry_step, numbered_step, hold_step, declare_bars, declare_step, books, ask_once, ask_bars, ask_step, cancel_in, cancel_step, confirm_in, decline_in, decide_step, redeem_bars, redeem_step, sell_bars, sell_step, extend_bars, extend_step, pledge_step}
+use Rattle.pawn_pledge.specs.Step.{Judged, Answered, Changed, past, unless, bars, period_bars, under_debt, entry_step, numbered_step, hold_step, declare_bars, declare_step, makes_booking, ask_once, ask_bars, ask_step, cancel_in, cancel_step, confirm_in, decline_in, decide_step, redeem_bars, redeem_step, sell_bars, sell_step, extend_bars, extend_step, pledge_step}
 use Rattle.pawn_pledge.specs.Replayable.{IsNotPassed, IsDrawnBy}
 use Rattle.pawn_pledge.specs.Commands.{IsCommand}
 use Rattle.pawn_pledge.specs.Limits.{last_window, most_extensions}
@@ -167,7 +167,7 @@ ask-moves p q c w x day window d named g h =
     ask_once-moves p q c w x day window p.standing.booking d refl
     (λ b at same new. ask-settles p x c b g (omega (arith, later, at)) (subst (IsNotPassed p) (sym at) a.0.1.1.0) (omega (arith, small, same)) (λ n. omega (arith, named n, at)) new) a.1
 
-marked : (p q : PledgeValue) (c : Command) (w x : ℕ) (b : Booking) (state : BookingState) (d : Done) → IsGated p x → p.standing.booking ≡ Some b → (b.state ≡ state → ⊥) → books p x (in_state b state) ≡ Changed q d → Move p x w c q
+marked : (p q : PledgeValue) (c : Command) (w x : ℕ) (b : Booking) (state : BookingState) (d : Done) → IsGated p x → p.standing.booking ≡ Some b → (b.state ≡ state → ⊥) → makes_booking p x (in_state b state) ≡ Changed q d → Move p x w c q
 marked p q c w x b state d g is other h = settled p q c w x _ _ d (mark-settles p x c b state g is other) h
 
 -- two states that differ
@@ -186,7 +186,7 @@ cancel-moves p q c w x (Some b) d g is h = cancel_in-moves p q c w x b b.state d
 
 confirm_in-moves : (p q : PledgeValue) (c : Command) (w x : ℕ) (b : Booking) (s : BookingState) (d : Done) → IsGated p x → p.standing.booking ≡ Some b → b.state ≡ s → confirm_in p x b s ≡ Changed q d → Move p x w c q
 confirm_in-moves p q c w x b BookingState.Asked d g is at h =
-    let a = unless-changed ((nat_lt b.day x, Refusal.BookingDay) ∷ []) (books p x (in_state b BookingState.Confirmed)) q d h in
+    let a = unless-changed ((nat_lt b.day x, Refusal.BookingDay) ∷ []) (makes_booking p x (in_state b BookingState.Confirmed)) q d h in
     marked p q c w x b BookingState.Confirmed d g is (other b.state BookingState.Asked BookingState.Confirmed at (λ e. cc)) a.1
 confirm_in-moves p q c w x b BookingState.Confirmed d g is at h = cc
 confirm_in-moves p q c w x b BookingState.Refused d g is at h = cc

@@ -12,7 +12,7 @@ use Rattle.pawn_terms.specs.Order.{DoNotFall, last_by}
 use Rattle.pawn_pledge.specs.declared.record.Issued.{Issued}
 use Rattle.pawn_pledge.specs.declared.record.Extension.{Extension}
 use Rattle.pawn_pledge.specs.Pledge.{last_element, last_until}
-use Rattle.pawn_pledge.specs.Replayable.{Each, IsLaterIssue, AreIssued, AreDistinct, AreNumbered, AreExtended}
+use Rattle.pawn_pledge.specs.Replayable.{Each, IsLaterIssue, AreIssued, AreDistinctSecrets, AreNumbered, AreExtended}
 
 last-push : {A : Type 0} (xs : List A) (x : A) → slice_get (xs ++ x ∷ []) (length xs) ≡ Some x
 last-push [] x = refl
@@ -49,7 +49,7 @@ AreIssued-push taken credit (i ∷ is) j h last = (h.0, h.1, Each-push (λ (k : 
 equal_back : (a b : ℕ) → (a == b) ≡ false → (b == a) ≡ false
 equal_back a b h = grind (arith, nat_tests, h)
 
-pub AreDistinct-push : (is : List Issued) (j : Issued) → AreDistinct is → list_any (λ i. i.secret == j.secret) is ≡ false → AreDistinct (is ++ j ∷ [])
+pub AreDistinct-push : (is : List Issued) (j : Issued) → AreDistinctSecrets is → list_any (λ i. i.secret == j.secret) is ≡ false → AreDistinctSecrets (is ++ j ∷ [])
 AreDistinct-push [] j h new = (refl, tt)
 AreDistinct-push (i ∷ is) j h new =
     let parts = or_parts (i.secret == j.secret) (list_any (λ k. k.secret == j.secret) is) new in (
@@ -100,9 +100,9 @@ later_of-push ends xs x longer = rw (last_element-push xs x) (omega (arith, long
 
 -- one secret on, by a test of the slice after it
 pub AreDistinct-step : (is : List Issued) (k : ℕ) (i : Issued) → k < length is → i ≡ get_or is k i → list_any (λ j. j.secret == i.secret) (take (length is - (k + 1)) (drop (k + 1) is)) ≡ false
-    → (AreDistinct (drop k is) → AreDistinct (drop (k + 1) is)) × (AreDistinct (drop (k + 1) is) → AreDistinct (drop k is))
+    → (AreDistinctSecrets (drop k is) → AreDistinctSecrets (drop (k + 1) is)) × (AreDistinctSecrets (drop (k + 1) is) → AreDistinctSecrets (drop k is))
 AreDistinct-step is k i lt at new =
     let e : drop k is ≡ i ∷ drop (k + 1) is = drop_more is k i lt ∙ ap (λ (x : Issued). x ∷ drop (k + 1) is) (sym at) in
     let P : List Issued → Type 0 = λ l. list_any (λ (j : Issued). j.secret == i.secret) l ≡ false in
     let fresh = subst P (take_rest is (k + 1)) new in
-    ((λ h. (subst AreDistinct e h).1), (λ h. subst AreDistinct (sym e) (fresh, h)))
+    ((λ h. (subst AreDistinctSecrets e h).1), (λ h. subst AreDistinctSecrets (sym e) (fresh, h)))

@@ -11,7 +11,7 @@ use Rattle.pawn_debt.specs.declared.entry.Sort.{Sort}
 use Rattle.pawn_debt.specs.declared.entry.Sort.TheVariants.{Draw, Repay}
 use Rattle.pawn_debt.specs.Due.{last_of, credit_of}
 use Rattle.pawn_debt.specs.Answers.{with_entry}
-use Rattle.pawn_debt.specs.Replay.{sort_answer, IsAccepted}
+use Rattle.pawn_debt.specs.Replay.{sort_answer, IsEntryAccepted}
 use Rattle.pawn_debt.proofs.ReplayLemmas.{AreAccepted-push, AreAccepted-ended, AreInside-ordered}
 use Rattle.pawn_pledge.specs.declared.record.Issued.{Issued}
 use Rattle.pawn_pledge.specs.declared.record.Extension.{Extension}
@@ -24,7 +24,7 @@ use Rattle.pawn_pledge.specs.declared.command.Command.{Command}
 use Rattle.pawn_pledge.specs.Words.{with_last, with_standing, is_written, issue_of, new_entry, with_secret, with_extension}
 use Rattle.pawn_pledge.specs.Pledge.{PledgeValue, end_with, last_until, end_of, is_small, debt_of, is_passed}
 use Rattle.pawn_pledge.specs.Step.{declare_bars}
-use Rattle.pawn_pledge.specs.Replayable.{IsNotPassed, IsLaterIssue, IsDrawnBy, IsClosed, IsOverUnder, IsBooked, IsReplayable, IsWithin}
+use Rattle.pawn_pledge.specs.Replayable.{IsNotPassed, IsLaterIssue, IsDrawnBy, IsClosed, IsOverUnder, IsBooked, IsReplayable, IsWithinLimits}
 use Rattle.pawn_pledge.specs.Commands.{IsCommand}
 use Rattle.pawn_pledge.proofs.Moves.{not_most, Move, Entering, Declaring, Extending, Settling}
 use Rattle.pawn_pledge.proofs.Settled.{IsGated, still-open}
@@ -62,7 +62,7 @@ pub stays-entered : (p : PledgeValue) (x pence : ℕ) (sort : Sort) → IsReplay
 stays-entered p x pence sort h g ok late drawn =
     let e : Entry = record { seq = length p.entries + 1; day = x; sort = sort; pence = pence } in
     let q : PledgeValue = record p { entries = p.entries ++ e ∷ []; standing = with_last p.standing x } in
-    let accepted : IsAccepted (debt_of p) e = (refl, rw ok refl) in
+    let accepted : IsEntryAccepted (debt_of p) e = (refl, rw ok refl) in
     record {
       credit = h.credit;
       issued = record { sorts = h.issued.sorts; distinct = h.issued.distinct; ordered = h.issued.ordered; before = omega (arith, h.issued.before, g.later); not_passed = h.issued.not_passed };
@@ -172,9 +172,9 @@ stays-moved p q c w x h g (Settling s to is) =
 stays-moved p q c w x h g (Extending until inside longer few named is) = subst IsReplayable (sym is) (stays-extended p x until h g inside longer)
 
 -- and a move keeps the limits
-pub within-moved : (p q : PledgeValue) (c : Command) (w x : ℕ) → x ≤ last_stamp_day → IsCommand c → IsWithin p → Move p x w c q → IsWithin q
+pub within-moved : (p q : PledgeValue) (c : Command) (w x : ℕ) → x ≤ last_stamp_day → IsCommand c → IsWithinLimits p → Move p x w c q → IsWithinLimits q
 within-moved p q c w x stamped given h (Entering sort pence ok late few drawn is) =
-    subst IsWithin (sym is) (record {
+    subst IsWithinLimits (sym is) (record {
       number = h.number;
       opening = h.opening;
       entries = omega (arith, few, length-append p.entries (new_entry p x sort pence ∷ []));
@@ -186,7 +186,7 @@ within-moved p q c w x stamped given h (Entering sort pence ok late few drawn is
     })
 within-moved p q c w x stamped given h (Declaring paper ok is) =
     let i : Issued = record { day = x; sort = issue_of paper; secret = w } in
-    subst IsWithin (sym is) (record {
+    subst IsWithinLimits (sym is) (record {
       number = h.number;
       opening = h.opening;
       entries = h.entries;
@@ -197,7 +197,7 @@ within-moved p q c w x stamped given h (Declaring paper ok is) =
       last = stamped;
     })
 within-moved p q c w x stamped given h (Settling s to is) =
-    subst IsWithin (sym is) (record {
+    subst IsWithinLimits (sym is) (record {
       number = h.number;
       opening = h.opening;
       entries = h.entries;
@@ -209,7 +209,7 @@ within-moved p q c w x stamped given h (Settling s to is) =
     })
 within-moved p q c w x stamped given h (Extending until inside longer few named is) =
     let e : Extension = record { day = x; until = until } in
-    subst IsWithin (sym is) (record {
+    subst IsWithinLimits (sym is) (record {
       number = h.number;
       opening = h.opening;
       entries = h.entries;

@@ -9,7 +9,7 @@ use Rattle.pawn_pledge.specs.declared.record.Standing.{Standing}
 use Rattle.pawn_pledge.specs.declared.command.Command.{Command}
 use Rattle.pawn_pledge.specs.Words.{with_standing, same_flag, with_hold, with_booking, in_state, after_closing, booking_after, with_closing, close}
 use Rattle.pawn_pledge.specs.Pledge.{PledgeValue}
-use Rattle.pawn_pledge.specs.Replayable.{IsNotPassed, IsClosed, IsOver, IsOverUnder, IsBooked}
+use Rattle.pawn_pledge.specs.Replayable.{IsNotPassed, IsClosed, IsBookingOver, IsOverUnder, IsBooked}
 use Rattle.pawn_pledge.specs.Commands.{IsCommand}
 use Rattle.pawn_pledge.specs.Limits.{last_window}
 
@@ -85,7 +85,7 @@ mark-settles p x c b state g at new = record {
 }
 
 -- a closed pledge's booking
-after_closing-over : (s : BookingState) → IsOver (after_closing s)
+after_closing-over : (s : BookingState) → IsBookingOver (after_closing s)
 after_closing-over BookingState.Refused = tt
 after_closing-over other = tt
 

@@ -9,8 +9,8 @@ use Rattle.pawn_terms.specs.Order.{last_by}
 use Rattle.pawn_debt.specs.declared.entry.Entry.{Entry}
 use Rattle.pawn_debt.specs.declared.owing.Totals.{Totals}
 use Rattle.pawn_debt.specs.Due.{DebtValue, credit_of, last_of}
-use Rattle.pawn_debt.specs.Kept.{IsKept}
-use Rattle.pawn_debt.specs.Replay.{AreAccepted}
+use Rattle.pawn_debt.specs.Kept.{IsDebtKept}
+use Rattle.pawn_debt.specs.Replay.{AreEntriesAccepted}
 use Rattle.pawn_pledge.specs.declared.record.Issued.{Issued}
 use Rattle.pawn_pledge.specs.declared.record.Status.TheVariants as Status
 use Rattle.pawn_pledge.specs.Pledge.{PledgeValue, end_of, is_small, debt_of, end_with, is_passed}
@@ -41,7 +41,7 @@ not_passed-earlier p d x before h =
     (le_earlier d x (end_of p) before) (grace_earlier p.agreement.opening.five_days d x (end_of p + 5) before) h
 
 -- accepted entries are numbered
-pub accepted-numbered : (d : DebtValue) (prior es : List Entry) (n : ℕ) → n ≡ length prior + 1 → AreAccepted d prior es → AreNumbered n es
+pub accepted-numbered : (d : DebtValue) (prior es : List Entry) (n : ℕ) → n ≡ length prior + 1 → AreEntriesAccepted d prior es → AreNumbered n es
 accepted-numbered d prior [] n is h = tt
 accepted-numbered d prior (e ∷ es) n is h = (
   h.0.0 ∙ sym is,
@@ -55,8 +55,8 @@ pub record IsFound (v : PledgeValue) (t : Totals) : Type 0 where
   pub limited : IsLimited v
   pub taken : v.agreement.taken ≤ v.standing.last
   pub extended : AreExtended v.agreement.taken (end_with v.agreement None) v.extensions × (last_by (λ e. e.day) v.agreement.taken v.extensions ≤ v.standing.last)
-  pub kept : IsKept (debt_of v) t
-  pub accepted : AreAccepted (debt_of v) [] v.entries
+  pub kept : IsDebtKept (debt_of v) t
+  pub accepted : AreEntriesAccepted (debt_of v) [] v.entries
   pub entered : t.day ≤ v.standing.last
   pub drawn : Each (λ e. IsDrawnBy (end_of v) e.sort e.day) v.entries
   pub live : IsNotPassed v v.standing.last

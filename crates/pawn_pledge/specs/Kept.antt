@@ -6,7 +6,7 @@ use Rattle.pawn_pledge.specs.Pledge.{PledgeValue, debt_of}
 use Rattle.pawn_pledge.specs.Limits.{most_secrets}
 
 -- the debt is the record's, the last change is not before the last entry, and there is a secret
-pub record IsKept (p : PledgeValue) (d : DebtValue) : Type 0 where
+pub record IsPledgeKept (p : PledgeValue) (d : DebtValue) : Type 0 where
   pub debt : d ≡ debt_of p
   pub taken_in : p.agreement.taken ≤ last_stamp_day
   pub last_in : last_of p.agreement.taken p.entries ≤ p.standing.last

@@ -18,7 +18,7 @@ use Rattle.pawn_pledge.specs.Number.{IsNumber}
 use Rattle.pawn_pledge.specs.Pledge.{PledgeValue, end_of, debt_of, status_of, live_of}
 use Rattle.pawn_pledge.specs.Words.{is_open}
 use Rattle.pawn_pledge.specs.Step.{Answered, Changed, bars, pledge_step, pledge_after, pledge_start}
-use Rattle.pawn_pledge.specs.Replayable.{IsOpening, IsReplayable, IsWithin, IsStanding}
+use Rattle.pawn_pledge.specs.Replayable.{IsOpening, IsReplayable, IsWithinLimits, IsStanding}
 use Rattle.pawn_pledge.specs.Commands.{IsCommand}
 use Rattle.pawn_pledge.specs.Growth.{Grows, StaysOrGrows}
 use Rattle.pawn_pledge.specs.Brief.{brief_of, brief_status, brief_owing, IsBriefWithin}
@@ -42,7 +42,7 @@ StaysReplayable =
 abbrev pub StaysWithin : Type 0
 StaysWithin =
     (p next : PledgeValue) (stamp : Stamp) (command : Command) (done : Done)
-    → IsStampDay stamp.day → IsCommand command → IsWithin p → pledge_step p stamp command ≡ Changed next done → IsWithin next
+    → IsStampDay stamp.day → IsCommand command → IsWithinLimits p → pledge_step p stamp command ≡ Changed next done → IsWithinLimits next
 
 -- so a pledge stays one that can stand
 abbrev pub StaysStanding : Type 0

@@ -6,7 +6,7 @@ use Rattle.pawn_debt.specs.Due.{credit_of}
 use Rattle.pawn_debt.specs.Limits.{most_pence}
 use Rattle.pawn_pledge.specs.Number.{IsNumber}
 use Rattle.pawn_pledge.specs.Pledge.{PledgeValue}
-use Rattle.pawn_pledge.specs.Replayable.{Each, IsOpening, AreIssued, AreDistinct}
+use Rattle.pawn_pledge.specs.Replayable.{Each, IsOpening, AreIssued, AreDistinctSecrets}
 use Rattle.pawn_pledge.specs.Limits.{most_secrets, most_extensions}
 
 -- what the types of parts keep
@@ -27,6 +27,6 @@ pub record IsLimited (p : PledgeValue) : Type 0 where
 -- secrets that can have been issued
 pub record AreIssuedIn (p : PledgeValue) : Type 0 where
   pub sorts : AreIssued p.agreement.taken (credit_of p.agreement.opening.kind) p.secrets
-  pub distinct : AreDistinct p.secrets
+  pub distinct : AreDistinctSecrets p.secrets
   pub ordered : DoNotFall (λ i. i.day) p.agreement.taken p.secrets
   pub before : last_by (λ i. i.day) p.agreement.taken p.secrets ≤ p.standing.last

@@ -6,46 +6,46 @@ use Rattle.pawn_pledge.specs.declared.refusal.Refusal.{Refusal}
 use Rattle.pawn_pledge.specs.declared.refusal.Refusal.TheVariants.{Debt, SeqTaken, SeqAhead, Held, Passed, Closed, NotRealisable, NotSmall, SecretUsed, DeclarationsFull, WrongAmount, NoBooking, BookingDay, BadWindow, PeriodOver, NotLater, ExtensionsFull}
 
 -- the refusal's number
-abbrev pub code_of : Refusal → ℕ
-code_of (Debt fault) = debt.code_of fault
-code_of SeqTaken = 301
-code_of SeqAhead = 302
-code_of Held = 303
-code_of Passed = 304
-code_of Closed = 305
-code_of NotRealisable = 306
-code_of NotSmall = 307
-code_of SecretUsed = 308
-code_of DeclarationsFull = 309
-code_of (WrongAmount total) = 310
-code_of NoBooking = 311
-code_of BookingDay = 312
-code_of BadWindow = 313
-code_of PeriodOver = 314
-code_of NotLater = 315
-code_of ExtensionsFull = 316
-code_of Refusal.Memory = 491
+abbrev pub pledge_refusal_code : Refusal → ℕ
+pledge_refusal_code (Debt fault) = debt.debt_fault_code fault
+pledge_refusal_code SeqTaken = 301
+pledge_refusal_code SeqAhead = 302
+pledge_refusal_code Held = 303
+pledge_refusal_code Passed = 304
+pledge_refusal_code Closed = 305
+pledge_refusal_code NotRealisable = 306
+pledge_refusal_code NotSmall = 307
+pledge_refusal_code SecretUsed = 308
+pledge_refusal_code DeclarationsFull = 309
+pledge_refusal_code (WrongAmount total) = 310
+pledge_refusal_code NoBooking = 311
+pledge_refusal_code BookingDay = 312
+pledge_refusal_code BadWindow = 313
+pledge_refusal_code PeriodOver = 314
+pledge_refusal_code NotLater = 315
+pledge_refusal_code ExtensionsFull = 316
+pledge_refusal_code Refusal.Memory = 491
 
 -- the refusal's name
-abbrev pub name_of : Refusal → List ℕ
-name_of (Debt fault) = debt.name_of fault
-name_of SeqTaken = codes "SeqTaken"
-name_of SeqAhead = codes "SeqAhead"
-name_of Held = codes "Held"
-name_of Passed = codes "Passed"
-name_of Closed = codes "Closed"
-name_of NotRealisable = codes "NotRealisable"
-name_of NotSmall = codes "NotSmall"
-name_of SecretUsed = codes "SecretUsed"
-name_of DeclarationsFull = codes "DeclarationsFull"
-name_of (WrongAmount total) = codes "WrongAmount"
-name_of NoBooking = codes "NoBooking"
-name_of BookingDay = codes "BookingDay"
-name_of BadWindow = codes "BadWindow"
-name_of PeriodOver = codes "PeriodOver"
-name_of NotLater = codes "NotLater"
-name_of ExtensionsFull = codes "ExtensionsFull"
-name_of Refusal.Memory = codes "Memory"
+abbrev pub pledge_refusal_name : Refusal → List ℕ
+pledge_refusal_name (Debt fault) = debt.debt_fault_name fault
+pledge_refusal_name SeqTaken = codes "SeqTaken"
+pledge_refusal_name SeqAhead = codes "SeqAhead"
+pledge_refusal_name Held = codes "Held"
+pledge_refusal_name Passed = codes "Passed"
+pledge_refusal_name Closed = codes "Closed"
+pledge_refusal_name NotRealisable = codes "NotRealisable"
+pledge_refusal_name NotSmall = codes "NotSmall"
+pledge_refusal_name SecretUsed = codes "SecretUsed"
+pledge_refusal_name DeclarationsFull = codes "DeclarationsFull"
+pledge_refusal_name (WrongAmount total) = codes "WrongAmount"
+pledge_refusal_name NoBooking = codes "NoBooking"
+pledge_refusal_name BookingDay = codes "BookingDay"
+pledge_refusal_name BadWindow = codes "BadWindow"
+pledge_refusal_name PeriodOver = codes "PeriodOver"
+pledge_refusal_name NotLater = codes "NotLater"
+pledge_refusal_name ExtensionsFull = codes "ExtensionsFull"
+pledge_refusal_name Refusal.Memory = codes "Memory"
 
 -- what is owing, where another sum was paid
 abbrev pub refusal_total : Refusal → Option ℕ

@@ -9,7 +9,7 @@ use Rattle.pawn_debt.specs.declared.entry.Entry.{Entry}
 use Rattle.pawn_debt.specs.declared.entry.Sort.{Sort}
 use Rattle.pawn_debt.specs.declared.entry.Sort.TheVariants.{Draw, Repay}
 use Rattle.pawn_debt.specs.Due.{credit_of, last_of, AreOrdered}
-use Rattle.pawn_debt.specs.Replay.{AreAccepted}
+use Rattle.pawn_debt.specs.Replay.{AreEntriesAccepted}
 use Rattle.pawn_debt.specs.Limits.{most_pence, most_entries}
 use Rattle.pawn_pledge.specs.declared.record.Issued.{Issued}
 use Rattle.pawn_pledge.specs.declared.record.Issue.{Issue}
@@ -46,9 +46,9 @@ AreIssued taken credit (i ∷ is) =
     (i.sort ≡ Issue.Opening) × (i.day ≡ taken) × Each (λ j. IsLaterIssue credit j.sort) is
 
 -- no secret stands twice
-abbrev pub AreDistinct : List Issued → Type 0
-AreDistinct [] = Unit {0}
-AreDistinct (i ∷ is) = (list_any (λ j. j.secret == i.secret) is ≡ false) × AreDistinct is
+abbrev pub AreDistinctSecrets : List Issued → Type 0
+AreDistinctSecrets [] = Unit {0}
+AreDistinctSecrets (i ∷ is) = (list_any (λ j. j.secret == i.secret) is ≡ false) × AreDistinctSecrets is
 
 -- entries are numbered from a number on
 abbrev pub AreNumbered : ℕ → List Entry → Type 0
@@ -73,15 +73,15 @@ IsClosed p (Closing.Redeemed day paid) = (day ≡ p.standing.last) × (paid ≡ 
 IsClosed p (Closing.Sold day net) = (day ≡ p.standing.last) × (open_status p day ≡ Status.Realisable) × (net ≤ most_pence)
 
 -- neither asked for nor confirmed
-abbrev pub IsOver : BookingState → Type 0
-IsOver BookingState.Asked = ⊥
-IsOver BookingState.Confirmed = ⊥
-IsOver other = Unit {0}
+abbrev pub IsBookingOver : BookingState → Type 0
+IsBookingOver BookingState.Asked = ⊥
+IsBookingOver BookingState.Confirmed = ⊥
+IsBookingOver other = Unit {0}
 
 -- on a closed pledge no booking stands
 abbrev pub IsOverUnder : Closing → BookingState → Type 0
 IsOverUnder Closing.Open state = Unit {0}
-IsOverUnder closed state = IsOver state
+IsOverUnder closed state = IsBookingOver state
 
 -- a booking for a day in the pledge's time
 abbrev pub IsBooked : PledgeValue → Option Booking → Type 0
@@ -91,7 +91,7 @@ IsBooked p (Some b) = (p.agreement.taken ≤ b.day) × IsNotPassed p b.day × (b
 -- the secrets: they differ, in order of their days
 pub record IsIssued (p : PledgeValue) : Type 0 where
   pub sorts : AreIssued p.agreement.taken (credit_of p.agreement.opening.kind) p.secrets
-  pub distinct : AreDistinct p.secrets
+  pub distinct : AreDistinctSecrets p.secrets
   pub ordered : DoNotFall (λ i. i.day) p.agreement.taken p.secrets
   pub before : last_by (λ i. i.day) p.agreement.taken p.secrets ≤ p.standing.last
   pub not_passed : Each (λ i. IsNotPassed p i.day) p.secrets
@@ -101,7 +101,7 @@ pub record IsEntered (p : PledgeValue) : Type 0 where
   pub numbered : AreNumbered 1 p.entries
   pub ordered : AreOrdered p.agreement.taken p.entries
   pub before : last_of p.agreement.taken p.entries ≤ p.standing.last
-  pub accepted : AreAccepted (debt_of p) [] p.entries
+  pub accepted : AreEntriesAccepted (debt_of p) [] p.entries
   pub not_passed : Each (λ e. IsNotPassed p e.day) p.entries
   pub drawn : Each (λ e. IsDrawnBy (end_of p) e.sort e.day) p.entries
 
@@ -128,7 +128,7 @@ pub record IsOpening (o : Opening) : Type 0 where
   pub agreed : IfSome o.agreed IsStampDay
 
 -- the limits of a record: of its number, texts and days, and as many of each list as it may have
-pub record IsWithin (p : PledgeValue) : Type 0 where
+pub record IsWithinLimits (p : PledgeValue) : Type 0 where
   pub number : IsNumber p.agreement.number
   pub opening : IsOpening p.agreement.opening
   pub entries : length p.entries ≤ most_entries
@@ -142,4 +142,4 @@ pub record IsWithin (p : PledgeValue) : Type 0 where
 pub record IsStanding (p : PledgeValue) : Type 0 where
   pub terms : IsChecked p.agreement.terms
   pub replayable : IsReplayable p
-  pub within : IsWithin p
+  pub within : IsWithinLimits p

@@ -120,15 +120,15 @@ declare_step p stamp paper =
 -- bookings
 
 -- the pledge with that booking
-abbrev pub books : PledgeValue → ℕ → Booking → Judged
-books p x booking = Changed (with_standing p (with_booking p.standing booking x)) (Done.Booked booking)
+abbrev pub makes_booking : PledgeValue → ℕ → Booking → Judged
+makes_booking p x booking = Changed (with_standing p (with_booking p.standing booking x)) (Done.Booked booking)
 
 -- a booking takes the place of any other; one that stands is answered again
 abbrev pub ask_once : PledgeValue → ℕ → ℕ → ℕ → Option Booking → Judged
-ask_once p x day window None = books p x (record { day = day; window = window; state = BookingState.Asked })
+ask_once p x day window None = makes_booking p x (record { day = day; window = window; state = BookingState.Asked })
 ask_once p x day window (Some booking) =
     if stands_for booking day window then Answered (Done.Booked booking)
-    else books p x (record { day = day; window = window; state = BookingState.Asked })
+    else makes_booking p x (record { day = day; window = window; state = BookingState.Asked })
 
 abbrev pub ask_bars : PledgeValue → ℕ → ℕ → ℕ → List (Bool × Refusal)
 ask_bars p x day window =
@@ -142,8 +142,8 @@ ask_step p x day window = unless (ask_bars p x day window) (ask_once p x day win
 
 -- cancelling by the booking's state
 abbrev pub cancel_in : PledgeValue → ℕ → Booking → BookingState → Judged
-cancel_in p x booking BookingState.Asked = books p x (in_state booking BookingState.Cancelled)
-cancel_in p x booking BookingState.Confirmed = books p x (in_state booking BookingState.Cancelled)
+cancel_in p x booking BookingState.Asked = makes_booking p x (in_state booking BookingState.Cancelled)
+cancel_in p x booking BookingState.Confirmed = makes_booking p x (in_state booking BookingState.Cancelled)
 cancel_in p x booking BookingState.Refused = Refused Refusal.NoBooking
 cancel_in p x booking BookingState.Cancelled = Answered (Done.Booked booking)
 
@@ -154,15 +154,15 @@ cancel_step p x (Some booking) = cancel_in p x booking booking.state
 -- confirming by the booking's state; one that is asked for is not to be over
 abbrev pub confirm_in : PledgeValue → ℕ → Booking → BookingState → Judged
 confirm_in p x booking BookingState.Asked =
-    unless ((nat_lt booking.day x, Refusal.BookingDay) ∷ []) (books p x (in_state booking BookingState.Confirmed))
+    unless ((nat_lt booking.day x, Refusal.BookingDay) ∷ []) (makes_booking p x (in_state booking BookingState.Confirmed))
 confirm_in p x booking BookingState.Confirmed = Answered (Done.Booked booking)
 confirm_in p x booking BookingState.Refused = Refused Refusal.NoBooking
 confirm_in p x booking BookingState.Cancelled = Refused Refusal.NoBooking
 
 -- refusing by the booking's state
 abbrev pub decline_in : PledgeValue → ℕ → Booking → BookingState → Judged
-decline_in p x booking BookingState.Asked = books p x (in_state booking BookingState.Refused)
-decline_in p x booking BookingState.Confirmed = books p x (in_state booking BookingState.Refused)
+decline_in p x booking BookingState.Asked = makes_booking p x (in_state booking BookingState.Refused)
+decline_in p x booking BookingState.Confirmed = makes_booking p x (in_state booking BookingState.Refused)
 decline_in p x booking BookingState.Refused = Answered (Done.Booked booking)
 decline_in p x booking BookingState.Cancelled = Refused Refusal.NoBooking
 

@@ -1,5 +1,5 @@
 -- The words of the rules for commands: what is told of a pledge, and what a command makes of it.
-use Rattle.std.specs.Prelude.{ℕ, ◌+◌, nat_lt, ◌==◌, ◌&&◌, ◌||◌, not, Bool, true, false, [], ◌∷◌, ◌++◌, length, Option, Some, None}
+use Rattle.std.specs.Prelude.{ℕ, ◌+◌, nat_lt, ◌==◌, ◌&&◌, ◌||◌, not, Bool, true, false, [], ◌∷◌, ◌++◌, length, Option, Some, None, List, codes}
 use Rattle.pawn_debt.specs.declared.entry.Entry.{Entry}
 use Rattle.pawn_debt.specs.declared.entry.Sort.{Sort}
 use Rattle.pawn_debt.specs.declared.entry.Sort.TheVariants.{Draw, Repay}
@@ -28,6 +28,13 @@ with_booking s booking x = record s { booking = Some booking; last = x }
 -- the pledge that stands so, with its lists as they are
 abbrev pub with_standing : PledgeValue → Standing → PledgeValue
 with_standing p standing = record p { standing = standing }
+
+-- the word for where a booking stands
+abbrev pub state_text : BookingState → List ℕ
+state_text BookingState.Asked = codes "asked"
+state_text BookingState.Confirmed = codes "confirmed"
+state_text BookingState.Refused = codes "refused"
+state_text BookingState.Cancelled = codes "cancelled"
 
 abbrev pub is_open : Closing → Bool
 is_open Closing.Open = true

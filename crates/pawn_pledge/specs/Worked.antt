@@ -66,16 +66,16 @@ on day = record { day = day; word = 9 }
 abbrev pub told : PledgeValue → ℕ → Command → Result Done Refusal
 told p day command = reply_of (pledge_step p (on day) command)
 
-abbrev pub after : PledgeValue → ℕ → Command → PledgeValue
-after p day command = pledge_after p (pledge_step p (on day) command)
+abbrev pub after_telling : PledgeValue → ℕ → Command → PledgeValue
+after_telling p day command = pledge_after p (pledge_step p (on day) command)
 
 -- an entry is told
 abbrev pub entry_answer : ℕ → ℕ → Sort → ℕ → Done
 entry_answer seq day sort pence = Done.Entered (record { seq = seq; day = day; sort = sort; pence = pence })
 
 -- a pledge begins with a sum or a limit within the limits, and with its first secret live
-abbrev pub WorkedStarts : Type 0
-WorkedStarts =
+abbrev pub WorkedPledgeStarts : Type 0
+WorkedPledgeStarts =
     (pledge_start 1 (ring_opening (Fixed 10000) false None) 1 free (record { day = date 2024 1 31; word = 1 }) ≡ Ok (ring 10000))
     × (live_of (ring 10000) ≡ Some 1)
     × (pledge_start 1 (ring_opening (Fixed 0) false None) 1 free (on (date 2024 1 31)) ≡ Err (Refusal.Debt BadAmount))
@@ -94,9 +94,9 @@ WorkedStatuses =
     × (status_of (ring_pledge (Fixed 7500) false (Some (date 2024 8 1)) free) (date 2024 8 2) ≡ Status.Realisable)
 
 -- drawings in the period, on a running account up to its limit
-abbrev pub WorkedDrawings : Type 0
-WorkedDrawings =
-    let drawn = after (ring_on_account 5000) (date 2024 1 31) (Command.Draw 1 3000) in
+abbrev pub WorkedPledgeDrawings : Type 0
+WorkedPledgeDrawings =
+    let drawn = after_telling (ring_on_account 5000) (date 2024 1 31) (Command.Draw 1 3000) in
     (told (ring_on_account 5000) (date 2024 1 31) (Command.Draw 1 3000) ≡ Ok (entry_answer 1 (date 2024 1 31) Draw 3000))
     × (told drawn (date 2024 1 31) (Command.Draw 2 2001) ≡ Err (Refusal.Debt OverLimit))
     × (told drawn (date 2024 7 31) (Command.Draw 2 2000) ≡ Ok (entry_answer 2 (date 2024 7 31) Draw 2000))
@@ -106,13 +106,13 @@ WorkedDrawings =
     × (told (ring 10000) (date 2024 8 1) (Command.Draw 1 1) ≡ Err Refusal.PeriodOver)
 
 -- a repayment, and its number on any day once it stands
-abbrev pub WorkedRepayments : Type 0
-WorkedRepayments =
-    let repaid = after (ring 10000) (date 2024 2 29) (Command.Repay 1 1000) in
+abbrev pub WorkedPledgeRepayments : Type 0
+WorkedPledgeRepayments =
+    let repaid = after_telling (ring 10000) (date 2024 2 29) (Command.Repay 1 1000) in
     let first = entry_answer 1 (date 2024 2 29) Repay 1000 in
     (told (ring 10000) (date 2024 2 29) (Command.Repay 1 1000) ≡ Ok first)
     × (pledge_step repaid (on (date 2024 2 1)) (Command.Repay 1 1000) ≡ Answered first)
-    × (pledge_step (after repaid (date 2024 3 1) (Command.Redeem 9000)) (on (date 2025 1 1)) (Command.Repay 1 1000) ≡ Answered first)
+    × (pledge_step (after_telling repaid (date 2024 3 1) (Command.Redeem 9000)) (on (date 2025 1 1)) (Command.Repay 1 1000) ≡ Answered first)
     × (told repaid (date 2024 2 1) (Command.Repay 1 999) ≡ Err Refusal.SeqTaken)
     × (told repaid (date 2024 2 1) (Command.Draw 1 1000) ≡ Err Refusal.SeqTaken)
     × (told repaid (date 2024 2 1) (Command.Repay 3 1000) ≡ Err Refusal.SeqAhead)
@@ -125,12 +125,12 @@ WorkedRepayments =
 -- a hold bars a redemption until it is released
 abbrev pub WorkedHolds : Type 0
 WorkedHolds =
-    let held = after (ring 7500) (date 2024 2 1) Command.Hold in
+    let held = after_telling (ring 7500) (date 2024 2 1) Command.Hold in
     (told (ring 7500) (date 2024 2 1) Command.Hold ≡ Ok (Done.Held true))
     × (pledge_step held (on (date 2024 2 2)) Command.Hold ≡ Answered (Done.Held true))
     × (told held (date 2024 2 2) (Command.Redeem 7500) ≡ Err Refusal.Held)
     × (told held (date 2024 2 2) Command.Release ≡ Ok (Done.Held false))
-    × (told (after held (date 2024 2 2) Command.Release) (date 2024 2 2) (Command.Redeem 7500) ≡ Ok (Done.Redeemed (date 2024 2 2) 7500))
+    × (told (after_telling held (date 2024 2 2) Command.Release) (date 2024 2 2) (Command.Redeem 7500) ≡ Ok (Done.Redeemed (date 2024 2 2) 7500))
     × (pledge_step (ring 7500) (on (date 2024 2 1)) Command.Release ≡ Answered (Done.Held false))
     × (told held (date 2024 1 31) Command.Release ≡ Err (Refusal.Debt EarlierDay))
     × (told held (date 2024 8 1) Command.Release ≡ Err Refusal.Passed)
@@ -140,13 +140,13 @@ abbrev pub WorkedDeclarations : Type 0
 WorkedDeclarations =
     let many = record (ring 7500) { secrets = repeat 101 (record { day = date 2024 1 31; sort = Issue.Sworn; secret = 1 } ∷ []) } in
     (told (ring 7501) (date 2024 3 2) (Command.Declare Paper.Sworn) ≡ Ok (Done.Declared 9))
-    × (live_of (after (ring 7501) (date 2024 3 2) (Command.Declare Paper.Sworn)) ≡ Some 9)
+    × (live_of (after_telling (ring 7501) (date 2024 3 2) (Command.Declare Paper.Sworn)) ≡ Some 9)
     × (told (ring 7501) (date 2024 3 2) (Command.Declare Paper.Written) ≡ Err Refusal.NotSmall)
     × (told (ring 7500) (date 2024 3 2) (Command.Declare Paper.Written) ≡ Ok (Done.Declared 9))
-    × (told (after (ring 7500) (date 2024 3 2) (Command.Declare Paper.Sworn)) (date 2024 3 2) (Command.Declare Paper.Sworn) ≡ Err Refusal.SecretUsed)
+    × (told (after_telling (ring 7500) (date 2024 3 2) (Command.Declare Paper.Sworn)) (date 2024 3 2) (Command.Declare Paper.Sworn) ≡ Err Refusal.SecretUsed)
     × (reply_of (pledge_step (ring 7500) (record { day = date 2024 3 2; word = 1 }) (Command.Declare Paper.Sworn)) ≡ Err Refusal.SecretUsed)
     × (told many (date 2024 3 2) (Command.Declare Paper.Sworn) ≡ Err Refusal.DeclarationsFull)
-    × (told (after (after (ring 7500) (date 2024 2 1) Command.Hold) (date 2024 2 1) (Command.Declare Paper.Sworn)) (date 2024 2 1) (Command.Redeem 7500) ≡ Err Refusal.Held)
+    × (told (after_telling (after_telling (ring 7500) (date 2024 2 1) Command.Hold) (date 2024 2 1) (Command.Declare Paper.Sworn)) (date 2024 2 1) (Command.Redeem 7500) ≡ Err Refusal.Held)
 
 -- a booking is told
 abbrev pub booking_answer : ℕ → ℕ → BookingState → Done
@@ -154,10 +154,10 @@ booking_answer day window state = Done.Booked (record { day = day; window = wind
 
 -- the ring once a booking for 2024-03-04 was asked for, and once it was confirmed
 abbrev pub ring_asked_for : PledgeValue
-ring_asked_for = after (ring 10000) (date 2024 3 1) (Command.AskBooking (date 2024 3 4) 3)
+ring_asked_for = after_telling (ring 10000) (date 2024 3 1) (Command.AskBooking (date 2024 3 4) 3)
 
 abbrev pub ring_confirmed : PledgeValue
-ring_confirmed = after ring_asked_for (date 2024 3 1) (Command.DecideBooking Confirm)
+ring_confirmed = after_telling ring_asked_for (date 2024 3 1) (Command.DecideBooking Confirm)
 
 -- a booking is asked for a window of a day that is not past, and on which the property will not have passed
 abbrev pub WorkedAskings : Type 0
@@ -176,8 +176,8 @@ WorkedAskings =
 -- a booking that stands is given up
 abbrev pub WorkedCancellings : Type 0
 WorkedCancellings =
-    let cancelled = after ring_confirmed (date 2024 3 5) Command.CancelBooking in
-    let refused = after ring_confirmed (date 2024 3 2) (Command.DecideBooking Refuse) in
+    let cancelled = after_telling ring_confirmed (date 2024 3 5) Command.CancelBooking in
+    let refused = after_telling ring_confirmed (date 2024 3 2) (Command.DecideBooking Refuse) in
     (told (ring 10000) (date 2024 3 1) Command.CancelBooking ≡ Err Refusal.NoBooking)
     × (told ring_asked_for (date 2024 3 1) Command.CancelBooking ≡ Ok (booking_answer (date 2024 3 4) 3 Cancelled))
     × (told ring_confirmed (date 2024 3 5) Command.CancelBooking ≡ Ok (booking_answer (date 2024 3 4) 3 Cancelled))
@@ -187,8 +187,8 @@ WorkedCancellings =
 -- a booking that was asked for is confirmed up to its day, or refused on any
 abbrev pub WorkedDecisions : Type 0
 WorkedDecisions =
-    let cancelled = after ring_asked_for (date 2024 3 1) Command.CancelBooking in
-    let refused = after ring_asked_for (date 2024 3 1) (Command.DecideBooking Refuse) in
+    let cancelled = after_telling ring_asked_for (date 2024 3 1) Command.CancelBooking in
+    let refused = after_telling ring_asked_for (date 2024 3 1) (Command.DecideBooking Refuse) in
     (told (ring 10000) (date 2024 3 1) (Command.DecideBooking Confirm) ≡ Err Refusal.NoBooking)
     × (told (ring 10000) (date 2024 3 1) (Command.DecideBooking Refuse) ≡ Err Refusal.NoBooking)
     × (told ring_asked_for (date 2024 3 4) (Command.DecideBooking Confirm) ≡ Ok (booking_answer (date 2024 3 4) 3 Confirmed))
@@ -203,7 +203,7 @@ WorkedDecisions =
 -- a redemption by its total, until the property passes; it takes the receipt and cancels the booking
 abbrev pub WorkedRedemptions : Type 0
 WorkedRedemptions =
-    let redeemed = after ring_confirmed (date 2024 3 4) (Command.Redeem 10000) in
+    let redeemed = after_telling ring_confirmed (date 2024 3 4) (Command.Redeem 10000) in
     (told (ring 7500) (date 2024 2 1) (Command.Redeem 7499) ≡ Err (Refusal.WrongAmount 7500))
     × (told (ring 7500) (date 2024 7 31) (Command.Redeem 7500) ≡ Ok (Done.Redeemed (date 2024 7 31) 7500))
     × (told (ring 7500) (date 2024 8 1) (Command.Redeem 7500) ≡ Err Refusal.Passed)
@@ -220,7 +220,7 @@ WorkedRedemptions =
 -- a sale once the pledge is realisable, for what it brings; the receipt stays live
 abbrev pub WorkedSales : Type 0
 WorkedSales =
-    let sold = after (ring 10000) (date 2024 8 1) (Command.Sell 9000) in
+    let sold = after_telling (ring 10000) (date 2024 8 1) (Command.Sell 9000) in
     (told (ring 10000) (date 2024 8 1) (Command.Sell 9000) ≡ Ok (Done.Sold 9000 0 1000))
     × (told (ring 10000) (date 2024 8 1) (Command.Sell 12345) ≡ Ok (Done.Sold 12345 2345 0))
     × (told (ring 10000) (date 2024 8 1) (Command.Sell 0) ≡ Ok (Done.Sold 0 0 10000))
@@ -238,7 +238,7 @@ abbrev pub ring_in_safe_keeping : PledgeValue
 ring_in_safe_keeping = ring_pledge (Fixed 7500) false None (rates_of 0 1000000 0)
 
 abbrev pub ring_extended : PledgeValue
-ring_extended = after ring_in_safe_keeping (date 2024 7 31) (Command.Extend (date 2024 9 30))
+ring_extended = after_telling ring_in_safe_keeping (date 2024 7 31) (Command.Extend (date 2024 9 30))
 
 -- a longer period is agreed while the one that stands is not over
 abbrev pub WorkedExtensions : Type 0

@@ -25,8 +25,8 @@ abbrev pub receipt_of : ℕ → Receipt
 receipt_of number = record { number = number; secret = some_secret }
 
 -- a receipt is its number, a hyphen, and a text of its secret
-abbrev pub WorkedReceipts : Type 0
-WorkedReceipts =
+abbrev pub WorkedReceiptTexts : Type 0
+WorkedReceiptTexts =
     (receipt_text (receipt_of 1) ≡ codes "1-da41597c-5157-488d-7724-e03fb8d84a37")
     × (receipt_text (receipt_of 999999999) ≡ codes "999999999-da41597c-5157-488d-7724-e03fb8d84a37")
     × IsReceiptText (codes "1-da41597c-5157-488d-7724-e03fb8d84a37") (receipt_of 1)

@@ -1,10 +1,10 @@
 ghost use Rattle.std.specs.Prelude.{◌≡◌, ◌≤◌, ◌↔◌, IsTrue, IfSome, IfNone, IfOk};
 ghost use Rattle.pawn_terms.specs.Limits.{last_stamp_day};
 ghost use Rattle.pawn_terms.specs.Order.{DoNotFall, last_by};
-ghost use Rattle.pawn_debt.specs.Kept.{IsKept as IsOwed};
+ghost use Rattle.pawn_debt.specs.Kept.{IsDebtKept as IsOwed};
 ghost use Rattle.pawn_pledge.specs.Pledge.{debt_of, last_until, end_of, open_status, is_passed};
 ghost use Rattle.pawn_pledge.specs.Parts.{IsTyped, IsLimited, AreIssuedIn};
-ghost use Rattle.pawn_pledge.specs.Replayable.{Each, IsLaterIssue, AreIssued, AreDistinct, IsDrawnBy, AreExtended, IsOverUnder, IsBooked, IsClosed, IsStanding};
+ghost use Rattle.pawn_pledge.specs.Replayable.{Each, IsLaterIssue, AreIssued, AreDistinctSecrets, IsDrawnBy, AreExtended, IsOverUnder, IsBooked, IsClosed, IsStanding};
 
 use crate::limits::{LAST_WINDOW, MOST_EXTENSIONS, MOST_SECRETS};
 use crate::record::{
@@ -116,7 +116,7 @@ fn are_later_issues(credit: u64, issued: &[Issued]) -> bool
 
 // Whether no secret stands twice.
 fn are_distinct(issued: &[Issued]) -> bool
-    ensures answer { IsTrue result ↔ AreDistinct issued.now }
+    ensures answer { IsTrue result ↔ AreDistinctSecrets issued.now }
 {
     for i in 0..issued.len() {
         if issued[i].is_among(&issued[i + 1..]) {

@@ -1,3 +1,6 @@
+ghost use Rattle.std.specs.Prelude.{◌≡◌};
+ghost use Rattle.pawn_pledge.specs.Words.{state_text};
+
 use crate::limits::{MOST_ARTICLE_BYTES, MOST_REFERENCE_BYTES};
 use crate::number::Number;
 use crate::secret::Secret;
@@ -148,6 +151,20 @@ pub enum BookingState {
     Confirmed,
     Refused,
     Cancelled,
+}
+
+impl BookingState {
+    /// The word for it in replies, statements and CSV: `asked`, `confirmed`, `refused` or `cancelled`.
+    pub fn word(self) -> &'static str
+        ensures word { result.now ≡ state_text self }
+    {
+        match self {
+            BookingState::Asked => "asked",
+            BookingState::Confirmed => "confirmed",
+            BookingState::Refused => "refused",
+            BookingState::Cancelled => "cancelled",
+        }
+    }
 }
 
 /// A day and a window of that day, 0 to 15, for which a bearer asked.

@@ -1,4 +1,4 @@
-ghost use Rattle.std.specs.Prelude.{◌≡◌, ◌^◌, ◌<◌, ℕ, IfOk, string_bytes};
+ghost use Rattle.std.specs.Prelude.{◌≡◌, ◌<◌, ℕ, IfOk, string_bytes};
 ghost use Rattle.pawn_pledge.specs.Secret.{secret_text, secret_of_text};
 
 use std::alloc::{AllocError, Global};

@@ -1,16 +1,16 @@
-ghost use Rattle.pawn_pledge.specs.Worked.{WorkedStarts, WorkedStatuses, WorkedDrawings, WorkedRepayments, WorkedHolds, WorkedDeclarations, WorkedAskings, WorkedCancellings, WorkedDecisions, WorkedRedemptions, WorkedSales, WorkedExtensions};
-ghost use Rattle.pawn_pledge.specs.WorkedTexts.{WorkedSecrets, WorkedReceipts};
+ghost use Rattle.pawn_pledge.specs.Worked.{WorkedPledgeStarts, WorkedStatuses, WorkedPledgeDrawings, WorkedPledgeRepayments, WorkedHolds, WorkedDeclarations, WorkedAskings, WorkedCancellings, WorkedDecisions, WorkedRedemptions, WorkedSales, WorkedExtensions};
+ghost use Rattle.pawn_pledge.specs.WorkedTexts.{WorkedSecrets, WorkedReceiptTexts};
 
 /// Pledges as they are taken, and their statuses.
 pub fn worked_pledges()
-    ensures starts { WorkedStarts }
+    ensures starts { WorkedPledgeStarts }
     ensures statuses { WorkedStatuses }
 {}
 
 /// Drawings and repayments, and the refusals of others.
 pub fn worked_entries()
-    ensures drawings { WorkedDrawings }
-    ensures repayments { WorkedRepayments }
+    ensures drawings { WorkedPledgeDrawings }
+    ensures repayments { WorkedPledgeRepayments }
 {}
 
 /// Holds and declarations.
@@ -40,5 +40,5 @@ pub fn worked_extensions()
 /// Texts of secrets and receipts.
 pub fn worked_texts()
     ensures secrets { WorkedSecrets }
-    ensures receipts { WorkedReceipts }
+    ensures receipts { WorkedReceiptTexts }
 {}

@@ -7,7 +7,7 @@ use Rattle.pawn_pledge.specs.declared.command.Stamp.{Stamp}
 use Rattle.pawn_book.specs.HostStep.{Host}
 use Rattle.pawn_host.specs.Keeps.{Start, Kept, GoesTo, GoesBy, host_by, start_after}
 use Rattle.pawn_host.proofs.CrashLemmas.{goes-append, goes_from}
-use Rattle.pawn_host.specs.Run.{Item, IsMarked, host_after}
+use Rattle.pawn_host.specs.Run.{Item, IsMarked, host_after_run}
 use Rattle.pawn_host.specs.Crashes.{IsLeftByRun}
 use Rattle.pawn_host.specs.Split.{most_requests}
 use Rattle.pawn_host.specs.Session as session
@@ -17,15 +17,15 @@ use Rattle.pawn_host.specs.declared.session.How.TheVariants.{End, Cut, Closed, F
 use Rattle.pawn_host.specs.declared.session.Ended.{Ended}
 use Rattle.pawn_host.specs.declared.session.IoFault.{IoFault}
 use Rattle.pawn_host.proofs.RunMore.{marked_all}
-use Rattle.pawn_program.specs.Serving.{Gives, stamps_among, items_of, IsSession, AreServed}
+use Rattle.pawn_program.specs.Serving.{GivesInOrder, stamps_among, items_of, IsSession, AreServed}
 
 -- ---- what an iterator gave
 
-gives_then : {S A : Type 0} (steps : S → Option A → S → Type 0) (from mid to : S) (one two : List (Option A)) → Gives steps from one mid → Gives steps mid two to → Gives steps from (one ++ two) to
-gives_then steps from mid to [] two first then = subst (λ (s : _). Gives steps s two to) (sym first) then
+gives_then : {S A : Type 0} (steps : S → Option A → S → Type 0) (from mid to : S) (one two : List (Option A)) → GivesInOrder steps from one mid → GivesInOrder steps mid two to → GivesInOrder steps from (one ++ two) to
+gives_then steps from mid to [] two first then = subst (λ (s : _). GivesInOrder steps s two to) (sym first) then
 gives_then steps from mid to (a ∷ one) two first then = (first.0, first.1, gives_then steps first.0 mid to one two first.2 then)
 
-gives_all : {S A : Type 0} (steps : S → Option A → S → Type 0) (from to : S) (xs : List A) → Yields steps from xs to → Gives steps from (map (λ x. Some x) xs) to
+gives_all : {S A : Type 0} (steps : S → Option A → S → Type 0) (from to : S) (xs : List A) → Yields steps from xs to → GivesInOrder steps from (map (λ x. Some x) xs) to
 gives_all steps from to [] yields = yields
 gives_all steps from to (x ∷ xs) yields = (yields.0, yields.1, gives_all steps yields.0 to xs yields.2)
 
@@ -58,24 +58,24 @@ record Sat {S : Type 0} (steps : S → Option Stamp → S → Type 0) (from to :
   pub count : length items ≡ acted
   pub marked : All (IsMarked start.Steady) items
   pub given : List (Option Stamp)
-  pub gives : Gives steps from given to
+  pub gives : GivesInOrder steps from given to
   pub taken : stamps_among given ≡ stamps_of items
   pub goes : GoesBy start items kept
 
 none_more : {S : Type 0} (steps : S → Option Stamp → S → Type 0) (from to last : S) (items : List Item) → Yields steps from (stamps_of items) to → to ≡ last
-    → (given : List (Option Stamp)) × Gives steps from given last × (stamps_among given ≡ stamps_of items)
+    → (given : List (Option Stamp)) × GivesInOrder steps from given last × (stamps_among given ≡ stamps_of items)
 none_more steps from to last items taken same =
     (map (λ x. Some x) (stamps_of items), gives_all steps from last (stamps_of items) (subst (λ (s : _). Yields steps from (stamps_of items) s) same taken), among_all (stamps_of items))
 
 dry : {S : Type 0} (steps : S → Option Stamp → S → Type 0) (from to last : S) (items : List Item) → Yields steps from (stamps_of items) to → steps to None last
-    → (given : List (Option Stamp)) × Gives steps from given last × (stamps_among given ≡ stamps_of items)
+    → (given : List (Option Stamp)) × GivesInOrder steps from given last × (stamps_among given ≡ stamps_of items)
 dry steps from to last items taken none =
     let all : List (Option Stamp) = map (λ x. Some x) (stamps_of items) in
     let among : stamps_among (all ++ None ∷ []) ≡ stamps_of items = among_then all (None ∷ []) ∙ append-nil (stamps_among all) ∙ among_all (stamps_of items) in
     (all ++ None ∷ [], gives_then steps from to last all (None ∷ []) (gives_all steps from to (stamps_of items) taken) (last, none, refl), among)
 
 given_by : {S : Type 0} (steps : S → Option Stamp → S → Type 0) (from to last : S) (items : List Item) (how : How) → Yields steps from (stamps_of items) to → IsLeftBy steps how to last
-    → (given : List (Option Stamp)) × Gives steps from given last × (stamps_among given ≡ stamps_of items)
+    → (given : List (Option Stamp)) × GivesInOrder steps from given last × (stamps_among given ≡ stamps_of items)
 given_by steps from to last items End taken left = none_more steps from to last items taken left
 given_by steps from to last items Cut taken left = none_more steps from to last items taken left
 given_by steps from to last items Closed taken left = none_more steps from to last items taken left
@@ -108,7 +108,7 @@ served_more steps from start answered given to kept kept' written result so stay
     let one = sat steps given to written result kept' here in
     let items : items_of (so.sessions ++ one.items ∷ []) ≡ past ++ one.items = items_of-snoc so.sessions one.items in
     let goes : GoesBy (start_after start past) one.items kept' =
-    subst (λ (h : Host). GoesTo kept' (host_after h start.operator one.items) (IsLeftByRun h start.operator one.items (start_after start past).leaves)) there
+    subst (λ (h : Host). GoesTo kept' (host_after_run h start.operator one.items) (IsLeftByRun h start.operator one.items (start_after start past).leaves)) there
     (goes_from (start_after start past) given.start one.items kept' same wider one.goes) in
     record {
       sessions = so.sessions ++ one.items ∷ [];
@@ -132,7 +132,7 @@ served_then steps from mid to start next answered more kept kept' so stays same 
     let new : List Item = items_of then.sessions in
     let items : items_of (so.sessions ++ then.sessions) ≡ past ++ new = items_of-append so.sessions then.sessions in
     let goes : GoesBy (start_after start past) new kept' =
-    subst (λ (h : Host). GoesTo kept' (host_after h start.operator new) (IsLeftByRun h start.operator new (start_after start past).leaves)) there
+    subst (λ (h : Host). GoesTo kept' (host_after_run h start.operator new) (IsLeftByRun h start.operator new (start_after start past).leaves)) there
     (goes_from (start_after start past) next new kept' same wider then.goes) in
     record {
       sessions = so.sessions ++ then.sessions;

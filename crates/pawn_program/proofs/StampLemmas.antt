@@ -4,16 +4,16 @@ use Rattle.std.specs.Iterator.{Yields}
 use Rattle.rand_chacha.specs.ChaCha.{ChaCha}
 use Rattle.pawn_pledge.specs.declared.command.Stamp.{Stamp}
 use Rattle.pawn_program.specs.Word.{generator, word_of, after_word}
-use Rattle.pawn_program.specs.Stamps.{IsTaken, GivesStamp, stamps_of}
+use Rattle.pawn_program.specs.Stamps.{IsTaken, GivesStamp, stamps_drawn}
 use Rattle.pawn_program.specs.declared.stamps.Stamps.{Stamps}
 
 pub taken_in_order : (day : ℕ) (g : ChaCha) (xs : List Stamp) (from to : Stamps) → from.day ≡ day → generator from.words.now ≡ g
-    → Yields GivesStamp from xs to → xs ≡ stamps_of (length xs) day g
+    → Yields GivesStamp from xs to → xs ≡ stamps_drawn (length xs) day g
 taken_in_order day g [] from to same_day same_generator run = refl
 taken_in_order day g (x ∷ xs) from to same_day same_generator run =
     let next : Stamps = run.0 in
     let first : IsTaken from x next = run.1 in
-    let rest : xs ≡ stamps_of (length xs) day (after_word g) =
+    let rest : xs ≡ stamps_drawn (length xs) day (after_word g) =
     taken_in_order day (after_word g) xs next to (first.same_day ∙ same_day) (first.rest ∙ ap after_word same_generator) run.2 in
     let stamp_day : x.day ≡ day = first.day ∙ same_day in
     let stamp_word : x.word ≡ word_of g = first.word ∙ ap word_of same_generator in

@@ -8,9 +8,9 @@ use Rattle.pawn_host.specs.Session.{stamps_of}
 use Rattle.pawn_host.specs.Split.{most_requests}
 
 -- calls of an iterator gave these answers, in order
-abbrev pub Gives : {S A : Type 0} → (S → Option A → S → Type 0) → S → List (Option A) → S → Type 0
-Gives steps from [] to = from ≡ to
-Gives {S} steps from (answer ∷ answers) to = (next : S) × steps from answer next × Gives steps next answers to
+abbrev pub GivesInOrder : {S A : Type 0} → (S → Option A → S → Type 0) → S → List (Option A) → S → Type 0
+GivesInOrder steps from [] to = from ≡ to
+GivesInOrder {S} steps from (answer ∷ answers) to = (next : S) × steps from answer next × GivesInOrder steps next answers to
 
 -- the stamps among the answers
 abbrev pub stamps_among : List (Option Stamp) → List Stamp
@@ -32,6 +32,6 @@ pub record AreServed {S : Type 0} (steps : S → Option Stamp → S → Type 0) 
   pub each : All IsSession sessions
   pub marked : All (IsMarked start.Steady) (items_of sessions)
   pub given : List (Option Stamp)
-  pub gives : Gives steps from given to
+  pub gives : GivesInOrder steps from given to
   pub taken : stamps_among given ≡ stamps_of (items_of sessions)
   pub goes : GoesBy start (items_of sessions) kept

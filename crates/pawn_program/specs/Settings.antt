@@ -66,16 +66,16 @@ abbrev pub IsOfKey : SettingsFault → Type 0
 IsOfKey fault = (fault ≡ BadKey) ⊎ (fault ≡ Memory)
 
 -- the fault is that of the first of three words that has one
-abbrev pub IsFirstFault : List ℕ → List ℕ → List ℕ → SettingsFault → Type 0
-IsFirstFault day_word seed_word key_word fault =
+abbrev pub IsFirstSettingsFault : List ℕ → List ℕ → List ℕ → SettingsFault → Type 0
+IsFirstSettingsFault day_word seed_word key_word fault =
     ((fault ≡ BadDay) × SaysNoDay day_word)
     ⊎ ((fault ≡ BadSeed) × ((day : ℕ) × SaysDay day_word day) × (seed_of seed_word ≡ None))
     ⊎ (IsOfKey fault × ((day : ℕ) × SaysDay day_word day) × IsSome (seed_of seed_word) × (secret_of_text key_word ≡ None))
 
 -- three words say these settings, or have this first fault
-abbrev pub IsRead : List ℕ → List ℕ → List ℕ → Result Settings SettingsFault → Type 0
-IsRead day_word seed_word key_word said =
-    MatchResult said (AreSaid day_word seed_word key_word) (IsFirstFault day_word seed_word key_word)
+abbrev pub AreSettings : List ℕ → List ℕ → List ℕ → Result Settings SettingsFault → Type 0
+AreSettings day_word seed_word key_word said =
+    MatchResult said (AreSaid day_word seed_word key_word) (IsFirstSettingsFault day_word seed_word key_word)
 
 -- the text is that of a port: a number from 1 to 65535, in its decimal digits
 abbrev pub SaysPort : List ℕ → ℕ → Type 0

@@ -19,13 +19,13 @@ abbrev pub GivesStamp : Stamps → Option Stamp → Stamps → Type 0
 GivesStamp old given new = MatchOption given ((old.left ≡ 0) × (new ≡ old)) (λ stamp. IsTaken old stamp new)
 
 -- so many stamps of a day, with the words of a generator in order
-abbrev pub stamps_of : ℕ → ℕ → ChaCha → List Stamp
-stamps_of zero day g = []
-stamps_of (suc more) day g = record { day = day; word = word_of g } ∷ stamps_of more day (after_word g)
+abbrev pub stamps_drawn : ℕ → ℕ → ChaCha → List Stamp
+stamps_drawn zero day g = []
+stamps_drawn (suc more) day g = record { day = day; word = word_of g } ∷ stamps_drawn more day (after_word g)
 
 -- the stamps taken one after the other are those of this day and this generator; at most so many come, and none
 -- comes after them only where all of them did
 pub record AreStamps (most day : ℕ) (g : ChaCha) (from : Stamps) : Type 0 where
-  pub taken : (xs : List Stamp) (to : Stamps) → Yields GivesStamp from xs to → xs ≡ stamps_of (length xs) day g
+  pub taken : (xs : List Stamp) (to : Stamps) → Yields GivesStamp from xs to → xs ≡ stamps_drawn (length xs) day g
   pub few : (xs : List Stamp) (to : Stamps) → Yields GivesStamp from xs to → length xs ≤ most
   pub last : (xs : List Stamp) (to end : Stamps) → Yields GivesStamp from xs to → GivesStamp to None end → length xs ≡ most

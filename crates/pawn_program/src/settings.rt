@@ -3,7 +3,7 @@ ghost use Rattle.std.specs.IoError.{error_kind};
 ghost use Rattle.pawn_pledge.specs.Secret.{secret_of_text};
 ghost use Rattle.std.specs.declared.io.ErrorKind.TheVariants.{OutOfMemory};
 ghost use Rattle.pawn_program.specs.declared.fault.SettingsFault.TheVariants.{Memory, BadKey};
-ghost use Rattle.pawn_program.specs.Settings.{hex_digit, hex_byte, seed_of, without_line_end, key_of_bytes, SaysDay, SaysNoDay, SaysPort, SaysNoPort, IsOfKey, IsRead, IsServeRead};
+ghost use Rattle.pawn_program.specs.Settings.{hex_digit, hex_byte, seed_of, without_line_end, key_of_bytes, SaysDay, SaysNoDay, SaysPort, SaysNoPort, IsOfKey, AreSettings, IsServeRead};
 
 use crate::fault::SettingsFault;
 use pawn_host::{Number, RequestDay, Secret};
@@ -32,7 +32,7 @@ impl Settings {
         seed: &str,
         key: &str,
     ) -> Result<Settings, SettingsFault>
-        ensures read { IsRead day.now seed.now key.now result }
+        ensures read { AreSettings day.now seed.now key.now result }
     {
         let Some(day) = day_of(day.as_bytes()) else {
             return Err(SettingsFault::BadDay);

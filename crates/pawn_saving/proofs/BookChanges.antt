@@ -19,7 +19,7 @@ use Rattle.pawn_tables.specs.At.{at_book}
 use Rattle.pawn_tables.specs.Rows.{number, placed_from, book_row, terms_cells, terms_listed, pledge_listed, entries_listed, secrets_listed, booking_listed, totals_listed, extensions_listed}
 use Rattle.pawn_tables.specs.StandsFor.{of_books}
 use Rattle.pawn_tables.proofs.Sought.{equals, of_one_book, rows_at}
-use Rattle.pawn_saving.specs.Counted.{listed_as, ListsHost, IsWritten}
+use Rattle.pawn_saving.specs.Counted.{listed_as, ListsHost, IsWrittenPart}
 use Rattle.pawn_saving.specs.Writing.{IsOnly}
 use Rattle.pawn_saving.proofs.Hosting.{AreSame, relisted}
 use Rattle.pawn_saving.proofs.Changing.{joined, replaced}
@@ -49,7 +49,7 @@ module _ (h : Host) (b : ℕ) (new : NewBook) (none : get h.books b ≡ None) (c
     extensions = beside (λ c k. flat_map (extensions_listed c) k.pledges);
   }
 
-  pub made_written : (db : Database) → counted ≡ rows h → Lists keep_schema db (with_rows (listed_as h counted) 0 (book_row b made ∷ listed_as h counted 0)) → IsWritten h grown db 1
+  pub made_written : (db : Database) → counted ≡ rows h → Lists keep_schema db (with_rows (listed_as h counted) 0 (book_row b made ∷ listed_as h counted 0)) → IsWrittenPart h grown db 1
   made_written db is l = record {
     lists = subst (ListsHost db grown) is (relisted db _ _ made_same l);
     grown = let sums = rows-with_book h b made in let before : part book_rows (get h.books b) ≡ 0 = ap (part book_rows) none in omega (arith, sums, before);
@@ -159,8 +159,8 @@ module _ (h : Host) (b version : ℕ) (t : Rates) (k : BookValue) (is : get h.bo
   }
 
   pub longer_written : (db : Database) → counted ≡ rows h → Lists keep_schema db (with_rows (with_rows (listed_as h counted) 1 (row ∷ listed_as h counted 1)) 0 (book_row b next ∷ others))
-      → IsWritten h (with_change h (AddTerms b version t)) db 1
-  longer_written db same l = subst (λ g. IsWritten h g db 1) (sym is_longer) (record {
+      → IsWrittenPart h (with_change h (AddTerms b version t)) db 1
+  longer_written db same l = subst (λ g. IsWrittenPart h g db 1) (sym is_longer) (record {
     lists = subst (ListsHost db longer) same (relisted db _ _ longer_same l);
     grown =
         let sums = rows-with_book h b next in

@@ -15,7 +15,7 @@ use Rattle.one_table.proofs.Rowed.{swapped}
 use Rattle.pawn_tables.specs.Entries.{RiseFrom}
 use Rattle.pawn_tables.specs.Meta.{meta_row, other_rows}
 use Rattle.pawn_tables.specs.Schema.{keep_schema}
-use Rattle.pawn_tables.specs.StandsFor.{StandsFor, HoldHost, AreOrdered, AreStorable}
+use Rattle.pawn_tables.specs.StandsFor.{StandsFor, HoldHost, AreBooksOrdered, AreStorable}
 use Rattle.pawn_tables.proofs.NextEntries.{numbered_rise}
 use Rattle.pawn_saving.specs.Counted.{listed_as, ListsHost}
 
@@ -27,7 +27,7 @@ as_lists db h st = record {
   tables = (st.books, (st.terms, (st.pledges, (st.entries, (st.secrets, (st.bookings, (st.meta, (st.totals, (st.extensions, tt)))))))));
 }
 
-pub as_stands : (db : Database) (h : Host) → ListsHost db h (rows h) → AreOrdered h → AreStorable h → StandsFor db h
+pub as_stands : (db : Database) (h : Host) → ListsHost db h (rows h) → AreBooksOrdered h → AreStorable h → StandsFor db h
 as_stands db h l ordered storable = record {
   schema = l.schema_is;
   sound = l.sound;
@@ -101,7 +101,7 @@ each_of : {A : Type 0} (P Q : A → Type 0) → ((x : A) → P x → Q x) → (x
 each_of P Q f [] all = tt
 each_of P Q f (x ∷ xs) all = (f x all.0, each_of P Q f xs all.1)
 
-pub are_ordered : (h : Host) → AreSound h → AreOrdered h
+pub are_ordered : (h : Host) → AreSound h → AreBooksOrdered h
 are_ordered h sound b k is = let s = (sound b k is).1 in record {
   pledges = s.rows.numbered;
   entries = each_of IsStanding (λ p. RiseFrom 0 p.entries) (λ p standing. numbered_rise 1 0 p.entries (omega arith) standing.replayable.entered.numbered) k.pledges s.rows.standing;

@@ -27,11 +27,11 @@ use Rattle.one_table.specs.Listing.{Lists, Listed, with_rows}
 use Rattle.one_table.proofs.Lent.{clean_before}
 use Rattle.pawn_tables.specs.Schema.{keep_schema}
 use Rattle.pawn_tables.specs.At.{at_book, at_pledge}
-use Rattle.pawn_tables.specs.Rows.{at_most_one, book_row, booking_cells, booking_listed, entries_listed, extensions_listed, number, number_of, placed_from, pledge_listed, secrets_listed, terms_cells, terms_listed, totals_listed, under}
-use Rattle.pawn_tables.specs.StandsFor.{of_books, of_pledges, AreOrdered}
+use Rattle.pawn_tables.specs.Rows.{at_most_one, book_row, booking_cells, booking_listed, entries_listed, extensions_listed, number, number_in_book, placed_from, pledge_listed, secrets_listed, terms_cells, terms_listed, totals_listed, under}
+use Rattle.pawn_tables.specs.StandsFor.{of_books, of_pledges, AreBooksOrdered}
 use Rattle.pawn_tables.proofs.PledgeReads.{under_booked}
 use Rattle.pawn_tables.proofs.Sought.{equals, filter-append, flat_none, of_one_pledge, rows_at}
-use Rattle.pawn_saving.specs.Counted.{IsWritten, listed_as, ListsHost}
+use Rattle.pawn_saving.specs.Counted.{IsWrittenPart, listed_as, ListsHost}
 use Rattle.pawn_saving.specs.Importing.{whole_pledges}
 use Rattle.pawn_saving.specs.Putting.{beside, booking_under, whole_pledge}
 use Rattle.pawn_saving.specs.Writing.{IsCarried, IsOnly}
@@ -53,29 +53,29 @@ not_booked b n m (Some k) other =
     let row = under b m (booking_cells k) in
     (λ i. cond (equals b b i && (equals m n i && true)) (row ∷ []) []) ∙ (λ i. cond ((b == b) && (apart i && true)) (row ∷ []) []) ∙ ap (λ c. cond c (row ∷ []) []) (no_and (b == b))
 
-none_before : (b k n : ℕ) (ps : List PledgeValue) (i : ℕ) → AreNumberedFrom k ps → k + i ≤ n → filter (at_pledge b n) (flat_map (λ p. booking_under b (number_of p) p) (take i ps)) ≡ []
+none_before : (b k n : ℕ) (ps : List PledgeValue) (i : ℕ) → AreNumberedFrom k ps → k + i ≤ n → filter (at_pledge b n) (flat_map (λ p. booking_under b (number_in_book p) p) (take i ps)) ≡ []
 none_before b k n [] zero numbered low = refl
 none_before b k n [] (suc i) numbered low = refl
 none_before b k n (p ∷ ps) zero numbered low = refl
 none_before b k n (p ∷ ps) (suc i) numbered low =
     let at = numbered.0 in
-    let later = flat_map (λ p. booking_under b (number_of p) p) (take i ps) in
-    filter-append (at_pledge b n) (booking_under b (number_of p) p) later
-    ∙ ap (λ l. l ++ filter (at_pledge b n) later) (not_booked b n (number_of p) p.standing.booking (λ same. absurd (omega (arith, same, at, low))))
+    let later = flat_map (λ p. booking_under b (number_in_book p) p) (take i ps) in
+    filter-append (at_pledge b n) (booking_under b (number_in_book p) p) later
+    ∙ ap (λ l. l ++ filter (at_pledge b n) later) (not_booked b n (number_in_book p) p.standing.booking (λ same. absurd (omega (arith, same, at, low))))
     ∙ none_before b (k + 1) n ps i numbered.1 (omega (arith, low))
 
-number_at : (k : ℕ) (ps : List PledgeValue) (i : ℕ) (p : PledgeValue) → AreNumberedFrom k ps → i < length ps → p ≡ get_or ps i p → number_of p ≡ k + i
+number_at : (k : ℕ) (ps : List PledgeValue) (i : ℕ) (p : PledgeValue) → AreNumberedFrom k ps → i < length ps → p ≡ get_or ps i p → number_in_book p ≡ k + i
 number_at k [] i p numbered lt is = absurd (omega (arith, lt))
-number_at k (q ∷ ps) zero p numbered lt is = ap (λ (x : PledgeValue). number_of x) is ∙ numbered.0 ∙ omega arith
+number_at k (q ∷ ps) zero p numbered lt is = ap (λ (x : PledgeValue). number_in_book x) is ∙ numbered.0 ∙ omega arith
 number_at k (q ∷ ps) (suc i) p numbered lt is = let rest = number_at (k + 1) ps i p numbered.1 (omega (arith, lt)) is in omega (arith, rest)
 
 next_unbooked : (b : ℕ) (ps : List PledgeValue) (i : ℕ) (p : PledgeValue) (bookings : List Row) → ((n : ℕ) → filter (at_pledge b n) bookings ≡ []) → AreNumberedFrom 1 ps → i < length ps → p ≡ get_or ps i p
-    → filter (at_pledge b (number_of p)) (flat_map (λ q. booking_under b (number_of q) q) (take i ps) ++ bookings) ≡ []
+    → filter (at_pledge b (number_in_book p)) (flat_map (λ q. booking_under b (number_in_book q) q) (take i ps) ++ bookings) ≡ []
 next_unbooked b ps i p bookings none numbered lt is =
     let at = number_at 1 ps i p numbered lt is in
-    let test = at_pledge b (number_of p) in
-    filter-append test (flat_map (λ q. booking_under b (number_of q) q) (take i ps)) bookings
-    ∙ ap (λ l. l ++ filter test bookings) (none_before b 1 (number_of p) ps i numbered (omega (arith, at))) ∙ none (number_of p)
+    let test = at_pledge b (number_in_book p) in
+    filter-append test (flat_map (λ q. booking_under b (number_in_book q) q) (take i ps)) bookings
+    ∙ ap (λ l. l ++ filter test bookings) (none_before b 1 (number_in_book p) ps i numbered (omega (arith, at))) ∙ none (number_in_book p)
 
 -- ---- pledges one after another
 
@@ -92,11 +92,11 @@ one_more f xs i x others lt is =
     (IsPermutation-same _ _ (append_assoc (f x) so_far others)))
 
 module _ (b : ℕ) (ps : List PledgeValue) (i : ℕ) (p : PledgeValue) (lt : i < length ps) (is : p ≡ get_or ps i p) (listed : Listed) where
-  more_at : (t : ℕ) → IsPermutation (beside (whole_pledges b (take (i + 1) ps)) listed t) (beside (whole_pledge b (number_of p) p) (beside (whole_pledges b (take i ps)) listed) t)
-  more_at t = one_more (λ q. whole_pledge b (number_of q) q t) ps i p (listed t) lt is
+  more_at : (t : ℕ) → IsPermutation (beside (whole_pledges b (take (i + 1) ps)) listed t) (beside (whole_pledge b (number_in_book p) p) (beside (whole_pledges b (take i ps)) listed) t)
+  more_at t = one_more (λ q. whole_pledge b (number_in_book q) q t) ps i p (listed t) lt is
 
-  one_beside : (db : Database) → Lists keep_schema db (beside (whole_pledge b (number_of p) p) (beside (whole_pledges b (take i ps)) listed)) → Lists keep_schema db (beside (whole_pledges b (take (i + 1) ps)) listed)
-  one_beside db l = relisted db (beside (whole_pledges b (take (i + 1) ps)) listed) (beside (whole_pledge b (number_of p) p) (beside (whole_pledges b (take i ps)) listed)) (record {
+  one_beside : (db : Database) → Lists keep_schema db (beside (whole_pledge b (number_in_book p) p) (beside (whole_pledges b (take i ps)) listed)) → Lists keep_schema db (beside (whole_pledges b (take (i + 1) ps)) listed)
+  one_beside db l = relisted db (beside (whole_pledges b (take (i + 1) ps)) listed) (beside (whole_pledge b (number_in_book p) p) (beside (whole_pledges b (take i ps)) listed)) (record {
     books = more_at 0;
     terms = more_at 1;
     pledges = more_at 3;
@@ -118,8 +118,8 @@ pub no_pledge_put : (s : State) (b : ℕ) (ps : List PledgeValue) → ArePledges
 no_pledge_put s b ps = record { carried = carried_none s; wrote = λ clean within listed none numbered l. (refl, l) }
 
 pub one_pledge_put : (old mid new : State) (b i counted added sum : ℕ) (ps : List PledgeValue) (p : PledgeValue) → i < length ps → p ≡ get_or ps i p → sum ≡ counted + added → ArePledgesPut old mid b ps i counted → IsLent mid new true
-    → (HasCleanDisk new → IsTrue mid.in_transaction → (listed : Listed) → filter (at_pledge b (number_of p)) (listed 11) ≡ [] → Lists keep_schema mid.now listed
-    → (added ≡ pledge_rows p) × Lists keep_schema new.now (beside (whole_pledge b (number_of p) p) listed))
+    → (HasCleanDisk new → IsTrue mid.in_transaction → (listed : Listed) → filter (at_pledge b (number_in_book p)) (listed 11) ≡ [] → Lists keep_schema mid.now listed
+    → (added ≡ pledge_rows p) × Lists keep_schema new.now (beside (whole_pledge b (number_in_book p) p) listed))
     → ArePledgesPut old new b ps (i + 1) sum
 one_pledge_put old mid new b i counted added sum ps p lt is sums put lent wrote = record {
   carried = carried_then old mid new true put.carried lent;
@@ -157,7 +157,7 @@ module _ (h : Host) (b key : ℕ) (k : BookValue) (brought : BookRows) (is : get
   pub only_book : (counted : ℕ) → IsOnly (at_book b) (listed_as h counted 0) (book_row b k) other_books
   only_book counted = books_only h b k (replaced h.books b k is).0 is (replaced h.books b k is).1
 
-  pub unbooked : AreOrdered h → (n : ℕ) → filter (at_pledge b n) (of_pledges h booking_listed) ≡ []
+  pub unbooked : AreBooksOrdered h → (n : ℕ) → filter (at_pledge b n) (of_pledges h booking_listed) ≡ []
   unbooked ordered n =
       of_one_pledge h b n booking_listed ordered (λ m q. under_booked m q.agreement.number q.standing.booking) ∙ ap (λ o. rows_at (pledge_in o n) (booking_listed b)) is
       ∙ ap (λ ps. rows_at (pledge_from 1 ps n) (booking_listed b)) empty.pledges
@@ -206,8 +206,8 @@ module _ (h : Host) (b key : ℕ) (k : BookValue) (brought : BookRows) (is : get
     }
 
     pub filled_written : (db : Database) (added : ℕ) → counted ≡ rows h → added ≡ length brought.terms + sum_by pledge_rows brought.pledges → Lists keep_schema db (beside (whole_pledges b brought.pledges) with_terms)
-        → IsWritten h (with_change h (ImportBook b key brought)) db added
-    filled_written db added same many l = subst (λ g. IsWritten h g db added) (sym is_changed) (record {
+        → IsWrittenPart h (with_change h (ImportBook b key brought)) db added
+    filled_written db added same many l = subst (λ g. IsWrittenPart h g db added) (sym is_changed) (record {
       lists = subst (ListsHost db changed) same (relisted db (listed_as changed counted) (beside (whole_pledges b brought.pledges) with_terms) filled_same l);
       grown =
           let sums = rows-with_book h b filled in
@@ -216,6 +216,6 @@ module _ (h : Host) (b key : ℕ) (k : BookValue) (brought : BookRows) (is : get
     })
 
     pub filled_counted : {E : Type 0} (db : Database) (versions added : ℕ) (result : Result ℕ E) → counted ≡ rows h → versions ≡ length brought.terms → added ≡ sum_by pledge_rows brought.pledges → IfOk result (λ n. n ≡ versions + added)
-        → Lists keep_schema db (beside (whole_pledges b brought.pledges) with_terms) → IfOk result (IsWritten h (with_change h (ImportBook b key brought)) db)
+        → Lists keep_schema db (beside (whole_pledges b brought.pledges) with_terms) → IfOk result (IsWrittenPart h (with_change h (ImportBook b key brought)) db)
     filled_counted db versions added (Ok n) same terms pledges sum l = filled_written db n same (omega (arith, sum, terms, pledges)) l
     filled_counted db versions added (Err e) same terms pledges sum l = tt

@@ -8,7 +8,7 @@ use Rattle.pawn_book.specs.Sound.{IsSound}
 use Rattle.pawn_book.specs.declared.change.Change.{Change}
 use Rattle.std.specs.FinMap.{get}
 use Rattle.pawn_tables.specs.StandsFor.{StandsFor}
-use Rattle.pawn_saving.specs.Counted.{IsWritten, ListsHost}
+use Rattle.pawn_saving.specs.Counted.{IsWrittenPart, ListsHost}
 use Rattle.pawn_saving.proofs.Hosting.{are_ordered, are_storable, as_stands}
 
 limit_with : (h : Host) (b : ℕ) (o : Option BookValue) → (with_book h b o).limit ≡ h.limit
@@ -22,7 +22,7 @@ limit_after h change = limit_with h (book_number change) (changed_book (get h.bo
 pub few_before : (h : Host) (change : Change) → IsSound h → rows h ≤ (with_change h change).limit
 few_before h change sound = let same = limit_after h change in let few = sound.fits in omega (arith, same, few)
 
-module _ (h : Host) (change : Change) (mid db : Database) (added : ℕ) (fits : Bool) (can : CanSave h change) (w : IsWritten h (with_change h change) mid added)
+module _ (h : Host) (change : Change) (mid db : Database) (added : ℕ) (fits : Bool) (can : CanSave h change) (w : IsWrittenPart h (with_change h change) mid added)
     (counts : (IsTrue fits ↔ (rows h + added ≤ (with_change h change).limit)) × ListsHost db (with_change h change) (rows h + added)) where
   pub stands_after : fits ≡ true → StandsFor db (with_change h change) × (rows (with_change h change) ≤ h.limit)
   stands_after is = (

@@ -20,7 +20,7 @@ use Rattle.pawn_book.proofs.Sounds.{get-with_book}
 use Rattle.one_table.proofs.Rowed.{swapped}
 use Rattle.pawn_tables.specs.At.{at_book, at_pledge}
 use Rattle.pawn_tables.specs.Rows.{book_row, import_count, import_key, number, or_null, terms_listed, word}
-use Rattle.pawn_tables.specs.StandsFor.{of_books, of_pledges, AreOrdered}
+use Rattle.pawn_tables.specs.StandsFor.{of_books, of_pledges, AreBooksOrdered}
 use Rattle.pawn_tables.proofs.Sought.{AreUnder, all_under, filter-append, of_one_pledge, rows_at}
 use Rattle.pawn_tables.proofs.PledgeReads.{number_in}
 use Rattle.pawn_saving.specs.Counted.{listed_as}
@@ -128,12 +128,12 @@ module _ (h : Host) (b n : ℕ) (k : BookValue) (p : PledgeValue) (is : get h.bo
       IsPermutation-trans _ _ _ (IsPermutation-flat_map each _ _ (outer.2 next))
       (IsPermutation-trans _ _ _ (append_same _ _ more (IsPermutation-flat_map (f b) _ _ inner.2)) (IsPermutation-same _ _ (append_assoc (f b p) (flat_map (f b) inner.0) more)))
 
-  own_rows : (f : ℕ → PledgeValue → List Row) → AreOrdered h → ((m : ℕ) (q : PledgeValue) → AreUnder m q.agreement.number (f m q)) → (o : Option PledgeValue) → stood ≡ o → filter (at_pledge b n) (rows_at o (f b)) ≡ rows_at o (f b)
+  own_rows : (f : ℕ → PledgeValue → List Row) → AreBooksOrdered h → ((m : ℕ) (q : PledgeValue) → AreUnder m q.agreement.number (f m q)) → (o : Option PledgeValue) → stood ≡ o → filter (at_pledge b n) (rows_at o (f b)) ≡ rows_at o (f b)
   own_rows f ordered under' None e = refl
   own_rows f ordered under' (Some q) e = all_under b n (f b q) (subst (λ m. AreUnder b m (f b q)) (number_in h b n q ordered (ap (λ x. pledge_in x n) is ∙ e)) (under' b q))
 
   -- none of them is of the pledge
-  pub none_rest : (f : ℕ → PledgeValue → List Row) → AreOrdered h → ((m : ℕ) (q : PledgeValue) → AreUnder m q.agreement.number (f m q)) → filter (at_pledge b n) (rest f) ≡ []
+  pub none_rest : (f : ℕ → PledgeValue → List Row) → AreBooksOrdered h → ((m : ℕ) (q : PledgeValue) → AreUnder m q.agreement.number (f m q)) → filter (at_pledge b n) (rest f) ≡ []
   none_rest f ordered under' =
       let mine : filter (at_pledge b n) (of_pledges h f) ≡ rows_at stood (f b) = of_one_pledge h b n f ordered under' ∙ ap (λ o. rows_at (pledge_in o n) (f b)) is in
       let own = own_rows f ordered under' stood refl in

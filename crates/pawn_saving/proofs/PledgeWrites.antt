@@ -23,18 +23,18 @@ use Rattle.one_table.specs.Listing.{Lists, Listed, with_rows}
 use Rattle.pawn_tables.specs.Schema.{keep_schema}
 use Rattle.pawn_tables.specs.At.{at_pledge}
 use Rattle.pawn_tables.specs.Rows.{book_row, booking_listed, entries_listed, entry_cells, extension_cells, extensions_listed, placed_from, pledge_listed, secret_cells, secrets_listed, totals_listed, under}
-use Rattle.pawn_tables.specs.StandsFor.{of_pledges, AreOrdered}
+use Rattle.pawn_tables.specs.StandsFor.{of_pledges, AreBooksOrdered}
 use Rattle.pawn_tables.proofs.Sought.{rows_at}
 use Rattle.pawn_tables.proofs.PledgeReads.{number_in, under_booked}
-use Rattle.pawn_saving.specs.Counted.{IsWritten, listed_as, ListsHost}
+use Rattle.pawn_saving.specs.Counted.{IsWrittenPart, listed_as, ListsHost}
 use Rattle.pawn_saving.specs.declared.lengths.Lengths.{Lengths}
-use Rattle.pawn_saving.specs.Putting.{AreSides, beside, booking_under, entries_past, extensions_past, lists_past, row_under, secrets_past, totals_under, whole_pledge, with_sides}
+use Rattle.pawn_saving.specs.Putting.{AreSidesPut, beside, booking_under, entries_past, extensions_past, lists_past, row_under, secrets_past, totals_under, whole_pledge, with_sides}
 use Rattle.pawn_saving.proofs.Hosting.{AreSame, relisted}
 use Rattle.pawn_saving.proofs.PledgeChanges.{after_put, before_put, books_after, books_stay, changed, is_changed, next, none_rest, other_books, put_length, put_named, rest, rows_grown, rows_joined, rows_put, stood, terms_stay}
 
 module _ (h : Host) (b n : ℕ) (k : BookValue) (p : PledgeValue) (is : get h.books b ≡ Some k) where
   -- no booking of a pledge stands that doesn't
-  pub none_booked : AreOrdered h → stood h b n k p is ≡ None → filter (at_pledge b n) (of_pledges h booking_listed) ≡ []
+  pub none_booked : AreBooksOrdered h → stood h b n k p is ≡ None → filter (at_pledge b n) (of_pledges h booking_listed) ≡ []
   none_booked ordered none = Rattle.pawn_tables.proofs.Sought.of_one_pledge h b n booking_listed ordered (λ m q. under_booked m q.agreement.number q.standing.booking) ∙ ap (λ o. rows_at (pledge_in o n) (booking_listed b)) is ∙ ap (λ o. rows_at o (booking_listed b)) none
 
   -- a new pledge
@@ -53,13 +53,13 @@ module _ (h : Host) (b n : ℕ) (k : BookValue) (p : PledgeValue) (is : get h.bo
     }
 
     pub next_written : (db : Database) → counted ≡ rows h → AreSound (with_change h (PutPledge b n p)) → n ≤ 1 + length k.pledges → 1 ≤ n
-        → Lists keep_schema db (with_rows (beside (whole_pledge b n p) (listed_as h counted)) 0 (book_row b (next h b n k p is) ∷ other_books h b n k p is)) → IsWritten h (with_change h (PutPledge b n p)) db (pledge_rows p)
+        → Lists keep_schema db (with_rows (beside (whole_pledge b n p) (listed_as h counted)) 0 (book_row b (next h b n k p is) ∷ other_books h b n k p is)) → IsWrittenPart h (with_change h (PutPledge b n p)) db (pledge_rows p)
     next_written db same sound high low l =
         let g = changed h b n k p is in
         let sounds : AreSound g = subst AreSound (is_changed h b n k p is) sound in
         let named = put_named h b n k p is sounds high low in
         let lists = subst (λ m. Lists keep_schema db (with_rows (beside (whole_pledge b m p) (listed_as h counted)) 0 (book_row b (next h b n k p is) ∷ other_books h b n k p is))) (sym named) l in
-        subst (λ x. IsWritten h x db (pledge_rows p)) (sym (is_changed h b n k p is)) (record {
+        subst (λ x. IsWrittenPart h x db (pledge_rows p)) (sym (is_changed h b n k p is)) (record {
           lists = subst (ListsHost db g) same (relisted db _ _ (joined_same named) lists);
           grown = let sums = rows_put h b n k p is in let before : part pledge_rows (stood h b n k p is) ≡ 0 = ap (part pledge_rows) none in omega (arith, sums, before);
         })
@@ -116,11 +116,11 @@ module _ (h : Host) (b n : ℕ) (k : BookValue) (old p : PledgeValue) (is : get 
   beside_old : (f : ℕ → PledgeValue → List Row) → IsPermutation (of_pledges h f) (f b old ++ rest h b n k p is f)
   beside_old f = subst (λ o. IsPermutation (of_pledges h f) (rows_at o (f b) ++ rest h b n k p is f)) some (before_put h b n k p is f)
 
-  module _ (counted : ℕ) (ordered : AreOrdered h) where
+  module _ (counted : ℕ) (ordered : AreBooksOrdered h) where
     old_named : old.agreement.number ≡ n
     old_named = number_in h b n old ordered (ap (λ o. pledge_in o n) is ∙ some)
 
-    pub old_sides : AreSides b n old (listed_as h counted) others
+    pub old_sides : AreSidesPut b n old (listed_as h counted) others
     old_sides = record {
       row = record {
         split = subst (λ m. IsPermutation (of_pledges h pledge_listed) (row_under b m old ∷ rest h b n k p is pledge_listed)) old_named (beside_old pledge_listed);
@@ -155,12 +155,12 @@ module _ (h : Host) (b n : ℕ) (k : BookValue) (old p : PledgeValue) (is : get 
       }
 
       pub renewed_written : (db : Database) (added : ℕ) → counted ≡ rows h → pledge_rows p ≡ pledge_rows old + added
-          → Lists keep_schema db (beside (lists_past l b n p) (with_sides b n p others (listed_as h counted))) → IsWritten h (with_change h (PutPledge b n p)) db added
+          → Lists keep_schema db (beside (lists_past l b n p) (with_sides b n p others (listed_as h counted))) → IsWrittenPart h (with_change h (PutPledge b n p)) db added
       renewed_written db added same more lists =
           let g = changed h b n k p is in
           let named : p.agreement.number ≡ n = as_before ∙ old_named in
           let own = subst (λ m. Lists keep_schema db (beside (lists_past l b m p) (with_sides b m p others (listed_as h counted)))) (sym named) lists in
-          subst (λ x. IsWritten h x db added) (sym (is_changed h b n k p is)) (record {
+          subst (λ x. IsWrittenPart h x db added) (sym (is_changed h b n k p is)) (record {
             lists = subst (ListsHost db g) same (relisted db _ _ renewed_same own);
             grown = let sums = rows_put h b n k p is in let before : part pledge_rows (stood h b n k p is) ≡ pledge_rows old = ap (part pledge_rows) some in omega (arith, sums, before, more);
           })

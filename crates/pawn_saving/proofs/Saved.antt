@@ -18,7 +18,7 @@ use Rattle.one_table.proofs.Parts.{committed_rests, rests_open}
 use Rattle.pawn_tables.specs.StandsFor.{StandsFor, HoldHost}
 use Rattle.pawn_tables.specs.OneHost.{StandForOne}
 use Rattle.pawn_tables.specs.Keeps.{HoldSound, IsWhole, Keeps, Leaves, keeping_by}
-use Rattle.pawn_saving.specs.Counted.{Judged, WritesChange}
+use Rattle.pawn_saving.specs.Counted.{CountJudged, WritesChange}
 use Rattle.pawn_saving.proofs.Hosting.{held}
 use Rattle.pawn_saving.proofs.Judging.{limit_after}
 
@@ -200,7 +200,7 @@ module _ {K : Type 0} (state : K → State) (old new : K) (begun lent : State) (
       ok = tt;
       full = λ same clean h sound k.
           let is : e ≡ Save.Full = (let s = same in cc) in
-          subst (λ x. Judged {T = T} (Err x) (StandsFor lent.now (with_change h change) × (rows (with_change h change) ≤ h.limit)) (h.limit < rows (with_change h change))) is
+          subst (λ x. CountJudged {T = T} (Err x) (StandsFor lent.now (with_change h change) × (rows (with_change h change) ≤ h.limit)) (h.limit < rows (with_change h change))) is
           (wrote (clean_lent clean) was.within h sound (may (clean_begun clean) h sound k));
       err = λ clean h sound k. keeps_same clean h k;
       crash = λ clean h sound k left l. left_as h left e (record { trees = l.trees; left = left_before clean l.trees l.left; stands = l.stands });

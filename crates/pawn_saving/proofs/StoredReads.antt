@@ -23,7 +23,7 @@ use Rattle.pawn_tables.specs.StandsFor.{StandsFor}
 use Rattle.pawn_tables.proofs.NextEntries.{at_seq}
 use Rattle.pawn_saving.specs.declared.lengths.Lengths.{Lengths}
 use Rattle.pawn_saving.specs.declared.stored.Stored.{Stored}
-use Rattle.pawn_saving.specs.Stored.{AreLengths, IsStored, IsWithin}
+use Rattle.pawn_saving.specs.Stored.{AreLengths, IsStored, IsLengthWithin}
 use Rattle.pawn_saving.specs.Writing.{IsCarried}
 use Rattle.pawn_saving.proofs.Lent.{clean_before, rests_then}
 use Rattle.pawn_saving.proofs.PledgeWrites.{continues_it}
@@ -98,22 +98,22 @@ longer (x ∷ xs) more (y ∷ ys) is = let le = longer xs more ys (let e = is in
 
 -- the lists of the pledge that the next follows are no longer
 module _ (l : Lengths) (next : PledgeValue) (are : AreLengths l (Some next)) where
-  grown_within : (old : PledgeValue) → Grows old next → IsWithin (Some old) l
+  grown_within : (old : PledgeValue) → Grows old next → IsLengthWithin (Some old) l
   grown_within old lists = record {
     entries = let le = longer old.entries lists.entries.0 next.entries lists.entries.1 in let e = are.entries in omega (arith, le, e);
     secrets = let le = longer old.secrets lists.secrets.0 next.secrets lists.secrets.1 in let e = are.secrets in omega (arith, le, e);
     extensions = let le = longer old.extensions lists.extensions.0 next.extensions lists.extensions.1 in let e = are.extensions in omega (arith, le, e);
   }
 
-  follows_within : (k : BookValue) (n : ℕ) → (n ≡ length k.pledges + 1) ⊎ ((old : PledgeValue) × (pledge_from 1 k.pledges n ≡ Some old) × Continues old next) → IsWithin (pledge_from 1 k.pledges n) l
+  follows_within : (k : BookValue) (n : ℕ) → (n ≡ length k.pledges + 1) ⊎ ((old : PledgeValue) × (pledge_from 1 k.pledges n ≡ Some old) × Continues old next) → IsLengthWithin (pledge_from 1 k.pledges n) l
   follows_within k n follows = go (stands_or_not (pledge_from 1 k.pledges n))
     where
-      go : (pledge_from 1 k.pledges n ≡ None) ⊎ ((old : PledgeValue) × (pledge_from 1 k.pledges n ≡ Some old)) → IsWithin (pledge_from 1 k.pledges n) l
-      go (inl none) = subst (λ o. IsWithin o l) (sym none) (record { entries = omega arith; secrets = omega arith; extensions = omega arith })
-      go (inr some) = subst (λ o. IsWithin o l) (sym some.1) (grown_within some.0 (continues_it k n some.0 next some.1 follows).lists)
+      go : (pledge_from 1 k.pledges n ≡ None) ⊎ ((old : PledgeValue) × (pledge_from 1 k.pledges n ≡ Some old)) → IsLengthWithin (pledge_from 1 k.pledges n) l
+      go (inl none) = subst (λ o. IsLengthWithin o l) (sym none) (record { entries = omega arith; secrets = omega arith; extensions = omega arith })
+      go (inr some) = subst (λ o. IsLengthWithin o l) (sym some.1) (grown_within some.0 (continues_it k n some.0 next some.1 follows).lists)
 
-  pub can_within : (h : Host) (b n : ℕ) → CanSave h (PutPledge b n next) → IsWithin (pledge_in (get h.books b) n) l
-  can_within h b n can = subst (λ o. IsWithin (pledge_in o n) l) (sym can.follows.1) (follows_within can.follows.0 n can.follows.2)
+  pub can_within : (h : Host) (b n : ℕ) → CanSave h (PutPledge b n next) → IsLengthWithin (pledge_in (get h.books b) n) l
+  can_within h b n can = subst (λ o. IsLengthWithin (pledge_in o n) l) (sym can.follows.1) (follows_within can.follows.0 n can.follows.2)
 
 issued_some : (taken credit : ℕ) (is : List Issued) → AreIssued taken credit is → 1 ≤ length is
 issued_some taken credit [] issued = absurd issued

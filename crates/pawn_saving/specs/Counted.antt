@@ -35,19 +35,19 @@ abbrev pub ListsHost : Database → Host → ℕ → Type 0
 ListsHost db h counted = Lists keep_schema db (listed_as h counted)
 
 -- the tables list host g, which has so many rows more than h, and still note the count of the rows of h
-pub record IsWritten (h g : Host) (db : Database) (added : ℕ) : Type 0 where
+pub record IsWrittenPart (h g : Host) (db : Database) (added : ℕ) : Type 0 where
   pub lists : ListsHost db g (rows h)
   pub grown : rows g ≡ rows h + added
 
 -- of each sound host that the tables stood for within the transaction, and a change that it may have: the changed host is written
 abbrev pub WritesRows : {E : Type 0} → State → State → Change → Result ℕ E → Type 0
 WritesRows old new change result =
-    HasCleanDisk new → IsTrue old.in_transaction → (h : Host) → IsSound h → CanSave h change → StandsFor old.now h → IfOk result (IsWritten h (with_change h change) new.now)
+    HasCleanDisk new → IsTrue old.in_transaction → (h : Host) → IsSound h → CanSave h change → StandsFor old.now h → IfOk result (IsWrittenPart h (with_change h change) new.now)
 
 -- of each such host of which P holds: the changed host is written
 abbrev pub WritesWhere : {E : Type 0} → State → State → (Host → Type 0) → Change → Result ℕ E → Type 0
 WritesWhere old new P change result =
-    HasCleanDisk new → IsTrue old.in_transaction → (h : Host) → IsSound h → CanSave h change → StandsFor old.now h → P h → IfOk result (IsWritten h (with_change h change) new.now)
+    HasCleanDisk new → IsTrue old.in_transaction → (h : Host) → IsSound h → CanSave h change → StandsFor old.now h → P h → IfOk result (IsWrittenPart h (with_change h change) new.now)
 
 -- so many rows more are counted, and it is told whether all of them are within the limit
 abbrev pub Counts : {E : Type 0} → State → State → ℕ → Result Bool E → Type 0
@@ -56,14 +56,14 @@ Counts old new by result =
     → IfOk result (λ fits. (IsTrue fits ↔ (counted + by ≤ g.limit)) × ListsHost new.now g (counted + by))
 
 -- P where the change was made, Q where the rows would be above the limit
-abbrev pub Judged : {T : Type 0} → Result T SaveError → Type 0 → Type 0 → Type 0
-Judged (Ok done) P Q = P
-Judged (Err Save.Full) P Q = Q
-Judged (Err Save.Memory) P Q = Unit {0}
-Judged (Err (Save.Store fault)) P Q = Unit {0}
+abbrev pub CountJudged : {T : Type 0} → Result T SaveError → Type 0 → Type 0 → Type 0
+CountJudged (Ok done) P Q = P
+CountJudged (Err Save.Full) P Q = Q
+CountJudged (Err Save.Memory) P Q = Unit {0}
+CountJudged (Err (Save.Store fault)) P Q = Unit {0}
 
 -- of each sound host that an open store stood for within the transaction, and a change that it may have: the tables stand for the changed host
 abbrev pub WritesChange : {T : Type 0} → State → State → Change → Result T SaveError → Type 0
 WritesChange old new change result =
     HasCleanDisk new → IsTrue old.in_transaction → (h : Host) → IsSound h → (IsTrue old.is_open → CanSave h change × StandsFor old.now h)
-    → Judged result (StandsFor new.now (with_change h change) × (rows (with_change h change) ≤ h.limit)) (h.limit < rows (with_change h change))
+    → CountJudged result (StandsFor new.now (with_change h change) × (rows (with_change h change) ≤ h.limit)) (h.limit < rows (with_change h change))

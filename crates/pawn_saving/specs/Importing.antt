@@ -7,12 +7,12 @@ use Rattle.pawn_book.specs.Rows.{AreNumberedFrom}
 use Rattle.one_table.specs.Listing.{Lists, Listed}
 use Rattle.pawn_tables.specs.Schema.{keep_schema, bookings_tree}
 use Rattle.pawn_tables.specs.At.{at_pledge}
-use Rattle.pawn_tables.specs.Rows.{number_of}
+use Rattle.pawn_tables.specs.Rows.{number_in_book}
 use Rattle.pawn_saving.specs.Putting.{beside, whole_pledge}
 
 -- all rows of pledges of book b, by their tree
 abbrev pub whole_pledges : ℕ → List PledgeValue → Listed
-whole_pledges b pledges t = flat_map (λ p. whole_pledge b (number_of p) p t) pledges
+whole_pledges b pledges t = flat_map (λ p. whole_pledge b (number_in_book p) p t) pledges
 
 -- all rows of pledges numbered 1, 2, .. join those of their tables, where no booking of the book stands, and it is told how many of them are counted
 abbrev pub AddsPledges : {E : Type 0} → State → State → Result ℕ E → ℕ → List PledgeValue → Type 0

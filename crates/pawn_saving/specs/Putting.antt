@@ -61,7 +61,7 @@ whole_pledge b n p t =
     else []
 
 -- what the tables list beside the rows of which a pledge has one at most, none of it the pledge's
-pub record AreSides (b n : ℕ) (p : PledgeValue) (listed others : Listed) : Type 0 where
+pub record AreSidesPut (b n : ℕ) (p : PledgeValue) (listed others : Listed) : Type 0 where
   pub row : IsOnly (at_pledge b n) (listed pledges_tree) (row_under b n p) (others pledges_tree)
   pub totals : IsOnly (at_pledge b n) (listed totals_tree) (totals_under b n p) (others totals_tree)
   pub bookings : IsPermutation (listed bookings_tree) (booking_under b n p ++ others bookings_tree)
@@ -95,7 +95,7 @@ AddSides old new result b n p =
 -- the rows of which a pledge has one at most take the place of those of the pledge as it was
 abbrev pub RenewSides : {T E : Type 0} → State → State → Result T E → ℕ → ℕ → PledgeValue → PledgeValue → Type 0
 RenewSides old new result b n before p =
-    HasCleanDisk new → IsTrue old.in_transaction → (listed others : Listed) → AreSides b n before listed others → Lists keep_schema old.now listed
+    HasCleanDisk new → IsTrue old.in_transaction → (listed others : Listed) → AreSidesPut b n before listed others → Lists keep_schema old.now listed
     → OnOk result (Lists keep_schema new.now (with_sides b n p others listed))
 
 -- all rows of the pledge join those of their tables, where no booking of it stands, and it is told how many of them are counted

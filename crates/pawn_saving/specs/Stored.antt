@@ -26,7 +26,7 @@ pub record AreLengths (l : Lengths) (p : Option PledgeValue) : Type 0 where
   pub extensions : l.extensions ≡ length (extensions_of p)
 
 -- the lists of a pledge are no longer than this
-pub record IsWithin (p : Option PledgeValue) (l : Lengths) : Type 0 where
+pub record IsLengthWithin (p : Option PledgeValue) (l : Lengths) : Type 0 where
   pub entries : length (entries_of p) ≤ l.entries
   pub secrets : length (secrets_of p) ≤ l.secrets
   pub extensions : length (extensions_of p) ≤ l.extensions

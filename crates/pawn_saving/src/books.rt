@@ -10,9 +10,8 @@ ghost use Rattle.pawn_tables.specs.Rows.{book_row, number, terms_cells};
 ghost use Rattle.pawn_saving.specs.Writing.{Joins, Replaces};
 ghost use Rattle.pawn_tables.specs.Schema.{books_tree, terms_tree};
 
-use crate::cells::small;
-use crate::writing::write;
 use pawn_book::{KeepError, NewBook, Rates, Secret};
+use pawn_tables::{small, write};
 use sqlite::{Alter, Transaction, params};
 
 /// Puts the row of a new book.

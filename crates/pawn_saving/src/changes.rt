@@ -5,11 +5,11 @@ ghost use Rattle.one_table.specs.Lending.{IsLent};
 ghost use Rattle.pawn_saving.specs.Counted.{WritesRows};
 
 use crate::books::{put_book, put_terms, set_terms_count};
-use crate::cells::small;
 use crate::lengths::lengths_of;
 use crate::renewing::{add_pledge, renew_pledge};
 use crate::stored::stored_within;
 use pawn_book::{KeepError, NewBook, Number, Pledge, Terms};
+use pawn_tables::small;
 use sqlite::{Alter, Transaction};
 
 /// Writes a new book, and tells how many rows that are counted it adds.

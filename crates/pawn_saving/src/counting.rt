@@ -7,9 +7,9 @@ ghost use Rattle.pawn_tables.specs.Schema.{keep_schema, meta_tree};
 ghost use Rattle.pawn_saving.specs.Counted.{Counts};
 ghost use Rattle.pawn_tables.specs.Meta.{meta_row, meta_rows, other_rows};
 
-use crate::cells::{REFUSED, refused, small};
 use one_table::ask;
 use pawn_book::KeepError;
+use pawn_tables::{REFUSED, refused, small};
 use sqlite::{Alter, Transaction, params};
 
 /// The limit on the rows.

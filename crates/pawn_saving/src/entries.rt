@@ -5,9 +5,8 @@ ghost use Rattle.pawn_tables.specs.Rows.{under, entry_cells, extension_cells, se
 ghost use Rattle.pawn_saving.specs.Writing.{Joins};
 ghost use Rattle.pawn_tables.specs.Schema.{entries_tree, extensions_tree, secrets_tree};
 
-use crate::cells::{issue_number, small, sort_number};
-use crate::writing::write;
 use pawn_book::{Entry, Extension, Issued, KeepError};
+use pawn_tables::{issue_number, small, sort_number, write};
 use sqlite::{Alter, Transaction, params};
 
 /// Puts an entry of a pledge.

@@ -2,19 +2,19 @@ ghost use Rattle.std.specs.Prelude.{◌≡◌, ◌+◌, IfOk, is_ok};
 ghost use Rattle.sqlite.specs.Held.{state};
 ghost use Rattle.pawn_book.specs.declared.change.Change.TheVariants.{ImportBook};
 ghost use Rattle.one_table.specs.Lending.{IsLent};
-ghost use Rattle.pawn_tables.specs.Rows.{number_of};
+ghost use Rattle.pawn_tables.specs.Rows.{number_in_book};
 ghost use Rattle.pawn_saving.specs.Counted.{WritesRows};
 ghost use Rattle.pawn_saving.specs.Importing.{AddsPledges};
 ghost use Rattle.pawn_saving.specs.Putting.{AddsPledge};
 ghost use Rattle.pawn_saving.specs.Writing.{IsCarried};
 
 use crate::books::set_import;
-use crate::cells::REFUSED;
 use crate::lengths::short;
 use crate::putting::put_whole;
 use crate::tails::put_versions;
 use pawn_book::{BookRows, KeepError, Number, Pledge, Secret};
 use pawn_pledge::Parts;
+use pawn_tables::REFUSED;
 use sqlite::{Alter, Transaction};
 
 // The pledge of these parts.
@@ -49,7 +49,7 @@ fn put_parts<S: Alter>(
 ) -> Result<u32, KeepError>
     ensures same_reference { tx.new.conn.ghost_name ≡ tx.old.conn.ghost_name }
     ensures wrote { AddsPledge (state S.Store tx.old.conn.now)
-        (state S.Store tx.new.conn.now) result book (number_of parts.now) parts.now }
+        (state S.Store tx.new.conn.now) result book (number_in_book parts.now) parts.now }
     ensures lent { IsLent (state S.Store tx.old.conn.now) (state S.Store tx.new.conn.now)
         (is_ok result) }
 {

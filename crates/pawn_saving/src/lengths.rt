@@ -1,8 +1,8 @@
 ghost use Rattle.std.specs.Prelude.{◌≡◌, Some, IfOk};
 ghost use Rattle.pawn_saving.specs.Stored.{AreLengths};
 
-use crate::cells::REFUSED;
 use pawn_book::{KeepError, Pledge};
+use pawn_tables::REFUSED;
 
 /// How long the lists of a pledge are.
 #[derive(Clone, Copy, Debug, PartialEq, Eq)]

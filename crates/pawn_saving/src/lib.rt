@@ -2,7 +2,6 @@
 #![tactic(auto)]
 
 mod books;
-mod cells;
 mod changes;
 mod counting;
 mod entries;
@@ -14,7 +13,6 @@ mod renewing;
 mod saving;
 mod stored;
 mod tails;
-mod writing;
 
 pub use pledges::put_totals;
 pub use saving::save;

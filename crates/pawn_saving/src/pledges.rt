@@ -9,13 +9,12 @@ ghost use Rattle.pawn_tables.specs.Rows.{under, booking_cells, pledge_cells, tot
 ghost use Rattle.pawn_saving.specs.Writing.{Joins, PutsOver, Replaces};
 ghost use Rattle.pawn_tables.specs.Schema.{pledges_tree, totals_tree};
 
-use crate::cells::{
-    REFUSED, agreed_value, closed_amount, closed_day, closed_number, flag_number, kind_number,
-    small, state_number,
-};
-use crate::writing::write;
 use pawn_book::{Booking, KeepError, Pledge};
 use pawn_debt::Totals;
+use pawn_tables::{
+    REFUSED, agreed_value, closed_amount, closed_day, closed_number, flag_number, kind_number,
+    small, state_number, write,
+};
 use sqlite::{Alter, Transaction, params};
 
 /// Puts the row of a new pledge.

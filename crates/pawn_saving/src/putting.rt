@@ -9,11 +9,11 @@ ghost use Rattle.pawn_saving.specs.Putting.{AddRows, AddSides, AddsPledge, PutsF
 ghost use Rattle.pawn_saving.specs.Writing.{IsCarried};
 ghost use Rattle.pawn_tables.specs.Schema.{bookings_tree};
 
-use crate::cells::small;
 use crate::lengths::{Lengths, lengths_of};
 use crate::pledges::{put_booking, put_row, put_totals};
 use crate::tails::{next_place, put_entries, put_extensions, put_secrets};
 use pawn_book::{Booking, KeepError, Pledge};
+use pawn_tables::small;
 use sqlite::{Alter, Transaction};
 
 // What follows so many elements.

@@ -11,11 +11,11 @@ ghost use Rattle.pawn_saving.specs.Putting.{RenewSides};
 ghost use Rattle.pawn_saving.specs.Stored.{IsStored};
 
 use crate::books::set_pledges_count;
-use crate::cells::REFUSED;
 use crate::pledges::{set_row, set_totals};
 use crate::putting::{put_any_booking, put_lists, put_whole, rows_of, rows_within};
 use crate::stored::Stored;
 use pawn_book::{KeepError, Number, Pledge};
+use pawn_tables::REFUSED;
 use sqlite::{Alter, Transaction};
 
 /// Writes the next pledge of a book, and tells how many rows that are counted it adds.

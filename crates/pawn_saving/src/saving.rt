@@ -7,11 +7,11 @@ ghost use Rattle.one_table.specs.Lending.{IsLent};
 ghost use Rattle.pawn_tables.specs.Keeps.{keeping_by};
 ghost use Rattle.pawn_saving.specs.Counted.{WritesChange, WritesRows};
 
-use crate::cells::refused;
 use crate::changes::{add_terms, make_book, put_pledge};
 use crate::counting::count_within;
 use crate::importing::import_book;
 use pawn_book::{Change, KeepError, SaveError, StoreFault};
+use pawn_tables::refused;
 use sqlite::{Alter, Connection, Transaction};
 
 // Why a change is not saved, where its rows are within the limit.

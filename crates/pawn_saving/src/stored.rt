@@ -4,7 +4,7 @@ ghost use Rattle.std.specs.FinMap.{get};
 ghost use Rattle.sqlite.specs.Held.{state};
 ghost use Rattle.pawn_book.specs.BookStep.{pledge_in};
 ghost use Rattle.one_table.specs.Lending.{IsLent};
-ghost use Rattle.pawn_saving.specs.Stored.{AreLengths, IsStored, IsWithin, ReadsIn, length_in};
+ghost use Rattle.pawn_saving.specs.Stored.{AreLengths, IsStored, IsLengthWithin, ReadsIn, length_in};
 ghost use Rattle.pawn_saving.specs.Writing.{IsCarried};
 
 use crate::lengths::Lengths;
@@ -84,7 +84,7 @@ fn lengths_within<S: Alter>(
 ) -> Result<Lengths, KeepError>
     ensures same_reference { tx.new.conn.ghost_name ≡ tx.old.conn.ghost_name }
     ensures reads { ReadsIn (state S.Store tx.old.conn.now) (state S.Store tx.new.conn.now) result
-        (λ h lengths. IsWithin (pledge_in (get h.books book) number) most → AreLengths lengths
+        (λ h lengths. IsLengthWithin (pledge_in (get h.books book) number) most → AreLengths lengths
         (pledge_in (get h.books book) number)) }
     ensures carried { IsCarried (state S.Store tx.old.conn.now) (state S.Store tx.new.conn.now)
         (is_ok result) }
@@ -109,7 +109,7 @@ pub(crate) fn stored_within<S: Alter>(
 ) -> Result<Stored, KeepError>
     ensures same_reference { tx.new.conn.ghost_name ≡ tx.old.conn.ghost_name }
     ensures reads { ReadsIn (state S.Store tx.old.conn.now) (state S.Store tx.new.conn.now) result
-        (λ h stored. IsWithin (pledge_in (get h.books book) number) most → IsStored stored
+        (λ h stored. IsLengthWithin (pledge_in (get h.books book) number) most → IsStored stored
         (pledge_in (get h.books book) number)) }
     ensures lent { IsLent (state S.Store tx.old.conn.now) (state S.Store tx.new.conn.now)
         (is_ok result) }

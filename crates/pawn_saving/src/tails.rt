@@ -5,9 +5,9 @@ ghost use Rattle.pawn_saving.specs.Writing.{AllJoin, IsCarried};
 ghost use Rattle.pawn_tables.specs.Schema.{entries_tree, extensions_tree, secrets_tree, terms_tree};
 
 use crate::books::put_terms;
-use crate::cells::REFUSED;
 use crate::entries::{put_entry, put_extension, put_secret};
 use pawn_book::{Entry, Extension, Issued, KeepError, Rates};
+use pawn_tables::REFUSED;
 use sqlite::{Alter, Transaction};
 
 /// Puts entries of a pledge.

@@ -19,11 +19,11 @@ use Rattle.pawn_book.specs.HostStep.{Host}
 use Rattle.pawn_book.specs.Runs.{Event, Mark, read_as, no_memory, no_store, run_host, host_after_event, request_in}
 use Rattle.pawn_book.proofs.SlotRuns.{other_books_stay}
 use Rattle.pawn_tables.specs.At.{is_at, at_book}
-use Rattle.pawn_tables.specs.Rows.{number, book_row, terms_listed, placed_from, terms_cells, pledge_listed, entries_listed, secrets_listed, booking_listed, totals_listed, extensions_listed, under, entry_cells, secret_cells, extension_cells, number_of}
+use Rattle.pawn_tables.specs.Rows.{number, book_row, terms_listed, placed_from, terms_cells, pledge_listed, entries_listed, secrets_listed, booking_listed, totals_listed, extensions_listed, under, entry_cells, secret_cells, extension_cells, number_in_book}
 use Rattle.pawn_tables.specs.StandsFor.{StandsFor, of_books, of_pledges}
 use Rattle.pawn_tables.proofs.Sought.{AreUnder, equals, rows_at, of_one_book, filter-flat_map, flat_none}
 use Rattle.pawn_tables.proofs.PledgeReads.{under_map, under_placed, under_booked}
-use Rattle.pawn_store.specs.OtherRows.{AreElsewhere, HaveSameRows, IsElsewhere, OtherRowsStay, OtherRowsStayInRuns, rows_of_book}
+use Rattle.pawn_store.specs.OtherRows.{AreElsewhere, HaveSameRows, IsElsewhere, OtherRowsStay, OtherRowsStayInRuns, rows_under_book}
 
 -- rows of one book
 abbrev pub AreOf : ℕ → List Row → Type 0
@@ -56,9 +56,9 @@ of_under : (b n : ℕ) (rows : List Row) → AreUnder b n rows → AreOf b rows
 of_under b n [] h = tt
 of_under b n (r ∷ rows) h = (h.0.0, of_under b n rows h.1)
 
-of_all : (b : ℕ) (f : PledgeValue → List Row) → ((p : PledgeValue) → AreUnder b (number_of p) (f p)) → (ps : List PledgeValue) → AreOf b (flat_map f ps)
+of_all : (b : ℕ) (f : PledgeValue → List Row) → ((p : PledgeValue) → AreUnder b (number_in_book p) (f p)) → (ps : List PledgeValue) → AreOf b (flat_map f ps)
 of_all b f are [] = tt
-of_all b f are (p ∷ ps) = of_append b (f p) (flat_map f ps) (of_under b (number_of p) (f p) (are p)) (of_all b f are ps)
+of_all b f are (p ∷ ps) = of_append b (f p) (flat_map f ps) (of_under b (number_in_book p) (f p) (are p)) (of_all b f are ps)
 
 of_terms : (b at : ℕ) (ts : List Rates) → AreOf b (placed_from (λ version t. number b ∷ number version ∷ terms_cells t) at ts)
 of_terms b at [] = tt
@@ -71,10 +71,10 @@ singles f (x ∷ xs) = ap (λ l. f x ∷ l) (singles f xs)
 -- ---- tables
 
 held : (old new : Trees) (b : ℕ) (table : Table) (xs ys : List Row) → Holds old table.tree table xs → Holds new table.tree table ys
-    → filter (at_book b) xs ≡ filter (at_book b) ys → IsPermutation (rows_of_book b old table) (rows_of_book b new table)
+    → filter (at_book b) xs ≡ filter (at_book b) ys → IsPermutation (rows_under_book b old table) (rows_under_book b new table)
 held old new b table xs ys a c same =
     IsPermutation-trans _ _ _ (IsPermutation-sym _ _ (IsPermutation-filter (at_book b) _ _ a.same))
-    (subst (λ l. IsPermutation l (rows_of_book b new table)) (sym same) (IsPermutation-filter (at_book b) _ _ c.same))
+    (subst (λ l. IsPermutation l (rows_under_book b new table)) (sym same) (IsPermutation-filter (at_book b) _ _ c.same))
 
 pub same_rows : (old new : Database) (h g : Host) (b : ℕ) → StandsFor old h → StandsFor new g → get h.books b ≡ get g.books b → HaveSameRows b old.trees new.trees
 same_rows old new h g b a c same = (
@@ -84,15 +84,15 @@ same_rows old new h g b a c same = (
     (
       held old.trees new.trees b _ _ _ a.pledges c.pledges (of_each pledge_listed (λ m p. ((refl, refl), tt))),
       (
-        held old.trees new.trees b _ _ _ a.entries c.entries (of_each entries_listed (λ m p. under_map m (number_of p) entry_cells p.entries)),
+        held old.trees new.trees b _ _ _ a.entries c.entries (of_each entries_listed (λ m p. under_map m (number_in_book p) entry_cells p.entries)),
         (
-          held old.trees new.trees b _ _ _ a.secrets c.secrets (of_each secrets_listed (λ m p. under_placed m (number_of p) secret_cells 1 p.secrets)),
+          held old.trees new.trees b _ _ _ a.secrets c.secrets (of_each secrets_listed (λ m p. under_placed m (number_in_book p) secret_cells 1 p.secrets)),
           (
-            held old.trees new.trees b _ _ _ a.bookings c.bookings (of_each booking_listed (λ m p. under_booked m (number_of p) p.standing.booking)),
+            held old.trees new.trees b _ _ _ a.bookings c.bookings (of_each booking_listed (λ m p. under_booked m (number_in_book p) p.standing.booking)),
             (
               held old.trees new.trees b _ _ _ a.totals c.totals (of_each totals_listed (λ m p. ((refl, refl), tt))),
               (
-                held old.trees new.trees b _ _ _ a.extensions c.extensions (of_each extensions_listed (λ m p. under_placed m (number_of p) extension_cells 1 p.extensions)),
+                held old.trees new.trees b _ _ _ a.extensions c.extensions (of_each extensions_listed (λ m p. under_placed m (number_in_book p) extension_cells 1 p.extensions)),
                 tt,
               ),
             ),
@@ -103,7 +103,7 @@ same_rows old new h g b a c same = (
   ),
 )
   where
-    of_each : (f : ℕ → PledgeValue → List Row) → ((m : ℕ) (p : PledgeValue) → AreUnder m (number_of p) (f m p))
+    of_each : (f : ℕ → PledgeValue → List Row) → ((m : ℕ) (p : PledgeValue) → AreUnder m (number_in_book p) (f m p))
         → filter (at_book b) (of_pledges h f) ≡ filter (at_book b) (of_pledges g f)
     of_each f are = one_book h g b (λ m k. flat_map (f m) k.pledges) (λ m k. of_all m (f m) (are m) k.pledges) same
 

@@ -16,7 +16,7 @@ use Rattle.pawn_host.specs.declared.session.Ended.{Ended}
 use Rattle.pawn_host.specs.declared.session.IoFault.{IoFault}
 use Rattle.pawn_host.specs.Crashes.{IsLeftByRun}
 use Rattle.pawn_host.specs.Keeps.{Start, Kept, GoesBy}
-use Rattle.pawn_host.specs.Run.{Item, IsMarked, host_after}
+use Rattle.pawn_host.specs.Run.{Item, IsMarked, host_after_run}
 use Rattle.pawn_host.specs.Session.{Given, IsSession}
 use Rattle.pawn_host.proofs.CrashLemmas.{crash_leaves_whole, host_after-append, left_by-append, run_wider}
 use Rattle.pawn_host.proofs.HeadlineLemmas.{runs_answer_alone}
@@ -34,7 +34,7 @@ nothing_answered store h operator sound opens = record {
 -- it is whole
 pub answered_whole : (store : State) (h : Host) (operator : ℕ) (items : List Item) → HasAnswered store h operator items → IsWhole store
 answered_whole store h operator items was = record {
-  host = host_after h operator items;
+  host = host_after_run h operator items;
   sound = was.sound;
   keeps = was.keeps;
   crash = λ trees left. let one = was.crash trees left in (one.host, one.sound, one.held);
@@ -49,12 +49,12 @@ exact_before store h operator items was g l =
 -- further items
 pub acts_over_tables : (old new : State) (h : Host) (operator : ℕ) (before : List Item) (Did : Start → Kept → List Item → Type 0) (items : List Item)
     → HasAnswered old h operator before → (IsWhole old → IsWhole new) → All (IsMarked ⊥) items
-    → GoesBy (start_at old (host_after h operator before) operator) items (kept_in new)
-    → Did (start_at old (host_after h operator before) operator) (kept_in new) items → ActsOverTables old new h operator before Did
+    → GoesBy (start_at old (host_after_run h operator before) operator) items (kept_in new)
+    → Did (start_at old (host_after_run h operator before) operator) (kept_in new) items → ActsOverTables old new h operator before Did
 acts_over_tables old new h operator before Did items was whole marked goes did = record {
   items = items;
   did = did;
-  alone = runs_answer_alone (host_after h operator before) operator items marked;
+  alone = runs_answer_alone (host_after_run h operator before) operator items marked;
   answered = record {
     marked = All-append (IsMarked ⊥) before items was.marked marked;
     keeps = subst (Keeps new) (sym (host_after-append h operator before items)) goes.stands_for;
@@ -62,7 +62,7 @@ acts_over_tables old new h operator before Did items was whole marked goes did =
     crash = λ trees left.
         let one = (whole (answered_whole old h operator before was)).crash trees left in
         let by = goes.crash one.0 (record { trees = trees; left = left; stands = one.2 }) in
-        let wide = run_wider (host_after h operator before) operator items (Leaves old) (IsLeftByRun h operator before (λ x. x ≡ h)) (exact_before old h operator before was) one.0 by in
+        let wide = run_wider (host_after_run h operator before) operator items (Leaves old) (IsLeftByRun h operator before (λ x. x ≡ h)) (exact_before old h operator before was) one.0 by in
         let exact = left_by-append h operator before items (λ x. x ≡ h) one.0 wide in
         record { host = one.0; sound = one.1; held = one.2; exact = exact; whole = crash_leaves_whole h operator (before ++ items) (λ x. x ≡ h) (λ g same. same) one.0 exact };
   };
@@ -83,10 +83,10 @@ module _ {S : Type 0} (steps : S → Option Stamp → S → Type 0) where
   -- a session over tables
   pub session_over_tables : (old new : State) (h : Host) (operator : ℕ) (before : List Item) (from : S) (stream wrote : Option (List ℕ)) (stamps : S) (written : Option (List ℕ)) (result : Result Ended IoFault)
       → HasAnswered old h operator before → (IsWhole old → IsWhole new)
-      → IsSession steps (record { start = start_at old (host_after h operator before) operator; stamps = from; stream = stream; written = wrote }) stamps written result (kept_in new)
+      → IsSession steps (record { start = start_at old (host_after_run h operator before) operator; stamps = from; stream = stream; written = wrote }) stamps written result (kept_in new)
       → ActsOverTables old new h operator before (HoldsSession steps from stream wrote stamps written result)
   session_over_tables old new h operator before from stream wrote stamps written result was whole session =
-      let given : Given S = record { start = start_at old (host_after h operator before) operator; stamps = from; stream = stream; written = wrote } in
+      let given : Given S = record { start = start_at old (host_after_run h operator before) operator; stamps = from; stream = stream; written = wrote } in
       acts_over_tables old new h operator before (HoldsSession steps from stream wrote stamps written result) (acted_items steps given stamps written result (kept_in new) session) was whole
       (session_marked given stamps written result (kept_in new) session) (session_goes given stamps written result (kept_in new) session) (session, refl)
 

@@ -22,12 +22,12 @@ book_tables =
     ∷ record bookings { tree = bookings_tree } ∷ record totals { tree = totals_tree } ∷ record extensions { tree = extensions_tree } ∷ []
 
 -- the rows of a table under a book's number, as SELECT * shows them
-abbrev pub rows_of_book : ℕ → Trees → Table → List Row
-rows_of_book b trees table = filter (at_book b) (map (columns_of table) (trees table.tree))
+abbrev pub rows_under_book : ℕ → Trees → Table → List Row
+rows_under_book b trees table = filter (at_book b) (map (columns_of table) (trees table.tree))
 
 -- each table has the same rows of the book
 abbrev pub HaveSameRows : ℕ → Trees → Trees → Type 0
-HaveSameRows b old new = AllByRecursion (λ table. IsPermutation (rows_of_book b old table) (rows_of_book b new table)) book_tables
+HaveSameRows b old new = AllByRecursion (λ table. IsPermutation (rows_under_book b old table) (rows_under_book b new table)) book_tables
 
 -- no request changes a row of another book
 abbrev pub OtherRowsStay : Type 0

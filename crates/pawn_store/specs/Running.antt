@@ -19,7 +19,7 @@ use Rattle.pawn_host.specs.declared.session.IoFault.{IoFault}
 use Rattle.pawn_host.specs.Crashes.{IsLeftByRun, IsLeftWhole}
 use Rattle.pawn_host.specs.Headline.{AnswerAlone}
 use Rattle.pawn_host.specs.Keeps.{Start, Kept, IsRun, service_keep}
-use Rattle.pawn_host.specs.Run.{Item, IsMarked, host_after, replies}
+use Rattle.pawn_host.specs.Run.{Item, IsMarked, host_after_run, replies}
 use Rattle.pawn_host.specs.Session.{Given, IsSession}
 use Rattle.pawn_program.specs.Serving.{AreServed, items_of}
 
@@ -40,8 +40,8 @@ pub record HoldOneLeft (h : Host) (operator : ℕ) (items : List Item) (trees : 
 -- which is sound, and whatever trees a crash leaves hold that host, or that one with one request more.
 pub record HasAnswered (store : State) (h : Host) (operator : ℕ) (items : List Item) : Type 0 where
   pub marked : All (IsMarked ⊥) items
-  pub keeps : Keeps store (host_after h operator items)
-  pub sound : IsSound (host_after h operator items)
+  pub keeps : Keeps store (host_after_run h operator items)
+  pub sound : IsSound (host_after_run h operator items)
   pub crash : (trees : Trees) → store.may_leave trees → HoldOneLeft h operator items trees
 
 -- where a call over a store starts, and where it ends
@@ -55,8 +55,8 @@ kept_in store = record { stands = Keeps store; leaves = Leaves store }
 -- or presented receipts, alone. The store has then answered all of them.
 pub record ActsOverTables (old new : State) (h : Host) (operator : ℕ) (before : List Item) (Did : Start → Kept → List Item → Type 0) : Type 0 where
   pub items : List Item
-  pub did : Did (start_at old (host_after h operator before) operator) (kept_in new) items
-  pub alone : AnswerAlone (host_after h operator before) operator items (replies (host_after h operator before) operator items)
+  pub did : Did (start_at old (host_after_run h operator before) operator) (kept_in new) items
+  pub alone : AnswerAlone (host_after_run h operator before) operator items (replies (host_after_run h operator before) operator items)
   pub answered : HasAnswered new h operator (before ++ items)
 
 -- the same from each host that the store was opened for, whatever was answered since, while the disk returns what was written

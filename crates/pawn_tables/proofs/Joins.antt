@@ -16,7 +16,7 @@ use Rattle.pawn_book.specs.BookStep.{BookValue, pledge_in}
 use Rattle.pawn_book.specs.HostStep.{Host}
 use Rattle.pawn_book.specs.declared.fault.KeepError.{KeepError}
 use Rattle.pawn_tables.specs.Finding.{IsRead, FindsIn}
-use Rattle.pawn_tables.specs.StandsFor.{AreOrdered, AreStorable}
+use Rattle.pawn_tables.specs.StandsFor.{AreBooksOrdered, AreStorable}
 use Rattle.pawn_tables.specs.Told.{AreLists, AreSides, AreTold, booking_of, totals_in, row_of}
 use Rattle.pawn_tables.specs.declared.joining.Lists.{Lists}
 use Rattle.pawn_tables.specs.declared.joining.Sides.{Sides}
@@ -36,7 +36,7 @@ within_terms (x ∷ ts) (suc zero) t is = omega arith
 within_terms (x ∷ ts) (suc (suc v)) t is = let rest : suc v ≤ length ts = within_terms ts (suc v) t is in omega (arith, rest)
 
 -- a version of 32 bits
-pub version_fits : (h : Host) (b n : ℕ) (p : PledgeValue) → AreOrdered h → AreStorable h → pledge_in (get h.books b) n ≡ Some p → p.agreement.version < 2 ^ 32
+pub version_fits : (h : Host) (b n : ℕ) (p : PledgeValue) → AreBooksOrdered h → AreStorable h → pledge_in (get h.books b) n ≡ Some p → p.agreement.version < 2 ^ 32
 version_fits h b n p ordered storable is = inside (get h.books b) refl (under_in h b n p ordered is)
   where
     inside : (o : Option BookValue) → get h.books b ≡ o → terms_at (terms_of o) p.agreement.version ≡ Some p.agreement.terms → p.agreement.version < 2 ^ 32
@@ -44,7 +44,7 @@ version_fits h b n p ordered storable is = inside (get h.books b) refl (under_in
     inside (Some k) e at = let low = within_terms k.terms p.agreement.version p.agreement.terms at in let few = (storable b k e).versions in omega (arith, low, few)
 
 -- what was joined of what was found of a pledge, or why it was not
-pub joined_told : {A L : Type 0} (h : Host) (b n : ℕ) (p : PledgeValue) (t : Told) (l : L) (Are : L → PledgeValue → Type 0) (shows : PledgeValue → A) (Q : PledgeValue → Type 0) (r : Result A KeepError) (number : ℕ) → number ≡ n → AreOrdered h
+pub joined_told : {A L : Type 0} (h : Host) (b n : ℕ) (p : PledgeValue) (t : Told) (l : L) (Are : L → PledgeValue → Type 0) (shows : PledgeValue → A) (Q : PledgeValue → Type 0) (r : Result A KeepError) (number : ℕ) → number ≡ n → AreBooksOrdered h
     → pledge_in (get h.books b) n ≡ Some p → t.row ≡ row_of p → AreSides t.sides p → IfSome (pledge_in (get h.books b) n) (Are l)
     → ((q : PledgeValue) → number ≡ q.agreement.number → t.row ≡ row_of q → AreSides t.sides q → Are l q → IsRead r (shows q) (Q q)) → IsRead r (shows p) (Q p)
 joined_told h b n p t l Are shows Q r number named ordered at of beside lists read =
@@ -61,7 +61,7 @@ joined s terms totals p has owed sides =
 pub ends_joined : (row : PledgeRow) (p q : PledgeValue) (ends : ℕ) → ends ≡ row.ends → row ≡ row_of p → q ≡ p → ends ≡ end_of q
 ends_joined row p q ends is of same = is ∙ ap (λ (r : PledgeRow). r.ends) of ∙ ap end_of (sym same)
 
-pub sides_told : (h : Host) (b n v : ℕ) (s : Sides) → AreOrdered h → s.terms ≡ terms_at (terms_of (get h.books b)) v → s.booking ≡ booking_of (pledge_in (get h.books b) n) → s.totals ≡ totals_in (pledge_in (get h.books b) n)
+pub sides_told : (h : Host) (b n v : ℕ) (s : Sides) → AreBooksOrdered h → s.terms ≡ terms_at (terms_of (get h.books b)) v → s.booking ≡ booking_of (pledge_in (get h.books b) n) → s.totals ≡ totals_in (pledge_in (get h.books b) n)
     → IfSome (pledge_in (get h.books b) n) (λ p. v ≡ p.agreement.version → AreSides s p)
 sides_told h b n v s ordered terms booking totals = go (pledge_in (get h.books b) n) refl booking totals
   where

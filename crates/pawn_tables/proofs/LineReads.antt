@@ -17,15 +17,16 @@ use Rattle.pawn_book.specs.declared.sheet.Part.{Part}
 use Rattle.pawn_book.specs.declared.sheet.Part.TheVariants as part_of
 use Rattle.pawn_book.specs.declared.sheet.SheetItem.{SheetItem}
 use Rattle.pawn_book.specs.declared.sheet.SheetItem.TheVariants.{Confirmed}
-use Rattle.pawn_book.specs.Sheet.{is_open, part_item, part_items}
+use Rattle.pawn_pledge.specs.Words.{is_open}
+use Rattle.pawn_book.specs.Sheet.{part_item, part_items}
 use Rattle.pawn_book.specs.Bookings.{confirmed_count, is_asked, is_confirmed, is_confirmed_for}
 use Rattle.pawn_book.specs.HostStep.{Host}
 use Rattle.pawn_book.specs.Keeping.{pledges_of}
 use Rattle.pawn_tables.specs.Schema.{keep_schema, pledges, bookings}
-use Rattle.pawn_tables.specs.Rows.{number, number_of, under, pledge_cells, pledge_listed, booking_cells, booking_listed, state_number, closed_number}
+use Rattle.pawn_tables.specs.Rows.{number, number_in_book, under, pledge_cells, pledge_listed, booking_cells, booking_listed, state_number, closed_number}
 use Rattle.pawn_tables.specs.Heads.{number_cells}
 use Rattle.pawn_tables.specs.Lines.{asked_cells, asked_line, confirmed_line, ends_line, item_of, line_cells}
-use Rattle.pawn_tables.specs.Pages.{most_rows}
+use Rattle.pawn_tables.specs.Pages.{most_page_rows}
 use Rattle.pawn_tables.specs.At.{is_at, is_above}
 use Rattle.pawn_tables.specs.StandsFor.{StandsFor, of_pledges}
 use Rattle.pawn_tables.specs.declared.line.Line.{Line}
@@ -85,45 +86,45 @@ abbrev pub is_ending : ℕ → PledgeValue → Bool
 is_ending day p = is_open p.standing.closing && (end_of p == day)
 
 abbrev pub confirmed_told : ℕ → ℕ → PledgeValue → Option ℕ
-confirmed_told day window p = tell_of (is_confirmed_at day window) (λ n k. n) (number_of p) p.standing.booking
+confirmed_told day window p = tell_of (is_confirmed_at day window) (λ n k. n) (number_in_book p) p.standing.booking
 
 abbrev pub asked_told : ℕ → PledgeValue → Option (ℕ × ℕ)
-asked_told day p = tell_of (is_asked_at day) (λ n (k : Booking). (n, k.window)) (number_of p) p.standing.booking
+asked_told day p = tell_of (is_asked_at day) (λ n (k : Booking). (n, k.window)) (number_in_book p) p.standing.booking
 
 abbrev pub ends_told : ℕ → PledgeValue → Option ℕ
-ends_told day p = tell_of (is_ending day) (λ n (x : PledgeValue). n) (number_of p) (Some p)
+ends_told day p = tell_of (is_ending day) (λ n (x : PledgeValue). n) (number_in_book p) (Some p)
 
 pub confirmed_says : (day window : ℕ) (p : PledgeValue) → part_item (part_of.Confirmed window) day p ≡ option_map (λ n. item_of (part_of.Confirmed window) (confirmed_line window n)) (confirmed_told day window p)
 confirmed_says day window p = go p.standing.booking
   where
-    go : (o : Option Booking) → cond (is_confirmed_for day window o) (Some (Confirmed (number_of p))) None ≡ option_map (λ n. item_of (part_of.Confirmed window) (confirmed_line window n)) (tell_of (is_confirmed_at day window) (λ n k. n) (number_of p) o)
+    go : (o : Option Booking) → cond (is_confirmed_for day window o) (Some (Confirmed (number_in_book p))) None ≡ option_map (λ n. item_of (part_of.Confirmed window) (confirmed_line window n)) (tell_of (is_confirmed_at day window) (λ n k. n) (number_in_book p) o)
     go None = refl
-    go (Some k) = pick (λ n. item_of (part_of.Confirmed window) (confirmed_line window n)) (is_confirmed_at day window k) (number_of p)
+    go (Some k) = pick (λ n. item_of (part_of.Confirmed window) (confirmed_line window n)) (is_confirmed_at day window k) (number_in_book p)
 
 pub asked_says : (day : ℕ) (p : PledgeValue) → part_item part_of.Asked day p ≡ option_map (λ a. item_of part_of.Asked (asked_line a)) (asked_told day p)
 asked_says day p = go p.standing.booking
   where
-    go : (o : Option Booking) → Rattle.pawn_book.specs.Sheet.asked_item (number_of p) day o ≡ option_map (λ a. item_of part_of.Asked (asked_line a)) (tell_of (is_asked_at day) (λ n (k : Booking). (n, k.window)) (number_of p) o)
+    go : (o : Option Booking) → Rattle.pawn_book.specs.Sheet.asked_item (number_in_book p) day o ≡ option_map (λ a. item_of part_of.Asked (asked_line a)) (tell_of (is_asked_at day) (λ n (k : Booking). (n, k.window)) (number_in_book p) o)
     go None = refl
-    go (Some k) = pick (λ a. item_of part_of.Asked (asked_line a)) (is_asked_at day k) (number_of p, k.window)
+    go (Some k) = pick (λ a. item_of part_of.Asked (asked_line a)) (is_asked_at day k) (number_in_book p, k.window)
 
 pub ends_says : (day : ℕ) (p : PledgeValue) → part_item part_of.Ends day p ≡ option_map (λ n. item_of part_of.Ends (ends_line n)) (ends_told day p)
-ends_says day p = pick (λ n. item_of part_of.Ends (ends_line n)) (is_ending day p) (number_of p)
+ends_says day p = pick (λ n. item_of part_of.Ends (ends_line n)) (is_ending day p) (number_in_book p)
 
-pub confirmed_numbers : (day window : ℕ) (p : PledgeValue) (a : ℕ) → confirmed_told day window p ≡ Some a → a ≡ number_of p
-confirmed_numbers day window p = numbers_of (is_confirmed_at day window) (λ n (k : Booking). n) (confirmed_line window) (λ n k. refl) (number_of p) p.standing.booking
+pub confirmed_numbers : (day window : ℕ) (p : PledgeValue) (a : ℕ) → confirmed_told day window p ≡ Some a → a ≡ number_in_book p
+confirmed_numbers day window p = numbers_of (is_confirmed_at day window) (λ n (k : Booking). n) (confirmed_line window) (λ n k. refl) (number_in_book p) p.standing.booking
 
-pub asked_numbers : (day : ℕ) (p : PledgeValue) (a : ℕ × ℕ) → asked_told day p ≡ Some a → a.0 ≡ number_of p
-asked_numbers day p = numbers_of (is_asked_at day) (λ n (k : Booking). (n, k.window)) asked_line (λ n k. refl) (number_of p) p.standing.booking
+pub asked_numbers : (day : ℕ) (p : PledgeValue) (a : ℕ × ℕ) → asked_told day p ≡ Some a → a.0 ≡ number_in_book p
+asked_numbers day p = numbers_of (is_asked_at day) (λ n (k : Booking). (n, k.window)) asked_line (λ n k. refl) (number_in_book p) p.standing.booking
 
-pub ends_numbers : (day : ℕ) (p : PledgeValue) (a : ℕ) → ends_told day p ≡ Some a → a ≡ number_of p
-ends_numbers day p = numbers_of (is_ending day) (λ n (x : PledgeValue). n) ends_line (λ n k. refl) (number_of p) (Some p)
+pub ends_numbers : (day : ℕ) (p : PledgeValue) (a : ℕ) → ends_told day p ≡ Some a → a ≡ number_in_book p
+ends_numbers day p = numbers_of (is_ending day) (λ n (x : PledgeValue). n) ends_line (λ n k. refl) (number_in_book p) (Some p)
 
 -- ---- how many
 
 -- the confirmed bookings are those that are counted
 pub confirmed_items : (ps : List PledgeValue) (day window : ℕ) → confirmed_count ps day window ≡ length (part_items (part_of.Confirmed window) day ps)
-confirmed_items ps day window = sym (is_count_by (λ qs. length (part_items (part_of.Confirmed window) day qs)) (λ p. is_confirmed_for day window p.standing.booking) refl (λ p qs. go (part_items (part_of.Confirmed window) day qs) (Confirmed (number_of p)) (is_confirmed_for day window p.standing.booking)) ps)
+confirmed_items ps day window = sym (is_count_by (λ qs. length (part_items (part_of.Confirmed window) day qs)) (λ p. is_confirmed_for day window p.standing.booking) refl (λ p qs. go (part_items (part_of.Confirmed window) day qs) (Confirmed (number_in_book p)) (is_confirmed_for day window p.standing.booking)) ps)
   where
     go : (items : List SheetItem) (i : SheetItem) (c : Bool) → length (cons_option (cond c (Some i) None) items) ≡ cond c (1 + length items) (length items)
     go items i true = omega arith
@@ -164,8 +165,8 @@ ends_shown b day old new h rows st shown =
 -- ---- a page
 
 -- the rows of the first lines
-lines_told : {A : Type 0} (part : Part) (line : A → Line) (as' : List A) → take most_rows (map (λ a. line_cells part (line a)) as') ≡ map (line_cells part) (take most_rows (map line as'))
-lines_told part line as' = ap (take most_rows) (sym (map-map (line_cells part) line as')) ∙ sym (take_map (line_cells part) most_rows (map line as'))
+lines_told : {A : Type 0} (part : Part) (line : A → Line) (as' : List A) → take most_page_rows (map (λ a. line_cells part (line a)) as') ≡ map (line_cells part) (take most_page_rows (map line as'))
+lines_told part line as' = ap (take most_page_rows) (sym (map-map (line_cells part) line as')) ∙ sym (take_map (line_cells part) most_page_rows (map line as'))
 
 abbrev at_confirmed_page : ℕ → ℕ → ℕ → ℕ → Row → Bool
 at_confirmed_page b above day window v = list_all (λ (x : Bool). x) (is_at (column v 0) (number b) ∷ is_above (column v 1) (number above) ∷ is_at (column v 2) (number day) ∷ is_at (column v 3) (number window) ∷ is_at (column v 4) (number 1) ∷ [])
@@ -176,16 +177,16 @@ confirmed_page_passes b above day window m n k =
     ∙ ap (λ c. (m == b) && (nat_lt above n && c)) (together (k.day == day) (k.window == window) (is_confirmed k.state))
 
 pub confirmed_page_shown : (b above day window : ℕ) (old new : State) (h : Host) (rows : List Row) → StandsFor old.now h → Shown text.confirmed_page_text (number b ∷ number above ∷ number day ∷ number window ∷ []) old new rows
-    → rows ≡ map (line_cells (part_of.Confirmed window)) (take most_rows (map (confirmed_line window) (told_above (confirmed_told day window) above (pledges_of (get h.books b)))))
+    → rows ≡ map (line_cells (part_of.Confirmed window)) (take most_page_rows (map (confirmed_line window) (told_above (confirmed_told day window) above (pledges_of (get h.books b)))))
 confirmed_page_shown b above day window old new h rows st shown =
     let t : Table = record bookings { tree = 11 } in
     let test = at_confirmed_page b above day window in
     let cells : Row → Row = λ v. column v 1 ∷ [] in
     let says = is_confirmed_at day window in
     let passes = confirmed_page_passes b above day window in
-    shown_few keep_schema 11 (λ _. refl) t text.confirmed_page_tests text.confirmed_shows (number b ∷ number above ∷ number day ∷ number window ∷ []) test cells (λ _. refl) (λ _. refl) 2 (λ v. column v 1) (λ _. refl) most_rows text.confirmed_page_text _ text.confirmed_page_is old new (of_pledges h booking_listed) rows st.schema st.bookings
+    shown_few keep_schema 11 (λ _. refl) t text.confirmed_page_tests text.confirmed_shows (number b ∷ number above ∷ number day ∷ number window ∷ []) test cells (λ _. refl) (λ _. refl) 2 (λ v. column v 1) (λ _. refl) most_page_rows text.confirmed_page_text _ text.confirmed_page_is old new (of_pledges h booking_listed) rows st.schema st.bookings
     (rise_each b booking_in booking_cells test (nat_lt above) says (λ n (k : Booking). n) cells number_cells passes (λ m n k. refl) h st.ordered) shown
-    ∙ ap (take most_rows) (shown_each b booking_in booking_cells test (nat_lt above) says (λ n (k : Booking). n) cells number_cells passes (λ m n k. refl) h)
+    ∙ ap (take most_page_rows) (shown_each b booking_in booking_cells test (nat_lt above) says (λ n (k : Booking). n) cells number_cells passes (λ m n k. refl) h)
     ∙ lines_told (part_of.Confirmed window) (confirmed_line window) (told_above (confirmed_told day window) above (pledges_of (get h.books b)))
 
 abbrev at_asked_page : ℕ → ℕ → ℕ → Row → Bool
@@ -195,16 +196,16 @@ asked_page_passes : (b above day m n : ℕ) (k : Booking) → at_asked_page b ab
 asked_page_passes b above day m n k = λ i. equals m b i && (books.above n above i && (equals k.day day i && (one_test (is_at (number (state_number k.state)) (number 0)) ∙ equals (state_number k.state) 0 ∙ asked_state k.state) i))
 
 pub asked_page_shown : (b above day : ℕ) (old new : State) (h : Host) (rows : List Row) → StandsFor old.now h → Shown text.asked_page_text (number b ∷ number above ∷ number day ∷ []) old new rows
-    → rows ≡ map (line_cells part_of.Asked) (take most_rows (map asked_line (told_above (asked_told day) above (pledges_of (get h.books b)))))
+    → rows ≡ map (line_cells part_of.Asked) (take most_page_rows (map asked_line (told_above (asked_told day) above (pledges_of (get h.books b)))))
 asked_page_shown b above day old new h rows st shown =
     let t : Table = record bookings { tree = 11 } in
     let test = at_asked_page b above day in
     let cells : Row → Row = λ v. column v 1 ∷ column v 3 ∷ [] in
     let says = is_asked_at day in
     let passes = asked_page_passes b above day in
-    shown_few keep_schema 11 (λ _. refl) t text.asked_page_tests text.asked_page_shows (number b ∷ number above ∷ number day ∷ []) test cells (λ _. refl) (λ _. refl) 2 (λ v. column v 1) (λ _. refl) most_rows text.asked_page_text _ text.asked_page_is old new (of_pledges h booking_listed) rows st.schema st.bookings
+    shown_few keep_schema 11 (λ _. refl) t text.asked_page_tests text.asked_page_shows (number b ∷ number above ∷ number day ∷ []) test cells (λ _. refl) (λ _. refl) 2 (λ v. column v 1) (λ _. refl) most_page_rows text.asked_page_text _ text.asked_page_is old new (of_pledges h booking_listed) rows st.schema st.bookings
     (rise_each b booking_in booking_cells test (nat_lt above) says (λ n (k : Booking). (n, k.window)) cells asked_cells passes (λ m n k. refl) h st.ordered) shown
-    ∙ ap (take most_rows) (shown_each b booking_in booking_cells test (nat_lt above) says (λ n (k : Booking). (n, k.window)) cells asked_cells passes (λ m n k. refl) h)
+    ∙ ap (take most_page_rows) (shown_each b booking_in booking_cells test (nat_lt above) says (λ n (k : Booking). (n, k.window)) cells asked_cells passes (λ m n k. refl) h)
     ∙ lines_told part_of.Asked asked_line (told_above (asked_told day) above (pledges_of (get h.books b)))
 
 abbrev at_ends_page : ℕ → ℕ → ℕ → Row → Bool
@@ -214,14 +215,14 @@ ends_page_passes : (b above day m n : ℕ) (p : PledgeValue) → at_ends_page b 
 ends_page_passes b above day m n p = λ i. equals m b i && (books.above n above i && ((equals (closed_number p.standing.closing) 0 ∙ open_closing p.standing.closing) i && (one_test (is_at (number (end_of p)) (number day)) ∙ equals (end_of p) day) i))
 
 pub ends_page_shown : (b above day : ℕ) (old new : State) (h : Host) (rows : List Row) → StandsFor old.now h → Shown text.ends_page_text (number b ∷ number above ∷ number day ∷ []) old new rows
-    → rows ≡ map (line_cells part_of.Ends) (take most_rows (map ends_line (told_above (ends_told day) above (pledges_of (get h.books b)))))
+    → rows ≡ map (line_cells part_of.Ends) (take most_page_rows (map ends_line (told_above (ends_told day) above (pledges_of (get h.books b)))))
 ends_page_shown b above day old new h rows st shown =
     let t : Table = record pledges { tree = 3 } in
     let test = at_ends_page b above day in
     let cells : Row → Row = λ v. column v 1 ∷ [] in
     let says = is_ending day in
     let passes = ends_page_passes b above day in
-    shown_few keep_schema 3 (λ _. refl) t text.ends_page_tests text.ref_shows (number b ∷ number above ∷ number day ∷ []) test cells (λ _. refl) (λ _. refl) 2 (λ v. column v 1) (λ _. refl) most_rows text.ends_page_text _ text.ends_page_is old new (of_pledges h pledge_listed) rows st.schema st.pledges
+    shown_few keep_schema 3 (λ _. refl) t text.ends_page_tests text.ref_shows (number b ∷ number above ∷ number day ∷ []) test cells (λ _. refl) (λ _. refl) 2 (λ v. column v 1) (λ _. refl) most_page_rows text.ends_page_text _ text.ends_page_is old new (of_pledges h pledge_listed) rows st.schema st.pledges
     (rise_each b (λ (p : PledgeValue). Some p) pledge_cells test (nat_lt above) says (λ n (x : PledgeValue). n) cells number_cells passes (λ m n k. refl) h st.ordered) shown
-    ∙ ap (take most_rows) (shown_each b (λ (p : PledgeValue). Some p) pledge_cells test (nat_lt above) says (λ n (x : PledgeValue). n) cells number_cells passes (λ m n k. refl) h)
+    ∙ ap (take most_page_rows) (shown_each b (λ (p : PledgeValue). Some p) pledge_cells test (nat_lt above) says (λ n (x : PledgeValue). n) cells number_cells passes (λ m n k. refl) h)
     ∙ lines_told part_of.Ends ends_line (told_above (ends_told day) above (pledges_of (get h.books b)))

@@ -6,7 +6,7 @@ use Rattle.sqlite.specs.Order.{Row}
 use Rattle.pawn_debt.specs.declared.entry.Entry.{Entry}
 use Rattle.pawn_pledge.specs.Replayable.{Each, AreNumbered}
 use Rattle.pawn_tables.specs.Rows.{at_most_one}
-use Rattle.pawn_tables.specs.Pages.{most_rows}
+use Rattle.pawn_tables.specs.Pages.{most_page_rows}
 use Rattle.pawn_tables.specs.Places.{at_place}
 use Rattle.pawn_tables.specs.Entries.{RiseFrom, with_seq, entries_from, behind, IsEntriesPage}
 use Rattle.pawn_tables.proofs.PageLemmas.{is_page}
@@ -103,7 +103,7 @@ rest_from n k (x ∷ xs) rise e more is = go (rest_from n (x.seq + 1) xs rise.1 
         let low : n ≤ x.seq + 1 = grind (arith, nat_tests, over) in
         past (omega (arith, seq)) ∙ all_from (e.seq + 1) (x.seq + 1) xs (omega (arith, seq)) rise.1 ∙ sym (all_from n (x.seq + 1) xs low rise.1) ∙ left
 
-pub is_entries_page : (n k : ℕ) (es : List Entry) → RiseFrom k es → IsEntriesPage n es (take most_rows (entries_from n es))
+pub is_entries_page : (n k : ℕ) (es : List Entry) → RiseFrom k es → IsEntriesPage n es (take most_page_rows (entries_from n es))
 is_entries_page n k es rise = is_page (λ m. entries_from m es) behind (λ m e more is. rest_from m k es rise e more is) n
 
 -- ---- what holds of each entry

@@ -13,8 +13,8 @@ use Rattle.pawn_book.specs.BookStep.{BookValue}
 use Rattle.pawn_book.specs.HostStep.{Host}
 use Rattle.pawn_book.specs.Keeping.{pledges_of}
 use Rattle.pawn_book.specs.Rows.{AreNumberedFrom}
-use Rattle.pawn_tables.specs.Rows.{number, number_of, under, at_most_one}
-use Rattle.pawn_tables.specs.StandsFor.{of_pledges, AreOrdered}
+use Rattle.pawn_tables.specs.Rows.{number, number_in_book, under, at_most_one}
+use Rattle.pawn_tables.specs.StandsFor.{of_pledges, AreBooksOrdered}
 use Rattle.pawn_tables.proofs.Sought.{rows_at, of_one_book, filter-flat_map, filter-append, flat_none, less}
 
 -- what is told of what a pledge has, if it has it and it is such
@@ -24,21 +24,21 @@ tell_of says make n (Some x) = cond (says x) (Some (make n x)) None
 
 -- the row of what a pledge has
 abbrev pub row_each : {X : Type 0} → (PledgeValue → Option X) → (X → Row) → ℕ → PledgeValue → List Row
-row_each has content m p = at_most_one (λ x. under m (number_of p) (content x)) (has p)
+row_each has content m p = at_most_one (λ x. under m (number_in_book p) (content x)) (has p)
 
 module _ {X A : Type 0} (b : ℕ) (has : PledgeValue → Option X) (content : X → Row) (test : Row → Bool) (keeps : ℕ → Bool) (says : X → Bool) (make : ℕ → X → A) (cells : Row → Row) (told : A → Row)
     (passes : (m n : ℕ) (x : X) → test (under m n (content x)) ≡ ((m == b) && (keeps n && says x))) (shows : (m n : ℕ) (x : X) → cells (under m n (content x)) ≡ told (make n x)) where
   abbrev pub tell : PledgeValue → Option A
-  tell p = tell_of says make (number_of p) (has p)
+  tell p = tell_of says make (number_in_book p) (has p)
 
   abbrev pub kept : List PledgeValue → List PledgeValue
-  kept ps = filter (λ (p : PledgeValue). keeps (number_of p)) ps
+  kept ps = filter (λ (p : PledgeValue). keeps (number_in_book p)) ps
 
   abbrev rows_of : ℕ → PledgeValue → List Row
   rows_of = row_each has content
 
   none_of : (m : ℕ) (k : BookValue) → m ≢ b → filter test (flat_map (rows_of m) k.pledges) ≡ []
-  none_of m k apart = filter-flat_map test (rows_of m) k.pledges ∙ flat_none (λ p. filter test (rows_of m p)) k.pledges (λ p. go (number_of p) (has p))
+  none_of m k apart = filter-flat_map test (rows_of m) k.pledges ∙ flat_none (λ p. filter test (rows_of m p)) k.pledges (λ p. go (number_in_book p) (has p))
     where
       go : (n : ℕ) (o : Option X) → filter test (at_most_one (λ x. under m n (content x)) o) ≡ []
       go n None = refl
@@ -65,7 +65,7 @@ module _ {X A : Type 0} (b : ℕ) (has : PledgeValue → Option X) (content : X 
   each [] = refl
   each (p ∷ ps) =
       ap (map cells) (filter-append test (rows_of b p) (flat_map (rows_of b) ps)) ∙ map-append cells (filter test (rows_of b p)) (filter test (flat_map (rows_of b) ps))
-      ∙ (λ i. one (number_of p) (has p) i ++ each ps i) ∙ joined (keeps (number_of p))
+      ∙ (λ i. one (number_in_book p) (has p) i ++ each ps i) ∙ joined (keeps (number_in_book p))
     where
       put : (o : Option A) → at_most_one told o ++ map told (filter_map tell (kept ps)) ≡ map told (cons_option o (filter_map tell (kept ps)))
       put None = refl
@@ -92,20 +92,20 @@ module _ {X A : Type 0} (b : ℕ) (has : PledgeValue → Option X) (content : X 
   over n m (p ∷ ps) lt numbered = go (over n (m + 1) ps (omega (arith, lt)) numbered.1) (has p)
     where
       go : AllByRecursion (λ r. value_cmp (number n) (column r 1) ≡ Less) (flat_map (rows_of b) ps) → (o : Option X)
-          → AllByRecursion (λ r. value_cmp (number n) (column r 1) ≡ Less) (at_most_one (λ x. under b (number_of p) (content x)) o ++ flat_map (rows_of b) ps)
+          → AllByRecursion (λ r. value_cmp (number n) (column r 1) ≡ Less) (at_most_one (λ x. under b (number_in_book p) (content x)) o ++ flat_map (rows_of b) ps)
       go rest None = rest
-      go rest (Some x) = let at = numbered.0 in (less n (number_of p) (omega (arith, lt, at)), rest)
+      go rest (Some x) = let at = numbered.0 in (less n (number_in_book p) (omega (arith, lt, at)), rest)
 
   rise : (k : ℕ) (ps : List PledgeValue) → AreNumberedFrom k ps → IsAscending (λ v w. value_cmp (column v 1) (column w 1) ≡ Less) (flat_map (rows_of b) ps)
   rise k [] numbered = tt
   rise k (p ∷ ps) numbered = go (rise (k + 1) ps numbered.1) (has p)
     where
       go : IsAscending (λ v w. value_cmp (column v 1) (column w 1) ≡ Less) (flat_map (rows_of b) ps) → (o : Option X)
-          → IsAscending (λ v w. value_cmp (column v 1) (column w 1) ≡ Less) (at_most_one (λ x. under b (number_of p) (content x)) o ++ flat_map (rows_of b) ps)
+          → IsAscending (λ v w. value_cmp (column v 1) (column w 1) ≡ Less) (at_most_one (λ x. under b (number_in_book p) (content x)) o ++ flat_map (rows_of b) ps)
       go rest None = rest
-      go rest (Some x) = let at = numbered.0 in (over (number_of p) (k + 1) ps (omega (arith, at)) numbered.1, rest)
+      go rest (Some x) = let at = numbered.0 in (over (number_in_book p) (k + 1) ps (omega (arith, at)) numbered.1, rest)
 
-  pub rise_each : (h : Host) → AreOrdered h → IsAscending (λ v w. value_cmp (column v 1) (column w 1) ≡ Less) (filter test (of_pledges h rows_of))
+  pub rise_each : (h : Host) → AreBooksOrdered h → IsAscending (λ v w. value_cmp (column v 1) (column w 1) ≡ Less) (filter test (of_pledges h rows_of))
   rise_each h ordered = subst (IsAscending (λ v w. value_cmp (column v 1) (column w 1) ≡ Less)) (sym (of_book h)) (inside (get h.books b) refl)
     where
       inside : (o : Option BookValue) → get h.books b ≡ o → IsAscending (λ v w. value_cmp (column v 1) (column w 1) ≡ Less) (rows_at o (λ k. filter test (flat_map (rows_of b) k.pledges)))

@@ -25,7 +25,7 @@ use Rattle.pawn_tables.specs.Entries.{RiseFrom}
 use Rattle.pawn_tables.specs.Meta.{meta_row, meta_rows}
 use Rattle.pawn_tables.specs.Told.{booking_of}
 use Rattle.pawn_tables.specs.At.{is_at, at_book, at_pledge}
-use Rattle.pawn_tables.specs.StandsFor.{StandsFor, of_pledges, AreOrdered}
+use Rattle.pawn_tables.specs.StandsFor.{StandsFor, of_pledges, AreBooksOrdered}
 use Rattle.pawn_tables.proofs.Placed.{mapped, each_any}
 use Rattle.pawn_tables.proofs.PledgeReads.{short, few, holds_in, number_in, under_in, rises_at, under_map, under_placed, under_booked, placed_cells, one_version}
 use Rattle.pawn_tables.proofs.BookReads.{one_book}
@@ -35,7 +35,7 @@ use Rattle.pawn_tables.proofs.Sought.{rows_at, of_one_pledge, placed_rise, entri
 
 -- ---- what stands of a pledge, by the rows of two hosts
 
-module _ (h g : Host) (b n : ℕ) (of_h : AreOrdered h) (of_g : AreOrdered g) where
+module _ (h g : Host) (b n : ℕ) (of_h : AreBooksOrdered h) (of_g : AreBooksOrdered g) where
   abbrev mine : Option PledgeValue
   mine = pledge_in (get h.books b) n
 
@@ -61,7 +61,7 @@ module _ (h g : Host) (b n : ℕ) (of_h : AreOrdered h) (of_g : AreOrdered g) wh
       let told = sym (cells mine) ∙ ap (map (λ v. column v 2 ∷ column v 3 ∷ column v 4 ∷ column v 5 ∷ [])) rows ∙ cells other in
       SameRows.same_placed (λ place e. entry_cells e) (λ e. Unit {0}) (λ m x y s t e. SameRows.same_entry x y e) 1 _ _ (each_any _) (each_any _) (sym (mapped entry_cells 1 _) ∙ told ∙ mapped entry_cells 1 _)
     where
-      up : (k : Host) → AreOrdered k → SameRows.Rise (λ v. column v 2) (rows_at (pledge_in (get k.books b) n) (entries_listed b))
+      up : (k : Host) → AreBooksOrdered k → SameRows.Rise (λ v. column v 2) (rows_at (pledge_in (get k.books b) n) (entries_listed b))
       up k ordered = rises_at (pledge_in (get k.books b) n) (entries_listed b) (λ v. column v 2)
           (λ p is. entries_rise (λ e. under b p.agreement.number (entry_cells e)) (λ v. column v 2) (λ e. refl) 0 p.entries (holds_in k (λ (q : PledgeValue). RiseFrom 0 q.entries) (λ c x at. (ordered c x at).entries) b n p is))
 

@@ -4,7 +4,7 @@ use Rattle.std.specs.Prelude.{unwrap_or}
 use Rattle.std.proofs.lemmas.List.{map-append, map-id}
 use Rattle.pawn_pledge.specs.Pledge.{last_element}
 use Rattle.pawn_pledge.specs.Replayable.{Each}
-use Rattle.pawn_tables.specs.Pages.{IsPage, most_rows, page_end}
+use Rattle.pawn_tables.specs.Pages.{IsPage, most_page_rows, page_end}
 
 pub last_later : {A : Type 0} (x y : A) (ys : List A) → last_element (x ∷ y ∷ ys) ≡ last_element (y ∷ ys)
 last_later x y ys =
@@ -51,11 +51,11 @@ module _ {A : Type 0} (left : ℕ → List A) (behind : A → ℕ) (step : (n : 
           let then = step n x more is in
           ap left (end_after behind n x (take k more)) ∙ subst (λ l. length (take k l) < k → left (page_end behind (behind x) (take k l)) ≡ []) then (rest (behind x)) (omega (arith, short))
 
-  pub is_page : (n : ℕ) → IsPage left (λ (x : A). x) behind n (take most_rows (left n))
+  pub is_page : (n : ℕ) → IsPage left (λ (x : A). x) behind n (take most_page_rows (left n))
   is_page n = record {
-    few = take_few most_rows (left n);
-    goes_on = page_left most_rows n ∙ ap (λ l. l ++ left (page_end behind n (take most_rows (left n)))) (sym (map-id (take most_rows (left n))));
-    is_last = page_last most_rows n;
+    few = take_few most_page_rows (left n);
+    goes_on = page_left most_page_rows n ∙ ap (λ l. l ++ left (page_end behind n (take most_page_rows (left n)))) (sym (map-id (take most_page_rows (left n))));
+    is_last = page_last most_page_rows n;
   }
 
 -- the same, of what is shown of the elements

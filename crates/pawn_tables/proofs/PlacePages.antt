@@ -20,7 +20,7 @@ use Rattle.pawn_book.specs.Sound.{IsUnsoundAt}
 use Rattle.pawn_book.specs.Written.{AreWords, IsWord}
 use Rattle.one_table.proofs.Found.{shown_few}
 use Rattle.pawn_tables.specs.At.{is_at, is_above, at_pledge}
-use Rattle.pawn_tables.specs.Pages.{most_rows}
+use Rattle.pawn_tables.specs.Pages.{most_page_rows}
 use Rattle.pawn_tables.specs.Places.{page_behind}
 use Rattle.pawn_tables.specs.Rows.{number, under, placed_from, secret_cells, secrets_listed, extension_cells, extensions_listed}
 use Rattle.pawn_tables.specs.Schema.{keep_schema, secrets, extensions}
@@ -69,7 +69,7 @@ drop_each P (suc n) [] all = tt
 drop_each P (suc n) (x ∷ xs) all = drop_each P n xs all.1
 
 page_each : {A : Type 0} (P : A → Type 0) (n : ℕ) (xs : List A) → Each P xs → Each P (page_behind n xs)
-page_each P n xs all = take_each P most_rows (drop n xs) (drop_each P n xs all)
+page_each P n xs all = take_each P most_page_rows (drop n xs) (drop_each P n xs all)
 
 drop_nothing : {A : Type 0} (n : ℕ) → ◌≡◌ {A = List A} (drop n []) []
 drop_nothing zero = refl
@@ -96,8 +96,8 @@ module _ (old new : State) (h : Host) (b n s : ℕ) (rows : List Row) (st : Stan
       let one = behind_in secrets_listed (λ m p. under_placed m p.agreement.number secret_cells 1 p.secrets) in
       let up = rises_at found (secrets_listed b) (λ v. column v 2) (λ p is. placed_rise (λ place i. under b p.agreement.number (secret_cells place i)) (λ v. column v 2) (λ place i. refl) 1 p.secrets) in
       let rises = subst (IsAscending (λ v w. value_cmp (column v 2) (column w 2) ≡ Less)) (sym one) (ascending-filter (λ v w. value_cmp (column v 2) (column w 2) ≡ Less) (has_behind s) _ up) in
-      shown_few keep_schema 8 (λ _. refl) t text.behind_tests text.secrets_shows params (at_behind b n s) (λ v. column v 2 ∷ column v 3 ∷ column v 4 ∷ column v 5 ∷ []) (λ _. refl) (λ _. refl) 3 (λ v. column v 2) (λ _. refl) most_rows text.secrets_page_text _ text.secrets_page_is old new (of_pledges h secrets_listed) rows st.schema st.secrets rises shown
-      ∙ ap (take most_rows) (ap (map (λ v. column v 2 ∷ column v 3 ∷ column v 4 ∷ column v 5 ∷ [])) one ∙ cells found) ∙ take_placed secret_cells most_rows (s + 1) (drop s (secrets_of found))
+      shown_few keep_schema 8 (λ _. refl) t text.behind_tests text.secrets_shows params (at_behind b n s) (λ v. column v 2 ∷ column v 3 ∷ column v 4 ∷ column v 5 ∷ []) (λ _. refl) (λ _. refl) 3 (λ v. column v 2) (λ _. refl) most_page_rows text.secrets_page_text _ text.secrets_page_is old new (of_pledges h secrets_listed) rows st.schema st.secrets rises shown
+      ∙ ap (take most_page_rows) (ap (map (λ v. column v 2 ∷ column v 3 ∷ column v 4 ∷ column v 5 ∷ [])) one ∙ cells found) ∙ take_placed secret_cells most_page_rows (s + 1) (drop s (secrets_of found))
     where
       cells : (o : Option PledgeValue) → map (λ v. column v 2 ∷ column v 3 ∷ column v 4 ∷ column v 5 ∷ []) (filter (has_behind s) (rows_at o (secrets_listed b))) ≡ placed_from secret_cells (s + 1) (drop s (secrets_of o))
       cells None = sym (ap (placed_from secret_cells (s + 1)) (drop_nothing s))
@@ -111,8 +111,8 @@ module _ (old new : State) (h : Host) (b n s : ℕ) (rows : List Row) (st : Stan
       let one = behind_in extensions_listed (λ m p. under_placed m p.agreement.number extension_cells 1 p.extensions) in
       let up = rises_at found (extensions_listed b) (λ v. column v 2) (λ p is. placed_rise (λ place e. under b p.agreement.number (extension_cells place e)) (λ v. column v 2) (λ place e. refl) 1 p.extensions) in
       let rises = subst (IsAscending (λ v w. value_cmp (column v 2) (column w 2) ≡ Less)) (sym one) (ascending-filter (λ v w. value_cmp (column v 2) (column w 2) ≡ Less) (has_behind s) _ up) in
-      shown_few keep_schema 17 (λ _. refl) t text.behind_tests text.extensions_shows params (at_behind b n s) (λ v. column v 2 ∷ column v 3 ∷ column v 4 ∷ []) (λ _. refl) (λ _. refl) 3 (λ v. column v 2) (λ _. refl) most_rows text.extensions_page_text _ text.extensions_page_is old new (of_pledges h extensions_listed) rows st.schema st.extensions rises shown
-      ∙ ap (take most_rows) (ap (map (λ v. column v 2 ∷ column v 3 ∷ column v 4 ∷ [])) one ∙ cells found) ∙ take_placed extension_cells most_rows (s + 1) (drop s (extensions_of found))
+      shown_few keep_schema 17 (λ _. refl) t text.behind_tests text.extensions_shows params (at_behind b n s) (λ v. column v 2 ∷ column v 3 ∷ column v 4 ∷ []) (λ _. refl) (λ _. refl) 3 (λ v. column v 2) (λ _. refl) most_page_rows text.extensions_page_text _ text.extensions_page_is old new (of_pledges h extensions_listed) rows st.schema st.extensions rises shown
+      ∙ ap (take most_page_rows) (ap (map (λ v. column v 2 ∷ column v 3 ∷ column v 4 ∷ [])) one ∙ cells found) ∙ take_placed extension_cells most_page_rows (s + 1) (drop s (extensions_of found))
     where
       cells : (o : Option PledgeValue) → map (λ v. column v 2 ∷ column v 3 ∷ column v 4 ∷ []) (filter (has_behind s) (rows_at o (extensions_listed b))) ≡ placed_from extension_cells (s + 1) (drop s (extensions_of o))
       cells None = sym (ap (placed_from extension_cells (s + 1)) (drop_nothing s))

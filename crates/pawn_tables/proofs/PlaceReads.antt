@@ -23,7 +23,7 @@ use Rattle.pawn_tables.specs.Schema.{keep_schema, entries, secrets, extensions}
 use Rattle.pawn_tables.specs.Rows.{number, under, at_most_one, placed_from, entry_cells, entries_listed, secret_cells, secrets_listed, extension_cells, extensions_listed}
 use Rattle.pawn_tables.specs.At.{is_at, is_from, at_pledge}
 use Rattle.pawn_tables.specs.Entries.{IsEntryTold, RiseFrom, with_seq, entries_from}
-use Rattle.pawn_tables.specs.Pages.{most_rows}
+use Rattle.pawn_tables.specs.Pages.{most_page_rows}
 use Rattle.pawn_tables.specs.Places.{at_place}
 use Rattle.pawn_tables.specs.StandsFor.{StandsFor, of_pledges, AreStorable}
 use Rattle.one_table.proofs.Found.{shown_few, shown_listed}
@@ -160,7 +160,7 @@ module _ (old new : State) (h : Host) (b n s : ℕ) (rows : List Row) (st : Stan
       short rows _ (few entry_cells (with_seq (entries_of found) s)) (subst (λ xs. IsPermutation xs rows) shows
       (shown_listed keep_schema 6 (λ _. refl) t text.of_place text.entries_shows params (at_third b n s) entry_shows (λ _. refl) (λ _. refl) text.entry_text _ [] text.entry_is old new (of_pledges h entries_listed) rows st.schema st.entries shown))
 
-  pub entries_page_shown : Shown text.from_text params old new rows → rows ≡ map entry_cells (take most_rows (entries_from s (entries_of found)))
+  pub entries_page_shown : Shown text.from_text params old new rows → rows ≡ map entry_cells (take most_page_rows (entries_from s (entries_of found)))
   entries_page_shown shown =
       let t : Table = record entries { tree = 6 } in
       let one =
@@ -169,8 +169,8 @@ module _ (old new : State) (h : Host) (b n s : ℕ) (rows : List Row) (st : Stan
       let up = rises_at found (entries_listed b) (λ v. column v 2) (λ p is. entries_rise (λ e. under b p.agreement.number (entry_cells e)) (λ v. column v 2) (λ e. refl) 0 p.entries (holds_in h (λ (q : PledgeValue). RiseFrom 0 q.entries) (λ c k at. (st.ordered c k at).entries) b n p is)) in
       let rises = subst (IsAscending (λ v w. value_cmp (column v 2) (column w 2) ≡ Less)) (sym one) (ascending-filter (λ v w. value_cmp (column v 2) (column w 2) ≡ Less) (has_from s) _ up) in
       let shows = ap (map entry_shows) one ∙ entries_passing (has_from s) (λ q. nat_le s q) (λ m e. at_least e.seq s) found in
-      shown_few keep_schema 6 (λ _. refl) t text.from_tests text.entries_shows params (at_from b n s) entry_shows (λ _. refl) (λ _. refl) 3 (λ v. column v 2) (λ _. refl) most_rows text.from_text _ text.from_is old new (of_pledges h entries_listed) rows st.schema st.entries rises shown
-      ∙ ap (take most_rows) shows ∙ sym (take_map entry_cells most_rows (entries_from s (entries_of found)))
+      shown_few keep_schema 6 (λ _. refl) t text.from_tests text.entries_shows params (at_from b n s) entry_shows (λ _. refl) (λ _. refl) 3 (λ v. column v 2) (λ _. refl) most_page_rows text.from_text _ text.from_is old new (of_pledges h entries_listed) rows st.schema st.entries rises shown
+      ∙ ap (take most_page_rows) shows ∙ sym (take_map entry_cells most_page_rows (entries_from s (entries_of found)))
 
   pub secret_shown : Shown text.secret_text params old new rows → rows ≡ at_most_one (secret_cells s) (at_place (secrets_of found) s)
   secret_shown shown =
@@ -208,8 +208,8 @@ module _ (h : Host) (storable : AreStorable h) (b n s : ℕ) where
   pub entry_unsound : (IfSome (with_seq (entries_of (pledge_in (get h.books b) n)) s) IsEntryTold → ⊥) → IsUnsoundAt b h
   entry_unsound bad = entries_unsound h storable b n (λ all. bad (found_each IsEntryTold (λ (e : Entry). e.seq == s) _ all))
 
-  pub entries_page_unsound : (Each IsEntryTold (take most_rows (entries_from s (entries_of (pledge_in (get h.books b) n)))) → ⊥) → IsUnsoundAt b h
-  entries_page_unsound bad = entries_unsound h storable b n (λ all. bad (take_each IsEntryTold most_rows _ (filter_each IsEntryTold (λ (e : Entry). nat_le s e.seq) _ all)))
+  pub entries_page_unsound : (Each IsEntryTold (take most_page_rows (entries_from s (entries_of (pledge_in (get h.books b) n)))) → ⊥) → IsUnsoundAt b h
+  entries_page_unsound bad = entries_unsound h storable b n (λ all. bad (take_each IsEntryTold most_page_rows _ (filter_each IsEntryTold (λ (e : Entry). nat_le s e.seq) _ all)))
 
   pub secret_unsound : (IfSome (at_place (secrets_of (pledge_in (get h.books b) n)) s) (λ i. IsDayNumber i.day) → ⊥) → IsUnsoundAt b h
   secret_unsound bad = secrets_unsound h storable b n (λ all. bad (at_each (λ i. IsDayNumber i.day) _ s all))

@@ -24,7 +24,7 @@ use Rattle.pawn_tables.specs.Entries.{RiseFrom}
 use Rattle.pawn_tables.specs.Schema.{keep_schema, terms, pledges, entries, secrets, bookings, totals, extensions}
 use Rattle.pawn_tables.specs.Rows.{number, under, placed_from, pledge_listed, pledge_cells, credit_cells, entries_listed, entry_cells, secrets_listed, secret_cells, extensions_listed, extension_cells, booking_listed, at_most_one, booking_cells, totals_listed, totals_cells, terms_listed, terms_cells}
 use Rattle.pawn_tables.specs.Told.{booking_of, totals_in}
-use Rattle.pawn_tables.specs.StandsFor.{StandsFor, ListDebts, of_books, of_pledges, AreOrdered}
+use Rattle.pawn_tables.specs.StandsFor.{StandsFor, ListDebts, of_books, of_pledges, AreBooksOrdered}
 use Rattle.one_table.proofs.Found.{shown_listed, shown_in_order}
 use Rattle.pawn_tables.proofs.ReadTexts as text
 use Rattle.pawn_tables.proofs.Sought.{at_pledge, AreUnder, rows_at, of_one_pledge, of_one_book, placed_rise, entries_rise, equals}
@@ -46,7 +46,7 @@ holds_in h P all b n p is = inside (get h.books b) refl is
     inside None e is = absurd (let x = is in cc)
     inside (Some k) e is = each_from P 1 k.pledges n p (all b k e) is
 
-pub number_in : (h : Host) (b n : ℕ) (p : PledgeValue) → AreOrdered h → pledge_in (get h.books b) n ≡ Some p → p.agreement.number ≡ n
+pub number_in : (h : Host) (b n : ℕ) (p : PledgeValue) → AreBooksOrdered h → pledge_in (get h.books b) n ≡ Some p → p.agreement.number ≡ n
 number_in h b n p ordered is = inside (get h.books b) refl is
   where
     from : (k : ℕ) (ps : List PledgeValue) → AreNumberedFrom k ps → pledge_from k ps n ≡ Some p → p.agreement.number ≡ n
@@ -61,7 +61,7 @@ number_in h b n p ordered is = inside (get h.books b) refl is
     inside (Some k) e is = from 1 k.pledges (ordered b k e).pledges is
 
 -- the terms of a pledge stand under its version
-pub under_in : (h : Host) (b n : ℕ) (p : PledgeValue) → AreOrdered h → pledge_in (get h.books b) n ≡ Some p → terms_at (terms_of (get h.books b)) p.agreement.version ≡ Some p.agreement.terms
+pub under_in : (h : Host) (b n : ℕ) (p : PledgeValue) → AreBooksOrdered h → pledge_in (get h.books b) n ≡ Some p → terms_at (terms_of (get h.books b)) p.agreement.version ≡ Some p.agreement.terms
 under_in h b n p ordered is = inside (get h.books b) refl is
   where
     inside : (o : Option BookValue) → get h.books b ≡ o → pledge_in o n ≡ Some p → terms_at (terms_of o) p.agreement.version ≡ Some p.agreement.terms

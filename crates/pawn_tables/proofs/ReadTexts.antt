@@ -8,7 +8,7 @@ use Rattle.sqlite_sql.specs.declared.ops.BinaryOp.TheVariants.{Compare}
 use Rattle.sqlite_sql.specs.declared.ops.CompareOp.TheVariants.{Eq, Ge, Gt, Lt}
 use Rattle.sqlite.specs.declared.types.Value.TheVariants.{Int, Text}
 use Rattle.one_table.proofs.Texts.{Asks, by_column, by_column_down, is_param}
-use Rattle.pawn_tables.specs.Pages.{most_rows}
+use Rattle.pawn_tables.specs.Pages.{most_page_rows}
 use Rattle.pawn_tables.specs.Schema.{keep_schema}
 use Rattle.one_table.proofs.Distinct.{once_of_table}
 use Rattle.one_table.proofs.OneTable.{over_table, few_of_table, first_of_table}
@@ -158,7 +158,7 @@ from_text = codes "SELECT seq, day, sort, pence FROM entries WHERE book = ?1 AND
 abbrev pub from_tests : List Term
 from_tests = is_param 1 0 ∷ is_param 2 1 ∷ op2 (Compare Ge Binary) (col 1 3) (col 0 2) ∷ []
 
-pub from_is : Asks keep_schema from_text (few_of_table most_rows 6 from_tests entries_shows (by_column 3)) (codes "seq" ∷ codes "day" ∷ codes "sort" ∷ codes "pence" ∷ [])
+pub from_is : Asks keep_schema from_text (few_of_table most_page_rows 6 from_tests entries_shows (by_column 3)) (codes "seq" ∷ codes "day" ∷ codes "sort" ∷ codes "pence" ∷ [])
 unfolding understood everything
 from_is = (refl, refl, (refl, refl))
 
@@ -242,14 +242,14 @@ behind_tests = is_param 1 0 ∷ is_param 2 1 ∷ is_over 3 2 ∷ []
 abbrev pub secrets_page_text : List ℕ
 secrets_page_text = codes "SELECT place, day, sort, secret FROM secrets WHERE book = ?1 AND number = ?2 AND place > ?3 ORDER BY place LIMIT 64"
 
-pub secrets_page_is : Asks keep_schema secrets_page_text (few_of_table most_rows 8 behind_tests secrets_shows (by_column 3)) (codes "place" ∷ codes "day" ∷ codes "sort" ∷ codes "secret" ∷ [])
+pub secrets_page_is : Asks keep_schema secrets_page_text (few_of_table most_page_rows 8 behind_tests secrets_shows (by_column 3)) (codes "place" ∷ codes "day" ∷ codes "sort" ∷ codes "secret" ∷ [])
 unfolding understood everything
 secrets_page_is = (refl, refl, (refl, refl))
 
 abbrev pub extensions_page_text : List ℕ
 extensions_page_text = codes "SELECT place, day, until_day FROM extensions WHERE book = ?1 AND number = ?2 AND place > ?3 ORDER BY place LIMIT 64"
 
-pub extensions_page_is : Asks keep_schema extensions_page_text (few_of_table most_rows 17 behind_tests extensions_shows (by_column 3)) (codes "place" ∷ codes "day" ∷ codes "until_day" ∷ [])
+pub extensions_page_is : Asks keep_schema extensions_page_text (few_of_table most_page_rows 17 behind_tests extensions_shows (by_column 3)) (codes "place" ∷ codes "day" ∷ codes "until_day" ∷ [])
 unfolding understood everything
 extensions_page_is = (refl, refl, (refl, refl))
 
@@ -295,7 +295,7 @@ confirmed_page_text = codes "SELECT number FROM bookings WHERE book = ?1 AND num
 abbrev pub confirmed_page_tests : List Term
 confirmed_page_tests = is_param 1 0 ∷ is_over 2 1 ∷ is_param 3 2 ∷ is_param 4 3 ∷ is_number 5 1 ∷ []
 
-pub confirmed_page_is : Asks keep_schema confirmed_page_text (few_of_table most_rows 11 confirmed_page_tests confirmed_shows (by_column 2)) (codes "number" ∷ [])
+pub confirmed_page_is : Asks keep_schema confirmed_page_text (few_of_table most_page_rows 11 confirmed_page_tests confirmed_shows (by_column 2)) (codes "number" ∷ [])
 unfolding understood everything
 confirmed_page_is = (refl, refl, (refl, refl))
 
@@ -308,7 +308,7 @@ asked_page_tests = is_param 1 0 ∷ is_over 2 1 ∷ is_param 3 2 ∷ is_number 5
 abbrev pub asked_page_shows : List Term
 asked_page_shows = col 1 2 ∷ col 1 4 ∷ []
 
-pub asked_page_is : Asks keep_schema asked_page_text (few_of_table most_rows 11 asked_page_tests asked_page_shows (by_column 2)) (codes "number" ∷ codes "slot" ∷ [])
+pub asked_page_is : Asks keep_schema asked_page_text (few_of_table most_page_rows 11 asked_page_tests asked_page_shows (by_column 2)) (codes "number" ∷ codes "slot" ∷ [])
 unfolding understood everything
 asked_page_is = (refl, refl, (refl, refl))
 
@@ -318,6 +318,6 @@ ends_page_text = codes "SELECT number FROM pledges WHERE book = ?1 AND number > 
 abbrev pub ends_page_tests : List Term
 ends_page_tests = is_param 1 0 ∷ is_over 2 1 ∷ is_number 14 0 ∷ is_param 11 2 ∷ []
 
-pub ends_page_is : Asks keep_schema ends_page_text (few_of_table most_rows 3 ends_page_tests ref_shows (by_column 2)) (codes "number" ∷ [])
+pub ends_page_is : Asks keep_schema ends_page_text (few_of_table most_page_rows 3 ends_page_tests ref_shows (by_column 2)) (codes "number" ∷ [])
 unfolding understood everything
 ends_page_is = (refl, refl, (refl, refl))

@@ -25,7 +25,7 @@ use Rattle.pawn_tables.specs.Schema.{keep_schema, pledges, bookings}
 use Rattle.pawn_tables.specs.Rows.{number, under, pledge_cells, pledge_listed, booking_cells, booking_listed, state_number, at_most_one}
 use Rattle.pawn_tables.specs.Heads.{number_cells}
 use Rattle.pawn_tables.specs.At.{is_at}
-use Rattle.pawn_tables.specs.StandsFor.{StandsFor, of_pledges, AreOrdered}
+use Rattle.pawn_tables.specs.StandsFor.{StandsFor, of_pledges, AreBooksOrdered}
 use Rattle.one_table.proofs.Found.{shown_first}
 use Rattle.pawn_tables.proofs.Counts.{count_of, shown_count}
 use Rattle.pawn_tables.proofs.ReadTexts as text
@@ -67,7 +67,7 @@ module _ (h : Host) (b : ℕ) (s : List ℕ) where
   abbrev found_in : Option BookValue → List Row
   found_in o = rows_at o (λ k. filter (at_ref b s) (flat_map (pledge_listed b) k.pledges))
 
-  found_rise : AreOrdered h → (o : Option BookValue) → get h.books b ≡ o → IsAscending (λ v w. value_cmp (column v 1) (column w 1) ≡ Less) (found_in o)
+  found_rise : AreBooksOrdered h → (o : Option BookValue) → get h.books b ≡ o → IsAscending (λ v w. value_cmp (column v 1) (column w 1) ≡ Less) (found_in o)
   found_rise ordered None is = tt
   found_rise ordered (Some k) is =
       subst (λ xs. IsAscending (λ v w. value_cmp (column v 1) (column w 1) ≡ Less) (filter (at_ref b s) xs)) (singles (row_in b) k.pledges)

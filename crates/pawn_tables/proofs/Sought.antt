@@ -19,7 +19,7 @@ use Rattle.pawn_book.specs.HostStep.{Host}
 use Rattle.pawn_book.specs.Rows.{AreNumberedFrom}
 use Rattle.pawn_tables.specs.Entries.{RiseFrom}
 use Rattle.pawn_tables.specs.Rows.{number, placed_from}
-use Rattle.pawn_tables.specs.StandsFor.{of_books, of_pledges, AreOrdered}
+use Rattle.pawn_tables.specs.StandsFor.{of_books, of_pledges, AreBooksOrdered}
 pub use Rattle.pawn_tables.specs.At.{is_at, at_book, at_pledge}
 
 -- ---- SQL's = on numbers
@@ -135,7 +135,7 @@ flat_none f [] h = refl
 flat_none f (x ∷ xs) h = ap (λ l. l ++ flat_map f xs) (h x) ∙ flat_none f xs h
 
 -- the rows of one pledge, among those of all pledges of all books
-pub of_one_pledge : (h : Host) (b n : ℕ) (rows_of : ℕ → PledgeValue → List Row) → AreOrdered h → ((m : ℕ) (p : PledgeValue) → AreUnder m p.agreement.number (rows_of m p))
+pub of_one_pledge : (h : Host) (b n : ℕ) (rows_of : ℕ → PledgeValue → List Row) → AreBooksOrdered h → ((m : ℕ) (p : PledgeValue) → AreUnder m p.agreement.number (rows_of m p))
     → filter (at_pledge b n) (of_pledges h rows_of) ≡ rows_at (pledge_in (get h.books b) n) (rows_of b)
 of_one_pledge h b n rows_of ordered under' =
     of_one_book h b (at_pledge b n) (λ m k. flat_map (rows_of m) k.pledges) other ∙ inside (get h.books b) refl

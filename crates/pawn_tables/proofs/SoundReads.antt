@@ -13,7 +13,7 @@ use Rattle.pawn_debt.specs.declared.entry.Sort.{Sort}
 use Rattle.pawn_debt.specs.declared.entry.Sort.TheVariants.{Draw, Repay}
 use Rattle.pawn_debt.specs.Answers.{draw_rows, is_bad_amount, repay_rows, with_entry}
 use Rattle.pawn_debt.specs.Due.{DebtValue, last_of}
-use Rattle.pawn_debt.specs.Replay.{AreAccepted, sort_answer}
+use Rattle.pawn_debt.specs.Replay.{AreEntriesAccepted, sort_answer}
 use Rattle.pawn_terms.proofs.CalendarLemmas.{page_date}
 use Rattle.pawn_terms.proofs.OrderLemmas.{last_by-le}
 use Rattle.pawn_terms.proofs.RefusalLemmas.{first_of-is_ok}
@@ -126,7 +126,7 @@ accepted_amount : (s : Sort) (d : DebtValue) (x pence : ℕ) → IsOk (sort_answ
 accepted_amount Draw d x pence h = some_pence pence ((first_of-is_ok (draw_rows d x pence) (Ok (with_entry d x Draw pence)) h).0.1.1.0)
 accepted_amount Repay d x pence h = some_pence pence ((first_of-is_ok (repay_rows d x pence) (Ok (with_entry d x Repay pence)) h).0.1.0)
 
-all_amounts : (d : DebtValue) (prior es : List Entry) → AreAccepted d prior es → Each (λ e. IsAmount e.pence) es
+all_amounts : (d : DebtValue) (prior es : List Entry) → AreEntriesAccepted d prior es → Each (λ e. IsAmount e.pence) es
 all_amounts d prior [] h = tt
 all_amounts d prior (e ∷ es) h = (accepted_amount e.sort (record d { entries = prior }) e.day e.pence h.0.1, all_amounts d (prior ++ e ∷ []) es h.1)
 

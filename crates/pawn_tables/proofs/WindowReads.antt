@@ -26,7 +26,7 @@ use Rattle.pawn_book.specs.Keeping.{pledges_of}
 use Rattle.pawn_tables.specs.At.{is_at, is_below}
 use Rattle.pawn_tables.specs.Heads.{number_cells}
 use Rattle.pawn_tables.specs.Lines.{NamesWindows}
-use Rattle.pawn_tables.specs.Rows.{number, number_of, under, booking_cells, booking_listed, state_number}
+use Rattle.pawn_tables.specs.Rows.{number, number_in_book, under, booking_cells, booking_listed, state_number}
 use Rattle.pawn_tables.specs.Schema.{keep_schema, bookings}
 use Rattle.pawn_tables.specs.StandsFor.{StandsFor, of_pledges}
 use Rattle.one_table.proofs.Distinct.{each_shown_once, shown_once_each}
@@ -43,7 +43,7 @@ abbrev comes_on : ℕ → Booking → Bool
 comes_on day k = (k.day == day) && (is_confirmed k.state && nat_lt k.window 16)
 
 abbrev window_told : ℕ → PledgeValue → Option ℕ
-window_told day p = tell_of (comes_on day) (λ n (k : Booking). k.window) (number_of p) p.standing.booking
+window_told day p = tell_of (comes_on day) (λ n (k : Booking). k.window) (number_in_book p) p.standing.booking
 
 -- nobody comes in a window that is told of no pledge
 none_comes : (day w : ℕ) → w < 16 → (ps : List PledgeValue) → AllByRecursion (λ (n : ℕ). n ≢ w) (filter_map (window_told day) ps) → part_items (part_of.Confirmed w) day ps ≡ []
@@ -51,14 +51,14 @@ none_comes day w few [] all = refl
 none_comes day w few (p ∷ ps) all = go (λ more. none_comes day w few ps more) p.standing.booking all
   where
     go : (AllByRecursion (λ (n : ℕ). n ≢ w) (filter_map (window_told day) ps) → part_items (part_of.Confirmed w) day ps ≡ []) → (o : Option Booking)
-        → AllByRecursion (λ (n : ℕ). n ≢ w) (cons_option (tell_of (comes_on day) (λ n (k : Booking). k.window) (number_of p) o) (filter_map (window_told day) ps))
-        → cons_option (cond (is_confirmed_for day w o) (Some (Confirmed (number_of p))) None) (part_items (part_of.Confirmed w) day ps) ≡ []
+        → AllByRecursion (λ (n : ℕ). n ≢ w) (cons_option (tell_of (comes_on day) (λ n (k : Booking). k.window) (number_in_book p) o) (filter_map (window_told day) ps))
+        → cons_option (cond (is_confirmed_for day w o) (Some (Confirmed (number_in_book p))) None) (part_items (part_of.Confirmed w) day ps) ≡ []
     go rest None all = rest all
     go rest (Some k) all = each (k.day == day) (k.window == w) (is_confirmed k.state) (nat_lt k.window 16) (λ e. grind (arith, nat_tests, e)) (λ e. grind (arith, nat_tests, e, few)) all
       where
         each : (d e s l : Bool) → (e ≡ true → k.window ≡ w) → (e ≡ true → l ≡ true)
             → AllByRecursion (λ (n : ℕ). n ≢ w) (cons_option (cond (d && (s && l)) (Some k.window) None) (filter_map (window_told day) ps))
-            → cons_option (cond ((d && e) && s) (Some (Confirmed (number_of p))) None) (part_items (part_of.Confirmed w) day ps) ≡ []
+            → cons_option (cond ((d && e) && s) (Some (Confirmed (number_in_book p))) None) (part_items (part_of.Confirmed w) day ps) ≡ []
         each true true true true same low all = absurd (all.0 (same refl))
         each true true true false same low all = absurd (true≢false (sym (low refl)))
         each true true false l same low all = rest all

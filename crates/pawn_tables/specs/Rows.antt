@@ -150,24 +150,24 @@ terms_listed b k = placed_from (λ version t. number b ∷ number version ∷ te
 abbrev pub under : ℕ → ℕ → Row → Row
 under b n cells = number b ∷ number n ∷ cells
 
-abbrev pub number_of : PledgeValue → ℕ
-number_of p = p.agreement.number
+abbrev pub number_in_book : PledgeValue → ℕ
+number_in_book p = p.agreement.number
 
 abbrev pub pledge_listed : ℕ → PledgeValue → List Row
-pledge_listed b p = under b (number_of p) (pledge_cells p) ∷ []
+pledge_listed b p = under b (number_in_book p) (pledge_cells p) ∷ []
 
 abbrev pub entries_listed : ℕ → PledgeValue → List Row
-entries_listed b p = map (λ e. under b (number_of p) (entry_cells e)) p.entries
+entries_listed b p = map (λ e. under b (number_in_book p) (entry_cells e)) p.entries
 
 abbrev pub secrets_listed : ℕ → PledgeValue → List Row
-secrets_listed b p = placed_from (λ place i. under b (number_of p) (secret_cells place i)) 1 p.secrets
+secrets_listed b p = placed_from (λ place i. under b (number_in_book p) (secret_cells place i)) 1 p.secrets
 
 abbrev pub extensions_listed : ℕ → PledgeValue → List Row
-extensions_listed b p = placed_from (λ place e. under b (number_of p) (extension_cells place e)) 1 p.extensions
+extensions_listed b p = placed_from (λ place e. under b (number_in_book p) (extension_cells place e)) 1 p.extensions
 
 -- one row for a booking
 abbrev pub booking_listed : ℕ → PledgeValue → List Row
-booking_listed b p = at_most_one (λ k. under b (number_of p) (booking_cells k)) p.standing.booking
+booking_listed b p = at_most_one (λ k. under b (number_in_book p) (booking_cells k)) p.standing.booking
 
 abbrev pub totals_listed : ℕ → PledgeValue → List Row
-totals_listed b p = under b (number_of p) (totals_cells (totals_of (debt_of p))) ∷ []
+totals_listed b p = under b (number_in_book p) (totals_cells (totals_of (debt_of p))) ∷ []

@@ -39,8 +39,8 @@ pub record IsStorable (k : BookValue) : Type 0 where
   pub taken : Each (λ p. first_day ≤ p.agreement.taken) k.pledges
   pub versions : length k.terms < 2 ^ 32
 
-abbrev pub AreOrdered : Host → Type 0
-AreOrdered h = (b : ℕ) (k : BookValue) → get h.books b ≡ Some k → IsOrdered k
+abbrev pub AreBooksOrdered : Host → Type 0
+AreBooksOrdered h = (b : ℕ) (k : BookValue) → get h.books b ≡ Some k → IsOrdered k
 
 abbrev pub AreStorable : Host → Type 0
 AreStorable h = (b : ℕ) (k : BookValue) → get h.books b ≡ Some k → IsStorable k
@@ -52,7 +52,7 @@ pub record ListDebts (db : Database) (h : Host) : Type 0 where
   pub terms : Holds db.trees terms_tree (record terms { tree = terms_tree }) (of_books h terms_listed)
   pub pledges : Holds db.trees pledges_tree (record pledges { tree = pledges_tree }) (of_pledges h pledge_listed)
   pub entries : Holds db.trees entries_tree (record entries_table { tree = entries_tree }) (of_pledges h entries_listed)
-  pub ordered : AreOrdered h
+  pub ordered : AreBooksOrdered h
   pub storable : AreStorable h
 
 -- The tables list the host, and note the number of their schema, how many rows are counted, and the limit.
@@ -70,7 +70,7 @@ pub record StandsFor (db : Database) (h : Host) : Type 0 where
   pub totals : Holds db.trees totals_tree (record totals { tree = totals_tree }) (of_pledges h totals_listed)
   pub extensions : Holds db.trees extensions_tree (record extensions { tree = extensions_tree }) (of_pledges h extensions_listed)
   -- what no row tells
-  pub ordered : AreOrdered h
+  pub ordered : AreBooksOrdered h
   pub storable : AreStorable h
 
 -- the trees of a database of these tables stand for the host

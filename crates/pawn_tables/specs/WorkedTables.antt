@@ -39,12 +39,12 @@ used_ring = record {
 }
 
 -- book 7, run by the key 5
-abbrev pub one_book : BookValue
-one_book = record { key = 5; name = codes "High Street"; capacity = 2; terms = rates_of 2667 0 0 ∷ []; pledges = used_ring ∷ []; imported = None }
+abbrev pub stored_book : BookValue
+stored_book = record { key = 5; name = codes "High Street"; capacity = 2; terms = rates_of 2667 0 0 ∷ []; pledges = used_ring ∷ []; imported = None }
 
 -- the host of that book alone, with room for 1,000 rows
-abbrev pub one_host : Host
-one_host = record { books = insert empty 7 one_book; limit = 1000 }
+abbrev pub host_of_stored_book : Host
+host_of_stored_book = record { books = insert empty 7 stored_book; limit = 1000 }
 
 -- a column that is a number
 abbrev pub n : ℕ → Value
@@ -55,20 +55,20 @@ abbrev pub entry : ℕ → Entry
 entry number = record { seq = number; day = date 2024 1 31; sort = Repay; pence = 1000 }
 
 pub record WorkedTables : Type 0 where
-  pub books : map (λ (e : ℕ × BookValue). book_row e.0 e.1) (entries one_host.books) ≡ (n 7 ∷ word 5 ∷ Text (codes "High Street") ∷ n 2 ∷ n 1 ∷ n 1 ∷ Null ∷ Null ∷ []) ∷ []
-  pub terms : of_books one_host terms_listed ≡ (n 7 ∷ n 1 ∷ n 2667 ∷ n 0 ∷ n 0 ∷ []) ∷ []
+  pub books : map (λ (e : ℕ × BookValue). book_row e.0 e.1) (entries host_of_stored_book.books) ≡ (n 7 ∷ word 5 ∷ Text (codes "High Street") ∷ n 2 ∷ n 1 ∷ n 1 ∷ Null ∷ Null ∷ []) ∷ []
+  pub terms : of_books host_of_stored_book terms_listed ≡ (n 7 ∷ n 1 ∷ n 2667 ∷ n 0 ∷ n 0 ∷ []) ∷ []
   -- until the end that was agreed last
-  pub pledges : of_pledges one_host pledge_listed ≡ (
+  pub pledges : of_pledges host_of_stored_book pledge_listed ≡ (
       n 7 ∷ n 1 ∷ Text (codes "A1") ∷ Text (codes "Gold ring") ∷ n 0 ∷ n 10000 ∷ n 19723 ∷ Null ∷ n 0 ∷ n 1
       ∷ n 19996 ∷ n 0 ∷ n 19753 ∷ n 0 ∷ Null ∷ Null ∷ []) ∷ []
-  pub entries_are : of_pledges one_host entries_listed ≡ (n 7 ∷ n 1 ∷ n 1 ∷ n 19753 ∷ n 1 ∷ n 1000 ∷ []) ∷ []
-  pub secrets : of_pledges one_host secrets_listed ≡ (n 7 ∷ n 1 ∷ n 1 ∷ n 19723 ∷ n 0 ∷ word 3 ∷ []) ∷ (n 7 ∷ n 1 ∷ n 2 ∷ n 19753 ∷ n 1 ∷ word 4 ∷ []) ∷ []
-  pub bookings : of_pledges one_host booking_listed ≡ (n 7 ∷ n 1 ∷ n 19760 ∷ n 2 ∷ n 1 ∷ []) ∷ []
-  pub extensions : of_pledges one_host extensions_listed ≡ (n 7 ∷ n 1 ∷ n 1 ∷ n 19753 ∷ n 19996 ∷ []) ∷ []
+  pub entries_are : of_pledges host_of_stored_book entries_listed ≡ (n 7 ∷ n 1 ∷ n 1 ∷ n 19753 ∷ n 1 ∷ n 1000 ∷ []) ∷ []
+  pub secrets : of_pledges host_of_stored_book secrets_listed ≡ (n 7 ∷ n 1 ∷ n 1 ∷ n 19723 ∷ n 0 ∷ word 3 ∷ []) ∷ (n 7 ∷ n 1 ∷ n 2 ∷ n 19753 ∷ n 1 ∷ word 4 ∷ []) ∷ []
+  pub bookings : of_pledges host_of_stored_book booking_listed ≡ (n 7 ∷ n 1 ∷ n 19760 ∷ n 2 ∷ n 1 ∷ []) ∷ []
+  pub extensions : of_pledges host_of_stored_book extensions_listed ≡ (n 7 ∷ n 1 ∷ n 1 ∷ n 19753 ∷ n 19996 ∷ []) ∷ []
   -- of thirty days' charges, 800.1 pence, the repayment takes eight pounds; a tenth of a penny stays
-  pub totals : of_pledges one_host totals_listed ≡ (n 7 ∷ n 1 ∷ n 19753 ∷ n 9800 ∷ n 100000 ∷ []) ∷ []
+  pub totals : of_pledges host_of_stored_book totals_listed ≡ (n 7 ∷ n 1 ∷ n 19753 ∷ n 9800 ∷ n 100000 ∷ []) ∷ []
   -- a book, a version of terms, a pledge, an entry, two secrets and a booking are counted
-  pub notes : meta_rows (rows one_host) one_host.limit ≡ (Text (codes "schema") ∷ n 3 ∷ []) ∷ (Text (codes "rows") ∷ n 7 ∷ []) ∷ (Text (codes "limit") ∷ n 1000 ∷ []) ∷ []
+  pub notes : meta_rows (rows host_of_stored_book) host_of_stored_book.limit ≡ (Text (codes "schema") ∷ n 3 ∷ []) ∷ (Text (codes "rows") ∷ n 7 ∷ []) ∷ (Text (codes "limit") ∷ n 1000 ∷ []) ∷ []
   -- a key is sixteen bytes
   pub key : word 5 ≡ Blob (0 ∷ 0 ∷ 0 ∷ 0 ∷ 0 ∷ 0 ∷ 0 ∷ 0 ∷ 0 ∷ 0 ∷ 0 ∷ 0 ∷ 0 ∷ 0 ∷ 0 ∷ 5 ∷ [])
   -- a ring that nothing was done with has no such row

@@ -1,4 +1,4 @@
-ghost use Rattle.std.specs.Prelude.{◌≡◌, ◌≢◌, ◌<◌, ℕ, List, Bool, Option, IfErr, IfOk, IfSome, length, ⊤};
+ghost use Rattle.std.specs.Prelude.{◌≡◌, ◌≢◌, ◌<◌, ℕ, List, Bool, Option, IfSome, length, ⊤};
 ghost use Rattle.std.specs.Int.{to_be_bytes, w128};
 ghost use Rattle.std.specs.Str.{IsUtf8};
 ghost use Rattle.sqlite.specs.declared.types.Value.TheVariants.{Text as Words};
@@ -27,9 +27,10 @@ use uuid::Uuid;
 /// A stored row is no record.
 pub(crate) const NO_RECORD: KeepError = KeepError::Store(StoreFault::NoRecord);
 
-/// Why the store gave no rows.
-pub(crate) fn refused(error: Error) -> KeepError
+/// Why a statement was not run: for want of memory, or since the database refused it.
+pub fn refused(error: Error) -> KeepError
     ensures no_row { result ≢ Keeper.Store NoRecord }
+    ensures memory { result ≡ Keeper.Memory → error ≡ SqlError.SqliteFailure OutOfMemory }
 {
     match error {
         Error::SqliteFailure(ErrorCode::OutOfMemory) => KeepError::Memory,

@@ -5,6 +5,7 @@ mod books;
 mod briefs;
 mod cells;
 mod credits;
+mod encoding;
 mod heads;
 mod joining;
 mod laws;
@@ -20,10 +21,16 @@ mod sheets;
 mod tails;
 mod whole;
 mod worked;
+mod writing;
 
 pub use books::{confirmed_in, head_in, next_in, ref_in, rows_in};
 pub use briefs::brief_in;
+pub use cells::refused;
 pub use credits::{Credit, credit_in};
+pub use encoding::{
+    REFUSED, agreed_value, closed_amount, closed_day, closed_number, flag_number, issue_number,
+    kind_number, small, sort_number, state_number,
+};
 pub use laws::tables_stand_for_one;
 pub use line::Line;
 pub use pages::{PAGE_ROWS, entries_page, extensions_page, secrets_page};
@@ -32,3 +39,4 @@ pub use queries::{booking_in, entries_in, terms_in};
 pub use sheets::{count_in, lines_page, windows_in};
 pub use whole::{pledge_of, terms_under};
 pub use worked::worked_tables;
+pub use writing::write;

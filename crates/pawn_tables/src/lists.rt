@@ -1,4 +1,4 @@
-ghost use Rattle.std.specs.Prelude.{◌≡◌, ℕ, IfSome, List, Option, map, ⊤};
+ghost use Rattle.std.specs.Prelude.{◌≡◌, ℕ, IfSome, List, Option, map};
 ghost use Rattle.pawn_terms.specs.Calendar.{IsDayNumber};
 ghost use Rattle.pawn_debt.specs.declared.entry.Entry.{Entry};
 ghost use Rattle.pawn_pledge.specs.declared.record.Issued.{Issued};

@@ -1,4 +1,4 @@
-ghost use Rattle.std.specs.Prelude.{◌≡◌, ℕ, Option, IfSome, ⊤};
+ghost use Rattle.std.specs.Prelude.{◌≡◌, Option, IfSome, ⊤};
 ghost use Rattle.pawn_terms.specs.Calendar.{IsDayNumber};
 ghost use Rattle.pawn_terms.specs.Terms.{IsChecked};
 ghost use Rattle.pawn_terms.specs.declared.terms.Rates.{Rates};

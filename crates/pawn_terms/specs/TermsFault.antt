@@ -17,13 +17,13 @@ terms_answer t =
     (Ok t)
 
 -- the fault's number
-abbrev pub code_of : TermsFault → ℕ
-code_of RateTooHigh = 102
-code_of KeepTooHigh = 103
-code_of KeepingRate = 104
+abbrev pub terms_fault_code : TermsFault → ℕ
+terms_fault_code RateTooHigh = 102
+terms_fault_code KeepTooHigh = 103
+terms_fault_code KeepingRate = 104
 
 -- the fault's name
-abbrev pub name_of : TermsFault → List ℕ
-name_of RateTooHigh = codes "RateTooHigh"
-name_of KeepTooHigh = codes "KeepTooHigh"
-name_of KeepingRate = codes "KeepingRate"
+abbrev pub terms_fault_name : TermsFault → List ℕ
+terms_fault_name RateTooHigh = codes "RateTooHigh"
+terms_fault_name KeepTooHigh = codes "KeepTooHigh"
+terms_fault_name KeepingRate = codes "KeepingRate"

@@ -19,15 +19,15 @@ window_line capacity window count =
     codes "Window " ++ (decimal window ++ (codes " confirmed " ++ (decimal count ++ (codes " of " ++ (decimal capacity ++ codes "\n")))))
 
 -- who asked to come, and in which window
-abbrev pub asked_line : ℕ → ℕ → List ℕ
-asked_line number window = codes "Pledge " ++ (decimal number ++ (codes " window " ++ (decimal window ++ codes "\n")))
+abbrev pub asked_sheet_line : ℕ → ℕ → List ℕ
+asked_sheet_line number window = codes "Pledge " ++ (decimal number ++ (codes " window " ++ (decimal window ++ codes "\n")))
 
 -- the line of an item
 abbrev pub sheet_line : ℕ → SheetItem → List ℕ
 sheet_line capacity (Window window count) = window_line capacity window count
 sheet_line capacity (Confirmed number) = number_line (codes "Pledge ") number
 sheet_line capacity (AskedHead count) = number_line (codes "Asked ") count
-sheet_line capacity (Asked number window) = asked_line number window
+sheet_line capacity (Asked number window) = asked_sheet_line number window
 sheet_line capacity (EndsHead count) = number_line (codes "Ends ") count
 sheet_line capacity (Ends number) = number_line (codes "Pledge ") number
 

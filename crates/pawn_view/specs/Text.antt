@@ -5,8 +5,7 @@ use Rattle.pawn_terms.specs.Calendar.{digit, day_text}
 use Rattle.pawn_debt.specs.declared.entry.Kind.{Kind}
 use Rattle.pawn_debt.specs.declared.entry.Kind.TheVariants.{Fixed, Running}
 use Rattle.pawn_debt.specs.declared.entry.Entry.{Entry}
-use Rattle.pawn_debt.specs.declared.entry.Sort.{Sort}
-use Rattle.pawn_debt.specs.declared.entry.Sort.TheVariants.{Draw, Repay}
+use Rattle.pawn_debt.specs.Words.{sort_text}
 use Rattle.pawn_debt.specs.declared.owing.Owing.{Owing}
 use Rattle.pawn_debt.specs.Due.{due}
 use Rattle.pawn_debt.specs.Owing.{owing_of}
@@ -14,8 +13,7 @@ use Rattle.pawn_pledge.specs.declared.record.Agreement.{Agreement}
 use Rattle.pawn_pledge.specs.declared.record.Standing.{Standing}
 use Rattle.pawn_pledge.specs.declared.record.Extension.{Extension}
 use Rattle.pawn_pledge.specs.declared.record.Booking.{Booking}
-use Rattle.pawn_pledge.specs.declared.record.BookingState.{BookingState}
-use Rattle.pawn_pledge.specs.declared.record.BookingState.TheVariants as state
+use Rattle.pawn_pledge.specs.Words.{state_text}
 use Rattle.pawn_pledge.specs.declared.record.Closing.{Closing}
 use Rattle.pawn_pledge.specs.declared.record.Closing.TheVariants.{Open, Redeemed, Sold}
 use Rattle.pawn_pledge.specs.declared.record.Status.{Status}
@@ -69,16 +67,10 @@ abbrev pub held_line : Bool → List ℕ
 held_line true = codes "Held yes\n"
 held_line false = codes "Held no\n"
 
-abbrev pub state_word : BookingState → List ℕ
-state_word state.Asked = codes "asked"
-state_word state.Confirmed = codes "confirmed"
-state_word state.Refused = codes "refused"
-state_word state.Cancelled = codes "cancelled"
-
 abbrev pub booking_line : Option Booking → List ℕ
 booking_line None = codes "Booking none\n"
 booking_line (Some b) =
-    codes "Booking " ++ (date_text b.day ++ (codes " " ++ (decimal b.window ++ (codes " " ++ (state_word b.state ++ codes "\n")))))
+    codes "Booking " ++ (date_text b.day ++ (codes " " ++ (decimal b.window ++ (codes " " ++ (state_text b.state ++ codes "\n")))))
 
 abbrev pub redeemed_line : ℕ → ℕ → List ℕ
 redeemed_line day paid = codes "Redeemed " ++ (date_text day ++ (codes " paid " ++ (money paid ++ codes "\n")))
@@ -94,12 +86,9 @@ closing_line Open total = []
 closing_line (Redeemed day paid) total = redeemed_line day paid
 closing_line (Sold day net) total = sold_line day net (net - total) (total - net)
 
-abbrev pub sort_word : Sort → List ℕ
-sort_word Draw = codes " draw "
-sort_word Repay = codes " repay "
-
 abbrev pub entry_line : Entry → List ℕ
-entry_line e = codes "Entry " ++ (decimal e.seq ++ (codes " " ++ (date_text e.day ++ (sort_word e.sort ++ (money e.pence ++ codes "\n")))))
+entry_line e = codes "Entry " ++ (decimal e.seq ++ (codes " " ++ (date_text e.day ++ (codes " " ++ (sort_text e.sort
+    ++ (codes " " ++ (money e.pence ++ codes "\n"))))))))
 
 -- the day of which a statement speaks: the closing day of a closed pledge, else the day given, or the last change where that is later
 abbrev pub shown_day : Closing → ℕ → ℕ → ℕ

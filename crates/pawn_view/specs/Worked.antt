@@ -8,7 +8,7 @@ use Rattle.pawn_pledge.specs.declared.command.Command.{Command}
 use Rattle.pawn_pledge.specs.declared.record.BookingState.TheVariants as state
 use Rattle.pawn_pledge.specs.declared.record.Closing.TheVariants.{Open, Redeemed, Sold}
 use Rattle.pawn_pledge.specs.Pledge.{PledgeValue}
-use Rattle.pawn_pledge.specs.Worked.{after, ring_pledge, ring}
+use Rattle.pawn_pledge.specs.Worked.{after_telling, ring_pledge, ring}
 use Rattle.pawn_view.specs.Text.{money, date_text, kind_line, extended_line, held_line, booking_line, closing_line, entry_line, statement_text, presented_text}
 
 -- pounds, and two digits of pence
@@ -73,20 +73,20 @@ abbrev pub WorkedCharges : Type 0
 WorkedCharges =
     (statement_text (date 2024 3 1) ring_at_interest
     ≡ codes "Pledge 1\nArticle Gold ring\nKind fixed 100.00\nTaken 2024-01-31\nEnds 2024-07-31\nStatus inside\nPrincipal 100.00\nCharges 8.00\nOwing 108.00\nHeld no\nBooking none\n")
-    × (statement_text (date 2024 3 1) (after ring_at_interest (date 2024 3 1) (Command.Repay 1 1000))
+    × (statement_text (date 2024 3 1) (after_telling ring_at_interest (date 2024 3 1) (Command.Repay 1 1000))
     ≡ codes "Pledge 1\nArticle Gold ring\nKind fixed 100.00\nTaken 2024-01-31\nEnds 2024-07-31\nStatus inside\nPrincipal 98.00\nCharges 0.00\nOwing 98.00\nHeld no\nBooking none\nEntry 1 2024-03-01 repay 10.00\n")
 
 -- statements of a ring that was redeemed or sold, on any later day
 abbrev pub WorkedEndings : Type 0
 WorkedEndings =
-    (statement_text (date 2025 1 1) (after (ring 10000) (date 2024 8 1) (Command.Redeem 10000))
+    (statement_text (date 2025 1 1) (after_telling (ring 10000) (date 2024 8 1) (Command.Redeem 10000))
     ≡ codes "Pledge 1\nArticle Gold ring\nKind fixed 100.00\nTaken 2024-01-31\nEnds 2024-07-31\nStatus redeemed\nPrincipal 100.00\nCharges 0.00\nOwing 100.00\nHeld no\nBooking none\nRedeemed 2024-08-01 paid 100.00\n")
-    × (statement_text (date 2025 1 1) (after (ring 10000) (date 2024 8 1) (Command.Sell 12345))
+    × (statement_text (date 2025 1 1) (after_telling (ring 10000) (date 2024 8 1) (Command.Sell 12345))
     ≡ codes "Pledge 1\nArticle Gold ring\nKind fixed 100.00\nTaken 2024-01-31\nEnds 2024-07-31\nStatus sold\nPrincipal 100.00\nCharges 0.00\nOwing 100.00\nHeld no\nBooking none\nSold 2024-08-01 net 123.45 surplus 23.45 shortfall 0.00\n")
 
 -- receipts: the line of an unknown one, and a blank line between two
-abbrev pub WorkedReceipts : Type 0
-WorkedReceipts =
+abbrev pub WorkedPresented : Type 0
+WorkedPresented =
     (presented_text (date 2024 8 1) (None ∷ Some (ring 7500) ∷ None ∷ [])
     ≡ codes "Unknown receipt\n\nPledge 1\nArticle Gold ring\nKind fixed 75.00\nTaken 2024-01-31\nEnds 2024-07-31\nStatus passed\nHeld no\nBooking none\n\nUnknown receipt\n")
     × (presented_text (date 2024 8 1) (None ∷ []) ≡ codes "Unknown receipt\n")

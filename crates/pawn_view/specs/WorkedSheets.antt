@@ -5,7 +5,7 @@ use Rattle.pawn_pledge.specs.declared.command.Command.{Command}
 use Rattle.pawn_pledge.specs.declared.command.Decision.TheVariants.{Confirm}
 use Rattle.pawn_pledge.specs.declared.record.Status.TheVariants.{Passed}
 use Rattle.pawn_pledge.specs.Pledge.{PledgeValue, status_of}
-use Rattle.pawn_pledge.specs.Worked.{after, ring, ring_extended}
+use Rattle.pawn_pledge.specs.Worked.{after_telling, ring, ring_extended}
 use Rattle.pawn_book.specs.declared.sheet.SheetItem.TheVariants.{Window, Confirmed, AskedHead, Asked, EndsHead, Ends}
 use Rattle.pawn_book.specs.Sheet.{day_sheet}
 use Rattle.pawn_view.specs.Sheets.{sheet_line, sheet_text}
@@ -16,10 +16,10 @@ numbered number p = record p { agreement = record p.agreement { number = number 
 
 -- a ring whose bearer asked to come on 2024-03-04 in a window, and the same once that is confirmed
 abbrev pub asked_for : ℕ → PledgeValue
-asked_for window = after (ring 10000) (date 2024 3 1) (Command.AskBooking (date 2024 3 4) window)
+asked_for window = after_telling (ring 10000) (date 2024 3 1) (Command.AskBooking (date 2024 3 4) window)
 
 abbrev pub confirmed_for : ℕ → PledgeValue
-confirmed_for window = after (asked_for window) (date 2024 3 1) (Command.DecideBooking Confirm)
+confirmed_for window = after_telling (asked_for window) (date 2024 3 1) (Command.DecideBooking Confirm)
 
 -- a line for each item
 abbrev pub WorkedSheetLines : Type 0
@@ -46,10 +46,10 @@ WorkedWindows =
     ≡ Window 0 1 ∷ Confirmed 2 ∷ Window 15 2 ∷ Confirmed 1 ∷ Confirmed 3 ∷ AskedHead 2 ∷ Asked 4 15 ∷ Asked 5 0 ∷ EndsHead 0 ∷ []
 
 -- whose period ends: a ring that passes then, and one that was extended, by its later end alone; none that was redeemed or sold
-abbrev pub WorkedEnds : Type 0
-WorkedEnds =
-    let redeemed = after (ring 10000) (date 2024 7 31) (Command.Redeem 10000) in
-    let sold = after (ring 10000) (date 2024 8 1) (Command.Sell 9000) in
+abbrev pub WorkedSheetEnds : Type 0
+WorkedSheetEnds =
+    let redeemed = after_telling (ring 10000) (date 2024 7 31) (Command.Redeem 10000) in
+    let sold = after_telling (ring 10000) (date 2024 8 1) (Command.Sell 9000) in
     let pledges = ring 7500 ∷ numbered 2 ring_extended ∷ numbered 3 redeemed ∷ numbered 4 sold ∷ numbered 5 (ring 10000) ∷ [] in
     (status_of (ring 7500) (date 2024 8 1) ≡ Passed)
     × (day_sheet pledges (date 2024 7 31) ≡ AskedHead 0 ∷ EndsHead 2 ∷ Ends 1 ∷ Ends 5 ∷ [])

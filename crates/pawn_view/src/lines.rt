@@ -3,12 +3,12 @@
 //! Each puts its line, and takes no memory.
 ghost use Rattle.std.specs.Prelude.{◌≡◌, ◌++◌, codes};
 ghost use Rattle.pawn_view.specs.Ends.{Puts};
-ghost use Rattle.pawn_view.specs.Text.{text_line, number_line, day_line, amount_line, kind_line, extended_line, status_line, owed_lines, held_line, booking_line, redeemed_line, sold_line, closing_line, entry_line, sort_word, state_word, date_text, money};
+ghost use Rattle.pawn_view.specs.Text.{text_line, number_line, day_line, amount_line, kind_line, extended_line, status_line, owed_lines, held_line, booking_line, redeemed_line, sold_line, closing_line, entry_line, date_text};
 
 use crate::money::pence_text;
 use crate::writing::{Writing, put, put_all};
 use itoa::Buffer;
-use pawn_book::{Booking, BookingState, Closing, Day, Entry, Extension, Kind, Owing, Sort, Status};
+use pawn_book::{Booking, Closing, Day, Entry, Extension, Kind, Owing, Status};
 use std::io::Write;
 
 // `2024-01-31`.
@@ -144,18 +144,6 @@ pub(crate) fn put_held<W: Write>(writer: &mut Writing<W>, held: bool)
     put(writer, held_line(held));
 }
 
-// The word of a booking's state.
-fn state_word(state: BookingState) -> &'static [u8]
-    ensures answer { result.now ≡ state_word state }
-{
-    match state {
-        BookingState::Asked => b"asked",
-        BookingState::Confirmed => b"confirmed",
-        BookingState::Refused => b"refused",
-        BookingState::Cancelled => b"cancelled",
-    }
-}
-
 /// `Booking none` or `Booking 2024-03-04 3 asked`.
 pub(crate) fn put_booking<W: Write>(writer: &mut Writing<W>, booking: Option<Booking>)
     ensures puts { Puts W.contents writer.old (booking_line booking) writer.new }
@@ -170,7 +158,7 @@ pub(crate) fn put_booking<W: Write>(writer: &mut Writing<W>, booking: Option<Boo
                 b" ",
                 Buffer::new().format(booking.window).as_bytes(),
                 b" ",
-                state_word(booking.state),
+                booking.state.word().as_bytes(),
                 b"\n",
             ],
         ),
@@ -237,16 +225,6 @@ pub(crate) fn put_closing<W: Write>(writer: &mut Writing<W>, closing: Closing, t
     }
 }
 
-// The word of a drawing or a repayment, between blanks.
-fn sort_word(sort: Sort) -> &'static [u8]
-    ensures answer { result.now ≡ sort_word sort }
-{
-    match sort {
-        Sort::Draw => b" draw ",
-        Sort::Repay => b" repay ",
-    }
-}
-
 /// `Entry 1 2024-01-31 repay 10.00`.
 pub(crate) fn put_entry<W: Write>(writer: &mut Writing<W>, entry: &Entry)
     ensures puts { Puts W.contents writer.old (entry_line entry.now) writer.new }
@@ -258,7 +236,9 @@ pub(crate) fn put_entry<W: Write>(writer: &mut Writing<W>, entry: &Entry)
             Buffer::new().format(entry.seq).as_bytes(),
             b" ",
             &date_text(entry.day),
-            sort_word(entry.sort),
+            b" ",
+            entry.sort.word().as_bytes(),
+            b" ",
             Buffer::new().format(entry.pence / 100).as_bytes(),
             &pence_text(entry.pence),
             b"\n",

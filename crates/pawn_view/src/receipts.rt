@@ -7,7 +7,7 @@ ghost use Rattle.pawn_book.specs.BookStep.{pledge_in, live_at, are_unknown};
 ghost use Rattle.pawn_book.specs.Sound.{IsSound};
 ghost use Rattle.pawn_book.specs.Keeping.{Reads, IsSteady};
 ghost use Rattle.pawn_book.specs.Visits.{call_end};
-ghost use Rattle.pawn_view.specs.Ends.{Puts, write_failed};
+ghost use Rattle.pawn_view.specs.Ends.{write_failed};
 ghost use Rattle.pawn_view.specs.Text.{statement_text, shown_text, further_texts};
 ghost use Rattle.pawn_view.specs.Shown.{PutsShare, Shows, IsQuietView, pledge_at, live_pledges, shown_of, presentation_of};
 

@@ -4,7 +4,7 @@ ghost use Rattle.std.specs.FinMap.{get};
 ghost use Rattle.pawn_book.specs.Keeping.{Reads, IsSteady, pledges_of};
 ghost use Rattle.pawn_book.specs.Visits.{call_end};
 ghost use Rattle.pawn_view.specs.Ends.{Puts, write_failed};
-ghost use Rattle.pawn_view.specs.Sheets.{PutsItem, asked_line, day_lines, sheet_line, sheet_of, window_line};
+ghost use Rattle.pawn_view.specs.Sheets.{PutsItem, asked_sheet_line, day_lines, sheet_line, sheet_of, window_line};
 ghost use Rattle.pawn_view.specs.Shown.{PutsShare, Shows, IsQuietView};
 ghost use Rattle.pawn_view.specs.Text.{number_line};
 
@@ -46,7 +46,7 @@ fn put_window<W: Write>(writer: &mut Writing<W>, capacity: Capacity, window: u64
 
 // `Pledge 1 window 3`.
 fn put_asked<W: Write>(writer: &mut Writing<W>, number: Number, window: u64)
-    ensures puts { Puts W.contents writer.old (asked_line number window) writer.new }
+    ensures puts { Puts W.contents writer.old (asked_sheet_line number window) writer.new }
 {
     put_all(
         writer,

@@ -1,5 +1,5 @@
-ghost use Rattle.pawn_view.specs.Worked.{WorkedAmounts, WorkedDays, WorkedLines, WorkedBookings, WorkedClosings, WorkedStatements, WorkedCharges, WorkedEndings, WorkedReceipts};
-ghost use Rattle.pawn_view.specs.WorkedSheets.{WorkedSheetLines, WorkedSheets, WorkedWindows, WorkedEnds};
+ghost use Rattle.pawn_view.specs.Worked.{WorkedAmounts, WorkedDays, WorkedLines, WorkedBookings, WorkedClosings, WorkedStatements, WorkedCharges, WorkedEndings, WorkedPresented};
+ghost use Rattle.pawn_view.specs.WorkedSheets.{WorkedSheetLines, WorkedSheets, WorkedWindows, WorkedSheetEnds};
 
 /// Amounts and days as they are written.
 pub fn worked_words()
@@ -19,7 +19,7 @@ pub fn worked_statements()
     ensures statements { WorkedStatements }
     ensures charges { WorkedCharges }
     ensures endings { WorkedEndings }
-    ensures receipts { WorkedReceipts }
+    ensures receipts { WorkedPresented }
 {}
 
 /// Sheets of days, and which pledges they name.
@@ -27,5 +27,5 @@ pub fn worked_sheets()
     ensures lines { WorkedSheetLines }
     ensures sheets { WorkedSheets }
     ensures windows { WorkedWindows }
-    ensures ends { WorkedEnds }
+    ensures ends { WorkedSheetEnds }
 {}

@@ -6,7 +6,7 @@ use Rattle.json.specs.Print.{escape, escape_byte}
 use Rattle.serde_json.specs.Data.{object, no_members}
 use Rattle.serde_json.specs.Written.{compact_text}
 use Rattle.serde_json.proofs.OnLiterals.{serde_json_on_literals}
-use Rattle.pawn_wire.specs.Laws.{is_plain, number_member, text_member, refusal_members}
+use Rattle.pawn_wire.specs.Laws.{is_unescaped, number_member, text_member, refusal_members}
 use Rattle.pawn_wire.specs.declared.detail.Detail.{Detail}
 use Rattle.pawn_wire.specs.declared.detail.Detail.TheVariants.{Row, Total}
 use Rattle.pawn_wire.specs.Bodies.{opened_text, refusal_text}
@@ -17,23 +17,23 @@ unfolding escape_byte
 escape_plain_byte b h = grind (arith, common_steps)
 
 -- a plain text is escaped to itself
-pub escape_plain : (s : List ℕ) → IsTrue (is_plain s) → escape s ≡ s
+pub escape_plain : (s : List ℕ) → IsTrue (is_unescaped s) → escape s ≡ s
 escape_plain [] h = refl
 escape_plain (b ∷ s) h =
-    let two = both_true (nat_le 32 b && not (b == 34) && not (b == 92)) (is_plain s) h in
+    let two = both_true (nat_le 32 b && not (b == 34) && not (b == 92)) (is_unescaped s) h in
     (λ i. escape_plain_byte b two.0 i ++ escape_plain s two.1 i)
 
 -- a text in quotes, and what follows it
-pub quoted : (s rest : List ℕ) → IsTrue (is_plain s) → s ++ (34 ∷ rest) ≡ (escape s ++ 34 ∷ []) ++ rest
+pub quoted : (s rest : List ℕ) → IsTrue (is_unescaped s) → s ++ (34 ∷ rest) ≡ (escape s ++ 34 ∷ []) ++ rest
 quoted s rest h = sym (append_assoc (escape s) (34 ∷ []) rest ∙ ap (λ (t : List ℕ). t ++ 34 ∷ rest) (escape_plain s h))
 
-pub opened_text-json : (number : ℕ) (receipt : List ℕ) → IsTrue (is_plain receipt)
+pub opened_text-json : (number : ℕ) (receipt : List ℕ) → IsTrue (is_unescaped receipt)
     → opened_text number receipt ≡ compact_text (object (number_member (codes "number") number (text_member (codes "receipt") receipt no_members)))
 unfolding serde_json_on_literals
 opened_text-json number receipt h =
     ap (λ (t : List ℕ). codes "{\"number\":" ++ (decimal number ++ (codes ",\"receipt\":\"" ++ t))) (quoted receipt (codes "}") h)
 
-pub refusal_text-json : (code : ℕ) (name : List ℕ) (detail : Option Detail) → IsTrue (is_plain name)
+pub refusal_text-json : (code : ℕ) (name : List ℕ) (detail : Option Detail) → IsTrue (is_unescaped name)
     → refusal_text code name detail ≡ compact_text (object (refusal_members code name detail))
 unfolding serde_json_on_literals
 refusal_text-json code name None h =

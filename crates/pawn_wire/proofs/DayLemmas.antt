@@ -6,7 +6,7 @@ use Rattle.std.specs.Str.{IsAscii}
 use Rattle.std.proofs.lemmas.Bool.Decides.{nat_tests}
 use Rattle.std.proofs.lemmas.Grind.{common_steps}
 use Rattle.pawn_terms.specs.Calendar.{Civil, civil_of, civil_text, day_text}
-use Rattle.pawn_wire.specs.Laws.{is_plain}
+use Rattle.pawn_wire.specs.Laws.{is_unescaped}
 use Rattle.pawn_wire.specs.Place.{is_ascii_text}
 use Rattle.pawn_wire.proofs.DigitLemmas.{both_true}
 
@@ -30,7 +30,7 @@ day_ascii day = all_ascii (day_text day) (each_passes (λ b. nat_lt b 128) small
     small m h = grind (arith, nat_tests)
 
 -- JSON writes a day's text as it is
-pub day_plain : (day : ℕ) → IsTrue (is_plain (day_text day))
+pub day_plain : (day : ℕ) → IsTrue (is_unescaped (day_text day))
 day_plain day = each_passes (λ b. nat_le 32 b && not (b == 34) && not (b == 92)) plain refl (civil_of day)
   where
     plain : (m : ℕ) → m < 10 → (nat_le 32 (48 + m) && not ((48 + m) == 34) && not ((48 + m) == 92)) ≡ true

@@ -12,18 +12,20 @@ use Rattle.pawn_debt.specs.declared.entry.Sort.TheVariants.{Draw, Repay}
 use Rattle.pawn_pledge.specs.declared.record.Booking.{Booking}
 use Rattle.pawn_pledge.specs.declared.record.BookingState.{BookingState}
 use Rattle.pawn_pledge.specs.declared.record.BookingState.TheVariants.{Asked, Confirmed, Refused, Cancelled}
-use Rattle.pawn_wire.specs.Done.{sort_text, state_text, entered_text, held_text, declared_text, booked_text, redeemed_text, extended_text}
-use Rattle.pawn_wire.specs.Laws.{is_plain, number_member, text_member, entry_members, booking_members}
+use Rattle.pawn_debt.specs.Words.{sort_text}
+use Rattle.pawn_pledge.specs.Words.{state_text}
+use Rattle.pawn_wire.specs.Done.{entered_text, held_text, declared_text, booked_text, redeemed_text, extended_text}
+use Rattle.pawn_wire.specs.Laws.{is_unescaped, number_member, text_member, entry_members, booking_members}
 use Rattle.pawn_wire.proofs.BodyLemmas.{quoted}
 use Rattle.pawn_wire.proofs.DayLemmas.{day_plain}
 
 -- ---- words
 
-sort_plain : (sort : Sort) → IsTrue (is_plain (sort_text sort))
+sort_plain : (sort : Sort) → IsTrue (is_unescaped (sort_text sort))
 sort_plain Draw = refl
 sort_plain Repay = refl
 
-state_plain : (state : BookingState) → IsTrue (is_plain (state_text state))
+state_plain : (state : BookingState) → IsTrue (is_unescaped (state_text state))
 state_plain Asked = refl
 state_plain Confirmed = refl
 state_plain Refused = refl
@@ -31,7 +33,7 @@ state_plain Cancelled = refl
 
 -- ---- bodies of plain texts
 
-entry_json : (day : List ℕ) (pence seq : ℕ) (sort : List ℕ) → IsTrue (is_plain day) → IsTrue (is_plain sort)
+entry_json : (day : List ℕ) (pence seq : ℕ) (sort : List ℕ) → IsTrue (is_unescaped day) → IsTrue (is_unescaped sort)
     → entered_text day pence seq sort
     ≡ compact_text (object (text_member (codes "day") day (number_member (codes "pence") pence (number_member (codes "seq") seq (text_member (codes "sort") sort no_members)))))
 unfolding serde_json_on_literals
@@ -41,7 +43,7 @@ entry_json day pence seq sort plain_day plain_sort =
     ∙ ap (λ (t : List ℕ). codes "{\"day\":\"" ++ t)
     (quoted day (codes ",\"pence\":" ++ (decimal pence ++ (codes ",\"seq\":" ++ (decimal seq ++ (codes ",\"sort\":\"" ++ ((escape sort ++ 34 ∷ []) ++ codes "}")))))) plain_day)
 
-booking_json : (state day : List ℕ) (window : ℕ) → IsTrue (is_plain state) → IsTrue (is_plain day)
+booking_json : (state day : List ℕ) (window : ℕ) → IsTrue (is_unescaped state) → IsTrue (is_unescaped day)
     → booked_text state day window
     ≡ compact_text (object (text_member (codes "booking") state (text_member (codes "day") day (number_member (codes "window") window no_members))))
 unfolding serde_json_on_literals
@@ -61,7 +63,7 @@ unfolding serde_json_on_literals
 held_text-json true = refl
 held_text-json false = refl
 
-pub declared_text-json : (receipt : List ℕ) → IsTrue (is_plain receipt)
+pub declared_text-json : (receipt : List ℕ) → IsTrue (is_unescaped receipt)
     → declared_text receipt ≡ compact_text (object (text_member (codes "receipt") receipt no_members))
 unfolding serde_json_on_literals
 declared_text-json receipt plain = ap (λ (t : List ℕ). codes "{\"receipt\":\"" ++ t) (quoted receipt (codes "}") plain)

@@ -11,7 +11,7 @@ use Rattle.pawn_wire.specs.Limits.{max_head, max_fields}
 use Rattle.pawn_wire.specs.Chain.{OrMemory, after}
 use Rattle.pawn_wire.specs.declared.fault.WireFault.{WireFault}
 use Rattle.csv.specs.Reading.{strip_bom}
-use Rattle.pawn_csv.specs.Reading.{IsFaultOf, IsFirstFault}
+use Rattle.pawn_csv.specs.Reading.{IsFaultOf, IsFirstCause}
 use Rattle.pawn_csv.specs.declared.fault.Cause.{Cause}
 use Rattle.pawn_csv.specs.declared.fault.Cause.TheVariants as cause
 use Rattle.pawn_csv.specs.declared.fault.CsvFault.{CsvFault}
@@ -24,7 +24,7 @@ use Rattle.pawn_wire.specs.declared.asking.Asks.{Asks}
 use Rattle.pawn_wire.specs.declared.asking.Asks.TheVariants as asks
 use Rattle.pawn_wire.specs.declared.fault.WireFault.TheVariants.{Csv}
 use Rattle.pawn_wire.specs.declared.request.Outline.{Outline}
-use Rattle.pawn_wire.specs.Request.{HoldsRows, IsAsked, IsOutlined, IsRead, Reads, outline_by}
+use Rattle.pawn_wire.specs.Request.{HoldsRows, IsAsked, IsOutlined, IsRequestRead, SaysRequest, outline_by}
 use Rattle.pawn_book.specs.declared.request.Request.{Request}
 use Rattle.pawn_csv.proofs.OneBook.{texts_hold_one_book}
 use Rattle.pawn_csv.proofs.OneReading.{first_faults_are_one, first_faults_exclude_books}
@@ -32,7 +32,7 @@ use Rattle.httparse.proofs.GrammarLemmas.{request_unique}
 use Rattle.pawn_wire.proofs.HeadLemmas.{overflows_on}
 
 pub is_read : (s : List ℕ) (r : Result Request WireFault) (h : RequestHead) (body : List ℕ) → ReadsHead s h body
-    → OrMemory (IsOutlined body (outline_by h.method h.target (fields_of h) body)) r → IsRead s r
+    → OrMemory (IsOutlined body (outline_by h.method h.target (fields_of h) body)) r → IsRequestRead s r
 is_read s (Ok v) h body x e = inl (h, body, x, e)
 is_read s (Err f) h body x (inl m) = inl m
 is_read s (Err f) h body x (inr e) = inr (inl (h, body, x, e))
@@ -59,12 +59,12 @@ held_fault body fault why = by_cause fault.cause refl why
     by_cause : (c : Cause) → fault.cause ≡ c → IsFaultOf (strip_bom body) c fault.row → OrMemory {A = BookRows} (HoldsRows body) (Err (fault_by c fault))
     by_cause cause.Memory is why = inl refl
     by_cause cause.Read is why = inl refl
-    by_cause cause.Csv is why = inr (fault, refl, not_memory cause.Csv is (λ e. cc), subst (λ c. IsFirstFault (strip_bom body) c fault.row) (sym is) why)
-    by_cause cause.Columns is why = inr (fault, refl, not_memory cause.Columns is (λ e. cc), subst (λ c. IsFirstFault (strip_bom body) c fault.row) (sym is) why)
-    by_cause cause.BadField is why = inr (fault, refl, not_memory cause.BadField is (λ e. cc), subst (λ c. IsFirstFault (strip_bom body) c fault.row) (sym is) why)
-    by_cause cause.Order is why = inr (fault, refl, not_memory cause.Order is (λ e. cc), subst (λ c. IsFirstFault (strip_bom body) c fault.row) (sym is) why)
-    by_cause cause.NotReplayable is why = inr (fault, refl, not_memory cause.NotReplayable is (λ e. cc), subst (λ c. IsFirstFault (strip_bom body) c fault.row) (sym is) why)
-    by_cause cause.TooMany is why = inr (fault, refl, not_memory cause.TooMany is (λ e. cc), subst (λ c. IsFirstFault (strip_bom body) c fault.row) (sym is) why)
+    by_cause cause.Csv is why = inr (fault, refl, not_memory cause.Csv is (λ e. cc), subst (λ c. IsFirstCause (strip_bom body) c fault.row) (sym is) why)
+    by_cause cause.Columns is why = inr (fault, refl, not_memory cause.Columns is (λ e. cc), subst (λ c. IsFirstCause (strip_bom body) c fault.row) (sym is) why)
+    by_cause cause.BadField is why = inr (fault, refl, not_memory cause.BadField is (λ e. cc), subst (λ c. IsFirstCause (strip_bom body) c fault.row) (sym is) why)
+    by_cause cause.Order is why = inr (fault, refl, not_memory cause.Order is (λ e. cc), subst (λ c. IsFirstCause (strip_bom body) c fault.row) (sym is) why)
+    by_cause cause.NotReplayable is why = inr (fault, refl, not_memory cause.NotReplayable is (λ e. cc), subst (λ c. IsFirstCause (strip_bom body) c fault.row) (sym is) why)
+    by_cause cause.TooMany is why = inr (fault, refl, not_memory cause.TooMany is (λ e. cc), subst (λ c. IsFirstCause (strip_bom body) c fault.row) (sym is) why)
 
 -- what the spans cover says what the head says
 pub said_by_spans : (s : List ℕ) (n : ℕ) (headers : List HeaderSpan) (r : RequestSpans) (h : RequestHead) (answer : Result Request WireFault) → IsRequestAt (take n s) headers r h
@@ -125,7 +125,7 @@ outlined_once body (Ok outline) a b x y = asked_once body outline.book outline.a
 outlined_once body (Err fault) a b x y = x ∙ sym y
 
 -- bytes say one thing
-pub reads_unique : (s : List ℕ) (a b : Result Request WireFault) → Reads s a → Reads s b → a ≡ b
+pub reads_unique : (s : List ℕ) (a b : Result Request WireFault) → SaysRequest s a → SaysRequest s b → a ≡ b
 reads_unique s a b (inl x) (inl y) =
     let same = request_unique s x.0 y.0 x.1 y.1 x.2.0 y.2.0 in
     outlined_once y.1 (outline_by y.0.method y.0.target (fields_of y.0) y.1) a b

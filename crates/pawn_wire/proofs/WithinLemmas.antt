@@ -25,10 +25,10 @@ use Rattle.pawn_book.specs.declared.request.BrokerRequest.TheVariants as broker
 use Rattle.pawn_book.specs.declared.request.BearerRequest.TheVariants as bearer
 use Rattle.pawn_wire.specs.Body.{new_book_of, new_terms_of, opening_of, kind_of, day_or_null, day_if_any, optional_day_at}
 use Rattle.pawn_wire.specs.Chain.{after, and_then, or_fault}
-use Rattle.pawn_wire.specs.Commands.{entry_of, paper_of, decision_of, booking_of, command_said}
+use Rattle.pawn_wire.specs.Commands.{asked_entry, paper_of, decision_of, asked_booking, command_said}
 use Rattle.pawn_wire.specs.Fields.{Pair}
 use Rattle.pawn_wire.specs.Head.{fields_of}
-use Rattle.pawn_wire.specs.Laws.{IsShort, IsCommandWithin, IsCallerWithin}
+use Rattle.pawn_wire.specs.Laws.{IsBodyNumber, IsCommandWithin, IsCallerWithin}
 use Rattle.pawn_wire.specs.Limits.{max_number}
 use Rattle.pawn_book.specs.Limits.{most_receipts}
 use Rattle.pawn_wire.specs.Member.{json_of, in_range, number_at, string_at, flag_at, if_text, text_at, key_at, day_at, body_said}
@@ -36,7 +36,7 @@ use Rattle.pawn_wire.specs.Named.{number_said, day_said}
 use Rattle.pawn_wire.specs.Receipts.{is_hyphen, receipt_said, all_said, receipt_values, receipt_faults, receipts_said, one_said}
 use Rattle.pawn_wire.specs.Asking.{asks_said, if_sent_by, key_given, key_of}
 use Rattle.pawn_wire.specs.Place.{day_in, is_ascii_text, item_said, number_in, place_asked, place_of}
-use Rattle.pawn_wire.specs.Request.{framing_faults, HoldsRows, IsAsked, IsOutlined, outline_by, Reads}
+use Rattle.pawn_wire.specs.Request.{framing_faults, HoldsRows, IsAsked, IsOutlined, outline_by, SaysRequest}
 use Rattle.pawn_wire.specs.Route.{AskedFor, route_of, method_of}
 use Rattle.pawn_wire.specs.declared.commands.NewEntry.{NewEntry}
 use Rattle.pawn_wire.specs.declared.fault.WireFault.{WireFault}
@@ -155,25 +155,25 @@ few_within values receipts e = by_test (length values == 0) (nat_lt most_receipt
 
 -- ---- commands
 
-number_within : (name : List ℕ) (d : Data) (n : ℕ) → number_at name d ≡ Some n → IsShort n
+number_within : (name : List ℕ) (d : Data) (n : ℕ) → number_at name d ≡ Some n → IsBodyNumber n
 number_within name d n e = number_chain (option_and_then as_u64 (option_and_then as_number (get name d))) e
   where
-    number_chain : (said : Option ℕ) → option_and_then (in_range 0 max_number) said ≡ Some n → IsShort n
+    number_chain : (said : Option ℕ) → option_and_then (in_range 0 max_number) said ≡ Some n → IsBodyNumber n
     number_chain None same = absurd cc
     number_chain (Some m) same = (ranged 0 max_number m n same).1
 
-entry_within : (d : Data) (entry : NewEntry) → entry_of d ≡ Some entry → IsShort entry.seq × IsShort entry.pence
+entry_within : (d : Data) (entry : NewEntry) → asked_entry d ≡ Some entry → IsBodyNumber entry.seq × IsBodyNumber entry.pence
 entry_within d entry e =
     let pence = given_some (number_at (codes "pence") d) _ entry e in
     let seq = given_some (number_at (codes "seq") d) _ entry pence.2 in
     let same : ◌≡◌ {A = NewEntry} (record { seq = seq.0; pence = pence.0 }) entry = cc (seq.2) in
-    subst (λ (n : NewEntry). IsShort n.seq × IsShort n.pence) same
+    subst (λ (n : NewEntry). IsBodyNumber n.seq × IsBodyNumber n.pence) same
     (number_within (codes "seq") d seq.0 seq.1, number_within (codes "pence") d pence.0 pence.1)
 
 day_at_within : (name : List ℕ) (d : Data) (day : ℕ) → day_at name d ≡ Some day → IsStampDay day
 day_at_within name d day e = let text = given_some (string_at name d) day_said day e in day_within text.0 day text.2
 
-booking_within : (d : Data) (command : Command) → booking_of d ≡ Some command → IsCommandWithin command
+booking_within : (d : Data) (command : Command) → asked_booking d ≡ Some command → IsCommandWithin command
 booking_within d command e =
     let day = given_some (day_at (codes "day") d) _ command e in
     let window = given_some (number_at (codes "window") d) _ command day.2 in
@@ -185,23 +185,23 @@ of_body P part body a e each = (let d = given_some (json_of body) part a e in ea
 
 command_within : (action : Action) (body : List ℕ) (command : Command) → command_said action body ≡ Some command → IsCommandWithin command
 command_within Draw body command e =
-    mapped IsCommandWithin (λ entry. Command.Draw entry.seq entry.pence) (body_said entry_of body) command e
-    (λ entry is. of_body (λ (n : NewEntry). IsShort n.seq × IsShort n.pence) entry_of body entry is (λ d. entry_within d entry))
+    mapped IsCommandWithin (λ entry. Command.Draw entry.seq entry.pence) (body_said asked_entry body) command e
+    (λ entry is. of_body (λ (n : NewEntry). IsBodyNumber n.seq × IsBodyNumber n.pence) asked_entry body entry is (λ d. entry_within d entry))
 command_within Repay body command e =
-    mapped IsCommandWithin (λ entry. Command.Repay entry.seq entry.pence) (body_said entry_of body) command e
-    (λ entry is. of_body (λ (n : NewEntry). IsShort n.seq × IsShort n.pence) entry_of body entry is (λ d. entry_within d entry))
+    mapped IsCommandWithin (λ entry. Command.Repay entry.seq entry.pence) (body_said asked_entry body) command e
+    (λ entry is. of_body (λ (n : NewEntry). IsBodyNumber n.seq × IsBodyNumber n.pence) asked_entry body entry is (λ d. entry_within d entry))
 command_within Hold body command e = (let same : Command.Hold ≡ command = cc in subst IsCommandWithin same tt)
 command_within Release body command e = (let same : Command.Release ≡ command = cc in subst IsCommandWithin same tt)
 command_within Declare body command e = mapped IsCommandWithin Command.Declare (body_said paper_of body) command e (λ paper is. tt)
-command_within Ask body command e = of_body IsCommandWithin booking_of body command e (λ d. booking_within d command)
+command_within Ask body command e = of_body IsCommandWithin asked_booking body command e (λ d. booking_within d command)
 command_within Cancel body command e = (let same : Command.CancelBooking ≡ command = cc in subst IsCommandWithin same tt)
 command_within Decide body command e = mapped IsCommandWithin Command.DecideBooking (body_said decision_of body) command e (λ decision is. tt)
 command_within Redeem body command e =
     mapped IsCommandWithin Command.Redeem (body_said (number_at (codes "paid")) body) command e
-    (λ paid is. of_body IsShort (number_at (codes "paid")) body paid is (λ d. number_within (codes "paid") d paid))
+    (λ paid is. of_body IsBodyNumber (number_at (codes "paid")) body paid is (λ d. number_within (codes "paid") d paid))
 command_within Sell body command e =
     mapped IsCommandWithin Command.Sell (body_said (number_at (codes "net")) body) command e
-    (λ net is. of_body IsShort (number_at (codes "net")) body net is (λ d. number_within (codes "net") d net))
+    (λ net is. of_body IsBodyNumber (number_at (codes "net")) body net is (λ d. number_within (codes "net") d net))
 command_within Extend body command e =
     mapped IsCommandWithin Command.Extend (body_said (day_at (codes "until")) body) command e
     (λ until is. of_body IsStampDay (day_at (codes "until")) body until is (λ d. day_at_within (codes "until") d until))
@@ -375,7 +375,7 @@ outlined body (Ok outline) request within it = (let here = within outline refl i
 outlined body (Err fault) request within same = absurd cc
 
 -- a request that bytes say is within the limits of its parts
-pub reads_within : (bytes : List ℕ) (request : Request) → Reads bytes (Ok request) → IsNumber request.book × IsCallerWithin request.caller
+pub reads_within : (bytes : List ℕ) (request : Request) → SaysRequest bytes (Ok request) → IsNumber request.book × IsCallerWithin request.caller
 reads_within bytes request (inl x) =
     outlined x.1 (outline_by x.0.method x.0.target (fields_of x.0) x.1) request (outline_within x.0.method x.0.target (fields_of x.0) x.1) x.3
 reads_within bytes request (inr x) = absurd (let never = x.1 in cc)

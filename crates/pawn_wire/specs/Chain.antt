@@ -24,8 +24,8 @@ abbrev pub Says : {A : Type 0} → Result A WireFault → Result A WireFault →
 Says answer said = IsSaid (λ fault. fault ≡ Memory) said answer
 
 -- the answer is the part, or this fault where it is missing, or memory was wanting
-abbrev pub Gives : {A : Type 0} → WireFault → Result A WireFault → Option A → Type 0
-Gives missing answer part =
+abbrev pub GivesPart : {A : Type 0} → WireFault → Result A WireFault → Option A → Type 0
+GivesPart missing answer part =
     MatchResult answer (λ a. part ≡ Some a) (λ fault. (fault ≡ Memory) ⊎ ((fault ≡ missing) × (part ≡ None)))
 
 -- the answer is one that may be said, or memory was wanting

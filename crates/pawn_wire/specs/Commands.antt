@@ -13,8 +13,8 @@ use Rattle.pawn_wire.specs.declared.route.Action.{Action}
 use Rattle.pawn_wire.specs.declared.route.Action.TheVariants.{Draw, Repay, Hold, Release, Declare, Ask, Cancel, Decide, Redeem, Sell, Extend}
 
 -- the number of an entry, and its sum
-abbrev pub entry_of : Data → Option NewEntry
-entry_of d =
+abbrev pub asked_entry : Data → Option NewEntry
+asked_entry d =
     and_then (number_at (codes "pence") d)
     (λ pence. and_then (number_at (codes "seq") d)
     (λ seq. Some (record { seq = seq; pence = pence })))
@@ -37,20 +37,20 @@ abbrev pub decision_of : Data → Option Decision
 decision_of d = option_map decision_by (flag_at (codes "yes") d)
 
 -- the day and the window of a booking
-abbrev pub booking_of : Data → Option Command
-booking_of d =
+abbrev pub asked_booking : Data → Option Command
+asked_booking d =
     and_then (day_at (codes "day") d)
     (λ day. and_then (number_at (codes "window") d)
     (λ window. Some (Command.AskBooking day window)))
 
 -- the command of an action: what its body says, where it takes one
 abbrev pub command_said : Action → List ℕ → Option Command
-command_said Draw body = option_map (λ entry. Command.Draw entry.seq entry.pence) (body_said entry_of body)
-command_said Repay body = option_map (λ entry. Command.Repay entry.seq entry.pence) (body_said entry_of body)
+command_said Draw body = option_map (λ entry. Command.Draw entry.seq entry.pence) (body_said asked_entry body)
+command_said Repay body = option_map (λ entry. Command.Repay entry.seq entry.pence) (body_said asked_entry body)
 command_said Hold body = Some Command.Hold
 command_said Release body = Some Command.Release
 command_said Declare body = option_map Command.Declare (body_said paper_of body)
-command_said Ask body = body_said booking_of body
+command_said Ask body = body_said asked_booking body
 command_said Cancel body = Some Command.CancelBooking
 command_said Decide body = option_map Command.DecideBooking (body_said decision_of body)
 command_said Redeem body = option_map Command.Redeem (body_said (number_at (codes "paid")) body)

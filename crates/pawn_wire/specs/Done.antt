@@ -9,18 +9,6 @@ use Rattle.pawn_pledge.specs.declared.command.Done.TheVariants.{Entered, Held, D
 use Rattle.pawn_pledge.specs.declared.record.BookingState.{BookingState}
 use Rattle.pawn_pledge.specs.declared.record.BookingState.TheVariants.{Asked, Confirmed, Refused, Cancelled}
 
--- the word for a drawing or a repayment
-abbrev pub sort_text : Sort → List ℕ
-sort_text Draw = codes "draw"
-sort_text Repay = codes "repay"
-
--- the word for where a booking stands
-abbrev pub state_text : BookingState → List ℕ
-state_text Asked = codes "asked"
-state_text Confirmed = codes "confirmed"
-state_text Refused = codes "refused"
-state_text Cancelled = codes "cancelled"
-
 -- an entry was made
 abbrev pub entered_text : List ℕ → ℕ → ℕ → List ℕ → List ℕ
 entered_text day pence seq sort =

@@ -12,36 +12,36 @@ use Rattle.pawn_wire.specs.declared.fault.WireFault.{WireFault}
 use Rattle.pawn_wire.specs.declared.fault.WireFault.TheVariants.{BadHead, Transfer, BadLength, BodyTooLong, NoRoute, WrongMethod, BadBody, BadKey, BadReceipt, TooManyReceipts, NoReceipt, Csv, Memory}
 
 -- a fault's number
-abbrev pub code_of : WireFault → ℕ
-code_of BadHead = 701
-code_of Transfer = 703
-code_of BadLength = 704
-code_of BodyTooLong = 705
-code_of NoRoute = 706
-code_of WrongMethod = 707
-code_of BadBody = 708
-code_of BadKey = 709
-code_of BadReceipt = 710
-code_of TooManyReceipts = 711
-code_of NoReceipt = 712
-code_of (Csv fault) = csv.code_of fault.cause
-code_of Memory = 491
+abbrev pub wire_fault_code : WireFault → ℕ
+wire_fault_code BadHead = 701
+wire_fault_code Transfer = 703
+wire_fault_code BadLength = 704
+wire_fault_code BodyTooLong = 705
+wire_fault_code NoRoute = 706
+wire_fault_code WrongMethod = 707
+wire_fault_code BadBody = 708
+wire_fault_code BadKey = 709
+wire_fault_code BadReceipt = 710
+wire_fault_code TooManyReceipts = 711
+wire_fault_code NoReceipt = 712
+wire_fault_code (Csv fault) = csv.cause_code fault.cause
+wire_fault_code Memory = 491
 
 -- a fault's name
-abbrev pub name_of : WireFault → List ℕ
-name_of BadHead = codes "BadHead"
-name_of Transfer = codes "Transfer"
-name_of BadLength = codes "BadLength"
-name_of BodyTooLong = codes "BodyTooLong"
-name_of NoRoute = codes "NoRoute"
-name_of WrongMethod = codes "WrongMethod"
-name_of BadBody = codes "BadBody"
-name_of BadKey = codes "BadKey"
-name_of BadReceipt = codes "BadReceipt"
-name_of TooManyReceipts = codes "TooManyReceipts"
-name_of NoReceipt = codes "NoReceipt"
-name_of (Csv fault) = csv.name_of fault.cause
-name_of Memory = codes "Memory"
+abbrev pub wire_fault_name : WireFault → List ℕ
+wire_fault_name BadHead = codes "BadHead"
+wire_fault_name Transfer = codes "Transfer"
+wire_fault_name BadLength = codes "BadLength"
+wire_fault_name BodyTooLong = codes "BodyTooLong"
+wire_fault_name NoRoute = codes "NoRoute"
+wire_fault_name WrongMethod = codes "WrongMethod"
+wire_fault_name BadBody = codes "BadBody"
+wire_fault_name BadKey = codes "BadKey"
+wire_fault_name BadReceipt = codes "BadReceipt"
+wire_fault_name TooManyReceipts = codes "TooManyReceipts"
+wire_fault_name NoReceipt = codes "NoReceipt"
+wire_fault_name (Csv fault) = csv.cause_name fault.cause
+wire_fault_name Memory = codes "Memory"
 
 -- what a fault tells beside its number and its name: the row of a text
 abbrev pub detail_of : WireFault → Option Detail

@@ -20,10 +20,12 @@ use Rattle.pawn_book.specs.declared.request.BrokerRequest.TheVariants as broker
 use Rattle.pawn_book.specs.declared.request.BearerRequest.TheVariants.{Present}
 use Rattle.pawn_book.specs.declared.request.BearerRequest.TheVariants as bearer
 use Rattle.pawn_wire.specs.Bodies.{book_text, version_text, filled_text, opened_text, refusal_text}
-use Rattle.pawn_wire.specs.Done.{sort_text, state_text, entered_text, held_text, declared_text, booked_text, redeemed_text, sold_text, extended_text}
+use Rattle.pawn_debt.specs.Words.{sort_text}
+use Rattle.pawn_pledge.specs.Words.{state_text}
+use Rattle.pawn_wire.specs.Done.{entered_text, held_text, declared_text, booked_text, redeemed_text, sold_text, extended_text}
 use Rattle.pawn_wire.specs.Limits.{max_number}
 use Rattle.pawn_wire.specs.Named.{number_said, day_said}
-use Rattle.pawn_wire.specs.Request.{Reads}
+use Rattle.pawn_wire.specs.Request.{SaysRequest}
 use Rattle.pawn_wire.specs.Route.{table, route_of}
 use Rattle.pawn_wire.specs.declared.detail.Detail.{Detail}
 use Rattle.pawn_wire.specs.declared.detail.Detail.TheVariants.{Row, Total}
@@ -32,8 +34,8 @@ use Rattle.pawn_wire.specs.declared.route.Endpoint.{Endpoint}
 use Rattle.pawn_wire.specs.declared.route.Endpoint.TheVariants as e
 
 -- no byte that a JSON text escapes
-abbrev pub is_plain : List ℕ → Bool
-is_plain s = list_all (λ b. nat_le 32 b && not (b == 34) && not (b == 92)) s
+abbrev pub is_unescaped : List ℕ → Bool
+is_unescaped s = list_all (λ b. nat_le 32 b && not (b == 34) && not (b == 92)) s
 
 abbrev pub number_member : List ℕ → ℕ → Members → Members
 number_member name n rest = member name (number (unsigned n)) rest
@@ -69,13 +71,13 @@ pub record BodiesAreJson : Type 0 where
   pub book : (book : ℕ) → book_text book ≡ compact_text (object (number_member (codes "book") book no_members))
   pub filled : (pledges : ℕ) → filled_text pledges ≡ compact_text (object (number_member (codes "imported") pledges no_members))
   pub version : (version : ℕ) → version_text version ≡ compact_text (object (number_member (codes "version") version no_members))
-  pub opened : (number : ℕ) (receipt : List ℕ) → IsTrue (is_plain receipt)
+  pub opened : (number : ℕ) (receipt : List ℕ) → IsTrue (is_unescaped receipt)
       → opened_text number receipt ≡ compact_text (object (number_member (codes "number") number (text_member (codes "receipt") receipt no_members)))
-  pub refusal : (code : ℕ) (name : List ℕ) (detail : Option Detail) → IsTrue (is_plain name)
+  pub refusal : (code : ℕ) (name : List ℕ) (detail : Option Detail) → IsTrue (is_unescaped name)
       → refusal_text code name detail ≡ compact_text (object (refusal_members code name detail))
   pub entered : (entry : Entry) → entered_text (day_text entry.day) entry.pence entry.seq (sort_text entry.sort) ≡ compact_text (object (entry_members entry))
   pub held : (barred : Bool) → held_text barred ≡ compact_text (object (member (codes "held") (boolean barred) no_members))
-  pub declared : (receipt : List ℕ) → IsTrue (is_plain receipt)
+  pub declared : (receipt : List ℕ) → IsTrue (is_unescaped receipt)
       → declared_text receipt ≡ compact_text (object (text_member (codes "receipt") receipt no_members))
   pub booked : (booking : Booking) → booked_text (state_text booking.state) (day_text booking.day) booking.window ≡ compact_text (object (booking_members booking))
   pub redeemed : (paid day : ℕ)
@@ -88,21 +90,21 @@ pub record BodiesAreJson : Type 0 where
 -- ---- what requests may say
 
 -- a number of at most 12 digits
-abbrev pub IsShort : ℕ → Type 0
-IsShort n = n ≤ max_number
+abbrev pub IsBodyNumber : ℕ → Type 0
+IsBodyNumber n = n ≤ max_number
 
 -- the numbers of a command are short, and its day is one that a request may name
 abbrev pub IsCommandWithin : Command → Type 0
-IsCommandWithin (Command.Draw seq pence) = IsShort seq × IsShort pence
-IsCommandWithin (Command.Repay seq pence) = IsShort seq × IsShort pence
+IsCommandWithin (Command.Draw seq pence) = IsBodyNumber seq × IsBodyNumber pence
+IsCommandWithin (Command.Repay seq pence) = IsBodyNumber seq × IsBodyNumber pence
 IsCommandWithin Command.Hold = Unit {0}
 IsCommandWithin Command.Release = Unit {0}
 IsCommandWithin (Command.Declare paper) = Unit {0}
-IsCommandWithin (Command.AskBooking day window) = IsStampDay day × IsShort window
+IsCommandWithin (Command.AskBooking day window) = IsStampDay day × IsBodyNumber window
 IsCommandWithin Command.CancelBooking = Unit {0}
 IsCommandWithin (Command.DecideBooking decision) = Unit {0}
-IsCommandWithin (Command.Redeem paid) = IsShort paid
-IsCommandWithin (Command.Sell net) = IsShort net
+IsCommandWithin (Command.Redeem paid) = IsBodyNumber paid
+IsCommandWithin (Command.Sell net) = IsBodyNumber net
 IsCommandWithin (Command.Extend until) = IsStampDay until
 
 -- what a caller asks is within the limits of its parts
@@ -120,11 +122,11 @@ IsCallerWithin (Bearer (bearer.OnPledge receipt command)) = IsNumber receipt.num
 
 -- a request that bytes say is of a book's number, and within the limits of its parts
 abbrev pub RequestsAreWithin : Type 0
-RequestsAreWithin = (bytes : List ℕ) (request : Request) → Reads bytes (Ok request) → IsNumber request.book × IsCallerWithin request.caller
+RequestsAreWithin = (bytes : List ℕ) (request : Request) → SaysRequest bytes (Ok request) → IsNumber request.book × IsCallerWithin request.caller
 
 -- bytes say one thing
 abbrev pub ReadingIsUnique : Type 0
-ReadingIsUnique = (bytes : List ℕ) (one other : Result Request WireFault) → Reads bytes one → Reads bytes other → one ≡ other
+ReadingIsUnique = (bytes : List ℕ) (one other : Result Request WireFault) → SaysRequest bytes one → SaysRequest bytes other → one ≡ other
 
 -- ---- targets
 

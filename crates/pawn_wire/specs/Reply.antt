@@ -7,8 +7,8 @@ use Rattle.pawn_book.specs.declared.reply.Reply.{Reply}
 use Rattle.pawn_book.specs.declared.reply.Reply.TheVariants.{BookMade, TermsPut, BookFilled, Opened, Commanded}
 use Rattle.pawn_wire.specs.Bodies.{book_text, version_text, filled_text, opened_text, refusal_text}
 use Rattle.pawn_wire.specs.Done.{commanded_text}
-use Rattle.pawn_wire.specs.Status.{status_of}
-use Rattle.pawn_wire.specs.Fault.{code_of, detail_of, name_of}
+use Rattle.pawn_wire.specs.Status.{reply_status}
+use Rattle.pawn_wire.specs.Fault.{wire_fault_code, detail_of, wire_fault_name}
 use Rattle.pawn_wire.specs.declared.detail.Detail.{Detail}
 use Rattle.pawn_wire.specs.declared.detail.Detail.TheVariants.{Total}
 use Rattle.pawn_wire.specs.declared.reply.Out.{Out}
@@ -32,11 +32,11 @@ json_text status body = reply_text status (codes "application/json") body
 
 -- the reply to a refusal or a fault, with what it tells beside
 abbrev pub refused_text : ℕ → List ℕ → Option Detail → List ℕ
-refused_text code name detail = json_text (status_of code) (refusal_text code name detail)
+refused_text code name detail = json_text (reply_status code) (refusal_text code name detail)
 
 -- the reply to bytes that are no request
 abbrev pub fault_text : WireFault → List ℕ
-fault_text fault = refused_text (code_of fault) (name_of fault) (detail_of fault)
+fault_text fault = refused_text (wire_fault_code fault) (wire_fault_name fault) (detail_of fault)
 
 -- the reply where memory is wanting
 abbrev pub memory_text : List ℕ
@@ -53,7 +53,7 @@ done_text (Commanded number done) = commanded_text number done
 -- what is told of a request
 abbrev pub out_text : Out → List ℕ
 out_text (Done reply) = json_text 200 (done_text reply)
-out_text (Refused why) = refused_text (book.code_of why) (book.name_of why) (option_map Total (book.total_of why))
+out_text (Refused why) = refused_text (book.book_refusal_code why) (book.book_refusal_name why) (option_map Total (book.total_told why))
 out_text (Fault fault) = fault_text fault
 out_text (Plain text) = reply_text 200 (codes "text/plain; charset=utf-8") text.items
 out_text (Csv text) = reply_text 200 (codes "text/csv; charset=utf-8") text.items

@@ -7,7 +7,7 @@ use Rattle.pawn_book.specs.declared.request.Request.{Request}
 use Rattle.pawn_book.specs.declared.request.Caller.TheVariants.{Broker}
 use Rattle.pawn_book.specs.declared.request.BrokerRequest.TheVariants.{Import}
 use Rattle.pawn_book.specs.declared.rows.BookRows.{BookRows}
-use Rattle.pawn_csv.specs.Reading.{IsFirstFault, IsTextOf}
+use Rattle.pawn_csv.specs.Reading.{IsFirstCause, IsTextOf}
 use Rattle.pawn_csv.specs.declared.fault.CsvFault.{CsvFault}
 use Rattle.pawn_csv.specs.declared.fault.Cause.TheVariants as cause
 use Rattle.pawn_wire.specs.Asking.{asks_said}
@@ -44,7 +44,7 @@ outline_by method target fields body =
 abbrev pub HoldsRows : List ℕ → Result BookRows WireFault → Type 0
 HoldsRows body (Ok rows) = IsTextOf (strip_bom body) rows
 HoldsRows body (Err fault) =
-    (csv : CsvFault) × (fault ≡ Csv csv) × (csv.cause ≢ cause.Memory) × IsFirstFault (strip_bom body) csv.cause csv.row
+    (csv : CsvFault) × (fault ≡ Csv csv) × (csv.cause ≢ cause.Memory) × IsFirstCause (strip_bom body) csv.cause csv.row
 
 -- what is asked of a book is said: an import with the rows that its body holds
 abbrev pub IsAsked : List ℕ → ℕ → Asks → Result Request WireFault → Type 0
@@ -59,11 +59,11 @@ IsOutlined body (Ok outline) said = IsAsked body outline.book outline.asks said
 IsOutlined body (Err fault) said = said ≡ Err fault
 
 -- what bytes say, by the head that they begin with
-abbrev pub Reads : List ℕ → Result Request WireFault → Type 0
-Reads bytes said =
+abbrev pub SaysRequest : List ℕ → Result Request WireFault → Type 0
+SaysRequest bytes said =
     ((h : RequestHead) × (body : List ℕ) × ReadsHead bytes h body × IsOutlined body (outline_by h.method h.target (fields_of h) body) said)
     ⊎ (((h : RequestHead) (body : List ℕ) → ReadsHead bytes h body → ⊥) × (said ≡ Err BadHead))
 
 -- the answer is the request that the bytes say, or their fault, or memory was wanting
-abbrev pub IsRead : List ℕ → Result Request WireFault → Type 0
-IsRead bytes answer = OrMemory (Reads bytes) answer
+abbrev pub IsRequestRead : List ℕ → Result Request WireFault → Type 0
+IsRequestRead bytes answer = OrMemory (SaysRequest bytes) answer

@@ -28,5 +28,5 @@ status_in [] code = 409
 status_in (row ∷ rows) code =
     if nat_le row.first code && nat_le code row.last then row.status else status_in rows code
 
-abbrev pub status_of : ℕ → ℕ
-status_of code = status_in statuses code
+abbrev pub reply_status : ℕ → ℕ
+reply_status code = status_in statuses code

@@ -5,20 +5,20 @@ use Rattle.pawn_book.specs.declared.refusal.Refusal.TheVariants.{NoSuchReceipt, 
 use Rattle.pawn_book.specs.declared.reply.Reply.TheVariants.{BookMade, TermsPut, BookFilled, Opened}
 use Rattle.pawn_csv.specs.declared.fault.Cause.TheVariants as cause
 use Rattle.pawn_wire.specs.Reply.{memory_text, out_text}
-use Rattle.pawn_wire.specs.Status.{status_of}
+use Rattle.pawn_wire.specs.Status.{reply_status}
 use Rattle.pawn_wire.specs.declared.fault.WireFault.TheVariants.{BadHead, NoRoute, BadBody, Csv}
 use Rattle.pawn_wire.specs.declared.reply.Out.TheVariants.{Done, Refused, Fault}
 
 -- the first number and the last of each kind: bad requests, forbidden, not found, unavailable, and conflicts between them
-abbrev pub WorkedStatuses : Type 0
-WorkedStatuses =
-    (status_of 101 ≡ 400) × (status_of 104 ≡ 400) × (status_of 201 ≡ 400) × (status_of 202 ≡ 409)
-    × (status_of 301 ≡ 409) × (status_of 312 ≡ 409) × (status_of 313 ≡ 400) × (status_of 314 ≡ 409)
-    × (status_of 401 ≡ 404) × (status_of 403 ≡ 404) × (status_of 404 ≡ 409) × (status_of 409 ≡ 409)
-    × (status_of 410 ≡ 403) × (status_of 411 ≡ 409) × (status_of 412 ≡ 409)
-    × (status_of 490 ≡ 503) × (status_of 492 ≡ 503)
-    × (status_of 601 ≡ 400) × (status_of 607 ≡ 400)
-    × (status_of 701 ≡ 400) × (status_of 705 ≡ 400) × (status_of 706 ≡ 404) × (status_of 707 ≡ 400) × (status_of 712 ≡ 400)
+abbrev pub WorkedReplyStatuses : Type 0
+WorkedReplyStatuses =
+    (reply_status 101 ≡ 400) × (reply_status 104 ≡ 400) × (reply_status 201 ≡ 400) × (reply_status 202 ≡ 409)
+    × (reply_status 301 ≡ 409) × (reply_status 312 ≡ 409) × (reply_status 313 ≡ 400) × (reply_status 314 ≡ 409)
+    × (reply_status 401 ≡ 404) × (reply_status 403 ≡ 404) × (reply_status 404 ≡ 409) × (reply_status 409 ≡ 409)
+    × (reply_status 410 ≡ 403) × (reply_status 411 ≡ 409) × (reply_status 412 ≡ 409)
+    × (reply_status 490 ≡ 503) × (reply_status 492 ≡ 503)
+    × (reply_status 601 ≡ 400) × (reply_status 607 ≡ 400)
+    × (reply_status 701 ≡ 400) × (reply_status 705 ≡ 400) × (reply_status 706 ≡ 404) × (reply_status 707 ≡ 400) × (reply_status 712 ≡ 400)
 
 -- the whole replies to refusals, one of each status
 abbrev pub WorkedRefusals : Type 0
@@ -47,8 +47,8 @@ WorkedFaults =
     ≡ codes "HTTP/1.1 503 Service Unavailable\r\nContent-Length: 28\r\nContent-Type: application/json\r\n\r\n{\"code\":491,\"name\":\"Memory\"}")
 
 -- the first receipt of pledge 1
-abbrev pub first_receipt : Receipt
-first_receipt = record { number = 1; secret = 0xda41597c_5157_488d_7724_e03fb8d84a37 }
+abbrev pub first_receipt_of_ring : Receipt
+first_receipt_of_ring = record { number = 1; secret = 0xda41597c_5157_488d_7724_e03fb8d84a37 }
 
 -- the whole replies to what was done
 abbrev pub WorkedAnswers : Type 0
@@ -59,5 +59,5 @@ WorkedAnswers =
     ≡ codes "HTTP/1.1 200 OK\r\nContent-Length: 13\r\nContent-Type: application/json\r\n\r\n{\"version\":1}")
     × (out_text (Done (BookFilled 2))
     ≡ codes "HTTP/1.1 200 OK\r\nContent-Length: 14\r\nContent-Type: application/json\r\n\r\n{\"imported\":2}")
-    × (out_text (Done (Opened first_receipt))
+    × (out_text (Done (Opened first_receipt_of_ring))
     ≡ codes "HTTP/1.1 200 OK\r\nContent-Length: 63\r\nContent-Type: application/json\r\n\r\n{\"number\":1,\"receipt\":\"1-da41597c-5157-488d-7724-e03fb8d84a37\"}")

@@ -75,8 +75,8 @@ WorkedNoTargets =
     × (place_of (codes "/") ≡ None)
 
 -- a number is from 1 to 999,999,999, in its one spelling
-abbrev pub WorkedNumbers : Type 0
-WorkedNumbers =
+abbrev pub WorkedPathNumbers : Type 0
+WorkedPathNumbers =
     (number_said (codes "1") ≡ Some 1)
     × (number_said (codes "120") ≡ Some 120)
     × (number_said (codes "999999999") ≡ Some 999999999)
@@ -88,8 +88,8 @@ WorkedNumbers =
     × (number_said [] ≡ None)
 
 -- a day from 2000-01-01 to 2199-12-31, in its one spelling
-abbrev pub WorkedDays : Type 0
-WorkedDays =
+abbrev pub WorkedDayTexts : Type 0
+WorkedDayTexts =
     (day_said (codes "2000-01-01") ≡ Some 10957)
     × (day_said (codes "2000-02-29") ≡ Some 11016)
     × (day_said (codes "2024-01-31") ≡ Some 19753)
@@ -134,8 +134,8 @@ abbrev pub presents : List ℕ → Pair
 presents value = (codes "Pledge-Receipt", value)
 
 -- one receipt, or 1 to 32: too many are told before malformed ones
-abbrev pub WorkedReceipts : Type 0
-WorkedReceipts =
+abbrev pub WorkedReceiptLists : Type 0
+WorkedReceiptLists =
     (receipt_said some_receipt_text ≡ Some some_receipt)
     × (receipt_said (codes "1-{da41597c-5157-488d-7724-e03fb8d84a37}") ≡ Some some_receipt)
     × (receipt_said (codes "01-da41597c-5157-488d-7724-e03fb8d84a37") ≡ None)

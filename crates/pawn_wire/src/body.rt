@@ -2,7 +2,7 @@
 ghost use Rattle.std.specs.Prelude.{◌≡◌};
 ghost use Rattle.serde_json.specs.View.{view};
 ghost use Rattle.pawn_wire.specs.Body.{new_book_of, new_terms_of, kind_named, kind_of, day_or_null, optional_day_at, opening_of};
-ghost use Rattle.pawn_wire.specs.Chain.{Gives};
+ghost use Rattle.pawn_wire.specs.Chain.{GivesPart};
 ghost use Rattle.pawn_wire.specs.Member.{in_range};
 ghost use Rattle.pawn_wire.specs.declared.fault.WireFault.TheVariants.{BadBody};
 
@@ -21,7 +21,7 @@ fn capacity_of(bookings: u64) -> Option<Capacity>
 
 // What makes a book.
 pub(crate) fn new_book(alloc: Global, body: &Value) -> Result<NewBook, WireFault>
-    ensures value { Gives BadBody result (new_book_of (view body.now)) }
+    ensures value { GivesPart BadBody result (new_book_of (view body.now)) }
 {
     let bookings = member::number(body, "capacity").ok_or(WireFault::BadBody)?;
     let capacity = capacity_of(bookings).ok_or(WireFault::BadBody)?;
@@ -97,7 +97,7 @@ fn optional_day(body: &Value, name: &str) -> Option<Option<RequestDay>>
 
 // What opens a pledge.
 pub(crate) fn opening(alloc: Global, body: &Value) -> Result<Opening, WireFault>
-    ensures value { Gives BadBody result (opening_of (view body.now)) }
+    ensures value { GivesPart BadBody result (opening_of (view body.now)) }
 {
     let agreed = optional_day(body, "agreed").ok_or(WireFault::BadBody)?;
     let article = member::text(alloc, body, "article")?;

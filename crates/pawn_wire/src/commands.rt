@@ -1,7 +1,7 @@
 //! The JSON bodies of commands.
 ghost use Rattle.std.specs.Prelude.{◌≡◌};
-ghost use Rattle.pawn_wire.specs.Chain.{Gives};
-ghost use Rattle.pawn_wire.specs.Commands.{entry_of, paper_named, paper_of, decision_by, decision_of, booking_of, command_said};
+ghost use Rattle.pawn_wire.specs.Chain.{GivesPart};
+ghost use Rattle.pawn_wire.specs.Commands.{asked_entry, paper_named, paper_of, decision_by, decision_of, asked_booking, command_said};
 ghost use Rattle.pawn_wire.specs.Member.{number_at, day_at, body_said};
 ghost use Rattle.pawn_wire.specs.declared.fault.WireFault.TheVariants.{BadBody};
 
@@ -20,7 +20,7 @@ pub(crate) struct NewEntry {
 
 // The entry of a body.
 fn entry(alloc: Global, body: &[u8]) -> Result<NewEntry, WireFault>
-    ensures value { Gives BadBody result (body_said entry_of body.now) }
+    ensures value { GivesPart BadBody result (body_said asked_entry body.now) }
 {
     let value = member::json(alloc, body)?;
     let pence = member::number(&value, "pence").ok_or(WireFault::BadBody)?;
@@ -30,7 +30,7 @@ fn entry(alloc: Global, body: &[u8]) -> Result<NewEntry, WireFault>
 
 // The whole number of a body's one member.
 fn number(alloc: Global, body: &[u8], name: &str) -> Result<u64, WireFault>
-    ensures value { Gives BadBody result (body_said (number_at name.now) body.now) }
+    ensures value { GivesPart BadBody result (body_said (number_at name.now) body.now) }
 {
     let value = member::json(alloc, body)?;
     member::number(&value, name).ok_or(WireFault::BadBody)
@@ -38,7 +38,7 @@ fn number(alloc: Global, body: &[u8], name: &str) -> Result<u64, WireFault>
 
 // The day of a body's one member.
 fn day(alloc: Global, body: &[u8], name: &str) -> Result<RequestDay, WireFault>
-    ensures value { Gives BadBody result (body_said (day_at name.now) body.now) }
+    ensures value { GivesPart BadBody result (body_said (day_at name.now) body.now) }
 {
     let value = member::json(alloc, body)?;
     member::day(&value, name).ok_or(WireFault::BadBody)
@@ -56,7 +56,7 @@ fn paper_named(word: &str) -> Option<Paper>
 
 // The paper that a claimant tenders.
 fn paper(alloc: Global, body: &[u8]) -> Result<Paper, WireFault>
-    ensures value { Gives BadBody result (body_said paper_of body.now) }
+    ensures value { GivesPart BadBody result (body_said paper_of body.now) }
 {
     let value = member::json(alloc, body)?;
     let Some(word) = member::string(&value, "paper") else {
@@ -77,7 +77,7 @@ fn decision_by(yes: bool) -> Decision
 
 // What a broker makes of a booking.
 fn decision(alloc: Global, body: &[u8]) -> Result<Decision, WireFault>
-    ensures value { Gives BadBody result (body_said decision_of body.now) }
+    ensures value { GivesPart BadBody result (body_said decision_of body.now) }
 {
     let value = member::json(alloc, body)?;
     let yes = member::flag(&value, "yes").ok_or(WireFault::BadBody)?;
@@ -86,7 +86,7 @@ fn decision(alloc: Global, body: &[u8]) -> Result<Decision, WireFault>
 
 // The booking that is asked for.
 fn booking(alloc: Global, body: &[u8]) -> Result<Command, WireFault>
-    ensures value { Gives BadBody result (body_said booking_of body.now) }
+    ensures value { GivesPart BadBody result (body_said asked_booking body.now) }
 {
     let value = member::json(alloc, body)?;
     let day = member::day(&value, "day").ok_or(WireFault::BadBody)?;
@@ -96,7 +96,7 @@ fn booking(alloc: Global, body: &[u8]) -> Result<Command, WireFault>
 
 // The command of an action. To hold, to release and to cancel take no body.
 pub(crate) fn command(alloc: Global, action: Action, body: &[u8]) -> Result<Command, WireFault>
-    ensures value { Gives BadBody result (command_said action body.now) }
+    ensures value { GivesPart BadBody result (command_said action body.now) }
 {
     match action {
         Action::Draw => {

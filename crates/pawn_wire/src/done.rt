@@ -2,31 +2,13 @@
 ghost use Rattle.std.specs.Prelude.{◌≡◌, IfOk, string_bytes};
 ghost use Rattle.pawn_terms.specs.Calendar.{day_text};
 ghost use Rattle.pawn_pledge.specs.Receipt.{receipt_text};
-ghost use Rattle.pawn_wire.specs.Done.{sort_text, state_text, entered_text, held_text, declared_text, booked_text, redeemed_text, sold_text, extended_text, commanded_text};
+ghost use Rattle.pawn_debt.specs.Words.{sort_text};
+ghost use Rattle.pawn_pledge.specs.Words.{state_text};
+ghost use Rattle.pawn_wire.specs.Done.{entered_text, held_text, declared_text, booked_text, redeemed_text, sold_text, extended_text, commanded_text};
 
-use pawn_book::{Booking, BookingState, Day, Done, Entry, Number, Receipt, Sort};
+use pawn_book::{Booking, Day, Done, Entry, Number, Receipt};
 use std::alloc::{AllocError, Global};
 use std::str::from_utf8;
-
-fn sort_text(sort: Sort) -> &'static str
-    ensures text { result.now ≡ sort_text sort }
-{
-    match sort {
-        Sort::Draw => "draw",
-        Sort::Repay => "repay",
-    }
-}
-
-fn state_text(state: BookingState) -> &'static str
-    ensures text { result.now ≡ state_text state }
-{
-    match state {
-        BookingState::Asked => "asked",
-        BookingState::Confirmed => "confirmed",
-        BookingState::Refused => "refused",
-        BookingState::Cancelled => "cancelled",
-    }
-}
 
 // The day as `2024-01-31`.
 fn day_text(alloc: Global, day: Day) -> Result<String, AllocError>
@@ -59,7 +41,7 @@ fn tell_entry(alloc: Global, entry: Entry) -> Result<String, AllocError>
         day.as_str(),
         entry.pence,
         entry.seq,
-        sort_text(entry.sort),
+        entry.sort.word(),
     )
 }
 
@@ -103,7 +85,7 @@ fn tell_booking(alloc: Global, booking: Booking) -> Result<String, AllocError>
     let day = day_text(alloc, booking.day)?;
     booked_text(
         alloc,
-        state_text(booking.state),
+        booking.state.word(),
         day.as_str(),
         booking.window,
     )

@@ -1,6 +1,6 @@
 //! Why bytes are no request.
 ghost use Rattle.std.specs.Prelude.{◌≡◌};
-ghost use Rattle.pawn_wire.specs.Fault.{code_of, detail_of, name_of, text_fault, wire_fault};
+ghost use Rattle.pawn_wire.specs.Fault.{wire_fault_code, detail_of, wire_fault_name, text_fault, wire_fault};
 ghost use Rattle.pawn_wire.specs.declared.fault.WireFault.TheVariants.{Memory};
 
 use crate::detail::Detail;
@@ -57,7 +57,7 @@ pub enum WireFault {
 impl WireFault {
     /// The fault's number in replies.
     pub fn code(self) -> u16
-        ensures value { result ≡ code_of self }
+        ensures value { result ≡ wire_fault_code self }
     {
         match self {
             WireFault::BadHead => 701,
@@ -88,7 +88,7 @@ impl WireFault {
 
     /// The fault's name in replies.
     pub fn name(self) -> &'static str
-        ensures value { result.now ≡ name_of self }
+        ensures value { result.now ≡ wire_fault_name self }
     {
         match self {
             WireFault::BadHead => "BadHead",
@@ -155,9 +155,9 @@ impl<T: Drop> From<AllocFailed<T>> for WireFault {
 
 impl fmt::Display for WireFault {
     ghost use Rattle.std.specs.Prelude.{Some};
-    ghost use Rattle.pawn_wire.specs.Fault.{name_of};
+    ghost use Rattle.pawn_wire.specs.Fault.{wire_fault_name};
 
-    ghost output = { λ fault. Some (name_of fault) };
+    ghost output = { λ fault. Some (wire_fault_name fault) };
 
     fn fmt<W: fmt::Write>(&self, f: &mut fmt::Formatter<W>) -> fmt::Result {
         f.write_str(self.name())

@@ -2,7 +2,7 @@
 ghost use Rattle.std.specs.Prelude.{◌≡◌, option_copied};
 ghost use Rattle.serde_json.specs.View.{view};
 ghost use Rattle.pawn_wire.specs.Member.{JsonOf, number_at, string_at, flag_at, text_at, key_at, day_at};
-ghost use Rattle.pawn_wire.specs.Chain.{Gives};
+ghost use Rattle.pawn_wire.specs.Chain.{GivesPart};
 ghost use Rattle.pawn_wire.specs.declared.fault.WireFault.TheVariants.{BadBody};
 ghost use Rattle.pawn_wire.specs.Named.{day_said};
 
@@ -58,7 +58,7 @@ pub(crate) fn text<const MOST: usize>(
     body: &Value,
     name: &str,
 ) -> Result<Text<MOST>, WireFault>
-    ensures value { Gives BadBody result (text_at MOST name.now (view body.now)) }
+    ensures value { GivesPart BadBody result (text_at MOST name.now (view body.now)) }
 {
     let Some(text) = string(body, name) else {
         return Err(WireFault::BadBody);

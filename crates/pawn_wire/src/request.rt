@@ -4,7 +4,7 @@ ghost use Rattle.pawn_book.specs.declared.request.Caller.TheVariants.{Broker};
 ghost use Rattle.pawn_book.specs.declared.request.BrokerRequest.TheVariants.{Import};
 ghost use Rattle.pawn_wire.specs.Chain.{OrMemory, Says};
 ghost use Rattle.pawn_wire.specs.Fields.{pairs_of};
-ghost use Rattle.pawn_wire.specs.Request.{HoldsRows, IsAsked, IsOutlined, IsRead, outline_by};
+ghost use Rattle.pawn_wire.specs.Request.{HoldsRows, IsAsked, IsOutlined, IsRequestRead, outline_by};
 
 use crate::asking::{Asks, Sent, who_asks};
 use crate::fault::WireFault;
@@ -103,7 +103,7 @@ fn request_by(
 /// The request that bytes are, one whole request and nothing after it, or the first fault that
 /// applies. A body of a request that takes none is not looked at.
 pub fn read_request(alloc: Global, router: &Router, bytes: &[u8]) -> Result<Request, WireFault>
-    ensures read { IsRead bytes.now result }
+    ensures read { IsRequestRead bytes.now result }
 {
     let front = &bytes[..bytes.len().min(MAX_HEAD)];
     let mut spans = [EMPTY_HEADER_SPAN; MAX_FIELDS];

@@ -1,12 +1,12 @@
 //! The statuses of replies.
 ghost use Rattle.std.specs.Prelude.{◌≡◌};
-ghost use Rattle.pawn_wire.specs.Status.{status_of};
+ghost use Rattle.pawn_wire.specs.Status.{reply_status};
 
 use http::StatusCode;
 
 // The status of a refusal's or a fault's number.
 pub(crate) fn status_of(code: u16) -> StatusCode
-    ensures value { result ≡ status_of code }
+    ensures value { result ≡ reply_status code }
 {
     match code {
         101..=104 | 201 | 313 | 601..=607 | 701..=705 | 707..=712 => StatusCode::BAD_REQUEST,

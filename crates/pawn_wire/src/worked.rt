@@ -1,6 +1,6 @@
 ghost use Rattle.pawn_wire.specs.WorkedHeads.{WorkedHeads, WorkedLengths, WorkedConnections};
-ghost use Rattle.pawn_wire.specs.WorkedReplies.{WorkedStatuses, WorkedRefusals, WorkedFaults, WorkedAnswers};
-ghost use Rattle.pawn_wire.specs.WorkedRequests.{WorkedTargets, WorkedNoTargets, WorkedNumbers, WorkedDays, WorkedKeys, WorkedReceipts, WorkedBodies, WorkedCommands, WorkedOrder, WorkedRequests};
+ghost use Rattle.pawn_wire.specs.WorkedReplies.{WorkedReplyStatuses, WorkedRefusals, WorkedFaults, WorkedAnswers};
+ghost use Rattle.pawn_wire.specs.WorkedRequests.{WorkedTargets, WorkedNoTargets, WorkedPathNumbers, WorkedDayTexts, WorkedKeys, WorkedReceiptLists, WorkedBodies, WorkedCommands, WorkedOrder, WorkedRequests};
 
 /// Heads, their bodies' lengths, and the connections that they close.
 pub fn worked_heads()
@@ -17,14 +17,14 @@ pub fn worked_targets()
 
 /// Numbers and days by their texts.
 pub fn worked_texts()
-    ensures numbers { WorkedNumbers }
-    ensures days { WorkedDays }
+    ensures numbers { WorkedPathNumbers }
+    ensures days { WorkedDayTexts }
 {}
 
 /// Keys and receipts in fields.
 pub fn worked_fields()
     ensures keys { WorkedKeys }
-    ensures receipts { WorkedReceipts }
+    ensures receipts { WorkedReceiptLists }
 {}
 
 /// Bodies of requests.
@@ -41,7 +41,7 @@ pub fn worked_requests()
 
 /// Statuses and whole replies.
 pub fn worked_replies()
-    ensures statuses { WorkedStatuses }
+    ensures statuses { WorkedReplyStatuses }
     ensures refusals { WorkedRefusals }
     ensures faults { WorkedFaults }
     ensures answers { WorkedAnswers }

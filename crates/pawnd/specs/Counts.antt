@@ -3,5 +3,5 @@ use Rattle.std.specs.Prelude.{ℕ, List, ◌++◌, codes, decimal}
 use Rattle.pawn_check.specs.declared.counts.Counts.{Counts}
 
 -- the line on the standard output
-abbrev pub line_of : Counts → List ℕ
-line_of counts = codes "books " ++ decimal counts.books ++ codes " pledges " ++ decimal counts.pledges ++ codes " rows " ++ decimal counts.rows
+abbrev pub counts_line : Counts → List ℕ
+counts_line counts = codes "books " ++ decimal counts.books ++ codes " pledges " ++ decimal counts.pledges ++ codes " rows " ++ decimal counts.rows

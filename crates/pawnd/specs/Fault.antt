@@ -41,9 +41,9 @@ moving_line Move.Store = codes "514 Store"
 moving_line Move.Memory = codes "515 Memory"
 
 -- a fault's number and name
-abbrev pub line_of : Fault → List ℕ
-line_of (Settings why) = settings_line why
-line_of Memory = codes "491 Memory"
-line_of (Opening why) = opening_line why
-line_of (Checking why) = checking_line why
-line_of (Moving why) = moving_line why
+abbrev pub fault_line : Fault → List ℕ
+fault_line (Settings why) = settings_line why
+fault_line Memory = codes "491 Memory"
+fault_line (Opening why) = opening_line why
+fault_line (Checking why) = checking_line why
+fault_line (Moving why) = moving_line why

@@ -5,13 +5,13 @@ use Rattle.pawnd.specs.declared.stop.Stop.{Stop}
 use Rattle.pawnd.specs.declared.stop.Stop.TheVariants.{Usage, Fault, Io}
 
 -- the exit status
-abbrev pub status_of : Stop → ℕ
-status_of Usage = 2
-status_of (Fault why) = 1
-status_of Io = 3
+abbrev pub stop_status : Stop → ℕ
+stop_status Usage = 2
+stop_status (Fault why) = 1
+stop_status Io = 3
 
 -- the line on the standard error
-abbrev pub line_of : Stop → List ℕ
-line_of Usage = codes "usage: pawnd answer|serve|migrate|check"
-line_of (Fault why) = codes "fault " ++ fault.line_of why
-line_of Io = codes "fault io"
+abbrev pub stop_line : Stop → List ℕ
+stop_line Usage = codes "usage: pawnd answer|serve|migrate|check"
+stop_line (Fault why) = codes "fault " ++ fault.fault_line why
+stop_line Io = codes "fault io"

@@ -1,7 +1,7 @@
 //! How the program tells that it did not do what it was asked.
 ghost use Rattle.std.specs.Prelude.{◌≡◌};
 ghost use Rattle.std.specs.Process.{exit_status};
-ghost use Rattle.pawnd.specs.Stop.{status_of};
+ghost use Rattle.pawnd.specs.Stop.{stop_status};
 
 use crate::fault::Fault;
 use std::fmt;
@@ -21,7 +21,7 @@ pub enum Stop {
 impl Stop {
     /// The program's exit status.
     pub fn status(self) -> u8
-        ensures status { result ≡ status_of self }
+        ensures status { result ≡ stop_status self }
     {
         match self {
             Stop::Usage => 2,
@@ -48,7 +48,7 @@ impl fmt::Display for Stop {
 
 /// Writes the line of a stop to the standard error, and gives the exit status.
 pub fn tell(rt: &impl Eprint, stop: Stop) -> ExitCode
-    ensures status { exit_status result ≡ status_of stop }
+    ensures status { exit_status result ≡ stop_status stop }
 {
     let _ = eprintln!(rt; "{stop}");
     ExitCode::from(stop.status())

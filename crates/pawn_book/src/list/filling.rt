@@ -4,7 +4,7 @@ ghost use Rattle.pawn_terms.specs.Terms.{IsChecked};
 ghost use Rattle.pawn_pledge.specs.Replayable.{Each, IsStanding};
 ghost use Rattle.pawn_book.specs.BookStep.{BookValue};
 ghost use Rattle.pawn_book.specs.HostStep.{pledge_rows};
-ghost use Rattle.pawn_book.specs.Listed.{HasChange, book_at, entry_of};
+ghost use Rattle.pawn_book.specs.Listed.{HasChange, book_at, listed_book};
 ghost use Rattle.pawn_book.specs.Rows.{AreReplayable};
 
 use super::{Kept, place_of};
@@ -77,11 +77,11 @@ pub(super) fn fill_book(
     key: Secret,
     rows: &BookRows,
 ) -> Result<(), AllocError>
-    requires stands { (at : BookValue) × (book_at (map entry_of books.old.items) book ≡ Some at) }
+    requires stands { (at : BookValue) × (book_at (map listed_book books.old.items) book ≡ Some at) }
     requires replayable { AreReplayable rows.now.terms rows.now.pledges }
-    ensures ok { OnOk result (HasChange (map entry_of books.old.items)
-        (Change.ImportBook book key rows.now) (map entry_of books.new.items)) }
-    ensures err { OnErr result (map entry_of books.new.items ≡ map entry_of books.old.items) }
+    ensures ok { OnOk result (HasChange (map listed_book books.old.items)
+        (Change.ImportBook book key rows.now) (map listed_book books.new.items)) }
+    ensures err { OnErr result (map listed_book books.new.items ≡ map listed_book books.old.items) }
 {
     let terms = terms_of(alloc, rows.terms.as_slice())?;
     let pledges = pledges_of(alloc, rows.pledges.as_slice())?;

@@ -10,7 +10,7 @@ ghost use Rattle.pawn_tables.specs.Entries.{IsEntriesPage, behind};
 ghost use Rattle.pawn_tables.specs.Keeps.{keeping_by};
 ghost use Rattle.pawn_tables.specs.Pages.{page_end};
 ghost use Rattle.pawn_tables.specs.Places.{page_behind};
-ghost use Rattle.pawn_keeper.specs.Handing.{Hands};
+ghost use Rattle.pawn_keeper.specs.Handing.{HandsRows};
 
 use super::handing::hand_all;
 use super::{BEYOND, TableKeep};
@@ -55,7 +55,7 @@ impl<S: Alter> TableKeep<S> {
         number: Number,
         visitor: &mut V,
     ) -> Result<Flow, KeepError>
-        ensures hands { Hands (keeping_by (λ k. state S.Store k.conn))
+        ensures hands { HandsRows (keeping_by (λ k. state S.Store k.conn))
             (IsUnsoundAt book) V.step self.old self.new visitor.old visitor.new result
             (λ h. entries_of (pledge_in (get h.books book) number)) }
     {
@@ -102,7 +102,7 @@ impl<S: Alter> TableKeep<S> {
         number: Number,
         visitor: &mut V,
     ) -> Result<Flow, KeepError>
-        ensures hands { Hands (keeping_by (λ k. state S.Store k.conn))
+        ensures hands { HandsRows (keeping_by (λ k. state S.Store k.conn))
             (IsUnsoundAt book) V.step self.old self.new visitor.old visitor.new result
             (λ h. secrets_of (pledge_in (get h.books book) number)) }
     {
@@ -147,7 +147,7 @@ impl<S: Alter> TableKeep<S> {
         number: Number,
         visitor: &mut V,
     ) -> Result<Flow, KeepError>
-        ensures hands { Hands (keeping_by (λ k. state S.Store k.conn))
+        ensures hands { HandsRows (keeping_by (λ k. state S.Store k.conn))
             (IsUnsoundAt book) V.step self.old self.new visitor.old visitor.new result
             (λ h. extensions_of (pledge_in (get h.books book) number)) }
     {

@@ -7,7 +7,7 @@ ghost use Rattle.pawn_book.specs.Sound.{IsUnsoundAt};
 ghost use Rattle.pawn_tables.specs.Keeps.{keeping_by};
 ghost use Rattle.pawn_tables.specs.Lines.{IsLinesPage, NamesWindows};
 ghost use Rattle.pawn_tables.specs.Pages.{page_end};
-ghost use Rattle.pawn_keeper.specs.Handing.{Hands};
+ghost use Rattle.pawn_keeper.specs.Handing.{HandsRows};
 ghost use Rattle.pawn_keeper.specs.Windows.{named_sheet, named_sheets};
 
 use super::handing::{hand_lines, hand_whole};
@@ -64,7 +64,7 @@ impl<S: Alter> TableKeep<S> {
         part: Part,
         visitor: &mut V,
     ) -> Result<Flow, KeepError>
-        ensures hands { Hands (keeping_by (λ k. state S.Store k.conn))
+        ensures hands { HandsRows (keeping_by (λ k. state S.Store k.conn))
             (IsUnsoundAt book) V.step self.old self.new visitor.old visitor.new result
             (λ h. part_items part day (pledges_of (get h.books book))) }
     {
@@ -92,7 +92,7 @@ impl<S: Alter> TableKeep<S> {
         count: u64,
         visitor: &mut V,
     ) -> Result<Flow, KeepError>
-        ensures hands { Hands (keeping_by (λ k. state S.Store k.conn))
+        ensures hands { HandsRows (keeping_by (λ k. state S.Store k.conn))
             (IsUnsoundAt book) V.step self.old self.new visitor.old visitor.new result
             (λ h. part_head part count ∷ part_items part day (pledges_of (get h.books book))) }
     {
@@ -111,7 +111,7 @@ impl<S: Alter> TableKeep<S> {
         part: Part,
         visitor: &mut V,
     ) -> Result<Flow, KeepError>
-        ensures hands { Hands (keeping_by (λ k. state S.Store k.conn))
+        ensures hands { HandsRows (keeping_by (λ k. state S.Store k.conn))
             (IsUnsoundAt book) V.step self.old self.new visitor.old visitor.new result
             (λ h. with_head part (part_items part day (pledges_of (get h.books book)))) }
     {
@@ -128,7 +128,7 @@ impl<S: Alter> TableKeep<S> {
         part: Part,
         visitor: &mut V,
     ) -> Result<Flow, KeepError>
-        ensures hands { Hands (keeping_by (λ k. state S.Store k.conn))
+        ensures hands { HandsRows (keeping_by (λ k. state S.Store k.conn))
             (IsUnsoundAt book) V.step self.old self.new visitor.old visitor.new result
             (λ h. with_head part (part_items part day (pledges_of (get h.books book)))) }
     {
@@ -147,7 +147,7 @@ impl<S: Alter> TableKeep<S> {
         window: u64,
         visitor: &mut V,
     ) -> Result<Flow, KeepError>
-        ensures hands { Hands (keeping_by (λ k. state S.Store k.conn))
+        ensures hands { HandsRows (keeping_by (λ k. state S.Store k.conn))
             (IsUnsoundAt book) V.step self.old self.new visitor.old visitor.new result
             (λ h. window_sheet (pledges_of (get h.books book)) day window) }
     {
@@ -186,7 +186,7 @@ impl<S: Alter> TableKeep<S> {
         window: u64,
         visitor: &mut V,
     ) -> Result<Flow, KeepError>
-        ensures hands { Hands (keeping_by (λ k. state S.Store k.conn))
+        ensures hands { HandsRows (keeping_by (λ k. state S.Store k.conn))
             (IsUnsoundAt book) V.step self.old self.new visitor.old visitor.new result
             (λ h. named_sheet windows.now (pledges_of (get h.books book)) day window) }
     {
@@ -205,7 +205,7 @@ impl<S: Alter> TableKeep<S> {
         windows: &[u64],
         visitor: &mut V,
     ) -> Result<Flow, KeepError>
-        ensures hands { Hands (keeping_by (λ k. state S.Store k.conn))
+        ensures hands { HandsRows (keeping_by (λ k. state S.Store k.conn))
             (IsUnsoundAt book) V.step self.old self.new visitor.old visitor.new result
             (λ h. named_sheets windows.now (pledges_of (get h.books book)) day) }
     {
@@ -225,7 +225,7 @@ impl<S: Alter> TableKeep<S> {
         day: Day,
         visitor: &mut V,
     ) -> Result<Flow, KeepError>
-        ensures hands { Hands (keeping_by (λ k. state S.Store k.conn))
+        ensures hands { HandsRows (keeping_by (λ k. state S.Store k.conn))
             (IsUnsoundAt book) V.step self.old self.new visitor.old visitor.new result
             (λ h. windows_sheet (pledges_of (get h.books book)) day) }
     {
@@ -240,7 +240,7 @@ impl<S: Alter> TableKeep<S> {
         day: Day,
         visitor: &mut V,
     ) -> Result<Flow, KeepError>
-        ensures hands { Hands (keeping_by (λ k. state S.Store k.conn))
+        ensures hands { HandsRows (keeping_by (λ k. state S.Store k.conn))
             (IsUnsoundAt book) V.step self.old self.new visitor.old visitor.new result
             (λ h. day_sheet (pledges_of (get h.books book)) day) }
     {

@@ -3,7 +3,7 @@ ghost use Rattle.pawn_terms.specs.Refusals.{first_of};
 ghost use Rattle.pawn_debt.specs.declared.entry.Entry.{Entry};
 ghost use Rattle.pawn_pledge.specs.Pledge.{end_of};
 ghost use Rattle.pawn_pledge.specs.Words.{in_state, is_standing, after_closing, booking_after, with_secret, with_extension, issue_of, new_entry, is_ahead, is_repeat};
-ghost use Rattle.pawn_pledge.specs.Step.{Changed, unless, bars, declare_bars, pledge_step, numbered_step, entry_of, entry_step, hold_step, declare_step, ask_step, ask_once, cancel_step, decide_step, confirm_in, decline_in, redeem_step, sell_step, extend_step, books, IsStep, IsApplied};
+ghost use Rattle.pawn_pledge.specs.Step.{Changed, unless, bars, declare_bars, pledge_step, numbered_step, entry_of, entry_step, hold_step, declare_step, ask_step, ask_once, cancel_step, decide_step, confirm_in, decline_in, redeem_step, sell_step, extend_step, makes_booking, IsStep, IsApplied};
 ghost use Rattle.pawn_pledge.specs.Limits.{most_secrets};
 
 use super::Pledge;
@@ -219,7 +219,7 @@ impl Pledge {
     // Keeps a booking.
     fn book(&mut self, day: Day, booking: &Booking) -> Result<Applied, Refusal>
         requires later { self.old.standing.last ≤ day }
-        ensures step { IsApplied (books self.old day booking.now) self.old result self.new }
+        ensures step { IsApplied (makes_booking self.old day booking.now) self.old result self.new }
     {
         self.standing.booking = Some(*booking);
         self.standing.last = day;

@@ -1,5 +1,5 @@
 use Rattle.std.proofs.Common.{subst, sym}
-use Rattle.pawn_book.specs.Listed.{IsLeastAbove, entry_of}
+use Rattle.pawn_book.specs.Listed.{IsLeastAbove, listed_book}
 use Rattle.pawn_book.proofs.NextLemmas.{all_of, least_more, one_more}
 use Rattle.pawn_book.proofs.list.next_number.Goals as goal
 
@@ -9,4 +9,4 @@ returns c = record { least = (subst (λ es. IsLeastAbove es c.args.after c.loop-
 pub loop-kept-preserved : goal.loop-kept-preserved
 loop-kept-preserved c =
     subst (λ es. IsLeastAbove es c.args.after c.nearer_number-next.result) (sym (one_more c.args.books.now c.loop-kept.kept-index c.kept-item.result c.loop-kept-test.true c.kept-item.is))
-    (subst (IsLeastAbove _ c.args.after) (sym c.nearer_number-next.ensures.value) (least_more _ (entry_of c.kept-item.result) c.args.after c.loop-kept.next c.loop-kept.invariant))
+    (subst (IsLeastAbove _ c.args.after) (sym c.nearer_number-next.ensures.value) (least_more _ (listed_book c.kept-item.result) c.args.after c.loop-kept.next c.loop-kept.invariant))

@@ -3,7 +3,7 @@ use Rattle.std.proofs.lemmas.Result.{on_err_weaker, on_ok_weaker}
 use Rattle.pawn_book.specs.declared.change.Change.TheVariants.{PutPledge}
 use Rattle.pawn_book.specs.declared.list.Kept.{Kept}
 use Rattle.pawn_book.specs.BookStep.{BookValue, put_from}
-use Rattle.pawn_book.specs.Listed.{entry_of}
+use Rattle.pawn_book.specs.Listed.{listed_book}
 use Rattle.pawn_book.proofs.ListReads.{kept_same}
 use Rattle.pawn_book.proofs.ListSaves.{kept_at_place, set_changes}
 use Rattle.pawn_book.proofs.list.put_pledge.Goals as goal
@@ -18,7 +18,7 @@ put-requires c = record {
 pub returns-clause-ok : goal.returns-clause-ok
 returns-clause-ok c =
     let kept = c.index_mut-kept.result.now in
-    let at = (entry_of kept).1 in
+    let at = (listed_book kept).1 in
     let next : Kept = record { number = kept.number; made = kept.made; terms = kept.terms; pledges = c.put.new.pledges; imported = kept.imported } in
     on_ok_weaker c.put.result (λ put.
     set_changes c.deref.result.now c.args.books.now.items c.in-Some.place kept next (PutPledge c.args.book c.args.number c.args.pledge.now) c.deref.ensures.value c.in-Some.ensures.within
@@ -28,7 +28,7 @@ returns-clause-ok c =
 pub returns-clause-err : goal.returns-clause-err
 returns-clause-err c =
     let kept = c.index_mut-kept.result.now in
-    let at = (entry_of kept).1 in
+    let at = (listed_book kept).1 in
     let next : Kept = record { number = kept.number; made = kept.made; terms = kept.terms; pledges = c.put.new.pledges; imported = kept.imported } in
     on_err_weaker c.put.result (λ same.
     kept_same c.args.books.now.items c.in-Some.place kept next c.index_mut-kept.ensures.value

@@ -3,12 +3,12 @@ use Rattle.std.specs.FinMap.{get}
 use Rattle.pawn_book.specs.Sound.{IsSound}
 use Rattle.pawn_book.specs.Keeping.{Reads, pledges_of}
 use Rattle.pawn_book.specs.Visits.{Whole}
-use Rattle.pawn_csv.specs.Sent.{PutsShare}
+use Rattle.pawn_csv.specs.Sent.{PutsRowsShare}
 use Rattle.pawn_csv.proofs.ListLemmas.{lines_from}
 use Rattle.pawn_csv.proofs.CountLemmas.{record_lines}
 use Rattle.pawn_csv.proofs.exporting.put_pledges.Given as goal
 
 abbrev pub invariant-loop-index : goal.invariant-loop-index
 invariant-loop-index g l = record {
-  shares : Reads g.K.Keep.keeping l.fn.keep l.keep (λ h. IsSound h → PutsShare g.W.Write.contents l.fn.rows.sink (lines_from record_lines 0 1 (take l.index (pledges_of (get h.books l.book)))) Whole l.rows.sink);
+  shares : Reads g.K.Keep.keeping l.fn.keep l.keep (λ h. IsSound h → PutsRowsShare g.W.Write.contents l.fn.rows.sink (lines_from record_lines 0 1 (take l.index (pledges_of (get h.books l.book)))) Whole l.rows.sink);
 }

@@ -2,7 +2,7 @@ use Rattle.std.proofs.Common.{◌∙◌, [], ◌∷◌, refl, sym, ap}
 use Rattle.std.specs.Prelude.{codes, decimal}
 use Rattle.std.proofs.lemmas.Bool.{false≢true}
 use Rattle.csv.specs.Records.{fields_of}
-use Rattle.pawn_csv.specs.Columns.{version_text}
+use Rattle.pawn_csv.specs.Columns.{form_text}
 use Rattle.pawn_csv.specs.Spelling.{column_at}
 use Rattle.pawn_csv.proofs.RowLemmas.{blank_after, is_book, no_book}
 use Rattle.pawn_csv.proofs.spelling.read_book_row.Goals as goal
@@ -25,7 +25,7 @@ returns-in_err-pledges c = record {
 pub returns-then-not-are_blank : goal.returns-then-not-are_blank
 returns-then-not-are_blank c = record {
   value = no_book (fields_of c.args.columns.now) c.requires.letter (λ version terms pledges fits is.
-      false≢true (c.if-not-are_blank.ensures.answer.1 (λ at from to. ap (λ f. column_at f at) is ∙ blank_after (codes "B" ∷ version_text version ∷ decimal terms ∷ decimal pledges ∷ []) 11 at from)));
+      false≢true (c.if-not-are_blank.ensures.answer.1 (λ at from to. ap (λ f. column_at f at) is ∙ blank_after (codes "B" ∷ form_text version ∷ decimal terms ∷ decimal pledges ∷ []) 11 at from)));
 }
 
 pub returns : goal.returns

@@ -3,7 +3,7 @@ use Rattle.std.specs.Prelude.{codes, decimal}
 use Rattle.std.proofs.lemmas.Bool.{false≢true}
 use Rattle.csv.specs.Records.{fields_of}
 use Rattle.pawn_terms.specs.Calendar.{day_text}
-use Rattle.pawn_csv.specs.Columns.{state_text}
+use Rattle.pawn_pledge.specs.Words.{state_text}
 use Rattle.pawn_csv.specs.Spelling.{column_at}
 use Rattle.pawn_csv.proofs.RowLemmas.{blank_after, is_booking, no_booking}
 use Rattle.pawn_csv.proofs.spelling.read_booking_row.Goals as goal

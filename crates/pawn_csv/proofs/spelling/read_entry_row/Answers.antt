@@ -3,7 +3,7 @@ use Rattle.std.specs.Prelude.{codes, decimal}
 use Rattle.std.proofs.lemmas.Bool.{false≢true}
 use Rattle.csv.specs.Records.{fields_of}
 use Rattle.pawn_terms.specs.Calendar.{day_text}
-use Rattle.pawn_csv.specs.Columns.{sort_text}
+use Rattle.pawn_debt.specs.Words.{sort_text}
 use Rattle.pawn_csv.specs.Spelling.{column_at}
 use Rattle.pawn_csv.proofs.RowLemmas.{blank_after, is_entry, no_entry}
 use Rattle.pawn_csv.proofs.spelling.read_entry_row.Goals as goal

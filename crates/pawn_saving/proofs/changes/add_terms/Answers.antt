@@ -6,7 +6,7 @@ use Rattle.pawn_book.specs.Changes.{with_change}
 use Rattle.pawn_book.specs.declared.change.Change.TheVariants.{AddTerms}
 use Rattle.one_table.specs.Listing.{with_rows}
 use Rattle.pawn_tables.specs.Rows.{number, terms_cells}
-use Rattle.pawn_saving.specs.Counted.{IsWritten, listed_as}
+use Rattle.pawn_saving.specs.Counted.{IsWrittenPart, listed_as}
 use Rattle.pawn_saving.proofs.Lent.{clean_before}
 use Rattle.pawn_saving.proofs.Hosting.{as_lists}
 use Rattle.pawn_saving.proofs.BookChanges.{longer_written, other_books, others}
@@ -31,4 +31,4 @@ returns-clause-wrote g c clean within h sound can st =
     let rest = others h b v t k is version n in
     let two = rw c.get-2.ensures.value at (c.in_ok-set_terms_count.ensures.wrote k (k.terms ++ t ∷ []) grown clean inside listed rest) in
     let both = two (other_books h b v t k is version n) one in
-    subst (λ x. IsWritten h (with_change h (AddTerms b x t)) new.now 1) c.in_ok-version.ensures.value (longer_written h b v t k is version n new.now refl both)
+    subst (λ x. IsWrittenPart h (with_change h (AddTerms b x t)) new.now 1) c.in_ok-version.ensures.value (longer_written h b v t k is version n new.now refl both)

@@ -8,7 +8,7 @@ use Rattle.sqlite.specs.Listing.{understood}
 use Rattle.sqlite.proofs.Callers.{IsPlain}
 use Rattle.one_table.proofs.Parts.{plain_rests}
 use Rattle.pawn_tables.specs.Lines.{IsLinesPage, IsLineOf, ends_line}
-use Rattle.pawn_tables.specs.Pages.{most_rows}
+use Rattle.pawn_tables.specs.Pages.{most_page_rows}
 use Rattle.pawn_tables.proofs.PageLemmas.{map_each, take_each}
 use Rattle.pawn_tables.proofs.NextLines.{is_lines_page, lines_unsound, numbered_in, told_above}
 use Rattle.pawn_tables.proofs.ReadTexts as text
@@ -33,6 +33,6 @@ returns-clause-finds g c clean within h stood =
     let day = c.args.day in
     let are = c.deref.ensures.value ∙ reads.ends_page_shown c.args.book c.args.above day old new h rows st shown in
     let page = is_lines_page part_of.Ends day (reads.ends_told day) ends_line (reads.ends_says day) (reads.ends_numbers day) c.args.above ps (numbered_in h c.args.book st.ordered) in
-    let lines = take most_rows (map ends_line (told_above (reads.ends_told day) c.args.above ps)) in
-    let each : Each (IsLineOf part_of.Ends) lines = take_each (IsLineOf part_of.Ends) most_rows _ (map_each (IsLineOf part_of.Ends) ends_line (told_above (reads.ends_told day) c.args.above ps) (λ n. refl)) in
+    let lines = take most_page_rows (map ends_line (told_above (reads.ends_told day) c.args.above ps)) in
+    let each : Each (IsLineOf part_of.Ends) lines = take_each (IsLineOf part_of.Ends) most_page_rows _ (map_each (IsLineOf part_of.Ends) ends_line (told_above (reads.ends_told day) c.args.above ps) (λ n. refl)) in
     books.told_as c.read_lines.result lines (IsLinesPage part_of.Ends day c.args.above ps) _ _ _ (c.read_lines.ensures.read lines each are) page rests (lines_unsound part_of.Ends day (reads.ends_told day) ends_line (reads.ends_says day) (reads.ends_numbers day) h c.args.book c.args.above)

@@ -11,7 +11,7 @@ use Rattle.pawn_book.specs.HostStep.{book_rows}
 use Rattle.pawn_tables.specs.Meta.{meta_rows}
 use Rattle.pawn_tables.specs.Rows.{book_row, terms_listed, pledge_listed, entries_listed, secrets_listed, booking_listed, totals_listed, extensions_listed}
 use Rattle.pawn_tables.specs.StandsFor.{of_books, of_pledges}
-use Rattle.pawn_tables.specs.WorkedTables.{one_book, one_host}
+use Rattle.pawn_tables.specs.WorkedTables.{stored_book, host_of_stored_book}
 use Rattle.pawn_tables.proofs.worked.worked_tables.Goals as goal
 
 none_of_none : {A : Type 0} (xs : List A) → length xs ≡ 0 → xs ≡ []
@@ -22,14 +22,14 @@ no_entries : entries (empty {X = BookValue} {R = nat_cmp}) ≡ []
 no_entries = none_of_none _ (sym (len-entries (empty {X = BookValue} {R = nat_cmp})) ∙ len-empty nat_cmp BookValue)
 
 -- the only book of the host
-only : entries one_host.books ≡ (7, one_book) ∷ []
-only = entries-insert nat_cmp_total empty 7 one_book ∙ ap (put nat_cmp 7 one_book) no_entries
+only : entries host_of_stored_book.books ≡ (7, stored_book) ∷ []
+only = entries-insert nat_cmp_total empty 7 stored_book ∙ ap (put nat_cmp 7 stored_book) no_entries
 
 -- what is listed of it
-of_book : (f : ℕ → BookValue → List Row) → of_books one_host f ≡ flat_map (λ (e : ℕ × BookValue). f e.0 e.1) ((7, one_book) ∷ [])
+of_book : (f : ℕ → BookValue → List Row) → of_books host_of_stored_book f ≡ flat_map (λ (e : ℕ × BookValue). f e.0 e.1) ((7, stored_book) ∷ [])
 of_book f = ap (λ es. flat_map (λ (e : ℕ × BookValue). f e.0 e.1) es) only
 
-of_ring : (f : ℕ → PledgeValue → List Row) → of_pledges one_host f ≡ flat_map (λ (e : ℕ × BookValue). flat_map (f e.0) e.1.pledges) ((7, one_book) ∷ [])
+of_ring : (f : ℕ → PledgeValue → List Row) → of_pledges host_of_stored_book f ≡ flat_map (λ (e : ℕ × BookValue). flat_map (f e.0) e.1.pledges) ((7, stored_book) ∷ [])
 of_ring f = of_book (λ b k. flat_map (f b) k.pledges)
 
 pub returns : goal.returns

@@ -2,7 +2,8 @@ use Rattle.std.proofs.Common.{◌∙◌, [], ap, refl, sym}
 use Rattle.pawn_pledge.specs.declared.brief.BriefFields.{BriefFields}
 use Rattle.pawn_book.specs.Keeping.{extensions_of}
 use Rattle.pawn_book.specs.declared.visit.Flow.TheVariants.{Go}
-use Rattle.pawn_view.proofs.ListLemmas.{none_of_none, nothing_shared, unasked}
+use Rattle.pawn_book.proofs.Reading.{reads_none}
+use Rattle.pawn_view.proofs.ListLemmas.{none_of_none, nothing_shared}
 use Rattle.pawn_view.proofs.lists.visit_extensions.Goals as goal
 
 pub returns-then-fields-eq0-clause-reads : goal.returns-then-fields-eq0-clause-reads
@@ -10,7 +11,7 @@ returns-then-fields-eq0-clause-reads g c = (
   [],
   Go,
   (refl, refl),
-  unasked (λ h p at is.
+  reads_none _ _ _ (λ h p at is.
       nothing_shared _ (ap extensions_of at ∙ none_of_none p.extensions
       (sym (ap (λ (b : BriefFields). b.counts.extensions) (c.fields.ensures.value ∙ is)) ∙ c.if-fields-eq0.true))),
 )

@@ -2,14 +2,14 @@ use Rattle.std.proofs.Common.{◌∙◌, Some, ap, refl}
 use Rattle.pawn_book.specs.declared.change.Change.TheVariants.{ImportBook}
 use Rattle.pawn_book.specs.declared.list.Kept.{Kept}
 use Rattle.pawn_book.specs.BookStep.{BookValue}
-use Rattle.pawn_book.specs.Listed.{entry_of}
+use Rattle.pawn_book.specs.Listed.{listed_book}
 use Rattle.pawn_book.proofs.ListSaves.{filled_is, set_changes}
 use Rattle.pawn_book.proofs.list.filling.fill_book.Goals as goal
 
 pub returns-clause-ok : goal.returns-clause-ok
 returns-clause-ok c =
     let kept = c.index_mut-kept.result.now in
-    let at = (entry_of kept).1 in
+    let at = (listed_book kept).1 in
     let terms = c.in_ok-terms.terms in
     let pledges = c.in_ok-pledges.pledges in
     let next : Kept = record { number = kept.number; made = kept.made; terms = terms; pledges = pledges; imported = Some (record { key = c.args.key; pledges = c.len.result }) } in

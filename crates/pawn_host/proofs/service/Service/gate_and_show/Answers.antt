@@ -1,6 +1,6 @@
 use Rattle.std.proofs.Common.{refl}
 use Rattle.pawn_host.specs.Keeps.{service_operator, start_of}
-use Rattle.pawn_host.specs.Views.{asked_of}
+use Rattle.pawn_host.specs.Views.{view_asked}
 use Rattle.pawn_host.proofs.CrashLemmas.{goes_read}
 use Rattle.pawn_host.proofs.RunLemmas.{acted_refused, broker_request, err_is, gate_refused}
 use Rattle.pawn_host.proofs.SessionLemmas.{acted_at}
@@ -18,6 +18,6 @@ returns-in-Err-clause-acted g c = λ honest h sound at bytes read.
     let operator = service_operator c.args.self.now in
     let why = c.in-Err.refusal in
     let gates = rw c.in-Err.is at (c.gate.ensures.reads.tells honest h at) in
-    acted_refused (start_of g.K.Keep.keeping c.args.self.now h) c.args.stamp.now bytes c.tell.result _ (broker_request c.args.book c.args.key (asked_of c.args.view)) why read c.tell.ensures.tells
-    (goes_read c.gate.ensures.reads honest h at sound) (gate_refused h operator c.args.stamp.now c.args.book c.args.key (asked_of c.args.view) why gates)
+    acted_refused (start_of g.K.Keep.keeping c.args.self.now h) c.args.stamp.now bytes c.tell.result _ (broker_request c.args.book c.args.key (view_asked c.args.view)) why read c.tell.ensures.tells
+    (goes_read c.gate.ensures.reads honest h at sound) (gate_refused h operator c.args.stamp.now c.args.book c.args.key (view_asked c.args.view) why gates)
     (λ steady store. c.gate.ensures.steady steady (err_is c.gate.result why c.in-Err.is store))

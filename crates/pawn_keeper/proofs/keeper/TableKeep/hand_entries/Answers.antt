@@ -3,17 +3,17 @@ use Rattle.std.proofs.lemmas.List.{map-id}
 use Rattle.std.proofs.lemmas.Bool.Decides.{nat_tests}
 use Rattle.std.specs.FinMap.{get}
 use Rattle.sqlite.specs.Held.{state}
-use Rattle.pawn_book.proofs.Reading.{reads_as}
+use Rattle.pawn_book.proofs.Reading.{reads_as, reads_none}
 use Rattle.pawn_book.specs.BookStep.{pledge_in}
 use Rattle.pawn_book.specs.HostStep.{Host}
 use Rattle.pawn_book.specs.Keeping.{entries_of}
 use Rattle.pawn_debt.specs.declared.entry.Entry.{Entry}
 use Rattle.pawn_tables.specs.Keeps.{keeping_by}
 use Rattle.pawn_tables.specs.Entries.{IsEntriesPage, behind, entries_from}
-use Rattle.pawn_tables.specs.Pages.{most_rows, page_end}
+use Rattle.pawn_tables.specs.Pages.{most_page_rows, page_end}
 use Rattle.pawn_tables.proofs.NextEntries.{from_zero}
 use Rattle.pawn_keeper.proofs.Handings.{HandedTo, begins_at, ends_by, fails_at, goes_by, stops_by}
-use Rattle.pawn_keeper.proofs.Walks.{errs_database, reads_none}
+use Rattle.pawn_keeper.proofs.Walks.{errs_database}
 use Rattle.pawn_keeper.proofs.keeper.TableKeep.hand_entries.Goals as goal
 
 pub loop-init : goal.loop-init
@@ -37,7 +37,7 @@ returns-in-Stop g c =
 
 pub returns-then-len-lt-PAGE_ROWS : goal.returns-then-len-lt-PAGE_ROWS
 returns-then-len-lt-PAGE_ROWS g c =
-    let short : length c.in_ok-page.page < most_rows = grind (arith, nat_tests, c.len.ensures.value, c.if-len-lt-PAGE_ROWS.true) in
+    let short : length c.in_ok-page.page < most_page_rows = grind (arith, nat_tests, c.len.ensures.value, c.if-len-lt-PAGE_ROWS.true) in
     let left : ℕ → Host → List Entry = λ n h. entries_from n (entries_of (pledge_in (get h.books c.args.book) c.args.number)) in
     let page = c.in_ok-page.page in
     let told : Host → Type 0 = λ h. IsEntriesPage c.loop.from (entries_of (pledge_in (get h.books c.args.book) c.args.number)) page in

@@ -8,7 +8,7 @@ use Rattle.pawn_book.specs.BookStep.{pledge_in}
 use Rattle.pawn_book.specs.HostStep.{Host}
 use Rattle.pawn_book.specs.Keeping.{extensions_of}
 use Rattle.pawn_tables.specs.Keeps.{keeping_by}
-use Rattle.pawn_tables.specs.Pages.{most_rows}
+use Rattle.pawn_tables.specs.Pages.{most_page_rows}
 use Rattle.pawn_tables.specs.Places.{page_behind}
 use Rattle.pawn_keeper.proofs.Handings.{HandedTo, ends_by, fails_at, goes_by, stops_by}
 use Rattle.pawn_keeper.proofs.PageHandings.{page_ends, page_next}
@@ -27,20 +27,20 @@ returns-in-Stop g c =
     let behind = c.loop-turn.turn * 64 in
     let told : Host → Type 0 = λ h. page ≡ page_behind behind (listed h) in
     record {
-      hands = stops_by (keeping_by (λ k. state g.S.Store k.conn)) g.V.Visitor.step listed left c.args.self.now c.loop-turn.self c.extensions_behind.new.self c.args.visitor.now c.loop-turn.visitor c.hand_all.new.visitor behind c.loop-turn.invariant page (behind + most_rows)
+      hands = stops_by (keeping_by (λ k. state g.S.Store k.conn)) g.V.Visitor.step listed left c.args.self.now c.loop-turn.self c.extensions_behind.new.self c.args.visitor.now c.loop-turn.visitor c.hand_all.new.visitor behind c.loop-turn.invariant page (behind + most_page_rows)
           (reads_as {P = told} c.in_ok-page.ensures.reads (λ h is. page_next behind (listed h) page is)) (rw (c.as_slice.ensures.value, c.in-Stop.is) at c.hand_all.ensures.hands);
     }
 
 pub returns-then-len-lt-PAGE_ROWS : goal.returns-then-len-lt-PAGE_ROWS
 returns-then-len-lt-PAGE_ROWS g c =
-    let short : length c.in_ok-page.page < most_rows = grind (arith, nat_tests, c.len.ensures.value, c.if-len-lt-PAGE_ROWS.true) in
+    let short : length c.in_ok-page.page < most_page_rows = grind (arith, nat_tests, c.len.ensures.value, c.if-len-lt-PAGE_ROWS.true) in
     let listed : Host → List Extension = λ h. extensions_of (pledge_in (get h.books c.args.book) c.args.number) in
     let left : ℕ → Host → List Extension = λ n h. drop n (listed h) in
     let page = c.in_ok-page.page in
     let behind = c.loop-turn.turn * 64 in
     let told : Host → Type 0 = λ h. page ≡ page_behind behind (listed h) in
     record {
-      hands = ends_by (keeping_by (λ k. state g.S.Store k.conn)) g.V.Visitor.step listed left c.args.self.now c.loop-turn.self c.extensions_behind.new.self c.args.visitor.now c.loop-turn.visitor c.hand_all.new.visitor behind c.loop-turn.invariant page (behind + most_rows)
+      hands = ends_by (keeping_by (λ k. state g.S.Store k.conn)) g.V.Visitor.step listed left c.args.self.now c.loop-turn.self c.extensions_behind.new.self c.args.visitor.now c.loop-turn.visitor c.hand_all.new.visitor behind c.loop-turn.invariant page (behind + most_page_rows)
           (reads_as {P = told} c.in_ok-page.ensures.reads (λ h is. (page_next behind (listed h) page is, page_ends behind (listed h) page is short))) (rw (c.as_slice.ensures.value, c.in-Go.is) at c.hand_all.ensures.hands);
     }
 
@@ -51,7 +51,7 @@ loop-turn-preserved g c =
     let page = c.in_ok-page.page in
     let behind = c.loop-turn.turn * 64 in
     let told : Host → Type 0 = λ h. page ≡ page_behind behind (listed h) in
-    let next : behind + most_rows ≡ (c.loop-turn.turn + 1) * 64 = omega arith in
-    subst (λ n. HandedTo (keeping_by (λ k. state g.S.Store k.conn)) g.V.Visitor.step listed left c.args.self.now c.extensions_behind.new.self c.args.visitor.now c.hand_all.new.visitor n) {x = behind + most_rows} next
-    (goes_by (keeping_by (λ k. state g.S.Store k.conn)) g.V.Visitor.step listed left c.args.self.now c.loop-turn.self c.extensions_behind.new.self c.args.visitor.now c.loop-turn.visitor c.hand_all.new.visitor behind c.loop-turn.invariant page (behind + most_rows)
+    let next : behind + most_page_rows ≡ (c.loop-turn.turn + 1) * 64 = omega arith in
+    subst (λ n. HandedTo (keeping_by (λ k. state g.S.Store k.conn)) g.V.Visitor.step listed left c.args.self.now c.extensions_behind.new.self c.args.visitor.now c.hand_all.new.visitor n) {x = behind + most_page_rows} next
+    (goes_by (keeping_by (λ k. state g.S.Store k.conn)) g.V.Visitor.step listed left c.args.self.now c.loop-turn.self c.extensions_behind.new.self c.args.visitor.now c.loop-turn.visitor c.hand_all.new.visitor behind c.loop-turn.invariant page (behind + most_page_rows)
     (reads_as {P = told} c.in_ok-page.ensures.reads (λ h is. page_next behind (listed h) page is)) (rw (c.as_slice.ensures.value, c.in-Go.is) at c.hand_all.ensures.hands))

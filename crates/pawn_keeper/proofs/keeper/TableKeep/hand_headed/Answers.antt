@@ -6,7 +6,7 @@ use Rattle.pawn_book.specs.HostStep.{Host}
 use Rattle.pawn_book.specs.Keeping.{pledges_of}
 use Rattle.pawn_book.specs.Sheet.{part_items, with_head}
 use Rattle.pawn_tables.specs.Keeps.{keeping_by}
-use Rattle.pawn_tables.specs.Pages.{most_rows}
+use Rattle.pawn_tables.specs.Pages.{most_page_rows}
 use Rattle.pawn_tables.specs.Lines.{IsLinesPage, item_of}
 use Rattle.pawn_keeper.proofs.Handings.{hands_after, hands_over, hands_unread}
 use Rattle.pawn_keeper.proofs.SheetPages.{whole_page}
@@ -19,7 +19,7 @@ returns-in_err-page g c = record {
 
 pub returns-then-len-lt-PAGE_ROWS : goal.returns-then-len-lt-PAGE_ROWS
 returns-then-len-lt-PAGE_ROWS g c =
-    let short : length c.in_ok-page.page < most_rows = grind (arith, nat_tests, c.len.ensures.value, c.if-len-lt-PAGE_ROWS.true) in
+    let short : length c.in_ok-page.page < most_page_rows = grind (arith, nat_tests, c.len.ensures.value, c.if-len-lt-PAGE_ROWS.true) in
     let lines = map (item_of c.args.part) c.in_ok-page.page in
     let told : Host → Type 0 = λ h. IsLinesPage c.args.part c.args.day 0 (pledges_of (get h.books c.args.book)) c.in_ok-page.page in
     record {

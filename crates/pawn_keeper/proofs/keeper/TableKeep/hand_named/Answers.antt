@@ -7,7 +7,7 @@ use Rattle.pawn_book.specs.Sheet.{window_sheet}
 use Rattle.pawn_tables.specs.Keeps.{keeping_by}
 use Rattle.pawn_keeper.specs.Windows.{named_sheet}
 use Rattle.pawn_keeper.proofs.Handings.{hands_as, hands_nothing}
-use Rattle.pawn_keeper.proofs.Walks.{reads_none}
+use Rattle.pawn_book.proofs.Reading.{reads_none}
 use Rattle.pawn_keeper.proofs.SheetPages.{is_named, not_named}
 use Rattle.pawn_keeper.proofs.keeper.TableKeep.hand_named.Goals as goal
 

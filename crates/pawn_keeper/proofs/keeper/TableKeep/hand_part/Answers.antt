@@ -8,7 +8,7 @@ use Rattle.pawn_book.specs.Keeping.{pledges_of}
 use Rattle.pawn_book.specs.Sheet.{part_items}
 use Rattle.pawn_tables.specs.Keeps.{keeping_by}
 use Rattle.pawn_tables.specs.Lines.{IsLinesPage, item_of, items_past}
-use Rattle.pawn_tables.specs.Pages.{most_rows, page_end}
+use Rattle.pawn_tables.specs.Pages.{most_page_rows, page_end}
 use Rattle.pawn_tables.specs.declared.line.Line.{Line}
 use Rattle.pawn_keeper.proofs.Handings.{HandedTo, ends_by, fails_at, goes_by, stops_by}
 use Rattle.pawn_keeper.proofs.keeper.TableKeep.hand_part.Goals as goal
@@ -30,7 +30,7 @@ returns-in-Stop g c =
 
 pub returns-then-len-lt-PAGE_ROWS : goal.returns-then-len-lt-PAGE_ROWS
 returns-then-len-lt-PAGE_ROWS g c =
-    let short : length c.in_ok-page.page < most_rows = grind (arith, nat_tests, c.len.ensures.value, c.if-len-lt-PAGE_ROWS.true) in
+    let short : length c.in_ok-page.page < most_page_rows = grind (arith, nat_tests, c.len.ensures.value, c.if-len-lt-PAGE_ROWS.true) in
     let page = c.in_ok-page.page in
     let told : Host → Type 0 = λ h. IsLinesPage c.args.part c.args.day c.loop.above (pledges_of (get h.books c.args.book)) page in
     let end = page_end (λ (l : Line). l.number) c.loop.above page in

@@ -7,12 +7,12 @@ use Rattle.pawn_book.specs.Keeping.{pledges_of}
 use Rattle.pawn_book.specs.Sheet.{windows_below}
 use Rattle.pawn_tables.specs.Keeps.{keeping_by}
 use Rattle.pawn_book.specs.Sound.{IsUnsoundAt}
-use Rattle.pawn_keeper.specs.Handing.{Hands}
+use Rattle.pawn_keeper.specs.Handing.{HandsRows}
 use Rattle.pawn_keeper.specs.Windows.{named_sheet}
 use Rattle.pawn_keeper.proofs.keeper.TableKeep.hand_these.Given as goal
 
 abbrev pub invariant-loop-window : goal.invariant-loop-window
 invariant-loop-window g l = record {
   within : l.window ≤ 16;
-  handed : Hands (keeping_by (λ k. state g.S.Store k.conn)) (IsUnsoundAt l.book) g.V.Visitor.step l.fn.self l.self l.fn.visitor l.visitor (Ok Go) (λ h. flat_map (named_sheet l.windows (pledges_of (get h.books l.book)) l.day) (windows_below l.window));
+  handed : HandsRows (keeping_by (λ k. state g.S.Store k.conn)) (IsUnsoundAt l.book) g.V.Visitor.step l.fn.self l.self l.fn.visitor l.visitor (Ok Go) (λ h. flat_map (named_sheet l.windows (pledges_of (get h.books l.book)) l.day) (windows_below l.window));
 }

@@ -7,7 +7,7 @@ use Rattle.pawn_book.specs.Keeping.{pledges_of}
 use Rattle.pawn_book.specs.Sheet.{part_items, window_sheet, window_items, with_head}
 use Rattle.pawn_book.specs.declared.sheet.Part.TheVariants as part_of
 use Rattle.pawn_tables.specs.Keeps.{keeping_by}
-use Rattle.pawn_tables.specs.Pages.{most_rows}
+use Rattle.pawn_tables.specs.Pages.{most_page_rows}
 use Rattle.pawn_tables.specs.Lines.{IsLinesPage, item_of}
 use Rattle.pawn_keeper.proofs.Handings.{hands_after, hands_nothing, hands_over, hands_unread}
 use Rattle.pawn_keeper.proofs.SheetPages.{some_items, some_page, whole_page}
@@ -29,7 +29,7 @@ returns-then-is_empty g c =
 
 pub returns-then-len-lt-PAGE_ROWS : goal.returns-then-len-lt-PAGE_ROWS
 returns-then-len-lt-PAGE_ROWS g c =
-    let short : length c.in_ok-page.page < most_rows = grind (arith, nat_tests, c.len.ensures.value, c.if-len-lt-PAGE_ROWS.true) in
+    let short : length c.in_ok-page.page < most_page_rows = grind (arith, nat_tests, c.len.ensures.value, c.if-len-lt-PAGE_ROWS.true) in
     let page = c.in_ok-page.page in
     let lines = map (item_of (part_of.Confirmed c.args.window)) page in
     let some : page ≢ [] = search rules in

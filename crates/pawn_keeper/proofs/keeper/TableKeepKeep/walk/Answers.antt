@@ -5,9 +5,9 @@ use Rattle.pawn_book.specs.BookStep.{pledge_in}
 use Rattle.pawn_book.specs.HostStep.{Host}
 use Rattle.pawn_book.specs.Keeping.{pledges_of}
 use Rattle.pawn_book.specs.Visits.{call_end}
-use Rattle.pawn_book.proofs.Reading.{reads_as}
+use Rattle.pawn_book.proofs.Reading.{reads_as, reads_none}
 use Rattle.pawn_tables.specs.Keeps.{keeping_by}
-use Rattle.pawn_keeper.proofs.Walks.{Goes, ended, failed, more, pledge_at, reads_none, stopped}
+use Rattle.pawn_keeper.proofs.Walks.{Goes, ended, failed, more, pledge_at, stopped}
 use Rattle.pawn_keeper.proofs.keeper.TableKeepKeep.walk.Goals as goal
 
 pub returns-in_err-pledge-clause-reads : goal.returns-in_err-pledge-clause-reads

@@ -1,28 +1,15 @@
+//! How values are written into cells: the other way about of what `cells` reads.
 ghost use Rattle.std.specs.Prelude.{◌≡◌, ◌<◌, ◌^◌, IfOk};
-ghost use Rattle.sqlite.specs.declared.error.Error.TheVariants as SqlError;
-ghost use Rattle.sqlite.specs.declared.error.ErrorCode.TheVariants.{OutOfMemory};
-ghost use Rattle.pawn_book.specs.declared.fault.KeepError.TheVariants as Keeper;
 ghost use Rattle.pawn_tables.specs.Rows as spec;
 
 use pawn_book::{BookingState, Closing, Issue, KeepError, Kind, RequestDay, Sort, StoreFault};
-use sqlite::{Error, ErrorCode};
 use sqlite_value::value::Value;
 
 /// The database refused.
-pub(crate) const REFUSED: KeepError = KeepError::Store(StoreFault::Database);
-
-/// Why a statement was not run.
-pub(crate) fn refused(error: Error) -> KeepError
-    ensures memory { result ≡ Keeper.Memory → error ≡ SqlError.SqliteFailure OutOfMemory }
-{
-    match error {
-        Error::SqliteFailure(ErrorCode::OutOfMemory) => KeepError::Memory,
-        _ => REFUSED,
-    }
-}
+pub const REFUSED: KeepError = KeepError::Store(StoreFault::Database);
 
 /// A number as a statement takes it.
-pub(crate) fn small(number: u64) -> Result<u32, KeepError>
+pub fn small(number: u64) -> Result<u32, KeepError>
     ensures value { IfOk result (λ n. n ≡ number) }
     ensures in_range { IfOk result (λ n. n < 2 ^ 32) }
 {
@@ -33,14 +20,14 @@ pub(crate) fn small(number: u64) -> Result<u32, KeepError>
 }
 
 /// The number of a flag.
-pub(crate) fn flag_number(flag: bool) -> u32
+pub fn flag_number(flag: bool) -> u32
     ensures value { result ≡ spec.flag_number flag }
 {
     if flag { 1 } else { 0 }
 }
 
 /// The number of a kind of credit.
-pub(crate) fn kind_number(kind: Kind) -> u32
+pub fn kind_number(kind: Kind) -> u32
     ensures value { result ≡ spec.kind_number kind }
 {
     match kind {
@@ -50,7 +37,7 @@ pub(crate) fn kind_number(kind: Kind) -> u32
 }
 
 /// The number of a sort of entry.
-pub(crate) fn sort_number(sort: Sort) -> u32
+pub fn sort_number(sort: Sort) -> u32
     ensures value { result ≡ spec.sort_number sort }
 {
     match sort {
@@ -60,7 +47,7 @@ pub(crate) fn sort_number(sort: Sort) -> u32
 }
 
 /// The number of the way in which a secret was issued.
-pub(crate) fn issue_number(issue: Issue) -> u32
+pub fn issue_number(issue: Issue) -> u32
     ensures value { result ≡ spec.issue_number issue }
 {
     match issue {
@@ -71,7 +58,7 @@ pub(crate) fn issue_number(issue: Issue) -> u32
 }
 
 /// The number of where a booking stands.
-pub(crate) fn state_number(state: BookingState) -> u32
+pub fn state_number(state: BookingState) -> u32
     ensures value { result ≡ spec.state_number state }
 {
     match state {
@@ -93,7 +80,7 @@ fn optional(number: Option<u32>) -> Value
 }
 
 /// The agreed end of a period.
-pub(crate) fn agreed_value(agreed: Option<RequestDay>) -> Value
+pub fn agreed_value(agreed: Option<RequestDay>) -> Value
     ensures value { result ≡ spec.or_null spec.number agreed }
 {
     match agreed {
@@ -103,7 +90,7 @@ pub(crate) fn agreed_value(agreed: Option<RequestDay>) -> Value
 }
 
 /// The number of the way in which a pledge is closed.
-pub(crate) fn closed_number(closing: Closing) -> u32
+pub fn closed_number(closing: Closing) -> u32
     ensures value { result ≡ spec.closed_number closing }
 {
     match closing {
@@ -114,7 +101,7 @@ pub(crate) fn closed_number(closing: Closing) -> u32
 }
 
 /// The day of a closing.
-pub(crate) fn closed_day(closing: Closing) -> Value
+pub fn closed_day(closing: Closing) -> Value
     ensures value { result ≡ spec.or_null spec.number (spec.closed_day closing) }
 {
     match closing {
@@ -135,7 +122,7 @@ fn sum_value(pence: u64) -> Result<Value, KeepError>
 }
 
 /// The sum of a closing.
-pub(crate) fn closed_amount(closing: Closing) -> Result<Value, KeepError>
+pub fn closed_amount(closing: Closing) -> Result<Value, KeepError>
     ensures value { IfOk result (λ amount. amount ≡ spec.or_null spec.number
         (spec.closed_amount closing)) }
 {

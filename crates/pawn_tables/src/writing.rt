@@ -1,7 +1,9 @@
-ghost use Rattle.std.specs.Prelude.{◌≡◌, ℕ, IsTrue, OnOk, Ok, is_ok};
+ghost use Rattle.std.specs.Prelude.{◌≡◌, ◌≢◌, ℕ, IsTrue, OnOk, Ok, Err, is_ok};
 ghost use Rattle.sqlite.specs.Values.{bound};
 ghost use Rattle.sqlite.specs.Held.{state};
 ghost use Rattle.sqlite.specs.State.{Executes, HasCleanDisk};
+ghost use Rattle.pawn_book.specs.declared.fault.KeepError.TheVariants as Keeper;
+ghost use Rattle.pawn_book.specs.declared.fault.StoreFault.TheVariants.{NoRecord};
 ghost use Rattle.one_table.specs.Lending.{IsLent};
 
 use crate::cells::refused;
@@ -11,7 +13,7 @@ use sqlite::{Alter, Transaction};
 use sqlite_value::value::ValueRef;
 
 /// Runs a statement that shows no rows.
-pub(crate) fn write<S: Alter>(
+pub fn write<S: Alter>(
     tx: &mut Transaction<'_, S>,
     sql: &str,
     params: &[ValueRef<'_>],
@@ -21,6 +23,7 @@ pub(crate) fn write<S: Alter>(
         (state S.Store tx.old.conn.now).in_transaction → OnOk result
         ((count : ℕ) × Executes sql.now (bound params.now) (state S.Store tx.old.conn.now)
         (state S.Store tx.new.conn.now) (Ok count)) }
+    ensures no_row { result ≢ Err (Keeper.Store NoRecord) }
     ensures lent { IsLent (state S.Store tx.old.conn.now) (state S.Store tx.new.conn.now)
         (is_ok result) }
 {
