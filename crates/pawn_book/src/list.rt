@@ -51,11 +51,11 @@ impl Model for ListKeep {
 
     ghost Value = { Books };
 
-    ghost use Rattle.pawn_book.specs.Listed.{listed_book, IsKept};
+    ghost use Rattle.pawn_book.specs.Listed.{listed_book, IsListed};
 
     ghost view = { λ k. record { books = map listed_book k.books.items; limit = k.limit } };
 
-    ghost invariant = { λ k. IsKept (record { books = map listed_book k.books.items; limit = k.limit })
+    ghost invariant = { λ k. IsListed (record { books = map listed_book k.books.items; limit = k.limit })
         k.rows };
 }
 

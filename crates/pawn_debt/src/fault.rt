@@ -23,11 +23,11 @@ pub enum DebtFault {
 }
 
 impl DebtFault {
-    ghost use Rattle.pawn_debt.specs.DebtFault.{code_of, name_of, fault_total};
+    ghost use Rattle.pawn_debt.specs.DebtFault.{debt_fault_code, debt_fault_name, fault_total};
 
     /// The number of the fault, as replies carry it.
     pub fn code(self) -> u16
-        ensures value { result ≡ code_of self }
+        ensures value { result ≡ debt_fault_code self }
     {
         match self {
             DebtFault::BadAmount => 201,
@@ -42,7 +42,7 @@ impl DebtFault {
 
     /// The name of the fault, as replies carry it.
     pub fn name(self) -> &'static str
-        ensures value { result.now ≡ name_of self }
+        ensures value { result.now ≡ debt_fault_name self }
     {
         match self {
             DebtFault::BadAmount => "BadAmount",
@@ -68,9 +68,9 @@ impl DebtFault {
 
 impl fmt::Display for DebtFault {
     ghost use Rattle.std.specs.Prelude.{Some};
-    ghost use Rattle.pawn_debt.specs.DebtFault.{name_of};
+    ghost use Rattle.pawn_debt.specs.DebtFault.{debt_fault_name};
 
-    ghost output = { λ fault. Some (name_of fault) };
+    ghost output = { λ fault. Some (debt_fault_name fault) };
 
     fn fmt<W: fmt::Write>(&self, f: &mut fmt::Formatter<W>) -> fmt::Result {
         f.write_str(self.name())

@@ -36,7 +36,7 @@ pub struct Pledge {
 
 impl Model for Pledge {
     ghost use Rattle.pawn_pledge.specs.declared.parts.Parts.{Parts};
-    ghost use Rattle.pawn_pledge.specs.Kept.{IsKept};
+    ghost use Rattle.pawn_pledge.specs.Kept.{IsPledgeKept};
 
     ghost Value = { Parts };
 
@@ -49,7 +49,7 @@ impl Model for Pledge {
       standing = a.standing;
     } };
 
-    ghost invariant = { λ a. IsKept (record {
+    ghost invariant = { λ a. IsPledgeKept (record {
       agreement = a.agreement;
       entries = a.debt.entries;
       secrets = a.secrets;

@@ -46,11 +46,11 @@ pub enum Refusal {
 }
 
 impl Refusal {
-    ghost use Rattle.pawn_pledge.specs.Refusal.{code_of, name_of, refusal_total};
+    ghost use Rattle.pawn_pledge.specs.Refusal.{pledge_refusal_code, pledge_refusal_name, refusal_total};
 
     /// The number of the refusal, as replies carry it.
     pub fn code(self) -> u16
-        ensures value { result ≡ code_of self }
+        ensures value { result ≡ pledge_refusal_code self }
     {
         match self {
             Refusal::Debt(fault) => fault.code(),
@@ -76,7 +76,7 @@ impl Refusal {
 
     /// The name of the refusal, as replies carry it.
     pub fn name(self) -> &'static str
-        ensures value { result.now ≡ name_of self }
+        ensures value { result.now ≡ pledge_refusal_name self }
     {
         match self {
             Refusal::Debt(fault) => fault.name(),
@@ -114,9 +114,9 @@ impl Refusal {
 
 impl fmt::Display for Refusal {
     ghost use Rattle.std.specs.Prelude.{Some};
-    ghost use Rattle.pawn_pledge.specs.Refusal.{name_of};
+    ghost use Rattle.pawn_pledge.specs.Refusal.{pledge_refusal_name};
 
-    ghost output = { λ fault. Some (name_of fault) };
+    ghost output = { λ fault. Some (pledge_refusal_name fault) };
 
     fn fmt<W: fmt::Write>(&self, f: &mut fmt::Formatter<W>) -> fmt::Result {
         f.write_str(self.name())

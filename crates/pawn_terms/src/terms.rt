@@ -18,11 +18,11 @@ pub enum TermsFault {
 }
 
 impl TermsFault {
-    ghost use Rattle.pawn_terms.specs.TermsFault.{code_of, name_of};
+    ghost use Rattle.pawn_terms.specs.TermsFault.{terms_fault_code, terms_fault_name};
 
     /// The number of the fault, as replies carry it.
     pub fn code(self) -> u16
-        ensures value { result ≡ code_of self }
+        ensures value { result ≡ terms_fault_code self }
     {
         match self {
             TermsFault::RateTooHigh => 102,
@@ -33,7 +33,7 @@ impl TermsFault {
 
     /// The name of the fault, as replies carry it.
     pub fn name(self) -> &'static str
-        ensures value { result.now ≡ name_of self }
+        ensures value { result.now ≡ terms_fault_name self }
     {
         match self {
             TermsFault::RateTooHigh => "RateTooHigh",
@@ -45,9 +45,9 @@ impl TermsFault {
 
 impl fmt::Display for TermsFault {
     ghost use Rattle.std.specs.Prelude.{Some};
-    ghost use Rattle.pawn_terms.specs.TermsFault.{name_of};
+    ghost use Rattle.pawn_terms.specs.TermsFault.{terms_fault_name};
 
-    ghost output = { λ fault. Some (name_of fault) };
+    ghost output = { λ fault. Some (terms_fault_name fault) };
 
     fn fmt<W: fmt::Write>(&self, f: &mut fmt::Formatter<W>) -> fmt::Result {
         f.write_str(self.name())

@@ -7,9 +7,9 @@ pub struct CountsLine(pub Counts);
 
 impl fmt::Display for CountsLine {
     ghost use Rattle.std.specs.Prelude.{Some};
-    ghost use Rattle.pawnd.specs.Counts.{line_of};
+    ghost use Rattle.pawnd.specs.Counts.{counts_line};
 
-    ghost output = { λ line. Some (line_of line.0) };
+    ghost output = { λ line. Some (counts_line line.0) };
 
     fn fmt<W: fmt::Write>(&self, f: &mut fmt::Formatter<W>) -> fmt::Result {
         write!(

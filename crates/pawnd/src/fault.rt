@@ -21,9 +21,9 @@ pub enum Fault {
 
 impl fmt::Display for Fault {
     ghost use Rattle.std.specs.Prelude.{Some};
-    ghost use Rattle.pawnd.specs.Fault.{line_of};
+    ghost use Rattle.pawnd.specs.Fault.{fault_line};
 
-    ghost output = { λ fault. Some (line_of fault) };
+    ghost output = { λ fault. Some (fault_line fault) };
 
     fn fmt<W: fmt::Write>(&self, f: &mut fmt::Formatter<W>) -> fmt::Result {
         f.write_str(match self {

@@ -20,9 +20,9 @@ pub struct Schemas {
 
 impl fmt::Display for Schemas {
     ghost use Rattle.std.specs.Prelude.{Some};
-    ghost use Rattle.pawnd.specs.Moved.{line_of};
+    ghost use Rattle.pawnd.specs.Moved.{moved_line};
 
-    ghost output = { λ schemas. Some (line_of schemas) };
+    ghost output = { λ schemas. Some (moved_line schemas) };
 
     fn fmt<W: fmt::Write>(&self, f: &mut fmt::Formatter<W>) -> fmt::Result {
         write!(f, "schema {} to {}", self.found, self.program)

@@ -33,9 +33,9 @@ impl Stop {
 
 impl fmt::Display for Stop {
     ghost use Rattle.std.specs.Prelude.{Some};
-    ghost use Rattle.pawnd.specs.Stop.{line_of};
+    ghost use Rattle.pawnd.specs.Stop.{stop_line};
 
-    ghost output = { λ stop. Some (line_of stop) };
+    ghost output = { λ stop. Some (stop_line stop) };
 
     fn fmt<W: fmt::Write>(&self, f: &mut fmt::Formatter<W>) -> fmt::Result {
         match self {
