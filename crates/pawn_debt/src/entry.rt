@@ -6,7 +6,7 @@ use crate::rows::Rows;
 use pawn_terms::Day;
 
 /// The credit, in pence.
-#[derive(Clone, Copy, Debug, PartialEq, Eq, Hash)]
+#[derive(Clone, Copy, Debug, PartialEq, Eq)]
 pub enum Kind {
     /// A fixed sum, lent on the day taken.
     Fixed(u64),
@@ -38,7 +38,7 @@ impl Kind {
 }
 
 /// What an entry is.
-#[derive(Clone, Copy, Debug, PartialEq, Eq, Hash)]
+#[derive(Clone, Copy, Debug, PartialEq, Eq)]
 pub enum Sort {
     Draw,
     Repay,
@@ -57,7 +57,7 @@ impl Sort {
 }
 
 /// A drawing or a repayment: its number among the debt's entries, from 1, its day, and its pence.
-#[derive(Clone, Copy, Debug, PartialEq, Eq, Hash)]
+#[derive(Clone, Copy, Debug, PartialEq, Eq)]
 pub struct Entry {
     pub seq: u64,
     pub day: Day,

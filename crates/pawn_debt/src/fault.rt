@@ -4,7 +4,7 @@ use std::error::Error;
 use std::fmt;
 
 /// Why a call on a debt is refused.
-#[derive(Clone, Copy, Debug, PartialEq, Eq, Hash)]
+#[derive(Clone, Copy, Debug, PartialEq, Eq)]
 pub enum DebtFault {
     /// A sum of 0, or above 100,000,000 pence.
     BadAmount,

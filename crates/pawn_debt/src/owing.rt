@@ -10,7 +10,7 @@ use crate::limits::PENNY;
 use pawn_terms::{Day, Terms};
 
 /// What is owed, in whole pence.
-#[derive(Clone, Copy, Debug, PartialEq, Eq, Hash)]
+#[derive(Clone, Copy, Debug, PartialEq, Eq)]
 pub struct Owing {
     pub principal: u64,
     pub charges: u64,
@@ -18,7 +18,7 @@ pub struct Owing {
 }
 
 /// What is owed on a day.
-#[derive(Clone, Copy, Debug, PartialEq, Eq, Hash)]
+#[derive(Clone, Copy, Debug, PartialEq, Eq)]
 pub struct Totals {
     pub day: Day,
     /// The principal, in pence.

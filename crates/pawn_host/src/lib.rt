@@ -11,6 +11,7 @@
 //! ```
 #![tactic(auto)]
 
+mod buffer;
 mod laws;
 mod limits;
 mod reading;

@@ -1,13 +1,15 @@
 //! One connection: requests are read, answered and their replies written, one after the other.
-ghost use Rattle.std.specs.Prelude.{◌≡◌, ◌+◌, ◌≤◌, [], drop, IfSome, IfOk, IfErr, OnOk, vec_len, ◌*◌, ◌^◌, false};
+ghost use Rattle.std.specs.Prelude.{◌≡◌, ◌+◌, ◌≤◌, IfSome, IfOk, IfErr, OnOk, length, ◌*◌, ◌^◌, false};
 ghost use Rattle.std.specs.Io.KnownBytes.{Keeps, prepend_known};
 ghost use Rattle.pawn_view.specs.Ends.{write_failed, written_bytes};
 ghost use Rattle.pawn_host.specs.Limits.{most_request_bytes};
 ghost use Rattle.pawn_host.specs.Ends.{reads, read_failed, left_of};
+ghost use Rattle.pawn_host.specs.Unanswered.{unanswered};
 ghost use Rattle.pawn_host.specs.Finding.{IsFilled, FindsHead, FindsRest, HasHead, IsCausedBy, StopsBy, FilledBy, IsFetched};
 ghost use Rattle.pawn_host.specs.Session.{AreTaken, IsFinished, IsOver, IsReadWhileWanted, IsSession, IsWithinMost};
 ghost use Rattle.pawn_host.specs.Keeps.{StaysOpen, Serves, answer_bytes};
 
+use crate::buffer::Buffer;
 use crate::limits::{MOST_READS, MOST_REQUESTS};
 use crate::reading::Reading;
 use crate::service::{Answer, Service};
@@ -82,9 +84,9 @@ enum Rest {
 }
 
 // One read, added to the buffer.
-fn fill<R: Read>(reader: &mut Reading<R>, buffer: &mut Vec<u8>) -> Filled
+fn fill<R: Read>(reader: &mut Reading<R>, buffer: &mut Buffer) -> Filled
     ensures filled { IsFilled result (left_of R.remaining reader.old)
-        (left_of R.remaining reader.new) buffer.old.items buffer.new.items }
+        (left_of R.remaining reader.new) (unanswered buffer.old) (unanswered buffer.new) }
     ensures by { FilledBy result (read_failed reader.old) (read_failed reader.new)
         (reads reader.old) (reads reader.new) }
 {
@@ -98,24 +100,24 @@ fn fill<R: Read>(reader: &mut Reading<R>, buffer: &mut Vec<u8>) -> Filled
     if n == 0 {
         return Filled::Done;
     }
-    match buffer.extend_from_slice(&piece[..n]) {
+    match buffer.add(&piece[..n]) {
         Ok(()) => Filled::More,
         Err(_) => Filled::NoRoom,
     }
 }
 
 // Reads until a whole head is in the buffer.
-fn await_head<R: Read>(reader: &mut Reading<R>, buffer: &mut Vec<u8>) -> Result<HeadFacts, Rest>
-    ensures head { IfOk result (HasHead buffer.new.items) }
+fn await_head<R: Read>(reader: &mut Reading<R>, buffer: &mut Buffer) -> Result<HeadFacts, Rest>
+    ensures head { IfOk result (HasHead (unanswered buffer.new)) }
     ensures small { IfOk result (λ h. h.len + h.body ≤ most_request_bytes) }
     ensures kept { IfOk result (λ _. Keeps
-        (prepend_known buffer.old.items (left_of R.remaining reader.old))
-        (prepend_known buffer.new.items (left_of R.remaining reader.new))) }
-    ensures rest { IfSome (prepend_known buffer.old.items (left_of R.remaining reader.old))
+        (prepend_known (unanswered buffer.old) (left_of R.remaining reader.old))
+        (prepend_known (unanswered buffer.new) (left_of R.remaining reader.new))) }
+    ensures rest { IfSome (prepend_known (unanswered buffer.old) (left_of R.remaining reader.old))
         (λ s. IfErr result (FindsRest s)) }
     ensures stops { StopsBy result (read_failed reader.old) (read_failed reader.new)
         (reads reader.new) }
-    ensures fetched { IsFetched result buffer.old.items buffer.new.items
+    ensures fetched { IsFetched result (unanswered buffer.old) (unanswered buffer.new)
         (left_of R.remaining reader.old) (left_of R.remaining reader.new) (reads reader.old)
         (reads reader.new) }
 {
@@ -128,7 +130,7 @@ fn await_head<R: Read>(reader: &mut Reading<R>, buffer: &mut Vec<u8>) -> Result<
         match fill(reader, buffer) {
             Filled::More => (),
             Filled::Done => {
-                return Err(if buffer.is_empty() {
+                return Err(if buffer.as_slice().is_empty() {
                     Rest::AtEnd
                 } else {
                     Rest::CutOff
@@ -152,27 +154,27 @@ fn request_len(head: &HeadFacts) -> usize
 // Reads until the request with this head is in the buffer.
 fn await_body<R: Read>(
     reader: &mut Reading<R>,
-    buffer: &mut Vec<u8>,
+    buffer: &mut Buffer,
     head: HeadFacts,
 ) -> Result<HeadFacts, Rest>
-    requires head { HasHead buffer.old.items head }
+    requires head { HasHead (unanswered buffer.old) head }
     requires small { head.len + head.body ≤ most_request_bytes }
-    ensures head { IfOk result (HasHead buffer.new.items) }
+    ensures head { IfOk result (HasHead (unanswered buffer.new)) }
     ensures small { IfOk result (λ h. h.len + h.body ≤ most_request_bytes) }
-    ensures buffered { IfOk result (λ h. h.len + h.body ≤ vec_len buffer.new) }
+    ensures buffered { IfOk result (λ h. h.len + h.body ≤ length (unanswered buffer.new)) }
     ensures kept { IfOk result (λ _. Keeps
-        (prepend_known buffer.old.items (left_of R.remaining reader.old))
-        (prepend_known buffer.new.items (left_of R.remaining reader.new))) }
-    ensures found { IfSome (prepend_known buffer.old.items (left_of R.remaining reader.old))
+        (prepend_known (unanswered buffer.old) (left_of R.remaining reader.old))
+        (prepend_known (unanswered buffer.new) (left_of R.remaining reader.new))) }
+    ensures found { IfSome (prepend_known (unanswered buffer.old) (left_of R.remaining reader.old))
         (λ s. FindsHead s result) }
     ensures stops { StopsBy result (read_failed reader.old) (read_failed reader.new)
         (reads reader.new) }
-    ensures fetched { IsFetched result buffer.old.items buffer.new.items
+    ensures fetched { IsFetched result (unanswered buffer.old) (unanswered buffer.new)
         (left_of R.remaining reader.old) (left_of R.remaining reader.new) (reads reader.old)
         (reads reader.new) }
 {
     let needed = request_len(&head);
-    while buffer.len() < needed {
+    while buffer.as_slice().len() < needed {
         match fill(reader, buffer) {
             Filled::More => (),
             Filled::Done => return Err(Rest::CutOff),
@@ -185,18 +187,18 @@ fn await_body<R: Read>(
 }
 
 // Reads until the next request is in the buffer.
-fn next_request<R: Read>(reader: &mut Reading<R>, buffer: &mut Vec<u8>) -> Result<HeadFacts, Rest>
-    ensures head { IfOk result (HasHead buffer.new.items) }
+fn next_request<R: Read>(reader: &mut Reading<R>, buffer: &mut Buffer) -> Result<HeadFacts, Rest>
+    ensures head { IfOk result (HasHead (unanswered buffer.new)) }
     ensures small { IfOk result (λ h. h.len + h.body ≤ most_request_bytes) }
-    ensures buffered { IfOk result (λ h. h.len + h.body ≤ vec_len buffer.new) }
+    ensures buffered { IfOk result (λ h. h.len + h.body ≤ length (unanswered buffer.new)) }
     ensures kept { IfOk result (λ _. Keeps
-        (prepend_known buffer.old.items (left_of R.remaining reader.old))
-        (prepend_known buffer.new.items (left_of R.remaining reader.new))) }
-    ensures found { IfSome (prepend_known buffer.old.items (left_of R.remaining reader.old))
+        (prepend_known (unanswered buffer.old) (left_of R.remaining reader.old))
+        (prepend_known (unanswered buffer.new) (left_of R.remaining reader.new))) }
+    ensures found { IfSome (prepend_known (unanswered buffer.old) (left_of R.remaining reader.old))
         (λ s. FindsHead s result) }
     ensures stops { StopsBy result (read_failed reader.old) (read_failed reader.new)
         (reads reader.new) }
-    ensures fetched { IsFetched result buffer.old.items buffer.new.items
+    ensures fetched { IsFetched result (unanswered buffer.old) (unanswered buffer.new)
         (left_of R.remaining reader.old) (left_of R.remaining reader.new) (reads reader.old)
         (reads reader.new) }
 {
@@ -204,14 +206,6 @@ fn next_request<R: Read>(reader: &mut Reading<R>, buffer: &mut Vec<u8>) -> Resul
         Ok(head) => await_body(reader, buffer, head),
         Err(rest) => Err(rest),
     }
-}
-
-// Takes the front off the buffer.
-fn drop_front(buffer: &mut Vec<u8>, n: usize)
-    requires within { n ≤ vec_len buffer.old }
-    ensures rest { buffer.new.items ≡ drop n buffer.old.items }
-{
-    drop(buffer.drain(..n));
 }
 
 // What is written for an answer.
@@ -303,7 +297,7 @@ impl<K: Keep> Service<K> {
         ensures reads { IsReadWhileWanted (reads reader.new) (left_of R.remaining reader.old)
             (left_of R.remaining reader.new) }
     {
-        let mut buffer = Vec::new(self.alloc);
+        let mut buffer = Buffer::new(self.alloc);
         let mut sent = 0u128;
         for acted in 0..MOST_REQUESTS {
             let head = match next_request(reader, &mut buffer) {
@@ -315,7 +309,7 @@ impl<K: Keep> Service<K> {
                 return Ok(Ended { how, acted });
             };
             let needed = request_len(&head);
-            let answer = self.answer_one(&stamp, &buffer[..needed]);
+            let answer = self.answer_one(&stamp, &buffer.as_slice()[..needed]);
             let text = answer_slice(&answer);
             let count = send(writer, text);
             let acted = acted + 1;
@@ -328,7 +322,7 @@ impl<K: Keep> Service<K> {
                 let how = How::Closed;
                 return Ok(Ended { how, acted });
             }
-            drop_front(&mut buffer, needed);
+            buffer.answer(needed);
         }
         let how = How::Limit;
         let acted = MOST_REQUESTS;

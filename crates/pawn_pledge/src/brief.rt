@@ -16,7 +16,7 @@ use pawn_terms::LAST_STAMP_DAY;
 use std::marker::Model;
 
 /// How many entries, secrets and extensions a pledge has.
-#[derive(Clone, Copy, Debug, PartialEq, Eq, Hash)]
+#[derive(Clone, Copy, Debug, PartialEq, Eq)]
 pub struct Counts {
     pub entries: usize,
     pub secrets: usize,

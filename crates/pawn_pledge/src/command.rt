@@ -8,14 +8,14 @@ use pawn_terms::RequestDay;
 use std::marker::Model;
 
 /// The day and the 128-bit word that come with a request.
-#[derive(Clone, Copy, Debug, PartialEq, Eq, Hash)]
+#[derive(Clone, Copy, Debug, PartialEq, Eq)]
 pub struct Stamp {
     pub day: RequestDay,
     pub word: u128,
 }
 
 /// The paper that a claimant without the receipt tenders.
-#[derive(Clone, Copy, Debug, PartialEq, Eq, Hash)]
+#[derive(Clone, Copy, Debug, PartialEq, Eq)]
 pub enum Paper {
     /// A statutory declaration.
     Sworn,
@@ -24,14 +24,14 @@ pub enum Paper {
 }
 
 /// What a broker makes of a booking.
-#[derive(Clone, Copy, Debug, PartialEq, Eq, Hash)]
+#[derive(Clone, Copy, Debug, PartialEq, Eq)]
 pub enum Decision {
     Confirm,
     Refuse,
 }
 
 /// A command on a pledge. Sums are in pence; `seq` is the number of the entry, from 1.
-#[derive(Clone, Copy, Debug, PartialEq, Eq, Hash)]
+#[derive(Clone, Copy, Debug, PartialEq, Eq)]
 pub enum Command {
     Draw { seq: u64, pence: u64 },
     Repay { seq: u64, pence: u64 },
@@ -96,7 +96,7 @@ impl Command {
 }
 
 /// A command that a broker may send. A clause sees the command.
-#[derive(Clone, Copy, Debug, PartialEq, Eq, Hash)]
+#[derive(Clone, Copy, Debug, PartialEq, Eq)]
 pub struct BrokerCommand {
     command: Command,
 }
@@ -146,7 +146,7 @@ impl BrokerCommand {
 }
 
 /// A command that the bearer of a live receipt may send. A clause sees the command.
-#[derive(Clone, Copy, Debug, PartialEq, Eq, Hash)]
+#[derive(Clone, Copy, Debug, PartialEq, Eq)]
 pub struct BearerCommand {
     command: Command,
 }
@@ -196,7 +196,7 @@ impl BearerCommand {
 }
 
 /// What an accepted command answers. Sums are in pence.
-#[derive(Clone, Copy, Debug, PartialEq, Eq, Hash)]
+#[derive(Clone, Copy, Debug, PartialEq, Eq)]
 pub enum Done {
     Entered(Entry),
     /// Whether redemption is barred.
@@ -220,7 +220,7 @@ pub enum Done {
 }
 
 /// What an accepted command answers, and whether it changed the pledge.
-#[derive(Clone, Copy, Debug, PartialEq, Eq, Hash)]
+#[derive(Clone, Copy, Debug, PartialEq, Eq)]
 pub struct Applied {
     pub done: Done,
     pub changed: bool,

@@ -8,14 +8,14 @@ use std::error::Error;
 use std::fmt;
 
 /// What is handed to whoever may redeem a pledge: the pledge's number and a secret.
-#[derive(Clone, Copy, Debug, PartialEq, Eq, Hash)]
+#[derive(Clone, Copy, Debug, PartialEq, Eq)]
 pub struct Receipt {
     pub number: Number,
     pub secret: Secret,
 }
 
 /// No text of a receipt.
-#[derive(Clone, Copy, Debug, PartialEq, Eq, Hash)]
+#[derive(Clone, Copy, Debug, PartialEq, Eq)]
 pub struct BadReceipt;
 
 impl BadReceipt {

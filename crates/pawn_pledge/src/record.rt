@@ -110,7 +110,7 @@ impl Agreement {
 }
 
 /// How a secret was issued.
-#[derive(Clone, Copy, Debug, PartialEq, Eq, Hash)]
+#[derive(Clone, Copy, Debug, PartialEq, Eq)]
 pub enum Issue {
     /// With the pledge.
     Opening,
@@ -121,7 +121,7 @@ pub enum Issue {
 }
 
 /// A secret, and the day and the way in which it was issued.
-#[derive(Clone, Copy, Debug, PartialEq, Eq, Hash)]
+#[derive(Clone, Copy, Debug, PartialEq, Eq)]
 pub struct Issued {
     pub day: Day,
     pub sort: Issue,
@@ -145,7 +145,7 @@ impl Issued {
 pub type Secrets = Rows<Issued>;
 
 /// Where a booking stands.
-#[derive(Clone, Copy, Debug, PartialEq, Eq, Hash)]
+#[derive(Clone, Copy, Debug, PartialEq, Eq)]
 pub enum BookingState {
     Asked,
     Confirmed,
@@ -168,7 +168,7 @@ impl BookingState {
 }
 
 /// A day and a window of that day, 0 to 15, for which a bearer asked.
-#[derive(Clone, Copy, Debug, PartialEq, Eq, Hash)]
+#[derive(Clone, Copy, Debug, PartialEq, Eq)]
 pub struct Booking {
     pub day: Day,
     pub window: u64,
@@ -176,7 +176,7 @@ pub struct Booking {
 }
 
 /// A longer period: the day on which it was agreed, and its end.
-#[derive(Clone, Copy, Debug, PartialEq, Eq, Hash)]
+#[derive(Clone, Copy, Debug, PartialEq, Eq)]
 pub struct Extension {
     pub day: Day,
     pub until: Day,
@@ -186,7 +186,7 @@ pub struct Extension {
 pub type Extensions = Rows<Extension>;
 
 /// Whether a pledge was closed, and how. Sums are in pence.
-#[derive(Clone, Copy, Debug, PartialEq, Eq, Hash)]
+#[derive(Clone, Copy, Debug, PartialEq, Eq)]
 pub enum Closing {
     Open,
     Redeemed { day: Day, paid: u64 },
@@ -194,7 +194,7 @@ pub enum Closing {
 }
 
 /// How a pledge stands.
-#[derive(Clone, Copy, Debug, PartialEq, Eq, Hash)]
+#[derive(Clone, Copy, Debug, PartialEq, Eq)]
 pub struct Standing {
     /// Whether redemption is barred.
     pub held: bool,
@@ -205,7 +205,7 @@ pub struct Standing {
 }
 
 /// What a pledge is on a day.
-#[derive(Clone, Copy, Debug, PartialEq, Eq, Hash)]
+#[derive(Clone, Copy, Debug, PartialEq, Eq)]
 pub enum Status {
     /// In its period.
     Inside,

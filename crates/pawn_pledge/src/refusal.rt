@@ -5,7 +5,7 @@ use std::error::Error;
 use std::fmt;
 
 /// Why a command on a pledge is refused.
-#[derive(Clone, Copy, Debug, PartialEq, Eq, Hash)]
+#[derive(Clone, Copy, Debug, PartialEq, Eq)]
 pub enum Refusal {
     /// The debt's own refusals.
     Debt(DebtFault),

@@ -14,7 +14,7 @@ use std::fmt;
 use std::marker::Model;
 
 /// No day, or a day out of range.
-#[derive(Clone, Copy, Debug, PartialEq, Eq, Hash)]
+#[derive(Clone, Copy, Debug, PartialEq, Eq)]
 pub struct BadDay;
 
 impl BadDay {
@@ -46,7 +46,7 @@ impl fmt::Display for BadDay {
 impl Error for BadDay {}
 
 /// A day from 2000-01-01 to 2299-12-31. A clause sees its number, counted from 1970-01-01.
-#[derive(Clone, Copy, Debug, PartialEq, Eq, PartialOrd, Ord, Hash)]
+#[derive(Clone, Copy, Debug, PartialEq, Eq, PartialOrd, Ord)]
 pub struct Day {
     number: u32,
 }

@@ -7,7 +7,7 @@ use std::fmt;
 use std::marker::Model;
 
 /// Why three numbers are no terms.
-#[derive(Clone, Copy, Debug, PartialEq, Eq, Hash)]
+#[derive(Clone, Copy, Debug, PartialEq, Eq)]
 pub enum TermsFault {
     /// Above 20,000 millionths per day.
     RateTooHigh,
@@ -57,7 +57,7 @@ impl fmt::Display for TermsFault {
 impl Error for TermsFault {}
 
 /// The three numbers of terms, checked or not.
-#[derive(Clone, Copy, Debug, PartialEq, Eq, Hash)]
+#[derive(Clone, Copy, Debug, PartialEq, Eq)]
 pub struct Rates {
     /// The rate of interest, in millionths per day.
     pub rate: u64,
@@ -90,7 +90,7 @@ impl Rates {
 /// Checked terms of an agreement: a rate of at most 20,000 millionths per day, and charges for safe
 /// keeping of at most 10,000,000 millionths of a penny per day, not higher after the end of the
 /// period than before it. A clause sees their three numbers.
-#[derive(Clone, Copy, Debug, PartialEq, Eq, Hash)]
+#[derive(Clone, Copy, Debug, PartialEq, Eq)]
 pub struct Terms {
     rates: Rates,
 }

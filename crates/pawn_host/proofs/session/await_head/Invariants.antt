@@ -2,13 +2,14 @@ use Rattle.std.proofs.Common.{◌≡◌, ◌-◌}
 use Rattle.std.specs.Io.KnownBytes.{Keeps, prepend_known}
 use Rattle.pawn_host.specs.Ends.{reads, read_failed, left_of}
 use Rattle.pawn_host.proofs.ReadLemmas.{FetchedSoFar}
+use Rattle.pawn_host.specs.Unanswered.{unanswered}
 use Rattle.pawn_host.proofs.session.await_head.Given as goal
 
 abbrev pub invariant-loop-head : goal.invariant-loop-head
 invariant-loop-head g l = record {
-  kept : Keeps (prepend_known l.initial.buffer.items (left_of g.R.Read.remaining l.initial.reader)) (prepend_known l.buffer.items (left_of g.R.Read.remaining l.reader));
+  kept : Keeps (prepend_known (unanswered l.initial.buffer) (left_of g.R.Read.remaining l.initial.reader)) (prepend_known (unanswered l.buffer) (left_of g.R.Read.remaining l.reader));
   fine : read_failed l.reader ≡ read_failed l.initial.reader;
-  fetched : FetchedSoFar l.initial.buffer.items l.buffer.items (left_of g.R.Read.remaining l.initial.reader) (left_of g.R.Read.remaining l.reader) (reads l.initial.reader) (reads l.reader);
+  fetched : FetchedSoFar (unanswered l.initial.buffer) (unanswered l.buffer) (left_of g.R.Read.remaining l.initial.reader) (left_of g.R.Read.remaining l.reader) (reads l.initial.reader) (reads l.reader);
 }
 
 abbrev pub decreases-loop-head : goal.decreases-loop-head

@@ -6,6 +6,7 @@ use Rattle.pawn_host.proofs.SessionLemmas.{over, over_leaves, ended_limit, ended
 use Rattle.pawn_host.proofs.ReadLemmas.{read_none, read_then, read_more, read_all}
 use Rattle.pawn_host.specs.Keeps.{service_keep, start_of, start_after, host_by}
 use Rattle.pawn_host.proofs.CrashLemmas.{goes_none}
+use Rattle.pawn_host.specs.Unanswered.{unanswered}
 use Rattle.pawn_host.proofs.service.Service.answer_all.Goals as goal
 
 pub loop-acted-init : goal.loop-acted-init
@@ -52,8 +53,8 @@ returns-then-count-text g c = record {
       let so = c.loop-acted.invariant.so_far (c.answer_one-answer.ensures.stays.on.past honest) h sound at in
       let start = start_of g.K.Keep.keeping c.args.self.now h in
       let mid = host_by start so.items in
-      let acted = acted_at _ (start_after start so.items) c.in-Some.stamp _ (take (c.in-Ok.head.len + c.in-Ok.head.body) c.next_request.new.buffer.items) _ c.answer_slice-text.result.now _ (c.answer_one-answer.ensures.acted honest mid so.served.goes.sound so.served.goes.stands_for) c.loop-acted.invariant.stays.on.stays c.loop-acted.invariant.stays.operator so.served.goes.crash (ap (take c.request_len-needed.result) c.deref.ensures.value ∙ ap (λ (k : ℕ). take k c.next_request.new.buffer.items) c.request_len-needed.ensures.answer) c.answer_slice-text.ensures.bytes in
-      broken_write {given = given_by g.K.Keep.keeping c.args.self.now h c.args.stamps.now (left_of g.R.Read.remaining c.args.reader.now) (written_bytes g.W.Write.contents c.args.writer.now)} _ _ _ _ c.in-Some.stamp c.in-Ok.head c.send-count.result c.answer_slice-text.result.now c.next_request.new.buffer.items so c.loop-acted-test.true c.in-Some.ensures.steps acted c.in-Ok.ensures.found c.in-Ok.ensures.kept (omega (arith, c.in-Ok.ensures.buffered, c.next_request.new.buffer.ok.0)) c.if-count-text.true c.send-count.ensures.bytes;
+      let acted = acted_at _ (start_after start so.items) c.in-Some.stamp _ (take (c.in-Ok.head.len + c.in-Ok.head.body) (unanswered c.next_request.new.buffer)) _ c.answer_slice-text.result.now _ (c.answer_one-answer.ensures.acted honest mid so.served.goes.sound so.served.goes.stands_for) c.loop-acted.invariant.stays.on.stays c.loop-acted.invariant.stays.operator so.served.goes.crash (ap (take c.request_len-needed.result) c.deref.ensures.value ∙ ap (λ (k : ℕ). take k (unanswered c.next_request.new.buffer)) c.request_len-needed.ensures.answer) c.answer_slice-text.ensures.bytes in
+      broken_write {given = given_by g.K.Keep.keeping c.args.self.now h c.args.stamps.now (left_of g.R.Read.remaining c.args.reader.now) (written_bytes g.W.Write.contents c.args.writer.now)} _ _ _ _ c.in-Some.stamp c.in-Ok.head c.send-count.result c.answer_slice-text.result.now (unanswered c.next_request.new.buffer) so c.loop-acted-test.true c.in-Some.ensures.steps acted c.in-Ok.ensures.found c.in-Ok.ensures.kept c.in-Ok.ensures.buffered c.if-count-text.true c.send-count.ensures.bytes;
   stamps = are_taken _ _ (taken_more _ c.in-Some.stamp c.loop-acted.invariant.taken c.in-Some.ensures.steps) refl refl;
   reads = read_then (Ok c.in-Ok.head) _ _ _ _ _ c.loop-acted.acted _ _ c.loop-acted.invariant.fetched c.loop-acted-test.true c.in-Ok.ensures.fetched;
   room = omega (arith, c.loop-acted-test.true);
@@ -68,8 +69,8 @@ returns-then-head g c = record {
       let so = c.loop-acted.invariant.so_far (c.answer_one-answer.ensures.stays.on.past honest) h sound at in
       let start = start_of g.K.Keep.keeping c.args.self.now h in
       let mid = host_by start so.items in
-      let acted = acted_at _ (start_after start so.items) c.in-Some.stamp _ (take (c.in-Ok.head.len + c.in-Ok.head.body) c.next_request.new.buffer.items) _ c.answer_slice-text.result.now _ (c.answer_one-answer.ensures.acted honest mid so.served.goes.sound so.served.goes.stands_for) c.loop-acted.invariant.stays.on.stays c.loop-acted.invariant.stays.operator so.served.goes.crash (ap (take c.request_len-needed.result) c.deref.ensures.value ∙ ap (λ (k : ℕ). take k c.next_request.new.buffer.items) c.request_len-needed.ensures.answer) c.answer_slice-text.ensures.bytes in
-      ended_closed {given = given_by g.K.Keep.keeping c.args.self.now h c.args.stamps.now (left_of g.R.Read.remaining c.args.reader.now) (written_bytes g.W.Write.contents c.args.writer.now)} _ _ _ _ c.in-Some.stamp c.in-Ok.head c.send-count.result c.answer_slice-text.result.now c.next_request.new.buffer.items so c.loop-acted-test.true c.in-Some.ensures.steps acted c.in-Ok.ensures.found c.in-Ok.ensures.kept (omega (arith, c.in-Ok.ensures.buffered, c.next_request.new.buffer.ok.0)) (omega (arith, c.send-count.ensures.bound, c.if-count-text.false)) c.send-count.ensures.bytes c.if-head.true;
+      let acted = acted_at _ (start_after start so.items) c.in-Some.stamp _ (take (c.in-Ok.head.len + c.in-Ok.head.body) (unanswered c.next_request.new.buffer)) _ c.answer_slice-text.result.now _ (c.answer_one-answer.ensures.acted honest mid so.served.goes.sound so.served.goes.stands_for) c.loop-acted.invariant.stays.on.stays c.loop-acted.invariant.stays.operator so.served.goes.crash (ap (take c.request_len-needed.result) c.deref.ensures.value ∙ ap (λ (k : ℕ). take k (unanswered c.next_request.new.buffer)) c.request_len-needed.ensures.answer) c.answer_slice-text.ensures.bytes in
+      ended_closed {given = given_by g.K.Keep.keeping c.args.self.now h c.args.stamps.now (left_of g.R.Read.remaining c.args.reader.now) (written_bytes g.W.Write.contents c.args.writer.now)} _ _ _ _ c.in-Some.stamp c.in-Ok.head c.send-count.result c.answer_slice-text.result.now (unanswered c.next_request.new.buffer) so c.loop-acted-test.true c.in-Some.ensures.steps acted c.in-Ok.ensures.found c.in-Ok.ensures.kept c.in-Ok.ensures.buffered (omega (arith, c.send-count.ensures.bound, c.if-count-text.false)) c.send-count.ensures.bytes c.if-head.true;
   stamps = are_taken _ _ (taken_more _ c.in-Some.stamp c.loop-acted.invariant.taken c.in-Some.ensures.steps) refl refl;
   reads = read_then (Ok c.in-Ok.head) _ _ _ _ _ c.loop-acted.acted _ _ c.loop-acted.invariant.fetched c.loop-acted-test.true c.in-Ok.ensures.fetched;
   room = omega (arith, c.loop-acted-test.true);
@@ -82,8 +83,8 @@ loop-acted-preserved g c = record {
   fine = c.send-count.ensures.done (omega (arith, c.send-count.ensures.bound, c.if-count-text.false));
   readable = c.in-Ok.ensures.stops ∙ c.loop-acted.invariant.readable;
   taken = taken_more _ c.in-Some.stamp c.loop-acted.invariant.taken c.in-Some.ensures.steps;
-  fetched = read_more c.in-Ok.head _ _ _ _ _ c.loop-acted.acted _ c.next_request.new.buffer.items _ c.loop-acted.invariant.fetched c.loop-acted-test.true c.in-Ok.ensures.fetched c.in-Ok.ensures.head (omega (arith, c.in-Ok.ensures.buffered, c.next_request.new.buffer.ok.0)) c.if-head.false
-      (left_behind c.drop_front.new.buffer.items c.next_request.new.buffer.items c.request_len-needed.result (c.in-Ok.head.len + c.in-Ok.head.body) c.drop_front.ensures.rest c.request_len-needed.ensures.answer);
+  fetched = read_more c.in-Ok.head _ _ _ _ _ c.loop-acted.acted _ (unanswered c.next_request.new.buffer) _ c.loop-acted.invariant.fetched c.loop-acted-test.true c.in-Ok.ensures.fetched c.in-Ok.ensures.head c.in-Ok.ensures.buffered c.if-head.false
+      (left_behind (unanswered c.answer.new.buffer) (unanswered c.next_request.new.buffer) c.request_len-needed.result (c.in-Ok.head.len + c.in-Ok.head.body) c.answer.ensures.rest c.request_len-needed.ensures.answer);
   can = c.in-Some.ensures.goes.keeps;
   room = omega (arith, c.loop-acted.invariant.room);
   stays = open_then c.loop-acted.invariant.stays c.answer_one-answer.ensures.stays;
@@ -91,8 +92,8 @@ loop-acted-preserved g c = record {
       let so = c.loop-acted.invariant.so_far (c.answer_one-answer.ensures.stays.on.past honest) h sound at in
       let start = start_of g.K.Keep.keeping c.args.self.now h in
       let mid = host_by start so.items in
-      let acted = acted_at _ (start_after start so.items) c.in-Some.stamp _ (take (c.in-Ok.head.len + c.in-Ok.head.body) c.next_request.new.buffer.items) _ c.answer_slice-text.result.now _ (c.answer_one-answer.ensures.acted honest mid so.served.goes.sound so.served.goes.stands_for) c.loop-acted.invariant.stays.on.stays c.loop-acted.invariant.stays.operator so.served.goes.crash (ap (take c.request_len-needed.result) c.deref.ensures.value ∙ ap (λ (k : ℕ). take k c.next_request.new.buffer.items) c.request_len-needed.ensures.answer) c.answer_slice-text.ensures.bytes in
-      goes_on {given = given_by g.K.Keep.keeping c.args.self.now h c.args.stamps.now (left_of g.R.Read.remaining c.args.reader.now) (written_bytes g.W.Write.contents c.args.writer.now)} _ _ _ _ c.in-Some.stamp c.in-Ok.head c.send-count.result c.answer_slice-text.result.now c.next_request.new.buffer.items _ so c.loop-acted-test.true c.in-Some.ensures.steps acted c.in-Ok.ensures.found c.in-Ok.ensures.kept (omega (arith, c.in-Ok.ensures.buffered, c.next_request.new.buffer.ok.0)) (omega (arith, c.send-count.ensures.bound, c.if-count-text.false)) c.send-count.ensures.bytes c.if-head.false (left_behind c.drop_front.new.buffer.items c.next_request.new.buffer.items c.request_len-needed.result (c.in-Ok.head.len + c.in-Ok.head.body) c.drop_front.ensures.rest c.request_len-needed.ensures.answer);
+      let acted = acted_at _ (start_after start so.items) c.in-Some.stamp _ (take (c.in-Ok.head.len + c.in-Ok.head.body) (unanswered c.next_request.new.buffer)) _ c.answer_slice-text.result.now _ (c.answer_one-answer.ensures.acted honest mid so.served.goes.sound so.served.goes.stands_for) c.loop-acted.invariant.stays.on.stays c.loop-acted.invariant.stays.operator so.served.goes.crash (ap (take c.request_len-needed.result) c.deref.ensures.value ∙ ap (λ (k : ℕ). take k (unanswered c.next_request.new.buffer)) c.request_len-needed.ensures.answer) c.answer_slice-text.ensures.bytes in
+      goes_on {given = given_by g.K.Keep.keeping c.args.self.now h c.args.stamps.now (left_of g.R.Read.remaining c.args.reader.now) (written_bytes g.W.Write.contents c.args.writer.now)} _ _ _ _ c.in-Some.stamp c.in-Ok.head c.send-count.result c.answer_slice-text.result.now (unanswered c.next_request.new.buffer) _ so c.loop-acted-test.true c.in-Some.ensures.steps acted c.in-Ok.ensures.found c.in-Ok.ensures.kept c.in-Ok.ensures.buffered (omega (arith, c.send-count.ensures.bound, c.if-count-text.false)) c.send-count.ensures.bytes c.if-head.false (left_behind (unanswered c.answer.new.buffer) (unanswered c.next_request.new.buffer) c.request_len-needed.result (c.in-Ok.head.len + c.in-Ok.head.body) c.answer.ensures.rest c.request_len-needed.ensures.answer);
 }
 
 pub returns : goal.returns
