@@ -9,7 +9,7 @@ ghost use Rattle.pawn_move.specs.Moving.{NotesProgram};
 
 use pawn_book::KeepError;
 use pawn_opening::SCHEMA;
-use pawn_tables::write;
+use pawn_tables::{refused, write};
 use sqlite::{Alter, Transaction, params};
 
 /// Makes the table of totals, beside those of the first schema.
