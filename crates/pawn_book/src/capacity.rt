@@ -5,7 +5,7 @@ use crate::limits::MOST_BOOKINGS;
 use std::marker::Model;
 
 /// How many bookings of one window a book confirms: 1 to 1,000. A contract sees the number.
-#[derive(Clone, Copy, Debug, PartialEq, Eq)]
+#[derive(Clone, Copy, PartialEq, Eq)]
 pub struct Capacity {
     bookings: u32,
 }

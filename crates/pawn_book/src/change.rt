@@ -5,7 +5,7 @@ use crate::rows::BookRows;
 use pawn_pledge::{Number, Pledge, Secret, Terms};
 
 /// The key of the import that filled a book, and how many pledges came with it.
-#[derive(Clone, Copy, Debug, PartialEq, Eq)]
+#[derive(Clone, Copy, PartialEq, Eq)]
 pub struct Imported {
     pub key: Secret,
     pub pledges: u64,

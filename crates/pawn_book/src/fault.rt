@@ -1,5 +1,5 @@
 /// Why a store failed.
-#[derive(Clone, Copy, Debug, PartialEq, Eq)]
+#[derive(Clone, Copy, Debug)]
 pub enum StoreFault {
     /// A stored row is no record.
     NoRecord,
@@ -8,14 +8,14 @@ pub enum StoreFault {
 }
 
 /// Why a keeper did not answer.
-#[derive(Clone, Copy, Debug, PartialEq, Eq)]
+#[derive(Clone, Copy, Debug)]
 pub enum KeepError {
     Memory,
     Store(StoreFault),
 }
 
 /// Why a keeper did not save a change.
-#[derive(Clone, Copy, Debug, PartialEq, Eq)]
+#[derive(Clone, Copy)]
 pub enum SaveError {
     /// The rows would be above the limit.
     Full,

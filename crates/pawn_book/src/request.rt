@@ -120,7 +120,7 @@ impl BrokerRequest {
 }
 
 /// Terms to be put under a version. They are checked by the book.
-#[derive(Clone, Copy, Debug, PartialEq, Eq)]
+#[derive(Clone, Copy)]
 pub struct NewTerms {
     pub version: u64,
     pub rates: Rates,

@@ -9,7 +9,7 @@ use crate::visit::{Flow, Visitor};
 use pawn_pledge::{Booking, BookingState, Closing, Day, LAST_WINDOW, Number, Pledge};
 
 /// A line of a day's sheet, below its heading.
-#[derive(Clone, Copy, Debug, PartialEq, Eq)]
+#[derive(Clone, Copy, PartialEq, Eq)]
 pub enum SheetItem {
     /// A window with confirmed bookings, and their number. Each of them follows.
     Window { window: u64, count: u64 },

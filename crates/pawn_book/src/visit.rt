@@ -1,5 +1,5 @@
 /// Whether a visitor wants more.
-#[derive(Clone, Copy, Debug, PartialEq, Eq)]
+#[derive(Clone, Copy)]
 pub enum Flow {
     Go,
     Stop,

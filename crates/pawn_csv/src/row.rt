@@ -3,14 +3,14 @@
 use pawn_book::{Booking, Day, Entry, Extension, Issued, Opening, Rates};
 
 /// The version of a text's form: the first knows no extensions.
-#[derive(Clone, Copy, Debug, PartialEq, Eq)]
+#[derive(Clone, Copy)]
 pub enum Version {
     One,
     Two,
 }
 
 /// How a pledge's own row says that it was closed.
-#[derive(Clone, Copy, Debug, PartialEq, Eq)]
+#[derive(Clone, Copy)]
 pub enum ClosingWord {
     Open,
     Redeemed,
@@ -18,7 +18,7 @@ pub enum ClosingWord {
 }
 
 /// The columns of a pledge's own row, whether or not they go together.
-#[derive(Debug, Drop)]
+#[derive(Drop)]
 pub struct PledgeColumns {
     /// The pledge's number in its book.
     pub number: u64,
@@ -37,7 +37,7 @@ pub struct PledgeColumns {
 }
 
 /// A row of a book's text, its columns read one by one.
-#[derive(Debug, Drop)]
+#[derive(Drop)]
 pub enum Row {
     /// The first row: how many versions of terms and how many pledges follow.
     Book {

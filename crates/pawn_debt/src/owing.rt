@@ -10,7 +10,7 @@ use crate::limits::PENNY;
 use pawn_terms::{Day, Terms};
 
 /// What is owed, in whole pence.
-#[derive(Clone, Copy, Debug, PartialEq, Eq)]
+#[derive(Clone, Copy)]
 pub struct Owing {
     pub principal: u64,
     pub charges: u64,

@@ -5,6 +5,7 @@ use std::alloc::{AllocError, Global};
 
 /// The bytes that were read of a stream, and how many of them are answered. Those go out of it where a piece comes in, and
 /// not at each answer, so a request is not moved once for each that came with it.
+#[derive(Drop)]
 pub(crate) struct Buffer {
     bytes: Vec<u8>,
     start: usize,

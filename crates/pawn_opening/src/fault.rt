@@ -8,7 +8,7 @@ use sqlite::{Error, ErrorCode};
 use std::fmt;
 
 /// Why a store is not opened.
-#[derive(Clone, Copy, Debug, PartialEq, Eq)]
+#[derive(Clone, Copy)]
 pub enum OpenFault {
     /// Another program's store, or one of a newer schema.
     NotOurs,

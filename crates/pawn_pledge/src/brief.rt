@@ -25,7 +25,7 @@ pub struct Counts {
 
 /// The fields of a brief, be they within the limits or not: a pledge's record with the numbers of
 /// its entries, secrets and extensions in the place of these lists.
-#[derive(Debug, Drop)]
+#[derive(Drop)]
 pub struct BriefFields {
     pub agreement: Agreement,
     pub counts: Counts,

@@ -8,7 +8,7 @@ use pawn_terms::RequestDay;
 use std::marker::Model;
 
 /// The day and the 128-bit word that come with a request.
-#[derive(Clone, Copy, Debug, PartialEq, Eq)]
+#[derive(Clone, Copy, PartialEq, Eq)]
 pub struct Stamp {
     pub day: RequestDay,
     pub word: u128,
@@ -96,7 +96,7 @@ impl Command {
 }
 
 /// A command that a broker may send. A clause sees the command.
-#[derive(Clone, Copy, Debug, PartialEq, Eq)]
+#[derive(Clone, Copy)]
 pub struct BrokerCommand {
     command: Command,
 }
@@ -146,7 +146,7 @@ impl BrokerCommand {
 }
 
 /// A command that the bearer of a live receipt may send. A clause sees the command.
-#[derive(Clone, Copy, Debug, PartialEq, Eq)]
+#[derive(Clone, Copy)]
 pub struct BearerCommand {
     command: Command,
 }
@@ -220,7 +220,7 @@ pub enum Done {
 }
 
 /// What an accepted command answers, and whether it changed the pledge.
-#[derive(Clone, Copy, Debug, PartialEq, Eq)]
+#[derive(Clone, Copy)]
 pub struct Applied {
     pub done: Done,
     pub changed: bool,

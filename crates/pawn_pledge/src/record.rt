@@ -205,7 +205,7 @@ pub struct Standing {
 }
 
 /// What a pledge is on a day.
-#[derive(Clone, Copy, Debug, PartialEq, Eq)]
+#[derive(Clone, Copy)]
 pub enum Status {
     /// In its period.
     Inside,

@@ -1,5 +1,5 @@
 /// Why the words of the command line say nothing that can be done.
-#[derive(Clone, Copy, Debug, PartialEq, Eq)]
+#[derive(Clone, Copy)]
 pub enum SettingsFault {
     /// The day is none from 2000-01-01 to 2199-12-31.
     BadDay,

@@ -17,7 +17,7 @@ use std::time::{Clock, Duration};
 const PATIENCE_SECONDS: u64 = 5;
 
 /// How many connections were answered, and how many could not be accepted.
-#[derive(Clone, Copy, Debug, PartialEq, Eq)]
+#[derive(Clone, Copy)]
 pub struct Served {
     pub answered: u32,
     pub failed: u32,

@@ -5,7 +5,7 @@ use pawn_book::{KeepError, Pledge};
 use pawn_tables::REFUSED;
 
 /// How long the lists of a pledge are.
-#[derive(Clone, Copy, Debug, PartialEq, Eq)]
+#[derive(Clone, Copy)]
 pub(crate) struct Lengths {
     pub(crate) entries: u32,
     pub(crate) secrets: u32,

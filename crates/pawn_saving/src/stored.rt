@@ -13,7 +13,7 @@ use pawn_tables::{booking_in, entry_in, extension_in, secret_in};
 use sqlite::{Alter, Transaction};
 
 /// A list of a pledge, which grows at its end alone.
-#[derive(Clone, Copy, Debug, PartialEq, Eq)]
+#[derive(Clone, Copy)]
 pub(crate) enum PledgeList {
     Entries,
     Secrets,
@@ -21,7 +21,7 @@ pub(crate) enum PledgeList {
 }
 
 /// How much of a pledge stands: how long its lists are, and whether it has a booking. A pledge that stands has a secret.
-#[derive(Clone, Copy, Debug, PartialEq, Eq)]
+#[derive(Clone, Copy)]
 pub(crate) struct Stored {
     pub(crate) lengths: Lengths,
     pub(crate) is_booked: bool,

@@ -55,7 +55,7 @@ pub fn answer_over_tables<S: Alter, R: Read, W: Write, I: Iterator<Item = Stamp>
 }
 
 /// How connections were served over tables: how many, and whether a fault has shut the store since.
-#[derive(Clone, Copy, Debug, PartialEq, Eq)]
+#[derive(Clone, Copy)]
 pub struct ServedTables {
     pub served: Served,
     pub is_shut: bool,

@@ -4,7 +4,7 @@ ghost use Rattle.pawn_tables.specs.Lines.{item_of};
 use pawn_book::{Number, Part, SheetItem};
 
 /// A line of a part of a day's sheet: the number of the pledge that it tells of, and the window of its booking, or 0.
-#[derive(Clone, Copy, Debug, PartialEq, Eq)]
+#[derive(Clone, Copy)]
 pub struct Line {
     pub number: Number,
     pub window: u64,

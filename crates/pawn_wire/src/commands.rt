@@ -12,7 +12,7 @@ use pawn_book::{Command, Decision, Paper, RequestDay};
 use std::alloc::Global;
 
 /// An entry to be made: its number, and its pence.
-#[derive(Clone, Copy, Debug, PartialEq, Eq)]
+#[derive(Clone, Copy)]
 pub(crate) struct NewEntry {
     pub seq: u64,
     pub pence: u64,

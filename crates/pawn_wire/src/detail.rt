@@ -1,7 +1,7 @@
 //! What a refusal or a fault tells beside its number and its name.
 
 /// What a refusal or a fault tells beside its number and its name.
-#[derive(Clone, Copy, Debug, PartialEq, Eq)]
+#[derive(Clone, Copy)]
 pub enum Detail {
     /// The total owing, in pence.
     Total(u64),

@@ -10,7 +10,7 @@ use std::error::Error;
 use std::fmt;
 
 /// Why a head can't begin a request, in the order in which the faults are looked for.
-#[derive(Clone, Copy, Debug, PartialEq, Eq)]
+#[derive(Clone, Copy)]
 pub enum HeadFault {
     /// There is no head: not by the grammar, or not within the limits.
     BadHead,

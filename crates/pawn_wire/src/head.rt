@@ -12,7 +12,7 @@ use httparse::Status;
 use httparse::spans::{EMPTY_HEADER_SPAN, RequestSpans, parse_request};
 
 /// What a whole head says of itself and of its request.
-#[derive(Clone, Copy, Debug, PartialEq, Eq)]
+#[derive(Clone, Copy)]
 pub struct HeadFacts {
     /// The bytes of the head: where the body begins.
     pub len: usize,
@@ -23,7 +23,7 @@ pub struct HeadFacts {
 }
 
 /// What the bytes that came so far begin with.
-#[derive(Clone, Copy, Debug, PartialEq, Eq)]
+#[derive(Clone, Copy)]
 pub enum HeadRead {
     /// A whole head.
     Whole(HeadFacts),

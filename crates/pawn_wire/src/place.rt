@@ -10,7 +10,7 @@ use pawn_book::{Number, RequestDay};
 use std::str::from_utf8;
 
 /// What a target names beside its book.
-#[derive(Clone, Copy, Debug, PartialEq, Eq)]
+#[derive(Clone, Copy)]
 pub(crate) enum Item {
     Nothing,
     Pledge(Number),
@@ -40,7 +40,7 @@ impl Item {
 }
 
 /// What a target asks for.
-#[derive(Clone, Copy, Debug, PartialEq, Eq)]
+#[derive(Clone, Copy)]
 pub(crate) struct Place {
     pub endpoint: Endpoint,
     pub book: Number,

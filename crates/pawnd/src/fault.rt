@@ -5,7 +5,7 @@ use pawn_store::OpenFault;
 use std::fmt;
 
 /// Why the program does not do what it was asked.
-#[derive(Clone, Copy, Debug, PartialEq, Eq)]
+#[derive(Clone, Copy)]
 pub enum Fault {
     /// The words of the command line say nothing that can be done.
     Settings(SettingsFault),

@@ -8,7 +8,7 @@ use std::fmt;
 use std::process::ExitCode;
 
 /// Why the program ends without having done what it was asked.
-#[derive(Clone, Copy, Debug, PartialEq, Eq)]
+#[derive(Clone, Copy)]
 pub enum Stop {
     /// The words of the command line are those of no command.
     Usage,

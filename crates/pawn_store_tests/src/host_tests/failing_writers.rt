@@ -21,7 +21,7 @@ const REPAY: &str = "POST /books/7/pledges/1/repay HTTP/1.1";
 const BROKER: &str = "Pledge-Key: 22222222-2222-2222-2222-222222222222";
 
 // How a call fails: with an error, or by taking none of some bytes.
-#[derive(Clone, Copy, Debug, PartialEq, Eq)]
+#[derive(Clone, Copy)]
 enum Failure {
     Error,
     Nothing,
