@@ -88,7 +88,7 @@ closing_line (Sold day net) total = sold_line day net (net - total) (total - net
 
 abbrev pub entry_line : Entry → List ℕ
 entry_line e = codes "Entry " ++ (decimal e.seq ++ (codes " " ++ (date_text e.day ++ (codes " " ++ (sort_text e.sort
-    ++ (codes " " ++ (money e.pence ++ codes "\n"))))))))
+    ++ (codes " " ++ (money e.pence ++ codes "\n")))))))
 
 -- the day of which a statement speaks: the closing day of a closed pledge, else the day given, or the last change where that is later
 abbrev pub shown_day : Closing → ℕ → ℕ → ℕ

@@ -83,12 +83,7 @@ fn tell_booking(alloc: Global, booking: Booking) -> Result<String, AllocError>
         ≡ booked_text (state_text booking.state) (day_text booking.day) booking.window) }
 {
     let day = day_text(alloc, booking.day)?;
-    booked_text(
-        alloc,
-        booking.state.word(),
-        day.as_str(),
-        booking.window,
-    )
+    booked_text(alloc, booking.state.word(), day.as_str(), booking.window)
 }
 
 fn redeemed_text(alloc: Global, paid: u64, day: &str) -> Result<String, AllocError>
