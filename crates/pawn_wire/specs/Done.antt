@@ -1,13 +1,11 @@
 -- The JSON bodies of replies to commands.
 use Rattle.std.specs.Prelude.{ℕ, List, ◌++◌, codes, decimal, Bool, if◌then◌else◌}
 use Rattle.pawn_terms.specs.Calendar.{day_text}
-use Rattle.pawn_debt.specs.declared.entry.Sort.{Sort}
-use Rattle.pawn_debt.specs.declared.entry.Sort.TheVariants.{Draw, Repay}
+use Rattle.pawn_debt.specs.Words.{sort_text}
 use Rattle.pawn_pledge.specs.Receipt.{receipt_text}
+use Rattle.pawn_pledge.specs.Words.{state_text}
 use Rattle.pawn_pledge.specs.declared.command.Done.{Done}
 use Rattle.pawn_pledge.specs.declared.command.Done.TheVariants.{Entered, Held, Declared, Booked, Redeemed, Sold, Extended}
-use Rattle.pawn_pledge.specs.declared.record.BookingState.{BookingState}
-use Rattle.pawn_pledge.specs.declared.record.BookingState.TheVariants.{Asked, Confirmed, Refused, Cancelled}
 
 -- an entry was made
 abbrev pub entered_text : List ℕ → ℕ → ℕ → List ℕ → List ℕ
