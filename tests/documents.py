@@ -1,6 +1,6 @@
 #!/usr/bin/env python3
 """The documents: each path that one names is there, each link leads to a file and to a heading of it, each definition that the glossary names stands in the file that it names, each clause of docs/PROVED.md
-in the contract of its call, each definition that is quoted in the file that it is quoted from, and the README is short.
+in the contract of its call, each definition of specs has a name of its own, each definition that is quoted stands in the file that it is quoted from, and the README is short.
 """
 import glob
 import os
@@ -135,6 +135,17 @@ def each_clause_stands_in_its_contract():
     print(f"        {sum(len(calls) for _, calls, _ in rows)} calls", flush=True)
 
 
+def each_definition_has_one_name():
+    places = {}
+    for path in sorted(glob.glob(os.path.join(TOP, "crates/*/specs/**/*.antt"), recursive=True)):
+        for name in re.findall(r"(?m)^(?:abbrev )?pub (?!use )(?:abbrev |record |data )?([^\s(:{]+)", read(os.path.relpath(path, TOP))):
+            places.setdefault(name, []).append(os.path.relpath(path, TOP))
+    twice = {name: stand for name, stand in places.items() if len(stand) > 1 and name != "mod"}
+    expect("definitions of specs that share a name", twice, {})
+    expect("how many there are", len(places) > 500, True)
+    print(f"        {len(places)} definitions", flush=True)
+
+
 def each_quotation_is_true():
     quoted = [(document, path, block) for document in DOCUMENTS for path, block in re.findall(r"(?ms)^```\w+ from (\S+)\n(.*?)^```$", read(document))]
     for document, path, block in quoted:
@@ -146,5 +157,5 @@ def the_readme_is_short():
     expect(f"README.md has at most {README_WORDS} words", len(read("README.md").split()) <= README_WORDS, True)
 
 
-main(each_path_is_there, each_link_leads_somewhere, each_word_is_defined_where_the_glossary_says, each_installed_path_is_in_the_release, each_clause_stands_in_its_contract, each_quotation_is_true,
-     the_readme_is_short)
+main(each_path_is_there, each_link_leads_somewhere, each_word_is_defined_where_the_glossary_says, each_installed_path_is_in_the_release, each_clause_stands_in_its_contract, each_definition_has_one_name,
+     each_quotation_is_true, the_readme_is_short)
