@@ -25,13 +25,13 @@ returns-in-Fault-clause-rest g c = found_faulty (prepend_known (unanswered c.arg
 pub returns-then-is_empty-clause-rest : goal.returns-then-is_empty-clause-rest
 returns-then-is_empty-clause-rest g c =
     let f = c.in-Done.ensures.filled in
-    let none_left : (unanswered c.loop-head.buffer) ≡ [] = empty_by_test _ _ _ f.0 (ap length c.as_slice-2.ensures.value) (sym c.is_empty.ensures ∙ c.if-is_empty.true) in
+    let none_left : (unanswered c.loop-head.buffer) ≡ [] = empty_by_test _ _ _ f.0 (ap length c.as_slice-in-Done.ensures.value) (sym c.is_empty.ensures ∙ c.if-is_empty.true) in
     found_end (prepend_known (unanswered c.args.buffer.now) (left_of g.R.Read.remaining c.args.reader.now)) (left_of g.R.Read.remaining c.loop-head.reader) (left_of g.R.Read.remaining c.fill.new.reader) (unanswered c.loop-head.buffer) c.loop-head.invariant.kept f.1 f.2 none_left
 
 pub returns-else-is_empty-clause-rest : goal.returns-else-is_empty-clause-rest
 returns-else-is_empty-clause-rest g c =
     let f = c.in-Done.ensures.filled in
-    found_cut (prepend_known (unanswered c.args.buffer.now) (left_of g.R.Read.remaining c.args.reader.now)) (left_of g.R.Read.remaining c.loop-head.reader) (left_of g.R.Read.remaining c.fill.new.reader) (unanswered c.loop-head.buffer) c.loop-head.invariant.kept f.1 f.2 (answers_at _ _ Partial c.as_slice.ensures.value c.in-Partial.ensures.head) (full_by_test _ _ _ f.0 (ap length c.as_slice-2.ensures.value) (sym c.is_empty.ensures ∙ c.if-is_empty.false))
+    found_cut (prepend_known (unanswered c.args.buffer.now) (left_of g.R.Read.remaining c.args.reader.now)) (left_of g.R.Read.remaining c.loop-head.reader) (left_of g.R.Read.remaining c.fill.new.reader) (unanswered c.loop-head.buffer) c.loop-head.invariant.kept f.1 f.2 (answers_at _ _ Partial c.as_slice.ensures.value c.in-Partial.ensures.head) (full_by_test _ _ _ f.0 (ap length c.as_slice-in-Done.ensures.value) (sym c.is_empty.ensures ∙ c.if-is_empty.false))
 
 pub returns-then-is_empty-clause-fetched : goal.returns-then-is_empty-clause-fetched
 returns-then-is_empty-clause-fetched g c =

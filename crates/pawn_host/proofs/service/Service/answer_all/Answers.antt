@@ -15,10 +15,10 @@ loop-acted-init g c = record {
   readable = c.args.reader.now.fresh c.requires.fresh;
   can = c.requires.can;
   taken = taken_none _ _;
-  fetched = read_none _ _ _ c.requires.fresh c.new-buffer.ensures.items;
+  fetched = read_none _ _ _ c.requires.fresh c.new-buffer.ensures.nothing;
   room = omega arith;
   stays = record { on = record { past = λ honest. honest; served = λ honest serves. serves; stays = λ steady. steady; whole = λ honest whole. whole }; operator = refl };
-  so_far = λ honest h sound at. starts _ (goes_none g.K.Keep.keeping (service_keep c.args.self.now) h at sound) c.new-buffer.ensures.items;
+  so_far = λ honest h sound at. starts _ (goes_none g.K.Keep.keeping (service_keep c.args.self.now) h at sound) c.new-buffer.ensures.nothing;
 }
 
 pub returns-in-Err : goal.returns-in-Err
@@ -53,7 +53,7 @@ returns-then-count-text g c = record {
       let so = c.loop-acted.invariant.so_far (c.answer_one-answer.ensures.stays.on.past honest) h sound at in
       let start = start_of g.K.Keep.keeping c.args.self.now h in
       let mid = host_by start so.items in
-      let acted = acted_at _ (start_after start so.items) c.in-Some.stamp _ (take (c.in-Ok.head.len + c.in-Ok.head.body) (unanswered c.next_request.new.buffer)) _ c.answer_slice-text.result.now _ (c.answer_one-answer.ensures.acted honest mid so.served.goes.sound so.served.goes.stands_for) c.loop-acted.invariant.stays.on.stays c.loop-acted.invariant.stays.operator so.served.goes.crash (ap (take c.request_len-needed.result) c.deref.ensures.value ∙ ap (λ (k : ℕ). take k (unanswered c.next_request.new.buffer)) c.request_len-needed.ensures.answer) c.answer_slice-text.ensures.bytes in
+      let acted = acted_at _ (start_after start so.items) c.in-Some.stamp _ (take (c.in-Ok.head.len + c.in-Ok.head.body) (unanswered c.next_request.new.buffer)) _ c.answer_slice-text.result.now _ (c.answer_one-answer.ensures.acted honest mid so.served.goes.sound so.served.goes.stands_for) c.loop-acted.invariant.stays.on.stays c.loop-acted.invariant.stays.operator so.served.goes.crash (ap (take c.request_len-needed.result) c.as_slice.ensures.value ∙ ap (λ (k : ℕ). take k (unanswered c.next_request.new.buffer)) c.request_len-needed.ensures.answer) c.answer_slice-text.ensures.bytes in
       broken_write {given = given_by g.K.Keep.keeping c.args.self.now h c.args.stamps.now (left_of g.R.Read.remaining c.args.reader.now) (written_bytes g.W.Write.contents c.args.writer.now)} _ _ _ _ c.in-Some.stamp c.in-Ok.head c.send-count.result c.answer_slice-text.result.now (unanswered c.next_request.new.buffer) so c.loop-acted-test.true c.in-Some.ensures.steps acted c.in-Ok.ensures.found c.in-Ok.ensures.kept c.in-Ok.ensures.buffered c.if-count-text.true c.send-count.ensures.bytes;
   stamps = are_taken _ _ (taken_more _ c.in-Some.stamp c.loop-acted.invariant.taken c.in-Some.ensures.steps) refl refl;
   reads = read_then (Ok c.in-Ok.head) _ _ _ _ _ c.loop-acted.acted _ _ c.loop-acted.invariant.fetched c.loop-acted-test.true c.in-Ok.ensures.fetched;
@@ -69,7 +69,7 @@ returns-then-head g c = record {
       let so = c.loop-acted.invariant.so_far (c.answer_one-answer.ensures.stays.on.past honest) h sound at in
       let start = start_of g.K.Keep.keeping c.args.self.now h in
       let mid = host_by start so.items in
-      let acted = acted_at _ (start_after start so.items) c.in-Some.stamp _ (take (c.in-Ok.head.len + c.in-Ok.head.body) (unanswered c.next_request.new.buffer)) _ c.answer_slice-text.result.now _ (c.answer_one-answer.ensures.acted honest mid so.served.goes.sound so.served.goes.stands_for) c.loop-acted.invariant.stays.on.stays c.loop-acted.invariant.stays.operator so.served.goes.crash (ap (take c.request_len-needed.result) c.deref.ensures.value ∙ ap (λ (k : ℕ). take k (unanswered c.next_request.new.buffer)) c.request_len-needed.ensures.answer) c.answer_slice-text.ensures.bytes in
+      let acted = acted_at _ (start_after start so.items) c.in-Some.stamp _ (take (c.in-Ok.head.len + c.in-Ok.head.body) (unanswered c.next_request.new.buffer)) _ c.answer_slice-text.result.now _ (c.answer_one-answer.ensures.acted honest mid so.served.goes.sound so.served.goes.stands_for) c.loop-acted.invariant.stays.on.stays c.loop-acted.invariant.stays.operator so.served.goes.crash (ap (take c.request_len-needed.result) c.as_slice.ensures.value ∙ ap (λ (k : ℕ). take k (unanswered c.next_request.new.buffer)) c.request_len-needed.ensures.answer) c.answer_slice-text.ensures.bytes in
       ended_closed {given = given_by g.K.Keep.keeping c.args.self.now h c.args.stamps.now (left_of g.R.Read.remaining c.args.reader.now) (written_bytes g.W.Write.contents c.args.writer.now)} _ _ _ _ c.in-Some.stamp c.in-Ok.head c.send-count.result c.answer_slice-text.result.now (unanswered c.next_request.new.buffer) so c.loop-acted-test.true c.in-Some.ensures.steps acted c.in-Ok.ensures.found c.in-Ok.ensures.kept c.in-Ok.ensures.buffered (omega (arith, c.send-count.ensures.bound, c.if-count-text.false)) c.send-count.ensures.bytes c.if-head.true;
   stamps = are_taken _ _ (taken_more _ c.in-Some.stamp c.loop-acted.invariant.taken c.in-Some.ensures.steps) refl refl;
   reads = read_then (Ok c.in-Ok.head) _ _ _ _ _ c.loop-acted.acted _ _ c.loop-acted.invariant.fetched c.loop-acted-test.true c.in-Ok.ensures.fetched;
@@ -84,7 +84,7 @@ loop-acted-preserved g c = record {
   readable = c.in-Ok.ensures.stops ∙ c.loop-acted.invariant.readable;
   taken = taken_more _ c.in-Some.stamp c.loop-acted.invariant.taken c.in-Some.ensures.steps;
   fetched = read_more c.in-Ok.head _ _ _ _ _ c.loop-acted.acted _ (unanswered c.next_request.new.buffer) _ c.loop-acted.invariant.fetched c.loop-acted-test.true c.in-Ok.ensures.fetched c.in-Ok.ensures.head c.in-Ok.ensures.buffered c.if-head.false
-      (left_behind (unanswered c.answer.new.buffer) (unanswered c.next_request.new.buffer) c.request_len-needed.result (c.in-Ok.head.len + c.in-Ok.head.body) c.answer.ensures.rest c.request_len-needed.ensures.answer);
+      (left_behind (unanswered c.answer.new.self) (unanswered c.next_request.new.buffer) c.request_len-needed.result (c.in-Ok.head.len + c.in-Ok.head.body) c.answer.ensures.rest c.request_len-needed.ensures.answer);
   can = c.in-Some.ensures.goes.keeps;
   room = omega (arith, c.loop-acted.invariant.room);
   stays = open_then c.loop-acted.invariant.stays c.answer_one-answer.ensures.stays;
@@ -92,8 +92,8 @@ loop-acted-preserved g c = record {
       let so = c.loop-acted.invariant.so_far (c.answer_one-answer.ensures.stays.on.past honest) h sound at in
       let start = start_of g.K.Keep.keeping c.args.self.now h in
       let mid = host_by start so.items in
-      let acted = acted_at _ (start_after start so.items) c.in-Some.stamp _ (take (c.in-Ok.head.len + c.in-Ok.head.body) (unanswered c.next_request.new.buffer)) _ c.answer_slice-text.result.now _ (c.answer_one-answer.ensures.acted honest mid so.served.goes.sound so.served.goes.stands_for) c.loop-acted.invariant.stays.on.stays c.loop-acted.invariant.stays.operator so.served.goes.crash (ap (take c.request_len-needed.result) c.deref.ensures.value ∙ ap (λ (k : ℕ). take k (unanswered c.next_request.new.buffer)) c.request_len-needed.ensures.answer) c.answer_slice-text.ensures.bytes in
-      goes_on {given = given_by g.K.Keep.keeping c.args.self.now h c.args.stamps.now (left_of g.R.Read.remaining c.args.reader.now) (written_bytes g.W.Write.contents c.args.writer.now)} _ _ _ _ c.in-Some.stamp c.in-Ok.head c.send-count.result c.answer_slice-text.result.now (unanswered c.next_request.new.buffer) _ so c.loop-acted-test.true c.in-Some.ensures.steps acted c.in-Ok.ensures.found c.in-Ok.ensures.kept c.in-Ok.ensures.buffered (omega (arith, c.send-count.ensures.bound, c.if-count-text.false)) c.send-count.ensures.bytes c.if-head.false (left_behind (unanswered c.answer.new.buffer) (unanswered c.next_request.new.buffer) c.request_len-needed.result (c.in-Ok.head.len + c.in-Ok.head.body) c.answer.ensures.rest c.request_len-needed.ensures.answer);
+      let acted = acted_at _ (start_after start so.items) c.in-Some.stamp _ (take (c.in-Ok.head.len + c.in-Ok.head.body) (unanswered c.next_request.new.buffer)) _ c.answer_slice-text.result.now _ (c.answer_one-answer.ensures.acted honest mid so.served.goes.sound so.served.goes.stands_for) c.loop-acted.invariant.stays.on.stays c.loop-acted.invariant.stays.operator so.served.goes.crash (ap (take c.request_len-needed.result) c.as_slice.ensures.value ∙ ap (λ (k : ℕ). take k (unanswered c.next_request.new.buffer)) c.request_len-needed.ensures.answer) c.answer_slice-text.ensures.bytes in
+      goes_on {given = given_by g.K.Keep.keeping c.args.self.now h c.args.stamps.now (left_of g.R.Read.remaining c.args.reader.now) (written_bytes g.W.Write.contents c.args.writer.now)} _ _ _ _ c.in-Some.stamp c.in-Ok.head c.send-count.result c.answer_slice-text.result.now (unanswered c.next_request.new.buffer) _ so c.loop-acted-test.true c.in-Some.ensures.steps acted c.in-Ok.ensures.found c.in-Ok.ensures.kept c.in-Ok.ensures.buffered (omega (arith, c.send-count.ensures.bound, c.if-count-text.false)) c.send-count.ensures.bytes c.if-head.false (left_behind (unanswered c.answer.new.self) (unanswered c.next_request.new.buffer) c.request_len-needed.result (c.in-Ok.head.len + c.in-Ok.head.body) c.answer.ensures.rest c.request_len-needed.ensures.answer);
 }
 
 pub returns : goal.returns
