@@ -21,6 +21,7 @@ use Rattle.pawn_saving.proofs.Places.{meta_place}
 use Rattle.pawn_tables.specs.Meta.{meta_row}
 use Rattle.pawn_tables.specs.Schema.{keep_schema, meta, meta_tree}
 use Rattle.pawn_move.specs.Moving.{IsMoving, listed_with}
+use Rattle.pawn_tables.specs.declared.texts.TheConstants.{SET_SCHEMA}
 
 -- where a statement ran, what it wrote
 pub on_ran : {E : Type 0} (r : Result (Unit {0}) E) (P : ℕ → Type 0) (Q : Type 0) → OnOk r ((count : ℕ) × P count) → ((count : ℕ) → P count → Q) → OnOk r Q
@@ -29,16 +30,13 @@ on_ran (Err e) P Q ran f = tt
 
 -- ---- the number is noted
 
-abbrev pub note_text : List ℕ
-note_text = codes "UPDATE meta SET value = ?1 WHERE name = 'schema'"
-
 abbrev note_tests : List Term
 note_tests = op2 (Compare Eq Binary) (col 1 1) (lit (Text (codes "schema"))) ∷ []
 
 abbrev note_shows : List Term
 note_shows = col 1 0 ∷ col 1 0 ∷ col 1 1 ∷ col 0 0 ∷ []
 
-note_is : Sets keep_schema note_text 6 (over_table 13 note_tests note_shows [])
+note_is : Sets keep_schema SET_SCHEMA.now 6 (over_table meta_tree note_tests note_shows [])
 unfolding understood everything
 note_is = (refl, (refl, refl))
 
@@ -49,12 +47,12 @@ alone : (n counted limit : ℕ) → (is_schema (meta_row (codes "schema") n) ≡
 unfolding binary value_cmp lib.Ieee.is_nan lib.Ieee.lt
 alone n counted limit = (refl, refl)
 
-pub program_noted : (old new : State) (count n : ℕ) (owed : List Row) (h : Host) → IsMoving n owed old.now h → Executes note_text (Int (pos 3) ∷ []) old new (Ok count) → IsMoving 3 owed new.now h
+pub program_noted : (old new : State) (count n : ℕ) (owed : List Row) (h : Host) → IsMoving n owed old.now h → Executes SET_SCHEMA.now (Int (pos 3) ∷ []) old new (Ok count) → IsMoving 3 owed new.now h
 program_noted old new count n owed h m ran =
     let rest : List Row = meta_row (codes "rows") (rows h) ∷ meta_row (codes "limit") h.limit ∷ [] in
     let after : Row = meta_row (codes "schema") 3 in
     let only = alone n (rows h) h.limit in
-    let l = set_one keep_schema 6 (record meta { tree = meta_tree }) meta_place (λ _. refl) note_tests note_shows is_schema note_text note_is.0 note_is.1 old new (Int (pos 3) ∷ []) count (listed_with n owed h) (meta_row (codes "schema") n) after rest m.lists (λ row. refl)
+    let l = set_one keep_schema 6 (record meta { tree = meta_tree }) meta_place (λ _. refl) note_tests note_shows is_schema SET_SCHEMA.now note_is.0 note_is.1 old new (Int (pos 3) ∷ []) count (listed_with n owed h) (meta_row (codes "schema") n) after rest m.lists (λ row. refl)
     (IsPermutation-refl _) only.0 only.1
     (λ id row at cols.
     let name : column row 1 ≡ Text (codes "schema") = (let e = cols in cc) in

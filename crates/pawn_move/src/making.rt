@@ -9,6 +9,7 @@ ghost use Rattle.pawn_move.specs.Moving.{NotesProgram};
 
 use pawn_book::KeepError;
 use pawn_opening::SCHEMA;
+use pawn_tables::texts::SET_SCHEMA;
 use pawn_tables::{refused, write};
 use sqlite::{Alter, Transaction, params};
 
@@ -51,9 +52,5 @@ pub(crate) fn note_schema<S: Alter>(tx: &mut Transaction<'_, S>) -> Result<(), K
     ensures lent { IsLent (state S.Store tx.old.conn.now) (state S.Store tx.new.conn.now)
         (is_ok result) }
 {
-    write(
-        tx,
-        "UPDATE meta SET value = ?1 WHERE name = 'schema'",
-        params![SCHEMA],
-    )
+    write(tx, SET_SCHEMA, params![SCHEMA])
 }

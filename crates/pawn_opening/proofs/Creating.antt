@@ -17,9 +17,9 @@ use Rattle.one_table.specs.Lending.{IsLent}
 use Rattle.one_table.specs.Listing.{Holds, IsNumbered, Listed, Lists, columns_of, with_rows}
 use Rattle.one_table.proofs.Insertion.{went, same_value}
 use Rattle.one_table.proofs.Lent.{clean_before}
-use Rattle.pawn_tables.specs.Schema.{extensions, first_schema, keep_schema, second_schema, totals}
+use Rattle.pawn_tables.specs.Schema.{extensions, first_schema, keep_schema, second_schema, totals, extensions_tree, totals_tree}
 use Rattle.pawn_opening.specs.Laying.{AddsTable, AreEmpty, Makes, no_rows}
-use Rattle.pawn_opening.proofs.TableTexts.{IsCreation, extensions_is, extensions_text, totals_is, totals_text}
+use Rattle.pawn_opening.proofs.TableTexts.{IsCreation, extensions_is, MAKE_EXTENSIONS, totals_is, MAKE_TOTALS}
 
 -- a tree without rows
 empty_tree : (db : Trees) (tree : ℕ) (table : Table) → db tree ≡ [] → Holds db tree table []
@@ -92,29 +92,29 @@ makes_then a b c r ok s t u first second f g clean within st =
 
 -- ---- the tables of the later schemas
 
-totals_added : (old new : State) (count : ℕ) (listed : Listed) → Lists first_schema old.now listed → Executes totals_text [] old new (Ok count) → Lists second_schema new.now (with_rows listed 15 [])
+totals_added : (old new : State) (count : ℕ) (listed : Listed) → Lists first_schema old.now listed → Executes MAKE_TOTALS.now [] old new (Ok count) → Lists second_schema new.now (with_rows listed totals_tree [])
 totals_added old new count listed st h =
-    let a = adds first_schema totals_text totals totals_is old new count listed st h in
+    let a = adds first_schema MAKE_TOTALS.now totals totals_is old new count listed st h in
     record {
       schema_is = a.schema_is;
       sound = a.sound;
-      tables = all-append (λ (t : Table). Holds new.now.trees t.tree t (with_rows listed 15 [] t.tree)) first_schema.tables (record totals { tree = 15 } ∷ []) a.others (a.empty, tt);
+      tables = all-append (λ (t : Table). Holds new.now.trees t.tree t (with_rows listed totals_tree [] t.tree)) first_schema.tables (record totals { tree = totals_tree } ∷ []) a.others (a.empty, tt);
     }
 
-extensions_added : (old new : State) (count : ℕ) (listed : Listed) → Lists second_schema old.now listed → Executes extensions_text [] old new (Ok count) → Lists keep_schema new.now (with_rows listed 17 [])
+extensions_added : (old new : State) (count : ℕ) (listed : Listed) → Lists second_schema old.now listed → Executes MAKE_EXTENSIONS.now [] old new (Ok count) → Lists keep_schema new.now (with_rows listed extensions_tree [])
 extensions_added old new count listed st h =
-    let a = adds second_schema extensions_text extensions extensions_is old new count listed st h in
+    let a = adds second_schema MAKE_EXTENSIONS.now extensions extensions_is old new count listed st h in
     record {
       schema_is = a.schema_is;
       sound = a.sound;
-      tables = all-append (λ (t : Table). Holds new.now.trees t.tree t (with_rows listed 17 [] t.tree)) second_schema.tables (record extensions { tree = 17 } ∷ []) a.others (a.empty, tt);
+      tables = all-append (λ (t : Table). Holds new.now.trees t.tree t (with_rows listed extensions_tree [] t.tree)) second_schema.tables (record extensions { tree = extensions_tree } ∷ []) a.others (a.empty, tt);
     }
 
-pub adds_totals : {E : Type 0} (old new : State) (r : Result (Unit {0}) E) → Ran totals_text old new r → AddsTable old new r first_schema second_schema 15
+pub adds_totals : {E : Type 0} (old new : State) (r : Result (Unit {0}) E) → Ran MAKE_TOTALS.now old new r → AddsTable old new r first_schema second_schema 15
 adds_totals old new (Ok done) ran clean within listed st = let it = ran clean within in totals_added old new it.0 listed st it.1
 adds_totals old new (Err e) ran clean within listed st = tt
 
-pub adds_extensions : {E : Type 0} (old new : State) (r : Result (Unit {0}) E) → Ran extensions_text old new r → AddsTable old new r second_schema keep_schema 17
+pub adds_extensions : {E : Type 0} (old new : State) (r : Result (Unit {0}) E) → Ran MAKE_EXTENSIONS.now old new r → AddsTable old new r second_schema keep_schema 17
 adds_extensions old new (Ok done) ran clean within listed st = let it = ran clean within in extensions_added old new it.0 listed st it.1
 adds_extensions old new (Err e) ran clean within listed st = tt
 

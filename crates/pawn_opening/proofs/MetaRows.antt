@@ -1,5 +1,5 @@
 -- A row of what the store notes.
-use Rattle.std.proofs.Common.{◌≡◌, inl, inr, ℕ, pos, ◌==◌, List, [], ◌∷◌, length, false, Ok, Err, Result, OnOk, codes, refl, arith}
+use Rattle.std.proofs.Common.{◌≡◌, inl, inr, ℕ, pos, ◌==◌, List, [], ◌∷◌, length, false, Ok, Err, Result, OnOk, refl, arith}
 use Rattle.sqlite.specs.declared.types.Value.TheVariants.{Null, Int, Text}
 use Rattle.sqlite.specs.Order.{Row}
 use Rattle.sqlite.specs.Term.{Term, lit, col}
@@ -14,14 +14,12 @@ use Rattle.one_table.proofs.Rowed.{cast_null, cast_int}
 use Rattle.one_table.proofs.Texts.{Puts}
 use Rattle.pawn_tables.specs.Meta.{meta_row}
 use Rattle.pawn_tables.specs.Schema.{meta, keep_schema, meta_tree}
-
-abbrev pub note_text : List ℕ
-note_text = codes "INSERT INTO meta VALUES (?1, ?2)"
+use Rattle.pawn_tables.specs.declared.texts.TheConstants.{PUT_NOTE}
 
 abbrev pub note_values : List Term
 note_values = lit Null ∷ col 0 0 ∷ col 0 1 ∷ []
 
-note_is : Puts keep_schema note_text 6 note_values 3
+note_is : Puts keep_schema PUT_NOTE.now 6 note_values 3
 unfolding understood everything
 note_is = (refl, (refl, refl))
 
@@ -49,10 +47,10 @@ meta_place = record {
   idle = idle;
 }
 
-pub noted : (old new : State) (name : List ℕ) (value count : ℕ) (listed : Listed) → Lists keep_schema old.now listed → Executes note_text (Text name ∷ Int (pos value) ∷ []) old new (Ok count)
-    → Lists keep_schema new.now (with_rows listed 13 (meta_row name value ∷ listed 13))
+pub noted : (old new : State) (name : List ℕ) (value count : ℕ) (listed : Listed) → Lists keep_schema old.now listed → Executes PUT_NOTE.now (Text name ∷ Int (pos value) ∷ []) old new (Ok count)
+    → Lists keep_schema new.now (with_rows listed meta_tree (meta_row name value ∷ listed meta_tree))
 noted old new name value count listed st h =
-    inserted keep_schema 6 (record meta { tree = meta_tree }) note_values 3 note_text meta_place note_is.0 note_is.1 old new (Text name ∷ Int (pos value) ∷ []) (Null ∷ meta_row name value) (Null ∷ meta_row name value) (meta_row name value) count listed st refl
+    inserted keep_schema 6 (record meta { tree = meta_tree }) note_values 3 PUT_NOTE.now meta_place note_is.0 note_is.1 old new (Text name ∷ Int (pos value) ∷ []) (Null ∷ meta_row name value) (Null ∷ meta_row name value) (meta_row name value) count listed st refl
     (λ i. cast_null i ∷ Text name ∷ cast_int value i ∷ []) (λ rows. refl) h
 
 -- where a statement ran, what it wrote

@@ -27,11 +27,12 @@ use Rattle.pawn_tables.specs.Meta.{notes}
 use Rattle.pawn_tables.specs.StandsFor.{StandsFor}
 use Rattle.pawn_opening.specs.declared.fault.OpenFault.{OpenFault}
 use Rattle.pawn_opening.specs.declared.fault.OpenFault.TheVariants.{NotOurs, OldSchema, Store, Memory}
-use Rattle.pawn_opening.specs.Refusing.{AnswersOpening, HasNoAnswer, IsEmptyStore, IsOneNumber, IsRefusedFor, IsStoreFault, NotesNoSchema, NotesSchema, schema_text}
+use Rattle.pawn_opening.specs.Refusing.{AnswersOpening, HasNoAnswer, IsEmptyStore, IsOneNumber, IsRefusedFor, IsStoreFault, NotesNoSchema, NotesSchema}
+use Rattle.pawn_tables.specs.declared.texts.TheConstants.{READ_SCHEMA}
 
 -- the text asks meta of a schema, where it stands in its tree
 abbrev pub AsksMeta : Schema → Type 0
-AsksMeta s = Asks s schema_text (over_table 13 (op2 (Compare Eq Binary) (col 1 1) (lit (Text (codes "schema"))) ∷ []) (col 1 2 ∷ []) []) (codes "value" ∷ [])
+AsksMeta s = Asks s READ_SCHEMA.now (over_table meta_tree (op2 (Compare Eq Binary) (col 1 1) (lit (Text (codes "schema"))) ∷ []) (col 1 2 ∷ []) []) (codes "value" ∷ [])
 
 pub schema_is : AsksMeta keep_schema
 unfolding understood everything
@@ -46,8 +47,8 @@ alone n counted limit = refl
 
 -- tables of a schema, of which meta notes a number
 module _ (db : Database) (s : Schema) (asks : AsksMeta s) (n counted limit : ℕ) (schema : db.schema ≡ s) (noted : Holds db.trees meta_tree (record meta { tree = meta_tree }) (notes n counted limit)) where
-  known : understood db.schema schema_text ≡ understood s schema_text
-  known = ap (λ s. understood s schema_text) schema
+  known : understood db.schema READ_SCHEMA.now ≡ understood s READ_SCHEMA.now
+  known = ap (λ s. understood s READ_SCHEMA.now) schema
 
   pub is_understood : HasNoAnswer db → ⊥
   is_understood none = subst IsPlain (sym known ∙ none.1) asks.2
@@ -56,10 +57,10 @@ module _ (db : Database) (s : Schema) (asks : AsksMeta s) (n counted limit : ℕ
   answers_number rows a =
       let tests : List Term = op2 (Compare Eq Binary) (col 1 1) (lit (Text (codes "schema"))) ∷ [] in
       let shows : List Term = col 1 2 ∷ [] in
-      let same : a.source ≡ db = subst (λ b. IsSourceOf b db a.source) (ap (λ s. reads_listing s schema_text) schema ∙ asks.1) a.from in
+      let same : a.source ≡ db = subst (λ b. IsSourceOf b db a.source) (ap (λ s. reads_listing s READ_SCHEMA.now) schema ∙ asks.1) a.from in
       let command = sym (ap command_of (sym known ∙ a.is_understood)) ∙ asks.0 in
-      let read = subst (λ d. Reads (Select (record { lets = []; body = over_table 13 tests shows [] }) (codes "value" ∷ [])) d [] rows) same (subst (λ k. Reads k a.source [] rows) command a.reads) in
-      let answer : IsAnswer (over_table 13 tests shows []) (overlay db.trees []) [] rows = read.answer Null in
+      let read = subst (λ d. Reads (Select (record { lets = []; body = over_table meta_tree tests shows [] }) (codes "value" ∷ [])) d [] rows) same (subst (λ k. Reads k a.source [] rows) command a.reads) in
+      let answer : IsAnswer (over_table meta_tree tests shows []) (overlay db.trees []) [] rows = read.answer Null in
       let by_rows = found 13 tests shows [] (overlay db.trees []) [] rows answer in
       let cells = λ (v : Row). column v 1 ∷ [] in
       let by_columns : map (shows_of shows []) (filter (passes tests []) (db.trees meta_tree)) ≡ map cells (filter is_schema (map (columns_of meta) (db.trees meta_tree))) =

@@ -9,13 +9,14 @@ use Rattle.sqlite_resolve.specs.declared.error.CompileError.{CompileError}
 use Rattle.pawn_opening.specs.declared.fault.OpenFault.{OpenFault}
 use Rattle.pawn_opening.specs.declared.fault.OpenFault.TheVariants.{NotOurs, OldSchema, Store, Memory}
 use Rattle.pawn_opening.specs.Opened.{Recognises, TellsSchema}
-use Rattle.pawn_opening.specs.Refusing.{IsEmptyStore, IsJudged, IsNoted, IsNumberRead, IsRefusedFor, IsStoreFault, IsStrangeNumber, NotesSchema, schema_text}
+use Rattle.pawn_opening.specs.Refusing.{IsEmptyStore, IsJudged, IsNoted, IsNumberRead, IsRefusedFor, IsStoreFault, IsStrangeNumber, NotesSchema}
 use Rattle.pawn_opening.proofs.Recognition.{answered, asks_alone, left_as_before, unanswered, unchanged}
+use Rattle.pawn_tables.specs.declared.texts.TheConstants.{READ_SCHEMA}
 
 -- ---- what is noted of the schema
 
-module _ (old new : State) (ended : new.in_transaction ≡ false) (survives : Survives old new (CommitsShowing schema_text [] old)) where
-  pub told : (rows : List Row) (r : Result (Option ℕ) OpenFault) → (HasCleanDisk new → Shown schema_text [] old new rows) → IsNumberRead rows r → TellsSchema old new r
+module _ (old new : State) (ended : new.in_transaction ≡ false) (survives : Survives old new (CommitsShowing READ_SCHEMA.now [] old)) where
+  pub told : (rows : List Row) (r : Result (Option ℕ) OpenFault) → (HasCleanDisk new → Shown READ_SCHEMA.now [] old new rows) → IsNumberRead rows r → TellsSchema old new r
   told rows r shown read = record {
     same = λ clean. unchanged old new (answered old new rows (shown clean)).unchanged;
     ok = λ clean. noted r read clean;
@@ -40,11 +41,11 @@ module _ (old new : State) (ended : new.in_transaction ≡ false) (survives : Su
       faults (Ok (Some n)) it = tt
       faults (Err why) it = it
 
-  module _ (settled : IsTrue old.is_open → old.now ≡ old.committed) (error : Error) (fails : HasCleanDisk new → FailsToQuery schema_text [] old new error) where
+  module _ (settled : IsTrue old.is_open → old.now ≡ old.committed) (error : Error) (fails : HasCleanDisk new → FailsToQuery READ_SCHEMA.now [] old new error) where
     pub untold : (f : CompileError) → error ≡ SqlInputError f → TellsSchema old new (Ok None)
     untold f is = record {
       same = λ clean. left_as_before old new error settled (fails clean);
-      ok = λ clean. inl (unanswered f old new (subst (FailsToQuery schema_text [] old new) is (fails clean)));
+      ok = λ clean. inl (unanswered f old new (subst (FailsToQuery READ_SCHEMA.now [] old new) is (fails clean)));
       serves = λ clean. tt;
       why = tt;
       ended = ended;

@@ -20,15 +20,16 @@ use Rattle.sqlite_trees.specs.declared.error.StoreError.{StoreError}
 use Rattle.sqlite_trees.specs.declared.error.StoreError.TheVariants.{OutOfMemory, Io, Corrupt, Full, Broken, Unstorable}
 use Rattle.one_table.proofs.Queries.{IsQuery, OnlyReads, only_reads}
 use Rattle.pawn_opening.specs.Opened.{IsAsBefore}
-use Rattle.pawn_opening.specs.Refusing.{AnswersOpening, HasNoAnswer, schema_text}
+use Rattle.pawn_opening.specs.Refusing.{AnswersOpening, HasNoAnswer}
+use Rattle.pawn_tables.specs.declared.texts.TheConstants.{READ_SCHEMA}
 
-asks : IsQuery (first schema_text)
+asks : IsQuery (first READ_SCHEMA.now)
 unfolding everything
 asks = (λ schema base. refl, λ schema. refl)
 
 -- whatever is understood of the text only reads
-reads_only : (s : State) (c : Compiled) → understood s.now.schema schema_text ≡ Ok c → (c.returning ≡ None) × (c.formats ≡ [])
-reads_only s c is = subst OnlyReads is (only_reads schema_text s.now.schema asks)
+reads_only : (s : State) (c : Compiled) → understood s.now.schema READ_SCHEMA.now ≡ Ok c → (c.returning ≡ None) × (c.formats ≡ [])
+reads_only s c is = subst OnlyReads is (only_reads READ_SCHEMA.now s.now.schema asks)
 
 pub unchanged : (old new : State) → IsUnchanged old new → IsAsBefore old new
 unchanged old new it = record { was_open = λ now. it.0.was_open; now = λ now. it.0.now_is; committed = λ now. it.0.committed_is }
@@ -45,13 +46,13 @@ pub record IsAnswered (old new : State) (rows : List Row) : Type 0 where
   pub answers : AnswersOpening old.now rows
   pub unchanged : IsUnchanged old new
 
-pub answered : (old new : State) (rows : List Row) → Shown schema_text [] old new rows → IsAnswered old new rows
+pub answered : (old new : State) (rows : List Row) → Shown READ_SCHEMA.now [] old new rows → IsAnswered old new rows
 unfolding Shown
 answered old new rows h =
     let c = h.0 in
     let it = h.1 in
     let only = reads_only old c it.is in
-    let shows = subst (ShowsRows old new schema_text c (timed [] c.formats it.now) rows) only.0 h.2 in
+    let shows = subst (ShowsRows old new READ_SCHEMA.now c (timed [] c.formats it.now) rows) only.0 h.2 in
     let reads : Reads c.command shows.0 [] rows = subst (λ formats. Reads c.command shows.0 (timed [] formats it.now) rows) only.1 shows.2 in
     record {
       answers = record { means = c; is_understood = it.is; source = shows.0; from = shows.1; reads = reads };
@@ -59,13 +60,13 @@ answered old new rows h =
     }
 
 -- a refusal leaves the store as it was
-pub left_as_before : (old new : State) (e : Error) → (IsTrue old.is_open → old.now ≡ old.committed) → FailsToQuery schema_text [] old new e → IsAsBefore old new
+pub left_as_before : (old new : State) (e : Error) → (IsTrue old.is_open → old.now ≡ old.committed) → FailsToQuery READ_SCHEMA.now [] old new e → IsAsBefore old new
 unfolding FailsToQuery IsNotRun
 left_as_before old new e settled (inl (inl h)) = unchanged old new h.1
 left_as_before old new e settled (inl (inr h)) = rolled old new settled h.3
 left_as_before old new e settled (inr h) =
     let only = reads_only old h.0 h.1.is in
-    let fails = subst (FailsToShow old new schema_text h.0 (timed [] h.0.formats h.1.now) e) only.0 h.2 in
+    let fails = subst (FailsToShow old new READ_SCHEMA.now h.0 (timed [] h.0.formats h.1.now) e) only.0 h.2 in
     unchanged old new fails.3
 
 -- a text that is not understood has no answer
@@ -88,11 +89,11 @@ module _ (f : CompileError) where
   no_refusal limit (Rows values width names) db params h = absurd (let x = h.0 in cc)
   no_refusal limit _ db params h = absurd (let x = h in cc)
 
-  pub unanswered : (old new : State) → FailsToQuery schema_text [] old new (SqlInputError f) → HasNoAnswer old.now
+  pub unanswered : (old new : State) → FailsToQuery READ_SCHEMA.now [] old new (SqlInputError f) → HasNoAnswer old.now
   unfolding FailsToQuery IsNotRun
   unanswered old new (inl (inl h)) = go h.0
     where
-      go : IsNoStatement old schema_text [] (SqlInputError f) → HasNoAnswer old.now
+      go : IsNoStatement old READ_SCHEMA.now [] (SqlInputError f) → HasNoAnswer old.now
       go (inl it) = (it.0, it.1)
       go (inr (c, is, inl it)) = absurd (let x = it.1 in cc)
       go (inr (c, is, inr (inl it))) = absurd (let x = it.1 in cc)
@@ -100,17 +101,17 @@ module _ (f : CompileError) where
   unanswered old new (inl (inr h)) = no_fault old new _ h
   unanswered old new (inr h) =
       let only = reads_only old h.0 h.1.is in
-      let fails = subst (FailsToShow old new schema_text h.0 (timed [] h.0.formats h.1.now) (SqlInputError f)) only.0 h.2 in
+      let fails = subst (FailsToShow old new READ_SCHEMA.now h.0 (timed [] h.0.formats h.1.now) (SqlInputError f)) only.0 h.2 in
       absurd (no_refusal old.step_limit h.0.command fails.0 (timed [] h.0.formats h.1.now) fails.2)
 
 not_some : (r : Option Returning) → r ≡ None → IsSome r → ⊥
 not_some None is some = absurd (let e = some in cc)
 not_some (Some what) is some = absurd (let e = is in cc)
 
-no_commit : (old : State) (db : Trees) → CommitsShowing schema_text [] old db → ⊥
+no_commit : (old : State) (db : Trees) → CommitsShowing READ_SCHEMA.now [] old db → ⊥
 unfolding CommitsShowing
 no_commit old db h = not_some h.0.returning (reads_only old h.0 h.1.is).0 h.2
 
 -- the text commits nothing
-pub asks_alone : (old new : State) → Survives old new (CommitsShowing schema_text [] old) → Survives old new (λ _. ⊥)
-asks_alone old new s = survives_weaker old new (CommitsShowing schema_text [] old) (λ _. ⊥) (λ clean db may. no_commit old db may) s
+pub asks_alone : (old new : State) → Survives old new (CommitsShowing READ_SCHEMA.now [] old) → Survives old new (λ _. ⊥)
+asks_alone old new s = survives_weaker old new (CommitsShowing READ_SCHEMA.now [] old) (λ _. ⊥) (λ clean db may. no_commit old db may) s

@@ -1,5 +1,5 @@
 -- Why a store is not opened.
-use Rattle.std.specs.Prelude.{◌≡◌, ◌⊎◌, ◌<◌, ℕ, pos, List, [], ◌∷◌, Option, Some, None, Result, Ok, Err, codes}
+use Rattle.std.specs.Prelude.{◌≡◌, ◌⊎◌, ◌<◌, ℕ, pos, List, [], ◌∷◌, Option, Some, None, Result, Ok, Err}
 use Rattle.sqlite.specs.declared.types.Value.TheVariants.{Int}
 use Rattle.sqlite.specs.Order.{Row, column}
 use Rattle.sqlite.specs.Effect.{Database, Reads}
@@ -9,22 +9,19 @@ use Rattle.sqlite_resolve.specs.declared.error.CompileError.{CompileError}
 use Rattle.one_table.specs.Columns.{no_schema}
 use Rattle.pawn_opening.specs.declared.fault.OpenFault.{OpenFault}
 use Rattle.pawn_opening.specs.declared.fault.OpenFault.TheVariants.{NotOurs, OldSchema, Store, Memory}
-
--- what a store is asked for the number of its schema
-abbrev pub schema_text : List ℕ
-schema_text = codes "SELECT value FROM meta WHERE name = 'schema'"
+use Rattle.pawn_tables.specs.declared.texts.TheConstants.{READ_SCHEMA}
 
 -- it answers with these rows
 pub record AnswersOpening (db : Database) (rows : List Row) : Type 0 where
   pub means : Compiled
-  pub is_understood : understood db.schema schema_text ≡ Ok means
+  pub is_understood : understood db.schema READ_SCHEMA.now ≡ Ok means
   pub source : Database
-  pub from : IsSourceOf (reads_listing db.schema schema_text) db source
+  pub from : IsSourceOf (reads_listing db.schema READ_SCHEMA.now) db source
   pub reads : Reads means.command source [] rows
 
 -- there is no table with such columns
 abbrev pub HasNoAnswer : Database → Type 0
-HasNoAnswer db = (fault : CompileError) × (understood db.schema schema_text ≡ Err fault)
+HasNoAnswer db = (fault : CompileError) × (understood db.schema READ_SCHEMA.now ≡ Err fault)
 
 -- the answer is one row, of this number
 abbrev pub IsOneNumber : List Row → ℕ → Type 0

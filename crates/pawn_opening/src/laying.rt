@@ -6,6 +6,10 @@ ghost use Rattle.pawn_tables.specs.Schema.{first_schema, keep_schema, second_sch
 ghost use Rattle.pawn_opening.specs.Laying.{AddsTable, Makes, first_three, first_six};
 
 use one_table::run;
+use pawn_tables::texts::{
+    MAKE_BOOKINGS, MAKE_BOOKS, MAKE_ENTRIES, MAKE_EXTENSIONS, MAKE_META, MAKE_PLEDGES,
+    MAKE_SECRETS, MAKE_TERMS, MAKE_TOTALS,
+};
 use sqlite::{Alter, Error, Transaction};
 
 /// Makes the tables of books, terms and pledges.
@@ -17,21 +21,9 @@ pub(crate) fn make_books<S: Alter>(tx: &mut Transaction<'_, S>) -> Result<(), Er
     ensures lent { IsLent (state S.Store tx.old.conn.now) (state S.Store tx.new.conn.now)
         (is_ok result) }
 {
-    run(
-        tx,
-        "CREATE TABLE books (book INTEGER PRIMARY KEY, book_key BLOB NOT NULL, title TEXT NOT NULL, capacity INTEGER NOT NULL, terms INTEGER NOT NULL, pledges INTEGER NOT NULL, import_key BLOB, imported INTEGER) STRICT",
-        &[],
-    )?;
-    run(
-        tx,
-        "CREATE TABLE terms (book INTEGER NOT NULL REFERENCES books, version INTEGER NOT NULL, rate INTEGER NOT NULL, keep_before INTEGER NOT NULL, keep_after INTEGER NOT NULL, PRIMARY KEY (book, version)) STRICT",
-        &[],
-    )?;
-    run(
-        tx,
-        "CREATE TABLE pledges (book INTEGER NOT NULL, number INTEGER NOT NULL, ref TEXT NOT NULL, article TEXT NOT NULL, kind INTEGER NOT NULL, credit INTEGER NOT NULL, taken INTEGER NOT NULL, agreed INTEGER, five INTEGER NOT NULL, version INTEGER NOT NULL, ends INTEGER NOT NULL, held INTEGER NOT NULL, last_day INTEGER NOT NULL, closed INTEGER NOT NULL, closed_day INTEGER, amount INTEGER, PRIMARY KEY (book, number), UNIQUE (book, ref), FOREIGN KEY (book, version) REFERENCES terms) STRICT",
-        &[],
-    )
+    run(tx, MAKE_BOOKS, &[])?;
+    run(tx, MAKE_TERMS, &[])?;
+    run(tx, MAKE_PLEDGES, &[])
 }
 
 /// Makes the tables of entries, secrets and bookings.
@@ -43,21 +35,9 @@ pub(crate) fn make_lists<S: Alter>(tx: &mut Transaction<'_, S>) -> Result<(), Er
     ensures lent { IsLent (state S.Store tx.old.conn.now) (state S.Store tx.new.conn.now)
         (is_ok result) }
 {
-    run(
-        tx,
-        "CREATE TABLE entries (book INTEGER NOT NULL, number INTEGER NOT NULL, seq INTEGER NOT NULL, day INTEGER NOT NULL, sort INTEGER NOT NULL, pence INTEGER NOT NULL, PRIMARY KEY (book, number, seq), FOREIGN KEY (book, number) REFERENCES pledges) STRICT",
-        &[],
-    )?;
-    run(
-        tx,
-        "CREATE TABLE secrets (book INTEGER NOT NULL, number INTEGER NOT NULL, place INTEGER NOT NULL, day INTEGER NOT NULL, sort INTEGER NOT NULL, secret BLOB NOT NULL, PRIMARY KEY (book, number, place), UNIQUE (book, number, secret), FOREIGN KEY (book, number) REFERENCES pledges) STRICT",
-        &[],
-    )?;
-    run(
-        tx,
-        "CREATE TABLE bookings (book INTEGER NOT NULL, number INTEGER NOT NULL, day INTEGER NOT NULL, slot INTEGER NOT NULL, state INTEGER NOT NULL, PRIMARY KEY (book, number), FOREIGN KEY (book, number) REFERENCES pledges) STRICT",
-        &[],
-    )
+    run(tx, MAKE_ENTRIES, &[])?;
+    run(tx, MAKE_SECRETS, &[])?;
+    run(tx, MAKE_BOOKINGS, &[])
 }
 
 /// Makes the tables of what the store notes, of totals and of extensions.
@@ -69,11 +49,7 @@ pub(crate) fn make_notes<S: Alter>(tx: &mut Transaction<'_, S>) -> Result<(), Er
     ensures lent { IsLent (state S.Store tx.old.conn.now) (state S.Store tx.new.conn.now)
         (is_ok result) }
 {
-    run(
-        tx,
-        "CREATE TABLE meta (name TEXT PRIMARY KEY NOT NULL, value INTEGER NOT NULL) STRICT",
-        &[],
-    )?;
+    run(tx, MAKE_META, &[])?;
     make_totals(tx)?;
     make_extensions(tx)
 }
@@ -86,11 +62,7 @@ pub fn make_totals<S: Alter>(tx: &mut Transaction<'_, S>) -> Result<(), Error>
     ensures lent { IsLent (state S.Store tx.old.conn.now) (state S.Store tx.new.conn.now)
         (is_ok result) }
 {
-    run(
-        tx,
-        "CREATE TABLE totals (book INTEGER NOT NULL, number INTEGER NOT NULL, day INTEGER NOT NULL, principal INTEGER NOT NULL, charges INTEGER NOT NULL, PRIMARY KEY (book, number), FOREIGN KEY (book, number) REFERENCES pledges) STRICT",
-        &[],
-    )
+    run(tx, MAKE_TOTALS, &[])
 }
 
 /// Makes the table of extensions, beside those of the second schema.
@@ -101,9 +73,5 @@ pub fn make_extensions<S: Alter>(tx: &mut Transaction<'_, S>) -> Result<(), Erro
     ensures lent { IsLent (state S.Store tx.old.conn.now) (state S.Store tx.new.conn.now)
         (is_ok result) }
 {
-    run(
-        tx,
-        "CREATE TABLE extensions (book INTEGER NOT NULL, number INTEGER NOT NULL, place INTEGER NOT NULL, day INTEGER NOT NULL, until_day INTEGER NOT NULL, PRIMARY KEY (book, number, place), FOREIGN KEY (book, number) REFERENCES pledges) STRICT",
-        &[],
-    )
+    run(tx, MAKE_EXTENSIONS, &[])
 }

@@ -5,6 +5,7 @@ ghost use Rattle.pawn_tables.specs.Meta.{meta_row};
 ghost use Rattle.pawn_opening.specs.Laying.{Notes};
 
 use one_table::run;
+use pawn_tables::texts::PUT_NOTE;
 use sqlite::{Alter, Error, Transaction, params};
 
 /// Notes a number under a name.
@@ -19,5 +20,5 @@ pub(crate) fn note<S: Alter>(
     ensures lent { IsLent (state S.Store tx.old.conn.now) (state S.Store tx.new.conn.now)
         (is_ok result) }
 {
-    run(tx, "INSERT INTO meta VALUES (?1, ?2)", params![name, value])
+    run(tx, PUT_NOTE, params![name, value])
 }

@@ -5,6 +5,7 @@ ghost use Rattle.pawn_opening.specs.Refusing.{IsJudged, IsNumberRead};
 
 use crate::fault::{OpenFault, refused};
 use one_table::know_settled;
+use pawn_tables::texts::READ_SCHEMA;
 use sqlite::{Alter, Connection, Error, ErrorCode, Row};
 
 // The number of the schema that this program reads and writes.
@@ -31,7 +32,7 @@ pub fn schema_noted<S: Alter>(conn: &mut Connection<S>) -> Result<Option<u64>, O
     ensures tells { TellsSchema (state S.Store conn.old) (state S.Store conn.new) result }
 {
     know_settled(conn);
-    match conn.query_all("SELECT value FROM meta WHERE name = 'schema'", &[]) {
+    match conn.query_all(READ_SCHEMA, &[]) {
         Ok(rows) => number_of(&rows),
         Err(Error::SqlInputError(_)) => Ok(None),
         Err(error) => Err(refused(error)),

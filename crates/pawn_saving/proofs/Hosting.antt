@@ -14,7 +14,7 @@ use Rattle.one_table.specs.Listing.{Holds, Lists, Listed, with_rows}
 use Rattle.one_table.proofs.Rowed.{swapped}
 use Rattle.pawn_tables.specs.Entries.{RiseFrom}
 use Rattle.pawn_tables.specs.Meta.{meta_row, other_rows}
-use Rattle.pawn_tables.specs.Schema.{keep_schema}
+use Rattle.pawn_tables.specs.Schema.{keep_schema, bookings_tree, books_tree, entries_tree, extensions_tree, meta_tree, pledges_tree, secrets_tree, terms_tree, totals_tree}
 use Rattle.pawn_tables.specs.StandsFor.{StandsFor, HoldHost, AreBooksOrdered, AreStorable}
 use Rattle.pawn_tables.proofs.NextEntries.{numbered_rise}
 use Rattle.pawn_saving.specs.Counted.{listed_as, ListsHost}
@@ -65,22 +65,22 @@ relisted db a b same l = record {
   schema_is = l.schema_is;
   sound = l.sound;
   tables = (
-    other db.trees 0 _ (b 0) (a 0) same.books l.tables.0,
+    other db.trees books_tree _ (b 0) (a 0) same.books l.tables.0,
     (
-      other db.trees 1 _ (b 1) (a 1) same.terms l.tables.1.0,
+      other db.trees terms_tree _ (b 1) (a 1) same.terms l.tables.1.0,
       (
-        other db.trees 3 _ (b 3) (a 3) same.pledges l.tables.1.1.0,
+        other db.trees pledges_tree _ (b 3) (a 3) same.pledges l.tables.1.1.0,
         (
-          other db.trees 6 _ (b 6) (a 6) same.entries l.tables.1.1.1.0,
+          other db.trees entries_tree _ (b 6) (a 6) same.entries l.tables.1.1.1.0,
           (
-            other db.trees 8 _ (b 8) (a 8) same.secrets l.tables.1.1.1.1.0,
+            other db.trees secrets_tree _ (b 8) (a 8) same.secrets l.tables.1.1.1.1.0,
             (
-              other db.trees 11 _ (b 11) (a 11) same.bookings l.tables.1.1.1.1.1.0,
+              other db.trees bookings_tree _ (b 11) (a 11) same.bookings l.tables.1.1.1.1.1.0,
               (
-                other db.trees 13 _ (b 13) (a 13) same.meta l.tables.1.1.1.1.1.1.0,
+                other db.trees meta_tree _ (b 13) (a 13) same.meta l.tables.1.1.1.1.1.1.0,
                 (
-                  other db.trees 15 _ (b 15) (a 15) same.totals l.tables.1.1.1.1.1.1.1.0,
-                  (other db.trees 17 _ (b 17) (a 17) same.extensions l.tables.1.1.1.1.1.1.1.1.0, tt),
+                  other db.trees totals_tree _ (b 15) (a 15) same.totals l.tables.1.1.1.1.1.1.1.0,
+                  (other db.trees extensions_tree _ (b 17) (a 17) same.extensions l.tables.1.1.1.1.1.1.1.1.0, tt),
                 ),
               ),
             ),

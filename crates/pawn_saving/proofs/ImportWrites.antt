@@ -25,7 +25,7 @@ use Rattle.pawn_book.proofs.Sounds.{get-with_book}
 use Rattle.one_table.specs.Lending.{IsLent}
 use Rattle.one_table.specs.Listing.{Lists, Listed, with_rows}
 use Rattle.one_table.proofs.Lent.{clean_before}
-use Rattle.pawn_tables.specs.Schema.{keep_schema}
+use Rattle.pawn_tables.specs.Schema.{keep_schema, bookings_tree}
 use Rattle.pawn_tables.specs.At.{at_book, at_pledge}
 use Rattle.pawn_tables.specs.Rows.{at_most_one, book_row, booking_cells, booking_listed, entries_listed, extensions_listed, number, number_in_book, placed_from, pledge_listed, secrets_listed, terms_cells, terms_listed, totals_listed, under}
 use Rattle.pawn_tables.specs.StandsFor.{of_books, of_pledges, AreBooksOrdered}
@@ -111,14 +111,14 @@ module _ (b : ℕ) (ps : List PledgeValue) (i : ℕ) (p : PledgeValue) (lt : i <
 -- the first so many of the pledges were put, with so many rows that are counted
 pub record ArePledgesPut (old new : State) (b : ℕ) (ps : List PledgeValue) (i counted : ℕ) : Type 0 where
   pub carried : IsCarried old new true
-  pub wrote : HasCleanDisk new → IsTrue old.in_transaction → (listed : Listed) → ((n : ℕ) → filter (at_pledge b n) (listed 11) ≡ []) → AreNumberedFrom 1 ps → Lists keep_schema old.now listed
+  pub wrote : HasCleanDisk new → IsTrue old.in_transaction → (listed : Listed) → ((n : ℕ) → filter (at_pledge b n) (listed bookings_tree) ≡ []) → AreNumberedFrom 1 ps → Lists keep_schema old.now listed
       → (counted ≡ sum_by pledge_rows (take i ps)) × Lists keep_schema new.now (beside (whole_pledges b (take i ps)) listed)
 
 pub no_pledge_put : (s : State) (b : ℕ) (ps : List PledgeValue) → ArePledgesPut s s b ps 0 0
 no_pledge_put s b ps = record { carried = carried_none s; wrote = λ clean within listed none numbered l. (refl, l) }
 
 pub one_pledge_put : (old mid new : State) (b i counted added sum : ℕ) (ps : List PledgeValue) (p : PledgeValue) → i < length ps → p ≡ get_or ps i p → sum ≡ counted + added → ArePledgesPut old mid b ps i counted → IsLent mid new true
-    → (HasCleanDisk new → IsTrue mid.in_transaction → (listed : Listed) → filter (at_pledge b (number_in_book p)) (listed 11) ≡ [] → Lists keep_schema mid.now listed
+    → (HasCleanDisk new → IsTrue mid.in_transaction → (listed : Listed) → filter (at_pledge b (number_in_book p)) (listed bookings_tree) ≡ [] → Lists keep_schema mid.now listed
     → (added ≡ pledge_rows p) × Lists keep_schema new.now (beside (whole_pledge b (number_in_book p) p) listed))
     → ArePledgesPut old new b ps (i + 1) sum
 one_pledge_put old mid new b i counted added sum ps p lt is sums put lent wrote = record {
@@ -126,7 +126,7 @@ one_pledge_put old mid new b i counted added sum ps p lt is sums put lent wrote 
   wrote = λ clean within listed none numbered l.
       let was = clean_before mid new true lent clean in
       let so_far = put.wrote was within listed none numbered l in
-      let one = wrote clean (put.carried.inside was within refl) (beside (whole_pledges b (take i ps)) listed) (next_unbooked b ps i p (listed 11) none numbered lt is) so_far.1 in
+      let one = wrote clean (put.carried.inside was within refl) (beside (whole_pledges b (take i ps)) listed) (next_unbooked b ps i p (listed bookings_tree) none numbered lt is) so_far.1 in
       let before = so_far.0 in
       let more = one.0 in
       let longer : sum_by pledge_rows (take (i + 1) ps) ≡ sum_by pledge_rows (take i ps) + pledge_rows p = ap (sum_by pledge_rows) (until ps i p lt is) ∙ sum_by_push pledge_rows (take i ps) p in
@@ -134,7 +134,7 @@ one_pledge_put old mid new b i counted added sum ps p lt is sums put lent wrote 
 }
 
 pub all_pledges_put : (old new : State) (b : ℕ) (ps : List PledgeValue) (i counted : ℕ) → length ps ≤ i → ArePledgesPut old new b ps i counted
-    → HasCleanDisk new → IsTrue old.in_transaction → (listed : Listed) → ((n : ℕ) → filter (at_pledge b n) (listed 11) ≡ []) → AreNumberedFrom 1 ps → Lists keep_schema old.now listed
+    → HasCleanDisk new → IsTrue old.in_transaction → (listed : Listed) → ((n : ℕ) → filter (at_pledge b n) (listed bookings_tree) ≡ []) → AreNumberedFrom 1 ps → Lists keep_schema old.now listed
     → (counted ≡ sum_by pledge_rows ps) × Lists keep_schema new.now (beside (whole_pledges b ps) listed)
 all_pledges_put old new b ps i counted end put clean within listed none numbered l =
     subst (λ qs. (counted ≡ sum_by pledge_rows qs) × Lists keep_schema new.now (beside (whole_pledges b qs) listed)) (take_all ps i end) (put.wrote clean within listed none numbered l)

@@ -19,10 +19,9 @@ use Rattle.one_table.specs.Listing.{Lists, Listed, with_rows, columns_of}
 use Rattle.one_table.proofs.Rowed.{plainly, cast_null, cast_int, cast_whole}
 use Rattle.one_table.proofs.Insertion.{inserted}
 use Rattle.one_table.proofs.Upsertion.{upserted, Splits}
-use Rattle.pawn_tables.specs.Schema.{terms, entries, secrets, bookings, totals, extensions, keep_schema}
+use Rattle.pawn_tables.specs.Schema.{terms, entries, secrets, bookings, totals, extensions, keep_schema, bookings_tree, entries_tree, extensions_tree, secrets_tree, terms_tree, totals_tree}
 use Rattle.pawn_tables.specs.Rows.{number, word, under, at_most_one, sort_number, issue_number, state_number, terms_cells, entry_cells, secret_cells, extension_cells, booking_cells, totals_cells}
 use Rattle.pawn_tables.specs.At.{at_pledge, is_at}
-use Rattle.pawn_tables.proofs.ReadTexts as read
 use Rattle.pawn_tables.proofs.Sought.{equals}
 use Rattle.pawn_saving.specs.Writing.{IsOnly}
 use Rattle.pawn_saving.proofs.Differing.{set_where, differ, AreEqual, all_equal, same_number}
@@ -60,69 +59,69 @@ others_in d p c v = differ (column v 2, number d) (beside p c v)
 -- ---- rows that join
 
 module _ (old new : State) (listed : Listed) (st : Lists keep_schema old.now listed) (count : ℕ) where
-  entry_put : (b n s d t p : ℕ) → Executes text.entry_text (number b ∷ number n ∷ number s ∷ number d ∷ number t ∷ number p ∷ []) old new (Ok count)
-      → Lists keep_schema new.now (with_rows listed 6 ((number b ∷ number n ∷ number s ∷ number d ∷ number t ∷ number p ∷ []) ∷ listed 6))
+  entry_put : (b n s d t p : ℕ) → Executes text.PUT_ENTRY.now (number b ∷ number n ∷ number s ∷ number d ∷ number t ∷ number p ∷ []) old new (Ok count)
+      → Lists keep_schema new.now (with_rows listed entries_tree ((number b ∷ number n ∷ number s ∷ number d ∷ number t ∷ number p ∷ []) ∷ listed entries_tree))
   entry_put b n s d t p h =
       let vals : Row = number b ∷ number n ∷ number s ∷ number d ∷ number t ∷ number p ∷ [] in
-      inserted keep_schema 3 (record entries { tree = 6 }) text.six_values 7 text.entry_text entries_place text.entry_is.0 text.entry_is.1 old new vals (Null ∷ vals) (Null ∷ vals) vals count listed st refl
+      inserted keep_schema 3 (record entries { tree = entries_tree }) text.six_values 7 text.PUT_ENTRY.now entries_place text.entry_is.0 text.entry_is.1 old new vals (Null ∷ vals) (Null ∷ vals) vals count listed st refl
       (λ i. cast_null i ∷ cast_int b i ∷ cast_int n i ∷ cast_int s i ∷ cast_int d i ∷ cast_int t i ∷ cast_int p i ∷ []) (λ rows. refl) h
 
   pub entry_wrote : (b n s d t p : ℕ) (e : Entry) → s ≡ e.seq → d ≡ e.day → t ≡ sort_number e.sort → p ≡ e.pence
-      → Executes text.entry_text (number b ∷ number n ∷ number s ∷ number d ∷ number t ∷ number p ∷ []) old new (Ok count)
-      → Lists keep_schema new.now (with_rows listed 6 (under b n (entry_cells e) ∷ listed 6))
+      → Executes text.PUT_ENTRY.now (number b ∷ number n ∷ number s ∷ number d ∷ number t ∷ number p ∷ []) old new (Ok count)
+      → Lists keep_schema new.now (with_rows listed entries_tree (under b n (entry_cells e) ∷ listed entries_tree))
   entry_wrote b n s d t p e seq day sort pence h =
-      subst (λ cells. Lists keep_schema new.now (with_rows listed 6 (under b n cells ∷ listed 6))) (λ i. number (seq i) ∷ number (day i) ∷ number (sort i) ∷ number (pence i) ∷ []) (entry_put b n s d t p h)
+      subst (λ cells. Lists keep_schema new.now (with_rows listed entries_tree (under b n cells ∷ listed entries_tree))) (λ i. number (seq i) ∷ number (day i) ∷ number (sort i) ∷ number (pence i) ∷ []) (entry_put b n s d t p h)
 
-  secret_put : (b n s d t : ℕ) (w : List ℕ) → Executes text.secret_text (number b ∷ number n ∷ number s ∷ number d ∷ number t ∷ Blob w ∷ []) old new (Ok count)
-      → Lists keep_schema new.now (with_rows listed 8 ((number b ∷ number n ∷ number s ∷ number d ∷ number t ∷ Blob w ∷ []) ∷ listed 8))
+  secret_put : (b n s d t : ℕ) (w : List ℕ) → Executes text.PUT_SECRET.now (number b ∷ number n ∷ number s ∷ number d ∷ number t ∷ Blob w ∷ []) old new (Ok count)
+      → Lists keep_schema new.now (with_rows listed secrets_tree ((number b ∷ number n ∷ number s ∷ number d ∷ number t ∷ Blob w ∷ []) ∷ listed secrets_tree))
   secret_put b n s d t w h =
       let vals : Row = number b ∷ number n ∷ number s ∷ number d ∷ number t ∷ Blob w ∷ [] in
-      inserted keep_schema 4 (record secrets { tree = 8 }) text.six_values 7 text.secret_text secrets_place text.secret_is.0 text.secret_is.1 old new vals (Null ∷ vals) (Null ∷ vals) vals count listed st refl
+      inserted keep_schema 4 (record secrets { tree = secrets_tree }) text.six_values 7 text.PUT_SECRET.now secrets_place text.secret_is.0 text.secret_is.1 old new vals (Null ∷ vals) (Null ∷ vals) vals count listed st refl
       (λ i. cast_null i ∷ cast_int b i ∷ cast_int n i ∷ cast_int s i ∷ cast_int d i ∷ cast_int t i ∷ Blob w ∷ []) (λ rows. refl) h
 
   pub secret_wrote : (b n s d t : ℕ) (w : List ℕ) (e : Issued) → d ≡ e.day → t ≡ issue_number e.sort → Blob w ≡ word e.secret
-      → Executes text.secret_text (number b ∷ number n ∷ number s ∷ number d ∷ number t ∷ Blob w ∷ []) old new (Ok count)
-      → Lists keep_schema new.now (with_rows listed 8 (under b n (secret_cells s e) ∷ listed 8))
+      → Executes text.PUT_SECRET.now (number b ∷ number n ∷ number s ∷ number d ∷ number t ∷ Blob w ∷ []) old new (Ok count)
+      → Lists keep_schema new.now (with_rows listed secrets_tree (under b n (secret_cells s e) ∷ listed secrets_tree))
   secret_wrote b n s d t w e day sort secret h =
-      subst (λ cells. Lists keep_schema new.now (with_rows listed 8 (under b n cells ∷ listed 8))) (λ i. number s ∷ number (day i) ∷ number (sort i) ∷ secret i ∷ []) (secret_put b n s d t w h)
+      subst (λ cells. Lists keep_schema new.now (with_rows listed secrets_tree (under b n cells ∷ listed secrets_tree))) (λ i. number s ∷ number (day i) ∷ number (sort i) ∷ secret i ∷ []) (secret_put b n s d t w h)
 
-  five_put : (b n s d t : ℕ) → Executes text.extension_text (number b ∷ number n ∷ number s ∷ number d ∷ number t ∷ []) old new (Ok count)
-      → Lists keep_schema new.now (with_rows listed 17 ((number b ∷ number n ∷ number s ∷ number d ∷ number t ∷ []) ∷ listed 17))
+  five_put : (b n s d t : ℕ) → Executes text.PUT_EXTENSION.now (number b ∷ number n ∷ number s ∷ number d ∷ number t ∷ []) old new (Ok count)
+      → Lists keep_schema new.now (with_rows listed extensions_tree ((number b ∷ number n ∷ number s ∷ number d ∷ number t ∷ []) ∷ listed extensions_tree))
   five_put b n s d t h =
       let vals : Row = number b ∷ number n ∷ number s ∷ number d ∷ number t ∷ [] in
-      inserted keep_schema 8 (record extensions { tree = 17 }) text.five_values 6 text.extension_text extensions_place text.extension_is.0 text.extension_is.1 old new vals (Null ∷ vals) (Null ∷ vals) vals count listed st refl
+      inserted keep_schema 8 (record extensions { tree = extensions_tree }) text.five_values 6 text.PUT_EXTENSION.now extensions_place text.extension_is.0 text.extension_is.1 old new vals (Null ∷ vals) (Null ∷ vals) vals count listed st refl
       (λ i. cast_null i ∷ cast_int b i ∷ cast_int n i ∷ cast_int s i ∷ cast_int d i ∷ cast_int t i ∷ []) (λ rows. refl) h
 
-  pub extension_wrote : (b n s d u : ℕ) (e : Extension) → d ≡ e.day → u ≡ e.until → Executes text.extension_text (number b ∷ number n ∷ number s ∷ number d ∷ number u ∷ []) old new (Ok count)
-      → Lists keep_schema new.now (with_rows listed 17 (under b n (extension_cells s e) ∷ listed 17))
+  pub extension_wrote : (b n s d u : ℕ) (e : Extension) → d ≡ e.day → u ≡ e.until → Executes text.PUT_EXTENSION.now (number b ∷ number n ∷ number s ∷ number d ∷ number u ∷ []) old new (Ok count)
+      → Lists keep_schema new.now (with_rows listed extensions_tree (under b n (extension_cells s e) ∷ listed extensions_tree))
   extension_wrote b n s d u e day until h =
-      subst (λ cells. Lists keep_schema new.now (with_rows listed 17 (under b n cells ∷ listed 17))) (λ i. number s ∷ number (day i) ∷ number (until i) ∷ []) (five_put b n s d u h)
+      subst (λ cells. Lists keep_schema new.now (with_rows listed extensions_tree (under b n cells ∷ listed extensions_tree))) (λ i. number s ∷ number (day i) ∷ number (until i) ∷ []) (five_put b n s d u h)
 
-  pub terms_wrote : (b v r k l : ℕ) (t : Rates) → r ≡ t.rate → k ≡ t.keep_before → l ≡ t.keep_after → Executes text.terms_text (number b ∷ number v ∷ number r ∷ number k ∷ number l ∷ []) old new (Ok count)
-      → Lists keep_schema new.now (with_rows listed 1 ((number b ∷ number v ∷ terms_cells t) ∷ listed 1))
+  pub terms_wrote : (b v r k l : ℕ) (t : Rates) → r ≡ t.rate → k ≡ t.keep_before → l ≡ t.keep_after → Executes text.PUT_TERMS.now (number b ∷ number v ∷ number r ∷ number k ∷ number l ∷ []) old new (Ok count)
+      → Lists keep_schema new.now (with_rows listed terms_tree ((number b ∷ number v ∷ terms_cells t) ∷ listed terms_tree))
   terms_wrote b v r k l t rate before after h =
       let vals : Row = number b ∷ number v ∷ number r ∷ number k ∷ number l ∷ [] in
-      subst (λ cells. Lists keep_schema new.now (with_rows listed 1 ((number b ∷ number v ∷ cells) ∷ listed 1))) (λ i. number (rate i) ∷ number (before i) ∷ number (after i) ∷ [])
-      (inserted keep_schema 1 (record terms { tree = 1 }) text.five_values 6 text.terms_text terms_place text.terms_is.0 text.terms_is.1 old new vals (Null ∷ vals) (Null ∷ vals) vals count listed st refl
+      subst (λ cells. Lists keep_schema new.now (with_rows listed terms_tree ((number b ∷ number v ∷ cells) ∷ listed terms_tree))) (λ i. number (rate i) ∷ number (before i) ∷ number (after i) ∷ [])
+      (inserted keep_schema 1 (record terms { tree = terms_tree }) text.five_values 6 text.PUT_TERMS.now terms_place text.terms_is.0 text.terms_is.1 old new vals (Null ∷ vals) (Null ∷ vals) vals count listed st refl
       (λ i. cast_null i ∷ cast_int b i ∷ cast_int v i ∷ cast_int r i ∷ cast_int k i ∷ cast_int l i ∷ []) (λ rows. refl) h)
 
-  pub new_totals_wrote : (b n d p : ℕ) (c : ℤ) (t : Totals) → d ≡ t.day → p ≡ t.principal → c ≡ pos t.millionths → Executes text.new_totals_text (number b ∷ number n ∷ number d ∷ number p ∷ Int c ∷ []) old new (Ok count)
-      → Lists keep_schema new.now (with_rows listed 15 (under b n (totals_cells t) ∷ listed 15))
+  pub new_totals_wrote : (b n d p : ℕ) (c : ℤ) (t : Totals) → d ≡ t.day → p ≡ t.principal → c ≡ pos t.millionths → Executes text.PUT_TOTALS.now (number b ∷ number n ∷ number d ∷ number p ∷ Int c ∷ []) old new (Ok count)
+      → Lists keep_schema new.now (with_rows listed totals_tree (under b n (totals_cells t) ∷ listed totals_tree))
   new_totals_wrote b n d p c t day principal charges h =
       let vals : Row = number b ∷ number n ∷ number d ∷ number p ∷ Int c ∷ [] in
-      subst (λ cells. Lists keep_schema new.now (with_rows listed 15 (under b n cells ∷ listed 15))) (λ i. number (day i) ∷ number (principal i) ∷ Int (charges i) ∷ [])
-      (inserted keep_schema 7 (record totals { tree = 15 }) text.five_values 6 text.new_totals_text totals_place text.new_totals_is.0 text.new_totals_is.1 old new vals (Null ∷ vals) (Null ∷ vals) vals count listed st refl
+      subst (λ cells. Lists keep_schema new.now (with_rows listed totals_tree (under b n cells ∷ listed totals_tree))) (λ i. number (day i) ∷ number (principal i) ∷ Int (charges i) ∷ [])
+      (inserted keep_schema 7 (record totals { tree = totals_tree }) text.five_values 6 text.PUT_TOTALS.now totals_place text.new_totals_is.0 text.new_totals_is.1 old new vals (Null ∷ vals) (Null ∷ vals) vals count listed st refl
       (λ i. cast_null i ∷ cast_int b i ∷ cast_int n i ∷ cast_int d i ∷ cast_int p i ∷ cast_whole c i ∷ []) (λ rows. refl) h)
 
   -- ---- rows that take the place of others
 
-  pub totals_wrote : (b n d p : ℕ) (c : ℤ) (t before : Totals) (rest : List Row) → d ≡ t.day → p ≡ t.principal → c ≡ pos t.millionths → IsOnly (at_pledge b n) (listed 15) (under b n (totals_cells before)) rest
-      → Executes text.totals_text (number b ∷ number n ∷ number d ∷ number p ∷ Int c ∷ []) old new (Ok count) → Lists keep_schema new.now (with_rows listed 15 (under b n (totals_cells t) ∷ rest))
+  pub totals_wrote : (b n d p : ℕ) (c : ℤ) (t before : Totals) (rest : List Row) → d ≡ t.day → p ≡ t.principal → c ≡ pos t.millionths → IsOnly (at_pledge b n) (listed totals_tree) (under b n (totals_cells before)) rest
+      → Executes text.SET_TOTALS.now (number b ∷ number n ∷ number d ∷ number p ∷ Int c ∷ []) old new (Ok count) → Lists keep_schema new.now (with_rows listed totals_tree (under b n (totals_cells t) ∷ rest))
   totals_wrote b n d p c t before rest day principal charges only h =
       let after : Row = number b ∷ number n ∷ number d ∷ number p ∷ Int c ∷ [] in
-      subst (λ cells. Lists keep_schema new.now (with_rows listed 15 (under b n cells ∷ rest))) (λ i. number (day i) ∷ number (principal i) ∷ Int (charges i) ∷ [])
-      (set_where keep_schema 7 (record totals { tree = 15 }) totals_place (λ _. refl) text.totals_tests text.totals_shows text.totals_text text.totals_is.0 text.totals_is.1
-      old new after count listed st (at_pledge b n) (others_in d p c) (λ r. let v = columns_of (plainly (record totals { tree = 15 })) r in own_where b n v (others_in d p c v)) (under b n (totals_cells before)) after rest
+      subst (λ cells. Lists keep_schema new.now (with_rows listed totals_tree (under b n cells ∷ rest))) (λ i. number (day i) ∷ number (principal i) ∷ Int (charges i) ∷ [])
+      (set_where keep_schema 7 (record totals { tree = totals_tree }) totals_place (λ _. refl) text.totals_tests text.totals_shows text.SET_TOTALS.now text.totals_is.0 text.totals_is.1
+      old new after count listed st (at_pledge b n) (others_in d p c) (λ r. let v = columns_of (plainly (record totals { tree = totals_tree })) r in own_where b n v (others_in d p c v)) (under b n (totals_cells before)) after rest
       only.split (own_row b n (totals_cells before)) only.none
       (λ none.
       let same = all_equal (number before.day, number d) (beside p c (under b n (totals_cells before))) none in
@@ -147,19 +146,19 @@ or_no true = refl
 or_no false = refl
 
 -- the rows that a booking meets are those of its pledge
-meets : (b n d w s : ℕ) (id : ℤ) (r : Row) → conflicts (Some (1 ∷ 2 ∷ [])) keep_schema.indexes (plainly (record bookings { tree = 11 })) (Int id ∷ number b ∷ number n ∷ number d ∷ number w ∷ number s ∷ []) r
-    ≡ at_pledge b n (columns_of (plainly (record bookings { tree = 11 })) r)
+meets : (b n d w s : ℕ) (id : ℤ) (r : Row) → conflicts (Some (1 ∷ 2 ∷ [])) keep_schema.indexes (plainly (record bookings { tree = bookings_tree })) (Int id ∷ number b ∷ number n ∷ number d ∷ number w ∷ number s ∷ []) r
+    ≡ at_pledge b n (columns_of (plainly (record bookings { tree = bookings_tree })) r)
 unfolding first_key
-meets b n d w s id r = or_no (at_pledge b n (columns_of (plainly (record bookings { tree = 11 })) r))
+meets b n d w s id r = or_no (at_pledge b n (columns_of (plainly (record bookings { tree = bookings_tree })) r))
 
 booking_put : (b n d w s : ℕ) (before : Option Booking) (old new : State) (count : ℕ) (listed : Listed) (rest : List Row) → Lists keep_schema old.now listed
-    → IsPermutation (listed 11) (at_most_one (λ r. r) (option_map (λ k. under b n (booking_cells k)) before) ++ rest) → filter (at_pledge b n) rest ≡ []
-    → Executes text.booking_text (number b ∷ number n ∷ number d ∷ number w ∷ number s ∷ []) old new (Ok count)
-    → Lists keep_schema new.now (with_rows listed 11 ((number b ∷ number n ∷ number d ∷ number w ∷ number s ∷ []) ∷ rest))
+    → IsPermutation (listed bookings_tree) (at_most_one (λ r. r) (option_map (λ k. under b n (booking_cells k)) before) ++ rest) → filter (at_pledge b n) rest ≡ []
+    → Executes text.PUT_BOOKING.now (number b ∷ number n ∷ number d ∷ number w ∷ number s ∷ []) old new (Ok count)
+    → Lists keep_schema new.now (with_rows listed bookings_tree ((number b ∷ number n ∷ number d ∷ number w ∷ number s ∷ []) ∷ rest))
 booking_put b n d w s before old new count listed rest st splits none h =
     let vals : Row = number b ∷ number n ∷ number d ∷ number w ∷ number s ∷ [] in
-    upserted keep_schema 5 (record bookings { tree = 11 }) bookings_place (λ _. refl) text.five_values 6 (1 ∷ 2 ∷ []) text.booking_tests text.booking_shows (at_pledge b n)
-    text.booking_text text.booking_is.0 text.booking_is.1 old new vals vals vals count listed rest st
+    upserted keep_schema 5 (record bookings { tree = bookings_tree }) bookings_place (λ _. refl) text.five_values 6 (1 ∷ 2 ∷ []) text.booking_tests text.booking_shows (at_pledge b n)
+    text.PUT_BOOKING.now text.booking_is.0 text.booking_is.1 old new vals vals vals count listed rest st
     (record {
       source = refl;
       unnumbered = λ i. cast_null i ∷ cast_int b i ∷ cast_int n i ∷ cast_int d i ∷ cast_int w i ∷ cast_int s i ∷ [];
@@ -174,9 +173,9 @@ booking_put b n d w s before old new count listed rest st splits none h =
     one true = refl
     one false = refl
 
-    split : (before : Option Booking) → IsPermutation (listed 11) (at_most_one (λ r. r) (option_map (λ k. under b n (booking_cells k)) before) ++ rest)
-        → Splits keep_schema 5 (record bookings { tree = 11 }) bookings_place (λ _. refl) text.five_values 6 (1 ∷ 2 ∷ []) text.booking_tests text.booking_shows (at_pledge b n)
-        (number b ∷ number n ∷ number d ∷ number w ∷ number s ∷ []) (number b ∷ number n ∷ number d ∷ number w ∷ number s ∷ []) (number b ∷ number n ∷ number d ∷ number w ∷ number s ∷ []) (listed 11) rest
+    split : (before : Option Booking) → IsPermutation (listed bookings_tree) (at_most_one (λ r. r) (option_map (λ k. under b n (booking_cells k)) before) ++ rest)
+        → Splits keep_schema 5 (record bookings { tree = bookings_tree }) bookings_place (λ _. refl) text.five_values 6 (1 ∷ 2 ∷ []) text.booking_tests text.booking_shows (at_pledge b n)
+        (number b ∷ number n ∷ number d ∷ number w ∷ number s ∷ []) (number b ∷ number n ∷ number d ∷ number w ∷ number s ∷ []) (number b ∷ number n ∷ number d ∷ number w ∷ number s ∷ []) (listed bookings_tree) rest
     split None same = inl same
     split (Some k) same = inr (
       under b n (booking_cells k),
@@ -194,8 +193,8 @@ booking_put b n d w s before old new count listed rest st splits none h =
     )
 
 pub booking_wrote : (b n d w s : ℕ) (k : Booking) (before : Option Booking) (old new : State) (listed : Listed) (rest : List Row) → d ≡ k.day → w ≡ k.window → s ≡ state_number k.state → Lists keep_schema old.now listed
-    → IsPermutation (listed 11) (at_most_one (λ r. r) (option_map (λ k. under b n (booking_cells k)) before) ++ rest) → filter (at_pledge b n) rest ≡ [] → (count : ℕ)
-    → Executes text.booking_text (number b ∷ number n ∷ number d ∷ number w ∷ number s ∷ []) old new (Ok count)
-    → Lists keep_schema new.now (with_rows listed 11 (under b n (booking_cells k) ∷ rest))
+    → IsPermutation (listed bookings_tree) (at_most_one (λ r. r) (option_map (λ k. under b n (booking_cells k)) before) ++ rest) → filter (at_pledge b n) rest ≡ [] → (count : ℕ)
+    → Executes text.PUT_BOOKING.now (number b ∷ number n ∷ number d ∷ number w ∷ number s ∷ []) old new (Ok count)
+    → Lists keep_schema new.now (with_rows listed bookings_tree (under b n (booking_cells k) ∷ rest))
 booking_wrote b n d w s k before old new listed rest day window state st splits none count h =
-    subst (λ cells. Lists keep_schema new.now (with_rows listed 11 (under b n cells ∷ rest))) (λ i. number (day i) ∷ number (window i) ∷ number (state i) ∷ []) (booking_put b n d w s before old new count listed rest st splits none h)
+    subst (λ cells. Lists keep_schema new.now (with_rows listed bookings_tree (under b n cells ∷ rest))) (λ i. number (day i) ∷ number (window i) ∷ number (state i) ∷ []) (booking_put b n d w s before old new count listed rest st splits none h)

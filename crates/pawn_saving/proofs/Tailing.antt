@@ -11,7 +11,7 @@ use Rattle.one_table.specs.Lending.{IsLent}
 use Rattle.one_table.specs.Listing.{Lists, Listed, with_rows}
 use Rattle.one_table.proofs.Lent.{clean_before}
 use Rattle.one_table.proofs.Parts.{kept_then}
-use Rattle.pawn_tables.specs.Schema.{keep_schema}
+use Rattle.pawn_tables.specs.Schema.{keep_schema, bookings_tree, books_tree, entries_tree, extensions_tree, meta_tree, pledges_tree, secrets_tree, terms_tree, totals_tree}
 use Rattle.pawn_tables.specs.Rows.{placed_from}
 use Rattle.pawn_saving.specs.Writing.{IsCarried}
 use Rattle.pawn_saving.proofs.Hosting.{relisted}
@@ -77,15 +77,15 @@ again false xs ys rest same = IsPermutation-refl rest
 
 pub reordered : (db : Database) (listed : Listed) (tree : ℕ) (xs ys : List Row) → IsPermutation xs ys → Lists keep_schema db (with_rows listed tree ys) → Lists keep_schema db (with_rows listed tree xs)
 reordered db listed tree xs ys same l = relisted db _ _ (record {
-  books = again (0 == tree) xs ys (listed 0) same;
-  terms = again (1 == tree) xs ys (listed 1) same;
-  pledges = again (3 == tree) xs ys (listed 3) same;
-  entries = again (6 == tree) xs ys (listed 6) same;
-  secrets = again (8 == tree) xs ys (listed 8) same;
-  bookings = again (11 == tree) xs ys (listed 11) same;
-  meta = again (13 == tree) xs ys (listed 13) same;
-  totals = again (15 == tree) xs ys (listed 15) same;
-  extensions = again (17 == tree) xs ys (listed 17) same;
+  books = again (books_tree == tree) xs ys (listed books_tree) same;
+  terms = again (terms_tree == tree) xs ys (listed terms_tree) same;
+  pledges = again (pledges_tree == tree) xs ys (listed pledges_tree) same;
+  entries = again (entries_tree == tree) xs ys (listed entries_tree) same;
+  secrets = again (secrets_tree == tree) xs ys (listed secrets_tree) same;
+  bookings = again (bookings_tree == tree) xs ys (listed bookings_tree) same;
+  meta = again (meta_tree == tree) xs ys (listed meta_tree) same;
+  totals = again (totals_tree == tree) xs ys (listed totals_tree) same;
+  extensions = again (extensions_tree == tree) xs ys (listed extensions_tree) same;
 }) l
 
 -- the rows of a table are put in place of others that were put before
@@ -95,15 +95,15 @@ over false xs ys rest = IsPermutation-refl rest
 
 pub put_over : (db : Database) (listed : Listed) (tree : ℕ) (xs ys : List Row) → Lists keep_schema db (with_rows (with_rows listed tree ys) tree xs) → Lists keep_schema db (with_rows listed tree xs)
 put_over db listed tree xs ys l = relisted db _ _ (record {
-  books = over (0 == tree) xs ys (listed 0);
-  terms = over (1 == tree) xs ys (listed 1);
-  pledges = over (3 == tree) xs ys (listed 3);
-  entries = over (6 == tree) xs ys (listed 6);
-  secrets = over (8 == tree) xs ys (listed 8);
-  bookings = over (11 == tree) xs ys (listed 11);
-  meta = over (13 == tree) xs ys (listed 13);
-  totals = over (15 == tree) xs ys (listed 15);
-  extensions = over (17 == tree) xs ys (listed 17);
+  books = over (books_tree == tree) xs ys (listed books_tree);
+  terms = over (terms_tree == tree) xs ys (listed terms_tree);
+  pledges = over (pledges_tree == tree) xs ys (listed pledges_tree);
+  entries = over (entries_tree == tree) xs ys (listed entries_tree);
+  secrets = over (secrets_tree == tree) xs ys (listed secrets_tree);
+  bookings = over (bookings_tree == tree) xs ys (listed bookings_tree);
+  meta = over (meta_tree == tree) xs ys (listed meta_tree);
+  totals = over (totals_tree == tree) xs ys (listed totals_tree);
+  extensions = over (extensions_tree == tree) xs ys (listed extensions_tree);
 }) l
 
 -- a table as it is
@@ -113,15 +113,15 @@ as_is false t tree listed is = IsPermutation-refl _
 
 pub nothing_put : (db : Database) (listed : Listed) (tree : ℕ) → Lists keep_schema db listed → Lists keep_schema db (with_rows listed tree (listed tree))
 nothing_put db listed tree l = relisted db _ _ (record {
-  books = as_is (0 == tree) 0 tree listed refl;
-  terms = as_is (1 == tree) 1 tree listed refl;
-  pledges = as_is (3 == tree) 3 tree listed refl;
-  entries = as_is (6 == tree) 6 tree listed refl;
-  secrets = as_is (8 == tree) 8 tree listed refl;
-  bookings = as_is (11 == tree) 11 tree listed refl;
-  meta = as_is (13 == tree) 13 tree listed refl;
-  totals = as_is (15 == tree) 15 tree listed refl;
-  extensions = as_is (17 == tree) 17 tree listed refl;
+  books = as_is (books_tree == tree) books_tree tree listed refl;
+  terms = as_is (terms_tree == tree) terms_tree tree listed refl;
+  pledges = as_is (pledges_tree == tree) pledges_tree tree listed refl;
+  entries = as_is (entries_tree == tree) entries_tree tree listed refl;
+  secrets = as_is (secrets_tree == tree) secrets_tree tree listed refl;
+  bookings = as_is (bookings_tree == tree) bookings_tree tree listed refl;
+  meta = as_is (meta_tree == tree) meta_tree tree listed refl;
+  totals = as_is (totals_tree == tree) totals_tree tree listed refl;
+  extensions = as_is (extensions_tree == tree) extensions_tree tree listed refl;
 }) l
 
 pub none_put : (tree : ℕ) (s : State) → ArePut tree s s []

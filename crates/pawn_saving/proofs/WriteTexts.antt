@@ -15,45 +15,34 @@ use Rattle.sqlite_schema.specs.declared.command.Conflict.TheVariants.{Abort}
 use Rattle.sqlite_schema.specs.declared.command.Upsert.{Upsert}
 use Rattle.sqlite.specs.declared.types.Value.TheVariants.{Null, Int, Text}
 use Rattle.sqlite.proofs.Callers.{IsPlain, command_of}
-use Rattle.pawn_tables.specs.Schema.{keep_schema}
+use Rattle.pawn_tables.specs.Schema.{keep_schema, bookings_tree, books_tree, meta_tree, pledges_tree, totals_tree}
 use Rattle.one_table.proofs.OneTable.{over_table}
 use Rattle.one_table.proofs.Texts.{Asks, Puts, Sets, Returns, is_param}
 use Rattle.pawn_tables.proofs.ReadTexts.{of_book}
-
-abbrev pub book_text : List ℕ
-book_text = codes "INSERT INTO books VALUES (?1, ?2, ?3, ?4, 0, 0, NULL, NULL)"
+pub use Rattle.pawn_tables.specs.declared.texts.TheConstants.{ADD_ROWS, PUT_BOOK, PUT_BOOKING, PUT_ENTRY, PUT_EXTENSION, PUT_PLEDGE, PUT_SECRET, PUT_TERMS, PUT_TOTALS, READ_LIMIT, SET_IMPORT, SET_PLEDGE, SET_PLEDGES_COUNT, SET_TERMS_COUNT, SET_TOTALS}
 
 abbrev pub book_values : List Term
 book_values = col 0 0 ∷ lit Null ∷ col 0 1 ∷ col 0 2 ∷ col 0 3 ∷ lit (Int (pos 0)) ∷ lit (Int (pos 0)) ∷ lit Null ∷ lit Null ∷ []
 
-pub book_is : Puts keep_schema book_text 0 book_values 9
+pub book_is : Puts keep_schema PUT_BOOK.now 0 book_values 9
 unfolding understood everything
 book_is = (refl, (refl, refl))
-
-abbrev pub entry_text : List ℕ
-entry_text = codes "INSERT INTO entries VALUES (?1, ?2, ?3, ?4, ?5, ?6)"
 
 abbrev pub six_values : List Term
 six_values = lit Null ∷ col 0 0 ∷ col 0 1 ∷ col 0 2 ∷ col 0 3 ∷ col 0 4 ∷ col 0 5 ∷ []
 
-pub entry_is : Puts keep_schema entry_text 3 six_values 7
+pub entry_is : Puts keep_schema PUT_ENTRY.now 3 six_values 7
 unfolding understood everything
 entry_is = (refl, (refl, refl))
 
-abbrev pub secret_text : List ℕ
-secret_text = codes "INSERT INTO secrets VALUES (?1, ?2, ?3, ?4, ?5, ?6)"
-
-pub secret_is : Puts keep_schema secret_text 4 six_values 7
+pub secret_is : Puts keep_schema PUT_SECRET.now 4 six_values 7
 unfolding understood everything
 secret_is = (refl, (refl, refl))
-
-abbrev pub extension_text : List ℕ
-extension_text = codes "INSERT INTO extensions VALUES (?1, ?2, ?3, ?4, ?5)"
 
 abbrev pub five_values : List Term
 five_values = lit Null ∷ col 0 0 ∷ col 0 1 ∷ col 0 2 ∷ col 0 3 ∷ col 0 4 ∷ []
 
-pub extension_is : Puts keep_schema extension_text 8 five_values 6
+pub extension_is : Puts keep_schema PUT_EXTENSION.now 8 five_values 6
 unfolding understood everything
 extension_is = (refl, (refl, refl))
 
@@ -67,9 +56,6 @@ or_terms t [] = t
 or_terms t (u ∷ more) = or_terms (op2 Or t u) more
 
 -- held, last_day, ends and the closing are all that changes of a row of a pledge
-abbrev pub change_text : List ℕ
-change_text = codes "UPDATE pledges SET ends = ?3, held = ?4, last_day = ?5, closed = ?6, closed_day = ?7, amount = ?8 WHERE book = ?1 AND number = ?2 AND (ends IS NOT ?3 OR held IS NOT ?4 OR last_day IS NOT ?5 OR closed IS NOT ?6 OR closed_day IS NOT ?7 OR amount IS NOT ?8)"
-
 -- the row is written where one of them is another
 abbrev pub change_tests : List Term
 change_tests = is_param 1 0 ∷ is_param 2 1 ∷ or_terms (is_other 11 2) (is_other 12 3 ∷ is_other 13 4 ∷ is_other 14 5 ∷ is_other 15 6 ∷ is_other 16 7 ∷ []) ∷ []
@@ -77,12 +63,9 @@ change_tests = is_param 1 0 ∷ is_param 2 1 ∷ or_terms (is_other 11 2) (is_ot
 abbrev pub change_shows : List Term
 change_shows = col 1 0 ∷ col 1 0 ∷ col 1 1 ∷ col 1 2 ∷ col 1 3 ∷ col 1 4 ∷ col 1 5 ∷ col 1 6 ∷ col 1 7 ∷ col 1 8 ∷ col 1 9 ∷ col 1 10 ∷ col 0 2 ∷ col 0 3 ∷ col 0 4 ∷ col 0 5 ∷ col 0 6 ∷ col 0 7 ∷ []
 
-pub change_is : Sets keep_schema change_text 2 (over_table 3 change_tests change_shows [])
+pub change_is : Sets keep_schema SET_PLEDGE.now 2 (over_table pledges_tree change_tests change_shows [])
 unfolding understood everything
 change_is = (refl, (refl, refl))
-
-abbrev pub totals_text : List ℕ
-totals_text = codes "UPDATE totals SET day = ?3, principal = ?4, charges = ?5 WHERE book = ?1 AND number = ?2 AND (day IS NOT ?3 OR principal IS NOT ?4 OR charges IS NOT ?5)"
 
 abbrev pub totals_tests : List Term
 totals_tests = is_param 1 0 ∷ is_param 2 1 ∷ or_terms (is_other 3 2) (is_other 4 3 ∷ is_other 5 4 ∷ []) ∷ []
@@ -90,12 +73,9 @@ totals_tests = is_param 1 0 ∷ is_param 2 1 ∷ or_terms (is_other 3 2) (is_oth
 abbrev pub totals_shows : List Term
 totals_shows = col 1 0 ∷ col 1 0 ∷ col 1 1 ∷ col 1 2 ∷ col 0 2 ∷ col 0 3 ∷ col 0 4 ∷ []
 
-pub totals_is : Sets keep_schema totals_text 7 (over_table 15 totals_tests totals_shows [])
+pub totals_is : Sets keep_schema SET_TOTALS.now 7 (over_table totals_tree totals_tests totals_shows [])
 unfolding understood everything
 totals_is = (refl, (refl, refl))
-
-abbrev pub booking_text : List ℕ
-booking_text = codes "INSERT INTO bookings VALUES (?1, ?2, ?3, ?4, ?5) ON CONFLICT (book, number) DO UPDATE SET day = excluded.day, slot = excluded.slot, state = excluded.state"
 
 -- the row that is there is told by its number, after the five parameters, and the columns that were to be put come after that
 abbrev pub booking_tests : List Term
@@ -105,14 +85,11 @@ abbrev pub booking_shows : List Term
 booking_shows = col 1 0 ∷ col 1 0 ∷ col 1 1 ∷ col 1 2 ∷ col 0 9 ∷ col 0 10 ∷ col 0 11 ∷ []
 
 abbrev pub booking_clause : Upsert
-booking_clause = record { target = Some (1 ∷ 2 ∷ []); update = Some (record { lets = []; body = over_table 11 booking_tests booking_shows [] }) }
+booking_clause = record { target = Some (1 ∷ 2 ∷ []); update = Some (record { lets = []; body = over_table bookings_tree booking_tests booking_shows [] }) }
 
-pub booking_is : (command_of (understood keep_schema booking_text) ≡ InsertOr 5 Abort (Values five_values 6) (booking_clause ∷ [])) × IsPlain (understood keep_schema booking_text)
+pub booking_is : (command_of (understood keep_schema PUT_BOOKING.now) ≡ InsertOr 5 Abort (Values five_values 6) (booking_clause ∷ [])) × IsPlain (understood keep_schema PUT_BOOKING.now)
 unfolding understood everything
 booking_is = (refl, (refl, refl))
-
-abbrev pub count_text : List ℕ
-count_text = codes "UPDATE meta SET value = value + ?1 WHERE name = 'rows' RETURNING value"
 
 abbrev pub count_tests : List Term
 count_tests = op2 (Compare Eq Binary) (col 1 1) (lit (Text (codes "rows"))) ∷ []
@@ -123,12 +100,9 @@ count_shows = col 1 0 ∷ col 1 0 ∷ col 1 1 ∷ op2 (Arith Add) (col 1 2) (col
 abbrev pub count_returns : Returning
 count_returns = record { names = codes "value" ∷ []; row = Values (col 0 4 ∷ []) 1 }
 
-pub count_is : Returns keep_schema count_text 6 (over_table 13 count_tests count_shows []) count_returns
+pub count_is : Returns keep_schema ADD_ROWS.now 6 (over_table meta_tree count_tests count_shows []) count_returns
 unfolding understood everything
 count_is = (refl, refl, refl)
-
-abbrev pub limit_text : List ℕ
-limit_text = codes "SELECT value FROM meta WHERE name = 'limit'"
 
 abbrev pub limit_tests : List Term
 limit_tests = op2 (Compare Eq Binary) (col 1 1) (lit (Text (codes "limit"))) ∷ []
@@ -136,61 +110,43 @@ limit_tests = op2 (Compare Eq Binary) (col 1 1) (lit (Text (codes "limit"))) ∷
 abbrev pub limit_shows : List Term
 limit_shows = col 1 2 ∷ []
 
-pub limit_is : Asks keep_schema limit_text (over_table 13 limit_tests limit_shows []) (codes "value" ∷ [])
+pub limit_is : Asks keep_schema READ_LIMIT.now (over_table meta_tree limit_tests limit_shows []) (codes "value" ∷ [])
 unfolding understood everything
 limit_is = (refl, refl, (refl, refl))
 
-abbrev pub terms_text : List ℕ
-terms_text = codes "INSERT INTO terms VALUES (?1, ?2, ?3, ?4, ?5)"
-
-pub terms_is : Puts keep_schema terms_text 1 five_values 6
+pub terms_is : Puts keep_schema PUT_TERMS.now 1 five_values 6
 unfolding understood everything
 terms_is = (refl, (refl, refl))
 
-abbrev pub new_totals_text : List ℕ
-new_totals_text = codes "INSERT INTO totals VALUES (?1, ?2, ?3, ?4, ?5)"
-
-pub new_totals_is : Puts keep_schema new_totals_text 7 five_values 6
+pub new_totals_is : Puts keep_schema PUT_TOTALS.now 7 five_values 6
 unfolding understood everything
 new_totals_is = (refl, (refl, refl))
-
-abbrev pub pledge_text : List ℕ
-pledge_text = codes "INSERT INTO pledges VALUES (?1, ?2, ?3, ?4, ?5, ?6, ?7, ?8, ?9, ?10, ?11, ?12, ?13, ?14, ?15, ?16)"
 
 abbrev pub sixteen_values : List Term
 sixteen_values =
     lit Null ∷ col 0 0 ∷ col 0 1 ∷ col 0 2 ∷ col 0 3 ∷ col 0 4 ∷ col 0 5 ∷ col 0 6 ∷ col 0 7 ∷ col 0 8 ∷ col 0 9 ∷ col 0 10 ∷ col 0 11 ∷ col 0 12 ∷ col 0 13 ∷ col 0 14 ∷ col 0 15 ∷ []
 
-pub pledge_is : Puts keep_schema pledge_text 2 sixteen_values 17
+pub pledge_is : Puts keep_schema PUT_PLEDGE.now 2 sixteen_values 17
 unfolding understood everything
 pledge_is = (refl, (refl, refl))
-
-abbrev pub terms_count_text : List ℕ
-terms_count_text = codes "UPDATE books SET terms = ?2 WHERE book = ?1"
 
 abbrev pub terms_count_shows : List Term
 terms_count_shows = col 1 0 ∷ col 1 0 ∷ lit Null ∷ col 1 2 ∷ col 1 3 ∷ col 1 4 ∷ col 0 1 ∷ col 1 6 ∷ col 1 7 ∷ col 1 8 ∷ []
 
-pub terms_count_is : Sets keep_schema terms_count_text 0 (over_table 0 of_book terms_count_shows [])
+pub terms_count_is : Sets keep_schema SET_TERMS_COUNT.now 0 (over_table books_tree of_book terms_count_shows [])
 unfolding understood everything
 terms_count_is = (refl, (refl, refl))
-
-abbrev pub pledges_count_text : List ℕ
-pledges_count_text = codes "UPDATE books SET pledges = ?2 WHERE book = ?1"
 
 abbrev pub pledges_count_shows : List Term
 pledges_count_shows = col 1 0 ∷ col 1 0 ∷ lit Null ∷ col 1 2 ∷ col 1 3 ∷ col 1 4 ∷ col 1 5 ∷ col 0 1 ∷ col 1 7 ∷ col 1 8 ∷ []
 
-pub pledges_count_is : Sets keep_schema pledges_count_text 0 (over_table 0 of_book pledges_count_shows [])
+pub pledges_count_is : Sets keep_schema SET_PLEDGES_COUNT.now 0 (over_table books_tree of_book pledges_count_shows [])
 unfolding understood everything
 pledges_count_is = (refl, (refl, refl))
-
-abbrev pub import_text : List ℕ
-import_text = codes "UPDATE books SET terms = ?2, pledges = ?3, import_key = ?4, imported = ?3 WHERE book = ?1"
 
 abbrev pub import_shows : List Term
 import_shows = col 1 0 ∷ col 1 0 ∷ lit Null ∷ col 1 2 ∷ col 1 3 ∷ col 1 4 ∷ col 0 1 ∷ col 0 2 ∷ col 0 3 ∷ col 0 2 ∷ []
 
-pub import_is : Sets keep_schema import_text 0 (over_table 0 of_book import_shows [])
+pub import_is : Sets keep_schema SET_IMPORT.now 0 (over_table books_tree of_book import_shows [])
 unfolding understood everything
 import_is = (refl, (refl, refl))

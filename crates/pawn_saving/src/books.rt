@@ -11,6 +11,7 @@ ghost use Rattle.pawn_saving.specs.Writing.{Joins, Replaces};
 ghost use Rattle.pawn_tables.specs.Schema.{books_tree, terms_tree};
 
 use pawn_book::{KeepError, NewBook, Rates, Secret};
+use pawn_tables::texts::{PUT_BOOK, PUT_TERMS, SET_IMPORT, SET_PLEDGES_COUNT, SET_TERMS_COUNT};
 use pawn_tables::{small, write};
 use sqlite::{Alter, Transaction, params};
 
@@ -29,11 +30,7 @@ pub(crate) fn put_book<S: Alter>(
     let key = new_book.key.word().to_be_bytes();
     let name = new_book.name.as_str();
     let capacity = new_book.capacity.get();
-    write(
-        tx,
-        "INSERT INTO books VALUES (?1, ?2, ?3, ?4, 0, 0, NULL, NULL)",
-        params![book, key.as_slice(), name, capacity],
-    )
+    write(tx, PUT_BOOK, params![book, key.as_slice(), name, capacity])
 }
 
 /// Sets the count of the terms of a book.
@@ -44,16 +41,12 @@ pub(crate) fn set_terms_count<S: Alter>(
 ) -> Result<(), KeepError>
     ensures same_reference { tx.new.conn.ghost_name ≡ tx.old.conn.ghost_name }
     ensures wrote { (k : BookValue) (terms : List Rates) → length terms ≡ count
-        → Replaces (state S.Store tx.old.conn.now) (state S.Store tx.new.conn.now) result 0
+        → Replaces (state S.Store tx.old.conn.now) (state S.Store tx.new.conn.now) result books_tree
         (at_book book) (book_row book k) (book_row book (record k { terms = terms })) }
     ensures lent { IsLent (state S.Store tx.old.conn.now) (state S.Store tx.new.conn.now)
         (is_ok result) }
 {
-    write(
-        tx,
-        "UPDATE books SET terms = ?2 WHERE book = ?1",
-        params![book, count],
-    )
+    write(tx, SET_TERMS_COUNT, params![book, count])
 }
 
 /// Sets the count of the pledges of a book.
@@ -64,16 +57,12 @@ pub(crate) fn set_pledges_count<S: Alter>(
 ) -> Result<(), KeepError>
     ensures same_reference { tx.new.conn.ghost_name ≡ tx.old.conn.ghost_name }
     ensures wrote { (k : BookValue) (pledges : List PledgeValue) → length pledges ≡ count
-        → Replaces (state S.Store tx.old.conn.now) (state S.Store tx.new.conn.now) result 0
+        → Replaces (state S.Store tx.old.conn.now) (state S.Store tx.new.conn.now) result books_tree
         (at_book book) (book_row book k) (book_row book (record k { pledges = pledges })) }
     ensures lent { IsLent (state S.Store tx.old.conn.now) (state S.Store tx.new.conn.now)
         (is_ok result) }
 {
-    write(
-        tx,
-        "UPDATE books SET pledges = ?2 WHERE book = ?1",
-        params![book, count],
-    )
+    write(tx, SET_PLEDGES_COUNT, params![book, count])
 }
 
 /// Notes an import: its key, and how many terms and pledges it brought.
@@ -87,7 +76,7 @@ pub(crate) fn set_import<S: Alter>(
     ensures same_reference { tx.new.conn.ghost_name ≡ tx.old.conn.ghost_name }
     ensures wrote { (k : BookValue) (rows : BookRows) → length rows.terms ≡ terms
         → length rows.pledges ≡ pledges
-        → Replaces (state S.Store tx.old.conn.now) (state S.Store tx.new.conn.now) result 0
+        → Replaces (state S.Store tx.old.conn.now) (state S.Store tx.new.conn.now) result books_tree
         (at_book book) (book_row book k) (book_row book (filled_book k key rows)) }
     ensures lent { IsLent (state S.Store tx.old.conn.now) (state S.Store tx.new.conn.now)
         (is_ok result) }
@@ -95,7 +84,7 @@ pub(crate) fn set_import<S: Alter>(
     let word = key.word().to_be_bytes();
     write(
         tx,
-        "UPDATE books SET terms = ?2, pledges = ?3, import_key = ?4, imported = ?3 WHERE book = ?1",
+        SET_IMPORT,
         params![book, terms, pledges, word.as_slice()],
     )
 }
@@ -117,9 +106,5 @@ pub(crate) fn put_terms<S: Alter>(
     let rate = small(rates.rate)?;
     let before = small(rates.keep_before)?;
     let after = small(rates.keep_after)?;
-    write(
-        tx,
-        "INSERT INTO terms VALUES (?1, ?2, ?3, ?4, ?5)",
-        params![book, version, rate, before, after],
-    )
+    write(tx, PUT_TERMS, params![book, version, rate, before, after])
 }

@@ -9,6 +9,7 @@ ghost use Rattle.pawn_tables.specs.Meta.{meta_row, meta_rows, other_rows};
 
 use one_table::ask;
 use pawn_book::KeepError;
+use pawn_tables::texts::{ADD_ROWS, READ_LIMIT};
 use pawn_tables::{REFUSED, refused, small};
 use sqlite::{Alter, Transaction, params};
 
@@ -25,7 +26,7 @@ fn limit_in<S: Alter>(tx: &mut Transaction<'_, S>) -> Result<u32, KeepError>
     ensures lent { IsLent (state S.Store tx.old.conn.now) (state S.Store tx.new.conn.now)
         (is_ok result) }
 {
-    let rows = match ask(tx, "SELECT value FROM meta WHERE name = 'limit'", &[]) {
+    let rows = match ask(tx, READ_LIMIT, &[]) {
         Ok(rows) => rows,
         Err(error) => return Err(refused(error)),
     };
@@ -51,10 +52,7 @@ fn count_up<S: Alter>(tx: &mut Transaction<'_, S>, by: u32) -> Result<u64, KeepE
     ensures lent { IsLent (state S.Store tx.old.conn.now) (state S.Store tx.new.conn.now)
         (is_ok result) }
 {
-    let row = match tx.query_row(
-        "UPDATE meta SET value = value + ?1 WHERE name = 'rows' RETURNING value",
-        params![by],
-    ) {
+    let row = match tx.query_row(ADD_ROWS, params![by]) {
         Ok(row) => row,
         Err(error) => return Err(refused(error)),
     };

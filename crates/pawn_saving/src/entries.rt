@@ -6,6 +6,7 @@ ghost use Rattle.pawn_saving.specs.Writing.{Joins};
 ghost use Rattle.pawn_tables.specs.Schema.{entries_tree, extensions_tree, secrets_tree};
 
 use pawn_book::{Entry, Extension, Issued, KeepError};
+use pawn_tables::texts::{PUT_ENTRY, PUT_EXTENSION, PUT_SECRET};
 use pawn_tables::{issue_number, small, sort_number, write};
 use sqlite::{Alter, Transaction, params};
 
@@ -27,11 +28,7 @@ pub(crate) fn put_entry<S: Alter>(
     let pence = small(entry.pence)?;
     let day = entry.day.count();
     let sort = sort_number(entry.sort);
-    write(
-        tx,
-        "INSERT INTO entries VALUES (?1, ?2, ?3, ?4, ?5, ?6)",
-        params![book, number, seq, day, sort, pence],
-    )
+    write(tx, PUT_ENTRY, params![book, number, seq, day, sort, pence])
 }
 
 /// Puts a secret of a pledge at its place.
@@ -54,7 +51,7 @@ pub(crate) fn put_secret<S: Alter>(
     let secret = issued.secret.word().to_be_bytes();
     write(
         tx,
-        "INSERT INTO secrets VALUES (?1, ?2, ?3, ?4, ?5, ?6)",
+        PUT_SECRET,
         params![book, number, place, day, sort, secret.as_slice()],
     )
 }
@@ -76,9 +73,5 @@ pub(crate) fn put_extension<S: Alter>(
 {
     let day = extension.day.count();
     let until = extension.until.count();
-    write(
-        tx,
-        "INSERT INTO extensions VALUES (?1, ?2, ?3, ?4, ?5)",
-        params![book, number, place, day, until],
-    )
+    write(tx, PUT_EXTENSION, params![book, number, place, day, until])
 }

@@ -7,10 +7,11 @@ ghost use Rattle.one_table.specs.Lending.{IsLent};
 ghost use Rattle.pawn_tables.specs.At.{at_pledge};
 ghost use Rattle.pawn_tables.specs.Rows.{under, booking_cells, pledge_cells, totals_cells};
 ghost use Rattle.pawn_saving.specs.Writing.{Joins, PutsOver, Replaces};
-ghost use Rattle.pawn_tables.specs.Schema.{pledges_tree, totals_tree};
+ghost use Rattle.pawn_tables.specs.Schema.{pledges_tree, totals_tree, bookings_tree};
 
 use pawn_book::{Booking, KeepError, Pledge};
 use pawn_debt::Totals;
+use pawn_tables::texts::{PUT_BOOKING, PUT_PLEDGE, PUT_TOTALS, SET_PLEDGE, SET_TOTALS};
 use pawn_tables::{
     REFUSED, agreed_value, closed_amount, closed_day, closed_number, flag_number, kind_number,
     small, state_number, write,
@@ -49,7 +50,7 @@ pub(crate) fn put_row<S: Alter>(
     let amount = closed_amount(standing.closing)?;
     write(
         tx,
-        "INSERT INTO pledges VALUES (?1, ?2, ?3, ?4, ?5, ?6, ?7, ?8, ?9, ?10, ?11, ?12, ?13, ?14, ?15, ?16)",
+        PUT_PLEDGE,
         params![
             book, number, reference, article, kind, credit, taken, &agreed, five, version, ends,
             held, last, closed, &closed_on, &amount
@@ -67,7 +68,7 @@ pub(crate) fn set_row<S: Alter>(
 ) -> Result<(), KeepError>
     ensures same_reference { tx.new.conn.ghost_name ≡ tx.old.conn.ghost_name }
     ensures wrote { (before : PledgeValue) → before.agreement ≡ pledge.now.agreement
-        → Replaces (state S.Store tx.old.conn.now) (state S.Store tx.new.conn.now) result 3
+        → Replaces (state S.Store tx.old.conn.now) (state S.Store tx.new.conn.now) result pledges_tree
         (at_pledge book number) (under book number (pledge_cells before))
         (under book number (pledge_cells pledge.now)) }
     ensures lent { IsLent (state S.Store tx.old.conn.now) (state S.Store tx.new.conn.now)
@@ -82,7 +83,7 @@ pub(crate) fn set_row<S: Alter>(
     let amount = closed_amount(standing.closing)?;
     write(
         tx,
-        "UPDATE pledges SET ends = ?3, held = ?4, last_day = ?5, closed = ?6, closed_day = ?7, amount = ?8 WHERE book = ?1 AND number = ?2 AND (ends IS NOT ?3 OR held IS NOT ?4 OR last_day IS NOT ?5 OR closed IS NOT ?6 OR closed_day IS NOT ?7 OR amount IS NOT ?8)",
+        SET_PLEDGE,
         params![book, number, ends, held, last, closed, &closed_on, &amount],
     )
 }
@@ -96,7 +97,7 @@ pub(crate) fn put_booking<S: Alter>(
 ) -> Result<(), KeepError>
     ensures same_reference { tx.new.conn.ghost_name ≡ tx.old.conn.ghost_name }
     ensures wrote { (before : Option Booking)
-        → PutsOver (state S.Store tx.old.conn.now) (state S.Store tx.new.conn.now) result 11
+        → PutsOver (state S.Store tx.old.conn.now) (state S.Store tx.new.conn.now) result bookings_tree
         (at_pledge book number) (option_map (λ k. under book number (booking_cells k)) before)
         (under book number (booking_cells booking)) }
     ensures lent { IsLent (state S.Store tx.old.conn.now) (state S.Store tx.new.conn.now)
@@ -105,11 +106,7 @@ pub(crate) fn put_booking<S: Alter>(
     let day = booking.day.count();
     let window = small(booking.window)?;
     let state = state_number(booking.state);
-    write(
-        tx,
-        "INSERT INTO bookings VALUES (?1, ?2, ?3, ?4, ?5) ON CONFLICT (book, number) DO UPDATE SET day = excluded.day, slot = excluded.slot, state = excluded.state",
-        params![book, number, day, window, state],
-    )
+    write(tx, PUT_BOOKING, params![book, number, day, window, state])
 }
 
 // The charges as a statement takes them.
@@ -141,7 +138,7 @@ pub fn put_totals<S: Alter>(
     let charges = charges_of(totals.millionths)?;
     write(
         tx,
-        "INSERT INTO totals VALUES (?1, ?2, ?3, ?4, ?5)",
+        PUT_TOTALS,
         params![book, number, day, principal, charges],
     )
 }
@@ -155,7 +152,7 @@ pub(crate) fn set_totals<S: Alter>(
 ) -> Result<(), KeepError>
     ensures same_reference { tx.new.conn.ghost_name ≡ tx.old.conn.ghost_name }
     ensures wrote { (before : Totals)
-        → Replaces (state S.Store tx.old.conn.now) (state S.Store tx.new.conn.now) result 15
+        → Replaces (state S.Store tx.old.conn.now) (state S.Store tx.new.conn.now) result totals_tree
         (at_pledge book number) (under book number (totals_cells before))
         (under book number (totals_cells totals.now)) }
     ensures lent { IsLent (state S.Store tx.old.conn.now) (state S.Store tx.new.conn.now)
@@ -166,7 +163,7 @@ pub(crate) fn set_totals<S: Alter>(
     let charges = charges_of(totals.millionths)?;
     write(
         tx,
-        "UPDATE totals SET day = ?3, principal = ?4, charges = ?5 WHERE book = ?1 AND number = ?2 AND (day IS NOT ?3 OR principal IS NOT ?4 OR charges IS NOT ?5)",
+        SET_TOTALS,
         params![book, number, day, principal, charges],
     )
 }

@@ -1,3 +1,4 @@
+pub mod Asking
 pub mod BookReads
 pub mod Counts
 pub mod Joins

@@ -22,7 +22,7 @@ use Rattle.pawn_book.specs.Sheet.{part_item, part_items}
 use Rattle.pawn_book.specs.Bookings.{confirmed_count, is_asked, is_confirmed, is_confirmed_for}
 use Rattle.pawn_book.specs.HostStep.{Host}
 use Rattle.pawn_book.specs.Keeping.{pledges_of}
-use Rattle.pawn_tables.specs.Schema.{keep_schema, pledges, bookings}
+use Rattle.pawn_tables.specs.Schema.{keep_schema, pledges, bookings, bookings_tree, pledges_tree}
 use Rattle.pawn_tables.specs.Rows.{number, number_in_book, under, pledge_cells, pledge_listed, booking_cells, booking_listed, state_number, closed_number}
 use Rattle.pawn_tables.specs.Heads.{number_cells}
 use Rattle.pawn_tables.specs.Lines.{asked_cells, asked_line, confirmed_line, ends_line, item_of, line_cells}
@@ -136,12 +136,12 @@ at_asked b day v = list_all (λ (x : Bool). x) (is_at (column v 0) (number b) �
 asked_passes : (b day m n : ℕ) (k : Booking) → at_asked b day (under m n (booking_cells k)) ≡ ((m == b) && (true && is_asked_at day k))
 asked_passes b day m n k = λ i. equals m b i && (equals k.day day i && (one_test (is_at (number (state_number k.state)) (number 0)) ∙ equals (state_number k.state) 0 ∙ asked_state k.state) i)
 
-pub asked_shown : (b day : ℕ) (old new : State) (h : Host) (rows : List Row) → StandsFor old.now h → Shown text.asked_text (number b ∷ number day ∷ []) old new rows → rows ≡ count_of (length (part_items part_of.Asked day (pledges_of (get h.books b)))) ∷ []
+pub asked_shown : (b day : ℕ) (old new : State) (h : Host) (rows : List Row) → StandsFor old.now h → Shown text.COUNT_ASKED.now (number b ∷ number day ∷ []) old new rows → rows ≡ count_of (length (part_items part_of.Asked day (pledges_of (get h.books b)))) ∷ []
 asked_shown b day old new h rows st shown =
-    let t : Table = record bookings { tree = 11 } in
+    let t : Table = record bookings { tree = bookings_tree } in
     let ps = pledges_of (get h.books b) in
     let cells : Row → Row = λ v. column v 1 ∷ [] in
-    shown_count keep_schema 11 (λ _. refl) t text.asked_tests (number b ∷ number day ∷ []) (at_asked b day) (λ _. refl) text.asked_text _ text.asked_is old new (of_pledges h booking_listed) rows st.schema st.bookings shown
+    shown_count keep_schema bookings_tree (λ _. refl) t text.asked_tests (number b ∷ number day ∷ []) (at_asked b day) (λ _. refl) text.COUNT_ASKED.now _ text.asked_is old new (of_pledges h booking_listed) rows st.schema st.bookings shown
     ∙ ap (λ n. count_of n ∷ []) (sym (length-map _ cells) ∙ ap length (shown_each b booking_in booking_cells (at_asked b day) (λ n. true) (is_asked_at day) (λ n (k : Booking). (n, k.window)) (λ v. column v 1 ∷ []) (λ (a : ℕ × ℕ). number_cells a.0) (asked_passes b day) (λ m n k. refl) h)
     ∙ length-map _ _ ∙ ap (λ qs. length (filter_map (asked_told day) qs)) (all_kept ps)
     ∙ sym (ap length (items_are part_of.Asked day (asked_told day) asked_line (asked_says day) (asked_numbers day) ps) ∙ length-map _ _))
@@ -152,12 +152,12 @@ at_end b day v = list_all (λ (x : Bool). x) (is_at (column v 0) (number b) ∷ 
 ends_passes : (b day m n : ℕ) (p : PledgeValue) → at_end b day (under m n (pledge_cells p)) ≡ ((m == b) && (true && is_ending day p))
 ends_passes b day m n p = λ i. equals m b i && ((equals (closed_number p.standing.closing) 0 ∙ open_closing p.standing.closing) i && (one_test (is_at (number (end_of p)) (number day)) ∙ equals (end_of p) day) i)
 
-pub ends_shown : (b day : ℕ) (old new : State) (h : Host) (rows : List Row) → StandsFor old.now h → Shown text.ends_text (number b ∷ number day ∷ []) old new rows → rows ≡ count_of (length (part_items part_of.Ends day (pledges_of (get h.books b)))) ∷ []
+pub ends_shown : (b day : ℕ) (old new : State) (h : Host) (rows : List Row) → StandsFor old.now h → Shown text.COUNT_ENDS.now (number b ∷ number day ∷ []) old new rows → rows ≡ count_of (length (part_items part_of.Ends day (pledges_of (get h.books b)))) ∷ []
 ends_shown b day old new h rows st shown =
-    let t : Table = record pledges { tree = 3 } in
+    let t : Table = record pledges { tree = pledges_tree } in
     let ps = pledges_of (get h.books b) in
     let cells : Row → Row = λ v. column v 1 ∷ [] in
-    shown_count keep_schema 3 (λ _. refl) t text.ends_tests (number b ∷ number day ∷ []) (at_end b day) (λ _. refl) text.ends_text _ text.ends_is old new (of_pledges h pledge_listed) rows st.schema st.pledges shown
+    shown_count keep_schema pledges_tree (λ _. refl) t text.ends_tests (number b ∷ number day ∷ []) (at_end b day) (λ _. refl) text.COUNT_ENDS.now _ text.ends_is old new (of_pledges h pledge_listed) rows st.schema st.pledges shown
     ∙ ap (λ n. count_of n ∷ []) (sym (length-map _ cells) ∙ ap length (shown_each b (λ (p : PledgeValue). Some p) pledge_cells (at_end b day) (λ n. true) (is_ending day) (λ n (x : PledgeValue). n) (λ v. column v 1 ∷ []) number_cells (ends_passes b day) (λ m n k. refl) h)
     ∙ length-map _ _ ∙ ap (λ qs. length (filter_map (ends_told day) qs)) (all_kept ps)
     ∙ sym (ap length (items_are part_of.Ends day (ends_told day) ends_line (ends_says day) (ends_numbers day) ps) ∙ length-map _ _))
@@ -176,15 +176,15 @@ confirmed_page_passes b above day window m n k =
     (λ i. equals m b i && (books.above n above i && (equals k.day day i && (equals k.window window i && (one_test (is_at (number (state_number k.state)) (number 1)) ∙ equals (state_number k.state) 1 ∙ confirmed_state k.state) i))))
     ∙ ap (λ c. (m == b) && (nat_lt above n && c)) (together (k.day == day) (k.window == window) (is_confirmed k.state))
 
-pub confirmed_page_shown : (b above day window : ℕ) (old new : State) (h : Host) (rows : List Row) → StandsFor old.now h → Shown text.confirmed_page_text (number b ∷ number above ∷ number day ∷ number window ∷ []) old new rows
+pub confirmed_page_shown : (b above day window : ℕ) (old new : State) (h : Host) (rows : List Row) → StandsFor old.now h → Shown text.READ_CONFIRMED_PAGE.now (number b ∷ number above ∷ number day ∷ number window ∷ []) old new rows
     → rows ≡ map (line_cells (part_of.Confirmed window)) (take most_page_rows (map (confirmed_line window) (told_above (confirmed_told day window) above (pledges_of (get h.books b)))))
 confirmed_page_shown b above day window old new h rows st shown =
-    let t : Table = record bookings { tree = 11 } in
+    let t : Table = record bookings { tree = bookings_tree } in
     let test = at_confirmed_page b above day window in
     let cells : Row → Row = λ v. column v 1 ∷ [] in
     let says = is_confirmed_at day window in
     let passes = confirmed_page_passes b above day window in
-    shown_few keep_schema 11 (λ _. refl) t text.confirmed_page_tests text.confirmed_shows (number b ∷ number above ∷ number day ∷ number window ∷ []) test cells (λ _. refl) (λ _. refl) 2 (λ v. column v 1) (λ _. refl) most_page_rows text.confirmed_page_text _ text.confirmed_page_is old new (of_pledges h booking_listed) rows st.schema st.bookings
+    shown_few keep_schema bookings_tree (λ _. refl) t text.confirmed_page_tests text.confirmed_shows (number b ∷ number above ∷ number day ∷ number window ∷ []) test cells (λ _. refl) (λ _. refl) 2 (λ v. column v 1) (λ _. refl) most_page_rows text.READ_CONFIRMED_PAGE.now _ text.confirmed_page_is old new (of_pledges h booking_listed) rows st.schema st.bookings
     (rise_each b booking_in booking_cells test (nat_lt above) says (λ n (k : Booking). n) cells number_cells passes (λ m n k. refl) h st.ordered) shown
     ∙ ap (take most_page_rows) (shown_each b booking_in booking_cells test (nat_lt above) says (λ n (k : Booking). n) cells number_cells passes (λ m n k. refl) h)
     ∙ lines_told (part_of.Confirmed window) (confirmed_line window) (told_above (confirmed_told day window) above (pledges_of (get h.books b)))
@@ -195,15 +195,15 @@ at_asked_page b above day v = list_all (λ (x : Bool). x) (is_at (column v 0) (n
 asked_page_passes : (b above day m n : ℕ) (k : Booking) → at_asked_page b above day (under m n (booking_cells k)) ≡ ((m == b) && (nat_lt above n && is_asked_at day k))
 asked_page_passes b above day m n k = λ i. equals m b i && (books.above n above i && (equals k.day day i && (one_test (is_at (number (state_number k.state)) (number 0)) ∙ equals (state_number k.state) 0 ∙ asked_state k.state) i))
 
-pub asked_page_shown : (b above day : ℕ) (old new : State) (h : Host) (rows : List Row) → StandsFor old.now h → Shown text.asked_page_text (number b ∷ number above ∷ number day ∷ []) old new rows
+pub asked_page_shown : (b above day : ℕ) (old new : State) (h : Host) (rows : List Row) → StandsFor old.now h → Shown text.READ_ASKED_PAGE.now (number b ∷ number above ∷ number day ∷ []) old new rows
     → rows ≡ map (line_cells part_of.Asked) (take most_page_rows (map asked_line (told_above (asked_told day) above (pledges_of (get h.books b)))))
 asked_page_shown b above day old new h rows st shown =
-    let t : Table = record bookings { tree = 11 } in
+    let t : Table = record bookings { tree = bookings_tree } in
     let test = at_asked_page b above day in
     let cells : Row → Row = λ v. column v 1 ∷ column v 3 ∷ [] in
     let says = is_asked_at day in
     let passes = asked_page_passes b above day in
-    shown_few keep_schema 11 (λ _. refl) t text.asked_page_tests text.asked_page_shows (number b ∷ number above ∷ number day ∷ []) test cells (λ _. refl) (λ _. refl) 2 (λ v. column v 1) (λ _. refl) most_page_rows text.asked_page_text _ text.asked_page_is old new (of_pledges h booking_listed) rows st.schema st.bookings
+    shown_few keep_schema bookings_tree (λ _. refl) t text.asked_page_tests text.asked_page_shows (number b ∷ number above ∷ number day ∷ []) test cells (λ _. refl) (λ _. refl) 2 (λ v. column v 1) (λ _. refl) most_page_rows text.READ_ASKED_PAGE.now _ text.asked_page_is old new (of_pledges h booking_listed) rows st.schema st.bookings
     (rise_each b booking_in booking_cells test (nat_lt above) says (λ n (k : Booking). (n, k.window)) cells asked_cells passes (λ m n k. refl) h st.ordered) shown
     ∙ ap (take most_page_rows) (shown_each b booking_in booking_cells test (nat_lt above) says (λ n (k : Booking). (n, k.window)) cells asked_cells passes (λ m n k. refl) h)
     ∙ lines_told part_of.Asked asked_line (told_above (asked_told day) above (pledges_of (get h.books b)))
@@ -214,15 +214,15 @@ at_ends_page b above day v = list_all (λ (x : Bool). x) (is_at (column v 0) (nu
 ends_page_passes : (b above day m n : ℕ) (p : PledgeValue) → at_ends_page b above day (under m n (pledge_cells p)) ≡ ((m == b) && (nat_lt above n && is_ending day p))
 ends_page_passes b above day m n p = λ i. equals m b i && (books.above n above i && ((equals (closed_number p.standing.closing) 0 ∙ open_closing p.standing.closing) i && (one_test (is_at (number (end_of p)) (number day)) ∙ equals (end_of p) day) i))
 
-pub ends_page_shown : (b above day : ℕ) (old new : State) (h : Host) (rows : List Row) → StandsFor old.now h → Shown text.ends_page_text (number b ∷ number above ∷ number day ∷ []) old new rows
+pub ends_page_shown : (b above day : ℕ) (old new : State) (h : Host) (rows : List Row) → StandsFor old.now h → Shown text.READ_ENDS_PAGE.now (number b ∷ number above ∷ number day ∷ []) old new rows
     → rows ≡ map (line_cells part_of.Ends) (take most_page_rows (map ends_line (told_above (ends_told day) above (pledges_of (get h.books b)))))
 ends_page_shown b above day old new h rows st shown =
-    let t : Table = record pledges { tree = 3 } in
+    let t : Table = record pledges { tree = pledges_tree } in
     let test = at_ends_page b above day in
     let cells : Row → Row = λ v. column v 1 ∷ [] in
     let says = is_ending day in
     let passes = ends_page_passes b above day in
-    shown_few keep_schema 3 (λ _. refl) t text.ends_page_tests text.ref_shows (number b ∷ number above ∷ number day ∷ []) test cells (λ _. refl) (λ _. refl) 2 (λ v. column v 1) (λ _. refl) most_page_rows text.ends_page_text _ text.ends_page_is old new (of_pledges h pledge_listed) rows st.schema st.pledges
+    shown_few keep_schema pledges_tree (λ _. refl) t text.ends_page_tests text.ref_shows (number b ∷ number above ∷ number day ∷ []) test cells (λ _. refl) (λ _. refl) 2 (λ v. column v 1) (λ _. refl) most_page_rows text.READ_ENDS_PAGE.now _ text.ends_page_is old new (of_pledges h pledge_listed) rows st.schema st.pledges
     (rise_each b (λ (p : PledgeValue). Some p) pledge_cells test (nat_lt above) says (λ n (x : PledgeValue). n) cells number_cells passes (λ m n k. refl) h st.ordered) shown
     ∙ ap (take most_page_rows) (shown_each b (λ (p : PledgeValue). Some p) pledge_cells test (nat_lt above) says (λ n (x : PledgeValue). n) cells number_cells passes (λ m n k. refl) h)
     ∙ lines_told part_of.Ends ends_line (told_above (ends_told day) above (pledges_of (get h.books b)))

@@ -1,5 +1,5 @@
 -- The lines of numbered pledges, one after another.
-use Rattle.std.proofs.Common.{◌≡◌, ℕ, ◌+◌, ◌≤◌, ◌<◌, zero, suc, drop, List, [], ◌∷◌, map, filter, filter_map, length, take, nat_lt, Bool, true, false, cond, Option, Some, None, refl, sym, ap, ◌∙◌, arith, option_map}
+use Rattle.std.proofs.Common.{◌≡◌, ℕ, ◌+◌, ◌≤◌, ◌<◌, zero, suc, drop, List, [], ◌∷◌, map, filter, filter_map, length, take, nat_lt, Bool, true, false, cond, Option, Some, None, Result, refl, sym, ap, ◌∙◌, arith, option_map}
 use Rattle.std.specs.List.{cons_option}
 use Rattle.std.specs.FinMap.{get}
 use Rattle.std.proofs.lemmas.Bool.Decides.{nat_tests}
@@ -17,10 +17,13 @@ use Rattle.pawn_book.specs.Rows.{AreNumberedFrom}
 use Rattle.pawn_book.specs.Sound.{IsUnsoundAt}
 use Rattle.pawn_tables.specs.Rows.{number_in_book}
 use Rattle.pawn_tables.specs.StandsFor.{AreBooksOrdered}
-use Rattle.pawn_tables.specs.Lines.{IsLinesPage, item_of, items_past}
+use Rattle.pawn_book.specs.declared.fault.KeepError.{KeepError}
+use Rattle.pawn_tables.specs.Finding.{Finds, IsRead}
+use Rattle.pawn_tables.specs.Lines.{IsLineOf, IsLinesPage, item_of, items_past}
 use Rattle.pawn_tables.specs.Pages.{most_page_rows}
 use Rattle.pawn_tables.specs.declared.line.Line.{Line}
-use Rattle.pawn_tables.proofs.PageLemmas.{is_page, page_as, take_each}
+use Rattle.pawn_tables.proofs.Asking.{found_as}
+use Rattle.pawn_tables.proofs.PageLemmas.{is_page, map_each, page_as, take_each}
 use Rattle.pawn_tables.proofs.SoundBooks.{unsound_book}
 
 -- the pledges above a number
@@ -122,7 +125,7 @@ module _ {A : Type 0} (part : Part) (day : ℕ) (tell : PledgeValue → Option A
   lines_above ps m = map line (told_above tell m ps)
 
   -- a page of the lines shows what the part says
-  pub is_lines_page : (n : ℕ) (ps : List PledgeValue) → AreNumberedFrom 1 ps → IsLinesPage part day n ps (take most_page_rows (lines_above ps n))
+  is_lines_page : (n : ℕ) (ps : List PledgeValue) → AreNumberedFrom 1 ps → IsLinesPage part day n ps (take most_page_rows (lines_above ps n))
   is_lines_page n ps numbered =
       page_as (lines_above ps) (λ m. items_past part day m ps) (item_of part) (λ (l : Line). l.number) n _ past_is
       (is_page (lines_above ps) (λ (l : Line). l.number) (λ m l more is. step m (told_above tell m ps) refl l more is) n)
@@ -150,7 +153,16 @@ module _ {A : Type 0} (part : Part) (day : ℕ) (tell : PledgeValue → Option A
       go rest false = rest
       go rest true = one rest (tell p) refl
 
-  pub lines_unsound : (h : Host) (b n : ℕ) → (Each (λ (l : Line). IsNumber l.number) (take most_page_rows (lines_above (pledges_of (get h.books b)) n)) → ⊥) → IsUnsoundAt b h
+  lines_unsound : (h : Host) (b n : ℕ) → (Each (λ (l : Line). IsNumber l.number) (take most_page_rows (lines_above (pledges_of (get h.books b)) n)) → ⊥) → IsUnsoundAt b h
   lines_unsound h b n bad =
       unsound_book h b (λ o. Each (λ (l : Line). IsNumber l.number) (take most_page_rows (lines_above (pledges_of o) n))) tt
       (λ k sound. let fits = sound.1.rows.few_pledges in take_each (λ (l : Line). IsNumber l.number) most_page_rows _ (all_numbers n 1 k.pledges sound.1.rows.numbered (omega arith) (omega (arith, fits)))) bad
+
+  -- what was read of the rows of a page is a page of the part's lines
+  pub lines_found : (h : Host) (b n : ℕ) → AreBooksOrdered h → ((a : A) → IsLineOf part (line a)) → (r : Result (List Line) KeepError)
+      → ((lines : List Line) → lines ≡ take most_page_rows (lines_above (pledges_of (get h.books b)) n) → Each (IsLineOf part) lines → IsRead r lines (Each (λ (l : Line). IsNumber l.number) lines))
+      → Finds r (IsLinesPage part day n (pledges_of (get h.books b))) (IsUnsoundAt b h)
+  lines_found h b n ordered is_line r read =
+      let ps = pledges_of (get h.books b) in
+      let each = take_each (IsLineOf part) most_page_rows _ (map_each (IsLineOf part) line (told_above tell n ps) is_line) in
+      found_as r (take most_page_rows (lines_above ps n)) (IsLinesPage part day n ps) _ _ (read _ refl each) (is_lines_page n ps (numbered_in h b ordered)) (lines_unsound h b n)

@@ -32,6 +32,7 @@ use Rattle.pawn_tables.proofs.BookReads.{one_book}
 use Rattle.pawn_tables.proofs.SameRows as SameRows
 use Rattle.pawn_tables.proofs.SoundReads.{words_in}
 use Rattle.pawn_tables.proofs.Sought.{rows_at, of_one_pledge, placed_rise, entries_rise}
+use Rattle.pawn_tables.specs.Schema.{bookings_tree, books_tree, entries_tree, extensions_tree, meta_tree, pledges_tree, secrets_tree, terms_tree}
 
 -- ---- what stands of a pledge, by the rows of two hosts
 
@@ -182,24 +183,24 @@ module _ (db : Database) (h g : Host) (a : StandsFor db h) (c : StandsFor db g) 
   head_same : (b : ℕ) → at_most_one head_cells (get h.books b) ≡ at_most_one head_cells (get g.books b)
   head_same b =
       let cells : Row → Row = λ v. column v 1 ∷ column v 2 ∷ column v 3 ∷ column v 4 ∷ column v 5 ∷ column v 6 ∷ column v 7 ∷ [] in
-      let same = IsPermutation-map cells _ _ (IsPermutation-filter (at_book b) _ _ (SameRows.held_twice db.trees 0 _ _ _ a.books c.books)) in
+      let same = IsPermutation-map cells _ _ (IsPermutation-filter (at_book b) _ _ (SameRows.held_twice db.trees books_tree _ _ _ a.books c.books)) in
       sym (short _ _ (few head_cells (get h.books b)) (subst (λ xs. IsPermutation xs (at_most_one head_cells (get g.books b))) (one_book h b) (subst (IsPermutation (map cells (filter (at_book b) _))) (one_book g b) same)))
 
   version_same : (b v : ℕ) → terms_at (terms_of (get h.books b)) v ≡ terms_at (terms_of (get g.books b)) v
   version_same b v =
       let cells : Row → Row = λ r. column r 2 ∷ column r 3 ∷ column r 4 ∷ [] in
-      let same = IsPermutation-map cells _ _ (IsPermutation-filter (at_pledge b v) _ _ (SameRows.held_twice db.trees 1 _ _ _ a.terms c.terms)) in
+      let same = IsPermutation-map cells _ _ (IsPermutation-filter (at_pledge b v) _ _ (SameRows.held_twice db.trees terms_tree _ _ _ a.terms c.terms)) in
       SameRows.same_at_most terms_cells SameRows.same_terms _ _
       (sym (short _ _ (few terms_cells (terms_at (terms_of (get h.books b)) v)) (subst (λ xs. IsPermutation xs (at_most_one terms_cells (terms_at (terms_of (get g.books b)) v))) (one_version h b v) (subst (IsPermutation (map cells (filter (at_pledge b v) _))) (one_version g b v) same))))
 
   pledge_at_same : (b n : ℕ) → pledge_in (get h.books b) n ≡ pledge_in (get g.books b) n
   pledge_at_same b n =
       pledge_same _ _ n _ _ (same_terms _ _ (version_same b)) (λ p is. (number_in h b n p a.ordered is, under_in h b n p a.ordered is)) (λ p is. (number_in g b n p c.ordered is, under_in g b n p c.ordered is))
-      (row_same h g b n a.ordered c.ordered (SameRows.held_twice db.trees 3 _ _ _ a.pledges c.pledges))
-      (entries_same h g b n a.ordered c.ordered (SameRows.held_twice db.trees 6 _ _ _ a.entries c.entries))
-      (secrets_same h g b n a.ordered c.ordered (words_in h a.storable b n) (words_in g c.storable b n) (SameRows.held_twice db.trees 8 _ _ _ a.secrets c.secrets))
-      (extensions_same h g b n a.ordered c.ordered (SameRows.held_twice db.trees 17 _ _ _ a.extensions c.extensions))
-      (booking_same h g b n a.ordered c.ordered (SameRows.held_twice db.trees 11 _ _ _ a.bookings c.bookings))
+      (row_same h g b n a.ordered c.ordered (SameRows.held_twice db.trees pledges_tree _ _ _ a.pledges c.pledges))
+      (entries_same h g b n a.ordered c.ordered (SameRows.held_twice db.trees entries_tree _ _ _ a.entries c.entries))
+      (secrets_same h g b n a.ordered c.ordered (words_in h a.storable b n) (words_in g c.storable b n) (SameRows.held_twice db.trees secrets_tree _ _ _ a.secrets c.secrets))
+      (extensions_same h g b n a.ordered c.ordered (SameRows.held_twice db.trees extensions_tree _ _ _ a.extensions c.extensions))
+      (booking_same h g b n a.ordered c.ordered (SameRows.held_twice db.trees bookings_tree _ _ _ a.bookings c.bookings))
 
   book_same : (b : ℕ) → get h.books b ≡ get g.books b
   book_same b = go (get h.books b) (get g.books b) refl refl (head_same b) (same_terms _ _ (version_same b)) (λ n. pledge_at_same b n)
@@ -222,7 +223,7 @@ module _ (db : Database) (h g : Host) (a : StandsFor db h) (c : StandsFor db g) 
 
   limit_same : h.limit ≡ g.limit
   limit_same =
-      let same = IsPermutation-filter is_limit _ _ (SameRows.held_twice db.trees 13 _ _ _ a.meta c.meta) in
+      let same = IsPermutation-filter is_limit _ _ (SameRows.held_twice db.trees meta_tree _ _ _ a.meta c.meta) in
       let one : IsPermutation (meta_row (codes "limit") h.limit ∷ []) (meta_row (codes "limit") g.limit ∷ []) =
       subst (λ xs. IsPermutation xs (meta_row (codes "limit") g.limit ∷ [])) (limit_alone (rows h) h.limit) (subst (IsPermutation (filter is_limit (meta_rows (rows h) h.limit))) (limit_alone (rows g) g.limit) same) in
       let row : meta_row (codes "limit") g.limit ∷ [] ≡ meta_row (codes "limit") h.limit ∷ [] = one_permutation _ _ one in

@@ -1,5 +1,5 @@
 -- What the queries for pledges of a book show, where the tables stand for a host.
-use Rattle.std.proofs.Common.{◌≡◌, ◌≢◌, ◌==◌, ◌++◌, ℕ, ◌+◌, List, [], ◌∷◌, map, filter, flat_map, take, length, length-append, Bool, true, false, cond, ◌&&◌, Option, Some, None, refl, sym, ap, subst, ◌∙◌, arith, IsPermutation, find, option_map}
+use Rattle.std.proofs.Common.{◌≡◌, ◌≢◌, ◌==◌, ℕ, ◌+◌, List, [], ◌∷◌, map, filter, flat_map, take, length, length-append, Bool, true, false, cond, ◌&&◌, Option, Some, None, refl, sym, ap, subst, ◌∙◌, arith}
 use Rattle.std.specs.List.{list_all, AllByRecursion}
 use Rattle.std.specs.declared.cmp.Ordering.TheVariants.{Less}
 use Rattle.std.specs.FinMap.{get}
@@ -21,7 +21,7 @@ use Rattle.pawn_book.specs.Bookings.{confirmed_count, is_confirmed, is_confirmed
 use Rattle.pawn_book.specs.HostStep.{Host}
 use Rattle.pawn_book.specs.Keeping.{number_of, pledges_of}
 use Rattle.pawn_book.specs.Rows.{AreNumberedFrom, is_same_text}
-use Rattle.pawn_tables.specs.Schema.{keep_schema, pledges, bookings}
+use Rattle.pawn_tables.specs.Schema.{keep_schema, pledges, bookings, bookings_tree, pledges_tree}
 use Rattle.pawn_tables.specs.Rows.{number, under, pledge_cells, pledge_listed, booking_cells, booking_listed, state_number, at_most_one}
 use Rattle.pawn_tables.specs.Heads.{number_cells}
 use Rattle.pawn_tables.specs.At.{is_at}
@@ -80,11 +80,11 @@ module _ (h : Host) (b : ℕ) (s : List ℕ) where
       (ap (filter (at_ref b s)) (sym (singles (row_in b) k.pledges)) ∙ filter-map (at_ref b s) (row_in b) k.pledges ∙ ap (map (row_in b)) (filter_agree _ _ (λ p. ref_test b b s p true (grind (arith, nat_tests))) k.pledges))
       ∙ ap (take 1) (map-map (λ v. column v 1 ∷ []) (row_in b) _) ∙ first_one (has_ref s) (λ (p : PledgeValue). number_cells p.agreement.number) k.pledges ∙ mapped_one (λ (p : PledgeValue). p.agreement.number) _
 
-  pub ref_shown : (old new : State) (rows : List Row) → StandsFor old.now h → Shown text.ref_text (number b ∷ Text s ∷ []) old new rows → rows ≡ at_most_one number_cells (number_of (get h.books b) s)
+  pub ref_shown : (old new : State) (rows : List Row) → StandsFor old.now h → Shown text.FIND_REFERENCE.now (number b ∷ Text s ∷ []) old new rows → rows ≡ at_most_one number_cells (number_of (get h.books b) s)
   ref_shown old new rows st shown =
-      let t : Table = record pledges { tree = 3 } in
+      let t : Table = record pledges { tree = pledges_tree } in
       let one = of_one_book h b (at_ref b s) (λ m k. flat_map (pledge_listed m) k.pledges) no_ref in
-      shown_first keep_schema 3 (λ _. refl) t text.ref_tests text.ref_shows (number b ∷ Text s ∷ []) (at_ref b s) (λ v. column v 1 ∷ []) (λ _. refl) (λ _. refl) 2 (λ v. column v 1) (λ _. refl) text.ref_text _ text.ref_is old new (of_pledges h pledge_listed) rows st.schema st.pledges
+      shown_first keep_schema pledges_tree (λ _. refl) t text.ref_tests text.ref_shows (number b ∷ Text s ∷ []) (at_ref b s) (λ v. column v 1 ∷ []) (λ _. refl) (λ _. refl) 2 (λ v. column v 1) (λ _. refl) text.FIND_REFERENCE.now _ text.ref_is old new (of_pledges h pledge_listed) rows st.schema st.pledges
       (subst (IsAscending (λ v w. value_cmp (column v 1) (column w 1) ≡ Less)) (sym one) (found_rise st.ordered (get h.books b) refl)) shown
       ∙ ap (λ xs. take 1 (map (λ v. column v 1 ∷ []) xs)) one ∙ shows_ref (get h.books b)
 
@@ -138,9 +138,9 @@ module _ (b day window : ℕ) where
   slots_in None = refl
   slots_in (Some k) = slots k.pledges
 
-  pub confirmed_shown : (old new : State) (h : Host) (rows : List Row) → StandsFor old.now h → Shown text.confirmed_text (number b ∷ number day ∷ number window ∷ []) old new rows → rows ≡ count_of (confirmed_count (pledges_of (get h.books b)) day window) ∷ []
+  pub confirmed_shown : (old new : State) (h : Host) (rows : List Row) → StandsFor old.now h → Shown text.COUNT_CONFIRMED.now (number b ∷ number day ∷ number window ∷ []) old new rows → rows ≡ count_of (confirmed_count (pledges_of (get h.books b)) day window) ∷ []
   confirmed_shown old new h rows st shown =
-      let t : Table = record bookings { tree = 11 } in
+      let t : Table = record bookings { tree = bookings_tree } in
       let one = of_one_book h b (at_slot b day window) (λ m k. flat_map (booking_listed m) k.pledges) no_slot in
-      shown_count keep_schema 11 (λ _. refl) t text.confirmed_tests (number b ∷ number day ∷ number window ∷ []) (at_slot b day window) (λ _. refl) text.confirmed_text _ text.confirmed_is old new (of_pledges h booking_listed) rows st.schema st.bookings shown
+      shown_count keep_schema bookings_tree (λ _. refl) t text.confirmed_tests (number b ∷ number day ∷ number window ∷ []) (at_slot b day window) (λ _. refl) text.COUNT_CONFIRMED.now _ text.confirmed_is old new (of_pledges h booking_listed) rows st.schema st.bookings shown
       ∙ ap (λ n. count_of n ∷ []) (ap length one ∙ slots_in (get h.books b))

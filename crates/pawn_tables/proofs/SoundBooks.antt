@@ -1,5 +1,5 @@
 -- What is kept of a sound host's books can be read of their rows.
-use Rattle.std.proofs.Common.{◌≡◌, ℕ, ◌+◌, ◌≤◌, List, [], ◌∷◌, length, Bool, true, false, cond, Option, Some, None, Result, Ok, Err, refl, sym, subst, arith, option_map}
+use Rattle.std.proofs.Common.{◌≡◌, ℕ, ◌+◌, ◌≤◌, List, [], ◌∷◌, length, Bool, true, false, cond, Option, Some, None, Result, Ok, Err, refl, arith, option_map}
 use Rattle.std.specs.Prelude.{IfSome}
 use Rattle.std.specs.FinMap.{get}
 use Rattle.pawn_pledge.specs.Number.{IsNumber}
@@ -14,15 +14,8 @@ use Rattle.pawn_book.specs.declared.fault.KeepError.TheVariants as Keeper
 use Rattle.pawn_book.specs.declared.fault.StoreFault.TheVariants.{NoRecord, Database}
 use Rattle.pawn_tables.specs.Heads.{HasKeys, IsHeadTold}
 use Rattle.pawn_tables.specs.StandsFor.{AreStorable}
-use Rattle.pawn_tables.specs.Finding.{Finds, IsRead}
+use Rattle.pawn_tables.specs.Finding.{Finds}
 use Rattle.pawn_tables.proofs.BookReads.{next_of, is_next}
-
--- a fact of what was read, and what can't be kept is of a host that is not sound
-pub told_as : {A : Type 0} (r : Result A KeepError) (x : A) (P : A → Type 0) (Q R U : Type 0) → IsRead r x Q → P x → R → ((Q → ⊥) → U) → Finds r (λ y. P y × R) U
-told_as (Ok y) x P Q R U read fact rests bad = (subst P (sym read) fact, rests)
-told_as (Err Keeper.Memory) x P Q R U read fact rests bad = tt
-told_as (Err (Keeper.Store NoRecord)) x P Q R U read fact rests bad = bad read
-told_as (Err (Keeper.Store Database)) x P Q R U read fact rests bad = tt
 
 module _ (h : Host) (b : ℕ) where
   -- where a fact that sound books have fails of this one, it is not sound

@@ -46,22 +46,6 @@ use Rattle.pawn_tables.proofs.PageLemmas.{last_some}
 
 -- ---- answers
 
--- what was read of the rows is what stands, and what can't be kept is of a host that is not sound
-pub told : {A : Type 0} (r : Result A KeepError) (x : A) (Q R U : Type 0) → IsRead r x Q → R → ((Q → ⊥) → U) → Finds r (λ y. (y ≡ x) × R) U
-told (Ok y) x Q R U read rests bad = (read, rests)
-told (Err Keeper.Memory) x Q R U read rests bad = tt
-told (Err (Keeper.Store NoRecord)) x Q R U read rests bad = bad read
-told (Err (Keeper.Store Database)) x Q R U read rests bad = tt
-
--- an error that is not of rows tells nothing of them, where it is handed on
-pub untold : {A B : Type 0} (r : Result A KeepError) (e : KeepError) (s : Result B KeepError) (P : B → Type 0) (U : Type 0) → r ≡ Err e → s ≡ Err e → (r ≡ Err (Keeper.Store NoRecord) → ⊥) → Finds s P U
-untold r e s P U is same not = subst (λ x. Finds x P U) (sym same) (go e is)
-  where
-    go : (x : KeepError) → r ≡ Err x → Finds (Err x) P U
-    go Keeper.Memory is = tt
-    go (Keeper.Store NoRecord) is = absurd (not is)
-    go (Keeper.Store Database) is = tt
-
 -- an error that is told of what was joined
 pub unjoined : {A B : Type 0} (e : KeepError) (x : A) (s : Result B KeepError) (P : B → Type 0) (V U : Type 0) → s ≡ Err e → IsRead (Err e) x V → ((V → ⊥) → U) → Finds s P U
 unjoined e x s P V U same read bad = subst (λ r. Finds r P U) (sym same) (go e read)

@@ -27,7 +27,7 @@ use Rattle.pawn_tables.specs.At.{is_at, is_below}
 use Rattle.pawn_tables.specs.Heads.{number_cells}
 use Rattle.pawn_tables.specs.Lines.{NamesWindows}
 use Rattle.pawn_tables.specs.Rows.{number, number_in_book, under, booking_cells, booking_listed, state_number}
-use Rattle.pawn_tables.specs.Schema.{keep_schema, bookings}
+use Rattle.pawn_tables.specs.Schema.{keep_schema, bookings, bookings_tree}
 use Rattle.pawn_tables.specs.StandsFor.{StandsFor, of_pledges}
 use Rattle.one_table.proofs.Distinct.{each_shown_once, shown_once_each}
 use Rattle.pawn_tables.proofs.ReadTexts as text
@@ -98,7 +98,7 @@ apart w n other same = go (value_cmp (number w) (number n)) refl same
     go Equal is same = let eq : (w == n) ≡ true = sym (tied w n) ∙ ap is_eq is in grind (arith, nat_tests, eq, other)
     go Greater is same = let e = same in cc
 
-module _ (b day : ℕ) (old new : State) (h : Host) (rows : List Row) (st : StandsFor old.now h) (shown : Shown text.windows_text (number b ∷ number day ∷ []) old new rows) where
+module _ (b day : ℕ) (old new : State) (h : Host) (rows : List Row) (st : StandsFor old.now h) (shown : Shown text.READ_WINDOWS.now (number b ∷ number day ∷ []) old new rows) where
   abbrev ps : List PledgeValue
   ps = pledges_of (get h.books b)
 
@@ -106,7 +106,7 @@ module _ (b day : ℕ) (old new : State) (h : Host) (rows : List Row) (st : Stan
   cells v = column v 3 ∷ []
 
   abbrev table : Table
-  table = record bookings { tree = 11 }
+  table = record bookings { tree = bookings_tree }
 
   told : map cells (filter (at_windows b day) (of_pledges h booking_listed)) ≡ map number_cells (filter_map (window_told day) ps)
   told = shown_each b booking_in booking_cells (at_windows b day) (λ n. true) (comes_on day) (λ n (k : Booking). k.window) cells number_cells (windows_passes b day) (λ m n k. refl) h
@@ -114,7 +114,7 @@ module _ (b day : ℕ) (old new : State) (h : Host) (rows : List Row) (st : Stan
 
   pub windows_shown : (ns : List ℕ) × (rows ≡ map number_cells ns) × NamesWindows day ps ns
   windows_shown =
-      let numbers = shown_once_each keep_schema 11 (λ _. refl) table text.windows_tests text.windows_shows (Binary ∷ []) (number b ∷ number day ∷ []) (at_windows b day) cells (λ _. refl) (λ _. refl) text.windows_text _ text.windows_is old new (of_pledges h booking_listed) rows st.schema st.bookings shown
+      let numbers = shown_once_each keep_schema bookings_tree (λ _. refl) table text.windows_tests text.windows_shows (Binary ∷ []) (number b ∷ number day ∷ []) (at_windows b day) cells (λ _. refl) (λ _. refl) text.READ_WINDOWS.now _ text.windows_is old new (of_pledges h booking_listed) rows st.schema st.bookings shown
       (λ r. (n : ℕ) × (r ≡ number_cells n)) (subst (AllByRecursion (λ r. (n : ℕ) × (r ≡ number_cells n))) (sym told) (all-map (λ r. (n : ℕ) × (r ≡ number_cells n)) number_cells _ (all_of (λ m. (n : ℕ) × (number_cells m ≡ number_cells n)) (λ m. (m, refl)) _))) in
       let ns = numbers_in rows numbers in
       (ns.0, ns.1, λ w few none. none_comes day w (omega (arith, few)) ps (names w ns.0 ns.1 none))
@@ -123,6 +123,6 @@ module _ (b day : ℕ) (old new : State) (h : Host) (rows : List Row) (st : Stan
       names w ns are none =
           let P : Row → Type 0 = λ r. collated_cmp (Binary ∷ []) (number_cells w) r ≡ Equal → ⊥ in
           let rows_apart = subst (AllByRecursion P) (sym are) (all-map P number_cells ns (all_weaker _ (λ n. P (number_cells n)) (apart w) ns (others w ns none))) in
-          let all = each_shown_once keep_schema 11 (λ _. refl) table text.windows_tests text.windows_shows (Binary ∷ []) (number b ∷ number day ∷ []) (at_windows b day) cells (λ _. refl) (λ _. refl) text.windows_text _ text.windows_is old new (of_pledges h booking_listed) rows st.schema st.bookings shown
+          let all = each_shown_once keep_schema bookings_tree (λ _. refl) table text.windows_tests text.windows_shows (Binary ∷ []) (number b ∷ number day ∷ []) (at_windows b day) cells (λ _. refl) (λ _. refl) text.READ_WINDOWS.now _ text.windows_is old new (of_pledges h booking_listed) rows st.schema st.bookings shown
           P (λ x y same not e. not (alike_right (collated_cmp_total (Binary ∷ [])) x y (number_cells w) same ∙ e)) rows_apart in
           all_weaker _ (λ (n : ℕ). n ≢ w) (λ n not same. not (ap (λ m. collated_cmp (Binary ∷ []) (number_cells w) (number_cells m)) same ∙ tied_itself (collated_cmp_total (Binary ∷ [])) (number_cells w))) _ (all_from_map P number_cells _ (subst (AllByRecursion P) told all))

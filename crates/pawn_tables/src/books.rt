@@ -12,6 +12,7 @@ ghost use Rattle.pawn_tables.specs.StandsFor.{ListDebts};
 
 use crate::heads::{first_head, first_number, only_count, only_number};
 use crate::queries::rows_of;
+use crate::texts::{COUNT_CONFIRMED, FIND_NEXT_BOOK, FIND_REFERENCE, READ_HEAD, READ_ROWS};
 use pawn_book::{BookHead, Day, KeepError, Number, StoreFault};
 use sqlite::{Alter, Transaction, params};
 use std::alloc::Global;
@@ -29,11 +30,7 @@ pub fn head_in<S: Alter>(
     ensures lent { IsLent (state S.Store tx.old.conn.now) (state S.Store tx.new.conn.now)
         (is_ok result) }
 {
-    let rows = rows_of(
-        tx,
-        "SELECT book_key, title, capacity, terms, pledges, import_key, imported FROM books WHERE book = ?1",
-        params![book],
-    )?;
+    let rows = rows_of(tx, READ_HEAD, params![book])?;
     first_head(alloc, &rows)
 }
 
@@ -50,11 +47,7 @@ pub fn ref_in<S: Alter>(
     ensures lent { IsLent (state S.Store tx.old.conn.now) (state S.Store tx.new.conn.now)
         (is_ok result) }
 {
-    let rows = rows_of(
-        tx,
-        "SELECT number FROM pledges WHERE book = ?1 AND ref = ?2 ORDER BY number LIMIT 1",
-        params![book, reference],
-    )?;
+    let rows = rows_of(tx, FIND_REFERENCE, params![book, reference])?;
     first_number(&rows)
 }
 
@@ -77,11 +70,7 @@ pub fn confirmed_in<S: Alter>(
         return Err(KeepError::Store(StoreFault::Database));
     };
     let day = day.count();
-    let rows = rows_of(
-        tx,
-        "SELECT count(*) FROM bookings WHERE book = ?1 AND day = ?2 AND slot = ?3 AND state = 1",
-        params![book, day, slot],
-    )?;
+    let rows = rows_of(tx, COUNT_CONFIRMED, params![book, day, slot])?;
     only_count(&rows)
 }
 
@@ -98,11 +87,7 @@ pub fn next_in<S: Alter>(
     ensures lent { IsLent (state S.Store tx.old.conn.now) (state S.Store tx.new.conn.now)
         (is_ok result) }
 {
-    let rows = rows_of(
-        tx,
-        "SELECT book FROM books WHERE book > ?1 ORDER BY book LIMIT 1",
-        params![above],
-    )?;
+    let rows = rows_of(tx, FIND_NEXT_BOOK, params![above])?;
     first_number(&rows)
 }
 
@@ -114,6 +99,6 @@ pub fn rows_in<S: Alter>(tx: &mut Transaction<'_, S>) -> Result<u64, KeepError>
     ensures lent { IsLent (state S.Store tx.old.conn.now) (state S.Store tx.new.conn.now)
         (is_ok result) }
 {
-    let rows = rows_of(tx, "SELECT value FROM meta WHERE name = 'rows'", &[])?;
+    let rows = rows_of(tx, READ_ROWS, &[])?;
     only_number(&rows)
 }

@@ -14,6 +14,7 @@ ghost use Rattle.pawn_tables.specs.Told.{IsCreditTold, credit_told};
 use crate::cells::{NO_RECORD, day_of, number_at, optional_at, request_day};
 use crate::queries::rows_of;
 use crate::records::kind_of;
+use crate::texts::READ_CREDIT;
 use pawn_book::{KeepError, Kind, RequestDay};
 use sqlite::{Alter, Row, Transaction, params};
 
@@ -80,10 +81,6 @@ pub fn credit_in<S: Alter>(
     ensures lent { IsLent (state S.Store tx.old.conn.now) (state S.Store tx.new.conn.now)
         (is_ok result) }
 {
-    let rows = rows_of(
-        tx,
-        "SELECT kind, credit, taken, agreed, version FROM pledges WHERE book = ?1 AND number = ?2",
-        params![book, number],
-    )?;
+    let rows = rows_of(tx, READ_CREDIT, params![book, number])?;
     first_credit(&rows)
 }

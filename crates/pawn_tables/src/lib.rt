@@ -19,6 +19,7 @@ mod records;
 mod rows;
 mod sheets;
 mod tails;
+pub mod texts;
 mod whole;
 mod worked;
 mod writing;

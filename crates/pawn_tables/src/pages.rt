@@ -12,6 +12,7 @@ ghost use Rattle.pawn_tables.specs.Places.{page_behind};
 
 use crate::lists::{read_entries, read_extensions, read_secrets};
 use crate::queries::rows_of;
+use crate::texts::{READ_ENTRIES_PAGE, READ_EXTENSIONS_PAGE, READ_SECRETS_PAGE};
 use pawn_book::KeepError;
 use pawn_debt::Entries;
 use pawn_pledge::{Extensions, Secrets};
@@ -36,11 +37,7 @@ pub fn entries_page<S: Alter>(
     ensures lent { IsLent (state S.Store tx.old.conn.now) (state S.Store tx.new.conn.now)
         (is_ok result) }
 {
-    let rows = rows_of(
-        tx,
-        "SELECT seq, day, sort, pence FROM entries WHERE book = ?1 AND number = ?2 AND seq >= ?3 ORDER BY seq LIMIT 64",
-        params![book, number, from],
-    )?;
+    let rows = rows_of(tx, READ_ENTRIES_PAGE, params![book, number, from])?;
     read_entries(alloc, &rows)
 }
 
@@ -59,11 +56,7 @@ pub fn secrets_page<S: Alter>(
     ensures lent { IsLent (state S.Store tx.old.conn.now) (state S.Store tx.new.conn.now)
         (is_ok result) }
 {
-    let rows = rows_of(
-        tx,
-        "SELECT place, day, sort, secret FROM secrets WHERE book = ?1 AND number = ?2 AND place > ?3 ORDER BY place LIMIT 64",
-        params![book, number, behind],
-    )?;
+    let rows = rows_of(tx, READ_SECRETS_PAGE, params![book, number, behind])?;
     read_secrets(alloc, &rows)
 }
 
@@ -83,10 +76,6 @@ pub fn extensions_page<S: Alter>(
     ensures lent { IsLent (state S.Store tx.old.conn.now) (state S.Store tx.new.conn.now)
         (is_ok result) }
 {
-    let rows = rows_of(
-        tx,
-        "SELECT place, day, until_day FROM extensions WHERE book = ?1 AND number = ?2 AND place > ?3 ORDER BY place LIMIT 64",
-        params![book, number, behind],
-    )?;
+    let rows = rows_of(tx, READ_EXTENSIONS_PAGE, params![book, number, behind])?;
     read_extensions(alloc, &rows)
 }

@@ -11,6 +11,7 @@ ghost use Rattle.pawn_tables.specs.Places.{at_place};
 
 use crate::lists::{first_entry, first_extension, first_issued};
 use crate::queries::rows_of;
+use crate::texts::{READ_ENTRY, READ_EXTENSION, READ_SECRET};
 use pawn_book::{Entry, Extension, Issued, KeepError};
 use sqlite::{Alter, Transaction, params};
 
@@ -28,11 +29,7 @@ pub fn entry_in<S: Alter>(
     ensures lent { IsLent (state S.Store tx.old.conn.now) (state S.Store tx.new.conn.now)
         (is_ok result) }
 {
-    let rows = rows_of(
-        tx,
-        "SELECT seq, day, sort, pence FROM entries WHERE book = ?1 AND number = ?2 AND seq = ?3",
-        params![book, number, seq],
-    )?;
+    let rows = rows_of(tx, READ_ENTRY, params![book, number, seq])?;
     first_entry(&rows)
 }
 
@@ -50,11 +47,7 @@ pub fn secret_in<S: Alter>(
     ensures lent { IsLent (state S.Store tx.old.conn.now) (state S.Store tx.new.conn.now)
         (is_ok result) }
 {
-    let rows = rows_of(
-        tx,
-        "SELECT place, day, sort, secret FROM secrets WHERE book = ?1 AND number = ?2 AND place = ?3",
-        params![book, number, place],
-    )?;
+    let rows = rows_of(tx, READ_SECRET, params![book, number, place])?;
     first_issued(&rows)
 }
 
@@ -72,10 +65,6 @@ pub fn extension_in<S: Alter>(
     ensures lent { IsLent (state S.Store tx.old.conn.now) (state S.Store tx.new.conn.now)
         (is_ok result) }
 {
-    let rows = rows_of(
-        tx,
-        "SELECT place, day, until_day FROM extensions WHERE book = ?1 AND number = ?2 AND place = ?3",
-        params![book, number, place],
-    )?;
+    let rows = rows_of(tx, READ_EXTENSION, params![book, number, place])?;
     first_extension(&rows)
 }

@@ -18,6 +18,9 @@ use crate::cells::refused;
 use crate::lists::{read_entries, read_extensions, read_secrets};
 use crate::records::{PledgeRow, first_booking, first_terms, first_totals};
 use crate::rows::first_pledge;
+use crate::texts::{
+    READ_BOOKING, READ_ENTRIES, READ_EXTENSIONS, READ_PLEDGE, READ_SECRETS, READ_TERMS, READ_TOTALS,
+};
 use one_table::ask;
 use pawn_book::{Booking, KeepError, Terms};
 use pawn_debt::{Entries, Totals};
@@ -63,11 +66,7 @@ pub fn entries_in<S: Alter>(
     ensures lent { IsLent (state S.Store tx.old.conn.now) (state S.Store tx.new.conn.now)
         (is_ok result) }
 {
-    let rows = rows_of(
-        tx,
-        "SELECT seq, day, sort, pence FROM entries WHERE book = ?1 AND number = ?2 ORDER BY seq",
-        params![book, number],
-    )?;
+    let rows = rows_of(tx, READ_ENTRIES, params![book, number])?;
     read_entries(alloc, &rows)
 }
 
@@ -85,11 +84,7 @@ pub(crate) fn secrets_in<S: Alter>(
     ensures lent { IsLent (state S.Store tx.old.conn.now) (state S.Store tx.new.conn.now)
         (is_ok result) }
 {
-    let rows = rows_of(
-        tx,
-        "SELECT place, day, sort, secret FROM secrets WHERE book = ?1 AND number = ?2 ORDER BY place",
-        params![book, number],
-    )?;
+    let rows = rows_of(tx, READ_SECRETS, params![book, number])?;
     read_secrets(alloc, &rows)
 }
 
@@ -107,11 +102,7 @@ pub(crate) fn extensions_in<S: Alter>(
     ensures lent { IsLent (state S.Store tx.old.conn.now) (state S.Store tx.new.conn.now)
         (is_ok result) }
 {
-    let rows = rows_of(
-        tx,
-        "SELECT place, day, until_day FROM extensions WHERE book = ?1 AND number = ?2 ORDER BY place",
-        params![book, number],
-    )?;
+    let rows = rows_of(tx, READ_EXTENSIONS, params![book, number])?;
     read_extensions(alloc, &rows)
 }
 
@@ -128,11 +119,7 @@ pub fn booking_in<S: Alter>(
     ensures lent { IsLent (state S.Store tx.old.conn.now) (state S.Store tx.new.conn.now)
         (is_ok result) }
 {
-    let rows = rows_of(
-        tx,
-        "SELECT day, slot, state FROM bookings WHERE book = ?1 AND number = ?2",
-        params![book, number],
-    )?;
+    let rows = rows_of(tx, READ_BOOKING, params![book, number])?;
     first_booking(&rows)
 }
 
@@ -149,11 +136,7 @@ pub(crate) fn totals_in<S: Alter>(
     ensures lent { IsLent (state S.Store tx.old.conn.now) (state S.Store tx.new.conn.now)
         (is_ok result) }
 {
-    let rows = rows_of(
-        tx,
-        "SELECT day, principal, charges FROM totals WHERE book = ?1 AND number = ?2",
-        params![book, number],
-    )?;
+    let rows = rows_of(tx, READ_TOTALS, params![book, number])?;
     first_totals(&rows)
 }
 
@@ -173,11 +156,7 @@ pub fn terms_in<S: Alter>(
     ensures lent { IsLent (state S.Store tx.old.conn.now) (state S.Store tx.new.conn.now)
         (is_ok result) }
 {
-    let rows = rows_of(
-        tx,
-        "SELECT rate, keep_before, keep_after FROM terms WHERE book = ?1 AND version = ?2",
-        params![book, version],
-    )?;
+    let rows = rows_of(tx, READ_TERMS, params![book, version])?;
     first_terms(&rows)
 }
 
@@ -195,10 +174,6 @@ pub(crate) fn row_in<S: Alter>(
     ensures lent { IsLent (state S.Store tx.old.conn.now) (state S.Store tx.new.conn.now)
         (is_ok result) }
 {
-    let rows = rows_of(
-        tx,
-        "SELECT ref, article, kind, credit, taken, agreed, five, version, ends, held, last_day, closed, closed_day, amount FROM pledges WHERE book = ?1 AND number = ?2",
-        params![book, number],
-    )?;
+    let rows = rows_of(tx, READ_PLEDGE, params![book, number])?;
     first_pledge(alloc, &rows)
 }

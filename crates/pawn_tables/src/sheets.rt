@@ -14,6 +14,9 @@ use crate::heads::only_count;
 use crate::line::Line;
 use crate::lines::{read_lines, read_numbers};
 use crate::queries::rows_of;
+use crate::texts::{
+    COUNT_ASKED, COUNT_ENDS, READ_ASKED_PAGE, READ_CONFIRMED_PAGE, READ_ENDS_PAGE, READ_WINDOWS,
+};
 use pawn_book::{Day, KeepError, Part, StoreFault};
 use pawn_debt::Rows;
 use sqlite::{Alter, Transaction, params};
@@ -29,11 +32,7 @@ fn asked_in<S: Alter>(tx: &mut Transaction<'_, S>, book: u32, day: Day) -> Resul
         (is_ok result) }
 {
     let day = day.count();
-    let rows = rows_of(
-        tx,
-        "SELECT count(*) FROM bookings WHERE book = ?1 AND day = ?2 AND state = 0",
-        params![book, day],
-    )?;
+    let rows = rows_of(tx, COUNT_ASKED, params![book, day])?;
     only_count(&rows)
 }
 
@@ -47,11 +46,7 @@ fn ends_in<S: Alter>(tx: &mut Transaction<'_, S>, book: u32, day: Day) -> Result
         (is_ok result) }
 {
     let day = day.count();
-    let rows = rows_of(
-        tx,
-        "SELECT count(*) FROM pledges WHERE book = ?1 AND closed = 0 AND ends = ?2",
-        params![book, day],
-    )?;
+    let rows = rows_of(tx, COUNT_ENDS, params![book, day])?;
     only_count(&rows)
 }
 
@@ -91,11 +86,7 @@ pub fn windows_in<S: Alter>(
         (is_ok result) }
 {
     let day = day.count();
-    let rows = rows_of(
-        tx,
-        "SELECT DISTINCT slot FROM bookings WHERE book = ?1 AND day = ?2 AND state = 1 AND slot < 16",
-        params![book, day],
-    )?;
+    let rows = rows_of(tx, READ_WINDOWS, params![book, day])?;
     read_numbers(alloc, &rows)
 }
 
@@ -120,11 +111,7 @@ fn confirmed_page<S: Alter>(
         return Err(KeepError::Store(StoreFault::Database));
     };
     let day = day.count();
-    let rows = rows_of(
-        tx,
-        "SELECT number FROM bookings WHERE book = ?1 AND number > ?2 AND day = ?3 AND slot = ?4 AND state = 1 ORDER BY number LIMIT 64",
-        params![book, above, day, slot],
-    )?;
+    let rows = rows_of(tx, READ_CONFIRMED_PAGE, params![book, above, day, slot])?;
     read_lines(alloc, Part::Confirmed { window }, &rows)
 }
 
@@ -144,11 +131,7 @@ fn asked_page<S: Alter>(
         (is_ok result) }
 {
     let day = day.count();
-    let rows = rows_of(
-        tx,
-        "SELECT number, slot FROM bookings WHERE book = ?1 AND number > ?2 AND day = ?3 AND state = 0 ORDER BY number LIMIT 64",
-        params![book, above, day],
-    )?;
+    let rows = rows_of(tx, READ_ASKED_PAGE, params![book, above, day])?;
     read_lines(alloc, Part::Asked, &rows)
 }
 
@@ -168,11 +151,7 @@ fn ends_page<S: Alter>(
         (is_ok result) }
 {
     let day = day.count();
-    let rows = rows_of(
-        tx,
-        "SELECT number FROM pledges WHERE book = ?1 AND number > ?2 AND closed = 0 AND ends = ?3 ORDER BY number LIMIT 64",
-        params![book, above, day],
-    )?;
+    let rows = rows_of(tx, READ_ENDS_PAGE, params![book, above, day])?;
     read_lines(alloc, Part::Ends, &rows)
 }
 

@@ -19,6 +19,7 @@ use crate::heads::only_count;
 use crate::joining::{LastSecret, Tails};
 use crate::lists::issued_of;
 use crate::queries::rows_of;
+use crate::texts::{COUNT_ENTRIES, READ_LAST_PLACE, READ_LAST_SECRET};
 use pawn_book::KeepError;
 use sqlite::{Alter, Row, Transaction, params};
 
@@ -68,11 +69,7 @@ fn entry_count<S: Alter>(
     ensures lent { IsLent (state S.Store tx.old.conn.now) (state S.Store tx.new.conn.now)
         (is_ok result) }
 {
-    let rows = rows_of(
-        tx,
-        "SELECT count(*) FROM entries WHERE book = ?1 AND number = ?2",
-        params![book, number],
-    )?;
+    let rows = rows_of(tx, COUNT_ENTRIES, params![book, number])?;
     only_count(&rows)
 }
 
@@ -89,11 +86,7 @@ fn last_secret<S: Alter>(
     ensures lent { IsLent (state S.Store tx.old.conn.now) (state S.Store tx.new.conn.now)
         (is_ok result) }
 {
-    let rows = rows_of(
-        tx,
-        "SELECT place, day, sort, secret FROM secrets WHERE book = ?1 AND number = ?2 ORDER BY place DESC LIMIT 1",
-        params![book, number],
-    )?;
+    let rows = rows_of(tx, READ_LAST_SECRET, params![book, number])?;
     first_last(&rows)
 }
 
@@ -110,11 +103,7 @@ fn extension_count<S: Alter>(
     ensures lent { IsLent (state S.Store tx.old.conn.now) (state S.Store tx.new.conn.now)
         (is_ok result) }
 {
-    let rows = rows_of(
-        tx,
-        "SELECT place FROM extensions WHERE book = ?1 AND number = ?2 ORDER BY place DESC LIMIT 1",
-        params![book, number],
-    )?;
+    let rows = rows_of(tx, READ_LAST_PLACE, params![book, number])?;
     first_place(&rows)
 }
 

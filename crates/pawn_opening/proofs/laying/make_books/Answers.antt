@@ -8,7 +8,7 @@ use Rattle.pawn_tables.specs.Schema.{books, terms, pledges}
 use Rattle.pawn_opening.specs.Laying.{first_three}
 use Rattle.one_table.proofs.Lent.{lent_then}
 use Rattle.pawn_opening.proofs.Creating.{makes_one, makes_then}
-use Rattle.pawn_opening.proofs.TableTexts.{books_text, terms_text, pledges_text, books_is, terms_is, pledges_is}
+use Rattle.pawn_opening.proofs.TableTexts.{MAKE_BOOKS, MAKE_TERMS, MAKE_PLEDGES, books_is, terms_is, pledges_is}
 use Rattle.pawn_opening.proofs.laying.make_books.Goals as goal
 
 pub returns-clause-made : goal.returns-clause-made
@@ -17,8 +17,8 @@ returns-clause-made g c =
     let b = state g.S.Store c.run.new.tx.conn.now in
     let d = state g.S.Store c.run-2.new.tx.conn.now in
     let e = state g.S.Store c.run-3.new.tx.conn.now in
-    let first = makes_one {E = Error} no_schema books_text books books_is a b (Ok tt) c.in_ok-run.ensures.ran in
-    let second = makes_one {E = Error} (created no_schema books) terms_text terms terms_is b d (Ok tt) c.in_ok-run-2.ensures.ran in
-    let third = makes_one {E = Error} (created (created no_schema books) terms) pledges_text pledges pledges_is d e c.run-3.result c.run-3.ensures.ran in
+    let first = makes_one {E = Error} no_schema MAKE_BOOKS.now books books_is a b (Ok tt) c.in_ok-run.ensures.ran in
+    let second = makes_one {E = Error} (created no_schema books) MAKE_TERMS.now terms terms_is b d (Ok tt) c.in_ok-run-2.ensures.ran in
+    let third = makes_one {E = Error} (created (created no_schema books) terms) MAKE_PLEDGES.now pledges pledges_is d e c.run-3.result c.run-3.ensures.ran in
     makes_then {E = Error} a d e c.run-3.result (is_ok c.run-3.result) no_schema (created (created no_schema books) terms) first_three (lent_then a b d true c.in_ok-run.ensures.lent c.in_ok-run-2.ensures.lent) c.run-3.ensures.lent
     (makes_then {E = Error} a b d (Ok tt) true no_schema (created no_schema books) (created (created no_schema books) terms) c.in_ok-run.ensures.lent c.in_ok-run-2.ensures.lent first second) third

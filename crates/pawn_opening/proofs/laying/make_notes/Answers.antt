@@ -6,7 +6,7 @@ use Rattle.pawn_tables.specs.Schema.{first_schema, keep_schema, meta, second_sch
 use Rattle.pawn_opening.specs.Laying.{first_six}
 use Rattle.one_table.proofs.Lent.{lent_then}
 use Rattle.pawn_opening.proofs.Creating.{makes_extensions, makes_one, makes_then, makes_totals}
-use Rattle.pawn_opening.proofs.TableTexts.{meta_text, meta_is}
+use Rattle.pawn_opening.proofs.TableTexts.{MAKE_META, meta_is}
 use Rattle.pawn_opening.proofs.laying.make_notes.Goals as goal
 
 pub returns-clause-made : goal.returns-clause-made
@@ -15,7 +15,7 @@ returns-clause-made g c =
     let b = state g.S.Store c.run.new.tx.conn.now in
     let d = state g.S.Store c.make_totals.new.tx.conn.now in
     let e = state g.S.Store c.make_extensions.new.tx.conn.now in
-    let first = makes_one {E = Error} first_six meta_text meta meta_is a b (Ok tt) c.in_ok-run.ensures.ran in
+    let first = makes_one {E = Error} first_six MAKE_META.now meta meta_is a b (Ok tt) c.in_ok-run.ensures.ran in
     let second = makes_totals {E = Error} b d (Ok tt) c.in_ok-make_totals.ensures.made in
     let third = makes_extensions {E = Error} d e c.make_extensions.result c.make_extensions.ensures.made in
     makes_then {E = Error} a d e c.make_extensions.result (is_ok c.make_extensions.result) first_six second_schema keep_schema (lent_then a b d true c.in_ok-run.ensures.lent c.in_ok-make_totals.ensures.lent) c.make_extensions.ensures.lent

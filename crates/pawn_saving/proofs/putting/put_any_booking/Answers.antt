@@ -4,11 +4,12 @@ use Rattle.pawn_tables.specs.Rows.{booking_cells, under}
 use Rattle.pawn_saving.proofs.Tailing.{on_done}
 use Rattle.pawn_saving.proofs.WholePuts.{none_stands, now_stands, stood_before}
 use Rattle.pawn_saving.proofs.putting.put_any_booking.Goals as goal
+use Rattle.pawn_tables.specs.Schema.{bookings_tree}
 
 pub returns-in-Some-clause-wrote : goal.returns-in-Some-clause-wrote
 returns-in-Some-clause-wrote g c before none_before clean within listed others same none l =
     let row = λ (k : Booking). under c.args.book c.args.number (booking_cells k) in
-    let wrote = c.put_booking.ensures.wrote before clean within listed others (stood_before row before (listed 11) others same) none l in
+    let wrote = c.put_booking.ensures.wrote before clean within listed others (stood_before row before (listed bookings_tree) others same) none l in
     on_done c.put_booking.result _ _ (now_stands row (state g.S.Store c.put_booking.new.tx.conn.now).now listed others c.args.booking c.in-Some.booking c.in-Some.is) wrote
 
 pub returns-in-None-clause-wrote : goal.returns-in-None-clause-wrote

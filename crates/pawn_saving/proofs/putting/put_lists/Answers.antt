@@ -5,6 +5,7 @@ use Rattle.pawn_saving.specs.Putting.{entries_past, secrets_past}
 use Rattle.pawn_saving.proofs.Tailing.{past, on_done}
 use Rattle.pawn_saving.proofs.WholePuts.{lists_put}
 use Rattle.pawn_saving.proofs.putting.put_lists.Goals as goal
+use Rattle.pawn_tables.specs.Schema.{entries_tree, secrets_tree}
 
 pub returns-clause-wrote : goal.returns-clause-wrote
 returns-clause-wrote g c clean within listed l =
@@ -19,6 +20,6 @@ returns-clause-wrote g c clean within listed l =
     let within1 = c.in_ok-put_entries.ensures.carried.inside clean1 within refl in
     let within2 = c.in_ok-put_secrets.ensures.carried.inside clean2 within1 refl in
     let first = rw (c.past.ensures.value, c.entries.ensures.value) at (c.in_ok-put_entries.ensures.wrote clean1 within listed l) in
-    let second = rw (c.past-2.ensures.value, c.secrets.ensures.value, c.in_ok-secrets.ensures.value) at (c.in_ok-put_secrets.ensures.wrote clean2 within1 (with_rows listed 6 (entries_past c.args.lengths.entries b n p ++ listed 6)) first) in
-    let third = rw (c.past-3.ensures.value, c.extensions.ensures.value, c.in_ok-extensions.ensures.value) at (c.put_extensions.ensures.wrote clean within2 (with_rows (with_rows listed 6 (entries_past c.args.lengths.entries b n p ++ listed 6)) 8 (secrets_past c.args.lengths.secrets b n p ++ listed 8)) second) in
+    let second = rw (c.past-2.ensures.value, c.secrets.ensures.value, c.in_ok-secrets.ensures.value) at (c.in_ok-put_secrets.ensures.wrote clean2 within1 (with_rows listed entries_tree (entries_past c.args.lengths.entries b n p ++ listed entries_tree)) first) in
+    let third = rw (c.past-3.ensures.value, c.extensions.ensures.value, c.in_ok-extensions.ensures.value) at (c.put_extensions.ensures.wrote clean within2 (with_rows (with_rows listed entries_tree (entries_past c.args.lengths.entries b n p ++ listed entries_tree)) secrets_tree (secrets_past c.args.lengths.secrets b n p ++ listed secrets_tree)) second) in
     on_done c.put_extensions.result _ _ (lists_put new.now listed b n p c.args.lengths) third

@@ -7,6 +7,7 @@ use Rattle.pawn_saving.proofs.Lent.{clean_before}
 use Rattle.pawn_saving.proofs.Tailing.{past, on_done}
 use Rattle.pawn_saving.proofs.WholePuts.{sides_put}
 use Rattle.pawn_saving.proofs.putting.put_sides.Goals as goal
+use Rattle.pawn_tables.specs.Schema.{bookings_tree, pledges_tree, totals_tree}
 
 pub returns-clause-wrote : goal.returns-clause-wrote
 returns-clause-wrote g c clean within listed none l =
@@ -21,7 +22,7 @@ returns-clause-wrote g c clean within listed none l =
     let within1 = c.in_ok-put_row.ensures.lent.inside clean1 within refl in
     let within2 = c.in_ok-put_totals.ensures.lent.inside clean2 within1 refl in
     let first = c.in_ok-put_row.ensures.wrote clean1 within listed l in
-    let second = rw c.totals.ensures.value at (c.in_ok-put_totals.ensures.wrote clean2 within1 (with_rows listed 3 (row_under b n p ∷ listed 3)) first) in
-    let both = with_rows (with_rows listed 3 (row_under b n p ∷ listed 3)) 15 (totals_under b n p ∷ listed 15) in
-    let third = rw c.standing.ensures.value at (c.put_any_booking.ensures.wrote None (λ is. refl) clean within2 both (listed 11) (IsPermutation-refl (listed 11)) none second) in
+    let second = rw c.totals.ensures.value at (c.in_ok-put_totals.ensures.wrote clean2 within1 (with_rows listed pledges_tree (row_under b n p ∷ listed pledges_tree)) first) in
+    let both = with_rows (with_rows listed pledges_tree (row_under b n p ∷ listed pledges_tree)) totals_tree (totals_under b n p ∷ listed totals_tree) in
+    let third = rw c.standing.ensures.value at (c.put_any_booking.ensures.wrote None (λ is. refl) clean within2 both (listed bookings_tree) (IsPermutation-refl (listed bookings_tree)) none second) in
     on_done c.put_any_booking.result _ _ (sides_put new.now listed b n p) third

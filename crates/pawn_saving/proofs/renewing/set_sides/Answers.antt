@@ -8,6 +8,7 @@ use Rattle.pawn_saving.proofs.Lent.{clean_before}
 use Rattle.pawn_saving.proofs.Tailing.{past, on_done}
 use Rattle.pawn_saving.proofs.WholePuts.{sides_set}
 use Rattle.pawn_saving.proofs.renewing.set_sides.Goals as goal
+use Rattle.pawn_tables.specs.Schema.{pledges_tree, bookings_tree, totals_tree}
 
 pub returns-clause-wrote : goal.returns-clause-wrote
 returns-clause-wrote g c before agreed booked clean within listed others sides l =
@@ -21,8 +22,8 @@ returns-clause-wrote g c before agreed booked clean within listed others sides l
     let clean1 = clean_before one two true c.in_ok-set_totals.ensures.lent clean2 in
     let within1 = c.in_ok-set_row.ensures.lent.inside clean1 within refl in
     let within2 = c.in_ok-set_totals.ensures.lent.inside clean2 within1 refl in
-    let first = c.in_ok-set_row.ensures.wrote before agreed clean1 within listed (others 3) sides.row l in
-    let second = rw c.totals.ensures.value at (c.in_ok-set_totals.ensures.wrote (totals_of (debt_of before)) clean2 within1 (with_rows listed 3 (row_under b n p ∷ others 3)) (others 15) sides.totals first) in
-    let both = with_rows (with_rows listed 3 (row_under b n p ∷ others 3)) 15 (totals_under b n p ∷ others 15) in
+    let first = c.in_ok-set_row.ensures.wrote before agreed clean1 within listed (others pledges_tree) sides.row l in
+    let second = rw c.totals.ensures.value at (c.in_ok-set_totals.ensures.wrote (totals_of (debt_of before)) clean2 within1 (with_rows listed pledges_tree (row_under b n p ∷ others pledges_tree)) (others totals_tree) sides.totals first) in
+    let both = with_rows (with_rows listed pledges_tree (row_under b n p ∷ others pledges_tree)) totals_tree (totals_under b n p ∷ others totals_tree) in
     let third = rw c.standing.ensures.value at (c.put_any_booking.ensures.wrote before.standing.booking) in
-    on_done c.put_any_booking.result _ _ (sides_set new.now listed b n p others) (third booked clean within2 both (others 11) sides.bookings sides.no_booking second)
+    on_done c.put_any_booking.result _ _ (sides_set new.now listed b n p others) (third booked clean within2 both (others bookings_tree) sides.bookings sides.no_booking second)

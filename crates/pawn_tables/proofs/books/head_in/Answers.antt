@@ -1,25 +1,15 @@
-use Rattle.std.proofs.Common.{rules, refl, sym, subst, ◌∙◌}
-use Rattle.sqlite.specs.Held.{state}
-use Rattle.sqlite.specs.Listing.{understood}
-use Rattle.sqlite.proofs.Callers.{IsPlain}
-use Rattle.one_table.proofs.Parts.{plain_rests}
+use Rattle.std.proofs.Common.{rules, ◌∙◌}
+use Rattle.pawn_tables.proofs.Asking.{found, found_is, untold}
 use Rattle.pawn_tables.proofs.ReadTexts as text
 use Rattle.pawn_tables.proofs.BookReads as reads
 use Rattle.pawn_tables.proofs.SoundBooks as books
-use Rattle.pawn_tables.proofs.SoundReads as sound
 use Rattle.pawn_tables.proofs.books.head_in.Goals as goal
 
 pub returns-in_err-rows-clause-finds : goal.returns-in_err-rows-clause-finds
-returns-in_err-rows-clause-finds g c clean within h stood = sound.untold c.rows_of.result _ c.from_residual.result _ _ c.in_err-rows.was (search rules) c.rows_of.ensures.unread
+returns-in_err-rows-clause-finds g c clean within h stood = untold c.rows_of.result _ c.from_residual.result _ _ c.in_err-rows.was (search rules) c.rows_of.ensures.unread
 
 pub returns-clause-finds : goal.returns-clause-finds
-returns-clause-finds g c clean within h stood =
-    let old = state g.S.Store c.args.tx.now.conn.now in
-    let new = state g.S.Store c.rows_of.new.tx.conn.now in
-    let rows = c.in_ok-rows.rows.items in
-    let st = stood (c.in_ok-rows.ensures.lent.opened clean within refl) in
-    let shown = rw c.params-to_sql.ensures at (c.in_ok-rows.ensures.shown clean) in
-    let plain = subst (λ s. IsPlain (understood s text.head_text)) (sym st.schema) text.head_is.2 in
-    let rests = plain_rests text.head_text _ old new rows within plain shown in
-    let are = c.deref.ensures.value ∙ reads.head_shown old new h c.args.book rows st shown in
-    sound.told c.first_head.result _ _ _ _ (c.first_head.ensures.read _ (books.keys_in h c.args.book st.storable) are) rests (books.head_unsound h c.args.book)
+returns-clause-finds g c =
+    found c.first_head.result _ text.READ_HEAD.now text.head_is.2 c.in_ok-rows.ensures.lent
+    (λ clean. rw c.params-to_sql.ensures at (c.in_ok-rows.ensures.shown clean))
+    (λ h st shown. found_is c.first_head.result _ _ _ (c.first_head.ensures.read _ (books.keys_in h c.args.book st.storable) (c.deref.ensures.value ∙ reads.head_shown _ _ h c.args.book _ st shown)) (books.head_unsound h c.args.book))

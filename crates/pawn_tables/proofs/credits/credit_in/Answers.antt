@@ -1,24 +1,15 @@
-use Rattle.std.proofs.Common.{rules, refl, sym, subst, ◌∙◌}
-use Rattle.sqlite.specs.Held.{state}
-use Rattle.sqlite.specs.Listing.{understood}
-use Rattle.sqlite.proofs.Callers.{IsPlain}
-use Rattle.one_table.proofs.Parts.{plain_rests}
+use Rattle.std.proofs.Common.{rules, ◌∙◌}
+use Rattle.pawn_tables.proofs.Asking.{found_debts, found_is, untold}
 use Rattle.pawn_tables.proofs.ReadTexts as text
 use Rattle.pawn_tables.proofs.PledgeReads as reads
 use Rattle.pawn_tables.proofs.SoundReads as sound
 use Rattle.pawn_tables.proofs.credits.credit_in.Goals as goal
 
 pub returns-in_err-rows-clause-finds : goal.returns-in_err-rows-clause-finds
-returns-in_err-rows-clause-finds g c clean within h stood = sound.untold c.rows_of.result _ c.from_residual.result _ _ c.in_err-rows.was (search rules) c.rows_of.ensures.unread
+returns-in_err-rows-clause-finds g c clean within h stood = untold c.rows_of.result _ c.from_residual.result _ _ c.in_err-rows.was (search rules) c.rows_of.ensures.unread
 
 pub returns-clause-finds : goal.returns-clause-finds
-returns-clause-finds g c clean within h stood =
-    let old = state g.S.Store c.args.tx.now.conn.now in
-    let new = state g.S.Store c.rows_of.new.tx.conn.now in
-    let rows = c.in_ok-rows.rows.items in
-    let st = stood (c.in_ok-rows.ensures.lent.opened clean within refl) in
-    let shown = rw (c.params-to_sql.ensures, c.params-to_sql-2.ensures) at (c.in_ok-rows.ensures.shown clean) in
-    let plain = subst (λ s. IsPlain (understood s text.credit_text)) (sym st.schema) text.credit_is.2 in
-    let rests = plain_rests text.credit_text _ old new rows within plain shown in
-    let are = c.deref.ensures.value ∙ reads.credit_shown old new h c.args.book c.args.number rows st shown in
-    sound.told c.first_credit.result _ _ _ _ (c.first_credit.ensures.read _ are) rests (sound.credit_unsound h st.storable c.args.book c.args.number)
+returns-clause-finds g c =
+    found_debts c.first_credit.result _ text.READ_CREDIT.now text.credit_is.2 c.in_ok-rows.ensures.lent
+    (λ clean. rw (c.params-to_sql.ensures, c.params-to_sql-2.ensures) at (c.in_ok-rows.ensures.shown clean))
+    (λ h st shown. found_is c.first_credit.result _ _ _ (c.first_credit.ensures.read _ (c.deref.ensures.value ∙ reads.credit_shown _ _ h c.args.book c.args.number _ st shown)) (sound.credit_unsound h st.storable c.args.book c.args.number))

@@ -1,32 +1,23 @@
-use Rattle.std.proofs.Common.{rules, refl, sym, subst, ◌∙◌}
+use Rattle.std.proofs.Common.{rules, ◌∙◌}
 use Rattle.std.specs.FinMap.{get}
-use Rattle.sqlite.specs.Held.{state}
-use Rattle.sqlite.specs.Listing.{understood}
-use Rattle.sqlite.proofs.Callers.{IsPlain}
-use Rattle.one_table.proofs.Parts.{plain_rests}
 use Rattle.pawn_book.specs.BookStep.{pledge_in}
 use Rattle.pawn_book.specs.Keeping.{entries_of}
 use Rattle.pawn_tables.specs.Entries.{IsEntriesPage}
 use Rattle.pawn_tables.proofs.NextEntries.{is_entries_page}
+use Rattle.pawn_tables.proofs.Asking.{found, found_as, untold}
 use Rattle.pawn_tables.proofs.ReadTexts as text
 use Rattle.pawn_tables.proofs.PlaceReads as reads
-use Rattle.pawn_tables.proofs.SoundBooks as books
-use Rattle.pawn_tables.proofs.SoundReads as sound
 use Rattle.pawn_tables.proofs.pages.entries_page.Goals as goal
 
 pub returns-in_err-rows-clause-finds : goal.returns-in_err-rows-clause-finds
-returns-in_err-rows-clause-finds g c clean within h stood = sound.untold c.rows_of.result _ c.from_residual.result _ _ c.in_err-rows.was (search rules) c.rows_of.ensures.unread
+returns-in_err-rows-clause-finds g c clean within h stood = untold c.rows_of.result _ c.from_residual.result _ _ c.in_err-rows.was (search rules) c.rows_of.ensures.unread
 
 pub returns-clause-finds : goal.returns-clause-finds
-returns-clause-finds g c clean within h stood =
-    let old = state g.S.Store c.args.tx.now.conn.now in
-    let new = state g.S.Store c.rows_of.new.tx.conn.now in
-    let rows = c.in_ok-rows.rows.items in
-    let st = stood (c.in_ok-rows.ensures.lent.opened clean within refl) in
-    let shown = rw (c.params-to_sql.ensures, c.params-to_sql-2.ensures, c.params-to_sql-3.ensures) at (c.in_ok-rows.ensures.shown clean) in
-    let plain = subst (λ s. IsPlain (understood s text.from_text)) (sym st.schema) text.from_is.2 in
-    let rests = plain_rests text.from_text _ old new rows within plain shown in
-    let are = c.deref.ensures.value ∙ reads.entries_page_shown old new h c.args.book c.args.number c.args.from rows st shown in
-    let es = entries_of (pledge_in (get h.books c.args.book) c.args.number) in
-    let page = is_entries_page c.args.from 0 es (reads.entries_rising old new h c.args.book c.args.number c.args.from rows st) in
-    books.told_as c.read_entries.result _ (IsEntriesPage c.args.from es) _ _ _ (c.read_entries.ensures.read _ are) page rests (reads.entries_page_unsound h st.storable c.args.book c.args.number c.args.from)
+returns-clause-finds g c =
+    found c.read_entries.result _ text.READ_ENTRIES_PAGE.now text.from_is.2 c.in_ok-rows.ensures.lent
+    (λ clean. rw (c.params-to_sql.ensures, c.params-to_sql-2.ensures, c.params-to_sql-3.ensures) at (c.in_ok-rows.ensures.shown clean))
+    (λ h st shown.
+        let are = c.deref.ensures.value ∙ reads.entries_page_shown _ _ h c.args.book c.args.number c.args.from _ st shown in
+        let es = entries_of (pledge_in (get h.books c.args.book) c.args.number) in
+        let page = is_entries_page c.args.from 0 es (reads.entries_rising _ _ h c.args.book c.args.number c.args.from _ st) in
+        found_as c.read_entries.result _ (IsEntriesPage c.args.from es) _ _ (c.read_entries.ensures.read _ are) page (reads.entries_page_unsound h st.storable c.args.book c.args.number c.args.from))

@@ -1,24 +1,14 @@
-use Rattle.std.proofs.Common.{rules, refl, sym, subst, ◌+◌, ◌∙◌}
-use Rattle.sqlite.specs.Held.{state}
-use Rattle.sqlite.specs.Listing.{understood}
-use Rattle.sqlite.proofs.Callers.{IsPlain}
-use Rattle.one_table.proofs.Parts.{plain_rests}
+use Rattle.std.proofs.Common.{rules, ◌+◌, ◌∙◌}
 use Rattle.pawn_tables.proofs.PlacePages as reads
+use Rattle.pawn_tables.proofs.Asking.{found, found_is, untold}
 use Rattle.pawn_tables.proofs.ReadTexts as text
-use Rattle.pawn_tables.proofs.SoundReads as sound
 use Rattle.pawn_tables.proofs.pages.secrets_page.Goals as goal
 
 pub returns-in_err-rows-clause-finds : goal.returns-in_err-rows-clause-finds
-returns-in_err-rows-clause-finds g c clean within h stood = sound.untold c.rows_of.result _ c.from_residual.result _ _ c.in_err-rows.was (search rules) c.rows_of.ensures.unread
+returns-in_err-rows-clause-finds g c clean within h stood = untold c.rows_of.result _ c.from_residual.result _ _ c.in_err-rows.was (search rules) c.rows_of.ensures.unread
 
 pub returns-clause-finds : goal.returns-clause-finds
-returns-clause-finds g c clean within h stood =
-    let old = state g.S.Store c.args.tx.now.conn.now in
-    let new = state g.S.Store c.rows_of.new.tx.conn.now in
-    let rows = c.in_ok-rows.rows.items in
-    let st = stood (c.in_ok-rows.ensures.lent.opened clean within refl) in
-    let shown = rw (c.params-to_sql.ensures, c.params-to_sql-2.ensures, c.params-to_sql-3.ensures) at (c.in_ok-rows.ensures.shown clean) in
-    let plain = subst (λ s. IsPlain (understood s text.secrets_page_text)) (sym st.schema) text.secrets_page_is.2 in
-    let rests = plain_rests text.secrets_page_text _ old new rows within plain shown in
-    let are = c.deref.ensures.value ∙ reads.secrets_page_shown old new h c.args.book c.args.number c.args.behind rows st shown in
-    sound.told c.read_secrets.result _ _ _ _ (c.read_secrets.ensures.read (c.args.behind + 1) _ (reads.page_words h st.storable c.args.book c.args.number c.args.behind) are) rests (reads.secrets_page_unsound h st.storable c.args.book c.args.number c.args.behind)
+returns-clause-finds g c =
+    found c.read_secrets.result _ text.READ_SECRETS_PAGE.now text.secrets_page_is.2 c.in_ok-rows.ensures.lent
+    (λ clean. rw (c.params-to_sql.ensures, c.params-to_sql-2.ensures, c.params-to_sql-3.ensures) at (c.in_ok-rows.ensures.shown clean))
+    (λ h st shown. found_is c.read_secrets.result _ _ _ (c.read_secrets.ensures.read (c.args.behind + 1) _ (reads.page_words h st.storable c.args.book c.args.number c.args.behind) (c.deref.ensures.value ∙ reads.secrets_page_shown _ _ h c.args.book c.args.number c.args.behind _ st shown)) (reads.secrets_page_unsound h st.storable c.args.book c.args.number c.args.behind))

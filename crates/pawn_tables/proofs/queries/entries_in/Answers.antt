@@ -1,40 +1,21 @@
-use Rattle.std.proofs.Common.{rules, refl, sym, subst, ◌∙◌}
-use Rattle.sqlite.specs.Held.{state}
-use Rattle.sqlite.specs.Listing.{understood}
-use Rattle.sqlite.proofs.Callers.{IsPlain}
-use Rattle.one_table.proofs.Parts.{plain_rests}
-use Rattle.pawn_tables.proofs.Lent.{debts_of}
+use Rattle.std.proofs.Common.{rules, ◌∙◌}
+use Rattle.pawn_tables.proofs.Asking.{found_debts, found_in_debts, found_is, untold}
 use Rattle.pawn_tables.proofs.ReadTexts as text
 use Rattle.pawn_tables.proofs.PledgeReads as reads
 use Rattle.pawn_tables.proofs.SoundReads as sound
 use Rattle.pawn_tables.proofs.queries.entries_in.Goals as goal
 
 pub returns-in_err-rows-clause-finds : goal.returns-in_err-rows-clause-finds
-returns-in_err-rows-clause-finds g c clean within h stood = sound.untold c.rows_of.result _ c.from_residual.result _ _ c.in_err-rows.was (search rules) c.rows_of.ensures.unread
-
-pub returns-clause-finds : goal.returns-clause-finds
-returns-clause-finds g c clean within h stood =
-    let old = state g.S.Store c.args.tx.now.conn.now in
-    let new = state g.S.Store c.rows_of.new.tx.conn.now in
-    let rows = c.in_ok-rows.rows.items in
-    let st = debts_of old.now h (stood (c.in_ok-rows.ensures.lent.opened clean within refl)) in
-    let shown = rw (c.params-to_sql.ensures, c.params-to_sql-2.ensures) at (c.in_ok-rows.ensures.shown clean) in
-    let plain = subst (λ s. IsPlain (understood s text.entries_text)) (sym st.schema) text.entries_is.2 in
-    let rests = plain_rests text.entries_text _ old new rows within plain shown in
-    let are = c.deref.ensures.value ∙ reads.entries_shown old new h c.args.book c.args.number rows st shown in
-    sound.told c.read_entries.result _ _ _ _ (c.read_entries.ensures.read _ are) rests (sound.entries_unsound h st.storable c.args.book c.args.number)
+returns-in_err-rows-clause-finds g c clean within h stood = untold c.rows_of.result _ c.from_residual.result _ _ c.in_err-rows.was (search rules) c.rows_of.ensures.unread
 
 pub returns-in_err-rows-clause-told : goal.returns-in_err-rows-clause-told
-returns-in_err-rows-clause-told g c clean within h stood = sound.untold c.rows_of.result _ c.from_residual.result _ _ c.in_err-rows.was (search rules) c.rows_of.ensures.unread
+returns-in_err-rows-clause-told g c clean within h stood = untold c.rows_of.result _ c.from_residual.result _ _ c.in_err-rows.was (search rules) c.rows_of.ensures.unread
 
 pub returns-clause-told : goal.returns-clause-told
-returns-clause-told g c clean within h stood =
-    let old = state g.S.Store c.args.tx.now.conn.now in
-    let new = state g.S.Store c.rows_of.new.tx.conn.now in
-    let rows = c.in_ok-rows.rows.items in
-    let st = stood (c.in_ok-rows.ensures.lent.opened clean within refl) in
-    let shown = rw (c.params-to_sql.ensures, c.params-to_sql-2.ensures) at (c.in_ok-rows.ensures.shown clean) in
-    let plain = subst (λ s. IsPlain (understood s text.entries_text)) (sym st.schema) text.entries_is.2 in
-    let rests = plain_rests text.entries_text _ old new rows within plain shown in
-    let are = c.deref.ensures.value ∙ reads.entries_shown old new h c.args.book c.args.number rows st shown in
-    sound.told c.read_entries.result _ _ _ _ (c.read_entries.ensures.read _ are) rests (sound.entries_unsound h st.storable c.args.book c.args.number)
+returns-clause-told g c =
+    found_debts c.read_entries.result _ text.READ_ENTRIES.now text.entries_is.2 c.in_ok-rows.ensures.lent
+    (λ clean. rw (c.params-to_sql.ensures, c.params-to_sql-2.ensures) at (c.in_ok-rows.ensures.shown clean))
+    (λ h st shown. found_is c.read_entries.result _ _ _ (c.read_entries.ensures.read _ (c.deref.ensures.value ∙ reads.entries_shown _ _ h c.args.book c.args.number _ st shown)) (sound.entries_unsound h st.storable c.args.book c.args.number))
+
+pub returns-clause-finds : goal.returns-clause-finds
+returns-clause-finds g c = found_in_debts _ _ _ _ _ (returns-clause-told g c)

@@ -1,38 +1,18 @@
-use Rattle.std.proofs.Common.{rules, map, take, refl, sym, subst, ◌∙◌}
-use Rattle.std.specs.FinMap.{get}
-use Rattle.pawn_pledge.specs.Replayable.{Each}
-use Rattle.pawn_book.specs.Keeping.{pledges_of}
+use Rattle.std.proofs.Common.{rules, map, sym, ap, ◌∙◌}
 use Rattle.pawn_book.specs.declared.sheet.Part.TheVariants as part_of
-use Rattle.sqlite.specs.Held.{state}
-use Rattle.sqlite.specs.Listing.{understood}
-use Rattle.sqlite.proofs.Callers.{IsPlain}
-use Rattle.one_table.proofs.Parts.{plain_rests}
-use Rattle.pawn_tables.specs.Lines.{IsLinesPage, IsLineOf, asked_line}
-use Rattle.pawn_tables.specs.Pages.{most_page_rows}
-use Rattle.pawn_tables.proofs.PageLemmas.{map_each, take_each}
-use Rattle.pawn_tables.proofs.NextLines.{is_lines_page, lines_unsound, numbered_in, told_above}
+use Rattle.pawn_tables.specs.Lines.{asked_line, line_cells}
+use Rattle.pawn_tables.proofs.NextLines.{lines_found}
+use Rattle.pawn_tables.proofs.Asking.{found, untold}
 use Rattle.pawn_tables.proofs.ReadTexts as text
 use Rattle.pawn_tables.proofs.LineReads as reads
-use Rattle.pawn_tables.proofs.SoundBooks as books
-use Rattle.pawn_tables.proofs.SoundReads as sound
 use Rattle.pawn_tables.proofs.sheets.asked_page.Goals as goal
 
 pub returns-in_err-rows-clause-finds : goal.returns-in_err-rows-clause-finds
-returns-in_err-rows-clause-finds g c clean within h stood = sound.untold c.rows_of.result _ c.from_residual.result _ _ c.in_err-rows.was (search rules) c.rows_of.ensures.unread
+returns-in_err-rows-clause-finds g c clean within h stood = untold c.rows_of.result _ c.from_residual.result _ _ c.in_err-rows.was (search rules) c.rows_of.ensures.unread
 
 pub returns-clause-finds : goal.returns-clause-finds
-returns-clause-finds g c clean within h stood =
-    let old = state g.S.Store c.args.tx.now.conn.now in
-    let new = state g.S.Store c.rows_of.new.tx.conn.now in
-    let rows = c.in_ok-rows.rows.items in
-    let st = stood (c.in_ok-rows.ensures.lent.opened clean within refl) in
-    let shown = rw (c.params-to_sql.ensures, c.params-to_sql-2.ensures, c.params-to_sql-3.ensures, c.count-day.ensures.value) at (c.in_ok-rows.ensures.shown clean) in
-    let plain = subst (λ s. IsPlain (understood s text.asked_page_text)) (sym st.schema) text.asked_page_is.2 in
-    let rests = plain_rests text.asked_page_text _ old new rows within plain shown in
-    let ps = pledges_of (get h.books c.args.book) in
-    let day = c.args.day in
-    let are = c.deref.ensures.value ∙ reads.asked_page_shown c.args.book c.args.above day old new h rows st shown in
-    let page = is_lines_page part_of.Asked day (reads.asked_told day) asked_line (reads.asked_says day) (reads.asked_numbers day) c.args.above ps (numbered_in h c.args.book st.ordered) in
-    let lines = take most_page_rows (map asked_line (told_above (reads.asked_told day) c.args.above ps)) in
-    let each : Each (IsLineOf part_of.Asked) lines = take_each (IsLineOf part_of.Asked) most_page_rows _ (map_each (IsLineOf part_of.Asked) asked_line (told_above (reads.asked_told day) c.args.above ps) (λ a. tt)) in
-    books.told_as c.read_lines.result lines (IsLinesPage part_of.Asked day c.args.above ps) _ _ _ (c.read_lines.ensures.read lines each are) page rests (lines_unsound part_of.Asked day (reads.asked_told day) asked_line (reads.asked_says day) (reads.asked_numbers day) h c.args.book c.args.above)
+returns-clause-finds g c =
+    found c.read_lines.result _ text.READ_ASKED_PAGE.now text.asked_page_is.2 c.in_ok-rows.ensures.lent
+    (λ clean. rw (c.params-to_sql.ensures, c.params-to_sql-2.ensures, c.params-to_sql-3.ensures, c.count-day.ensures.value) at (c.in_ok-rows.ensures.shown clean))
+    (λ h st shown. lines_found part_of.Asked c.args.day (reads.asked_told c.args.day) asked_line (reads.asked_says c.args.day) (reads.asked_numbers c.args.day) h c.args.book c.args.above st.ordered (λ a. tt) c.read_lines.result
+        (λ lines are each. c.read_lines.ensures.read lines each (c.deref.ensures.value ∙ reads.asked_page_shown c.args.book c.args.above c.args.day _ _ h _ st shown ∙ sym (ap (map (line_cells part_of.Asked)) are))))

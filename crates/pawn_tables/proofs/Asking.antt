@@ -1,0 +1,71 @@
+-- What a statement that is asked within a transaction finds.
+use Rattle.std.proofs.Common.{◌≡◌, List, ℕ, true, Result, Ok, Err, refl, sym, subst}
+use Rattle.sqlite.specs.Effect.{Database as Tables}
+use Rattle.sqlite.specs.Listing.{understood}
+use Rattle.sqlite.specs.Order.{Row}
+use Rattle.sqlite.specs.Schema.{Schema}
+use Rattle.sqlite.specs.State.{State, HasCleanDisk, Shown}
+use Rattle.sqlite.proofs.Callers.{IsPlain}
+use Rattle.pawn_book.specs.HostStep.{Host}
+use Rattle.pawn_book.specs.declared.fault.KeepError.{KeepError}
+use Rattle.pawn_book.specs.declared.fault.KeepError.TheVariants as Keeper
+use Rattle.pawn_book.specs.declared.fault.StoreFault.TheVariants.{NoRecord, Database}
+use Rattle.one_table.specs.Lending.{IsLent, Rests}
+use Rattle.one_table.proofs.Parts.{plain_rests}
+use Rattle.pawn_tables.specs.Finding.{Finds, FindsIn, FindsOf, IsRead}
+use Rattle.pawn_tables.specs.Schema.{keep_schema}
+use Rattle.pawn_tables.specs.StandsFor.{StandsFor, ListDebts}
+use Rattle.pawn_tables.proofs.Lent.{debts_of}
+
+-- what was read has what holds of what stands, and what can't be kept is of a host that is not sound
+pub found_as : {A : Type 0} (r : Result A KeepError) (x : A) (P : A → Type 0) (Q U : Type 0) → IsRead r x Q → P x → ((Q → ⊥) → U) → Finds r P U
+found_as (Ok y) x P Q U read fact bad = subst P (sym read) fact
+found_as (Err Keeper.Memory) x P Q U read fact bad = tt
+found_as (Err (Keeper.Store NoRecord)) x P Q U read fact bad = bad read
+found_as (Err (Keeper.Store Database)) x P Q U read fact bad = tt
+
+-- what was read is what stands
+pub found_is : {A : Type 0} (r : Result A KeepError) (x : A) (Q U : Type 0) → IsRead r x Q → ((Q → ⊥) → U) → Finds r (λ y. y ≡ x) U
+found_is r x Q U read bad = found_as r x (λ y. y ≡ x) Q U read refl bad
+
+-- an error that is not of rows tells nothing of them, where it is handed on
+pub untold : {A B : Type 0} (r : Result A KeepError) (e : KeepError) (s : Result B KeepError) (P : B → Type 0) (U : Type 0) → r ≡ Err e → s ≡ Err e → (r ≡ Err (Keeper.Store NoRecord) → ⊥) → Finds s P U
+untold r e s P U is same not = subst (λ x. Finds x P U) (sym same) (go e is)
+  where
+    go : (x : KeepError) → r ≡ Err x → Finds (Err x) P U
+    go Keeper.Memory is = tt
+    go (Keeper.Store NoRecord) is = absurd (not is)
+    go (Keeper.Store Database) is = tt
+
+with_rests : {A : Type 0} (r : Result A KeepError) (P : A → Type 0) (R U : Type 0) → Finds r P U → R → Finds r (λ x. P x × R) U
+with_rests (Ok x) P R U f rests = (f, rests)
+with_rests (Err Keeper.Memory) P R U f rests = tt
+with_rests (Err (Keeper.Store NoRecord)) P R U f rests = f
+with_rests (Err (Keeper.Store Database)) P R U f rests = tt
+
+-- of tables that tell of a host under this schema: what the rows of a query tell, while the tables rest
+found_of : {A : Type 0} (Tell : Tables → Host → Type 0) → ((db : Tables) (h : Host) → Tell db h → db.schema ≡ keep_schema)
+    → {IsUnsound : Host → Type 0} {old new : State} {params : Row} {rows : List Row} (r : Result A KeepError) (P : Host → A → Type 0) (text : List ℕ)
+    → IsPlain (understood keep_schema text) → IsLent old new true → (HasCleanDisk new → Shown text params old new rows)
+    → ((h : Host) → Tell old.now h → Shown text params old new rows → Finds r (P h) (IsUnsound h)) → FindsOf Tell IsUnsound old new r P
+found_of Tell schema {IsUnsound} {old} {new} {params} {rows} r P text plain lent shows find clean within h stood =
+    let st = stood (lent.opened clean within refl) in
+    let shown = shows clean in
+    let is_plain = subst (λ (s : Schema). IsPlain (understood s text)) (sym (schema old.now h st)) plain in
+    with_rests r (P h) (Rests old new) (IsUnsound h) (find h st shown) (plain_rests text params old new rows within is_plain shown)
+
+-- of tables that stand for a host
+pub found : {A : Type 0} {IsUnsound : Host → Type 0} {old new : State} {params : Row} {rows : List Row} (r : Result A KeepError) (P : Host → A → Type 0) (text : List ℕ)
+    → IsPlain (understood keep_schema text) → IsLent old new true → (HasCleanDisk new → Shown text params old new rows)
+    → ((h : Host) → StandsFor old.now h → Shown text params old new rows → Finds r (P h) (IsUnsound h)) → FindsIn IsUnsound old new r P
+found = found_of StandsFor (λ db h st. st.schema)
+
+-- of tables that list the debts of a host
+pub found_debts : {A : Type 0} {IsUnsound : Host → Type 0} {old new : State} {params : Row} {rows : List Row} (r : Result A KeepError) (P : Host → A → Type 0) (text : List ℕ)
+    → IsPlain (understood keep_schema text) → IsLent old new true → (HasCleanDisk new → Shown text params old new rows)
+    → ((h : Host) → ListDebts old.now h → Shown text params old new rows → Finds r (P h) (IsUnsound h)) → FindsOf ListDebts IsUnsound old new r P
+found_debts = found_of ListDebts (λ db h st. st.schema)
+
+-- tables that stand for a host list its debts
+pub found_in_debts : {A : Type 0} (IsUnsound : Host → Type 0) (old new : State) (r : Result A KeepError) (P : Host → A → Type 0) → FindsOf ListDebts IsUnsound old new r P → FindsIn IsUnsound old new r P
+found_in_debts IsUnsound old new r P f clean within h stood = f clean within h (λ open. debts_of old.now h (stood open))
