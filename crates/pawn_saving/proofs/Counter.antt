@@ -86,7 +86,7 @@ counts by old new row listed counted limit st noted fits h =
     let end = concluded (counting old.step_limit by) (mode_of old) count_returns done.0 w.tally new.now done.2 in
     let now = end.1 in
     let wrote = alter.updated_part keep_schema 6 t meta_place (λ _. refl) count_tests count_shows old.step_limit params params db done.0 done.1 in
-    let holds : Holds db 13 t (listed meta_tree) = at_place (λ (u : Table). Holds db u.tree u (listed u.tree)) keep_schema.tables 6 t refl st.tables in
+    let holds : Holds db meta_tree t (listed meta_tree) = at_place (λ (u : Table). Holds db u.tree u (listed u.tree)) keep_schema.tables 6 t refl st.tables in
     let before = meta_row (codes "rows") counted in
     let after = meta_row (codes "rows") (counted + by) in
     let rest = other_rows limit in
@@ -135,7 +135,7 @@ pub limit_shown : (old new : State) (rows : List Row) (listed : Listed) (counted
     → rows ≡ (Int (pos limit) ∷ []) ∷ []
 limit_shown old new rows listed counted limit noted st shown =
     let t : Table = record meta { tree = meta_tree } in
-    let holds : Holds old.now.trees 13 t (listed meta_tree) = at_place (λ (u : Table). Holds old.now.trees u.tree u (listed u.tree)) keep_schema.tables 6 t refl st.tables in
+    let holds : Holds old.now.trees meta_tree t (listed meta_tree) = at_place (λ (u : Table). Holds old.now.trees u.tree u (listed u.tree)) keep_schema.tables 6 t refl st.tables in
     let same = shown_listed keep_schema meta_tree (λ _. refl) t limit_tests limit_shows [] is_limit value_cells (λ r. refl) (λ r. refl) READ_LIMIT.now (codes "value" ∷ []) [] limit_is old new (listed meta_tree) rows st.schema_is holds shown in
     let one : map value_cells (filter is_limit (listed meta_tree)) ≡ (Int (pos limit) ∷ []) ∷ [] = ap (λ rs. map value_cells (filter is_limit rs)) noted ∙ ap (map value_cells) (limit_alone counted limit) in
     one_permutation _ _ (subst (λ xs. IsPermutation xs rows) one same)

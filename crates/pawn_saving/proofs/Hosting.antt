@@ -50,15 +50,15 @@ other db tree t a b same holds = record { same = IsPermutation-trans _ _ _ same 
 
 -- rows that are the same but for their order, tree by tree
 pub record AreSame (a b : Listed) : Type 0 where
-  pub books : IsPermutation (a 0) (b 0)
-  pub terms : IsPermutation (a 1) (b 1)
-  pub pledges : IsPermutation (a 3) (b 3)
-  pub entries : IsPermutation (a 6) (b 6)
-  pub secrets : IsPermutation (a 8) (b 8)
-  pub bookings : IsPermutation (a 11) (b 11)
-  pub meta : IsPermutation (a 13) (b 13)
-  pub totals : IsPermutation (a 15) (b 15)
-  pub extensions : IsPermutation (a 17) (b 17)
+  pub books : IsPermutation (a books_tree) (b books_tree)
+  pub terms : IsPermutation (a terms_tree) (b terms_tree)
+  pub pledges : IsPermutation (a pledges_tree) (b pledges_tree)
+  pub entries : IsPermutation (a entries_tree) (b entries_tree)
+  pub secrets : IsPermutation (a secrets_tree) (b secrets_tree)
+  pub bookings : IsPermutation (a bookings_tree) (b bookings_tree)
+  pub meta : IsPermutation (a meta_tree) (b meta_tree)
+  pub totals : IsPermutation (a totals_tree) (b totals_tree)
+  pub extensions : IsPermutation (a extensions_tree) (b extensions_tree)
 
 pub relisted : (db : Database) (a b : Listed) → AreSame a b → Lists keep_schema db b → Lists keep_schema db a
 relisted db a b same l = record {

@@ -20,7 +20,7 @@ use Rattle.pawn_book.specs.Sound.{AreSound}
 use Rattle.pawn_book.proofs.Places.{pledge_within}
 use Rattle.pawn_book.proofs.RowSums.{part}
 use Rattle.one_table.specs.Listing.{Lists, Listed, with_rows}
-use Rattle.pawn_tables.specs.Schema.{keep_schema}
+use Rattle.pawn_tables.specs.Schema.{keep_schema, bookings_tree, pledges_tree}
 use Rattle.pawn_tables.specs.At.{at_pledge}
 use Rattle.pawn_tables.specs.Rows.{book_row, booking_listed, entries_listed, entry_cells, extension_cells, extensions_listed, placed_from, pledge_listed, secret_cells, secrets_listed, totals_listed, under}
 use Rattle.pawn_tables.specs.StandsFor.{of_pledges, AreBooksOrdered}
@@ -111,7 +111,7 @@ module _ (b : ℕ) (old p : PledgeValue) (l : Lengths) (same : p.agreement.numbe
 module _ (h : Host) (b n : ℕ) (k : BookValue) (old p : PledgeValue) (is : get h.books b ≡ Some k) (some : stood h b n k p is ≡ Some old) where
   -- the rows of the others, of which each pledge has one at most
   abbrev pub others : Listed
-  others t = if t == 3 then rest h b n k p is pledge_listed else if t == 11 then rest h b n k p is booking_listed else rest h b n k p is totals_listed
+  others t = if t == pledges_tree then rest h b n k p is pledge_listed else if t == bookings_tree then rest h b n k p is booking_listed else rest h b n k p is totals_listed
 
   beside_old : (f : ℕ → PledgeValue → List Row) → IsPermutation (of_pledges h f) (f b old ++ rest h b n k p is f)
   beside_old f = subst (λ o. IsPermutation (of_pledges h f) (rows_at o (f b) ++ rest h b n k p is f)) some (before_put h b n k p is f)

@@ -68,4 +68,4 @@ found_debts = found_of ListDebts (λ db h st. st.schema)
 
 -- tables that stand for a host list its debts
 pub found_in_debts : {A : Type 0} (IsUnsound : Host → Type 0) (old new : State) (r : Result A KeepError) (P : Host → A → Type 0) → FindsOf ListDebts IsUnsound old new r P → FindsIn IsUnsound old new r P
-found_in_debts IsUnsound old new r P f clean within h stood = f clean within h (λ open. debts_of old.now h (stood open))
+found_in_debts IsUnsound old new r P f clean within h stood = f clean within h (λ was_open. debts_of old.now h (stood was_open))

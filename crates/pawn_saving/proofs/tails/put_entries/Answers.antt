@@ -5,10 +5,11 @@ use Rattle.pawn_book.specs.declared.fault.KeepError.{KeepError}
 use Rattle.pawn_saving.specs.Writing.{IsCarried}
 use Rattle.pawn_debt.specs.declared.entry.Entry.{Entry}
 use Rattle.pawn_saving.proofs.Tailing.{carried_then, none_put, one_put, take_all, take_map}
+use Rattle.pawn_tables.specs.Schema.{entries_tree}
 use Rattle.pawn_saving.proofs.tails.put_entries.Goals as goal
 
 pub loop-entry-init : goal.loop-entry-init
-loop-entry-init g c = (refl, none_put 6 (state g.S.Store c.args.tx.now.conn.now))
+loop-entry-init g c = (refl, none_put entries_tree (state g.S.Store c.args.tx.now.conn.now))
 
 pub returns-in_err-put_entry-clause-same_reference : goal.returns-in_err-put_entry-clause-same_reference
 returns-in_err-put_entry-clause-same_reference g c = c.put_entry.ensures.same_reference ∙ c.loop-entry.invariant.0

@@ -17,7 +17,7 @@ returns-clause-finds g c =
     found c.read_entries.result _ text.READ_ENTRIES_PAGE.now text.from_is.2 c.in_ok-rows.ensures.lent
     (λ clean. rw (c.params-to_sql.ensures, c.params-to_sql-2.ensures, c.params-to_sql-3.ensures) at (c.in_ok-rows.ensures.shown clean))
     (λ h st shown.
-        let are = c.deref.ensures.value ∙ reads.entries_page_shown _ _ h c.args.book c.args.number c.args.from _ st shown in
-        let es = entries_of (pledge_in (get h.books c.args.book) c.args.number) in
-        let page = is_entries_page c.args.from 0 es (reads.entries_rising _ _ h c.args.book c.args.number c.args.from _ st) in
-        found_as c.read_entries.result _ (IsEntriesPage c.args.from es) _ _ (c.read_entries.ensures.read _ are) page (reads.entries_page_unsound h st.storable c.args.book c.args.number c.args.from))
+    let are = c.deref.ensures.value ∙ reads.entries_page_shown _ _ h c.args.book c.args.number c.args.from _ st shown in
+    let es = entries_of (pledge_in (get h.books c.args.book) c.args.number) in
+    let page = is_entries_page c.args.from 0 es (reads.entries_rising _ _ h c.args.book c.args.number c.args.from _ st) in
+    found_as c.read_entries.result _ (IsEntriesPage c.args.from es) _ _ (c.read_entries.ensures.read _ are) page (reads.entries_page_unsound h st.storable c.args.book c.args.number c.args.from))

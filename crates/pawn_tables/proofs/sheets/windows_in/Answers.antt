@@ -16,6 +16,6 @@ returns-clause-finds g c =
     found c.read_numbers.result _ text.READ_WINDOWS.now text.windows_is.2 c.in_ok-rows.ensures.lent
     (λ clean. rw (c.params-to_sql.ensures, c.params-to_sql-2.ensures, c.count-day.ensures.value) at (c.in_ok-rows.ensures.shown clean))
     (λ h st shown.
-        let windows = windows_shown c.args.book c.args.day _ _ h _ st shown in
-        let are = ◌∙◌ {c = map number_cells windows.0} c.deref.ensures.value windows.1 in
-        found_as c.read_numbers.result windows.0 (NamesWindows c.args.day (pledges_of (get h.books c.args.book))) _ _ (c.read_numbers.ensures.read windows.0 are) windows.2 (λ bad. absurd (bad tt)))
+    let windows = windows_shown c.args.book c.args.day _ _ h _ st shown in
+    let are = ◌∙◌ {c = map number_cells windows.0} c.deref.ensures.value windows.1 in
+    found_as c.read_numbers.result windows.0 (NamesWindows c.args.day (pledges_of (get h.books c.args.book))) _ _ (c.read_numbers.ensures.read windows.0 are) windows.2 (λ bad. absurd (bad tt)))

@@ -15,7 +15,7 @@ returns-clause-finds g c =
     found c.first_place.result _ text.READ_LAST_PLACE.now text.last_place_is.2 c.in_ok-rows.ensures.lent
     (λ clean. rw (c.params-to_sql.ensures, c.params-to_sql-2.ensures) at (c.in_ok-rows.ensures.shown clean))
     (λ h st shown.
-        let are = c.deref.ensures.value ∙ reads.place_shown _ _ h c.args.book c.args.number _ st shown in
-        let es = extensions_of (pledge_in (get h.books c.args.book) c.args.number) in
-        let counted : ℕ → Type 0 = λ count. count ≡ length es in
-        found_as c.first_place.result _ counted _ _ (c.first_place.ensures.read _ are) (reads.place_count es) (λ bad. absurd (bad tt)))
+    let are = c.deref.ensures.value ∙ reads.place_shown _ _ h c.args.book c.args.number _ st shown in
+    let es = extensions_of (pledge_in (get h.books c.args.book) c.args.number) in
+    let counted : ℕ → Type 0 = λ count. count ≡ length es in
+    found_as c.first_place.result _ counted _ _ (c.first_place.ensures.read _ are) (reads.place_count es) (λ bad. absurd (bad tt)))

@@ -16,6 +16,6 @@ returns-clause-finds g c =
     found c.first_last.result _ text.READ_LAST_SECRET.now text.last_secret_is.2 c.in_ok-rows.ensures.lent
     (λ clean. rw (c.params-to_sql.ensures, c.params-to_sql-2.ensures) at (c.in_ok-rows.ensures.shown clean))
     (λ h st shown.
-        let are = c.deref.ensures.value ∙ reads.secret_shown _ _ h c.args.book c.args.number _ st shown in
-        let words = reads.last_word (secrets_of (pledge_in (get h.books c.args.book) c.args.number)) (sound.words_in h st.storable c.args.book c.args.number) in
-        found_is c.first_last.result _ _ _ (c.first_last.ensures.read _ words are) (reads.last_unsound h st.storable c.args.book c.args.number))
+    let are = c.deref.ensures.value ∙ reads.secret_shown _ _ h c.args.book c.args.number _ st shown in
+    let words = reads.last_word (secrets_of (pledge_in (get h.books c.args.book) c.args.number)) (sound.words_in h st.storable c.args.book c.args.number) in
+    found_is c.first_last.result _ _ _ (c.first_last.ensures.read _ words are) (reads.last_unsound h st.storable c.args.book c.args.number))
