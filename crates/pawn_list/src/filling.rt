@@ -4,8 +4,8 @@ ghost use Rattle.pawn_terms.specs.Terms.{IsChecked};
 ghost use Rattle.pawn_pledge.specs.Replayable.{Each, IsStanding};
 ghost use Rattle.pawn_book.specs.BookStep.{BookValue};
 ghost use Rattle.pawn_book.specs.HostStep.{pledge_rows};
-ghost use Rattle.pawn_list.specs.Listed.{HasChange, book_at, listed_book};
 ghost use Rattle.pawn_book.specs.Rows.{AreReplayable};
+ghost use Rattle.pawn_list.specs.Listed.{HasChange, book_at, listed_book};
 
 use crate::kept::{Kept, place_of};
 use pawn_book::{BookRows, Change, Imported, Number, Parts, Pledge, Rates, Secret, Terms};
