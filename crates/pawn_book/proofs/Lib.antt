@@ -14,10 +14,6 @@ pub mod GrowLemmas
 pub mod MadeLemmas
 pub mod LawLemmas
 pub mod RepeatLemmas
-pub mod NextLemmas
-pub mod ListReads
-pub mod ListSaves
-pub mod ListKeeping
 pub mod SlotMoments
 pub mod SlotMachine
 pub mod SlotRuns

@@ -1,12 +1,12 @@
 -- What a visitor was handed, item by item.
 use Rattle.std.proofs.Common.{◌≡◌, ◌∙◌, ℕ, List, [], ◌∷◌, ◌++◌, refl, sym, ap, subst, inl, inr, ◌<◌, ◌+◌, length, take, drop, get_or, append_assoc, append-nil}
-use Rattle.std.proofs.lemmas.List.{take_more, drop_more, take-append-drop}
+use Rattle.std.proofs.lemmas.List.{drop_more, take-append-drop}
 use Rattle.pawn_book.specs.declared.visit.Flow.{Flow}
 use Rattle.pawn_book.specs.declared.visit.Flow.TheVariants.{Go, Stop}
 use Rattle.std.specs.Prelude.{false}
 use Rattle.pawn_book.specs.declared.gather.Gathering.{Gathering}
 use Rattle.pawn_book.specs.Gathering.{Gathers}
-use Rattle.pawn_book.specs.Visits.{Handed, IsShare, Visits, Whole}
+use Rattle.pawn_book.specs.Visits.{Handed}
 
 -- a list, cut at a place
 pub cut_at : {X : Type 0} (xs : List X) (i : ℕ) (d : X) → i < length xs → take i xs ++ get_or xs i d ∷ drop (i + 1) xs ≡ xs
@@ -21,22 +21,6 @@ handed-snoc step v u w (y ∷ xs) x flow before here = elim before [
   | inl going ↦ inl (going.0, going.1, handed-snoc step going.0 u w xs x flow going.2 here)
   | inr stopped ↦ cc
 ]
-
--- it stopped at the item at this place
-pub visits_stopped : {V T : Type 0} (step : V → T → Flow → V → Type 0) (v u w : V) (xs : List T) (i : ℕ) (x : T) → i < length xs → x ≡ get_or xs i x
-    → Handed step v (take i xs) Go u → step u x Stop w → Visits step v w (λ given flow. IsShare given flow Whole xs)
-visits_stopped step v u w xs i x lt is before here = (
-  take i xs ++ x ∷ [],
-  Stop,
-  handed-snoc step v u w (take i xs) x Stop before here,
-  (drop (i + 1) xs, append_assoc (take i xs) (x ∷ []) (drop (i + 1) xs) ∙ ap (λ y. take i xs ++ y ∷ drop (i + 1) xs) is ∙ cut_at xs i x lt, λ e. cc e),
-)
-
--- it goes on after the item at this place
-pub visits_more : {V T : Type 0} (step : V → T → Flow → V → Type 0) (v u w : V) (xs : List T) (i : ℕ) (x : T) → i < length xs → x ≡ get_or xs i x
-    → Handed step v (take i xs) Go u → step u x Go w → Handed step v (take (i + 1) xs) Go w
-visits_more step v u w xs i x lt is before here =
-    subst (λ ys. Handed step v ys Go w) (ap (λ y. take i xs ++ y ∷ []) is ∙ sym (take_more xs i x lt)) (handed-snoc step v u w (take i xs) x Go before here)
 
 -- what gathered all it was handed
 pub gathered : {T : Type 0} (v w : Gathering T) (given : List T) (flow : Flow) → Handed Gathers v given flow w → w.is_full ≡ false

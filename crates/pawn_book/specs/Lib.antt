@@ -14,8 +14,6 @@ pub mod Plans
 pub mod Written
 pub mod Rows
 pub mod Sound
-pub mod Books
-pub mod Listed
 pub mod Laws
 pub mod Traces
 pub mod Machines

@@ -12,7 +12,6 @@ mod importing;
 mod keep;
 mod laws;
 mod limits;
-mod list;
 mod openings;
 mod planning;
 mod receipts;
@@ -42,7 +41,6 @@ pub use laws::{
 pub use limits::{
     MOST_BOOKINGS, MOST_NAME_BYTES, MOST_PLEDGES, MOST_RECEIPTS, MOST_ROWS, MOST_TERMS,
 };
-pub use list::ListKeep;
 pub use pawn_pledge::{
     Agreement, Applied, Article, BadDay, BadReceipt, BearerCommand, Booking, BookingState, Brief,
     BriefFields, BrokerCommand, Closing, Command, Day, Decision, Done, Entries, Entry, Extension,

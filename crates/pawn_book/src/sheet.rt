@@ -1,12 +1,8 @@
 //! What a book's broker is to know of a day.
-ghost use Rattle.std.specs.Prelude.{◌≡◌, count_by, is_some};
-ghost use Rattle.pawn_book.specs.Bookings.{is_confirmed_for};
-ghost use Rattle.pawn_pledge.specs.Words.{is_open};
-ghost use Rattle.pawn_book.specs.Sheet.{asked_item, day_sheet, part_head, part_item, part_items, window_sheet, windows_sheet, with_head};
-ghost use Rattle.pawn_book.specs.Visits.{HandsOver};
+ghost use Rattle.std.specs.Prelude.{◌≡◌};
+ghost use Rattle.pawn_book.specs.Sheet.{part_head};
 
-use crate::visit::{Flow, Visitor};
-use pawn_pledge::{Booking, BookingState, Closing, Day, LAST_WINDOW, Number, Pledge};
+use pawn_pledge::Number;
 
 /// A line of a day's sheet, below its heading.
 #[derive(Clone, Copy, PartialEq, Eq)]
@@ -33,78 +29,7 @@ pub enum Part {
     Ends,
 }
 
-// Whether a booking for a day and a window is confirmed.
-pub(crate) fn is_confirmed_for(booking: Option<Booking>, day: Day, window: u64) -> bool
-    ensures value { result ≡ is_confirmed_for day window booking }
-{
-    match booking {
-        None => false,
-        Some(booking) => {
-            booking.day == day
-                && booking.window == window
-                && booking.state == BookingState::Confirmed
-        }
-    }
-}
-
-// The item of a booking that is asked for a day.
-fn asked_item(number: Number, day: Day, booking: Option<Booking>) -> Option<SheetItem>
-    ensures value { result ≡ asked_item number day booking }
-{
-    let booking = booking?;
-    if booking.day == day && booking.state == BookingState::Asked {
-        return Some(SheetItem::Asked {
-            number,
-            window: booking.window,
-        });
-    }
-    None
-}
-
-// Neither redeemed nor sold.
-fn is_open(closing: Closing) -> bool
-    ensures value { result ≡ is_open closing }
-{
-    match closing {
-        Closing::Open => true,
-        Closing::Redeemed { .. } | Closing::Sold { .. } => false,
-    }
-}
-
 impl Part {
-    // What the part says of a pledge, if anything.
-    fn item(self, day: Day, pledge: &Pledge) -> Option<SheetItem>
-        ensures value { result ≡ part_item self day pledge.now }
-    {
-        let number = pledge.agreement().number;
-        let standing = pledge.standing();
-        match self {
-            Part::Confirmed { window } => {
-                if is_confirmed_for(standing.booking, day, window) {
-                    return Some(SheetItem::Confirmed(number));
-                }
-                None
-            }
-            Part::Asked => asked_item(number, day, standing.booking),
-            Part::Ends => {
-                if is_open(standing.closing) && pledge.ends() == day {
-                    return Some(SheetItem::Ends(number));
-                }
-                None
-            }
-        }
-    }
-
-    // How many pledges it says something of.
-    fn count(self, day: Day, pledges: &[Pledge]) -> u64
-        ensures value { result ≡ count_by (λ p. is_some (part_item self day p)) pledges.now }
-    {
-        pledges
-            .iter()
-            .filter(|pledge| self.item(day, pledge).is_some())
-            .count() as u64
-    }
-
     /// The item above the others, which are so many.
     pub fn heading(self, count: u64) -> SheetItem
         ensures value { result ≡ part_head self count }
@@ -115,92 +40,4 @@ impl Part {
             Part::Ends => SheetItem::EndsHead(count),
         }
     }
-}
-
-// Hands a part's items to the visitor until it wants no more.
-fn hand_part<V: Visitor<SheetItem>>(
-    part: Part,
-    day: Day,
-    pledges: &[Pledge],
-    visitor: &mut V,
-) -> Flow
-    ensures hands { HandsOver V.step visitor.old
-        (part_items part day pledges.now) result visitor.new }
-{
-    for pledge in pledges {
-        if let Some(item) = part.item(day, pledge) {
-            match visitor.visit(&item) {
-                Flow::Go => {}
-                Flow::Stop => return Flow::Stop,
-            }
-        }
-    }
-    Flow::Go
-}
-
-// The same, with their number above them.
-fn hand_headed<V: Visitor<SheetItem>>(
-    part: Part,
-    day: Day,
-    pledges: &[Pledge],
-    visitor: &mut V,
-) -> Flow
-    ensures hands { HandsOver V.step visitor.old
-        (with_head part (part_items part day pledges.now)) result visitor.new }
-{
-    let heading = part.heading(part.count(day, pledges));
-    match visitor.visit(&heading) {
-        Flow::Go => hand_part(part, day, pledges, visitor),
-        Flow::Stop => Flow::Stop,
-    }
-}
-
-// Hands a window's items to the visitor until it wants no more; none where nobody comes.
-fn hand_window<V: Visitor<SheetItem>>(
-    window: u64,
-    day: Day,
-    pledges: &[Pledge],
-    visitor: &mut V,
-) -> Flow
-    ensures hands { HandsOver V.step visitor.old
-        (window_sheet pledges.now day window) result visitor.new }
-{
-    let part = Part::Confirmed { window };
-    if part.count(day, pledges) == 0 {
-        return Flow::Go;
-    }
-    hand_headed(part, day, pledges, visitor)
-}
-
-// Hands the windows' items to the visitor until it wants no more.
-fn hand_windows<V: Visitor<SheetItem>>(day: Day, pledges: &[Pledge], visitor: &mut V) -> Flow
-    ensures hands { HandsOver V.step visitor.old
-        (windows_sheet pledges.now day) result visitor.new }
-{
-    for window in 0..LAST_WINDOW + 1 {
-        match hand_window(window, day, pledges, visitor) {
-            Flow::Go => {}
-            Flow::Stop => return Flow::Stop,
-        }
-    }
-    Flow::Go
-}
-
-// Hands the items of a day's sheet to the visitor until it wants no more.
-pub(crate) fn hand_sheet<V: Visitor<SheetItem>>(
-    day: Day,
-    pledges: &[Pledge],
-    visitor: &mut V,
-) -> Flow
-    ensures hands { HandsOver V.step visitor.old (day_sheet pledges.now day) result visitor.new }
-{
-    match hand_windows(day, pledges, visitor) {
-        Flow::Go => {}
-        Flow::Stop => return Flow::Stop,
-    }
-    match hand_headed(Part::Asked, day, pledges, visitor) {
-        Flow::Go => {}
-        Flow::Stop => return Flow::Stop,
-    }
-    hand_headed(Part::Ends, day, pledges, visitor)
 }

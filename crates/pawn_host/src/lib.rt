@@ -1,7 +1,7 @@
 //! The service: requests as bytes to replies as bytes, one by one, as a list or from a stream.
 //!
 //! ```
-//! let keep = ListKeep::new(rt.alloc(), 5_000_000);
+//! let keep = pawn_list::ListKeep::new(rt.alloc(), 5_000_000);
 //! let mut service = Service::new(rt.alloc(), keep, operator)?;
 //! let asked = b"GET /books/7/held HTTP/1.1\r\n\r\n";
 //! match service.answer_one(&Stamp { day, word }, asked) {
@@ -24,7 +24,7 @@ pub use laws::{
     split_ends_early, split_is_front, split_is_unique,
 };
 pub use limits::{MOST_READS, MOST_REQUESTS};
-pub use pawn_book::{Day, Keep, ListKeep, Number, RequestDay, Secret, Stamp};
+pub use pawn_book::{Day, Keep, Number, RequestDay, Secret, Stamp};
 pub use pawn_view::Writing;
 pub use reading::Reading;
 pub use service::{Answer, Service};

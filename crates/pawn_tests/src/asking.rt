@@ -1,5 +1,6 @@
 //! What comes of a request that changes something.
-use pawn_book::{ListKeep, Refusal, Reply, Request, Secret, Stamp, act};
+use pawn_book::{Refusal, Reply, Request, Secret, Stamp, act};
+use pawn_list::ListKeep;
 use std::alloc::Global;
 
 /// What a keeper answers to a request, unless the request only reads.

@@ -3,13 +3,14 @@
 use crate::asking::acted;
 use pawn_book::{
     Article, BearerCommand, BearerRequest, Booking, BookingState, BrokerCommand, BrokerRequest,
-    Caller, Capacity, Command, Decision, Done, Entry, Flow, Keep, Kind, ListKeep, Name, NewBook,
-    NewTerms, Number, Opening, Paper, Pledge, PledgeRefusal, Rates, Receipt, Reference, Refusal,
-    Reply, Request, RequestDay, Secret, Sort, Stamp, Status, TermsFault, Visitor, commit,
-    find_live, gate, plan,
+    Caller, Capacity, Command, Decision, Done, Entry, Flow, Keep, Kind, Name, NewBook, NewTerms,
+    Number, Opening, Paper, Pledge, PledgeRefusal, Rates, Receipt, Reference, Refusal, Reply,
+    Request, RequestDay, Secret, Sort, Stamp, Status, TermsFault, Visitor, commit, find_live, gate,
+    plan,
 };
 use pawn_check::{Counts, check};
 use pawn_debt::DebtFault;
+use pawn_list::ListKeep;
 use std::alloc::Global;
 use std::process::Abort;
 use std::test::Fail;

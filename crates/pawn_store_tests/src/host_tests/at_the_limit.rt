@@ -2,8 +2,8 @@
 //! `tests/turns/at_the_limit.txt` has the same over the tables of a file.
 
 use super::{bytes_of, service_of, stamp_on};
-use pawn_book::ListKeep;
 use pawn_host::Service;
+use pawn_list::ListKeep;
 use std::alloc::Global;
 use std::process::Abort;
 use std::test::Fail;

@@ -2,10 +2,11 @@
 use super::{KEY, OPERATOR, answer_to, asked, day, make, number};
 use crate::asking::acted;
 use pawn_book::{
-    BrokerRequest, Caller, Day, Imported, Keep, ListKeep, Reference, Refusal, ReplayableRows,
-    Reply, Request, Secret, SheetItem, Stamp, day_sheet, replayable,
+    BrokerRequest, Caller, Day, Imported, Keep, Reference, Refusal, ReplayableRows, Reply, Request,
+    Secret, SheetItem, Stamp, day_sheet, replayable,
 };
 use pawn_csv::{import, read_book};
+use pawn_list::ListKeep;
 use std::alloc::Global;
 use std::test::Fail;
 

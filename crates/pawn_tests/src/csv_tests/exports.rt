@@ -2,10 +2,9 @@
 ghost use Rattle.std.specs.Prelude.{Some};
 
 use crate::asking::acted;
-use pawn_book::{
-    Caller, Capacity, ListKeep, Name, NewBook, Number, Request, RequestDay, Secret, Stamp,
-};
+use pawn_book::{Caller, Capacity, Name, NewBook, Number, Request, RequestDay, Secret, Stamp};
 use pawn_csv::{RowWriter, ViewFault, export};
+use pawn_list::ListKeep;
 use std::alloc::Global;
 use std::io;
 use std::io::{ErrorKind, Write};

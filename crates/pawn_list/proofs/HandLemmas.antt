@@ -1,0 +1,27 @@
+-- A list, handed over item by item.
+use Rattle.std.proofs.Common.{◌≡◌, ◌∙◌, ℕ, List, [], ◌∷◌, ◌++◌, refl, sym, ap, subst, ◌<◌, ◌+◌, length, take, drop, get_or, append_assoc}
+use Rattle.std.proofs.lemmas.List.{take_more}
+use Rattle.pawn_book.specs.declared.visit.Flow.{Flow}
+use Rattle.pawn_book.specs.declared.visit.Flow.TheVariants.{Go, Stop}
+use Rattle.pawn_book.specs.Visits.{Handed, HandsOver, IsShare, Visits, Whole}
+use Rattle.pawn_book.proofs.VisitLemmas.{cut_at, handed-snoc}
+
+-- nothing is handed over
+pub hands_none : {V T : Type 0} (step : V → T → Flow → V → Type 0) (v : V) → HandsOver step v [] Go v
+hands_none step v = ([], (refl, refl), ([], refl, λ go whole. refl))
+
+-- it stopped at the item at this place
+pub visits_stopped : {V T : Type 0} (step : V → T → Flow → V → Type 0) (v u w : V) (xs : List T) (i : ℕ) (x : T) → i < length xs → x ≡ get_or xs i x
+    → Handed step v (take i xs) Go u → step u x Stop w → Visits step v w (λ given flow. IsShare given flow Whole xs)
+visits_stopped step v u w xs i x lt is before here = (
+  take i xs ++ x ∷ [],
+  Stop,
+  handed-snoc step v u w (take i xs) x Stop before here,
+  (drop (i + 1) xs, append_assoc (take i xs) (x ∷ []) (drop (i + 1) xs) ∙ ap (λ y. take i xs ++ y ∷ drop (i + 1) xs) is ∙ cut_at xs i x lt, λ e. cc e),
+)
+
+-- it goes on after the item at this place
+pub visits_more : {V T : Type 0} (step : V → T → Flow → V → Type 0) (v u w : V) (xs : List T) (i : ℕ) (x : T) → i < length xs → x ≡ get_or xs i x
+    → Handed step v (take i xs) Go u → step u x Go w → Handed step v (take (i + 1) xs) Go w
+visits_more step v u w xs i x lt is before here =
+    subst (λ ys. Handed step v ys Go w) (ap (λ y. take i xs ++ y ∷ []) is ∙ sym (take_more xs i x lt)) (handed-snoc step v u w (take i xs) x Go before here)

@@ -1,0 +1,70 @@
+-- The items of a part of a day's sheet.
+use Rattle.std.proofs.Common.{◌≡◌, ◌≢◌, ◌∙◌, ℕ, ◌+◌, ◌<◌, List, [], ◌∷◌, ◌++◌, Option, None, Some, refl, sym, ap, subst, length, take, drop, get_or, arith, append-nil}
+use Rattle.std.specs.Prelude.{cond, filter_map, count_by, is_some}
+use Rattle.std.proofs.lemmas.List.Recursion.{is_count_by}
+use Rattle.std.specs.List.{cons_option}
+use Rattle.std.proofs.lemmas.List.{take_more, take-append-drop}
+use Rattle.pawn_book.specs.declared.visit.Flow.{Flow}
+use Rattle.pawn_book.specs.declared.visit.Flow.TheVariants.{Go, Stop}
+use Rattle.pawn_book.specs.declared.sheet.Part.{Part}
+use Rattle.pawn_book.specs.declared.sheet.SheetItem.{SheetItem}
+use Rattle.pawn_book.specs.Sheet.{window_items, with_head}
+use Rattle.pawn_book.specs.Visits.{HandsOver}
+use Rattle.pawn_book.proofs.SheetLemmas.{hands_one, hands_stop, hands_then}
+
+put_before : {Y : Type 0} (o : Option Y) (xs ys : List Y) → cons_option o (xs ++ ys) ≡ cons_option o xs ++ ys
+put_before None xs ys = refl
+put_before (Some y) xs ys = refl
+
+filter_map-append : {X Y : Type 0} (h : X → Option Y) (xs ys : List X) → filter_map h (xs ++ ys) ≡ filter_map h xs ++ filter_map h ys
+filter_map-append h [] ys = refl
+filter_map-append h (x ∷ xs) ys = ap (cons_option (h x)) (filter_map-append h xs ys) ∙ put_before (h x) (filter_map h xs) (filter_map h ys)
+
+-- of one element more
+pub filter_map_more : {X Y : Type 0} (h : X → Option Y) (xs : List X) (i : ℕ) (d : X) (o : Option Y) → i < length xs → h (get_or xs i d) ≡ o
+    → filter_map h (take (i + 1) xs) ≡ filter_map h (take i xs) ++ cons_option o []
+filter_map_more h xs i d o less is =
+    ap (filter_map h) (take_more xs i d less) ∙ filter_map-append h (take i xs) (get_or xs i d ∷ []) ∙ ap (λ t. filter_map h (take i xs) ++ cons_option t []) is
+
+module _ {V X Y : Type 0} (step : V → Y → Flow → V → Type 0) (h : X → Option Y) (xs : List X) (i : ℕ) (x : X) (v u : V) where
+  -- it is handed what the element gives
+  next_item : (y : Y) (flow : Flow) (w : V) → i < length xs → x ≡ get_or xs i x → h x ≡ Some y → HandsOver step v (filter_map h (take i xs)) Go u → step u y flow w
+      → HandsOver step v (filter_map h (take (i + 1) xs)) flow w
+  next_item y flow w less is gives before here =
+      subst (λ ys. HandsOver step v ys flow w) (sym (filter_map_more h xs i x (Some y) less (sym (ap h is) ∙ gives)))
+      (hands_then step v u w (filter_map h (take i xs)) (y ∷ []) flow before (hands_one step u w y flow here))
+
+  -- .. and goes on
+  pub item_goes : (y : Y) (w : V) → i < length xs → x ≡ get_or xs i x → h x ≡ Some y → HandsOver step v (filter_map h (take i xs)) Go u → step u y Go w
+      → HandsOver step v (filter_map h (take (i + 1) xs)) Go w
+  item_goes y w less is gives before here = next_item y Go w less is gives before here
+
+  -- .. or stops
+  pub item_stops : (y : Y) (w : V) → i < length xs → x ≡ get_or xs i x → h x ≡ Some y → HandsOver step v (filter_map h (take i xs)) Go u → step u y Stop w
+      → HandsOver step v (filter_map h xs) Stop w
+  item_stops y w less is gives before here =
+      subst (λ ys. HandsOver step v ys Stop w)
+      (sym (filter_map-append h (take (i + 1) xs) (drop (i + 1) xs)) ∙ ap (filter_map h) (take-append-drop (i + 1) xs))
+      (hands_stop step v w (filter_map h (take (i + 1) xs)) (filter_map h (drop (i + 1) xs)) (next_item y Stop w less is gives before here))
+
+  -- the element gives nothing
+  pub item_skips : i < length xs → x ≡ get_or xs i x → h x ≡ None → HandsOver step v (filter_map h (take i xs)) Go u → HandsOver step v (filter_map h (take (i + 1) xs)) Go u
+  item_skips less is gives before =
+      subst (λ ys. HandsOver step v ys Go u) (sym (filter_map_more h xs i x None less (sym (ap h is) ∙ gives) ∙ append-nil (filter_map h (take i xs)))) before
+
+length-cons_option : {Y : Type 0} (o : Option Y) (ys : List Y) → length (cons_option o ys) ≡ cond (is_some o) (1 + length ys) (length ys)
+length-cons_option None ys = refl
+length-cons_option (Some y) ys = omega arith
+
+-- as many as there are elements that give one
+pub length-filter_map : {X Y : Type 0} (h : X → Option Y) (xs : List X) → length (filter_map h xs) ≡ count_by (λ x. is_some (h x)) xs
+length-filter_map h xs = is_count_by (λ ys. length (filter_map h ys)) (λ x. is_some (h x)) refl (λ x ys. length-cons_option (h x) (filter_map h ys)) xs
+
+-- a window for which nobody comes, and one for which somebody does
+pub window_none : (part : Part) (items : List SheetItem) → length items ≡ 0 → window_items part items ≡ []
+window_none part [] none = refl
+window_none part (i ∷ is) none = absurd (omega (arith, none))
+
+pub window_some : (part : Part) (items : List SheetItem) → length items ≢ 0 → window_items part items ≡ with_head part items
+window_some part [] some = absurd (some refl)
+window_some part (i ∷ is) some = refl
