@@ -45,23 +45,23 @@ with_rests (Err (Keeper.Store Database)) P R U f rests = tt
 
 -- of tables that tell of a host under this schema: what the rows of a query tell, while the tables rest
 found_of : {A : Type 0} (Tell : Tables → Host → Type 0) → ((db : Tables) (h : Host) → Tell db h → db.schema ≡ keep_schema)
-    → {IsUnsound : Host → Type 0} {old new : State} {params : Row} {rows : List Row} (r : Result A KeepError) (P : Host → A → Type 0) (text : List ℕ)
+    → (IsUnsound : Host → Type 0) (old new : State) (params : Row) (rows : List Row) (r : Result A KeepError) (P : Host → A → Type 0) (text : List ℕ)
     → IsPlain (understood keep_schema text) → IsLent old new true → (HasCleanDisk new → Shown text params old new rows)
     → ((h : Host) → Tell old.now h → Shown text params old new rows → Finds r (P h) (IsUnsound h)) → FindsOf Tell IsUnsound old new r P
-found_of Tell schema {IsUnsound} {old} {new} {params} {rows} r P text plain lent shows find clean within h stood =
+found_of Tell schema IsUnsound old new params rows r P text plain lent shows find clean within h stood =
     let st = stood (lent.opened clean within refl) in
     let shown = shows clean in
     let is_plain = subst (λ (s : Schema). IsPlain (understood s text)) (sym (schema old.now h st)) plain in
     with_rests r (P h) (Rests old new) (IsUnsound h) (find h st shown) (plain_rests text params old new rows within is_plain shown)
 
 -- of tables that stand for a host
-pub found : {A : Type 0} {IsUnsound : Host → Type 0} {old new : State} {params : Row} {rows : List Row} (r : Result A KeepError) (P : Host → A → Type 0) (text : List ℕ)
+pub found : {A : Type 0} (IsUnsound : Host → Type 0) (old new : State) (params : Row) (rows : List Row) (r : Result A KeepError) (P : Host → A → Type 0) (text : List ℕ)
     → IsPlain (understood keep_schema text) → IsLent old new true → (HasCleanDisk new → Shown text params old new rows)
     → ((h : Host) → StandsFor old.now h → Shown text params old new rows → Finds r (P h) (IsUnsound h)) → FindsIn IsUnsound old new r P
 found = found_of StandsFor (λ db h st. st.schema)
 
 -- of tables that list the debts of a host
-pub found_debts : {A : Type 0} {IsUnsound : Host → Type 0} {old new : State} {params : Row} {rows : List Row} (r : Result A KeepError) (P : Host → A → Type 0) (text : List ℕ)
+pub found_debts : {A : Type 0} (IsUnsound : Host → Type 0) (old new : State) (params : Row) (rows : List Row) (r : Result A KeepError) (P : Host → A → Type 0) (text : List ℕ)
     → IsPlain (understood keep_schema text) → IsLent old new true → (HasCleanDisk new → Shown text params old new rows)
     → ((h : Host) → ListDebts old.now h → Shown text params old new rows → Finds r (P h) (IsUnsound h)) → FindsOf ListDebts IsUnsound old new r P
 found_debts = found_of ListDebts (λ db h st. st.schema)

@@ -10,6 +10,6 @@ returns-in_err-rows-clause-finds g c clean within h stood = untold c.rows_of.res
 
 pub returns-clause-finds : goal.returns-clause-finds
 returns-clause-finds g c =
-    found c.first_totals.result _ text.READ_TOTALS.now text.totals_is.2 c.in_ok-rows.ensures.lent
+    found _ _ _ _ _ c.first_totals.result _ text.READ_TOTALS.now text.totals_is.2 c.in_ok-rows.ensures.lent
     (λ clean. rw (c.params-to_sql.ensures, c.params-to_sql-2.ensures) at (c.in_ok-rows.ensures.shown clean))
     (λ h st shown. found_is c.first_totals.result _ _ _ (c.first_totals.ensures.read _ (c.deref.ensures.value ∙ reads.totals_shown _ _ h c.args.book c.args.number _ st shown)) (sound.totals_unsound h st.storable c.args.book c.args.number))

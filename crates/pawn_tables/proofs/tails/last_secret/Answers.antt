@@ -13,7 +13,7 @@ returns-in_err-rows-clause-finds g c clean within h stood = untold c.rows_of.res
 
 pub returns-clause-finds : goal.returns-clause-finds
 returns-clause-finds g c =
-    found c.first_last.result _ text.READ_LAST_SECRET.now text.last_secret_is.2 c.in_ok-rows.ensures.lent
+    found _ _ _ _ _ c.first_last.result _ text.READ_LAST_SECRET.now text.last_secret_is.2 c.in_ok-rows.ensures.lent
     (λ clean. rw (c.params-to_sql.ensures, c.params-to_sql-2.ensures) at (c.in_ok-rows.ensures.shown clean))
     (λ h st shown.
     let are = c.deref.ensures.value ∙ reads.secret_shown _ _ h c.args.book c.args.number _ st shown in
