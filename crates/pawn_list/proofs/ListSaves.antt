@@ -10,7 +10,6 @@ use Rattle.std.proofs.lemmas.List.Sums.{sum_by-cons}
 use Rattle.pawn_pledge.specs.Pledge.{PledgeValue}
 use Rattle.pawn_book.specs.declared.request.NewBook.{NewBook}
 use Rattle.pawn_book.specs.declared.change.Change.{Change}
-use Rattle.pawn_list.specs.declared.kept.Kept.{Kept}
 use Rattle.pawn_book.specs.declared.change.Change.TheVariants.{MakeBook, AddTerms, PutPledge, ImportBook}
 use Rattle.pawn_terms.specs.declared.terms.Rates.{Rates}
 use Rattle.pawn_book.specs.BookStep.{BookValue, changed_book, filled_book, made_book, pledge_from, pledge_in, put_from}
@@ -18,13 +17,14 @@ use Rattle.pawn_book.specs.HostStep.{Host, rows, book_rows, pledge_rows, with_bo
 use Rattle.pawn_book.specs.declared.rows.BookRows.{BookRows}
 use Rattle.pawn_book.specs.Sound.{AreSound, IsSoundBook}
 use Rattle.pawn_book.specs.Changes.{CanSave, Continues, Follows, book_number, with_change}
-use Rattle.pawn_list.specs.Books.{Books}
 use Rattle.pawn_book.specs.declared.fault.SaveError.TheVariants.{Full}
 use Rattle.pawn_book.specs.Limits.{most_rows}
-use Rattle.pawn_list.specs.Listed.{Fits, HasChange, IsListed, IsPlace, SavesListed, added_rows, book_at, listed_book, host_of, replaced_rows, standing_rows}
 use Rattle.pawn_book.proofs.RowSums.{part, rows-with_book}
 use Rattle.pawn_book.proofs.Places.{pledge_within}
 use Rattle.pawn_book.proofs.Sounds.{absurd_none, get-with_book, some_is}
+use Rattle.pawn_list.specs.Books.{Books}
+use Rattle.pawn_list.specs.Listed.{Fits, HasChange, IsListed, IsPlace, SavesListed, added_rows, book_at, listed_book, host_of, replaced_rows, standing_rows}
+use Rattle.pawn_list.specs.declared.kept.Kept.{Kept}
 use Rattle.pawn_list.proofs.ListReads.{book_at-set, get-book_at, kept_is, kept_number, pushed}
 
 no_elements : {A : Type 0} (xs : List A) → length xs ≡ 0 → xs ≡ []

@@ -3,10 +3,10 @@ use Rattle.std.proofs.Common.{◌≡◌, ℕ, ◌+◌, ◌<◌, ◌≤◌, List,
 use Rattle.std.specs.Prelude.{if◌then◌else◌, nat_lt, unwrap_or, ◌&&◌, Option, Bool, true, false, ◌==◌, ◌⊎◌}
 use Rattle.std.proofs.lemmas.Bool.Decides.{nat_tests}
 use Rattle.std.proofs.lemmas.List.{get_or-map, length-map, take_all, take_more}
-use Rattle.pawn_list.specs.declared.kept.Kept.{Kept}
 use Rattle.pawn_book.specs.BookStep.{BookValue}
-use Rattle.pawn_list.specs.Listed.{IsLeastAbove, book_at, listed_book}
 use Rattle.pawn_book.proofs.Sounds.{absurd_none}
+use Rattle.pawn_list.specs.Listed.{IsLeastAbove, book_at, listed_book}
+use Rattle.pawn_list.specs.declared.kept.Kept.{Kept}
 
 -- a book stands with one more behind it
 stands_before : (es : List (ℕ × BookValue)) (e : ℕ × BookValue) (b : ℕ) (book : BookValue) → book_at es b ≡ Some book → book_at (es ++ e ∷ []) b ≡ Some book

@@ -1,16 +1,17 @@
--- The items of a part of a day's sheet.
-use Rattle.std.proofs.Common.{◌≡◌, ◌≢◌, ◌∙◌, ℕ, ◌+◌, ◌<◌, List, [], ◌∷◌, ◌++◌, Option, None, Some, refl, sym, ap, subst, length, take, drop, get_or, arith, append-nil}
+-- The items of a day's sheet, part by part and window by window.
+use Rattle.std.proofs.Common.{◌≡◌, ◌≢◌, ◌∙◌, ℕ, ◌+◌, ◌-◌, ◌<◌, ◌≤◌, suc, List, [], ◌∷◌, ◌++◌, Option, None, Some, refl, sym, ap, subst, length, take, drop, get_or, arith, append-nil}
 use Rattle.std.specs.Prelude.{cond, filter_map, count_by, is_some}
 use Rattle.std.proofs.lemmas.List.Recursion.{is_count_by}
-use Rattle.std.specs.List.{cons_option}
+use Rattle.std.specs.List.{cons_option, flat_map}
 use Rattle.std.proofs.lemmas.List.{take_more, take-append-drop}
+use Rattle.pawn_pledge.specs.Pledge.{PledgeValue}
 use Rattle.pawn_book.specs.declared.visit.Flow.{Flow}
 use Rattle.pawn_book.specs.declared.visit.Flow.TheVariants.{Go, Stop}
 use Rattle.pawn_book.specs.declared.sheet.Part.{Part}
 use Rattle.pawn_book.specs.declared.sheet.SheetItem.{SheetItem}
-use Rattle.pawn_book.specs.Sheet.{window_items, with_head}
+use Rattle.pawn_book.specs.Sheet.{part_head, part_item, part_items, window_items, windows_below, with_head}
 use Rattle.pawn_book.specs.Visits.{HandsOver}
-use Rattle.pawn_book.proofs.SheetLemmas.{hands_one, hands_stop, hands_then}
+use Rattle.pawn_book.proofs.SheetLemmas.{hands_one, hands_stop, hands_then, windows_begin, windows_more}
 
 put_before : {Y : Type 0} (o : Option Y) (xs ys : List Y) → cons_option o (xs ++ ys) ≡ cons_option o xs ++ ys
 put_before None xs ys = refl
@@ -60,6 +61,26 @@ length-cons_option (Some y) ys = omega arith
 pub length-filter_map : {X Y : Type 0} (h : X → Option Y) (xs : List X) → length (filter_map h xs) ≡ count_by (λ x. is_some (h x)) xs
 length-filter_map h xs = is_count_by (λ ys. length (filter_map h ys)) (λ x. is_some (h x)) refl (λ x ys. length-cons_option (h x) (filter_map h ys)) xs
 
+module _ {V : Type 0} (step : V → SheetItem → Flow → V → Type 0) (v u w : V) (part : Part) (day : ℕ) (pledges : List PledgeValue) (heading : SheetItem) (count : ℕ) where
+  headed : heading ≡ part_head part count → count ≡ count_by (λ p. is_some (part_item part day p)) pledges
+      → heading ∷ part_items part day pledges ≡ with_head part (part_items part day pledges)
+  headed is counted =
+      ap (λ i. i ∷ part_items part day pledges) (is ∙ ap (part_head part) (counted ∙ sym (length-filter_map (part_item part day) pledges)))
+
+  -- a part's items behind their number
+  pub head_goes : (flow : Flow) → heading ≡ part_head part count → count ≡ count_by (λ p. is_some (part_item part day p)) pledges → step v heading Go u
+      → HandsOver step u (part_items part day pledges) flow w → HandsOver step v (with_head part (part_items part day pledges)) flow w
+  head_goes flow is counted here rest =
+      subst (λ items. HandsOver step v items flow w) (headed is counted)
+      (hands_then step v u w (heading ∷ []) (part_items part day pledges) flow (hands_one step v u heading Go here) rest)
+
+  -- .. or none of them
+  pub head_stops : heading ≡ part_head part count → count ≡ count_by (λ p. is_some (part_item part day p)) pledges → step v heading Stop w
+      → HandsOver step v (with_head part (part_items part day pledges)) Stop w
+  head_stops is counted here =
+      subst (λ items. HandsOver step v items Stop w) (headed is counted)
+      (hands_stop step v w (heading ∷ []) (part_items part day pledges) (hands_one step v w heading Stop here))
+
 -- a window for which nobody comes, and one for which somebody does
 pub window_none : (part : Part) (items : List SheetItem) → length items ≡ 0 → window_items part items ≡ []
 window_none part [] none = refl
@@ -68,3 +89,20 @@ window_none part (i ∷ is) none = absurd (omega (arith, none))
 pub window_some : (part : Part) (items : List SheetItem) → length items ≢ 0 → window_items part items ≡ with_head part items
 window_some part [] some = absurd (some refl)
 window_some part (i ∷ is) some = refl
+
+-- a window's items behind those of the windows below it
+pub window_next : {V T : Type 0} (step : V → T → Flow → V → Type 0) (v u w : V) (f : ℕ → List T) (n : ℕ) (flow : Flow)
+    → HandsOver step v (flat_map f (windows_below n)) Go u → HandsOver step u (f n) flow w → HandsOver step v (flat_map f (windows_below (n + 1))) flow w
+window_next step v u w f n flow before here =
+    let next : suc n ≡ n + 1 = omega arith in
+    subst (λ items. HandsOver step v items flow w) (sym (windows_more f n) ∙ ap (λ (k : ℕ). flat_map f (windows_below k)) next)
+    (hands_then step v u w (flat_map f (windows_below n)) (f n) flow before here)
+
+-- it stopped in a window, so it is handed nothing of the later ones
+pub windows_stop : {V T : Type 0} (step : V → T → Flow → V → Type 0) (v w : V) (f : ℕ → List T) (n last : ℕ) → n ≤ last
+    → HandsOver step v (flat_map f (windows_below n)) Stop w → HandsOver step v (flat_map f (windows_below last)) Stop w
+windows_stop step v w f n last within stopped =
+    let left : (last - n) + n ≡ last = omega (arith, within) in
+    let rest = windows_begin f n (last - n) in
+    subst (λ items. HandsOver step v items Stop w) (sym rest.1 ∙ ap (λ (k : ℕ). flat_map f (windows_below k)) left)
+    (hands_stop step v w (flat_map f (windows_below n)) rest.0 stopped)

@@ -1,7 +1,6 @@
 -- The host of books in a list.
 use Rattle.std.specs.Prelude.{◌≡◌, ◌≢◌, ℕ, zero, suc, ◌+◌, ◌≤◌, ◌<◌, List, [], ◌∷◌, Option, Some, None, Result, Ok, Err, length, sum_by, ◌==◌, if◌then◌else◌, ⊤}
 use Rattle.std.specs.FinMap.{from_entries}
-use Rattle.pawn_list.specs.declared.kept.Kept.{Kept}
 use Rattle.pawn_book.specs.declared.change.Change.{Change}
 use Rattle.pawn_book.specs.declared.change.Change.TheVariants.{MakeBook, AddTerms, PutPledge, ImportBook}
 use Rattle.pawn_book.specs.declared.fault.SaveError.{SaveError}
@@ -14,6 +13,7 @@ use Rattle.pawn_book.specs.Rows.{AreReplayable}
 use Rattle.pawn_book.specs.Sound.{IsSound}
 use Rattle.pawn_book.specs.Changes.{book_number, with_change}
 use Rattle.pawn_book.specs.Keeping.{Keeping}
+use Rattle.pawn_list.specs.declared.kept.Kept.{Kept}
 use Rattle.pawn_list.specs.Books.{Books}
 
 -- a book of the list, with its number

@@ -1,8 +1,8 @@
 use Rattle.std.proofs.Common.{◌∙◌, ◌+◌, ◌≤◌, ℕ, Some, ap, length, refl, subst}
 use Rattle.std.proofs.lemmas.Result.{on_err_weaker, on_ok_weaker}
 use Rattle.pawn_book.specs.declared.change.Change.TheVariants.{PutPledge}
-use Rattle.pawn_list.specs.declared.kept.Kept.{Kept}
 use Rattle.pawn_book.specs.BookStep.{BookValue, put_from}
+use Rattle.pawn_list.specs.declared.kept.Kept.{Kept}
 use Rattle.pawn_list.specs.Listed.{listed_book}
 use Rattle.pawn_list.proofs.ListReads.{kept_same}
 use Rattle.pawn_list.proofs.ListSaves.{kept_at_place, set_changes}
@@ -15,21 +15,17 @@ put-requires c = record {
       c.in-Some.ensures.some c.index_mut-kept.ensures.value c.requires.stands.1) c.requires.stands.2;
 }
 
-pub returns-clause-ok : goal.returns-clause-ok
-returns-clause-ok c =
-    let kept = c.index_mut-kept.result.now in
+pub returns : goal.returns
+returns c =
+    let kept : Kept = c.index_mut-kept.result.now in
     let at = (listed_book kept).1 in
-    let next : Kept = record { number = kept.number; made = kept.made; terms = kept.terms; pledges = c.put.new.pledges; imported = kept.imported } in
-    on_ok_weaker c.put.result (λ put.
-    set_changes c.deref.result.now c.args.books.now.items c.in-Some.place kept next (PutPledge c.args.book c.args.number c.args.pledge.now) c.deref.ensures.value c.in-Some.ensures.within
-    c.in-Some.ensures.some c.index_mut-kept.ensures.value refl
-    (ap (λ ps. let book : BookValue = record at { pledges = ps } in Some book) (put ∙ ap (put_from 1 kept.pledges.items c.args.number) c.in-Ok.ensures.ok))) c.put.ensures.ok
-
-pub returns-clause-err : goal.returns-clause-err
-returns-clause-err c =
-    let kept = c.index_mut-kept.result.now in
-    let at = (listed_book kept).1 in
-    let next : Kept = record { number = kept.number; made = kept.made; terms = kept.terms; pledges = c.put.new.pledges; imported = kept.imported } in
-    on_err_weaker c.put.result (λ same.
-    kept_same c.args.books.now.items c.in-Some.place kept next c.index_mut-kept.ensures.value
-    (ap (λ ps. let entry : ℕ × BookValue = (kept.number, record at { pledges = ps }) in entry) same)) c.put.ensures.err
+    let next : Kept = record kept { pledges = c.put.new.pledges } in
+    record {
+      ok = on_ok_weaker c.put.result (λ put.
+          set_changes c.deref.result.now c.args.books.now.items c.in-Some.place kept next (PutPledge c.args.book c.args.number c.args.pledge.now) c.deref.ensures.value c.in-Some.ensures.within
+          c.in-Some.ensures.some c.index_mut-kept.ensures.value refl
+          (ap (λ ps. let book : BookValue = record at { pledges = ps } in Some book) (put ∙ ap (put_from 1 kept.pledges.items c.args.number) c.in-Ok.ensures.ok))) c.put.ensures.ok;
+      err = on_err_weaker c.put.result (λ same.
+          kept_same c.args.books.now.items c.in-Some.place kept next c.index_mut-kept.ensures.value
+          (ap (λ ps. let entry : ℕ × BookValue = (kept.number, record at { pledges = ps }) in entry) same)) c.put.ensures.err;
+    }

@@ -1,8 +1,8 @@
 use Rattle.std.proofs.Common.{◌∙◌, ap, map, subst}
 use Rattle.pawn_book.specs.Keeping.{pledges_of}
-use Rattle.pawn_list.specs.Listed.{book_at, listed_book}
 use Rattle.pawn_book.specs.Sheet.{day_sheet}
 use Rattle.pawn_book.specs.Visits.{IsShare, Whole}
+use Rattle.pawn_list.specs.Listed.{book_at, listed_book}
 use Rattle.pawn_list.proofs.ListKeeping.{book_read, list_reads}
 use Rattle.pawn_list.proofs.list.ListKeepKeep.sheet_each.Goals as goal
 
