@@ -11,11 +11,7 @@ returns-in-Ok g c = record {
 }
 
 pub returns-in-Err : goal.returns-in-Err
-returns-in-Err g c = record {
-  tells = failed (state g.S.Store c.args.conn.now) (state g.S.Store c.query_all.new.self) (c.query_all.ensures.mode c.requires.rests) c.query_all.ensures.survives (search rules) c.in-Err.error c.in-Err.ensures.err c.refused.result c.refused.ensures.store;
-}
+returns-in-Err g c = record { tells = failed (state g.S.Store c.args.conn.now) (state g.S.Store c.query_all.new.self) (c.query_all.ensures.mode c.requires.rests) c.query_all.ensures.survives (search rules) c.in-Err.error c.in-Err.ensures.err c.refused.result c.refused.ensures.store }
 
 pub returns-in-Err-SqlInputError : goal.returns-in-Err-SqlInputError
-returns-in-Err-SqlInputError g c = record {
-  tells = untold (state g.S.Store c.args.conn.now) (state g.S.Store c.query_all.new.self) (c.query_all.ensures.mode c.requires.rests) c.query_all.ensures.survives (search rules) _ c.in-Err-SqlInputError.ensures.err c.in-Err-SqlInputError.field-0-0 c.in-Err-SqlInputError.field-0-is;
-}
+returns-in-Err-SqlInputError g c = record { tells = untold (state g.S.Store c.args.conn.now) (state g.S.Store c.query_all.new.self) (c.query_all.ensures.mode c.requires.rests) c.query_all.ensures.survives (search rules) _ c.in-Err-SqlInputError.ensures.err c.in-Err-SqlInputError.field-0-0 c.in-Err-SqlInputError.field-0-is }

@@ -13,6 +13,4 @@ returns-in_err-last_of c = record {
 }
 
 pub returns : goal.returns
-returns c = record {
-  read = λ l fits are. first_of last_cells (λ (x : LastSecret). IsWord x.issued.secret) c.args.rows.now c.row-item.result c.in_ok-last_of.field-0 c.row-item.is (let some = c.in-len1-up.len_at_least in omega (arith, some)) c.in_ok-last_of.ensures.read l fits are;
-}
+returns c = record { read = λ l fits are. first_of last_cells (λ (x : LastSecret). IsWord x.issued.secret) c.args.rows.now c.row-item.result c.in_ok-last_of.field-0 c.row-item.is (let some = c.in-len1-up.len_at_least in omega (arith, some)) c.in_ok-last_of.ensures.read l fits are }

@@ -4,14 +4,10 @@ use Rattle.pawn_tables.proofs.RowCells.{cell_at}
 use Rattle.pawn_tables.proofs.tails.last_of.Goals as goal
 
 pub returns-in_err-place : goal.returns-in_err-place
-returns-in_err-place c = record {
-  read = λ l fits is. let at = cell_at _ _ 0 (number l.place) is (omega arith) refl in let r = c.in_err-place.ensures.read l.place at.0 at.1 in search rules;
-}
+returns-in_err-place c = record { read = λ l fits is. let at = cell_at _ _ 0 (number l.place) is (omega arith) refl in let r = c.in_err-place.ensures.read l.place at.0 at.1 in search rules }
 
 pub returns-in_err-issued : goal.returns-in_err-issued
-returns-in_err-issued c = record {
-  read = λ l fits is. let r = c.in_err-issued.ensures.read l.place l.issued fits is in search rules;
-}
+returns-in_err-issued c = record { read = λ l fits is. let r = c.in_err-issued.ensures.read l.place l.issued fits is in search rules }
 
 pub returns : goal.returns
 returns c = record {
