@@ -15,7 +15,6 @@ use Rattle.one_table.proofs.Parts.{plain_rests}
 use Rattle.pawn_tables.specs.Finding.{Finds, FindsIn, FindsOf, IsRead}
 use Rattle.pawn_tables.specs.Schema.{keep_schema}
 use Rattle.pawn_tables.specs.StandsFor.{StandsFor, ListDebts}
-use Rattle.pawn_tables.proofs.Lent.{debts_of}
 
 -- what was read has what holds of what stands, and what can't be kept is of a host that is not sound
 pub found_as : {A : Type 0} (r : Result A KeepError) (x : A) (P : A → Type 0) (Q U : Type 0) → IsRead r x Q → P x → ((Q → ⊥) → U) → Finds r P U
@@ -66,6 +65,7 @@ pub found_debts : {A : Type 0} (IsUnsound : Host → Type 0) (old new : State) (
     → ((h : Host) → ListDebts old.now h → Shown text params old new rows → Finds r (P h) (IsUnsound h)) → FindsOf ListDebts IsUnsound old new r P
 found_debts = found_of ListDebts (λ db h st. st.schema)
 
--- tables that stand for a host list its debts
-pub found_in_debts : {A : Type 0} (IsUnsound : Host → Type 0) (old new : State) (r : Result A KeepError) (P : Host → A → Type 0) → FindsOf ListDebts IsUnsound old new r P → FindsIn IsUnsound old new r P
-found_in_debts IsUnsound old new r P f clean within h stood = f clean within h (λ was_open. debts_of old.now h (stood was_open))
+-- an error that is not of rows tells nothing of them, where it is handed on
+pub unread : {A B : Type 0} (IsUnsound : Host → Type 0) (old new : State) (r : Result A KeepError) (e : KeepError) (s : Result B KeepError) (P : Host → B → Type 0)
+    → r ≡ Err e → s ≡ Err e → (r ≡ Err (Keeper.Store NoRecord) → ⊥) → FindsIn IsUnsound old new s P
+unread IsUnsound old new r e s P is same not clean within h stood = untold r e s (λ x. P h x × Rests old new) (IsUnsound h) is same not

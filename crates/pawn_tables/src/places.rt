@@ -16,6 +16,7 @@ use pawn_book::{Entry, Extension, Issued, KeepError};
 use sqlite::{Alter, Transaction, params};
 
 /// The entry of a pledge that has a number.
+#[tactic(auto, using(crate::proofs::Asking::unread))]
 pub fn entry_in<S: Alter>(
     tx: &mut Transaction<'_, S>,
     book: u32,

@@ -1,5 +1,6 @@
 use Rattle.std.proofs.Common.{rules, ◌∙◌}
-use Rattle.pawn_tables.proofs.Asking.{found_as, found_debts, found_in_debts, untold}
+use Rattle.pawn_tables.proofs.Asking.{found_as, found_debts, untold}
+use Rattle.pawn_tables.proofs.Lent.{debts_of}
 use Rattle.pawn_tables.proofs.ReadTexts as text
 use Rattle.pawn_book.specs.Keeping.{IsNextBook}
 use Rattle.pawn_tables.proofs.BookReads as reads
@@ -19,4 +20,4 @@ returns-clause-told g c =
     (λ h st shown. found_as c.first_number.result _ (IsNextBook h c.args.above) _ _ (c.first_number.ensures.read _ (c.deref.ensures.value ∙ reads.next_shown _ _ h c.args.above _ st shown)) (reads.is_next h c.args.above) (books.next_unsound h c.args.above))
 
 pub returns-clause-finds : goal.returns-clause-finds
-returns-clause-finds g c = found_in_debts _ _ _ _ _ (returns-clause-told g c)
+returns-clause-finds g c clean within h stood = returns-clause-told g c clean within h (λ was_open. debts_of _ h (stood was_open))

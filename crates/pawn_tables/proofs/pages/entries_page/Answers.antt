@@ -1,5 +1,6 @@
 use Rattle.std.proofs.Common.{rules, ◌∙◌}
 use Rattle.std.specs.FinMap.{get}
+use Rattle.sqlite.specs.Held.{state}
 use Rattle.pawn_book.specs.BookStep.{pledge_in}
 use Rattle.pawn_book.specs.Keeping.{entries_of}
 use Rattle.pawn_tables.specs.Entries.{IsEntriesPage}
@@ -19,5 +20,5 @@ returns-clause-finds g c =
     (λ h st shown.
     let are = c.deref.ensures.value ∙ reads.entries_page_shown _ _ h c.args.book c.args.number c.args.from _ st shown in
     let es = entries_of (pledge_in (get h.books c.args.book) c.args.number) in
-    let page = is_entries_page c.args.from 0 es (reads.entries_rising _ _ h c.args.book c.args.number c.args.from _ st) in
+    let page = is_entries_page c.args.from 0 es (reads.entries_rising (state g.S.Store c.args.tx.now.conn.now) (state g.S.Store c.rows_of.new.tx.conn.now) h c.args.book c.args.number c.args.from c.in_ok-rows.rows.items st) in
     found_as c.read_entries.result _ (IsEntriesPage c.args.from es) _ _ (c.read_entries.ensures.read _ are) page (reads.entries_page_unsound h st.storable c.args.book c.args.number c.args.from))

@@ -1,5 +1,6 @@
 use Rattle.std.proofs.Common.{rules, ◌∙◌}
-use Rattle.pawn_tables.proofs.Asking.{found_debts, found_in_debts, found_is, untold}
+use Rattle.pawn_tables.proofs.Asking.{found_debts, found_is, untold}
+use Rattle.pawn_tables.proofs.Lent.{debts_of}
 use Rattle.pawn_tables.proofs.ReadTexts as text
 use Rattle.pawn_tables.proofs.PledgeReads as reads
 use Rattle.pawn_tables.proofs.SoundReads as sound
@@ -18,4 +19,4 @@ returns-clause-told g c =
     (λ h st shown. found_is c.read_entries.result _ _ _ (c.read_entries.ensures.read _ (c.deref.ensures.value ∙ reads.entries_shown _ _ h c.args.book c.args.number _ st shown)) (sound.entries_unsound h st.storable c.args.book c.args.number))
 
 pub returns-clause-finds : goal.returns-clause-finds
-returns-clause-finds g c = found_in_debts _ _ _ _ _ (returns-clause-told g c)
+returns-clause-finds g c clean within h stood = returns-clause-told g c clean within h (λ was_open. debts_of _ h (stood was_open))
