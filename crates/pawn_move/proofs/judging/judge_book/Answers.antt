@@ -1,10 +1,8 @@
-use Rattle.std.proofs.Common.{rules, ◌≡◌, ◌+◌, ◌∙◌, Result, Err, Bool, true, false, refl, sym, subst}
+use Rattle.std.proofs.Common.{rules, ◌≡◌, ◌+◌, ◌∙◌, Err, Bool, true, false, refl}
 use Rattle.sqlite.specs.Held.{state}
 use Rattle.pawn_book.specs.HostStep.{Host}
 use Rattle.pawn_book.specs.Sound.{IsUnsoundAt}
-use Rattle.pawn_book.specs.declared.fault.KeepError.{KeepError}
-use Rattle.pawn_tables.specs.Finding.{FindsOf}
-use Rattle.pawn_move.specs.Moving.{AreOwedIn, IsJudgedAt, ListFirstDebts}
+use Rattle.pawn_move.specs.Moving.{AreOwedIn, IsJudgedAt}
 use Rattle.pawn_move.proofs.JudgedUpto.{AreOwedTo, all_judged, one_judged}
 use Rattle.pawn_move.proofs.Judged.{none_walked, walk_ends, walk_fails, walk_on}
 use Rattle.pawn_move.proofs.judging.judge_book.Goals as goal
@@ -15,8 +13,7 @@ loop-place-init g c = (refl, none_walked (AreOwedTo c.args.book 0) (state g.S.St
 pub returns-in_err-judge_pledge-clause-judges : goal.returns-in_err-judge_pledge-clause-judges
 returns-in_err-judge_pledge-clause-judges g c =
     let failed : c.from_residual.result ≡ Err c.in_err-judge_pledge.field-0.0 = search rules in
-    subst (λ (r : Result (Unit {0}) KeepError). FindsOf ListFirstDebts (IsUnsoundAt c.args.book) (state g.S.Store c.args.tx.now.conn.now) (state g.S.Store c.judge_pledge.new.tx.conn.now) r (λ h done. AreOwedIn h c.args.book)) (sym failed)
-    (walk_fails (AreOwedTo c.args.book c.loop-place.place) _ _ _ c.loop-place.invariant.1 false (IsUnsoundAt c.args.book) c.in_err-judge_pledge.field-0.0
+    rw failed (walk_fails (AreOwedTo c.args.book c.loop-place.place) _ _ _ c.loop-place.invariant.1 false (IsUnsoundAt c.args.book) c.in_err-judge_pledge.field-0.0
     (λ h stands. IsJudgedAt h c.args.book (c.loop-place.place + 1) stands) (λ h done. AreOwedIn h c.args.book) c.in_err-judge_pledge.ensures.lent c.in_err-judge_pledge.ensures.judges)
 
 pub returns-then-not-branch-clause-judges : goal.returns-then-not-branch-clause-judges

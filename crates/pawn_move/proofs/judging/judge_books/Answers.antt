@@ -1,13 +1,11 @@
-use Rattle.std.proofs.Common.{rules, ◌≡◌, ◌∙◌, ℕ, Option, Some, None, Result, Err, false, refl, subst, sym}
+use Rattle.std.proofs.Common.{rules, ◌≡◌, ◌∙◌, ℕ, Option, Some, None, Err, false, refl}
 use Rattle.std.specs.FinMap.{get}
 use Rattle.sqlite.specs.Held.{state}
 use Rattle.pawn_book.specs.HostStep.{Host}
 use Rattle.pawn_book.specs.Sound.{HasUnsoundBook}
-use Rattle.pawn_book.specs.declared.fault.KeepError.{KeepError}
-use Rattle.pawn_tables.specs.Finding.{FindsOf}
-use Rattle.pawn_move.specs.Moving.{AreAllOwed, IsNextJudged, ListFirstDebts}
+use Rattle.pawn_move.specs.Moving.{AreAllOwed, IsNextJudged}
 use Rattle.pawn_move.proofs.JudgedUpto.{AreOwedUpto, all_upto, none_judged, upto_next}
-use Rattle.pawn_move.proofs.Judged.{HasWalked, none_walked, walk_ends, walk_fails, walk_on}
+use Rattle.pawn_move.proofs.Judged.{none_walked, walk_ends, walk_fails, walk_on}
 use Rattle.pawn_move.proofs.judging.judge_books.Goals as goal
 
 pub loop-init : goal.loop-init
@@ -16,8 +14,7 @@ loop-init g c = (refl, none_walked (AreOwedUpto 0) (state g.S.Store c.args.tx.no
 pub returns-in_err-book-clause-judges : goal.returns-in_err-book-clause-judges
 returns-in_err-book-clause-judges g c =
     let failed : c.from_residual.result ≡ Err c.in_err-book.field-0.0 = search rules in
-    subst (λ (r : Result (Unit {0}) KeepError). FindsOf ListFirstDebts HasUnsoundBook (state g.S.Store c.args.tx.now.conn.now) (state g.S.Store c.judge_next.new.tx.conn.now) r (λ h done. get h.books 0 ≡ None → AreAllOwed h)) (sym failed)
-    (walk_fails (AreOwedUpto c.loop.above) _ _ _ c.loop.invariant.1 false HasUnsoundBook c.in_err-book.field-0.0 (λ h next. IsNextJudged h c.loop.above next) (λ h done. get h.books 0 ≡ None → AreAllOwed h) c.in_err-book.ensures.lent c.in_err-book.ensures.judges)
+    rw failed (walk_fails (AreOwedUpto c.loop.above) _ _ _ c.loop.invariant.1 false HasUnsoundBook c.in_err-book.field-0.0 (λ h next. IsNextJudged h c.loop.above next) (λ h done. get h.books 0 ≡ None → AreAllOwed h) c.in_err-book.ensures.lent c.in_err-book.ensures.judges)
 
 pub returns-in_default-clause-judges : goal.returns-in_default-clause-judges
 returns-in_default-clause-judges g c =
@@ -29,6 +26,5 @@ pub loop-preserved : goal.loop-preserved
 loop-preserved g c =
     let R : Host → Option ℕ → Type 0 = λ h next. IsNextJudged h c.loop.above next in (
       c.judge_next.ensures.same_reference ∙ c.loop.invariant.0,
-      subst (λ n. HasWalked (AreOwedUpto n) (state g.S.Store c.args.tx.now.conn.now) (state g.S.Store c.judge_next.new.tx.conn.now)) (sym c.get-above.ensures.value)
-          (walk_on (AreOwedUpto c.loop.above) _ _ _ c.loop.invariant.1 HasUnsoundBook (Some c.in-Some.book) R (AreOwedUpto c.in-Some.book) (upto_next c.loop.above c.in-Some.book) c.in_ok-book.ensures.lent (rw c.in-Some.is at c.in_ok-book.ensures.judges)),
+      rw c.get-above.ensures.value (walk_on (AreOwedUpto c.loop.above) _ _ _ c.loop.invariant.1 HasUnsoundBook (Some c.in-Some.book) R (AreOwedUpto c.in-Some.book) (upto_next c.loop.above c.in-Some.book) c.in_ok-book.ensures.lent (rw c.in-Some.is at c.in_ok-book.ensures.judges)),
     )
