@@ -1,4 +1,4 @@
-use Rattle.std.proofs.Common.{rules, ◌≡◌, ◌++◌, ◌<◌, ℕ, List, [], Err, length, refl, sym, ap, subst, ◌∙◌, arith}
+use Rattle.std.proofs.Common.{rules, ◌≡◌, ◌++◌, ◌<◌, ℕ, List, [], Err, length, refl, ap, ◌∙◌, arith}
 use Rattle.std.proofs.lemmas.List.{map-id}
 use Rattle.std.proofs.lemmas.Bool.Decides.{nat_tests}
 use Rattle.std.specs.FinMap.{get}
@@ -12,7 +12,7 @@ use Rattle.pawn_tables.specs.Keeps.{keeping_by}
 use Rattle.pawn_tables.specs.Entries.{IsEntriesPage, behind, entries_from}
 use Rattle.pawn_tables.specs.Pages.{most_page_rows, page_end}
 use Rattle.pawn_tables.proofs.NextEntries.{from_zero}
-use Rattle.pawn_keeper.proofs.Handings.{HandedTo, begins_at, ends_by, fails_at, goes_by, stops_by}
+use Rattle.pawn_keeper.proofs.Handings.{begins_at, ends_by, fails_at, goes_by, stops_by}
 use Rattle.pawn_keeper.proofs.Walks.{errs_database}
 use Rattle.pawn_keeper.proofs.keeper.TableKeep.hand_entries.Goals as goal
 
@@ -46,8 +46,7 @@ returns-then-len-lt-PAGE_ROWS g c =
 
 pub loop-preserved : goal.loop-preserved
 loop-preserved g c =
-    subst (λ n. HandedTo (keeping_by (λ k. state g.S.Store k.conn)) g.V.Visitor.step (listed c.args.book c.args.number) (left c.args.book c.args.number) c.args.self.now c.entries_from.new.self c.args.visitor.now c.hand_all.new.visitor n) (sym (rw c.as_slice-in-loop.ensures.value at c.in_ok-from.ensures.value))
-    (goes_by (keeping_by (λ k. state g.S.Store k.conn)) g.V.Visitor.step (listed c.args.book c.args.number) (left c.args.book c.args.number) c.args.self.now c.loop.self c.entries_from.new.self c.args.visitor.now c.loop.visitor c.hand_all.new.visitor c.loop.from (page_end behind c.loop.from c.in_ok-page.page) c.loop.invariant c.in_ok-page.page (told c.loop.from c.in_ok-page.page (listed c.args.book c.args.number) c.in_ok-page.ensures.reads) (rw (c.as_slice.ensures.value, c.in-Go.is) at c.hand_all.ensures.hands))
+    rw (c.in_ok-from.ensures.value, c.as_slice-in-loop.ensures.value) (goes_by (keeping_by (λ k. state g.S.Store k.conn)) g.V.Visitor.step (listed c.args.book c.args.number) (left c.args.book c.args.number) c.args.self.now c.loop.self c.entries_from.new.self c.args.visitor.now c.loop.visitor c.hand_all.new.visitor c.loop.from (page_end behind c.loop.from c.in_ok-page.page) c.loop.invariant c.in_ok-page.page (told c.loop.from c.in_ok-page.page (listed c.args.book c.args.number) c.in_ok-page.ensures.reads) (rw (c.as_slice.ensures.value, c.in-Go.is) at c.hand_all.ensures.hands))
 
 pub returns-in_err-from : goal.returns-in_err-from
 returns-in_err-from g c =

@@ -1,4 +1,4 @@
-use Rattle.std.proofs.Common.{rules, ◌≡◌, ◌++◌, length, ◌<◌, ℕ, List, [], map, Err, refl, sym, subst, arith}
+use Rattle.std.proofs.Common.{rules, ◌≡◌, ◌++◌, length, ◌<◌, ℕ, List, [], map, Err, refl, arith}
 use Rattle.std.proofs.lemmas.Bool.Decides.{nat_tests}
 use Rattle.std.specs.FinMap.{get}
 use Rattle.sqlite.specs.Held.{state}
@@ -12,7 +12,7 @@ use Rattle.pawn_tables.specs.Keeps.{keeping_by}
 use Rattle.pawn_tables.specs.Lines.{IsLinesPage, item_of, items_past}
 use Rattle.pawn_tables.specs.Pages.{most_page_rows, page_end}
 use Rattle.pawn_tables.specs.declared.line.Line.{Line}
-use Rattle.pawn_keeper.proofs.Handings.{HandedTo, ends_by, fails_at, goes_by, stops_by}
+use Rattle.pawn_keeper.proofs.Handings.{ends_by, fails_at, goes_by, stops_by}
 use Rattle.pawn_keeper.proofs.keeper.TableKeep.hand_part.Goals as goal
 
 abbrev listed : ℕ → ℕ → Part → Host → List SheetItem
@@ -45,5 +45,4 @@ returns-then-len-lt-PAGE_ROWS g c =
 
 pub loop-preserved : goal.loop-preserved
 loop-preserved g c =
-    subst (λ n. HandedTo (keeping_by (λ k. state g.S.Store k.conn)) g.V.Visitor.step (listed c.args.book c.args.day c.args.part) (left c.args.book c.args.day c.args.part) c.args.self.now c.lines_above.new.self c.args.visitor.now c.hand_lines.new.visitor n) (sym (rw c.as_slice-in-loop.ensures.value at c.behind_lines-above.ensures.value))
-    (goes_by (keeping_by (λ k. state g.S.Store k.conn)) g.V.Visitor.step (listed c.args.book c.args.day c.args.part) (left c.args.book c.args.day c.args.part) c.args.self.now c.loop.self c.lines_above.new.self c.args.visitor.now c.loop.visitor c.hand_lines.new.visitor c.loop.above (end c.loop.above c.in_ok-page.page) c.loop.invariant (map (item_of c.args.part) c.in_ok-page.page) (told c.args.book c.args.day c.args.part c.loop.above c.in_ok-page.page c.in_ok-page.ensures.reads) (rw (c.as_slice.ensures.value, c.in-Go.is) at c.hand_lines.ensures.hands))
+    rw (c.behind_lines-above.ensures.value, c.as_slice-in-loop.ensures.value) (goes_by (keeping_by (λ k. state g.S.Store k.conn)) g.V.Visitor.step (listed c.args.book c.args.day c.args.part) (left c.args.book c.args.day c.args.part) c.args.self.now c.loop.self c.lines_above.new.self c.args.visitor.now c.loop.visitor c.hand_lines.new.visitor c.loop.above (end c.loop.above c.in_ok-page.page) c.loop.invariant (map (item_of c.args.part) c.in_ok-page.page) (told c.args.book c.args.day c.args.part c.loop.above c.in_ok-page.page c.in_ok-page.ensures.reads) (rw (c.as_slice.ensures.value, c.in-Go.is) at c.hand_lines.ensures.hands))

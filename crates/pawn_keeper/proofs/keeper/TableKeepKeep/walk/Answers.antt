@@ -1,13 +1,12 @@
-use Rattle.std.proofs.Common.{rules, ◌≡◌, ◌+◌, ℕ, slice_get, Option, Some, None, Err, sym, ap, subst, ◌∙◌}
+use Rattle.std.proofs.Common.{rules, ◌≡◌, ◌+◌, ℕ, slice_get, Option, Some, None, Err, sym, ◌∙◌}
 use Rattle.std.specs.FinMap.{get}
 use Rattle.sqlite.specs.Held.{state}
 use Rattle.pawn_pledge.specs.Pledge.{PledgeValue}
 use Rattle.pawn_book.specs.BookStep.{pledge_in}
 use Rattle.pawn_book.specs.Keeping.{Keeping, Reads, pledges_of}
-use Rattle.pawn_book.specs.Visits.{call_end}
 use Rattle.pawn_book.proofs.Reading.{reads_as, reads_none}
 use Rattle.pawn_tables.specs.Keeps.{keeping_by}
-use Rattle.pawn_keeper.proofs.Walks.{Goes, ended, failed, more, pledge_at, stopped}
+use Rattle.pawn_keeper.proofs.Walks.{ended, failed, more, pledge_at, stopped}
 use Rattle.pawn_keeper.proofs.keeper.TableKeepKeep.walk.Goals as goal
 
 -- the pledge that was read stands at the place
@@ -18,8 +17,7 @@ next book place number read told is at reads = reads_as reads (λ h found. sym i
 pub returns-in_err-pledge-clause-reads : goal.returns-in_err-pledge-clause-reads
 returns-in_err-pledge-clause-reads g c =
     let is : c.from_residual.result ≡ Err c.in_err-pledge.field-0.0 = search rules in
-    subst (λ end. Goes (keeping_by (λ k. state g.S.Store k.conn)) g.V.Visitor.step (λ h. pledges_of (get h.books c.args.book)) c.args.self.now c.pledge.new.self c.args.visitor.now c.loop-place.visitor end) (sym (ap call_end is))
-    (failed (keeping_by (λ k. state g.S.Store k.conn)) g.V.Visitor.step (λ h. pledges_of (get h.books c.args.book)) _ _ _ _ _ c.loop-place.visitor c.loop-place.place c.loop-place.invariant {P = λ h. Unit {0}} c.in_err-pledge.ensures.reads)
+    rw is (failed (keeping_by (λ k. state g.S.Store k.conn)) g.V.Visitor.step (λ h. pledges_of (get h.books c.args.book)) _ _ _ _ _ c.loop-place.visitor c.loop-place.place c.loop-place.invariant {P = λ h. Unit {0}} c.in_err-pledge.ensures.reads)
 
 pub returns-in_default-2-clause-reads : goal.returns-in_default-2-clause-reads
 returns-in_default-2-clause-reads g c =
