@@ -40,7 +40,7 @@ terms_are h b n v p credit o ordered at told version is =
     is ∙ ap (terms_at (terms_of (get h.books b))) same ∙ under_in h b n p ordered at
 
 -- the pledge that stands, of which this was read
-pub record IsOwing (h : Host) (b n : ℕ) (credit : Credit) (terms : Rates) (es : List Entry) : Type 0 where
+pub record IsPledgeRead (h : Host) (b n : ℕ) (credit : Credit) (terms : Rates) (es : List Entry) : Type 0 where
   pub pledge : PledgeValue
   pub stands : pledge_in (get h.books b) n ≡ Some pledge
   pub told : credit ≡ credit_told pledge
@@ -49,11 +49,11 @@ pub record IsOwing (h : Host) (b n : ℕ) (credit : Credit) (terms : Rates) (es 
   pub unextended : pledge.extensions ≡ []
 
 -- what the three parts read is of one pledge
-pub owing : (s0 s1 s2 s3 : State) (h : Host) (b n v : ℕ) (oc : Option Credit) (credit : Credit) (ot : Option Rates) (terms : Rates) (all es : List Entry) → IsLent s0 s1 true → IsLent s1 s2 true → IsLent s2 s3 true
+pub pledge_read : (s0 s1 s2 s3 : State) (h : Host) (b n v : ℕ) (oc : Option Credit) (credit : Credit) (ot : Option Rates) (terms : Rates) (all es : List Entry) → IsLent s0 s1 true → IsLent s1 s2 true → IsLent s2 s3 true
     → FindsOf ListDebts (IsUnsoundAt b) s0 s1 (Ok oc) (λ h x. x ≡ option_map credit_told (pledge_in (get h.books b) n)) → FindsOf ListDebts (IsUnsoundAt b) s1 s2 (Ok ot) (λ h x. x ≡ terms_at (terms_of (get h.books b)) v)
     → FindsOf ListDebts (IsUnsoundAt b) s2 s3 (Ok all) (λ h x. x ≡ entries_of (pledge_in (get h.books b) n)) → oc ≡ Some credit → v ≡ credit.version → ot ≡ Some terms → es ≡ all
-    → HasCleanDisk s3 → IsTrue s0.in_transaction → (IsTrue s0.is_open → ListFirstDebts s0.now h) → IsOwing h b n credit terms es × Rests s0 s3
-owing s0 s1 s2 s3 h b n v oc credit ot terms all es l1 l2 l3 f1 f2 f3 some version some' same clean within tell =
+    → HasCleanDisk s3 → IsTrue s0.in_transaction → (IsTrue s0.is_open → ListFirstDebts s0.now h) → IsPledgeRead h b n credit terms es × Rests s0 s3
+pledge_read s0 s1 s2 s3 h b n v oc credit ot terms all es l1 l2 l3 f1 f2 f3 some version some' same clean within tell =
     let P : Host → Option Credit → Type 0 = λ h x. x ≡ option_map credit_told (pledge_in (get h.books b) n) in
     let Q : Host → Option Rates → Type 0 = λ h x. x ≡ terms_at (terms_of (get h.books b)) v in
     let R : Host → List Entry → Type 0 = λ h x. x ≡ entries_of (pledge_in (get h.books b) n) in
