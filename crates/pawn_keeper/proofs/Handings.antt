@@ -129,47 +129,49 @@ module _ {K V T : Type 0} (k : Keeping K) (step : V → T → Flow → V → Typ
     pub begins_at : (s : K) (v : V) → ((h : Host) → past 0 h ≡ listed h) → HandedTo s s v v 0
     begins_at s v whole = ([], (refl, refl), reads_none k s (λ h. past 0 h ≡ listed h) whole)
 
-    module _ (old now new : K) (v u w : V) (n : ℕ) (before : HandedTo old now v u n) where
-      -- a page is handed over, and more is left
-      pub goes_by : (xs : List T) (m : ℕ) → Reads k now new (λ h. past n h ≡ xs ++ past m h) → HandsOver step u xs Go w → HandedTo old new v w m
-      goes_by xs m read here =
-          let all : here.0 ≡ xs = sym (append-nil here.0) ∙ ap (λ t. here.0 ++ t) (sym (here.2.2 refl refl)) ∙ here.2.1 in (
-            before.0 ++ here.0,
-            handed-append step v u w before.0 here.0 Go before.1 here.1,
-            reads_then before.2 read (λ h are next. append_assoc before.0 here.0 (past m h) ∙ ap (λ t. before.0 ++ t) (ap (λ t. t ++ past m h) all ∙ sym next) ∙ are),
-          )
+    -- a page was read, which begins past one number and ends at another, and was handed over
+    module _ (old now new : K) (v u w : V) (n m : ℕ) (before : HandedTo old now v u n) (xs : List T) {Short : Type 0} (read : Reads k now new (λ h. (past n h ≡ xs ++ past m h) × (Short → past m h ≡ []))) where
+      all_given : (here : HandsOver step u xs Go w) → here.0 ≡ xs
+      all_given here = sym (append-nil here.0) ∙ ap (λ t. here.0 ++ t) (sym (here.2.2 refl refl)) ∙ here.2.1
 
-      -- .. and it is the last
-      pub ends_by : {IsUnsound : Host → Type 0} (xs : List T) (m : ℕ) → Reads k now new (λ h. (past n h ≡ xs ++ past m h) × (past m h ≡ [])) → HandsOver step u xs Go w → HandsRows k IsUnsound step old new v w (Ok Go) listed
-      ends_by xs m read here =
-          let all : here.0 ≡ xs = sym (append-nil here.0) ∙ ap (λ t. here.0 ++ t) (sym (here.2.2 refl refl)) ∙ here.2.1 in record {
-            given = before.0 ++ here.0;
-            handed = handed-append step v u w before.0 here.0 Go before.1 here.1;
-            reads = reads_then before.2 read (λ h are left. ([], append-nil (before.0 ++ here.0) ∙ ap (λ t. before.0 ++ t) (all ∙ sym (append-nil xs) ∙ ap (λ t. xs ++ t) (sym left.1) ∙ sym left.0) ∙ are, λ go whole. refl));
-            errs = errs_ok k old new (Ok Go) Go refl;
-          }
+      -- more is left
+      pub goes_by : HandsOver step u xs Go w → HandedTo old new v w m
+      goes_by here = (
+        before.0 ++ here.0,
+        handed-append step v u w before.0 here.0 Go before.1 here.1,
+        reads_then before.2 read (λ h are told. append_assoc before.0 here.0 (past m h) ∙ ap (λ t. before.0 ++ t) (ap (λ t. t ++ past m h) (all_given here) ∙ sym told.0) ∙ are),
+      )
 
-      -- .. and the visitor stops in it
-      pub stops_by : {IsUnsound : Host → Type 0} (xs : List T) (m : ℕ) → Reads k now new (λ h. past n h ≡ xs ++ past m h) → HandsOver step u xs Stop w → HandsRows k IsUnsound step old new v w (Ok Stop) listed
-      stops_by xs m read here = record {
+      -- it is the last
+      pub ends_by : {IsUnsound : Host → Type 0} → Short → HandsOver step u xs Go w → HandsRows k IsUnsound step old new v w (Ok Go) listed
+      ends_by short here = record {
+        given = before.0 ++ here.0;
+        handed = handed-append step v u w before.0 here.0 Go before.1 here.1;
+        reads = reads_then before.2 read (λ h are told. ([], append-nil (before.0 ++ here.0) ∙ ap (λ t. before.0 ++ t) (all_given here ∙ sym (append-nil xs) ∙ ap (λ t. xs ++ t) (sym (told.1 short)) ∙ sym told.0) ∙ are, λ go whole. refl));
+        errs = errs_ok k old new (Ok Go) Go refl;
+      }
+
+      -- the visitor stops in it
+      pub stops_by : {IsUnsound : Host → Type 0} → HandsOver step u xs Stop w → HandsRows k IsUnsound step old new v w (Ok Stop) listed
+      stops_by here = record {
         given = before.0 ++ here.0;
         handed = handed-append step v u w before.0 here.0 Stop before.1 here.1;
-        reads = reads_then before.2 read (λ h are next. (
+        reads = reads_then before.2 read (λ h are told. (
           here.2.0 ++ past m h,
-          append_assoc before.0 here.0 (here.2.0 ++ past m h) ∙ ap (λ t. before.0 ++ t) (sym (append_assoc here.0 here.2.0 (past m h)) ∙ ap (λ t. t ++ past m h) here.2.1 ∙ sym next) ∙ are,
+          append_assoc before.0 here.0 (here.2.0 ++ past m h) ∙ ap (λ t. before.0 ++ t) (sym (append_assoc here.0 here.2.0 (past m h)) ∙ ap (λ t. t ++ past m h) here.2.1 ∙ sym told.0) ∙ are,
           λ go. cc go,
         ));
         errs = errs_ok k old new (Ok Stop) Stop refl;
       }
 
-      -- the call errs
-      pub fails_at : {IsUnsound : Host → Type 0} {A : Type 0} {P : Host → Type 0} (r : Result A KeepError) (s : Result Flow KeepError) (e : KeepError) → r ≡ Err e → s ≡ Err e → Reads k now new P → Errs k now new IsUnsound r → HandsRows k IsUnsound step old new v u s listed
-      fails_at {IsUnsound = IsUnsound} r s e is same read errs = subst (λ t. HandsRows k IsUnsound step old new v u t listed) (sym same) (record {
-        given = before.0;
-        handed = before.1;
-        reads = reads_then before.2 read (λ h are p. (past n h, are, λ go whole. cc whole));
-        errs = errs_after k old now new (Err e) before.2 read (errs_as k now new r (Err e) e is refl errs);
-      })
+    -- the call errs
+    pub fails_at : {IsUnsound : Host → Type 0} {A : Type 0} {P : Host → Type 0} (old now new : K) (v u : V) (n : ℕ) (before : HandedTo old now v u n) (r : Result A KeepError) (s : Result Flow KeepError) (e : KeepError) → r ≡ Err e → s ≡ Err e → Reads k now new P → Errs k now new IsUnsound r → HandsRows k IsUnsound step old new v u s listed
+    fails_at {IsUnsound = IsUnsound} old now new v u n before r s e is same read errs = subst (λ t. HandsRows k IsUnsound step old new v u t listed) (sym same) (record {
+      given = before.0;
+      handed = before.1;
+      reads = reads_then before.2 read (λ h are p. (past n h, are, λ go whole. cc whole));
+      errs = errs_after k old now new (Err e) before.2 read (errs_as k now new r (Err e) e is refl errs);
+    })
 
   -- ---- window by window
 

@@ -5,8 +5,6 @@ use Rattle.pawn_book.specs.HostStep.{Host}
 use Rattle.pawn_book.specs.Keeping.{IsNextBook}
 use Rattle.pawn_book.specs.Sound.{HasUnsoundBook, IsUnsoundAt}
 use Rattle.pawn_book.specs.declared.fault.KeepError.{KeepError}
-use Rattle.pawn_book.specs.declared.fault.KeepError.TheVariants as Keeper
-use Rattle.pawn_book.specs.declared.fault.StoreFault.TheVariants.{NoRecord, Database}
 use Rattle.one_table.specs.Lending.{IsLent, Rests}
 use Rattle.one_table.proofs.Lent.{clean_before, rests_then}
 use Rattle.pawn_saving.specs.Writing.{IsCarried}
@@ -14,7 +12,7 @@ use Rattle.pawn_saving.proofs.Tailing.{carried_none, carried_then, past}
 use Rattle.pawn_tables.specs.Finding.{Finds, FindsOf}
 use Rattle.pawn_tables.specs.StandsFor.{ListDebts}
 use Rattle.pawn_move.specs.Moving.{AreOwedIn, IsNextJudged, ListFirstDebts}
-use Rattle.pawn_move.proofs.Reading.{tell_then}
+use Rattle.pawn_move.proofs.Reading.{handed, tell_then}
 
 -- ---- a walk that leaves the tables as they are
 
@@ -25,12 +23,6 @@ pub record HasWalked (P : Host → Type 0) (old new : State) : Type 0 where
 
 pub none_walked : (P : Host → Type 0) (s : State) → ((h : Host) → P h) → HasWalked P s s
 none_walked P s all = record { carried = carried_none s; found = λ clean within h tell. (all h, record { now_is = refl; inside = within }) }
-
--- an error that is handed on, with what it says of a host
-handed : {A B : Type 0} (e : KeepError) (P : A → Type 0) (Q : B → Type 0) (U V : Type 0) → (U → V) → Finds (Err e) P U → Finds (Err e) Q V
-handed Keeper.Memory P Q U V worse f = tt
-handed (Keeper.Store NoRecord) P Q U V worse f = worse f
-handed (Keeper.Store Database) P Q U V worse f = tt
 
 module _ (P : Host → Type 0) (old mid new : State) (walked : HasWalked P old mid) where
   -- what one more part finds

@@ -10,14 +10,14 @@ use Rattle.pawn_book.specs.HostStep.{Host}
 use Rattle.pawn_book.specs.Sound.{HasUnsoundBook}
 use Rattle.pawn_book.specs.declared.fault.KeepError.{KeepError}
 use Rattle.pawn_book.specs.declared.fault.KeepError.TheVariants as Keeper
-use Rattle.pawn_book.specs.declared.fault.StoreFault.TheVariants.{NoRecord, Database}
+use Rattle.pawn_book.specs.declared.fault.StoreFault.TheVariants.{NoRecord}
 use Rattle.one_table.specs.Lending.{IsLent}
 use Rattle.pawn_opening.proofs.Begun.{IsBegun, held, opens_as, rolled_back}
 use Rattle.pawn_opening.specs.Opened.{OpensAs}
-use Rattle.pawn_tables.specs.Finding.{Finds}
 use Rattle.pawn_tables.specs.OneHost.{StandForOne}
 use Rattle.pawn_tables.specs.StandsFor.{StandsFor, HoldHost}
 use Rattle.pawn_move.proofs.Filled.{untold}
+use Rattle.pawn_move.proofs.Reading.{handed}
 use Rattle.pawn_move.specs.Migrating.{HoldMoved, MovesStore, MovesStoreOwed}
 use Rattle.pawn_move.specs.Moving.{Moves, MovesOwed}
 use Rattle.pawn_move.specs.StandsUnder.{StandsUnder}
@@ -30,17 +30,12 @@ module _ (n : ℕ) (old new begun lent : State) (was : IsBegun old begun) (ended
   -- the transaction failed, and is rolled back
   pub not_moved_store : (e : KeepError) → IsLent begun lent false → Moves n begun lent (Err e) → (HasCleanDisk new → IsRolledBack lent new) → Survives lent new (λ _. ⊥) → MovesStore n old new (Err e)
   not_moved_store e part moves undone after = record {
-    moved = λ clean h none st. go h e (moves (let up = after.clean in omega (arith, clean, up)) was.within h none (subst (λ d. StandsUnder n d h) (sym was.now) st));
+    moved = λ clean h none st. handed e _ _ _ _ (λ it. it) (moves (let up = after.clean in omega (arith, clean, up)) was.within h none (subst (λ d. StandsUnder n d h) (sym was.now) st));
     err = λ clean. rolled_back old begun lent new false was part (let up = after.clean in omega (arith, clean, up)) (undone clean);
     ended = ended;
     survives = survives_then old begun new (λ _. ⊥) (λ _. ⊥) (HoldMoved n old) (λ clean db none. absurd none) (λ clean db none. absurd none) was.survives
         (survives_then begun lent new (λ _. ⊥) (λ _. ⊥) (λ _. ⊥) (λ clean db none. none) (λ clean db none. none) part.survives after);
   }
-    where
-      go : (h : Host) (x : KeepError) → Finds {A = Unit {0}} (Err x) (λ done. StandsFor lent.now h) (HasUnsoundBook h) → Finds {A = Unit {0}} (Err x) (λ done. OpensAs new h) (HasUnsoundBook h)
-      go h Keeper.Memory it = tt
-      go h (Keeper.Store NoRecord) it = it
-      go h (Keeper.Store Database) it = tt
 
   module _ (part : IsLent begun lent true) (moves : Moves n begun lent (Ok tt)) (after : Survives lent new (λ db. db ≡ lent.now.trees)) where
     clean_past : HasCleanDisk new → HasCleanDisk lent

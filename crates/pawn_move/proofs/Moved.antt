@@ -11,6 +11,7 @@ use Rattle.pawn_tables.specs.Schema.{extensions, first_schema, second_schema, ex
 use Rattle.pawn_tables.specs.Rows.{extension_cells, extensions_listed, number_in_book, placed_from, under}
 use Rattle.one_table.specs.Listing.{Holds}
 use Rattle.pawn_move.proofs.Filled.{firsts, untold}
+use Rattle.pawn_move.proofs.Reading.{handed}
 use Rattle.pawn_move.proofs.Upto.{Entry, below_key, here_found, low, past_head}
 use Rattle.sqlite.specs.Order.{Row}
 use Rattle.sqlite.specs.Effect.{Database as Tables}
@@ -19,7 +20,7 @@ use Rattle.pawn_book.specs.HostStep.{Host}
 use Rattle.pawn_book.specs.Sound.{HasUnsoundBook}
 use Rattle.pawn_book.specs.declared.fault.KeepError.{KeepError}
 use Rattle.pawn_book.specs.declared.fault.KeepError.TheVariants as Keeper
-use Rattle.pawn_book.specs.declared.fault.StoreFault.TheVariants.{NoRecord, Database}
+use Rattle.pawn_book.specs.declared.fault.StoreFault.TheVariants.{NoRecord}
 use Rattle.one_table.specs.Lending.{IsLent, Rests}
 use Rattle.one_table.specs.Listing.{Lists, with_rows}
 use Rattle.one_table.proofs.Lent.{clean_before}
@@ -97,12 +98,7 @@ module _ (s0 s1 s2 : State) (l1 : IsLent s0 s1 true) (l2 : IsLent s1 s2 true) (m
   pub first_not_put : (s3 : State) (e : KeepError) → IsCarried s2 s3 false → PutsAll s2 s3 (Err e) → Moves 1 s0 s3 (Err e)
   first_not_put s3 e carried puts clean within h none st =
       let mid = made_first (past s2 s3 false carried clean) within h st in
-      go e (puts clean mid.1 1 [] h none mid.0)
-    where
-      go : (x : KeepError) → Finds {A = Unit {0}} (Err x) (λ done. AreAllOwed h × IsMoving 1 (of_pledges h totals_listed ++ []) s3.now h) (HasUnsoundBook h) → Finds {A = Unit {0}} (Err x) (λ done. StandsFor s3.now h) (HasUnsoundBook h)
-      go Keeper.Memory it = tt
-      go (Keeper.Store NoRecord) it = it
-      go (Keeper.Store Database) it = tt
+      handed e _ _ _ _ (λ it. it) (puts clean mid.1 1 [] h none mid.0)
 
   pub first_moved : (s3 s4 : State) (r : Result (Unit {0}) KeepError) (ok : Bool) → IsCarried s2 s3 true → IsLent s3 s4 ok → PutsAll s2 s3 (Ok tt) → r ≢ Err (Keeper.Store NoRecord) → NotesProgram s3 s4 r → Moves 1 s0 s4 r
   first_moved s3 s4 r ok carried l4 puts not notes clean within h none st =
@@ -137,12 +133,7 @@ module _ (s0 s1 : State) (l1 : IsLent s0 s1 true) (made : AddsTable {E = KeepErr
       (mid.0, judged clean mid.1 h (λ now. firsts 2 (of_pledges h totals_listed) s1.now h mid.0))
 
   pub second_not_judged : (s2 : State) (e : KeepError) (P : Host → Unit {0} → Type 0) → IsCarried s1 s2 false → FindsOf ListFirstDebts HasUnsoundBook s1 s2 (Err e) P → Moves 2 s0 s2 (Err e)
-  second_not_judged s2 e P carried judged clean within h none st = go e (judged_second s2 false (Err e) P carried judged clean within h st).1
-    where
-      go : (x : KeepError) → Finds {A = Unit {0}} (Err x) (λ done. P h done × Rests s1 s2) (HasUnsoundBook h) → Finds {A = Unit {0}} (Err x) (λ done. StandsFor s2.now h) (HasUnsoundBook h)
-      go Keeper.Memory it = tt
-      go (Keeper.Store NoRecord) it = it
-      go (Keeper.Store Database) it = tt
+  second_not_judged s2 e P carried judged clean within h none st = handed e _ _ _ _ (λ it. it) (judged_second s2 false (Err e) P carried judged clean within h st).1
 
   module _ (s2 s3 : State) (ok : Bool) (r : Result (Unit {0}) KeepError) (carried : IsCarried s1 s2 true) (l3 : IsLent s2 s3 ok) (judged : FindsOf {A = Unit {0}} ListFirstDebts HasUnsoundBook s1 s2 (Ok tt) (λ h done. get h.books 0 ≡ None → AreAllOwed h)) where
     pub second_moved : r ≢ Err (Keeper.Store NoRecord) → NotesProgram s2 s3 r → Moves 2 s0 s3 r

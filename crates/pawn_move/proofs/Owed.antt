@@ -1,26 +1,28 @@
 -- What was owed on a pledge, by what was read of it.
-use Rattle.std.proofs.Common.{◌≡◌, ℕ, [], ◌∷◌, List, Option, Some, None, Result, refl, sym, ap, ◌∙◌}
+use Rattle.std.proofs.Common.{◌≡◌, ℕ, [], ◌∷◌, List, Option, Some, None, Ok, IsTrue, refl, sym, ap, ◌∙◌}
 use Rattle.std.specs.Prelude.{option_map, is_some, true}
 use Rattle.std.specs.FinMap.{get}
+use Rattle.sqlite.specs.State.{State, HasCleanDisk}
 use Rattle.pawn_terms.specs.declared.terms.Rates.{Rates}
 use Rattle.pawn_debt.specs.declared.entry.Entry.{Entry}
 use Rattle.pawn_debt.specs.declared.owing.Totals.{Totals}
 use Rattle.pawn_debt.specs.Kept.{totals_of}
 use Rattle.pawn_pledge.specs.Pledge.{PledgeValue, debt_of}
-use Rattle.pawn_pledge.specs.Replayable.{IsStanding}
 use Rattle.pawn_book.specs.BookStep.{pledge_in}
 use Rattle.pawn_book.specs.HostStep.{Host}
 use Rattle.pawn_book.specs.Keeping.{entries_of, terms_of}
 use Rattle.pawn_book.specs.Rows.{terms_at}
-use Rattle.pawn_book.specs.declared.fault.KeepError.{KeepError}
-use Rattle.pawn_tables.specs.Finding.{IsRead}
+use Rattle.pawn_book.specs.Sound.{IsUnsoundAt}
+use Rattle.one_table.specs.Lending.{IsLent, Rests}
+use Rattle.one_table.proofs.Lent.{clean_before}
+use Rattle.pawn_tables.specs.Finding.{FindsOf}
 use Rattle.pawn_tables.specs.Rows.{totals_cells, totals_listed, under}
-use Rattle.pawn_tables.specs.StandsFor.{AreBooksOrdered}
+use Rattle.pawn_tables.specs.StandsFor.{AreBooksOrdered, ListDebts}
 use Rattle.pawn_tables.specs.Told.{credit_told, totals_in}
 use Rattle.pawn_tables.specs.declared.credits.Credit.{Credit}
 use Rattle.pawn_tables.proofs.PledgeReads.{holds_in, number_in, under_in}
-use Rattle.pawn_move.specs.Moving.{rows_if_any}
-use Rattle.pawn_move.specs.StandsUnder.{HasNoExtension}
+use Rattle.pawn_move.specs.Moving.{ListFirstDebts, rows_if_any}
+use Rattle.pawn_move.proofs.Reading.{three_find}
 
 -- the row that was found is that of a pledge
 pub credit_is : (o : Option PledgeValue) (credit : Credit) → Some credit ≡ option_map credit_told o → (p : PledgeValue) × (o ≡ Some p) × (credit ≡ credit_told p)
@@ -37,17 +39,37 @@ terms_are h b n v p credit o ordered at told version is =
     let same : v ≡ p.agreement.version = version ∙ ap (λ (c : Credit). c.version) told in
     is ∙ ap (terms_at (terms_of (get h.books b))) same ∙ under_in h b n p ordered at
 
--- what holds of each pledge of which this was read holds of the one that stands
-pub of_owed : (Q : PledgeValue → Type 0) (h : Host) (b n v : ℕ) (p : PledgeValue) (credit : Credit) (terms : Rates) (es : List Entry) → AreBooksOrdered h → HasNoExtension h → pledge_in (get h.books b) n ≡ Some p → credit ≡ credit_told p
-    → v ≡ credit.version → Some terms ≡ terms_at (terms_of (get h.books b)) v → es ≡ entries_of (pledge_in (get h.books b) n)
-    → ((q : PledgeValue) → credit ≡ credit_told q → terms ≡ q.agreement.terms → es ≡ q.entries → q.extensions ≡ [] → Q q) → Q p
-of_owed Q h b n v p credit terms es ordered none at told version under' entries read =
-    read p told (some_is terms p.agreement.terms (terms_are h b n v p credit (Some terms) ordered at told version under')) (entries ∙ ap entries_of at) (holds_in h (λ (q : PledgeValue). q.extensions ≡ []) none b n p at)
+-- the pledge that stands, of which this was read
+pub record IsPledgeRead (h : Host) (b n : ℕ) (credit : Credit) (terms : Rates) (es : List Entry) : Type 0 where
+  pub pledge : PledgeValue
+  pub stands : pledge_in (get h.books b) n ≡ Some pledge
+  pub told : credit ≡ credit_told pledge
+  pub terms_is : terms ≡ pledge.agreement.terms
+  pub entries_is : es ≡ pledge.entries
+  pub unextended : pledge.extensions ≡ []
 
-pub owed_read : (h : Host) (b n v : ℕ) (p : PledgeValue) (credit : Credit) (terms : Rates) (es : List Entry) (r : Result Totals KeepError) → AreBooksOrdered h → HasNoExtension h → pledge_in (get h.books b) n ≡ Some p → credit ≡ credit_told p
-    → v ≡ credit.version → Some terms ≡ terms_at (terms_of (get h.books b)) v → es ≡ entries_of (pledge_in (get h.books b) n)
-    → ((q : PledgeValue) → credit ≡ credit_told q → terms ≡ q.agreement.terms → es ≡ q.entries → q.extensions ≡ [] → IsRead r (totals_of (debt_of q)) (IsStanding q)) → IsRead r (totals_of (debt_of p)) (IsStanding p)
-owed_read h b n v p credit terms es r = of_owed (λ (q : PledgeValue). IsRead r (totals_of (debt_of q)) (IsStanding q)) h b n v p credit terms es
+-- what the three parts read is of one pledge
+pub pledge_read : (s0 s1 s2 s3 : State) (h : Host) (b n v : ℕ) (oc : Option Credit) (credit : Credit) (ot : Option Rates) (terms : Rates) (all es : List Entry) → IsLent s0 s1 true → IsLent s1 s2 true → IsLent s2 s3 true
+    → FindsOf ListDebts (IsUnsoundAt b) s0 s1 (Ok oc) (λ h x. x ≡ option_map credit_told (pledge_in (get h.books b) n)) → FindsOf ListDebts (IsUnsoundAt b) s1 s2 (Ok ot) (λ h x. x ≡ terms_at (terms_of (get h.books b)) v)
+    → FindsOf ListDebts (IsUnsoundAt b) s2 s3 (Ok all) (λ h x. x ≡ entries_of (pledge_in (get h.books b) n)) → oc ≡ Some credit → v ≡ credit.version → ot ≡ Some terms → es ≡ all
+    → HasCleanDisk s3 → IsTrue s0.in_transaction → (IsTrue s0.is_open → ListFirstDebts s0.now h) → IsPledgeRead h b n credit terms es × Rests s0 s3
+pledge_read s0 s1 s2 s3 h b n v oc credit ot terms all es l1 l2 l3 f1 f2 f3 some version some' same clean within tell =
+    let P : Host → Option Credit → Type 0 = λ h x. x ≡ option_map credit_told (pledge_in (get h.books b) n) in
+    let Q : Host → Option Rates → Type 0 = λ h x. x ≡ terms_at (terms_of (get h.books b)) v in
+    let R : Host → List Entry → Type 0 = λ h x. x ≡ entries_of (pledge_in (get h.books b) n) in
+    let t = tell (l1.opened (clean_before s1 s2 true l2 (clean_before s2 s3 true l3 clean)) within refl) in
+    let f = three_find ListDebts (IsUnsoundAt b) s0 s1 s2 s3 oc P ot Q all R l1 l2 l3 f1 f2 f3 clean within h (λ now. (tell now).debts) in
+    let p = credit_is (pledge_in (get h.books b) n) credit (sym some ∙ f.0) in (
+      record {
+        pledge = p.0;
+        stands = p.1;
+        told = p.2;
+        terms_is = some_is terms p.0.agreement.terms (terms_are h b n v p.0 credit (Some terms) t.debts.ordered p.1 p.2 version (sym some' ∙ f.1));
+        entries_is = same ∙ f.2 ∙ ap entries_of p.1;
+        unextended = holds_in h (λ (q : PledgeValue). q.extensions ≡ []) t.unextended b n p.0 p.1;
+      },
+      f.3,
+    )
 
 -- totals that were found are of a pledge
 pub totals_are : (h : Host) (b n : ℕ) (t : Totals) → AreBooksOrdered h → Some t ≡ totals_in (pledge_in (get h.books b) n)

@@ -1,10 +1,8 @@
-use Rattle.std.proofs.Common.{rules, ◌≡◌, ◌+◌, ◌∙◌, Result, Ok, Err, Bool, true, false, refl, sym, subst}
+use Rattle.std.proofs.Common.{rules, ◌≡◌, ◌+◌, ◌∙◌, Err, Bool, true, false, refl}
 use Rattle.sqlite.specs.Held.{state}
 use Rattle.pawn_book.specs.HostStep.{Host}
 use Rattle.pawn_book.specs.Sound.{IsUnsoundAt}
-use Rattle.pawn_book.specs.declared.fault.KeepError.{KeepError}
-use Rattle.pawn_tables.specs.Finding.{FindsOf}
-use Rattle.pawn_move.specs.Moving.{AreOwedIn, IsJudgedAt, ListFirstDebts}
+use Rattle.pawn_move.specs.Moving.{AreOwedIn, IsJudgedAt}
 use Rattle.pawn_move.proofs.JudgedUpto.{AreOwedTo, all_judged, one_judged}
 use Rattle.pawn_move.proofs.Judged.{none_walked, walk_ends, walk_fails, walk_on}
 use Rattle.pawn_move.proofs.judging.judge_book.Goals as goal
@@ -14,36 +12,20 @@ loop-place-init g c = (refl, none_walked (AreOwedTo c.args.book 0) (state g.S.St
 
 pub returns-in_err-judge_pledge-clause-judges : goal.returns-in_err-judge_pledge-clause-judges
 returns-in_err-judge_pledge-clause-judges g c =
-    let old = state g.S.Store c.args.tx.now.conn.now in
-    let mid = state g.S.Store c.loop-place.tx.conn.now in
-    let new = state g.S.Store c.judge_pledge.new.tx.conn.now in
     let failed : c.from_residual.result ≡ Err c.in_err-judge_pledge.field-0.0 = search rules in
-    subst (λ (r : Result (Unit {0}) KeepError). FindsOf ListFirstDebts (IsUnsoundAt c.args.book) old new r (λ h done. AreOwedIn h c.args.book)) (sym failed)
-    (walk_fails (AreOwedTo c.args.book c.loop-place.place) old mid new c.loop-place.invariant.1 false (IsUnsoundAt c.args.book) c.in_err-judge_pledge.field-0.0
+    rw failed (walk_fails (AreOwedTo c.args.book c.loop-place.place) _ _ _ c.loop-place.invariant.1 false (IsUnsoundAt c.args.book) c.in_err-judge_pledge.field-0.0
     (λ h stands. IsJudgedAt h c.args.book (c.loop-place.place + 1) stands) (λ h done. AreOwedIn h c.args.book) c.in_err-judge_pledge.ensures.lent c.in_err-judge_pledge.ensures.judges)
 
 pub returns-then-not-branch-clause-judges : goal.returns-then-not-branch-clause-judges
 returns-then-not-branch-clause-judges g c =
-    let old = state g.S.Store c.args.tx.now.conn.now in
-    let mid = state g.S.Store c.loop-place.tx.conn.now in
-    let new = state g.S.Store c.judge_pledge.new.tx.conn.now in
-    let b = c.args.book in
-    let i = c.loop-place.place in
-    let R : Host → Bool → Type 0 = λ h stands. IsJudgedAt h b (i + 1) stands in
+    let R : Host → Bool → Type 0 = λ h stands. IsJudgedAt h c.args.book (c.loop-place.place + 1) stands in
     let none : c.in_ok-judge_pledge.field-0 ≡ false = search rules in
-    walk_ends (AreOwedTo b i) old mid new c.loop-place.invariant.1 (IsUnsoundAt b) (IsUnsoundAt b) false R (λ h. AreOwedIn h b) (all_judged b i (i + 1) refl) c.in_ok-judge_pledge.ensures.lent
-    (subst (λ (s : Bool). FindsOf ListFirstDebts (IsUnsoundAt b) mid new (Ok s) R) none c.in_ok-judge_pledge.ensures.judges)
+    walk_ends (AreOwedTo c.args.book c.loop-place.place) _ _ _ c.loop-place.invariant.1 (IsUnsoundAt c.args.book) (IsUnsoundAt c.args.book) false R (λ h. AreOwedIn h c.args.book) (all_judged c.args.book c.loop-place.place (c.loop-place.place + 1) refl) c.in_ok-judge_pledge.ensures.lent (rw none at c.in_ok-judge_pledge.ensures.judges)
 
 pub loop-place-preserved : goal.loop-place-preserved
 loop-place-preserved g c =
-    let old = state g.S.Store c.args.tx.now.conn.now in
-    let mid = state g.S.Store c.loop-place.tx.conn.now in
-    let new = state g.S.Store c.judge_pledge.new.tx.conn.now in
-    let b = c.args.book in
-    let i = c.loop-place.place in
-    let R : Host → Bool → Type 0 = λ h stands. IsJudgedAt h b (i + 1) stands in
+    let R : Host → Bool → Type 0 = λ h stands. IsJudgedAt h c.args.book (c.loop-place.place + 1) stands in
     let some : c.in_ok-judge_pledge.field-0 ≡ true = search rules in (
       c.judge_pledge.ensures.same_reference ∙ c.loop-place.invariant.0,
-      walk_on (AreOwedTo b i) old mid new c.loop-place.invariant.1 (IsUnsoundAt b) true R (AreOwedTo b (i + 1)) (one_judged b i (i + 1) refl) c.in_ok-judge_pledge.ensures.lent
-          (subst (λ (s : Bool). FindsOf ListFirstDebts (IsUnsoundAt b) mid new (Ok s) R) some c.in_ok-judge_pledge.ensures.judges),
+      walk_on (AreOwedTo c.args.book c.loop-place.place) _ _ _ c.loop-place.invariant.1 (IsUnsoundAt c.args.book) true R (AreOwedTo c.args.book (c.loop-place.place + 1)) (one_judged c.args.book c.loop-place.place (c.loop-place.place + 1) refl) c.in_ok-judge_pledge.ensures.lent (rw some at c.in_ok-judge_pledge.ensures.judges),
     )

@@ -1,13 +1,11 @@
-use Rattle.std.proofs.Common.{rules, ◌≡◌, ◌∙◌, ℕ, Option, Some, None, Result, Ok, Err, false, refl, subst, sym}
+use Rattle.std.proofs.Common.{rules, ◌≡◌, ◌∙◌, ℕ, Option, Some, None, Err, false, refl}
 use Rattle.std.specs.FinMap.{get}
 use Rattle.sqlite.specs.Held.{state}
 use Rattle.pawn_book.specs.HostStep.{Host}
 use Rattle.pawn_book.specs.Sound.{HasUnsoundBook}
-use Rattle.pawn_book.specs.declared.fault.KeepError.{KeepError}
-use Rattle.pawn_tables.specs.Finding.{FindsOf}
-use Rattle.pawn_move.specs.Moving.{AreAllOwed, IsNextJudged, ListFirstDebts}
+use Rattle.pawn_move.specs.Moving.{AreAllOwed, IsNextJudged}
 use Rattle.pawn_move.proofs.JudgedUpto.{AreOwedUpto, all_upto, none_judged, upto_next}
-use Rattle.pawn_move.proofs.Judged.{HasWalked, none_walked, walk_ends, walk_fails, walk_on}
+use Rattle.pawn_move.proofs.Judged.{none_walked, walk_ends, walk_fails, walk_on}
 use Rattle.pawn_move.proofs.judging.judge_books.Goals as goal
 
 pub loop-init : goal.loop-init
@@ -15,33 +13,18 @@ loop-init g c = (refl, none_walked (AreOwedUpto 0) (state g.S.Store c.args.tx.no
 
 pub returns-in_err-book-clause-judges : goal.returns-in_err-book-clause-judges
 returns-in_err-book-clause-judges g c =
-    let old = state g.S.Store c.args.tx.now.conn.now in
-    let mid = state g.S.Store c.loop.tx.conn.now in
-    let new = state g.S.Store c.judge_next.new.tx.conn.now in
     let failed : c.from_residual.result ≡ Err c.in_err-book.field-0.0 = search rules in
-    subst (λ (r : Result (Unit {0}) KeepError). FindsOf ListFirstDebts HasUnsoundBook old new r (λ h done. get h.books 0 ≡ None → AreAllOwed h)) (sym failed)
-    (walk_fails (AreOwedUpto c.loop.above) old mid new c.loop.invariant.1 false HasUnsoundBook c.in_err-book.field-0.0 (λ h next. IsNextJudged h c.loop.above next) (λ h done. get h.books 0 ≡ None → AreAllOwed h) c.in_err-book.ensures.lent c.in_err-book.ensures.judges)
+    rw failed (walk_fails (AreOwedUpto c.loop.above) _ _ _ c.loop.invariant.1 false HasUnsoundBook c.in_err-book.field-0.0 (λ h next. IsNextJudged h c.loop.above next) (λ h done. get h.books 0 ≡ None → AreAllOwed h) c.in_err-book.ensures.lent c.in_err-book.ensures.judges)
 
 pub returns-in_default-clause-judges : goal.returns-in_default-clause-judges
 returns-in_default-clause-judges g c =
-    let old = state g.S.Store c.args.tx.now.conn.now in
-    let mid = state g.S.Store c.loop.tx.conn.now in
-    let new = state g.S.Store c.judge_next.new.tx.conn.now in
     let R : Host → Option ℕ → Type 0 = λ h next. IsNextJudged h c.loop.above next in
     let none : c.in_ok-book.field-0 ≡ None = search rules in
-    walk_ends (AreOwedUpto c.loop.above) old mid new c.loop.invariant.1 HasUnsoundBook HasUnsoundBook None R (λ h. get h.books 0 ≡ None → AreAllOwed h) (all_upto c.loop.above) c.in_ok-book.ensures.lent
-    (subst (λ (o : Option ℕ). FindsOf ListFirstDebts HasUnsoundBook mid new (Ok o) R) none c.in_ok-book.ensures.judges)
+    walk_ends (AreOwedUpto c.loop.above) _ _ _ c.loop.invariant.1 HasUnsoundBook HasUnsoundBook None R (λ h. get h.books 0 ≡ None → AreAllOwed h) (all_upto c.loop.above) c.in_ok-book.ensures.lent (rw none at c.in_ok-book.ensures.judges)
 
 pub loop-preserved : goal.loop-preserved
 loop-preserved g c =
-    let old = state g.S.Store c.args.tx.now.conn.now in
-    let mid = state g.S.Store c.loop.tx.conn.now in
-    let new = state g.S.Store c.judge_next.new.tx.conn.now in
-    let above = c.loop.above in
-    let b = c.in-Some.book in
-    let R : Host → Option ℕ → Type 0 = λ h next. IsNextJudged h above next in (
+    let R : Host → Option ℕ → Type 0 = λ h next. IsNextJudged h c.loop.above next in (
       c.judge_next.ensures.same_reference ∙ c.loop.invariant.0,
-      subst (λ n. HasWalked (AreOwedUpto n) old new) (sym c.get-above.ensures.value)
-          (walk_on (AreOwedUpto above) old mid new c.loop.invariant.1 HasUnsoundBook (Some b) R (AreOwedUpto b) (upto_next above b) c.in_ok-book.ensures.lent
-          (subst (λ (o : Option ℕ). FindsOf ListFirstDebts HasUnsoundBook mid new (Ok o) R) c.in-Some.is c.in_ok-book.ensures.judges)),
+      rw c.get-above.ensures.value (walk_on (AreOwedUpto c.loop.above) _ _ _ c.loop.invariant.1 HasUnsoundBook (Some c.in-Some.book) R (AreOwedUpto c.in-Some.book) (upto_next c.loop.above c.in-Some.book) c.in_ok-book.ensures.lent (rw c.in-Some.is at c.in_ok-book.ensures.judges)),
     )

@@ -1,34 +1,20 @@
-use Rattle.std.proofs.Common.{rules, ℕ, Option, Ok, Err, false, subst}
+use Rattle.std.proofs.Common.{rules, ℕ, Option, Err, false}
 use Rattle.sqlite.specs.Held.{state}
 use Rattle.pawn_book.specs.HostStep.{Host}
 use Rattle.pawn_book.specs.Keeping.{IsNextBook}
-use Rattle.pawn_book.specs.Sound.{HasUnsoundBook, IsUnsoundAt}
-use Rattle.pawn_tables.specs.Finding.{FindsOf}
-use Rattle.pawn_tables.specs.StandsFor.{ListDebts}
-use Rattle.pawn_move.specs.Moving.{AreOwedIn, IsNextJudged, ListFirstDebts}
+use Rattle.pawn_book.specs.Sound.{HasUnsoundBook}
+use Rattle.pawn_move.specs.Moving.{IsNextJudged, ListFirstDebts}
 use Rattle.pawn_move.proofs.Judged.{next_judged, next_not_judged}
 use Rattle.pawn_move.proofs.Reading.{first_unfound, of_first}
 use Rattle.pawn_move.proofs.judging.judge_next.Goals as goal
 
 pub returns-in-Ok-clause-judges : goal.returns-in-Ok-clause-judges
 returns-in-Ok-clause-judges g c =
-    let s0 = state g.S.Store c.args.tx.now.conn.now in
-    let s1 = state g.S.Store c.next_in.new.tx.conn.now in
-    let s2 = state g.S.Store c.judge_book.new.tx.conn.now in
-    let P : Host → Option ℕ → Type 0 = λ h next. IsNextBook h c.args.above next in
-    next_judged s0 s1 s2 c.args.above c.in-Some.book c.in_ok-book.ensures.lent c.in-Ok.ensures.carried
-    (subst (λ o. FindsOf ListDebts HasUnsoundBook s0 s1 (Ok o) P) c.in-Some.is c.in_ok-book.ensures.told)
-    (subst (λ b. FindsOf {A = Unit {0}} ListFirstDebts (IsUnsoundAt b) s1 s2 (Ok tt) (λ h done. AreOwedIn h b)) c.get.ensures.value c.in-Ok.ensures.judges)
+    next_judged _ _ _ c.args.above c.in-Some.book c.in_ok-book.ensures.lent c.in-Ok.ensures.carried (rw c.in-Some.is at c.in_ok-book.ensures.told) (rw c.get.ensures.value at c.in-Ok.ensures.judges)
 
 pub returns-in-Err-clause-judges : goal.returns-in-Err-clause-judges
 returns-in-Err-clause-judges g c =
-    let s0 = state g.S.Store c.args.tx.now.conn.now in
-    let s1 = state g.S.Store c.next_in.new.tx.conn.now in
-    let s2 = state g.S.Store c.judge_book.new.tx.conn.now in
-    let P : Host → Option ℕ → Type 0 = λ h next. IsNextBook h c.args.above next in
-    next_not_judged s0 s1 s2 c.args.above c.in-Some.book false c.in-Err.error c.in_ok-book.ensures.lent c.in-Err.ensures.carried
-    (subst (λ o. FindsOf ListDebts HasUnsoundBook s0 s1 (Ok o) P) c.in-Some.is c.in_ok-book.ensures.told)
-    (subst (λ b. FindsOf {A = Unit {0}} ListFirstDebts (IsUnsoundAt b) s1 s2 (Err c.in-Err.error) (λ h done. AreOwedIn h b)) c.get.ensures.value c.in-Err.ensures.judges)
+    next_not_judged _ _ _ c.args.above c.in-Some.book false c.in-Err.error c.in_ok-book.ensures.lent c.in-Err.ensures.carried (rw c.in-Some.is at c.in_ok-book.ensures.told) (rw c.get.ensures.value at c.in-Err.ensures.judges)
 
 pub returns-in_err-book-clause-judges : goal.returns-in_err-book-clause-judges
 returns-in_err-book-clause-judges g c =

@@ -1,7 +1,6 @@
-use Rattle.std.proofs.Common.{rules, ◌≡◌, Err, subst, sym}
+use Rattle.std.proofs.Common.{rules, ◌≡◌}
 use Rattle.sqlite.specs.Held.{state}
 use Rattle.pawn_tables.proofs.OneHost.{tables_stand_for_one_host}
-use Rattle.pawn_move.specs.Migrating.{Migrates}
 use Rattle.pawn_move.proofs.Migrates.{failed, not_told, older, stays, stays_owed, went, went_owed}
 use Rattle.pawn_move.proofs.migrating.migrate.Goals as goal
 
@@ -21,8 +20,8 @@ pub returns-in-Ok-move_store-clause-migrates : goal.returns-in-Ok-move_store-cla
 returns-in-Ok-move_store-clause-migrates g c = went (state g.S.Store c.args.conn.now) (state g.S.Store c.schema_of.new.conn) (λ now trees left. g.met.S.Store.settled _ trees now left) (state g.S.Store c.move_store.new.conn) c.in-Ok.from c.in-Ok.ensures.tells c.in-Ok-move_store.ensures.moves
 
 pub returns-in-Err-move_store-clause-migrates : goal.returns-in-Err-move_store-clause-migrates
-returns-in-Err-move_store-clause-migrates g c = subst (λ why. Migrates (state g.S.Store c.args.conn.now) (state g.S.Store c.move_store.new.conn) (Err why)) (sym c.unmoved.ensures.told)
-    (failed (state g.S.Store c.args.conn.now) (state g.S.Store c.schema_of.new.conn) (λ now trees left. g.met.S.Store.settled _ trees now left) (state g.S.Store c.move_store.new.conn) c.in-Ok.from c.in-Err-move_store.error c.in-Ok.ensures.tells c.in-Err-move_store.ensures.moves)
+returns-in-Err-move_store-clause-migrates g c =
+    rw c.unmoved.ensures.told (failed (state g.S.Store c.args.conn.now) (state g.S.Store c.schema_of.new.conn) (λ now trees left. g.met.S.Store.settled _ trees now left) (state g.S.Store c.move_store.new.conn) c.in-Ok.from c.in-Err-move_store.error c.in-Ok.ensures.tells c.in-Err-move_store.ensures.moves)
 
 pub returns-then-from-eq-SCHEMA-clause-judges : goal.returns-then-from-eq-SCHEMA-clause-judges
 returns-then-from-eq-SCHEMA-clause-judges g c =

@@ -1,33 +1,9 @@
-use Rattle.std.proofs.Common.{rules, ◌≡◌, refl}
-use Rattle.std.specs.Prelude.{List, is_ok}
-use Rattle.std.specs.FinMap.{get}
 use Rattle.sqlite.specs.Held.{state}
-use Rattle.pawn_pledge.specs.declared.record.Issued.{Issued}
-use Rattle.pawn_book.specs.BookStep.{pledge_in}
-use Rattle.pawn_book.specs.HostStep.{Host}
-use Rattle.pawn_book.specs.Keeping.{secrets_of}
-use Rattle.pawn_tables.specs.Places.{page_behind}
-use Rattle.pawn_keeper.proofs.KeeperReads.{IsRead, errs_by, read_by}
+use Rattle.pawn_keeper.proofs.KeeperReads.{errs_by, read_by, was_read}
 use Rattle.pawn_keeper.proofs.keeper.TableKeep.secrets_behind.Goals as goal
 
 pub returns : goal.returns
 returns g c =
     let begun = c.transaction-tx.ensures.begun in
-    let P : Host → List Issued → Type 0 = λ h page. page ≡ page_behind c.args.behind (secrets_of (pledge_in (get h.books c.args.book) c.args.number)) in
-    let was : IsRead (state g.S.Store c.args.self.now.conn) (state g.S.Store c.transaction-tx.result.conn.now) (state g.S.Store c.secrets_page-page.new.tx.conn.now) (state g.S.Store c.rollback.new.self.0) (is_ok c.secrets_page-page.result) = record {
-      ended = c.args.self.now.rests;
-      settled = search rules;
-      was_open = λ now. rw begun at now;
-      now = rw begun refl;
-      committed = rw begun refl;
-      within = rw begun refl;
-      clean = λ clean. rw begun at clean;
-      left = λ trees left. rw begun at left;
-      part = c.secrets_page-page.ensures.lent;
-      undone = c.rollback.ensures.undone;
-      after = c.rollback.ensures.survives;
-    } in
-    record {
-      reads = read_by (λ k. state g.S.Store k.conn) _ _ (state g.S.Store c.transaction-tx.result.conn.now) (state g.S.Store c.secrets_page-page.new.tx.conn.now) c.secrets_page-page.result was _ P (rw (c.get.ensures.value, c.get-2.ensures.value) at c.secrets_page-page.ensures.finds);
-      errs = errs_by (λ k. state g.S.Store k.conn) _ _ (state g.S.Store c.transaction-tx.result.conn.now) (state g.S.Store c.secrets_page-page.new.tx.conn.now) c.secrets_page-page.result was P (rw (c.get.ensures.value, c.get-2.ensures.value) at c.secrets_page-page.ensures.finds);
-    }
+    let was = was_read (state g.S.Store c.args.self.now.conn) c.secrets_page-page.result c.args.self.now.rests c.know_settled.ensures.settled (rw begun at c.secrets_page-page.ensures.lent) c.rollback.ensures.undone c.rollback.ensures.survives (rw (begun, c.get.ensures.value, c.get-2.ensures.value) at c.secrets_page-page.ensures.finds) in
+    record { reads = read_by (λ k. state g.S.Store k.conn) _ _ was; errs = errs_by (λ k. state g.S.Store k.conn) _ _ was }

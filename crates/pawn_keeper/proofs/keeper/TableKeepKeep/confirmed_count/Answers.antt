@@ -1,31 +1,9 @@
-use Rattle.std.proofs.Common.{rules, ◌≡◌, refl}
-use Rattle.std.specs.Prelude.{ℕ, is_ok}
-use Rattle.std.specs.FinMap.{get}
-use Rattle.pawn_book.specs.Bookings.{confirmed_count}
-use Rattle.pawn_book.specs.Keeping.{pledges_of}
 use Rattle.sqlite.specs.Held.{state}
-use Rattle.pawn_book.specs.HostStep.{Host}
-use Rattle.pawn_keeper.proofs.KeeperReads.{IsRead, errs_by, read_by}
+use Rattle.pawn_keeper.proofs.KeeperReads.{errs_by, read_by, was_read}
 use Rattle.pawn_keeper.proofs.keeper.TableKeepKeep.confirmed_count.Goals as goal
 
 pub returns : goal.returns
 returns g c =
     let begun = c.transaction-tx.ensures.begun in
-    let P : Host → ℕ → Type 0 = λ h count. count ≡ confirmed_count (pledges_of (get h.books c.args.book)) c.args.day c.args.window in
-    let was : IsRead (state g.S.Store c.args.self.now.conn) (state g.S.Store c.transaction-tx.result.conn.now) (state g.S.Store c.confirmed_in-count.new.tx.conn.now) (state g.S.Store c.rollback.new.self.0) (is_ok c.confirmed_in-count.result) = record {
-      ended = c.args.self.now.rests;
-      settled = search rules;
-      was_open = λ now. rw begun at now;
-      now = rw begun refl;
-      committed = rw begun refl;
-      within = rw begun refl;
-      clean = λ clean. rw begun at clean;
-      left = λ trees left. rw begun at left;
-      part = c.confirmed_in-count.ensures.lent;
-      undone = c.rollback.ensures.undone;
-      after = c.rollback.ensures.survives;
-    } in
-    record {
-      reads = read_by (λ k. state g.S.Store k.conn) _ _ (state g.S.Store c.transaction-tx.result.conn.now) (state g.S.Store c.confirmed_in-count.new.tx.conn.now) c.confirmed_in-count.result was _ P (rw c.get.ensures.value at c.confirmed_in-count.ensures.finds);
-      errs = errs_by (λ k. state g.S.Store k.conn) _ _ (state g.S.Store c.transaction-tx.result.conn.now) (state g.S.Store c.confirmed_in-count.new.tx.conn.now) c.confirmed_in-count.result was P (rw c.get.ensures.value at c.confirmed_in-count.ensures.finds);
-    }
+    let was = was_read (state g.S.Store c.args.self.now.conn) c.confirmed_in-count.result c.args.self.now.rests c.know_settled.ensures.settled (rw begun at c.confirmed_in-count.ensures.lent) c.rollback.ensures.undone c.rollback.ensures.survives (rw (begun, c.get.ensures.value) at c.confirmed_in-count.ensures.finds) in
+    record { reads = read_by (λ k. state g.S.Store k.conn) _ _ was; errs = errs_by (λ k. state g.S.Store k.conn) _ _ was }

@@ -1,44 +1,35 @@
-use Rattle.std.proofs.Common.{rules, ◌≡◌, ◌+◌, Some, None, Err, sym, ap, subst, ◌∙◌}
+use Rattle.std.proofs.Common.{rules, ◌≡◌, ◌+◌, ℕ, slice_get, Option, Some, None, Err, sym, ◌∙◌}
 use Rattle.std.specs.FinMap.{get}
 use Rattle.sqlite.specs.Held.{state}
+use Rattle.pawn_pledge.specs.Pledge.{PledgeValue}
 use Rattle.pawn_book.specs.BookStep.{pledge_in}
-use Rattle.pawn_book.specs.HostStep.{Host}
-use Rattle.pawn_book.specs.Keeping.{pledges_of}
-use Rattle.pawn_book.specs.Visits.{call_end}
+use Rattle.pawn_book.specs.Keeping.{Keeping, Reads, pledges_of}
 use Rattle.pawn_book.proofs.Reading.{reads_as, reads_none}
 use Rattle.pawn_tables.specs.Keeps.{keeping_by}
-use Rattle.pawn_keeper.proofs.Walks.{Goes, ended, failed, more, pledge_at, stopped}
+use Rattle.pawn_keeper.proofs.Walks.{ended, failed, more, pledge_at, stopped}
 use Rattle.pawn_keeper.proofs.keeper.TableKeepKeep.walk.Goals as goal
+
+-- the pledge that was read stands at the place
+next : {K : Type 0} {k : Keeping K} {a b : K} (book place number : ℕ) (read told : Option PledgeValue) → read ≡ told → number ≡ place + 1 → Reads k a b (λ h. read ≡ pledge_in (get h.books book) number)
+    → Reads k a b (λ h. told ≡ slice_get (pledges_of (get h.books book)) place)
+next book place number read told is at reads = reads_as reads (λ h found. sym is ∙ found ∙ pledge_at (get h.books book) place number at)
 
 pub returns-in_err-pledge-clause-reads : goal.returns-in_err-pledge-clause-reads
 returns-in_err-pledge-clause-reads g c =
     let is : c.from_residual.result ≡ Err c.in_err-pledge.field-0.0 = search rules in
-    subst (λ end. Goes (keeping_by (λ k. state g.S.Store k.conn)) g.V.Visitor.step (λ h. pledges_of (get h.books c.args.book)) c.args.self.now c.pledge.new.self c.args.visitor.now c.loop-place.visitor end) (sym (ap call_end is))
-    (failed (keeping_by (λ k. state g.S.Store k.conn)) g.V.Visitor.step (λ h. pledges_of (get h.books c.args.book)) _ _ _ _ _ c.loop-place.visitor c.loop-place.place c.loop-place.invariant {P = λ h. Unit {0}} c.in_err-pledge.ensures.reads)
+    rw is (failed (keeping_by (λ k. state g.S.Store k.conn)) g.V.Visitor.step (λ h. pledges_of (get h.books c.args.book)) _ _ _ _ _ c.loop-place.visitor c.loop-place.place c.loop-place.invariant {P = λ h. Unit {0}} c.in_err-pledge.ensures.reads)
 
 pub returns-in_default-2-clause-reads : goal.returns-in_default-2-clause-reads
 returns-in_default-2-clause-reads g c =
-    let read : Host → Type 0 = λ h. c.in_ok-pledge.field-0 ≡ pledge_in (get h.books c.args.book) c.in-Some.number in
-    let at : c.in-Some.number ≡ c.loop-place.place + 1 = search rules in
-    let none : c.in_ok-pledge.field-0 ≡ None = search rules in
-    ended (keeping_by (λ k. state g.S.Store k.conn)) g.V.Visitor.step (λ h. pledges_of (get h.books c.args.book)) _ _ _ _ _ c.loop-place.visitor c.loop-place.place c.loop-place.invariant
-    (reads_as {P = read} c.in_ok-pledge.ensures.reads (λ h told. sym none ∙ told ∙ pledge_at (get h.books c.args.book) c.loop-place.place c.in-Some.number at))
+    ended (keeping_by (λ k. state g.S.Store k.conn)) g.V.Visitor.step (λ h. pledges_of (get h.books c.args.book)) _ _ _ _ _ c.loop-place.visitor c.loop-place.place c.loop-place.invariant (next c.args.book c.loop-place.place c.in-Some.number c.in_ok-pledge.field-0 None (search rules) (search rules) c.in_ok-pledge.ensures.reads)
 
 pub returns-in-Stop-clause-reads : goal.returns-in-Stop-clause-reads
 returns-in-Stop-clause-reads g c =
-    let read : Host → Type 0 = λ h. c.in_ok-pledge.field-0 ≡ pledge_in (get h.books c.args.book) c.in-Some.number in
-    let at : c.in-Some.number ≡ c.loop-place.place + 1 = search rules in
-    let some : c.in_ok-pledge.field-0 ≡ Some c.in-Some-2.pledge = search rules in
-    stopped (keeping_by (λ k. state g.S.Store k.conn)) g.V.Visitor.step (λ h. pledges_of (get h.books c.args.book)) _ _ _ _ _ c.visit.new.self c.loop-place.place c.loop-place.invariant c.in-Some-2.pledge
-    (reads_as {P = read} c.in_ok-pledge.ensures.reads (λ h told. sym some ∙ told ∙ pledge_at (get h.books c.args.book) c.loop-place.place c.in-Some.number at)) (rw c.in-Stop.is at c.visit.ensures.steps)
+    stopped (keeping_by (λ k. state g.S.Store k.conn)) g.V.Visitor.step (λ h. pledges_of (get h.books c.args.book)) _ _ _ _ _ c.visit.new.self c.loop-place.place c.loop-place.invariant c.in-Some-2.pledge (next c.args.book c.loop-place.place c.in-Some.number c.in_ok-pledge.field-0 (Some c.in-Some-2.pledge) (search rules) (search rules) c.in_ok-pledge.ensures.reads) (rw c.in-Stop.is at c.visit.ensures.steps)
 
 pub loop-place-preserved : goal.loop-place-preserved
 loop-place-preserved g c =
-    let read : Host → Type 0 = λ h. c.in_ok-pledge.field-0 ≡ pledge_in (get h.books c.args.book) c.in-Some.number in
-    let at : c.in-Some.number ≡ c.loop-place.place + 1 = search rules in
-    let some : c.in_ok-pledge.field-0 ≡ Some c.in-Some-2.pledge = search rules in
-    more (keeping_by (λ k. state g.S.Store k.conn)) g.V.Visitor.step (λ h. pledges_of (get h.books c.args.book)) _ _ _ _ _ c.visit.new.self c.loop-place.place c.loop-place.invariant c.in-Some-2.pledge
-    (reads_as {P = read} c.in_ok-pledge.ensures.reads (λ h told. sym some ∙ told ∙ pledge_at (get h.books c.args.book) c.loop-place.place c.in-Some.number at)) (rw c.in-Go.is at c.visit.ensures.steps)
+    more (keeping_by (λ k. state g.S.Store k.conn)) g.V.Visitor.step (λ h. pledges_of (get h.books c.args.book)) _ _ _ _ _ c.visit.new.self c.loop-place.place c.loop-place.invariant c.in-Some-2.pledge (next c.args.book c.loop-place.place c.in-Some.number c.in_ok-pledge.field-0 (Some c.in-Some-2.pledge) (search rules) (search rules) c.in_ok-pledge.ensures.reads) (rw c.in-Go.is at c.visit.ensures.steps)
 
 pub returns-clause-reads : goal.returns-clause-reads
 returns-clause-reads g c =
