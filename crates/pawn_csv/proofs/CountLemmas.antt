@@ -23,7 +23,8 @@ use Rattle.pawn_csv.specs.Sent.{PutsRow, PutsRowsShare, text_of_row}
 use Rattle.pawn_csv.specs.declared.row.Row.{Row}
 use Rattle.pawn_csv.specs.declared.writing.Sink.{Sink}
 use Rattle.pawn_csv.proofs.ListLemmas.{lines_from}
-use Rattle.pawn_csv.proofs.SentLemmas.{share_front, share_more, share_puts, share_then}
+use Rattle.pawn_view.proofs.ShareLemmas.{share_front, share_more, share_puts, share_then}
+use Rattle.pawn_csv.proofs.SentLemmas.{rows_in_turn}
 
 -- ---- as many as are asked for one by one
 
@@ -70,7 +71,7 @@ pub front_share : {W T : Type 0} {contents : W → Option (List ℕ)} {a b : Sin
     → PutsRowsShare contents a (lines_from line number place (take i xs)) Whole b → PutsRowsShare contents a (lines_from line number place xs) Front b
 front_share {contents = contents} {a = a} {b = b} line number place xs i share =
     let cut = lines_cut line number place xs i in
-    subst (λ (t : List ℕ). PutsRowsShare contents a t Front b) cut.1 (share_more cut.0 (share_front share))
+    subst (λ (t : List ℕ). PutsRowsShare contents a t Front b) cut.1 (share_more rows_in_turn cut.0 (share_front rows_in_turn share))
 
 -- a front, and of the next a front
 pub next_front : {W T : Type 0} {contents : W → Option (List ℕ)} {a b c : Sink W} (line : ℕ → ℕ → T → List ℕ) (number place : ℕ) (xs : List T) (i : ℕ) (x : T) → slice_get xs i ≡ Some x
@@ -79,14 +80,14 @@ pub next_front : {W T : Type 0} {contents : W → Option (List ℕ)} {a b c : Si
 next_front {contents = contents} {a = a} {c = c} line number place xs i x at before share =
     let cut = lines_cut line number place xs (i + 1) in
     subst (λ (t : List ℕ). PutsRowsShare contents a t Front c) (ap (λ (t : List ℕ). t ++ cut.0) (sym (lines_more line number place xs i x at)) ∙ cut.1)
-    (share_more cut.0 (share_then before share))
+    (share_more rows_in_turn cut.0 (share_then rows_in_turn before share))
 
 -- a front, and the next
 pub next_share : {W T : Type 0} {contents : W → Option (List ℕ)} {a b c : Sink W} (line : ℕ → ℕ → T → List ℕ) (number place : ℕ) (xs : List T) (i : ℕ) (x : T) → slice_get xs i ≡ Some x
     → PutsRowsShare contents a (lines_from line number place (take i xs)) Whole b → PutsRowsShare contents b (line number (place + i) x) Whole c
     → PutsRowsShare contents a (lines_from line number place (take (i + 1) xs)) Whole c
 next_share {contents = contents} {a = a} {c = c} line number place xs i x at before share =
-    subst (λ (t : List ℕ). PutsRowsShare contents a t Whole c) (sym (lines_more line number place xs i x at)) (share_then before share)
+    subst (λ (t : List ℕ). PutsRowsShare contents a t Whole c) (sym (lines_more line number place xs i x at)) (share_then rows_in_turn before share)
 
 -- all of them
 pub all_share : {W T : Type 0} {contents : W → Option (List ℕ)} {a b : Sink W} (line : ℕ → ℕ → T → List ℕ) (number place : ℕ) (xs : List T) (i : ℕ) → i ≡ length xs
@@ -156,7 +157,7 @@ pub versions_next : {W : Type 0} {contents : W → Option (List ℕ)} {a b c : S
 versions_next {contents = contents} {b = b} {c = c} ts i rates at before puts =
     let next : i + 1 ≡ 1 + i = omega arith in
     next_share version_line 0 1 ts i rates (sym (at ∙ terms_there ts i)) before
-    (share_puts (subst (λ (k : ℕ). PutsRow contents b (text_of_row (Row.Terms k rates)) c) next puts))
+    (share_puts rows_in_turn (subst (λ (k : ℕ). PutsRow contents b (text_of_row (Row.Terms k rates)) c) next puts))
 
 pub versions_all : {W : Type 0} {contents : W → Option (List ℕ)} {a b : Sink W} (ts : List Rates) (i : ℕ) → i ≡ length ts
     → PutsRowsShare contents a (lines_from version_line 0 1 (take i ts)) Whole b → PutsRowsShare contents a (flat_map text_of_row (terms_rows 1 ts)) Whole b

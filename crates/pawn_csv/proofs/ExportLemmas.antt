@@ -3,7 +3,6 @@ use Rattle.std.proofs.Common.{◌≡◌, ◌∙◌, ℕ, Bool, true, false, List
 use Rattle.std.specs.Prelude.{◌||◌, map, option_map, unwrap_or}
 use Rattle.std.specs.List.{flat_map}
 use Rattle.std.proofs.lemmas.Grind.{flat_map-append}
-use Rattle.std.proofs.lemmas.List.{append-nil}
 use Rattle.csv.specs.Writing.{default_writer, row_text}
 use Rattle.pawn_book.specs.BookStep.{BookValue, book_head, rows_of_book}
 use Rattle.pawn_book.specs.Keeping.{pledges_of, terms_of}
@@ -19,7 +18,8 @@ use Rattle.pawn_csv.specs.Sent.{PutsRow, PutsRowsShare, has_ended, text_of_row, 
 use Rattle.pawn_csv.specs.declared.row.Row.{Row}
 use Rattle.pawn_csv.specs.declared.row.Version.TheVariants as version
 use Rattle.pawn_csv.specs.declared.writing.Sink.{Sink}
-use Rattle.pawn_csv.proofs.SentLemmas.{share_more, share_puts, share_then}
+use Rattle.pawn_view.proofs.ShareLemmas.{share_all, share_more, share_puts, share_then}
+use Rattle.pawn_csv.proofs.SentLemmas.{rows_in_turn}
 use Rattle.pawn_view.proofs.PutLemmas.{front-more, now_by}
 
 -- the rows below the first
@@ -31,7 +31,7 @@ pub rows_cut : {W : Type 0} {contents : W → Option (List ℕ)} {a b : Sink W} 
     → PutsRowsShare contents a (below_text at) Front b
 rows_cut {contents = contents} {a = a} {b = b} o at head is head_is terms =
     let count : head.terms ≡ length (terms_of o) = ap (λ (x : BookHead). x.terms) head_is ∙ ap (λ (x : Option BookValue). length (terms_of x)) (sym is) in
-    share_more (flat_map text_of_row (flat_map pledge_csv_rows at.pledges))
+    share_more rows_in_turn (flat_map text_of_row (flat_map pledge_csv_rows at.pledges))
     (subst (λ (x : Option BookValue). PutsRowsShare contents a (flat_map text_of_row (terms_rows 1 (terms_of x))) Front b) is (terms count))
 
 pub rows_whole : {W : Type 0} {contents : W → Option (List ℕ)} {a b c : Sink W} {end : End} (o : Option BookValue) (at : BookValue) (head : BookHead) → o ≡ Some at → head ≡ book_head at
@@ -41,7 +41,7 @@ pub rows_whole : {W : Type 0} {contents : W → Option (List ℕ)} {a b c : Sink
 rows_whole {contents = contents} {a = a} {b = b} {c = c} {end = end} o at head is head_is terms pledges =
     let count : head.terms ≡ length (terms_of o) = ap (λ (x : BookHead). x.terms) head_is ∙ ap (λ (x : Option BookValue). length (terms_of x)) (sym is) in
     let number : head.pledges ≡ length (pledges_of o) = ap (λ (x : BookHead). x.pledges) head_is ∙ ap (λ (x : Option BookValue). length (pledges_of x)) (sym is) in
-    share_then
+    share_then rows_in_turn
     (subst (λ (x : Option BookValue). PutsRowsShare contents a (flat_map text_of_row (terms_rows 1 (terms_of x))) Whole b) is (terms count))
     (subst (λ (x : Option BookValue). PutsRowsShare contents b (flat_map text_of_row (flat_map pledge_csv_rows (pledges_of x))) end c) is (pledges number))
 
@@ -65,19 +65,19 @@ or_none a b first second = ap (λ (v : Bool). v || b) first ∙ second
 
 -- however it ends, a front of the text went out
 front_sent : {W : Type 0} (contents : W → Option (List ℕ)) (a w : Sink W) (text : List ℕ) (end : End) → has_ended a ≡ false → PutsRowsShare contents a text end w → PutFront contents (seen a) text (seen w)
-front_sent contents a w text end fine (out, rest, whole, puts, all) = from (has_ended w) refl (puts.fine fine)
+front_sent contents a w text end fine share = from (has_ended w) refl (share.3.fine fine)
   where
-    from : (v : Bool) → has_ended w ≡ v → Written contents (seen a) out (end_by (has_ended w)) (seen w) → PutFront contents (seen a) text (seen w)
+    from : (v : Bool) → has_ended w ≡ v → Written contents (seen a) share.0 (end_by (has_ended w)) (seen w) → PutFront contents (seen a) text (seen w)
     from true is written =
-        let front = now_by contents (seen a) (seen w) out true is written in
-        subst (λ (t : List ℕ). PutFront contents (seen a) t (seen w)) whole (front-more contents (seen a) (seen w) out rest front.0)
-    from false is written = let sent = now_by contents (seen a) (seen w) out false is written in (out, rest, whole, sent.0)
+        let front = now_by contents (seen a) (seen w) share.0 true is written in
+        subst (λ (t : List ℕ). PutFront contents (seen a) t (seen w)) share.2 (front-more contents (seen a) (seen w) share.0 share.1 front.0)
+    from false is written = let sent = now_by contents (seen a) (seen w) share.0 false is written in (share.0, share.1, share.2, sent.0)
 
 whole_sent : {W : Type 0} (contents : W → Option (List ℕ)) (a w : Sink W) (text : List ℕ) → has_ended a ≡ false → has_ended w ≡ false → PutsRowsShare contents a text Whole w
     → Written contents (seen a) text Whole (seen w)
-whole_sent contents a w text fine going (out, rest, whole, puts, all) =
-    subst (λ (t : List ℕ). Written contents (seen a) t Whole (seen w)) (sym (append-nil out) ∙ ap (λ (x : List ℕ). out ++ x) (sym (all going refl)) ∙ whole)
-    (now_by contents (seen a) (seen w) out false going (puts.fine fine))
+whole_sent contents a w text fine going share =
+    subst (λ (t : List ℕ). Written contents (seen a) t Whole (seen w)) (share_all share.2 (share.4 going refl))
+    (now_by contents (seen a) (seen w) share.0 false going (share.3.fine fine))
 
 exports_by : {W : Type 0} (contents : W → Option (List ℕ)) (a w : Sink W) (text : List ℕ) (done : Result (Unit {0}) KeepError) (failed starved : Bool)
     → has_ended a ≡ false → write_failed w.writer ≡ failed → w.is_starved ≡ starved → PutsRowsShare contents a text (call_end done) w → Exports contents a (Some text) (ending_by done failed starved) w
@@ -104,4 +104,4 @@ book_exported contents a b c w (Some book) head done answer fine is at first sec
     subst (λ (r : Result (Unit {0}) ViewFault). Exports contents a (Some (csv_of (rows_of_book book))) r w) (sym is)
     (exports_by contents a w (csv_of (rows_of_book book)) done (write_failed w.writer) w.is_starved fine refl refl
     (subst (λ (t : List ℕ). PutsRowsShare contents a t (call_end done) w) (book_is book)
-    (share_then (share_puts first) (share_then (share_puts count) (share book refl same)))))
+    (share_then rows_in_turn (share_puts rows_in_turn first) (share_then rows_in_turn (share_puts rows_in_turn count) (share book refl same)))))

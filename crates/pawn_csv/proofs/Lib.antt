@@ -15,3 +15,4 @@ pub mod ListLemmas
 pub mod RecordLemmas
 pub mod CountLemmas
 pub mod ExportLemmas
+pub mod PadLemmas

@@ -4,9 +4,7 @@ use Rattle.std.specs.Prelude.{if◌then◌else◌}
 use Rattle.std.specs.List.{flat_map}
 use Rattle.std.specs.FinMap.{get}
 use Rattle.std.proofs.lemmas.List.{append-nil}
-use Rattle.pawn_debt.specs.Limits.{most_entries}
 use Rattle.pawn_debt.specs.declared.entry.Entry.{Entry}
-use Rattle.pawn_pledge.specs.Limits.{most_secrets, most_extensions}
 use Rattle.pawn_pledge.specs.Pledge.{PledgeValue}
 use Rattle.pawn_pledge.specs.declared.record.Extension.{Extension}
 use Rattle.pawn_pledge.specs.declared.record.Issued.{Issued}
@@ -79,56 +77,39 @@ lines_share contents line v w given items flow end few handed (left, whole, all)
 
 -- ---- the lists of a pledge
 
-secret_lines : (number place : ℕ) (is : List Issued) → lines_from secret_line number place is ≡ flat_map text_of_row (secret_rows number place is)
+pub secret_lines : (number place : ℕ) (is : List Issued) → lines_from secret_line number place is ≡ flat_map text_of_row (secret_rows number place is)
 secret_lines number place [] = refl
 secret_lines number place (i ∷ is) = ap (λ (t : List ℕ). secret_line number place i ++ t) (secret_lines number (place + 1) is)
 
-entry_lines : (number place : ℕ) (es : List Entry) → lines_from entry_row_text number place es ≡ flat_map text_of_row (entry_rows number es)
+pub entry_lines : (number place : ℕ) (es : List Entry) → lines_from entry_row_text number place es ≡ flat_map text_of_row (entry_rows number es)
 entry_lines number place [] = refl
 entry_lines number place (e ∷ es) = ap (λ (t : List ℕ). entry_row_text number place e ++ t) (entry_lines number (place + 1) es)
 
-extension_lines : (number place : ℕ) (es : List Extension) → lines_from extension_line number place es ≡ flat_map text_of_row (extension_rows number place es)
+pub extension_lines : (number place : ℕ) (es : List Extension) → lines_from extension_line number place es ≡ flat_map text_of_row (extension_rows number place es)
 extension_lines number place [] = refl
 extension_lines number place (e ∷ es) = ap (λ (t : List ℕ). extension_line number place e ++ t) (extension_lines number (place + 1) es)
 
--- few enough that each has a place
-few_of : {T : Type 0} (list : Option PledgeValue → List T) (h : Host) (book number limit : ℕ) → length (list None) ≤ limit
-    → ((p : PledgeValue) → pledge_in (get h.books book) number ≡ Some p → length (list (Some p)) ≤ limit) → length (list (pledge_in (get h.books book) number)) ≤ limit
-few_of list h book number limit none some = from (pledge_in (get h.books book) number) refl
+-- how many of each there are, few enough that each has a place
+pub record AreFew (o : Option PledgeValue) : Type 0 where
+  pub secrets : length (secrets_of o) ≤ 2 ^ 64 - 2
+  pub entries : length (entries_of o) ≤ 2 ^ 64 - 2
+  pub extensions : length (extensions_of o) ≤ 2 ^ 64 - 2
+
+pub few_of : (h : Host) (book number : ℕ) → IsSound h → AreFew (pledge_in (get h.books book) number)
+few_of h book number sound = from (pledge_in (get h.books book) number) refl
   where
-    from : (o : Option PledgeValue) → pledge_in (get h.books book) number ≡ o → length (list o) ≤ limit
-    from None e = none
-    from (Some p) e = some p e
+    from : (o : Option PledgeValue) → pledge_in (get h.books book) number ≡ o → AreFew o
+    from None at = record { secrets = omega arith; entries = omega arith; extensions = omega arith }
+    from (Some p) at =
+        let within = (standing_at h book number p sound at).0.within in
+        record { secrets = omega (arith, within.secrets); entries = omega (arith, within.entries); extensions = omega (arith, within.extensions) }
 
-pub secrets_share : {W : Type 0} (contents : W → Option (List ℕ)) (h : Host) (book number : ℕ) (v w : RowWriter W) (given : List Issued) (flow : Flow) (end : End)
-    → IsSound h → v.number ≡ number → v.place ≡ 1 → Handed (PutsAt contents secret_line) v given flow w → IsShare given flow end (secrets_of (pledge_in (get h.books book) number))
-    → PutsRowsShare contents v.sink (flat_map text_of_row (secret_rows number 1 (secrets_of (pledge_in (get h.books book) number)))) end w.sink
-secrets_share contents h book number v w given flow end sound number_is place_is handed share =
-    let items = secrets_of (pledge_in (get h.books book) number) in
-    let few : length items ≤ most_secrets = few_of secrets_of h book number most_secrets (omega arith) (λ p at. (standing_at h book number p sound at).0.within.secrets) in
+-- what was put of the rows of a list that was handed out from its first place on
+pub list_share : {W T : Type 0} (contents : W → Option (List ℕ)) (line : ℕ → ℕ → T → List ℕ) (number : ℕ) (items : List T) (text : List ℕ) (v w : RowWriter W) (given : List T) (flow : Flow) (end : End)
+    → length items ≤ 2 ^ 64 - 2 → lines_from line number 1 items ≡ text → v.number ≡ number → v.place ≡ 1 → Handed (PutsAt contents line) v given flow w → IsShare given flow end items
+    → PutsRowsShare contents v.sink text end w.sink
+list_share contents line number items text v w given flow end few is number_is place_is handed share =
     let room : v.place + length items ≤ 2 ^ 64 - 1 = omega (arith, few, place_is) in
     subst (λ (t : List ℕ). PutsRowsShare contents v.sink t end w.sink)
-    (ap (λ (n : ℕ). lines_from secret_line n v.place items) number_is ∙ ap (λ (k : ℕ). lines_from secret_line number k items) place_is ∙ secret_lines number 1 items)
-    (lines_share contents secret_line v w given items flow end room handed share)
-
-pub entries_share : {W : Type 0} (contents : W → Option (List ℕ)) (h : Host) (book number : ℕ) (v w : RowWriter W) (given : List Entry) (flow : Flow) (end : End)
-    → IsSound h → v.number ≡ number → v.place ≡ 1 → Handed (PutsAt contents entry_row_text) v given flow w → IsShare given flow end (entries_of (pledge_in (get h.books book) number))
-    → PutsRowsShare contents v.sink (flat_map text_of_row (entry_rows number (entries_of (pledge_in (get h.books book) number)))) end w.sink
-entries_share contents h book number v w given flow end sound number_is place_is handed share =
-    let items = entries_of (pledge_in (get h.books book) number) in
-    let few : length items ≤ most_entries = few_of entries_of h book number most_entries (omega arith) (λ p at. (standing_at h book number p sound at).0.within.entries) in
-    let room : v.place + length items ≤ 2 ^ 64 - 1 = omega (arith, few, place_is) in
-    subst (λ (t : List ℕ). PutsRowsShare contents v.sink t end w.sink)
-    (ap (λ (n : ℕ). lines_from entry_row_text n v.place items) number_is ∙ ap (λ (k : ℕ). lines_from entry_row_text number k items) place_is ∙ entry_lines number 1 items)
-    (lines_share contents entry_row_text v w given items flow end room handed share)
-
-pub extensions_share : {W : Type 0} (contents : W → Option (List ℕ)) (h : Host) (book number : ℕ) (v w : RowWriter W) (given : List Extension) (flow : Flow) (end : End)
-    → IsSound h → v.number ≡ number → v.place ≡ 1 → Handed (PutsAt contents extension_line) v given flow w → IsShare given flow end (extensions_of (pledge_in (get h.books book) number))
-    → PutsRowsShare contents v.sink (flat_map text_of_row (extension_rows number 1 (extensions_of (pledge_in (get h.books book) number)))) end w.sink
-extensions_share contents h book number v w given flow end sound number_is place_is handed share =
-    let items = extensions_of (pledge_in (get h.books book) number) in
-    let few : length items ≤ most_extensions = few_of extensions_of h book number most_extensions (omega arith) (λ p at. (standing_at h book number p sound at).0.within.extensions) in
-    let room : v.place + length items ≤ 2 ^ 64 - 1 = omega (arith, few, place_is) in
-    subst (λ (t : List ℕ). PutsRowsShare contents v.sink t end w.sink)
-    (ap (λ (n : ℕ). lines_from extension_line n v.place items) number_is ∙ ap (λ (k : ℕ). lines_from extension_line number k items) place_is ∙ extension_lines number 1 items)
-    (lines_share contents extension_line v w given items flow end room handed share)
+    (ap (λ (n : ℕ). lines_from line n v.place items) number_is ∙ ap (λ (k : ℕ). lines_from line number k items) place_is ∙ is)
+    (lines_share contents line v w given items flow end room handed share)

@@ -75,12 +75,7 @@ taken_same (h ∷ rs) rows others s t a b =
 -- the columns of a row are fifteen
 fifteen : (r : Row) → length (row_fields r) ≡ length header
 fifteen (Row.Book version terms pledges) = refl
-fifteen (Row.Terms version rates) = refl
-fifteen (Row.Pledge columns) = refl
-fifteen (Row.Secret number place issued) = refl
-fifteen (Row.Entry number entry) = refl
-fifteen (Row.Extension number place extension) = refl
-fifteen (Row.Booking number booking) = refl
+fifteen r = refl
 
 same_answer : (o : Result Begun Cause) (c d : Cause) → o ≡ Err c → o ≡ Err d → c ≡ d
 same_answer o c d a b = let e = sym a ∙ b in cc
@@ -191,14 +186,10 @@ one_taking false x s c d hc hd a b = one_verdict x s c d (verdict_of x s c hc a)
 
 -- why the end is refused: rows are wanting, or they make no book
 end_of : (s : Option Begun) (e : Cause) → e ≢ cause.Memory → RefusesEnd s e → ((e ≡ cause.Order) × (is_whole s ≡ false)) ⊎ ((e ≡ cause.NotReplayable) × IsOfNoBook s)
-end_of s cause.Csv other says = absurd says
-end_of s cause.Columns other says = absurd says
-end_of s cause.BadField other says = absurd says
 end_of s cause.Order other says = inl (refl, says)
 end_of s cause.NotReplayable other says = inr (refl, says)
-end_of s cause.TooMany other says = absurd says
-end_of s cause.Read other says = absurd says
 end_of s cause.Memory other says = absurd (other refl)
+end_of s e other says = absurd says
 
 whole_or_not : (v : Bool) → v ≡ false → v ≡ true → ⊥
 whole_or_not v a b = let e = sym a ∙ b in cc

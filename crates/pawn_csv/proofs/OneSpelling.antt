@@ -68,67 +68,42 @@ number_if_any (Some n) (Some m) ha hb e = ap (λ (d : ℕ). Some d) (number n m 
 
 version_word : (a b : Version) → form_text a ≡ form_text b → a ≡ b
 version_word version.One version.One e = refl
-version_word version.One version.Two e = absurd (omega (arith, letter 0 (form_text version.One) (form_text version.Two) e))
-version_word version.Two version.One e = absurd (omega (arith, letter 0 (form_text version.Two) (form_text version.One) e))
 version_word version.Two version.Two e = refl
+version_word a b e = absurd (omega (arith, letter 0 (form_text a) (form_text b) e))
 
 yes_word : (a b : Bool) → yes_text a ≡ yes_text b → a ≡ b
 yes_word true true e = refl
-yes_word true false e = absurd (omega (arith, letter 0 (yes_text true) (yes_text false) e))
-yes_word false true e = absurd (omega (arith, letter 0 (yes_text false) (yes_text true) e))
 yes_word false false e = refl
+yes_word a b e = absurd (omega (arith, letter 0 (yes_text a) (yes_text b) e))
 
 closing_word : (a b : ClosingWord) → closing_text a ≡ closing_text b → a ≡ b
 closing_word closing.Open closing.Open e = refl
-closing_word closing.Open closing.Redeemed e = absurd (omega (arith, letter 0 (closing_text closing.Open) (closing_text closing.Redeemed) e))
-closing_word closing.Open closing.Sold e = absurd (omega (arith, letter 0 (closing_text closing.Open) (closing_text closing.Sold) e))
-closing_word closing.Redeemed closing.Open e = absurd (omega (arith, letter 0 (closing_text closing.Redeemed) (closing_text closing.Open) e))
 closing_word closing.Redeemed closing.Redeemed e = refl
-closing_word closing.Redeemed closing.Sold e = absurd (omega (arith, letter 0 (closing_text closing.Redeemed) (closing_text closing.Sold) e))
-closing_word closing.Sold closing.Open e = absurd (omega (arith, letter 0 (closing_text closing.Sold) (closing_text closing.Open) e))
-closing_word closing.Sold closing.Redeemed e = absurd (omega (arith, letter 0 (closing_text closing.Sold) (closing_text closing.Redeemed) e))
 closing_word closing.Sold closing.Sold e = refl
+closing_word a b e = absurd (omega (arith, letter 0 (closing_text a) (closing_text b) e))
 
 issue_word : (a b : Issue) → issue_text a ≡ issue_text b → a ≡ b
 issue_word issue.Opening issue.Opening e = refl
-issue_word issue.Opening issue.Sworn e = absurd (omega (arith, letter 0 (issue_text issue.Opening) (issue_text issue.Sworn) e))
-issue_word issue.Opening issue.Written e = absurd (omega (arith, letter 0 (issue_text issue.Opening) (issue_text issue.Written) e))
-issue_word issue.Sworn issue.Opening e = absurd (omega (arith, letter 0 (issue_text issue.Sworn) (issue_text issue.Opening) e))
 issue_word issue.Sworn issue.Sworn e = refl
-issue_word issue.Sworn issue.Written e = absurd (omega (arith, letter 0 (issue_text issue.Sworn) (issue_text issue.Written) e))
-issue_word issue.Written issue.Opening e = absurd (omega (arith, letter 0 (issue_text issue.Written) (issue_text issue.Opening) e))
-issue_word issue.Written issue.Sworn e = absurd (omega (arith, letter 0 (issue_text issue.Written) (issue_text issue.Sworn) e))
 issue_word issue.Written issue.Written e = refl
+issue_word a b e = absurd (omega (arith, letter 0 (issue_text a) (issue_text b) e))
 
 sort_word : (a b : Sort) → sort_text a ≡ sort_text b → a ≡ b
 sort_word Draw Draw e = refl
-sort_word Draw Repay e = absurd (omega (arith, letter 0 (sort_text Draw) (sort_text Repay) e))
-sort_word Repay Draw e = absurd (omega (arith, letter 0 (sort_text Repay) (sort_text Draw) e))
 sort_word Repay Repay e = refl
+sort_word a b e = absurd (omega (arith, letter 0 (sort_text a) (sort_text b) e))
 
 state_word : (a b : BookingState) → state_text a ≡ state_text b → a ≡ b
 state_word state.Asked state.Asked e = refl
-state_word state.Asked state.Confirmed e = absurd (omega (arith, letter 0 (state_text state.Asked) (state_text state.Confirmed) e))
-state_word state.Asked state.Refused e = absurd (omega (arith, letter 0 (state_text state.Asked) (state_text state.Refused) e))
-state_word state.Asked state.Cancelled e = absurd (omega (arith, letter 0 (state_text state.Asked) (state_text state.Cancelled) e))
-state_word state.Confirmed state.Asked e = absurd (omega (arith, letter 0 (state_text state.Confirmed) (state_text state.Asked) e))
 state_word state.Confirmed state.Confirmed e = refl
-state_word state.Confirmed state.Refused e = absurd (omega (arith, letter 0 (state_text state.Confirmed) (state_text state.Refused) e))
-state_word state.Confirmed state.Cancelled e = absurd (omega (arith, letter 1 (state_text state.Confirmed) (state_text state.Cancelled) e))
-state_word state.Refused state.Asked e = absurd (omega (arith, letter 0 (state_text state.Refused) (state_text state.Asked) e))
-state_word state.Refused state.Confirmed e = absurd (omega (arith, letter 0 (state_text state.Refused) (state_text state.Confirmed) e))
 state_word state.Refused state.Refused e = refl
-state_word state.Refused state.Cancelled e = absurd (omega (arith, letter 0 (state_text state.Refused) (state_text state.Cancelled) e))
-state_word state.Cancelled state.Asked e = absurd (omega (arith, letter 0 (state_text state.Cancelled) (state_text state.Asked) e))
-state_word state.Cancelled state.Confirmed e = absurd (omega (arith, letter 1 (state_text state.Cancelled) (state_text state.Confirmed) e))
-state_word state.Cancelled state.Refused e = absurd (omega (arith, letter 0 (state_text state.Cancelled) (state_text state.Refused) e))
 state_word state.Cancelled state.Cancelled e = refl
+state_word a b e = absurd (omega (arith, letter 1 (state_text a) (state_text b) e))
 
 kind : (a b : Kind) → kind_text a ≡ kind_text b → credit_of a ≡ credit_of b → a ≡ b
 kind (Fixed n) (Fixed m) e credit = ap Fixed credit
-kind (Fixed n) (Running m) e credit = absurd (omega (arith, letter 0 (kind_text (Fixed n)) (kind_text (Running m)) e))
-kind (Running n) (Fixed m) e credit = absurd (omega (arith, letter 0 (kind_text (Running n)) (kind_text (Fixed m)) e))
 kind (Running n) (Running m) e credit = ap Running credit
+kind a b e credit = absurd (omega (arith, letter 0 (kind_text a) (kind_text b) e))
 
 -- rows of each kind
 
@@ -176,73 +151,32 @@ one_row (Row.Book v t p) (Row.Book v2 t2 p2) hr hs same =
     let col = λ (place : ℕ). column place (row_fields (Row.Book v t p)) (row_fields (Row.Book v2 t2 p2)) same in
     let e = version_word v v2 (col 1) in let f = number t t2 hr.0 hs.0 (col 2) in let g = number p p2 hr.1 hs.1 (col 3) in
     rw (e, f, g) refl
-one_row (Row.Book v t p) (Row.Terms v2 rates2) hr hs same = absurd (omega (arith, first_letter (Row.Book v t p) (Row.Terms v2 rates2) same))
-one_row (Row.Book v t p) (Row.Pledge c2) hr hs same = absurd (omega (arith, first_letter (Row.Book v t p) (Row.Pledge c2) same))
-one_row (Row.Book v t p) (Row.Secret n2 at2 i2) hr hs same = absurd (omega (arith, first_letter (Row.Book v t p) (Row.Secret n2 at2 i2) same))
-one_row (Row.Book v t p) (Row.Entry n2 entry2) hr hs same = absurd (omega (arith, first_letter (Row.Book v t p) (Row.Entry n2 entry2) same))
-one_row (Row.Book v t p) (Row.Extension n2 at2 x2) hr hs same = absurd (omega (arith, first_letter (Row.Book v t p) (Row.Extension n2 at2 x2) same))
-one_row (Row.Book v t p) (Row.Booking n2 b2) hr hs same = absurd (omega (arith, first_letter (Row.Book v t p) (Row.Booking n2 b2) same))
-one_row (Row.Terms v rates) (Row.Book v2 t2 p2) hr hs same = absurd (omega (arith, first_letter (Row.Terms v rates) (Row.Book v2 t2 p2) same))
 one_row (Row.Terms v rates) (Row.Terms v2 rates2) hr hs same =
     let col = λ (place : ℕ). column place (row_fields (Row.Terms v rates)) (row_fields (Row.Terms v2 rates2)) same in
     let e = number v v2 hr.0 hs.0 (col 1) in
     let f = same_rates rates rates2 (number rates.rate rates2.rate hr.1 hs.1 (col 2)) (number rates.keep_before rates2.keep_before hr.2 hs.2 (col 3))
     (number rates.keep_after rates2.keep_after hr.3 hs.3 (col 4)) in
     rw (e, f) refl
-one_row (Row.Terms v rates) (Row.Pledge c2) hr hs same = absurd (omega (arith, first_letter (Row.Terms v rates) (Row.Pledge c2) same))
-one_row (Row.Terms v rates) (Row.Secret n2 at2 i2) hr hs same = absurd (omega (arith, first_letter (Row.Terms v rates) (Row.Secret n2 at2 i2) same))
-one_row (Row.Terms v rates) (Row.Entry n2 entry2) hr hs same = absurd (omega (arith, first_letter (Row.Terms v rates) (Row.Entry n2 entry2) same))
-one_row (Row.Terms v rates) (Row.Extension n2 at2 x2) hr hs same = absurd (omega (arith, first_letter (Row.Terms v rates) (Row.Extension n2 at2 x2) same))
-one_row (Row.Terms v rates) (Row.Booking n2 b2) hr hs same = absurd (omega (arith, first_letter (Row.Terms v rates) (Row.Booking n2 b2) same))
-one_row (Row.Pledge c) (Row.Book v2 t2 p2) hr hs same = absurd (omega (arith, first_letter (Row.Pledge c) (Row.Book v2 t2 p2) same))
-one_row (Row.Pledge c) (Row.Terms v2 rates2) hr hs same = absurd (omega (arith, first_letter (Row.Pledge c) (Row.Terms v2 rates2) same))
 one_row (Row.Pledge c) (Row.Pledge c2) hr hs same = ap Row.Pledge (one_pledge c c2 hr hs same)
-one_row (Row.Pledge c) (Row.Secret n2 at2 i2) hr hs same = absurd (omega (arith, first_letter (Row.Pledge c) (Row.Secret n2 at2 i2) same))
-one_row (Row.Pledge c) (Row.Entry n2 entry2) hr hs same = absurd (omega (arith, first_letter (Row.Pledge c) (Row.Entry n2 entry2) same))
-one_row (Row.Pledge c) (Row.Extension n2 at2 x2) hr hs same = absurd (omega (arith, first_letter (Row.Pledge c) (Row.Extension n2 at2 x2) same))
-one_row (Row.Pledge c) (Row.Booking n2 b2) hr hs same = absurd (omega (arith, first_letter (Row.Pledge c) (Row.Booking n2 b2) same))
-one_row (Row.Secret n at i) (Row.Book v2 t2 p2) hr hs same = absurd (omega (arith, first_letter (Row.Secret n at i) (Row.Book v2 t2 p2) same))
-one_row (Row.Secret n at i) (Row.Terms v2 rates2) hr hs same = absurd (omega (arith, first_letter (Row.Secret n at i) (Row.Terms v2 rates2) same))
-one_row (Row.Secret n at i) (Row.Pledge c2) hr hs same = absurd (omega (arith, first_letter (Row.Secret n at i) (Row.Pledge c2) same))
 one_row (Row.Secret n at i) (Row.Secret n2 at2 i2) hr hs same =
     let col = λ (place : ℕ). column place (row_fields (Row.Secret n at i)) (row_fields (Row.Secret n2 at2 i2)) same in
     let e = number n n2 hr.0 hs.0 (col 1) in let f = number at at2 hr.1 hs.1 (col 2) in
     let g = same_issued i i2 (day i.day i2.day hr.2 hs.2 (col 3)) (issue_word i.sort i2.sort (col 4)) (secret i.secret i2.secret hr.3 hs.3 (col 5)) in
     rw (e, f, g) refl
-one_row (Row.Secret n at i) (Row.Entry n2 entry2) hr hs same = absurd (omega (arith, first_letter (Row.Secret n at i) (Row.Entry n2 entry2) same))
-one_row (Row.Secret n at i) (Row.Extension n2 at2 x2) hr hs same = absurd (omega (arith, first_letter (Row.Secret n at i) (Row.Extension n2 at2 x2) same))
-one_row (Row.Secret n at i) (Row.Booking n2 b2) hr hs same = absurd (omega (arith, first_letter (Row.Secret n at i) (Row.Booking n2 b2) same))
-one_row (Row.Entry n entry) (Row.Book v2 t2 p2) hr hs same = absurd (omega (arith, first_letter (Row.Entry n entry) (Row.Book v2 t2 p2) same))
-one_row (Row.Entry n entry) (Row.Terms v2 rates2) hr hs same = absurd (omega (arith, first_letter (Row.Entry n entry) (Row.Terms v2 rates2) same))
-one_row (Row.Entry n entry) (Row.Pledge c2) hr hs same = absurd (omega (arith, first_letter (Row.Entry n entry) (Row.Pledge c2) same))
-one_row (Row.Entry n entry) (Row.Secret n2 at2 i2) hr hs same = absurd (omega (arith, first_letter (Row.Entry n entry) (Row.Secret n2 at2 i2) same))
 one_row (Row.Entry n entry) (Row.Entry n2 entry2) hr hs same =
     let col = λ (place : ℕ). column place (row_fields (Row.Entry n entry)) (row_fields (Row.Entry n2 entry2)) same in
     let e = number n n2 hr.0 hs.0 (col 1) in
     let f = same_entry entry entry2 (number entry.seq entry2.seq hr.1 hs.1 (col 2)) (day entry.day entry2.day hr.2 hs.2 (col 3))
     (sort_word entry.sort entry2.sort (col 4)) (number entry.pence entry2.pence hr.3 hs.3 (col 5)) in
     rw (e, f) refl
-one_row (Row.Entry n entry) (Row.Extension n2 at2 x2) hr hs same = absurd (omega (arith, first_letter (Row.Entry n entry) (Row.Extension n2 at2 x2) same))
-one_row (Row.Entry n entry) (Row.Booking n2 b2) hr hs same = absurd (omega (arith, first_letter (Row.Entry n entry) (Row.Booking n2 b2) same))
-one_row (Row.Extension n at x) (Row.Book v2 t2 p2) hr hs same = absurd (omega (arith, first_letter (Row.Extension n at x) (Row.Book v2 t2 p2) same))
-one_row (Row.Extension n at x) (Row.Terms v2 rates2) hr hs same = absurd (omega (arith, first_letter (Row.Extension n at x) (Row.Terms v2 rates2) same))
-one_row (Row.Extension n at x) (Row.Pledge c2) hr hs same = absurd (omega (arith, first_letter (Row.Extension n at x) (Row.Pledge c2) same))
-one_row (Row.Extension n at x) (Row.Secret n2 at2 i2) hr hs same = absurd (omega (arith, first_letter (Row.Extension n at x) (Row.Secret n2 at2 i2) same))
-one_row (Row.Extension n at x) (Row.Entry n2 entry2) hr hs same = absurd (omega (arith, first_letter (Row.Extension n at x) (Row.Entry n2 entry2) same))
 one_row (Row.Extension n at x) (Row.Extension n2 at2 x2) hr hs same =
     let col = λ (place : ℕ). column place (row_fields (Row.Extension n at x)) (row_fields (Row.Extension n2 at2 x2)) same in
     let e = number n n2 hr.0 hs.0 (col 1) in let f = number at at2 hr.1 hs.1 (col 2) in
     let g = same_extension x x2 (day x.day x2.day hr.2 hs.2 (col 3)) (day x.until x2.until hr.3 hs.3 (col 4)) in
     rw (e, f, g) refl
-one_row (Row.Extension n at x) (Row.Booking n2 b2) hr hs same = absurd (omega (arith, first_letter (Row.Extension n at x) (Row.Booking n2 b2) same))
-one_row (Row.Booking n b) (Row.Book v2 t2 p2) hr hs same = absurd (omega (arith, first_letter (Row.Booking n b) (Row.Book v2 t2 p2) same))
-one_row (Row.Booking n b) (Row.Terms v2 rates2) hr hs same = absurd (omega (arith, first_letter (Row.Booking n b) (Row.Terms v2 rates2) same))
-one_row (Row.Booking n b) (Row.Pledge c2) hr hs same = absurd (omega (arith, first_letter (Row.Booking n b) (Row.Pledge c2) same))
-one_row (Row.Booking n b) (Row.Secret n2 at2 i2) hr hs same = absurd (omega (arith, first_letter (Row.Booking n b) (Row.Secret n2 at2 i2) same))
-one_row (Row.Booking n b) (Row.Entry n2 entry2) hr hs same = absurd (omega (arith, first_letter (Row.Booking n b) (Row.Entry n2 entry2) same))
-one_row (Row.Booking n b) (Row.Extension n2 at2 x2) hr hs same = absurd (omega (arith, first_letter (Row.Booking n b) (Row.Extension n2 at2 x2) same))
 one_row (Row.Booking n b) (Row.Booking n2 b2) hr hs same =
     let col = λ (place : ℕ). column place (row_fields (Row.Booking n b)) (row_fields (Row.Booking n2 b2)) same in
     let e = number n n2 hr.0 hs.0 (col 1) in
     let f = same_booking b b2 (day b.day b2.day hr.1 hs.1 (col 2)) (number b.window b2.window hr.2 hs.2 (col 3)) (state_word b.state b2.state (col 4)) in
     rw (e, f) refl
+one_row r s hr hs same = absurd (omega (arith, first_letter r s same))

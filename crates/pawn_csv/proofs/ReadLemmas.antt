@@ -85,12 +85,7 @@ where_told (Some x) P h = h x refl
 pub first_is : (text : List ℕ) (c : Cause) (row : ℕ) → IsFirstCause text c row → IsFaultOf text c row
 first_is text cause.Memory row h = h.at
 first_is text cause.Read row h = h.at
-first_is text cause.Csv row h = h
-first_is text cause.Columns row h = h
-first_is text cause.BadField row h = h
-first_is text cause.TooMany row h = h
-first_is text cause.Order row h = h
-first_is text cause.NotReplayable row h = h
+first_is text c row h = h
 
 -- the records so far were taken before the next row
 abbrev pub so_far_before : {R : Type 0} (rem : R → Option (List ℕ)) (text : List ℕ) (a : Reader R) (i : ℕ) (raw : Option Begun) → SoFar rem text a i raw → AreTakenBefore text (i + 1)
@@ -131,14 +126,8 @@ refused_as false f raw new other c h = h
 
 end_refused : (records : List (List (List ℕ))) (raw : Option Begun) (c : Cause) → length records ≢ 0 → (let r : Result BookRows Cause = Err c in Ends raw r) → EndsReadingAs records raw c
 end_refused [] raw c some h = absurd (some refl)
-end_refused (h ∷ rs) raw cause.Order some is = is
-end_refused (h ∷ rs) raw cause.NotReplayable some is = is
 end_refused (h ∷ rs) raw cause.Memory some is = tt
-end_refused (h ∷ rs) raw cause.Csv some is = is
-end_refused (h ∷ rs) raw cause.Columns some is = is
-end_refused (h ∷ rs) raw cause.BadField some is = is
-end_refused (h ∷ rs) raw cause.TooMany some is = is
-end_refused (h ∷ rs) raw cause.Read some is = is
+end_refused (h ∷ rs) raw c some is = is
 
 end_empty : (records : List (List (List ℕ))) (raw : Option Begun) → length records ≡ 0 → EndsReadingAs records raw cause.Columns
 end_empty [] raw none = refl
@@ -167,29 +156,14 @@ so_far_unfinished rem text a b i f raw c config so read some refused =
 pub so_far_empty : {R : Type 0} (rem : R → Option (List ℕ)) (text : List ℕ) (a b : Reader R) (i : ℕ) (f : List (List ℕ)) (raw : Option Begun)
     → a.config ≡ default_config → SoFar rem text a i raw → ReadRecord rem a b false f → i ≡ 0 → IsFaultOf text cause.Columns 1
 so_far_empty rem text a b i f raw config so read none =
-    record {
-      at = record {
-        before = so.records;
-        rows = so.rows;
-        state = a.state;
-        rest = so.y;
-        begun = raw;
-        reached = so.reached;
-        taken = so.taken;
-        place = ap (λ n. n + 1) (so.count ∙ none);
-      };
+    subst (λ (n : ℕ). IsFirstCause text cause.Columns (n + 1)) none (record {
+      at = so_far_before rem text a i raw so;
       why = inr (rows-end rem a b f default_config so.y config so.source read, end_empty so.records raw (so.count ∙ none));
-    }
+    })
 
 refused_for : (fs : List (List ℕ)) (s : Option Begun) (r : Row) (c : Cause) → IsSpelled fs r → Fails (place s r) c → RefusesRow fs s c
 refused_for fs s r cause.Memory spelled h = inl refl
-refused_for fs s r cause.Csv spelled h = inr (inr (inr (r, spelled, h)))
-refused_for fs s r cause.Columns spelled h = inr (inr (inr (r, spelled, h)))
-refused_for fs s r cause.BadField spelled h = inr (inr (inr (r, spelled, h)))
-refused_for fs s r cause.Order spelled h = inr (inr (inr (r, spelled, h)))
-refused_for fs s r cause.NotReplayable spelled h = inr (inr (inr (r, spelled, h)))
-refused_for fs s r cause.TooMany spelled h = inr (inr (inr (r, spelled, h)))
-refused_for fs s r cause.Read spelled h = inr (inr (inr (r, spelled, h)))
+refused_for fs s r c spelled h = inr (inr (inr (r, spelled, h)))
 
 -- a row that is placed, or refused there
 pub placed_is : {U : Type 0} (first : Bool) (fs : List (List ℕ)) (s new : Option Begun) (r : Row) (res : Result U Cause) → first ≡ false → IsSpelled fs r → AnswersBegun (place s r) res new → Taking first fs s res new

@@ -17,7 +17,8 @@ use Rattle.pawn_csv.specs.Rows.{booking_csv_rows, pledge_columns, entry_rows, ex
 use Rattle.pawn_csv.specs.Sent.{PutsRow, PutsRowsShare, brief_columns, text_of_row}
 use Rattle.pawn_csv.specs.declared.row.Row.{Row}
 use Rattle.pawn_csv.specs.declared.writing.Sink.{Sink}
-use Rattle.pawn_csv.proofs.SentLemmas.{share_more, share_puts, share_then}
+use Rattle.pawn_view.proofs.ShareLemmas.{share_more, share_puts, share_then}
+use Rattle.pawn_csv.proofs.SentLemmas.{rows_in_turn}
 
 -- what two reads tell
 pub reads_both : {K : Type 0} {k : Keeping K} {a b c : K} {P Q : Host → Type 0} → Reads k a b P → Reads k b c Q → Reads k a c (λ h. P h × Q h)
@@ -72,7 +73,7 @@ whole_record {contents = contents} {a = a} {b = b} {end = end} o number p brief 
 own_put : {W : Type 0} {contents : W → Option (List ℕ)} {a b : Sink W} (o : Option PledgeValue) (number : ℕ) (p : PledgeValue) (brief : BriefFields) → IsBriefAt o number p brief
     → PutsRow contents a (text_of_row (Row.Pledge (brief_columns brief))) b → PutsRowsShare contents a (own_text p) Whole b
 own_put {contents = contents} {a = a} {b = b} o number p brief known puts =
-    share_puts (subst (λ (x : BriefFields). PutsRow contents a (text_of_row (Row.Pledge (brief_columns x))) b) known.is puts)
+    share_puts rows_in_turn (subst (λ (x : BriefFields). PutsRow contents a (text_of_row (Row.Pledge (brief_columns x))) b) known.is puts)
 
 list_put : {W : Type 0} {contents : W → Option (List ℕ)} {a b : Sink W} {end : End} (text : Option PledgeValue → List ℕ) (o : Option PledgeValue) (number : ℕ) (p : PledgeValue) (brief : BriefFields) → IsBriefAt o number p brief
     → PutsRowsShare contents a (text o) end b → PutsRowsShare contents a (text (Some p)) end b
@@ -82,36 +83,36 @@ list_put {contents = contents} {a = a} {b = b} {end = end} text o number p brief
 booking_put : {W : Type 0} {contents : W → Option (List ℕ)} {a b : Sink W} (o : Option PledgeValue) (number : ℕ) (p : PledgeValue) (brief : BriefFields) → IsBriefAt o number p brief
     → PutsRow contents a (booking_text number brief) b → PutsRowsShare contents a (booking_text number (brief_of p)) Whole b
 booking_put {contents = contents} {a = a} {b = b} o number p brief known puts =
-    share_puts (subst (λ (x : BriefFields). PutsRow contents a (booking_text number x) b) known.is puts)
+    share_puts rows_in_turn (subst (λ (x : BriefFields). PutsRow contents a (booking_text number x) b) known.is puts)
 
 -- a record that was cut among its secrets
 pub cut_secrets : {W : Type 0} {contents : W → Option (List ℕ)} {a b c : Sink W} (o : Option PledgeValue) (number : ℕ) (p : PledgeValue) (brief : BriefFields) → IsBriefAt o number p brief
     → PutsRow contents a (text_of_row (Row.Pledge (brief_columns brief))) b → PutsRowsShare contents b (secrets_text number o) Front c
     → PutsRowsShare contents a (flat_map text_of_row (pledge_csv_rows p)) Front c
 cut_secrets o number p brief known own secrets =
-    whole_record o number p brief known (share_then (own_put o number p brief known own) (share_more _ (list_put (secrets_text number) o number p brief known secrets)))
+    whole_record o number p brief known (share_then rows_in_turn (own_put o number p brief known own) (share_more rows_in_turn _ (list_put (secrets_text number) o number p brief known secrets)))
 
 -- .. among its entries
 pub cut_entries : {W : Type 0} {contents : W → Option (List ℕ)} {a b c d : Sink W} (o : Option PledgeValue) (number : ℕ) (p : PledgeValue) (brief : BriefFields) → IsBriefAt o number p brief
     → PutsRow contents a (text_of_row (Row.Pledge (brief_columns brief))) b → PutsRowsShare contents b (secrets_text number o) Whole c → PutsRowsShare contents c (entries_text number o) Front d
     → PutsRowsShare contents a (flat_map text_of_row (pledge_csv_rows p)) Front d
 cut_entries o number p brief known own secrets entries =
-    whole_record o number p brief known (share_then (own_put o number p brief known own) (share_then (list_put (secrets_text number) o number p brief known secrets)
-    (share_more _ (list_put (entries_text number) o number p brief known entries))))
+    whole_record o number p brief known (share_then rows_in_turn (own_put o number p brief known own) (share_then rows_in_turn (list_put (secrets_text number) o number p brief known secrets)
+    (share_more rows_in_turn _ (list_put (entries_text number) o number p brief known entries))))
 
 -- .. among its extensions
 pub cut_extensions : {W : Type 0} {contents : W → Option (List ℕ)} {a b c d e : Sink W} (o : Option PledgeValue) (number : ℕ) (p : PledgeValue) (brief : BriefFields) → IsBriefAt o number p brief
     → PutsRow contents a (text_of_row (Row.Pledge (brief_columns brief))) b → PutsRowsShare contents b (secrets_text number o) Whole c → PutsRowsShare contents c (entries_text number o) Whole d
     → PutsRowsShare contents d (extensions_text number o) Front e → PutsRowsShare contents a (flat_map text_of_row (pledge_csv_rows p)) Front e
 cut_extensions o number p brief known own secrets entries extensions =
-    whole_record o number p brief known (share_then (own_put o number p brief known own) (share_then (list_put (secrets_text number) o number p brief known secrets)
-    (share_then (list_put (entries_text number) o number p brief known entries) (share_more _ (list_put (extensions_text number) o number p brief known extensions)))))
+    whole_record o number p brief known (share_then rows_in_turn (own_put o number p brief known own) (share_then rows_in_turn (list_put (secrets_text number) o number p brief known secrets)
+    (share_then rows_in_turn (list_put (entries_text number) o number p brief known entries) (share_more rows_in_turn _ (list_put (extensions_text number) o number p brief known extensions)))))
 
 -- a record that was put whole
 pub record_whole : {W : Type 0} {contents : W → Option (List ℕ)} {a b c d e f : Sink W} (o : Option PledgeValue) (number : ℕ) (p : PledgeValue) (brief : BriefFields) → IsBriefAt o number p brief
     → PutsRow contents a (text_of_row (Row.Pledge (brief_columns brief))) b → PutsRowsShare contents b (secrets_text number o) Whole c → PutsRowsShare contents c (entries_text number o) Whole d
     → PutsRowsShare contents d (extensions_text number o) Whole e → PutsRow contents e (booking_text number brief) f → PutsRowsShare contents a (flat_map text_of_row (pledge_csv_rows p)) Whole f
 record_whole o number p brief known own secrets entries extensions booking =
-    whole_record o number p brief known (share_then (own_put o number p brief known own) (share_then (list_put (secrets_text number) o number p brief known secrets)
-    (share_then (list_put (entries_text number) o number p brief known entries) (share_then (list_put (extensions_text number) o number p brief known extensions)
+    whole_record o number p brief known (share_then rows_in_turn (own_put o number p brief known own) (share_then rows_in_turn (list_put (secrets_text number) o number p brief known secrets)
+    (share_then rows_in_turn (list_put (entries_text number) o number p brief known entries) (share_then rows_in_turn (list_put (extensions_text number) o number p brief known extensions)
     (booking_put o number p brief known booking)))))

@@ -16,12 +16,7 @@ use Rattle.pawn_csv.specs.Rows.{csv_of, header, row_fields, rows_of_csv}
 -- a record of more than one column is read as it is
 row_back : (r : Row) → read_back (row_fields r) ≡ row_fields r
 row_back (Row.Book v t p) = refl
-row_back (Row.Terms v x) = refl
-row_back (Row.Pledge x) = refl
-row_back (Row.Secret n at x) = refl
-row_back (Row.Entry n x) = refl
-row_back (Row.Extension n at x) = refl
-row_back (Row.Booking n x) = refl
+row_back r = refl
 
 -- written records are read back
 rows_reached : (rows : List Row) → Reached default_config st.StartRecord (flat_map (row_text default_writer) (map row_fields rows)) (map row_fields rows) st.StartRecord []

@@ -10,11 +10,13 @@ use Rattle.pawn_debt.specs.declared.entry.Entry.{Entry}
 use Rattle.pawn_pledge.specs.Pledge.{PledgeValue}
 use Rattle.pawn_pledge.specs.Replayable.{Each, IsOpening}
 use Rattle.pawn_pledge.specs.Secret.{secret_text}
+use Rattle.pawn_pledge.specs.declared.record.Agreement.{Agreement}
 use Rattle.pawn_pledge.specs.declared.record.Booking.{Booking}
 use Rattle.pawn_pledge.specs.declared.record.Closing.{Closing}
 use Rattle.pawn_pledge.specs.declared.record.Closing.TheVariants as closed
 use Rattle.pawn_pledge.specs.declared.record.Extension.{Extension}
 use Rattle.pawn_pledge.specs.declared.record.Issued.{Issued}
+use Rattle.pawn_pledge.specs.declared.record.Standing.{Standing}
 use Rattle.pawn_book.specs.Written.{IsWord}
 use Rattle.pawn_book.specs.declared.rows.BookRows.{BookRows}
 use Rattle.pawn_debt.specs.Words.{sort_text}
@@ -102,19 +104,23 @@ closing_amount closed.Open = None
 closing_amount (closed.Redeemed day paid) = Some paid
 closing_amount (closed.Sold day net) = Some net
 
+-- the columns of a row of what was agreed when a pledge was taken, and how it stands
+abbrev pub own_columns : Agreement → Standing → PledgeColumns
+own_columns a s = record {
+  number = a.number;
+  opening = a.opening;
+  taken = a.taken;
+  version = a.version;
+  held = s.held;
+  last = s.last;
+  closing = closing_word s.closing;
+  closing_day = closing_day s.closing;
+  amount = closing_amount s.closing;
+}
+
 -- the columns of a pledge's own row
 abbrev pub pledge_columns : PledgeValue → PledgeColumns
-pledge_columns p = record {
-  number = p.agreement.number;
-  opening = p.agreement.opening;
-  taken = p.agreement.taken;
-  version = p.agreement.version;
-  held = p.standing.held;
-  last = p.standing.last;
-  closing = closing_word p.standing.closing;
-  closing_day = closing_day p.standing.closing;
-  amount = closing_amount p.standing.closing;
-}
+pledge_columns p = own_columns p.agreement p.standing
 
 -- versions of terms from one on
 abbrev pub terms_rows : ℕ → List Rates → List Row

@@ -1,11 +1,11 @@
 -- What clauses read of a writer of rows, and what it is to have written a text.
-use Rattle.std.specs.Prelude.{ℕ, Bool, true, false, List, [], ◌++◌, ◌||◌, ◌≡◌, Option}
-use Rattle.pawn_book.specs.Visits.{End, Whole}
-use Rattle.pawn_view.specs.Ends.{Written, end_by, write_failed}
+use Rattle.std.specs.Prelude.{ℕ, Bool, true, false, List, ◌||◌, ◌≡◌, Option}
+use Rattle.pawn_book.specs.Visits.{End}
+use Rattle.pawn_view.specs.Ends.{Share, Written, end_by, write_failed}
 use Rattle.pawn_view.specs.declared.writing.Writing.{Writing}
 use Rattle.csv.specs.Writing.{default_writer, row_text}
 use Rattle.pawn_pledge.specs.declared.brief.BriefFields.{BriefFields}
-use Rattle.pawn_csv.specs.Rows.{closing_amount, closing_day, closing_word, row_fields}
+use Rattle.pawn_csv.specs.Rows.{own_columns, row_fields}
 use Rattle.pawn_csv.specs.declared.row.PledgeColumns.{PledgeColumns}
 use Rattle.pawn_csv.specs.declared.row.Row.{Row}
 use Rattle.pawn_csv.specs.declared.writing.Sink.{Sink}
@@ -25,8 +25,7 @@ pub record PutsRow {W : Type 0} (contents : W → Option (List ℕ)) (old : Sink
 
 -- a front of the text was put, and all of it where the calls on the way succeeded and each row was written whole
 abbrev pub PutsRowsShare : {W : Type 0} → (W → Option (List ℕ)) → Sink W → List ℕ → End → Sink W → Type 0
-PutsRowsShare contents old text end new =
-    (out : List ℕ) × (rest : List ℕ) × (out ++ rest ≡ text) × PutsRow contents old out new × (has_ended new ≡ false → end ≡ Whole → rest ≡ [])
+PutsRowsShare contents old text end new = Share (PutsRow contents) has_ended old text end new
 
 -- the text of a row
 abbrev pub text_of_row : Row → List ℕ
@@ -34,14 +33,4 @@ text_of_row row = row_text default_writer (row_fields row)
 
 -- the columns of a pledge's own row, which none of its lists is needed for
 abbrev pub brief_columns : BriefFields → PledgeColumns
-brief_columns b = record {
-  number = b.agreement.number;
-  opening = b.agreement.opening;
-  taken = b.agreement.taken;
-  version = b.agreement.version;
-  held = b.standing.held;
-  last = b.standing.last;
-  closing = closing_word b.standing.closing;
-  closing_day = closing_day b.standing.closing;
-  amount = closing_amount b.standing.closing;
-}
+brief_columns b = own_columns b.agreement b.standing

@@ -1,10 +1,10 @@
 //! A writer of the rows of a book's text.
-ghost use Rattle.std.specs.Prelude.{◌≡◌, ◌∷◌, [], IfOk, true, false, codes, decimal, map};
+ghost use Rattle.std.specs.Prelude.{◌≡◌, ◌≤◌, ◌-◌, ◌∷◌, ◌++◌, [], IfOk, true, false, codes, decimal, length, map};
 ghost use Rattle.pawn_terms.specs.Calendar.{day_text};
 ghost use Rattle.pawn_debt.specs.Due.{credit_of};
 ghost use Rattle.csv.specs.Writing.{default_writer, row_text};
 ghost use Rattle.pawn_view.specs.Ends.{writing_inner, write_failed};
-ghost use Rattle.pawn_csv.specs.Rows.{header};
+ghost use Rattle.pawn_csv.specs.Rows.{empty_columns, header};
 ghost use Rattle.pawn_csv.specs.Sent.{PutsRow, brief_columns, has_ended, text_of_row};
 ghost use Rattle.pawn_csv.specs.declared.row.Row.{Row};
 ghost use Rattle.pawn_csv.specs.declared.row.Version.TheVariants as version;
@@ -94,6 +94,19 @@ pub(crate) fn put_row<W: Write>(sink: &mut Sink<W>, columns: &[&[u8]])
     }
 }
 
+// Puts a row that begins with these columns; the others are empty.
+fn put_short<W: Write>(sink: &mut Sink<W>, columns: &[&[u8]])
+    requires few { length columns.now ≤ 15 }
+    ensures puts { PutsRow W.contents sink.old (row_text default_writer
+        (map (λ c. c.now) columns.now ++ empty_columns (15 - length columns.now))) sink.new }
+{
+    let mut row: [&[u8]; 15] = [b""; 15];
+    for place in 0..columns.len() {
+        row[place] = columns[place];
+    }
+    put_row(sink, &row);
+}
+
 /// The names of the columns.
 pub(crate) fn put_header<W: Write>(sink: &mut Sink<W>)
     ensures puts { PutsRow W.contents sink.old (row_text default_writer header) sink.new }
@@ -112,24 +125,13 @@ pub(crate) fn put_book<W: Write>(sink: &mut Sink<W>, terms: u64, pledges: u64)
     ensures puts { PutsRow W.contents sink.old
         (text_of_row (Row.Book version.Two terms pledges)) sink.new }
 {
-    put_row(
+    put_short(
         sink,
         &[
             b"B",
             b"2",
             Buffer::new().format(terms).as_bytes(),
             Buffer::new().format(pledges).as_bytes(),
-            b"",
-            b"",
-            b"",
-            b"",
-            b"",
-            b"",
-            b"",
-            b"",
-            b"",
-            b"",
-            b"",
         ],
     );
 }
@@ -138,7 +140,7 @@ pub(crate) fn put_book<W: Write>(sink: &mut Sink<W>, terms: u64, pledges: u64)
 pub(crate) fn put_terms<W: Write>(sink: &mut Sink<W>, version: u64, rates: Rates)
     ensures puts { PutsRow W.contents sink.old (text_of_row (Row.Terms version rates)) sink.new }
 {
-    put_row(
+    put_short(
         sink,
         &[
             b"T",
@@ -146,16 +148,6 @@ pub(crate) fn put_terms<W: Write>(sink: &mut Sink<W>, version: u64, rates: Rates
             Buffer::new().format(rates.rate).as_bytes(),
             Buffer::new().format(rates.keep_before).as_bytes(),
             Buffer::new().format(rates.keep_after).as_bytes(),
-            b"",
-            b"",
-            b"",
-            b"",
-            b"",
-            b"",
-            b"",
-            b"",
-            b"",
-            b"",
         ],
     );
 }
@@ -244,7 +236,7 @@ pub(crate) fn put_secret<W: Write>(sink: &mut Sink<W>, number: u64, place: u64, 
     ensures puts { PutsRow W.contents sink.old
         (text_of_row (Row.Secret number place issued.now)) sink.new }
 {
-    put_row(
+    put_short(
         sink,
         &[
             b"S",
@@ -253,15 +245,6 @@ pub(crate) fn put_secret<W: Write>(sink: &mut Sink<W>, number: u64, place: u64, 
             &issued.day.text(),
             issue_word(issued.sort),
             secret_text(issued.secret, &mut Uuid::encode_buffer()),
-            b"",
-            b"",
-            b"",
-            b"",
-            b"",
-            b"",
-            b"",
-            b"",
-            b"",
         ],
     );
 }
@@ -270,7 +253,7 @@ pub(crate) fn put_secret<W: Write>(sink: &mut Sink<W>, number: u64, place: u64, 
 pub(crate) fn put_entry<W: Write>(sink: &mut Sink<W>, number: u64, entry: &Entry)
     ensures puts { PutsRow W.contents sink.old (text_of_row (Row.Entry number entry.now)) sink.new }
 {
-    put_row(
+    put_short(
         sink,
         &[
             b"E",
@@ -279,15 +262,6 @@ pub(crate) fn put_entry<W: Write>(sink: &mut Sink<W>, number: u64, entry: &Entry
             &entry.day.text(),
             entry.sort.word().as_bytes(),
             Buffer::new().format(entry.pence).as_bytes(),
-            b"",
-            b"",
-            b"",
-            b"",
-            b"",
-            b"",
-            b"",
-            b"",
-            b"",
         ],
     );
 }
@@ -302,7 +276,7 @@ pub(crate) fn put_extension<W: Write>(
     ensures puts { PutsRow W.contents sink.old
         (text_of_row (Row.Extension number place extension.now)) sink.new }
 {
-    put_row(
+    put_short(
         sink,
         &[
             b"X",
@@ -310,16 +284,6 @@ pub(crate) fn put_extension<W: Write>(
             Buffer::new().format(place).as_bytes(),
             &extension.day.text(),
             &extension.until.text(),
-            b"",
-            b"",
-            b"",
-            b"",
-            b"",
-            b"",
-            b"",
-            b"",
-            b"",
-            b"",
         ],
     );
 }
@@ -328,7 +292,7 @@ pub(crate) fn put_extension<W: Write>(
 pub(crate) fn put_booking<W: Write>(sink: &mut Sink<W>, number: u64, booking: Booking)
     ensures puts { PutsRow W.contents sink.old (text_of_row (Row.Booking number booking)) sink.new }
 {
-    put_row(
+    put_short(
         sink,
         &[
             b"K",
@@ -336,16 +300,6 @@ pub(crate) fn put_booking<W: Write>(sink: &mut Sink<W>, number: u64, booking: Bo
             &booking.day.text(),
             Buffer::new().format(booking.window).as_bytes(),
             booking.state.word().as_bytes(),
-            b"",
-            b"",
-            b"",
-            b"",
-            b"",
-            b"",
-            b"",
-            b"",
-            b"",
-            b"",
         ],
     );
 }

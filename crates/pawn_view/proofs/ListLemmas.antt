@@ -1,12 +1,10 @@
 -- A list that has nothing is not asked for.
-use Rattle.std.proofs.Common.{◌≡◌, List, [], ◌∷◌, length, refl, arith}
+use Rattle.std.proofs.Common.{◌≡◌, ◌∙◌, List, [], Option, Some, length, refl, ap}
+use Rattle.std.proofs.lemmas.List.{nil_from_length}
+use Rattle.pawn_pledge.specs.Pledge.{PledgeValue}
 use Rattle.pawn_book.specs.Visits.{IsShare, Whole}
 use Rattle.pawn_book.specs.declared.visit.Flow.TheVariants.{Go}
 
-pub none_of_none : {A : Type 0} (xs : List A) → length xs ≡ 0 → xs ≡ []
-none_of_none [] none = refl
-none_of_none (x ∷ xs) none = absurd (omega (arith, none))
-
--- nothing of a list that has nothing is all of it
-pub nothing_shared : {T : Type 0} (items : List T) → items ≡ [] → IsShare [] Go Whole items
-nothing_shared items none = (items, refl, λ going done. none)
+-- nothing of a list of the pledge that has nothing is all of it
+pub nothing_shared : {T : Type 0} (list : Option PledgeValue → List T) {o : Option PledgeValue} {p : PledgeValue} → o ≡ Some p → length (list (Some p)) ≡ 0 → IsShare [] Go Whole (list o)
+nothing_shared list {o = o} {p = p} at none = (list o, refl, λ going done. ap list at ∙ nil_from_length (list (Some p)) none)

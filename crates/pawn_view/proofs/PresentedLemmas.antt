@@ -17,7 +17,7 @@ use Rattle.pawn_view.specs.Ends.{write_failed, Puts}
 use Rattle.pawn_view.specs.Fault.{ending_of}
 use Rattle.pawn_view.specs.Text.{statement_text, shown_text, further_texts, presented_text}
 use Rattle.pawn_view.specs.Shown.{PutsShare, Shows, shown_of}
-use Rattle.pawn_view.proofs.ShareLemmas.{share_puts, share_more, share_then}
+use Rattle.pawn_view.proofs.ShareLemmas.{share_puts, share_more, share_then, writings_in_turn}
 use Rattle.pawn_view.proofs.StatementLemmas.{some_same, shows_ended}
 
 -- ---- whether one of them is live
@@ -103,8 +103,7 @@ further_shown : {W : Type 0} (contents : W → Option (List ℕ)) (a b c w : Wri
     → PutsShare contents a before Whole b → Puts contents b (codes "\n") c → PutsShare contents c (shown_text day p) end w
     → PutsShare contents a (before ++ further day p) end w
 further_shown contents a b c w day before p end first blank share =
-    share_then contents a b w before (further day p) end first
-    (share_then contents b c w (codes "\n") (shown_text day p) end (share_puts contents b c (codes "\n") blank) share)
+    share_then {s = before} {t = further day p} writings_in_turn first (share_then {s = codes "\n"} {t = shown_text day p} writings_in_turn (share_puts writings_in_turn blank) share)
 
 further_goes_on_in : {W : Type 0} (contents : W → Option (List ℕ)) (a b c w : Writing W) (day : ℕ) (f : Receipt → Option PledgeValue) (receipts : List Receipt) (i : ℕ) (d : Receipt) → i < length receipts
     → PutsShare contents a (further_texts day (map f (take i receipts))) Whole b → Puts contents b (codes "\n") c → PutsShare contents c (shown_text day (f (get_or receipts i d))) Whole w
@@ -120,9 +119,8 @@ further_stops_in contents a b c w day f receipts i d lt first blank share =
     let x = get_or receipts i d in
     let rest = further_texts day (map f (drop (i + 1) receipts)) in
     subst (λ (t : List ℕ). PutsShare contents a t Front w) (sym (further_cut f day receipts i d lt))
-    (share_then contents a b w (further_texts day (map f (take i receipts))) (further day (f x) ++ rest) Front first
-    (share_more contents b w (further day (f x)) rest
-    (share_then contents b c w (codes "\n") (shown_text day (f x)) Front (share_puts contents b c (codes "\n") blank) share)))
+    (share_then {s = further_texts day (map f (take i receipts))} {t = further day (f x) ++ rest} writings_in_turn first
+    (share_more {s = further day (f x)} writings_in_turn rest (share_then {s = codes "\n"} {t = shown_text day (f x)} writings_in_turn (share_puts writings_in_turn blank) share)))
 
 -- all but the first
 abbrev pub rest_of : List Receipt → List Receipt
@@ -140,13 +138,13 @@ first_and_rest f (r ∷ rs) x some at =
 pub statement_then : {W : Type 0} (contents : W → Option (List ℕ)) (a b w : Writing W) (day : ℕ) (p : PledgeValue) (others : List (Option PledgeValue)) (end : End)
     → PutsShare contents a (statement_text day p) Whole b → PutsShare contents b (further_texts day others) end w
     → PutsShare contents a (statement_text day p ++ further_texts day others) end w
-statement_then contents a b w day p others end first rest = share_then contents a b w (statement_text day p) (further_texts day others) end first rest
+statement_then contents a b w day p others end first rest = share_then {s = statement_text day p} {t = further_texts day others} writings_in_turn first rest
 
 -- a statement that was not put whole
 pub statement_stops : {W : Type 0} (contents : W → Option (List ℕ)) (a w : Writing W) (day : ℕ) (p : PledgeValue) (others : List (Option PledgeValue))
     → PutsShare contents a (statement_text day p) Front w
     → PutsShare contents a (statement_text day p ++ further_texts day others) Front w
-statement_stops contents a w day p others first = share_more contents a w (statement_text day p) (further_texts day others) first
+statement_stops contents a w day p others first = share_more {s = statement_text day p} writings_in_turn (further_texts day others) first
 
 -- the text where the first is live
 pub live_first_shows : {W : Type 0} (contents : W → Option (List ℕ)) (a w : Writing W) (day : ℕ) (pledges : ℕ → Option PledgeValue) (r : Receipt) (others : List (Option PledgeValue)) (brief : BriefFields) (done : Result (Unit {0}) KeepError) (answer : Result (Unit {0}) ViewFault)
@@ -171,7 +169,7 @@ pub dead_first_shows : {W : Type 0} (contents : W → Option (List ℕ)) (a b w 
 dead_first_shows contents a b w day others true done answer fine is known line share = cc
 dead_first_shows contents a b w day others false done answer fine is known line share =
     shows_ended contents a w (presented_text day (None ∷ others)) done answer fine is
-    (share_then contents a b w (codes "Unknown receipt\n") (further_texts day others) (call_end done) (share_puts contents a b (codes "Unknown receipt\n") line) share)
+    (share_then {s = codes "Unknown receipt\n"} {t = further_texts day others} writings_in_turn (share_puts writings_in_turn line) share)
 
 -- the text where the first is not live, told of the first
 pub dead_first : {W : Type 0} (contents : W → Option (List ℕ)) (a w : Writing W) (day : ℕ) (p : Option PledgeValue) (others : List (Option PledgeValue)) (answer : Result (Unit {0}) ViewFault)

@@ -1,5 +1,5 @@
 -- Texts that are put line by line, in as many calls as it takes.
-use Rattle.std.proofs.Common.{◌≡◌, ◌∙◌, ℕ, Bool, false, List, [], ◌∷◌, ◌++◌, Option, refl, sym, ap, subst, inl, inr, append_assoc}
+use Rattle.std.proofs.Common.{◌≡◌, ◌∙◌, ℕ, Bool, true, false, List, [], ◌∷◌, ◌++◌, Option, refl, sym, ap, subst, inl, inr, append_assoc}
 use Rattle.std.specs.List.{flat_map}
 use Rattle.std.specs.Prelude.{if◌then◌else◌}
 use Rattle.std.proofs.lemmas.Grind.{flat_map-append}
@@ -9,7 +9,7 @@ use Rattle.pawn_book.specs.declared.visit.Flow.{Flow}
 use Rattle.pawn_book.specs.declared.visit.Flow.TheVariants.{Go, Stop}
 use Rattle.pawn_book.specs.Visits.{End, Front, Handed, IsShare, Whole}
 use Rattle.pawn_view.specs.declared.writing.Writing.{Writing}
-use Rattle.pawn_view.specs.Ends.{write_failed, Puts}
+use Rattle.pawn_view.specs.Ends.{write_failed, Puts, Share}
 use Rattle.pawn_view.specs.Shown.{PutsLine, PutsShare}
 use Rattle.pawn_view.proofs.PutLemmas.{puts_nil, puts_then}
 
@@ -43,32 +43,50 @@ lines_share contents line v w given items flow end handed (left, whole, all) = (
   λ fine done. ap (flat_map line) (all (never_stopped contents line v w given flow handed fine) done),
 )
 
+-- ---- one text after another
+
+-- what puts nothing once it has ended
+pub record PutsInTurn {S : Type 0} (Puts : S → List ℕ → S → Type 0) (has_ended : S → Bool) : Type 0 where
+  pub joined : (a b c : S) (s t : List ℕ) → Puts a s b → Puts b t c → Puts a (s ++ t) c
+  pub ended : (a b : S) (s : List ℕ) → Puts a s b → has_ended a ≡ true → b ≡ a
+
+pub writings_in_turn : {W : Type 0} {contents : W → Option (List ℕ)} → PutsInTurn (Puts contents) write_failed
+writings_in_turn = record { joined = λ a b c s t first second. puts_then first second; ended = λ a b s puts. puts.failed }
+
 -- a text that was put
-pub share_puts : {W : Type 0} (contents : W → Option (List ℕ)) (a b : Writing W) (s : List ℕ) → Puts contents a s b → PutsShare contents a s Whole b
-share_puts contents a b s puts = (s, [], append-nil s, puts, λ fine done. refl)
+pub share_puts : {S : Type 0} {Puts : S → List ℕ → S → Type 0} {has_ended : S → Bool} {a b : S} {s : List ℕ} → PutsInTurn Puts has_ended → Puts a s b → Share Puts has_ended a s Whole b
+share_puts {s = s} turn puts = (s, [], append-nil s, puts, λ fine done. refl)
 
 -- a text that was cut, and what would have come behind it
-pub share_more : {W : Type 0} (contents : W → Option (List ℕ)) (a b : Writing W) (s t : List ℕ) → PutsShare contents a s Front b → PutsShare contents a (s ++ t) Front b
-share_more contents a b s t (out, rest, whole, puts, all) =
+pub share_more : {S : Type 0} {Puts : S → List ℕ → S → Type 0} {has_ended : S → Bool} {a b : S} {s : List ℕ} → PutsInTurn Puts has_ended → (t : List ℕ) → Share Puts has_ended a s Front b → Share Puts has_ended a (s ++ t) Front b
+share_more turn t (out, rest, whole, puts, all) =
     (out, rest ++ t, sym (append_assoc out rest t) ∙ ap (λ (x : List ℕ). x ++ t) whole, puts, λ fine done. cc)
 
+-- all of a text is a front of it
+pub share_front : {S : Type 0} {Puts : S → List ℕ → S → Type 0} {has_ended : S → Bool} {a b : S} {s : List ℕ} → PutsInTurn Puts has_ended → Share Puts has_ended a s Whole b → Share Puts has_ended a s Front b
+share_front turn (out, rest, whole, puts, all) = (out, rest, whole, puts, λ fine done. cc)
+
+-- what went out is all of the text, if nothing is left
+pub share_all : {out rest text : List ℕ} → out ++ rest ≡ text → rest ≡ [] → out ≡ text
+share_all {out = out} whole none = sym (append-nil out) ∙ ap (λ (x : List ℕ). out ++ x) (sym none) ∙ whole
+
 -- a text and then another
-pub share_then : {W : Type 0} (contents : W → Option (List ℕ)) (a b c : Writing W) (s t : List ℕ) (end : End) → PutsShare contents a s Whole b → PutsShare contents b t end c → PutsShare contents a (s ++ t) end c
-share_then contents a b c s t end (out, rest, whole, puts, all) (out', rest', whole', puts', all') = elim (cases_Bool (write_failed b)) [
-  | inl failed ↦
-      let same = puts'.failed failed in (
+pub share_then : {S : Type 0} {Puts : S → List ℕ → S → Type 0} {has_ended : S → Bool} {a b c : S} {s t : List ℕ} {end : End} → PutsInTurn Puts has_ended
+    → Share Puts has_ended a s Whole b → Share Puts has_ended b t end c → Share Puts has_ended a (s ++ t) end c
+share_then {Puts = Puts} {has_ended = has_ended} {a = a} {b = b} {c = c} {s = s} {t = t} turn (out, rest, whole, puts, all) (out', rest', whole', puts', all') = elim (cases_Bool (has_ended b)) [
+  | inl ended ↦
+      let same = turn.ended b c out' puts' ended in (
         out,
         rest ++ t,
         sym (append_assoc out rest t) ∙ ap (λ (x : List ℕ). x ++ t) whole,
-        subst (λ (x : Writing _). Puts contents a out x) (sym same) puts,
+        subst (λ (x : _). Puts a out x) (sym same) puts,
         λ fine done. cc,
       )
-  | inr fine ↦
-      let all_out : out ≡ s = sym (append-nil out) ∙ ap (λ (x : List ℕ). out ++ x) (sym (all fine refl)) ∙ whole in (
-        s ++ out',
-        rest',
-        append_assoc s out' rest' ∙ ap (λ (x : List ℕ). s ++ x) whole',
-        puts_then (subst (λ (x : List ℕ). Puts contents a x b) all_out puts) puts',
-        all',
-      )
+  | inr fine ↦ (
+    s ++ out',
+    rest',
+    append_assoc s out' rest' ∙ ap (λ (x : List ℕ). s ++ x) whole',
+    turn.joined a b c s out' (subst (λ (x : List ℕ). Puts a x b) (share_all whole (all fine refl)) puts) puts',
+    all',
+  )
 ]

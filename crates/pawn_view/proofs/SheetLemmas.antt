@@ -18,7 +18,7 @@ use Rattle.pawn_view.specs.Fault.{ending_of}
 use Rattle.pawn_view.specs.Sheets.{PutsItem, book_sheet, day_lines, sheet_line}
 use Rattle.pawn_view.specs.Shown.{PutsLine, PutsShare, Shows}
 use Rattle.pawn_view.specs.Text.{day_line}
-use Rattle.pawn_view.proofs.ShareLemmas.{lines_share, share_puts, share_then}
+use Rattle.pawn_view.proofs.ShareLemmas.{lines_share, share_puts, share_then, writings_in_turn}
 use Rattle.pawn_view.proofs.StatementLemmas.{shows_ended, some_same}
 
 -- to what a visitor holds, its items were handed as to a writer
@@ -62,6 +62,5 @@ sheet_shows contents a b held w day (Some book) head done answer fine is at firs
     let above = day_line (codes "Day sheet ") day in
     let below = subst (λ (x : BookHead). PutsShare contents b (day_lines x.capacity day book.pledges) (call_end done) held) (some_same at) share in
     shows_ended contents a w (book_sheet day book) done answer fine is
-    (share_then contents a b w above (day_lines book.capacity day book.pledges) (call_end done)
-    (share_puts contents a b above first)
+    (share_then {s = above} {t = day_lines book.capacity day book.pledges} writings_in_turn (share_puts writings_in_turn first)
     (subst (λ (x : Writing _). PutsShare contents b (day_lines book.capacity day book.pledges) (call_end done) x) (sym same) below))

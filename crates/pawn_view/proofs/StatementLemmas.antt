@@ -2,7 +2,6 @@
 use Rattle.std.proofs.Common.{◌≡◌, ◌∙◌, ℕ, Bool, true, false, List, ◌++◌, Option, Some, None, Result, Ok, Err, refl, sym, ap, subst}
 use Rattle.std.specs.List.{flat_map}
 use Rattle.std.specs.Prelude.{max, option_map, unwrap_or}
-use Rattle.std.proofs.lemmas.List.{append-nil}
 use Rattle.pawn_debt.specs.declared.entry.Entry.{Entry}
 use Rattle.pawn_debt.specs.declared.owing.Owing.{Owing}
 use Rattle.pawn_debt.specs.Due.{due}
@@ -23,7 +22,7 @@ use Rattle.pawn_view.specs.Fault.{ending_of}
 use Rattle.pawn_view.specs.Text.{first_lines, state_lines, state_on, shown_day, statement_text, extended_line, entry_line}
 use Rattle.pawn_view.specs.Shown.{PutsLine, PutsShare, Shows, open_or_last}
 use Rattle.pawn_view.proofs.PutLemmas.{front-more, now_by}
-use Rattle.pawn_view.proofs.ShareLemmas.{lines_share, share_puts, share_more, share_then}
+use Rattle.pawn_view.proofs.ShareLemmas.{lines_share, share_all, share_puts, share_more, share_then, writings_in_turn}
 use Rattle.pawn_view.proofs.SoundLemmas.{IsTold}
 
 -- the lines of a brief above the extensions, and below them
@@ -60,11 +59,10 @@ pub statement_cut : {W : Type 0} (contents : W → Option (List ℕ)) (a b c : W
     → Handed (PutsLine contents extended_line) b given flow c → IsShare given flow Front (extensions_of o)
     → PutsShare contents a (statement_text day p) Front c
 statement_cut contents a b c day o p brief given flow at is first handed share =
-    let head = first_lines p.agreement (end_of p) in
     let rest = state_on (shown_day p.standing.closing p.standing.last day) p ++ flat_map entry_line p.entries in
-    share_then contents a b c head (flat_map extended_line p.extensions ++ rest) Front
-    (share_puts contents a b head (subst (λ (t : List ℕ). Puts contents a t b) (first_of_brief p brief is) first))
-    (share_more contents b c (flat_map extended_line p.extensions) rest
+    share_then {s = first_lines p.agreement (end_of p)} {t = flat_map extended_line p.extensions ++ rest} writings_in_turn
+    (share_puts writings_in_turn (subst (λ (t : List ℕ). Puts contents a t b) (first_of_brief p brief is) first))
+    (share_more writings_in_turn rest
     (lines_share contents extended_line b c given p.extensions flow Front handed (share_at extensions_of o p given flow Front at share)))
 
 -- a statement whose parts were all put
@@ -76,35 +74,33 @@ pub statement_whole : {W : Type 0} (contents : W → Option (List ℕ)) (a b c d
     → Handed (PutsLine contents entry_line) d given' flow' e → IsShare given' flow' end (entries_of o)
     → PutsShare contents a (statement_text day p) end e
 statement_whole contents a b c d e day v o p brief end given flow given' flow' at is told v_is first handed share state handed' share' =
-    let head = first_lines p.agreement (end_of p) in
     let extended = flat_map extended_line p.extensions in
     let on = state_on (shown_day p.standing.closing p.standing.last day) p in
     let entries = flat_map entry_line p.entries in
-    share_then contents a b e head (extended ++ (on ++ entries)) end
-    (share_puts contents a b head (subst (λ (t : List ℕ). Puts contents a t b) (first_of_brief p brief is) first))
-    (share_then contents b c e extended (on ++ entries) end
+    share_then {s = first_lines p.agreement (end_of p)} {t = extended ++ (on ++ entries)} writings_in_turn
+    (share_puts writings_in_turn (subst (λ (t : List ℕ). Puts contents a t b) (first_of_brief p brief is) first))
+    (share_then {s = extended} {t = on ++ entries} writings_in_turn
     (lines_share contents extended_line b c given p.extensions flow Whole handed (share_at extensions_of o p given flow Whole at share))
-    (share_then contents c d e on entries end
-    (share_puts contents c d on (subst (λ (t : List ℕ). Puts contents c t d) (state_of_brief p brief v day is told v_is) state))
+    (share_then {s = on} {t = entries} writings_in_turn
+    (share_puts writings_in_turn (subst (λ (t : List ℕ). Puts contents c t d) (state_of_brief p brief v day is told v_is) state))
     (lines_share contents entry_line d e given' p.entries flow' end handed' (share_at entries_of o p given' flow' end at share'))))
 
 -- ---- how a text ends
 
 -- a writer that failed was given a front of the text
 ended_failed : {W : Type 0} (contents : W → Option (List ℕ)) (a w : Writing W) (text : List ℕ) (end : End) → write_failed a ≡ false → write_failed w ≡ true → PutsShare contents a text end w → Written contents a text Front w
-ended_failed contents a w text end fine failed (out, rest, whole, puts, all) =
-    let front = now_by contents a w out true failed (puts.fine fine) in
-    (subst (λ (t : List ℕ). PutFront contents a t w) whole (front-more contents a w out rest front.0), failed)
+ended_failed contents a w text end fine failed share =
+    let front = now_by contents a w share.0 true failed (share.3.fine fine) in
+    (subst (λ (t : List ℕ). PutFront contents a t w) share.2 (front-more contents a w share.0 share.1 front.0), failed)
 
 ended_whole : {W : Type 0} (contents : W → Option (List ℕ)) (a w : Writing W) (text : List ℕ) → write_failed a ≡ false → write_failed w ≡ false → PutsShare contents a text Whole w → Written contents a text Whole w
-ended_whole contents a w text fine going (out, rest, whole, puts, all) =
-    subst (λ (t : List ℕ). Written contents a t Whole w) (sym (append-nil out) ∙ ap (λ (x : List ℕ). out ++ x) (sym (all going refl)) ∙ whole)
-    (now_by contents a w out false going (puts.fine fine))
+ended_whole contents a w text fine going share =
+    subst (λ (t : List ℕ). Written contents a t Whole w) (share_all share.2 (share.4 going refl)) (now_by contents a w share.0 false going (share.3.fine fine))
 
 ended_cut : {W : Type 0} (contents : W → Option (List ℕ)) (a w : Writing W) (text : List ℕ) (end : End) → write_failed a ≡ false → write_failed w ≡ false → PutsShare contents a text end w
     → PutFront contents a text w × (write_failed w ≡ false)
-ended_cut contents a w text end fine going (out, rest, whole, puts, all) =
-    let written = now_by contents a w out false going (puts.fine fine) in ((out, rest, whole, written.0), going)
+ended_cut contents a w text end fine going share =
+    let written = now_by contents a w share.0 false going (share.3.fine fine) in ((share.0, share.1, share.2, written.0), going)
 
 shows_by : {W : Type 0} (contents : W → Option (List ℕ)) (a w : Writing W) (text : List ℕ) (done : Result (Unit {0}) KeepError) (failed : Bool)
     → write_failed a ≡ false → write_failed w ≡ failed → PutsShare contents a text (call_end done) w → Shows contents a (Some text) (ending_of done failed) w

@@ -40,3 +40,8 @@ end_by false = Whole
 pub record Puts {W : Type 0} (contents : W → Option (List ℕ)) (old : Writing W) (text : List ℕ) (new : Writing W) : Type 0 where
   pub failed : write_failed old ≡ true → new ≡ old
   pub fine : write_failed old ≡ false → Written contents old text (end_by (write_failed new)) new
+
+-- a front of the text was put, and all of it where the calls on the way succeeded and it has not ended
+abbrev pub Share : {S : Type 0} → (S → List ℕ → S → Type 0) → (S → Bool) → S → List ℕ → End → S → Type 0
+Share Puts has_ended old text end new =
+    (out : List ℕ) × (rest : List ℕ) × (out ++ rest ≡ text) × Puts old out new × (has_ended new ≡ false → end ≡ Whole → rest ≡ [])

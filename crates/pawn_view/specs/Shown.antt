@@ -1,5 +1,5 @@
 -- What a call that writes a text answers.
-use Rattle.std.specs.Prelude.{ℕ, false, max, List, [], ◌++◌, Option, Some, None, Result, Ok, Err, ◌≡◌, map, option_map, unwrap_or, if◌then◌else◌}
+use Rattle.std.specs.Prelude.{ℕ, false, max, List, [], Option, Some, None, Result, Ok, Err, ◌≡◌, map, option_map, unwrap_or, if◌then◌else◌}
 use Rattle.std.specs.FinMap.{get}
 use Rattle.pawn_pledge.specs.declared.receipt.Receipt.{Receipt}
 use Rattle.pawn_pledge.specs.declared.record.Closing.{Closing}
@@ -14,7 +14,7 @@ use Rattle.pawn_book.specs.Visits.{End, Front, Whole}
 use Rattle.pawn_view.specs.declared.writing.Writing.{Writing}
 use Rattle.pawn_view.specs.declared.fault.ViewFault.{ViewFault}
 use Rattle.pawn_view.specs.declared.fault.ViewFault.TheVariants as fault
-use Rattle.pawn_view.specs.Ends.{PutFront, Written, Puts, write_failed}
+use Rattle.pawn_view.specs.Ends.{PutFront, Written, Puts, Share, write_failed}
 use Rattle.pawn_view.specs.Text.{statement_text, presented_text}
 
 -- a visitor that is a writer: it puts a line for each item, and stops once it failed
@@ -29,8 +29,7 @@ open_or_last (Sold closed net) last day = last
 
 -- a front of the text was put, and all of it where the calls on the way succeeded and the writer has not failed
 abbrev pub PutsShare : {W : Type 0} → (W → Option (List ℕ)) → Writing W → List ℕ → End → Writing W → Type 0
-PutsShare contents old text end new =
-    (out : List ℕ) × (rest : List ℕ) × (out ++ rest ≡ text) × Puts contents old out new × (write_failed new ≡ false → end ≡ Whole → rest ≡ [])
+PutsShare contents old text end new = Share (Puts contents) write_failed old text end new
 
 -- the pledge of a number in a book of the host
 abbrev pub pledge_at : Host → ℕ → ℕ → Option PledgeValue

@@ -86,11 +86,7 @@ impl<'a, W: Write> Visitor<SheetItem> for SheetLines<'a, W> {
 
     fn visit(&mut self, item: &SheetItem) -> Flow {
         put_item(self.writer, self.capacity, item);
-        if self.writer.has_failed() {
-            Flow::Stop
-        } else {
-            Flow::Go
-        }
+        self.writer.flow()
     }
 }
 

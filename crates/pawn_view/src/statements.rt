@@ -25,11 +25,7 @@ impl<W: Write> Visitor<Entry> for Writing<W> {
 
     fn visit(&mut self, entry: &Entry) -> Flow {
         put_entry(self, entry);
-        if self.has_failed() {
-            Flow::Stop
-        } else {
-            Flow::Go
-        }
+        self.flow()
     }
 }
 
@@ -38,11 +34,7 @@ impl<W: Write> Visitor<Extension> for Writing<W> {
 
     fn visit(&mut self, extension: &Extension) -> Flow {
         put_extended(self, extension);
-        if self.has_failed() {
-            Flow::Stop
-        } else {
-            Flow::Go
-        }
+        self.flow()
     }
 }
 

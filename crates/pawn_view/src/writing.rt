@@ -1,10 +1,12 @@
 //! A writer that remembers that it failed, and what is put into one.
-ghost use Rattle.std.specs.Prelude.{◌≡◌, ◌+◌, ◌<◌, ◌≤◌, true, false, ◌||◌, length, take};
+ghost use Rattle.std.specs.Prelude.{◌≡◌, ◌+◌, ◌<◌, ◌≤◌, true, false, ◌||◌, length, take, if◌then◌else◌};
 ghost use Rattle.std.specs.List.{flat_map};
 ghost use Rattle.std.specs.Io.{WritesAtMost};
 ghost use Rattle.std.specs.Io.KnownBytes.{WriteAppends, Appends};
+ghost use Rattle.pawn_book.specs.declared.visit.Flow.TheVariants.{Go, Stop};
 ghost use Rattle.pawn_view.specs.Ends.{writing_inner, write_failed, written_bytes, is_write_failure, Puts};
 
+use pawn_book::Flow;
 use std::io;
 use std::io::Write;
 
@@ -32,6 +34,13 @@ impl<W> Writing<W> {
         ensures answer { result ≡ write_failed self.now }
     {
         self.failed
+    }
+
+    // What a visitor answers that is this writer: it stops once it failed.
+    pub(crate) fn flow(&self) -> Flow
+        ensures answer { result ≡ (if write_failed self.now then Stop else Go) }
+    {
+        if self.failed { Flow::Stop } else { Flow::Go }
     }
 
     /// The writer inside.

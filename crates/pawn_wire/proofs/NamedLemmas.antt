@@ -105,12 +105,13 @@ number_said-some n text range e = subst (λ (t : List ℕ). (if is_numeral t the
     of_decimal : (if is_numeral (decimal n) then Some (digits_value 10 (decimal n)) else None) ≡ Some n
     of_decimal = rw is (ap Some (decimal_is_IsNumeral n small).1)
 
+-- what says nothing that it could say
+pub none_said : {A : Type 0} (o : Option A) → ((x : A) → o ≡ Some x → ⊥) → o ≡ None
+none_said None none = refl
+none_said (Some x) none = absurd (none x refl)
+
 pub number_said-none : (text : List ℕ) → ((n : ℕ) → IsNumber n → text ≡ decimal n → ⊥) → number_said text ≡ None
-number_said-none text none = by_said (number_said text) refl
-  where
-    by_said : (o : Option ℕ) → number_said text ≡ o → number_said text ≡ None
-    by_said None e = e
-    by_said (Some n) e = (let is = number_said-is n text e in absurd (none n is.0 is.1))
+number_said-none text none = none_said (number_said text) (λ n e. let is = number_said-is n text e in none n is.0 is.1)
 
 -- no number has a leading zero
 pub number_said-leading_zero : (rest : List ℕ) → number_said (48 ∷ rest) ≡ None
@@ -180,8 +181,4 @@ day_said-is day text e = by_test (is_text_of_day text (day_number (civil_said te
         day_tested text day (ap (is_text_of_day text) (sym number) ∙ test)
 
 pub day_said-none : (text : List ℕ) → ((m : ℕ) → IsStampDay m → text ≡ day_text m → ⊥) → day_said text ≡ None
-day_said-none text none = by_said (day_said text) refl
-  where
-    by_said : (o : Option ℕ) → day_said text ≡ o → day_said text ≡ None
-    by_said None e = e
-    by_said (Some day) e = (let is = day_said-is day text e in absurd (none day is.0 is.1))
+day_said-none text none = none_said (day_said text) (λ day e. let is = day_said-is day text e in none day is.0 is.1)

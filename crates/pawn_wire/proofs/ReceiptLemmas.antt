@@ -27,7 +27,7 @@ use Rattle.pawn_wire.specs.declared.fault.WireFault.{WireFault}
 use Rattle.pawn_wire.specs.declared.fault.WireFault.TheVariants.{BadReceipt}
 use Rattle.pawn_wire.proofs.FieldLemmas.{values_hit, values_other}
 use Rattle.pawn_wire.proofs.DigitLemmas.{both_true}
-use Rattle.pawn_wire.proofs.NamedLemmas.{number_said-is, number_said-some}
+use Rattle.pawn_wire.proofs.NamedLemmas.{none_said, number_said-is, number_said-some}
 
 -- ---- a text is cut at its first hyphen
 
@@ -115,11 +115,7 @@ receipt_said-is text r e = by_parts (number_said (before_first is_hyphen text)) 
 
 -- a text of no receipt says none
 pub receipt_said-none : (text : List ℕ) → ((r : Receipt) → IsReceiptText text r → ⊥) → receipt_said text ≡ None
-receipt_said-none text none = by_said (receipt_said text) refl
-  where
-    by_said : (o : Option Receipt) → receipt_said text ≡ o → receipt_said text ≡ None
-    by_said None e = e
-    by_said (Some r) e = absurd (none r (receipt_said-is text r e))
+receipt_said-none text none = none_said (receipt_said text) (λ r e. none r (receipt_said-is text r e))
 
 -- ---- the receipts of several values
 

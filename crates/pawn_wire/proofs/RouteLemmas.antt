@@ -59,6 +59,12 @@ first_part w t p x all e shows =
     All-rest0 : (w t : List (List ℕ × List ℕ)) (p : List ℕ × List ℕ) → All (λ q. IsAscii q.1) w → w ≡ p ∷ t → All (λ q. IsAscii q.1) (p ∷ t)
     All-rest0 w t p all e = subst (λ v. All (λ q. IsAscii q.1) v) e all
 
+-- the first that is given
+pub first_given : (pattern text path : List ℕ) (names : List (ℕ × ℕ)) (w t : List (List ℕ × List ℕ)) (name x : List ℕ) → IsAscii path → w ≡ walk pattern text path names 0 0
+    → (p : List ℕ × List ℕ) × (w ≡ p ∷ t) × Shows p.0 name × Shows p.1 x → Some x ≡ slice_get (parts (walk pattern text path names 0 0)) 0
+first_given pattern text path names w t name x ascii is (p, first, name_is, shows) =
+    first_part _ t p x (walk_ascii pattern text path names 0 0 ascii) (sym is ∙ first) shows
+
 pub second_part : (w t u : List (List ℕ × List ℕ)) (p q : List ℕ × List ℕ) (x : List ℕ) → All (λ r. IsAscii r.1) w → w ≡ p ∷ t → t ≡ q ∷ u → Shows q.1 x
     → Some x ≡ slice_get (parts w) 1
 second_part w t u p q x all e f shows =

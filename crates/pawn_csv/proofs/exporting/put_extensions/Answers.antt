@@ -1,12 +1,17 @@
 use Rattle.std.proofs.Common.{refl, rules}
+use Rattle.std.specs.FinMap.{get}
+use Rattle.pawn_book.specs.BookStep.{pledge_in}
+use Rattle.pawn_book.specs.Keeping.{extensions_of}
 use Rattle.pawn_book.specs.Visits.{call_end}
 use Rattle.pawn_book.proofs.Reading.{reads_as}
-use Rattle.pawn_csv.proofs.ListLemmas.{extensions_share}
+use Rattle.pawn_csv.specs.Exports.{extension_line}
+use Rattle.pawn_csv.proofs.ListLemmas.{few_of, list_share, extension_lines}
 use Rattle.pawn_csv.proofs.exporting.put_extensions.Goals as goal
 
 pub returns-clause-shares : goal.returns-clause-shares
 returns-clause-shares g c =
     let (given, flow, handed, reads) = c.visit_extensions.ensures.reads in
     reads_as reads (λ h share sound p at is.
-    extensions_share g.W.Write.contents h c.args.book c.args.number _ c.visit_extensions.new.visitor given flow (call_end c.visit_extensions.result) sound
-    (search rules) refl handed (share p at is))
+    let items = extensions_of (pledge_in (get h.books c.args.book) c.args.number) in
+    list_share g.W.Write.contents extension_line c.args.number items _ _ c.visit_extensions.new.visitor given flow (call_end c.visit_extensions.result)
+    (few_of h c.args.book c.args.number sound).extensions (extension_lines c.args.number 1 items) (search rules) refl handed (share p at is))

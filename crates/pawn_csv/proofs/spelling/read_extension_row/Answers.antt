@@ -1,39 +1,9 @@
-use Rattle.std.proofs.Common.{◌∙◌, [], ◌∷◌, refl, sym, ap}
-use Rattle.std.specs.Prelude.{codes, decimal}
-use Rattle.std.proofs.lemmas.Bool.{false≢true}
+use Rattle.std.proofs.Common.{◌∙◌, arith, refl, sym}
 use Rattle.csv.specs.Records.{fields_of}
-use Rattle.pawn_terms.specs.Calendar.{day_text}
-use Rattle.pawn_csv.specs.Spelling.{column_at}
-use Rattle.pawn_csv.proofs.RowLemmas.{blank_after, is_extension, no_extension}
+use Rattle.pawn_csv.proofs.RowLemmas.{blank_follow, columns_are}
 use Rattle.pawn_csv.proofs.spelling.read_extension_row.Goals as goal
-
-pub returns-in_err-number : goal.returns-in_err-number
-returns-in_err-number c = record {
-  value = rw c.from_residual.ensures (no_extension (fields_of c.args.columns.now) c.requires.letter (λ number place extension fits is. c.in_err-number.ensures.value number fits.0 (c.column.ensures.value ∙ ap (λ f. column_at f 1) is)));
-}
-
-pub returns-in_err-place : goal.returns-in_err-place
-returns-in_err-place c = record {
-  value = rw c.from_residual-in_err-place.ensures (no_extension (fields_of c.args.columns.now) c.requires.letter (λ number place extension fits is. c.in_err-place.ensures.value place fits.1 (c.column-2.ensures.value ∙ ap (λ f. column_at f 2) is)));
-}
-
-pub returns-in_err-day : goal.returns-in_err-day
-returns-in_err-day c = record {
-  value = rw c.from_residual-in_err-day.ensures (no_extension (fields_of c.args.columns.now) c.requires.letter (λ number place extension fits is. c.in_err-day.ensures.value extension.day fits.2 (c.column-3.ensures.value ∙ ap (λ f. column_at f 3) is)));
-}
-
-pub returns-in_err-until : goal.returns-in_err-until
-returns-in_err-until c = record {
-  value = rw c.from_residual-in_err-until.ensures (no_extension (fields_of c.args.columns.now) c.requires.letter (λ number place extension fits is. c.in_err-until.ensures.value extension.until fits.3 (c.column-4.ensures.value ∙ ap (λ f. column_at f 4) is)));
-}
-
-pub returns-then-not-are_blank : goal.returns-then-not-are_blank
-returns-then-not-are_blank c = record {
-  value = no_extension (fields_of c.args.columns.now) c.requires.letter (λ number place extension fits is.
-      false≢true (c.if-not-are_blank.ensures.answer.1 (λ at from to. ap (λ f. column_at f at) is ∙ blank_after (codes "X" ∷ decimal number ∷ decimal place ∷ day_text extension.day ∷ day_text extension.until ∷ []) 10 at from)));
-}
 
 pub returns : goal.returns
 returns c = record {
-  value = ((c.in_ok-number.ensures.value.0, c.in_ok-place.ensures.value.0, c.in_ok-day.ensures.value.0, c.in_ok-until.ensures.value.0), is_extension (fields_of c.args.columns.now) _ _ _ c.requires.wide c.requires.letter (sym c.column.ensures.value ∙ c.in_ok-number.ensures.value.1) (sym c.column-2.ensures.value ∙ c.in_ok-place.ensures.value.1) (sym c.column-3.ensures.value ∙ c.in_ok-day.ensures.value.1) (sym c.column-4.ensures.value ∙ c.in_ok-until.ensures.value.1) (c.if-not-are_blank.ensures.answer.0 refl));
+  value = ((c.in_ok-number.ensures.value.0, c.in_ok-place.ensures.value.0, c.in_ok-day.ensures.value.0, c.in_ok-until.ensures.value.0), columns_are c.requires.wide (c.requires.letter, (sym c.column.ensures.value ∙ c.in_ok-number.ensures.value.1, (sym c.column-2.ensures.value ∙ c.in_ok-place.ensures.value.1, (sym c.column-3.ensures.value ∙ c.in_ok-day.ensures.value.1, (sym c.column-4.ensures.value ∙ c.in_ok-until.ensures.value.1, blank_follow (fields_of c.args.columns.now) 5 10 (c.if-not-are_blank.ensures.answer.0 refl) (omega arith)))))));
 }

@@ -3,15 +3,10 @@ use Rattle.pawn_pledge.specs.declared.brief.BriefFields.{BriefFields}
 use Rattle.pawn_book.specs.Keeping.{extensions_of}
 use Rattle.pawn_book.specs.declared.visit.Flow.TheVariants.{Go}
 use Rattle.pawn_book.proofs.Reading.{reads_none}
-use Rattle.pawn_view.proofs.ListLemmas.{none_of_none, nothing_shared}
+use Rattle.pawn_view.proofs.ListLemmas.{nothing_shared}
 use Rattle.pawn_view.proofs.lists.visit_extensions.Goals as goal
 
 pub returns-then-fields-eq0-clause-reads : goal.returns-then-fields-eq0-clause-reads
-returns-then-fields-eq0-clause-reads g c = (
-  [],
-  Go,
-  (refl, refl),
-  reads_none _ _ _ (λ h p at is.
-      nothing_shared _ (ap extensions_of at ∙ none_of_none p.extensions
-      (sym (ap (λ (b : BriefFields). b.counts.extensions) (c.fields.ensures.value ∙ is)) ∙ c.if-fields-eq0.true))),
-)
+returns-then-fields-eq0-clause-reads g c =
+    let none = λ (b : BriefFields). b.counts.extensions in
+    ([], Go, (refl, refl), reads_none _ _ _ (λ h p at is. nothing_shared extensions_of at (sym (ap none (c.fields.ensures.value ∙ is)) ∙ c.if-fields-eq0.true)))

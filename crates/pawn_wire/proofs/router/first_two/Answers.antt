@@ -1,22 +1,13 @@
 use Rattle.std.proofs.Common.{sym, ◌∙◌}
-use Rattle.pawn_wire.proofs.RouteLemmas.{walk_ascii, first_part, second_part}
+use Rattle.pawn_wire.proofs.RouteLemmas.{walk_ascii, first_given, second_part}
 use Rattle.pawn_wire.proofs.router.first_two.Goals as goal
 
--- src/route.rt:108:9
 pub returns-in_default-next-clause-first : goal.returns-in_default-next-clause-first
-returns-in_default-next-clause-first c =
-    let s = c.in-Some.ensures.steps in
-    first_part _ _ s.0 _ (walk_ascii c.args.params.now.pattern.now c.args.params.now.text.now c.args.params.now.path.now c.args.params.now.names.now 0 0 c.requires.ascii)
-    (sym c.iter-parts.ensures.value ∙ s.1) s.3
+returns-in_default-next-clause-first c = first_given c.args.params.now.pattern.now c.args.params.now.text.now c.args.params.now.path.now c.args.params.now.names.now _ _ _ _ c.requires.ascii c.iter-parts.ensures.value c.in-Some.ensures.steps
 
--- src/route.rt:98:1
 pub returns-clause-first : goal.returns-clause-first
-returns-clause-first c =
-    let s = c.in-Some.ensures.steps in
-    first_part _ _ s.0 _ (walk_ascii c.args.params.now.pattern.now c.args.params.now.text.now c.args.params.now.path.now c.args.params.now.names.now 0 0 c.requires.ascii)
-    (sym c.iter-parts.ensures.value ∙ s.1) s.3
+returns-clause-first c = first_given c.args.params.now.pattern.now c.args.params.now.text.now c.args.params.now.path.now c.args.params.now.names.now _ _ _ _ c.requires.ascii c.iter-parts.ensures.value c.in-Some.ensures.steps
 
--- src/route.rt:98:1
 pub returns-clause-second : goal.returns-clause-second
 returns-clause-second c =
     let s = c.in-Some.ensures.steps in
