@@ -1,4 +1,6 @@
 //! Lists that may be long, read page by page.
+#![tactic(auto, using(crate::proofs::Asking::unread))]
+
 ghost use Rattle.std.specs.Prelude.{◌≡◌, is_ok};
 ghost use Rattle.std.specs.FinMap.{get};
 ghost use Rattle.sqlite.specs.Held.{state};

@@ -1,3 +1,5 @@
+#![tactic(auto, using(crate::proofs::Asking::unread))]
+
 ghost use Rattle.std.specs.Prelude.{◌≡◌, is_ok};
 ghost use Rattle.std.specs.FinMap.{get};
 ghost use Rattle.sqlite.specs.Held.{state};
@@ -16,7 +18,6 @@ use pawn_book::{Entry, Extension, Issued, KeepError};
 use sqlite::{Alter, Transaction, params};
 
 /// The entry of a pledge that has a number.
-#[tactic(auto, using(crate::proofs::Asking::unread))]
 pub fn entry_in<S: Alter>(
     tx: &mut Transaction<'_, S>,
     book: u32,

@@ -1,3 +1,5 @@
+#![tactic(auto, using(crate::proofs::Asking::unread))]
+
 ghost use Rattle.std.specs.Prelude.{◌≡◌, Err, IfOk, is_ok, option_map};
 ghost use Rattle.std.specs.FinMap.{get};
 ghost use Rattle.sqlite.specs.Held.{state};

@@ -1,3 +1,5 @@
+#![tactic(auto, using(crate::proofs::Asking::unread))]
+
 ghost use Rattle.std.specs.Prelude.{◌≡◌, is_ok, length};
 ghost use Rattle.std.specs.FinMap.{get};
 ghost use Rattle.sqlite.specs.Held.{state};

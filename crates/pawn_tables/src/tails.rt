@@ -1,4 +1,6 @@
 //! How long the lists of a pledge are, and its last secret. No list is read.
+#![tactic(auto, using(crate::proofs::Asking::unread))]
+
 ghost use Rattle.std.specs.Prelude.{◌≡◌, ℕ, IfSome, Option, is_ok, length, unwrap_or, ⊤};
 ghost use Rattle.std.specs.FinMap.{get};
 ghost use Rattle.sqlite.specs.Held.{state};

@@ -1,17 +1,14 @@
-use Rattle.std.proofs.Common.{rules, ◌∙◌}
+use Rattle.std.proofs.Common.{◌∙◌}
 use Rattle.std.specs.FinMap.{get}
 use Rattle.sqlite.specs.Held.{state}
 use Rattle.pawn_book.specs.BookStep.{pledge_in}
 use Rattle.pawn_book.specs.Keeping.{entries_of}
 use Rattle.pawn_tables.specs.Entries.{IsEntriesPage}
 use Rattle.pawn_tables.proofs.NextEntries.{is_entries_page}
-use Rattle.pawn_tables.proofs.Asking.{found, found_as, untold}
+use Rattle.pawn_tables.proofs.Asking.{found, found_as}
 use Rattle.pawn_tables.proofs.ReadTexts as text
 use Rattle.pawn_tables.proofs.PlaceReads as reads
 use Rattle.pawn_tables.proofs.pages.entries_page.Goals as goal
-
-pub returns-in_err-rows-clause-finds : goal.returns-in_err-rows-clause-finds
-returns-in_err-rows-clause-finds g c clean within h stood = untold c.rows_of.result _ c.from_residual.result _ _ c.in_err-rows.was (search rules) c.rows_of.ensures.unread
 
 pub returns-clause-finds : goal.returns-clause-finds
 returns-clause-finds g c =

@@ -6,9 +6,6 @@ use Rattle.pawn_tables.proofs.PledgeReads as reads
 use Rattle.pawn_tables.proofs.SoundReads as sound
 use Rattle.pawn_tables.proofs.queries.terms_in.Goals as goal
 
-pub returns-in_err-rows-clause-finds : goal.returns-in_err-rows-clause-finds
-returns-in_err-rows-clause-finds g c clean within h stood = untold c.rows_of.result _ c.from_residual.result _ _ c.in_err-rows.was (search rules) c.rows_of.ensures.unread
-
 pub returns-in_err-rows-clause-told : goal.returns-in_err-rows-clause-told
 returns-in_err-rows-clause-told g c clean within h stood = untold c.rows_of.result _ c.from_residual.result _ _ c.in_err-rows.was (search rules) c.rows_of.ensures.unread
 

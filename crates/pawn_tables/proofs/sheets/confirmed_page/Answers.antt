@@ -2,13 +2,10 @@ use Rattle.std.proofs.Common.{rules, ◌≡◌, map, refl, sym, ap, ◌∙◌}
 use Rattle.pawn_book.specs.declared.sheet.Part.TheVariants as part_of
 use Rattle.pawn_tables.specs.Lines.{confirmed_line, line_cells}
 use Rattle.pawn_tables.proofs.NextLines.{lines_found}
-use Rattle.pawn_tables.proofs.Asking.{found, untold}
+use Rattle.pawn_tables.proofs.Asking.{found}
 use Rattle.pawn_tables.proofs.ReadTexts as text
 use Rattle.pawn_tables.proofs.LineReads as reads
 use Rattle.pawn_tables.proofs.sheets.confirmed_page.Goals as goal
-
-pub returns-in_err-rows-clause-finds : goal.returns-in_err-rows-clause-finds
-returns-in_err-rows-clause-finds g c clean within h stood = untold c.rows_of.result _ c.from_residual.result _ _ c.in_err-rows.was (search rules) c.rows_of.ensures.unread
 
 pub returns-clause-finds : goal.returns-clause-finds
 returns-clause-finds g c =

@@ -1,11 +1,8 @@
-use Rattle.std.proofs.Common.{rules, ◌∙◌}
-use Rattle.pawn_tables.proofs.Asking.{found, found_is, untold}
+use Rattle.std.proofs.Common.{◌∙◌}
+use Rattle.pawn_tables.proofs.Asking.{found, found_is}
 use Rattle.pawn_tables.proofs.ReadTexts as text
 use Rattle.pawn_tables.proofs.LineReads as reads
 use Rattle.pawn_tables.proofs.sheets.ends_in.Goals as goal
-
-pub returns-in_err-rows-clause-finds : goal.returns-in_err-rows-clause-finds
-returns-in_err-rows-clause-finds g c clean within h stood = untold c.rows_of.result _ c.from_residual.result _ _ c.in_err-rows.was (search rules) c.rows_of.ensures.unread
 
 pub returns-clause-finds : goal.returns-clause-finds
 returns-clause-finds g c =

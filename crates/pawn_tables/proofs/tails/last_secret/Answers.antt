@@ -1,15 +1,12 @@
-use Rattle.std.proofs.Common.{rules, ◌∙◌}
+use Rattle.std.proofs.Common.{◌∙◌}
 use Rattle.std.specs.FinMap.{get}
 use Rattle.pawn_book.specs.BookStep.{pledge_in}
 use Rattle.pawn_book.specs.Keeping.{secrets_of}
-use Rattle.pawn_tables.proofs.Asking.{found, found_is, untold}
+use Rattle.pawn_tables.proofs.Asking.{found, found_is}
 use Rattle.pawn_tables.proofs.ReadTexts as text
 use Rattle.pawn_tables.proofs.TailReads as reads
 use Rattle.pawn_tables.proofs.SoundReads as sound
 use Rattle.pawn_tables.proofs.tails.last_secret.Goals as goal
-
-pub returns-in_err-rows-clause-finds : goal.returns-in_err-rows-clause-finds
-returns-in_err-rows-clause-finds g c clean within h stood = untold c.rows_of.result _ c.from_residual.result _ _ c.in_err-rows.was (search rules) c.rows_of.ensures.unread
 
 pub returns-clause-finds : goal.returns-clause-finds
 returns-clause-finds g c =
