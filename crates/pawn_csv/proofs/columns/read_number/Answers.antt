@@ -9,9 +9,7 @@ pub returns-in_default : goal.returns-in_default
 returns-in_default c = record { value = λ n small is. c.in_default.ensures.cases.0 (rw is (IsUtf8-from_ascii _ (IsAscii-decimal n (omega (arith, small))))) }
 
 pub returns-in_default-parse : goal.returns-in_default-parse
-returns-in_default-parse c = record {
-  value = λ n small is. c.in_default-parse.not-Ok n (parse-decimal 64 n c.in-Ok.text.now c.parse.result (omega (arith, small)) (omega (arith, small)) (c.in-Ok.ensures.cases.0 ∙ is) c.parse.ensures.value.0);
-}
+returns-in_default-parse c = record { value = λ n small is. c.in_default-parse.not-Ok n (parse-decimal 64 n c.in-Ok.text.now c.parse.result (omega (arith, small)) (omega (arith, small)) (c.in-Ok.ensures.cases.0 ∙ is) c.parse.ensures.value.0) }
 
 pub returns-then-number-ge1000000000000 : goal.returns-then-number-ge1000000000000
 returns-then-number-ge1000000000000 c = record {

@@ -22,6 +22,4 @@ returns-in_err-secret c = record {
 }
 
 pub returns : goal.returns
-returns c = record {
-  value = ((c.in_ok-number.ensures.value.0, c.in_ok-place.ensures.value.0, c.in_ok-day.ensures.value.0, c.in_ok-secret.ensures.value.0), columns_are c.requires.wide (c.requires.letter, (sym c.column.ensures.value ∙ c.in_ok-number.ensures.value.1, (sym c.column-2.ensures.value ∙ c.in_ok-place.ensures.value.1, (sym c.column-3.ensures.value ∙ c.in_ok-day.ensures.value.1, (sym c.column-4.ensures.value ∙ c.in_ok-sort.ensures.value.1, (sym c.column-5.ensures.value ∙ c.in_ok-secret.ensures.value.1, blank_follow (fields_of c.args.columns.now) 6 9 (c.if-not-are_blank.ensures.answer.0 refl) (omega arith))))))));
-}
+returns c = record { value = ((c.in_ok-number.ensures.value.0, c.in_ok-place.ensures.value.0, c.in_ok-day.ensures.value.0, c.in_ok-secret.ensures.value.0), columns_are c.requires.wide (c.requires.letter, (sym c.column.ensures.value ∙ c.in_ok-number.ensures.value.1, (sym c.column-2.ensures.value ∙ c.in_ok-place.ensures.value.1, (sym c.column-3.ensures.value ∙ c.in_ok-day.ensures.value.1, (sym c.column-4.ensures.value ∙ c.in_ok-sort.ensures.value.1, (sym c.column-5.ensures.value ∙ c.in_ok-secret.ensures.value.1, blank_follow (fields_of c.args.columns.now) 6 9 (c.if-not-are_blank.ensures.answer.0 refl) (omega arith)))))))) }

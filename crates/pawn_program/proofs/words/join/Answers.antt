@@ -14,6 +14,4 @@ joined : (a b c d : List ℕ) → length a ≡ 4 → length b ≡ 4 → length c
 joined a b c d p q r s = rw (four a p, four b q, four c r, four d s) refl
 
 pub returns : goal.returns
-returns c = record {
-  bytes = joined c.args.a c.args.b c.args.c c.args.d c.requires.a c.requires.b c.requires.c c.requires.d;
-}
+returns c = record { bytes = joined c.args.a c.args.b c.args.c c.args.d c.requires.a c.requires.b c.requires.c c.requires.d }

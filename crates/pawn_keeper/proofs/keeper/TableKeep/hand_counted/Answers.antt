@@ -9,9 +9,7 @@ use Rattle.pawn_keeper.proofs.Handings.{hands_after, hands_unread}
 use Rattle.pawn_keeper.proofs.keeper.TableKeep.hand_counted.Goals as goal
 
 pub returns-in_err-count : goal.returns-in_err-count
-returns-in_err-count g c = record {
-  hands = hands_unread (keeping_by (λ k. state g.S.Store k.conn)) g.V.Visitor.step c.args.self.now c.count_part.new.self c.args.visitor.now (Err c.in_err-count.field-0.0) c.from_residual.result c.in_err-count.field-0.0 (λ h. with_head c.args.part (part_items c.args.part c.args.day (pledges_of (get h.books c.args.book)))) {P = λ h. Unit {0}} refl (search rules) c.in_err-count.ensures.reads c.in_err-count.ensures.errs;
-}
+returns-in_err-count g c = record { hands = hands_unread (keeping_by (λ k. state g.S.Store k.conn)) g.V.Visitor.step c.args.self.now c.count_part.new.self c.args.visitor.now (Err c.in_err-count.field-0.0) c.from_residual.result c.in_err-count.field-0.0 (λ h. with_head c.args.part (part_items c.args.part c.args.day (pledges_of (get h.books c.args.book)))) {P = λ h. Unit {0}} refl (search rules) c.in_err-count.ensures.reads c.in_err-count.ensures.errs }
 
 pub returns : goal.returns
 returns g c =

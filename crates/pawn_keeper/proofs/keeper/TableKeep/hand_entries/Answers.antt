@@ -30,14 +30,10 @@ pub loop-init : goal.loop-init
 loop-init g c = begins_at (keeping_by (λ k. state g.S.Store k.conn)) g.V.Visitor.step (listed c.args.book c.args.number) (left c.args.book c.args.number) c.args.self.now c.args.visitor.now (λ h. from_zero (listed c.args.book c.args.number h))
 
 pub returns-in_err-page : goal.returns-in_err-page
-returns-in_err-page g c = record {
-  hands = fails_at (keeping_by (λ k. state g.S.Store k.conn)) g.V.Visitor.step (listed c.args.book c.args.number) (left c.args.book c.args.number) {P = λ h. Unit {0}} c.args.self.now c.loop.self c.entries_from.new.self c.args.visitor.now c.loop.visitor c.loop.from c.loop.invariant (Err c.in_err-page.field-0.0) c.from_residual.result c.in_err-page.field-0.0 refl (search rules) c.in_err-page.ensures.reads c.in_err-page.ensures.errs;
-}
+returns-in_err-page g c = record { hands = fails_at (keeping_by (λ k. state g.S.Store k.conn)) g.V.Visitor.step (listed c.args.book c.args.number) (left c.args.book c.args.number) {P = λ h. Unit {0}} c.args.self.now c.loop.self c.entries_from.new.self c.args.visitor.now c.loop.visitor c.loop.from c.loop.invariant (Err c.in_err-page.field-0.0) c.from_residual.result c.in_err-page.field-0.0 refl (search rules) c.in_err-page.ensures.reads c.in_err-page.ensures.errs }
 
 pub returns-in-Stop : goal.returns-in-Stop
-returns-in-Stop g c = record {
-  hands = stops_by (keeping_by (λ k. state g.S.Store k.conn)) g.V.Visitor.step (listed c.args.book c.args.number) (left c.args.book c.args.number) c.args.self.now c.loop.self c.entries_from.new.self c.args.visitor.now c.loop.visitor c.hand_all.new.visitor c.loop.from (page_end behind c.loop.from c.in_ok-page.page) c.loop.invariant c.in_ok-page.page (told c.loop.from c.in_ok-page.page (listed c.args.book c.args.number) c.in_ok-page.ensures.reads) (rw (c.as_slice.ensures.value, c.in-Stop.is) at c.hand_all.ensures.hands);
-}
+returns-in-Stop g c = record { hands = stops_by (keeping_by (λ k. state g.S.Store k.conn)) g.V.Visitor.step (listed c.args.book c.args.number) (left c.args.book c.args.number) c.args.self.now c.loop.self c.entries_from.new.self c.args.visitor.now c.loop.visitor c.hand_all.new.visitor c.loop.from (page_end behind c.loop.from c.in_ok-page.page) c.loop.invariant c.in_ok-page.page (told c.loop.from c.in_ok-page.page (listed c.args.book c.args.number) c.in_ok-page.ensures.reads) (rw (c.as_slice.ensures.value, c.in-Stop.is) at c.hand_all.ensures.hands) }
 
 pub returns-then-len-lt-PAGE_ROWS : goal.returns-then-len-lt-PAGE_ROWS
 returns-then-len-lt-PAGE_ROWS g c =

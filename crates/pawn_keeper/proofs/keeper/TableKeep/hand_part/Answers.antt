@@ -29,14 +29,10 @@ told : {K : Type 0} {k : Keeping K} {now new : K} (book day : ℕ) (part : Part)
 told book day part n page read = reads_as read (λ h one. (one.goes_on, one.is_last))
 
 pub returns-in_err-page : goal.returns-in_err-page
-returns-in_err-page g c = record {
-  hands = fails_at (keeping_by (λ k. state g.S.Store k.conn)) g.V.Visitor.step (listed c.args.book c.args.day c.args.part) (left c.args.book c.args.day c.args.part) {P = λ h. Unit {0}} c.args.self.now c.loop.self c.lines_above.new.self c.args.visitor.now c.loop.visitor c.loop.above c.loop.invariant (Err c.in_err-page.field-0.0) c.from_residual.result c.in_err-page.field-0.0 refl (search rules) c.in_err-page.ensures.reads c.in_err-page.ensures.errs;
-}
+returns-in_err-page g c = record { hands = fails_at (keeping_by (λ k. state g.S.Store k.conn)) g.V.Visitor.step (listed c.args.book c.args.day c.args.part) (left c.args.book c.args.day c.args.part) {P = λ h. Unit {0}} c.args.self.now c.loop.self c.lines_above.new.self c.args.visitor.now c.loop.visitor c.loop.above c.loop.invariant (Err c.in_err-page.field-0.0) c.from_residual.result c.in_err-page.field-0.0 refl (search rules) c.in_err-page.ensures.reads c.in_err-page.ensures.errs }
 
 pub returns-in-Stop : goal.returns-in-Stop
-returns-in-Stop g c = record {
-  hands = stops_by (keeping_by (λ k. state g.S.Store k.conn)) g.V.Visitor.step (listed c.args.book c.args.day c.args.part) (left c.args.book c.args.day c.args.part) c.args.self.now c.loop.self c.lines_above.new.self c.args.visitor.now c.loop.visitor c.hand_lines.new.visitor c.loop.above (end c.loop.above c.in_ok-page.page) c.loop.invariant (map (item_of c.args.part) c.in_ok-page.page) (told c.args.book c.args.day c.args.part c.loop.above c.in_ok-page.page c.in_ok-page.ensures.reads) (rw (c.as_slice.ensures.value, c.in-Stop.is) at c.hand_lines.ensures.hands);
-}
+returns-in-Stop g c = record { hands = stops_by (keeping_by (λ k. state g.S.Store k.conn)) g.V.Visitor.step (listed c.args.book c.args.day c.args.part) (left c.args.book c.args.day c.args.part) c.args.self.now c.loop.self c.lines_above.new.self c.args.visitor.now c.loop.visitor c.hand_lines.new.visitor c.loop.above (end c.loop.above c.in_ok-page.page) c.loop.invariant (map (item_of c.args.part) c.in_ok-page.page) (told c.args.book c.args.day c.args.part c.loop.above c.in_ok-page.page c.in_ok-page.ensures.reads) (rw (c.as_slice.ensures.value, c.in-Stop.is) at c.hand_lines.ensures.hands) }
 
 pub returns-then-len-lt-PAGE_ROWS : goal.returns-then-len-lt-PAGE_ROWS
 returns-then-len-lt-PAGE_ROWS g c =

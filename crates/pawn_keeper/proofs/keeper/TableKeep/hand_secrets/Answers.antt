@@ -16,14 +16,10 @@ abbrev listed : ℕ → ℕ → Host → List Issued
 listed book number h = secrets_of (pledge_in (get h.books book) number)
 
 pub returns-in_err-page : goal.returns-in_err-page
-returns-in_err-page g c = record {
-  hands = fails_at (keeping_by (λ k. state g.S.Store k.conn)) g.V.Visitor.step (listed c.args.book c.args.number) (λ n h. drop n (listed c.args.book c.args.number h)) {P = λ h. Unit {0}} c.args.self.now c.loop-turn.self c.secrets_behind.new.self c.args.visitor.now c.loop-turn.visitor (c.loop-turn.turn * 64) c.loop-turn.invariant (Err c.in_err-page.field-0.0) c.from_residual.result c.in_err-page.field-0.0 refl (search rules) c.in_err-page.ensures.reads c.in_err-page.ensures.errs;
-}
+returns-in_err-page g c = record { hands = fails_at (keeping_by (λ k. state g.S.Store k.conn)) g.V.Visitor.step (listed c.args.book c.args.number) (λ n h. drop n (listed c.args.book c.args.number h)) {P = λ h. Unit {0}} c.args.self.now c.loop-turn.self c.secrets_behind.new.self c.args.visitor.now c.loop-turn.visitor (c.loop-turn.turn * 64) c.loop-turn.invariant (Err c.in_err-page.field-0.0) c.from_residual.result c.in_err-page.field-0.0 refl (search rules) c.in_err-page.ensures.reads c.in_err-page.ensures.errs }
 
 pub returns-in-Stop : goal.returns-in-Stop
-returns-in-Stop g c = record {
-  hands = pages_stop (keeping_by (λ k. state g.S.Store k.conn)) g.V.Visitor.step (listed c.args.book c.args.number) c.args.self.now c.loop-turn.self c.secrets_behind.new.self c.args.visitor.now c.loop-turn.visitor c.hand_all.new.visitor c.loop-turn.turn c.loop-turn.invariant c.in_ok-page.page c.in_ok-page.ensures.reads (rw (c.as_slice.ensures.value, c.in-Stop.is) at c.hand_all.ensures.hands);
-}
+returns-in-Stop g c = record { hands = pages_stop (keeping_by (λ k. state g.S.Store k.conn)) g.V.Visitor.step (listed c.args.book c.args.number) c.args.self.now c.loop-turn.self c.secrets_behind.new.self c.args.visitor.now c.loop-turn.visitor c.hand_all.new.visitor c.loop-turn.turn c.loop-turn.invariant c.in_ok-page.page c.in_ok-page.ensures.reads (rw (c.as_slice.ensures.value, c.in-Stop.is) at c.hand_all.ensures.hands) }
 
 pub returns-then-len-lt-PAGE_ROWS : goal.returns-then-len-lt-PAGE_ROWS
 returns-then-len-lt-PAGE_ROWS g c =

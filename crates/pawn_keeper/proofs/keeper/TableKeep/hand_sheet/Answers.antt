@@ -22,14 +22,10 @@ abbrev others : ℕ → ℕ → Host → List SheetItem
 others book day h = headed part_of.Asked book day h ++ headed part_of.Ends book day h
 
 pub returns-in_err-hand_windows : goal.returns-in_err-hand_windows
-returns-in_err-hand_windows g c = record {
-  hands = hands_ended (keeping_by (λ k. state g.S.Store k.conn)) g.V.Visitor.step c.args.self.now c.hand_windows.new.self c.args.visitor.now c.hand_windows.new.visitor (Err c.in_err-hand_windows.field-0.0) c.from_residual.result (comes c.args.book c.args.day) (others c.args.book c.args.day) (λ e. cc e) (search rules) c.in_err-hand_windows.ensures.hands;
-}
+returns-in_err-hand_windows g c = record { hands = hands_ended (keeping_by (λ k. state g.S.Store k.conn)) g.V.Visitor.step c.args.self.now c.hand_windows.new.self c.args.visitor.now c.hand_windows.new.visitor (Err c.in_err-hand_windows.field-0.0) c.from_residual.result (comes c.args.book c.args.day) (others c.args.book c.args.day) (λ e. cc e) (search rules) c.in_err-hand_windows.ensures.hands }
 
 pub returns-in-Stop : goal.returns-in-Stop
-returns-in-Stop g c = record {
-  hands = hands_ended (keeping_by (λ k. state g.S.Store k.conn)) g.V.Visitor.step c.args.self.now c.hand_windows.new.self c.args.visitor.now c.hand_windows.new.visitor (Ok Stop) (Ok Stop) (comes c.args.book c.args.day) (others c.args.book c.args.day) (λ e. cc e) refl (rw c.in-Stop.is at c.in_ok-hand_windows.ensures.hands);
-}
+returns-in-Stop g c = record { hands = hands_ended (keeping_by (λ k. state g.S.Store k.conn)) g.V.Visitor.step c.args.self.now c.hand_windows.new.self c.args.visitor.now c.hand_windows.new.visitor (Ok Stop) (Ok Stop) (comes c.args.book c.args.day) (others c.args.book c.args.day) (λ e. cc e) refl (rw c.in-Stop.is at c.in_ok-hand_windows.ensures.hands) }
 
 pub returns-in_err-hand_headed : goal.returns-in_err-hand_headed
 returns-in_err-hand_headed g c = record {

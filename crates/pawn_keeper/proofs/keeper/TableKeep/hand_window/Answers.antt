@@ -14,9 +14,7 @@ use Rattle.pawn_keeper.proofs.SheetPages.{some_items, some_page, whole_page}
 use Rattle.pawn_keeper.proofs.keeper.TableKeep.hand_window.Goals as goal
 
 pub returns-in_err-page : goal.returns-in_err-page
-returns-in_err-page g c = record {
-  hands = hands_unread (keeping_by (λ k. state g.S.Store k.conn)) g.V.Visitor.step c.args.self.now c.lines_above.new.self c.args.visitor.now (Err c.in_err-page.field-0.0) c.from_residual.result c.in_err-page.field-0.0 (λ h. window_sheet (pledges_of (get h.books c.args.book)) c.args.day c.args.window) {P = λ h. Unit {0}} refl (search rules) c.in_err-page.ensures.reads c.in_err-page.ensures.errs;
-}
+returns-in_err-page g c = record { hands = hands_unread (keeping_by (λ k. state g.S.Store k.conn)) g.V.Visitor.step c.args.self.now c.lines_above.new.self c.args.visitor.now (Err c.in_err-page.field-0.0) c.from_residual.result c.in_err-page.field-0.0 (λ h. window_sheet (pledges_of (get h.books c.args.book)) c.args.day c.args.window) {P = λ h. Unit {0}} refl (search rules) c.in_err-page.ensures.reads c.in_err-page.ensures.errs }
 
 pub returns-then-is_empty : goal.returns-then-is_empty
 returns-then-is_empty g c =

@@ -12,9 +12,7 @@ use Rattle.pawn_keeper.proofs.SheetPages.{named_all}
 use Rattle.pawn_keeper.proofs.keeper.TableKeep.hand_windows.Goals as goal
 
 pub returns-in_err-windows : goal.returns-in_err-windows
-returns-in_err-windows g c = record {
-  hands = hands_unread (keeping_by (λ k. state g.S.Store k.conn)) g.V.Visitor.step c.args.self.now c.windows_on.new.self c.args.visitor.now (Err c.in_err-windows.field-0.0) c.from_residual.result c.in_err-windows.field-0.0 (λ h. windows_sheet (pledges_of (get h.books c.args.book)) c.args.day) {P = λ h. Unit {0}} refl (search rules) c.in_err-windows.ensures.reads c.in_err-windows.ensures.errs;
-}
+returns-in_err-windows g c = record { hands = hands_unread (keeping_by (λ k. state g.S.Store k.conn)) g.V.Visitor.step c.args.self.now c.windows_on.new.self c.args.visitor.now (Err c.in_err-windows.field-0.0) c.from_residual.result c.in_err-windows.field-0.0 (λ h. windows_sheet (pledges_of (get h.books c.args.book)) c.args.day) {P = λ h. Unit {0}} refl (search rules) c.in_err-windows.ensures.reads c.in_err-windows.ensures.errs }
 
 pub returns : goal.returns
 returns g c =

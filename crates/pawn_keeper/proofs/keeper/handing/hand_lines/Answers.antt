@@ -16,6 +16,4 @@ loop-line-preserved g c =
     c.loop-line-test.true c.line-item.is c.loop-line.invariant (rw (c.item-item.ensures.value, c.in-Go.is) at c.visit.ensures.steps)
 
 pub returns : goal.returns
-returns g c = record {
-  hands = page_whole g.V.Visitor.step (item_of c.args.part) c.args.lines.now c.args.visitor.now c.loop-line.visitor c.loop-line.line-index (search rules) c.loop-line.invariant;
-}
+returns g c = record { hands = page_whole g.V.Visitor.step (item_of c.args.part) c.args.lines.now c.args.visitor.now c.loop-line.visitor c.loop-line.line-index (search rules) c.loop-line.invariant }
