@@ -1,7 +1,8 @@
 //! The texts of the statements, table by table: how a table is made, what is read of it, and what is put into it.
 //!
-//! A column is named here, in its table, and nowhere else. Each text stands once: the proofs of what it means cite it
-//! by its name. How a value stands in a cell is written in `encoding.rt`, and read in `cells.rt`.
+//! No other source of the program names a column; `specs/Schema` says what the tables are. Each text stands once, and
+//! the proofs of what it means cite it by its name. How a value stands in a cell is written in `encoding.rt`, and read
+//! in `cells.rt`.
 
 // ---- books
 
@@ -295,7 +296,7 @@ pub const PUT_EXTENSION: &str = "INSERT INTO extensions VALUES (?1, ?2, ?3, ?4, 
 
 // ---- what the store notes of itself
 
-/// Makes the table of what the store notes: its schema, its limit on rows, and how many rows are counted.
+/// Makes the table of what the store notes: its schema, its limit on rows, and how many are counted.
 pub const MAKE_META: &str =
     "CREATE TABLE meta (name TEXT PRIMARY KEY NOT NULL, value INTEGER NOT NULL) STRICT";
 
