@@ -1,7 +1,12 @@
 -- A query on one table that shows each row once.
-use Rattle.std.proofs.Common.{◌≡◌, ◌++◌, ℕ, List, [], ◌∷◌, map, filter, flat_map, Bool, true, refl, sym, ap, subst, ◌∙◌, IsPermutation}
+use Rattle.std.proofs.Common.{◌≡◌, ◌≢◌, ◌++◌, ℕ, List, [], ◌∷◌, map, filter, flat_map, Bool, true, false, refl, sym, ap, subst, ◌∙◌, IsPermutation}
 use Rattle.std.specs.List.{AllByRecursion}
-use Rattle.std.specs.declared.cmp.Ordering.TheVariants.{Equal}
+use Rattle.std.specs.Ordering.{eq_by_cmp, is_eq}
+use Rattle.std.specs.List.{IsDistinct}
+use Rattle.std.specs.declared.cmp.Ordering.{Ordering}
+use Rattle.std.specs.declared.cmp.Ordering.TheVariants.{Less, Equal, Greater}
+use Rattle.std.proofs.lemmas.Cmp.{eq_by_cmp_equiv}
+use Rattle.std.proofs.lemmas.Map.Keys.{IsDistinct-IsPermutation}
 use Rattle.std.proofs.lemmas.List.Sorted.{IsPermutation-map, IsPermutation-sym}
 use Rattle.sqlite.specs.declared.types.Value.TheVariants.{Null}
 use Rattle.sqlite.specs.Order.{Row}
@@ -14,6 +19,8 @@ use Rattle.sqlite.specs.State.{State, Shown}
 use Rattle.sqlite.specs.Query.{Query, IsAnswer, output, Output}
 use Rattle.sqlite_value.specs.declared.keys.Collation.{Collation}
 use Rattle.sqlite_value.specs.Keys.{collated_cmp}
+use Rattle.sqlite_value.proofs.KeyLemmas.{collated_cmp_total}
+use Rattle.sqlite_trees.specs.Tree.{IsAscending}
 use Rattle.sqlite_trees.proofs.ListLemmas.{map-map, all-flat_map, all-map, all_from_map, all-permutation, all_weaker, all_both, IsPermutation-filter}
 use Rattle.sqlite_sql.specs.Group.{members}
 use Rattle.sqlite.proofs.Callers.{reads_as}
@@ -21,6 +28,11 @@ use Rattle.one_table.specs.Listing.{Holds, columns_of}
 use Rattle.one_table.proofs.Found.{by_columns}
 use Rattle.one_table.proofs.OneTable.{over_table, around, passes, shows_of, gathered}
 use Rattle.one_table.proofs.Texts.{Asks}
+
+not_tied : (o : Ordering) → o ≢ Equal → is_eq o ≡ false
+not_tied Less other = refl
+not_tied Equal other = absurd (other refl)
+not_tied Greater other = refl
 
 -- each row once, by these collations
 abbrev pub once_of_table : ℕ → List Term → List Term → List Collation → Query
@@ -64,6 +76,30 @@ module _ (t : ℕ) (tests shows : List Term) (by : List Collation) (db : Trees) 
       let every = all-permutation (λ (o : Output). P o.1) _ _ (IsPermutation-sym _ _ a.distinct.1.same) shared in
       subst (AllByRecursion P) outputs_are (all-map P (λ (o : Output). o.1) (map (output query) a.staged) every)
 
+  -- no two rows are shown that are equal
+  pub once_apart : IsDistinct (eq_by_cmp (collated_cmp by)) rows
+  unfolding IsDistinct
+  once_apart =
+      let heads = heads_apart a.distinct.0 a.distinct.1.apart in
+      let kept = subst (IsDistinct are_alike) (sym a.distinct.2) heads in
+      let ordered = IsDistinct-IsPermutation are_alike (λ x y. flips x.1 y.1) _ _ a.same kept in
+      subst (IsDistinct (eq_by_cmp (collated_cmp by))) (sym a.shown) (rows_apart a.ordered ordered)
+    where
+      are_alike : Output → Output → Bool
+      are_alike x y = eq_by_cmp (collated_cmp by) x.1 y.1
+
+      flips : (x y : Row) → eq_by_cmp (collated_cmp by) x y ≡ eq_by_cmp (collated_cmp by) y x
+      flips x y = (eq_by_cmp_equiv (collated_cmp_total by)).symm x y
+
+      heads_apart : (gs : List (Output × List Output)) → IsAscending (λ g h. collated_cmp by g.0.1 h.0.1 ≢ Equal) gs → IsDistinct are_alike (map (λ g. g.0) gs)
+      heads_apart [] apart = tt
+      heads_apart (g ∷ gs) apart =
+          (all-map (λ (o : Output). are_alike g.0 o ≡ false) (λ h. h.0) gs (all_weaker _ (λ h. are_alike g.0 h.0 ≡ false) (λ h other. not_tied _ other) gs apart.0), heads_apart gs apart.1)
+
+      rows_apart : (os : List Output) → IsDistinct are_alike os → IsDistinct (eq_by_cmp (collated_cmp by)) (map (λ (o : Output). o.1) os)
+      rows_apart [] apart = tt
+      rows_apart (o ∷ os) apart = (all-map (λ r. eq_by_cmp (collated_cmp by) o.1 r ≡ false) (λ (q : Output). q.1) os apart.0, rows_apart os apart.1)
+
 -- told by the rows that SELECT * shows
 module _ (schema : Schema) (tree : ℕ) (is_tree : (db : Trees) → overlay db [] tree ≡ db tree) (table : Table) (tests shows : List Term) (by : List Collation) (params : Row) (test : Row → Bool) (cells : Row → Row)
     (passes_is : (r : Row) → passes tests params r ≡ test (columns_of table r)) (shows_is : (r : Row) → shows_of shows params r ≡ cells (columns_of table r))
@@ -83,3 +119,6 @@ module _ (schema : Schema) (tree : ℕ) (is_tree : (db : Trees) → overlay db [
 
   pub each_shown_once : (P : Row → Type 0) → ((x y : Row) → collated_cmp by x y ≡ Equal → P x → P y) → AllByRecursion P rows → AllByRecursion P (map cells (filter test listed))
   each_shown_once P equal all = all-permutation P _ _ (IsPermutation-sym _ _ moved) (subst (AllByRecursion P) passed_are (each_once tree tests shows by (overlay old.now.trees []) params rows answer P equal all))
+
+  pub shown_apart : IsDistinct (eq_by_cmp (collated_cmp by)) rows
+  shown_apart = once_apart tree tests shows by (overlay old.now.trees []) params rows answer

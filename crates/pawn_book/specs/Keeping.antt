@@ -41,6 +41,11 @@ pub record GoesOn {K : Type 0} (k : Keeping K) (old new : K) : Type 0 where
   pub stays : k.steady old → k.steady new
   pub whole : k.honest new → k.whole old → k.whole new
 
+-- one that is whole stands for a sound host, and a crash now may leave none that is not sound
+pub record WholeIsSound {K : Type 0} (k : Keeping K) : Type 0 where
+  pub stands : (x : K) → k.whole x → (h : Host) × IsSound h × k.stands x h
+  pub left : (x : K) → k.whole x → (h : Host) → k.leaves x h → IsSound h
+
 -- a call that changes nothing tells P of each host that the keeper stands for, and it stands for no further host after it
 pub record Reads {K : Type 0} (k : Keeping K) (old new : K) (P : Host → Type 0) : Type 0 where
   pub on : GoesOn k old new

@@ -6,7 +6,7 @@ ghost use Rattle.pawn_book.specs.BookStep.{book_head, pledge_in};
 ghost use Rattle.pawn_book.specs.Rows.{terms_at};
 ghost use Rattle.pawn_book.specs.HostStep.{rows};
 ghost use Rattle.pawn_book.specs.Changes.{CanSave};
-ghost use Rattle.pawn_book.specs.Keeping.{Errs, IsNextBook, Keeping, Of, Reads, Saves, entries_of, extensions_of, number_of, pledges_of, secrets_of, terms_of};
+ghost use Rattle.pawn_book.specs.Keeping.{Errs, IsNextBook, Keeping, Of, Reads, Saves, WholeIsSound, entries_of, extensions_of, number_of, pledges_of, secrets_of, terms_of};
 ghost use Rattle.pawn_book.specs.Sheet.{day_sheet};
 ghost use Rattle.pawn_book.specs.Sound.{HasUnsoundBook, IsUnsoundAt};
 ghost use Rattle.pawn_book.specs.Visits.{IsShare, Visits, call_end};
@@ -138,4 +138,7 @@ pub trait Keep {
         requires can_save { keeping.serves self.old → Of keeping self.old self.old
             (λ h. CanSave h change.now) }
         ensures saves { Saves keeping self.old self.new change.now result };
+
+    // What is called whole is so.
+    ghost whole_is_sound: { WholeIsSound keeping };
 }

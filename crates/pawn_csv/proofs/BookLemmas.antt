@@ -19,10 +19,11 @@ use Rattle.pawn_csv.specs.declared.row.Row.{Row}
 use Rattle.pawn_csv.specs.declared.row.Version.{Version}
 use Rattle.pawn_csv.specs.declared.row.Version.TheVariants as version
 use Rattle.pawn_csv.specs.Finishing.{IsFinishedAs, raw_of}
+use Rattle.pawn_csv.specs.Layout.{raw_rows}
 use Rattle.pawn_csv.specs.Order.{Begun, hand, is_whole, may_end, on_hand, on_second, place, place_booking, place_entry, place_extension, place_pledge, place_secret, place_terms, pledges_begun, put_hand, raw_pledge, run, then_run}
 use Rattle.pawn_csv.specs.Reading.{AreTaken, IsHeldBy, IsReadAs, IsTextOf}
 use Rattle.pawn_csv.specs.Rows.{FitsColumns, Knows, header, pledge_csv_rows, row_fields, rows_of_csv, terms_rows, version_rows}
-use Rattle.pawn_csv.proofs.OrderLemmas.{Shows, booking_shown, both, entry_shown, extension_shown, guard_err, guard_ok, ok_same, raw_rows, secret_shown}
+use Rattle.pawn_csv.proofs.OrderLemmas.{Shows, booking_shown, both, entry_shown, extension_shown, guard_err, guard_ok, ok_same, secret_shown}
 
 -- the rows that were taken
 abbrev pub shown : Option Begun → List Row
@@ -44,7 +45,7 @@ none_counted : (xs : List RawPledge) → length xs ≡ 0 → xs ≡ []
 none_counted [] h = refl
 none_counted (x ∷ xs) h = absurd (omega (arith, h))
 
-guard_then : {A : Type 0} (t : Bool) (x : Result A Cause) (y : A) (e : Cause) → cond t x (Err e) ≡ Ok y → (t ≡ true) × (x ≡ Ok y)
+pub guard_then : {A : Type 0} (t : Bool) (x : Result A Cause) (y : A) (e : Cause) → cond t x (Err e) ≡ Ok y → (t ≡ true) × (x ≡ Ok y)
 guard_then true x y e h = (refl, h)
 guard_then false x y e h = cc
 
@@ -132,11 +133,11 @@ pledge_grows b c x h plain =
     ∙ ap (λ (rs : List Row). head ∷ rs) (sym (append_assoc (terms_rows 1 b.terms) (flat_map raw_rows (pledges_begun b)) (Row.Pledge x ∷ []))) in
     subst (λ (d : Begun). Grows (Some b) (Row.Pledge x) d) guard.1 (rows, λ one. each_push (pledges_begun b) (raw_pledge x) (plain one) refl)
 
-second_only : (v : Version) (x : Result Begun Cause) (c : Begun) → on_second v x ≡ Ok c → (v ≡ version.Two) × (x ≡ Ok c)
+pub second_only : (v : Version) (x : Result Begun Cause) (c : Begun) → on_second v x ≡ Ok c → (v ≡ version.Two) × (x ≡ Ok c)
 second_only version.One x c h = cc
 second_only version.Two x c h = (refl, h)
 
-not_one : (v : Version) → v ≡ version.Two → v ≡ version.One → ⊥
+pub not_one : (v : Version) → v ≡ version.Two → v ≡ version.One → ⊥
 not_one v a b = let e = sym a ∙ b in cc
 
 -- a row that is taken is shown at the end
@@ -166,7 +167,7 @@ place_grows (Some b) (Row.Booking n x) c h plain =
     on_hand_grows b c n b.at_hand (λ p. place_booking p x) (Row.Booking n x) refl h
     (λ p q same is. (subst (λ (m : ℕ). Shows p q (Row.Booking m x)) same (booking_shown p q x is), λ one none. booking_keeps p q x is ∙ none)) plain
 
-run_grows : (rows : List Row) (s t : Option Begun) → run s rows ≡ Ok t → IsPlain s → (shown t ≡ shown s ++ rows) × IsPlain t
+pub run_grows : (rows : List Row) (s t : Option Begun) → run s rows ≡ Ok t → IsPlain s → (shown t ≡ shown s ++ rows) × IsPlain t
 run_grows [] s t h plain = subst (λ (v : Option Begun). (shown v ≡ shown s ++ []) × IsPlain v) (ok_same s t h) (sym (append-nil (shown s)), plain)
 run_grows (r ∷ rows) s t h plain =
     elim (place s r) as (λ v. place s r ≡ v → then_run v (λ m. run m rows) ≡ Ok t → (shown t ≡ shown s ++ r ∷ rows) × IsPlain t) [
@@ -177,11 +178,11 @@ run_grows (r ∷ rows) s t h plain =
       | Err e ↦ λ at rest. cc
     ] refl h
 
-flat_map-raw : (ps : List PledgeValue) → flat_map raw_rows (map raw_of ps) ≡ flat_map pledge_csv_rows ps
+pub flat_map-raw : (ps : List PledgeValue) → flat_map raw_rows (map raw_of ps) ≡ flat_map pledge_csv_rows ps
 flat_map-raw [] = refl
 flat_map-raw (p ∷ ps) = ap (λ (rs : List Row). pledge_csv_rows p ++ rs) (flat_map-raw ps)
 
-length-raw : (ps : List PledgeValue) → length (map raw_of ps) ≡ length ps
+pub length-raw : (ps : List PledgeValue) → length (map raw_of ps) ≡ length ps
 length-raw [] = refl
 length-raw (p ∷ ps) = omega (arith, length-raw ps)
 
@@ -194,7 +195,7 @@ knows version.One k h = h refl
 knows version.Two k h = tt
 
 -- what is shown once all is there
-whole_rows : (b : Begun) (k : BookRows) → is_whole (Some b) ≡ true → b.terms ≡ k.terms → pledges_begun b ≡ map raw_of k.pledges → shown (Some b) ≡ rows_of_csv b.version k
+pub whole_rows : (b : Begun) (k : BookRows) → is_whole (Some b) ≡ true → b.terms ≡ k.terms → pledges_begun b ≡ map raw_of k.pledges → shown (Some b) ≡ rows_of_csv b.version k
 whole_rows b k whole terms pledges =
     let w = both ((length b.terms == b.terms_due) && (length (pledges_begun b) == b.pledges_due)) (may_end b.at_hand) whole in
     let u = both (length b.terms == b.terms_due) (length (pledges_begun b) == b.pledges_due) w.0 in

@@ -7,6 +7,7 @@ pub mod BookLemmas
 pub mod RoundLemmas
 pub mod OneSpelling
 pub mod TakenLemmas
+pub mod LayoutLemmas
 pub mod FitLemmas
 pub mod OneReading
 pub mod OneBook

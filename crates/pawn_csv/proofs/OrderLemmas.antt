@@ -14,16 +14,8 @@ use Rattle.pawn_csv.specs.declared.fault.Cause.TheVariants as cause
 use Rattle.pawn_csv.specs.declared.order.RawPledge.{RawPledge}
 use Rattle.pawn_csv.specs.declared.row.Row.{Row}
 use Rattle.pawn_csv.specs.Order.{has_secret, is_nil, is_none, place_booking, place_entry, place_extension, place_secret}
+use Rattle.pawn_csv.specs.Layout.{list_rows, raw_rows}
 use Rattle.pawn_csv.specs.Rows.{booking_csv_rows, entry_rows, extension_rows, secret_rows}
-
--- the rows of a pledge's lists
-abbrev pub list_rows : ℕ → List Issued → List Entry → List Extension → Option Booking → List Row
-list_rows n secrets entries extensions booking =
-    secret_rows n 1 secrets ++ (entry_rows n entries ++ (extension_rows n 1 extensions ++ booking_csv_rows n booking))
-
--- the rows of a pledge, by its lists
-abbrev pub raw_rows : RawPledge → List Row
-raw_rows p = Row.Pledge p.columns ∷ list_rows p.columns.number p.secrets p.entries p.extensions p.booking
 
 pub ok_same : {A : Type 0} (x y : A) → (let r : Result A Cause = Ok x in r ≡ Ok y) → x ≡ y
 ok_same x y h = cc

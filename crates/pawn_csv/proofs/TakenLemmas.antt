@@ -15,7 +15,7 @@ use Rattle.pawn_pledge.specs.declared.record.Booking.{Booking}
 use Rattle.pawn_pledge.specs.declared.record.Extension.{Extension}
 use Rattle.pawn_pledge.specs.declared.record.Issued.{Issued}
 use Rattle.pawn_book.specs.Limits.{most_pledges, most_terms}
-use Rattle.pawn_book.specs.Rows.{AreNumberedFrom, AreReplayable}
+use Rattle.pawn_book.specs.Rows.{AreNumberedFrom, AreReplayable, IsUnder}
 use Rattle.pawn_book.specs.declared.rows.BookRows.{BookRows}
 use Rattle.pawn_csv.specs.declared.fault.Cause.{Cause}
 use Rattle.pawn_csv.specs.declared.fault.Cause.TheVariants as cause
@@ -26,7 +26,9 @@ use Rattle.pawn_csv.specs.declared.row.Version.{Version}
 use Rattle.pawn_csv.specs.declared.row.Version.TheVariants as version
 use Rattle.pawn_csv.specs.Finishing.{IsBegunOf, raw_of}
 use Rattle.pawn_csv.specs.Laws.{TextsAreReadAs}
-use Rattle.pawn_csv.specs.Order.{Begun, hand, in_order, is_nil, is_whole, may_end, on_hand, place, place_booking, place_entry, place_extension, place_secret, put_hand, raw_pledge, run, then_run, unless_full}
+use Rattle.pawn_csv.specs.Layout.{AreLaidFrom, IsLaidOut, IsWithin, LayoutsAreTaken, laid_rows, list_rows, raw_rows}
+use Rattle.pawn_csv.proofs.BookLemmas.{flat_map-raw, length-raw}
+use Rattle.pawn_csv.specs.Order.{Begun, hand, has_secret, in_order, is_nil, is_whole, may_end, on_hand, place, place_booking, place_entry, place_extension, place_secret, put_hand, raw_pledge, run, then_run, unless_full}
 use Rattle.pawn_csv.specs.Rows.{Knows, booking_csv_rows, pledge_columns, entry_rows, extension_rows, pledge_csv_rows, rows_of_csv, secret_rows, terms_rows, version_rows}
 
 -- ---- tests that hold, and rows one after the other
@@ -45,7 +47,7 @@ not_full count most answer few =
     let test : nat_le most count ≡ false = grind (arith, nat_tests, few) in
     ap (λ (v : Bool). cond v (Err cause.TooMany) answer) test
 
-equal : (n m : ℕ) → n ≡ m → (n == m) ≡ true
+pub equal : (n m : ℕ) → n ≡ m → (n == m) ≡ true
 equal n m e = grind (arith, nat_tests, e)
 
 at_most : (n m : ℕ) → n ≤ m → nat_le n m ≡ true
@@ -54,7 +56,7 @@ at_most n m e = grind (arith, nat_tests, e)
 step : (s : Option Begun) (r : Row) (rs : List Row) (b : Begun) → place s r ≡ Ok b → run s (r ∷ rs) ≡ run (Some b) rs
 step s r rs b e = ap (λ (o : Result Begun Cause). then_run o (λ t. run t rs)) e
 
-run_on : (xs ys : List Row) (s t : Option Begun) → run s xs ≡ Ok t → run s (xs ++ ys) ≡ run t ys
+pub run_on : (xs ys : List Row) (s t : Option Begun) → run s xs ≡ Ok t → run s (xs ++ ys) ≡ run t ys
 run_on [] ys s t e = let same : s ≡ t = cc in ap (λ (o : Option Begun). run o ys) same
 run_on (x ∷ xs) ys s t e =
     elim (place s x) as (λ v. then_run v (λ m. run m xs) ≡ Ok t → then_run v (λ m. run m (xs ++ ys)) ≡ run t ys) [
@@ -72,7 +74,7 @@ raw c secrets entries extensions booking = record { columns = c; secrets = secre
 
 -- ---- the rows of terms
 
-longer : {A : Type 0} (xs : List A) (x : A) → length (xs ++ x ∷ []) ≡ length xs + 1
+pub longer : {A : Type 0} (xs : List A) (x : A) → length (xs ++ x ∷ []) ≡ length xs + 1
 longer [] x = refl
 longer (y ∷ xs) x = omega (arith, longer xs x)
 
@@ -184,14 +186,13 @@ first_there taken credit [] h = absurd h
 first_there taken credit (i ∷ is) h = tt
 
 -- the rows of a pledge that is next
-run_pledge : (v : Version) (m n : ℕ) (terms : List Rates) (done : List RawPledge) (at_hand : Option RawPledge) (p : PledgeValue)
-    → length terms ≡ m → may_end at_hand ≡ true → p.agreement.number ≡ length (done ++ hand at_hand) + 1 → p.agreement.number ≤ n → IsStanding p → (v ≡ version.One → p.extensions ≡ [])
-    → run (Some (begun v m n terms done at_hand)) (pledge_csv_rows p) ≡ Ok (Some (begun v m n terms (done ++ hand at_hand) (Some (raw_of p))))
-run_pledge v m n terms done at_hand p all over at due stands known =
-    from p.secrets refl (first_there _ _ p.secrets stands.replayable.issued.sorts)
+run_pledge : (v : Version) (m n : ℕ) (terms : List Rates) (done : List RawPledge) (at_hand : Option RawPledge) (p : RawPledge)
+    → length terms ≡ m → may_end at_hand ≡ true → p.columns.number ≡ length (done ++ hand at_hand) + 1 → p.columns.number ≤ n → has_secret p ≡ true → IsWithin v p
+    → run (Some (begun v m n terms done at_hand)) (raw_rows p) ≡ Ok (Some (begun v m n terms (done ++ hand at_hand) (Some p)))
+run_pledge v m n terms done at_hand p all over at due first within = from p.secrets refl first
   where
     c : PledgeColumns
-    c = pledge_columns p
+    c = p.columns
 
     begins : place (Some (begun v m n terms done at_hand)) (Row.Pledge c) ≡ Ok (begun v m n terms (done ++ hand at_hand) (Some (raw_pledge c)))
     begins =
@@ -200,89 +201,119 @@ run_pledge v m n terms done at_hand p all over at due stands known =
         (both_hold ((length terms == m) && may_end at_hand) (c.number == length (done ++ hand at_hand) + 1)
         (both_hold (length terms == m) (may_end at_hand) (equal (length terms) m all) over) (equal c.number (length (done ++ hand at_hand) + 1) at)) (at_most c.number n due))
 
-    from : (is : List Issued) → p.secrets ≡ is → has_first is → run (Some (begun v m n terms done at_hand)) (pledge_csv_rows p) ≡ Ok (Some (begun v m n terms (done ++ hand at_hand) (Some (raw_of p))))
-    from [] e none = absurd none
+    from : (is : List Issued) → p.secrets ≡ is → not (is_nil is) ≡ true → run (Some (begun v m n terms done at_hand)) (raw_rows p) ≡ Ok (Some (begun v m n terms (done ++ hand at_hand) (Some p)))
+    from [] e none = cc
     from (i ∷ is) e first =
-        let few : length (i ∷ is) ≤ most_secrets = subst (λ (x : List Issued). length x ≤ most_secrets) e stands.within.secrets in
-        let lists = run_lists v m n terms (done ++ hand at_hand) c i is p.entries p.extensions p.standing.booking few stands.replayable.entered.numbered stands.within.entries known stands.within.extensions in
+        let few : length (i ∷ is) ≤ most_secrets = subst (λ (x : List Issued). length x ≤ most_secrets) e within.secrets in
+        let lists = run_lists v m n terms (done ++ hand at_hand) c i is p.entries p.extensions p.booking few within.numbered within.entries within.known within.extensions in
         step (Some (begun v m n terms done at_hand)) (Row.Pledge c) _ (begun v m n terms (done ++ hand at_hand) (Some (raw_pledge c))) begins
-        ∙ rw (e) lists
+        ∙ subst (λ (x : List Issued). run (Some (begun v m n terms (done ++ hand at_hand) (Some (raw_pledge c)))) (list_rows c.number x p.entries p.extensions p.booking)
+        ≡ Ok (Some (begun v m n terms (done ++ hand at_hand) (Some (raw c x p.entries p.extensions p.booking))))) (sym e) lists
 
 -- ---- the rows of a book
 
 -- pledges were taken after others: they follow those, and the last may end
-abbrev Follows : Version → ℕ → ℕ → List Rates → List RawPledge → Option RawPledge → List PledgeValue → Type 0
+abbrev Follows : Version → ℕ → ℕ → List Rates → List RawPledge → Option RawPledge → List RawPledge → Type 0
 Follows v m n terms done at_hand ps =
     (now : List RawPledge) × (last : Option RawPledge)
-    × (run (Some (begun v m n terms done at_hand)) (flat_map pledge_csv_rows ps) ≡ Ok (Some (begun v m n terms now last)))
-    × (now ++ hand last ≡ (done ++ hand at_hand) ++ map raw_of ps) × (may_end last ≡ true)
+    × (run (Some (begun v m n terms done at_hand)) (flat_map raw_rows ps) ≡ Ok (Some (begun v m n terms now last)))
+    × (now ++ hand last ≡ (done ++ hand at_hand) ++ ps) × (may_end last ≡ true)
 
-begins_with : (is : List Issued) → has_first is → not (is_nil is) ≡ true
-begins_with [] h = absurd h
-begins_with (i ∷ is) h = refl
-
-raw_ends : (p : PledgeValue) → IsStanding p → may_end (Some (raw_of p)) ≡ true
-raw_ends p stands = begins_with p.secrets (first_there _ _ p.secrets stands.replayable.issued.sorts)
-
-follows_first : (v : Version) (m n : ℕ) (terms : List Rates) (done : List RawPledge) (at_hand : Option RawPledge) (p : PledgeValue) (ps : List PledgeValue)
-    → run (Some (begun v m n terms done at_hand)) (pledge_csv_rows p) ≡ Ok (Some (begun v m n terms (done ++ hand at_hand) (Some (raw_of p))))
-    → Follows v m n terms (done ++ hand at_hand) (Some (raw_of p)) ps → Follows v m n terms done at_hand (p ∷ ps)
+follows_first : (v : Version) (m n : ℕ) (terms : List Rates) (done : List RawPledge) (at_hand : Option RawPledge) (p : RawPledge) (ps : List RawPledge)
+    → run (Some (begun v m n terms done at_hand)) (raw_rows p) ≡ Ok (Some (begun v m n terms (done ++ hand at_hand) (Some p)))
+    → Follows v m n terms (done ++ hand at_hand) (Some p) ps → Follows v m n terms done at_hand (p ∷ ps)
 follows_first v m n terms done at_hand p ps here (now, last, ran, same, ends) = (
   now,
   last,
-  run_on (pledge_csv_rows p) (flat_map pledge_csv_rows ps) (Some (begun v m n terms done at_hand)) (Some (begun v m n terms (done ++ hand at_hand) (Some (raw_of p)))) here ∙ ran,
-  same ∙ append_assoc (done ++ hand at_hand) (raw_of p ∷ []) (map raw_of ps),
+  run_on (raw_rows p) (flat_map raw_rows ps) (Some (begun v m n terms done at_hand)) (Some (begun v m n terms (done ++ hand at_hand) (Some p))) here ∙ ran,
+  same ∙ append_assoc (done ++ hand at_hand) (p ∷ []) ps,
   ends,
 )
 
-run_pledges : (v : Version) (m n k : ℕ) (terms : List Rates) (done : List RawPledge) (at_hand : Option RawPledge) (ps : List PledgeValue)
+run_pledges : (v : Version) (m n k : ℕ) (terms : List Rates) (done : List RawPledge) (at_hand : Option RawPledge) (ps : List RawPledge)
     → length terms ≡ m → may_end at_hand ≡ true → k ≡ length (done ++ hand at_hand) + 1 → length (done ++ hand at_hand) + length ps ≤ n
-    → AreNumberedFrom k ps → Each IsStanding ps → (v ≡ version.One → Each (λ p. p.extensions ≡ []) ps) → Follows v m n terms done at_hand ps
-run_pledges v m n k terms done at_hand [] all over at due numbered stand known = (done, at_hand, refl, sym (append-nil (done ++ hand at_hand)), over)
-run_pledges v m n k terms done at_hand (p ∷ ps) all over at due numbered stand known =
-    let here = run_pledge v m n terms done at_hand p all over (numbered.0 ∙ at) (omega (arith, numbered.0, at, due)) stand.0 (λ one. (known one).0) in
-    let more = longer (done ++ hand at_hand) (raw_of p) in
+    → AreLaidFrom k v ps → Follows v m n terms done at_hand ps
+run_pledges v m n k terms done at_hand [] all over at due laid = (done, at_hand, refl, sym (append-nil (done ++ hand at_hand)), over)
+run_pledges v m n k terms done at_hand (p ∷ ps) all over at due laid =
+    let here = run_pledge v m n terms done at_hand p all over (laid.0 ∙ at) (omega (arith, laid.0, at, due)) laid.1 laid.2 in
+    let more = longer (done ++ hand at_hand) p in
     follows_first v m n terms done at_hand p ps here
-    (run_pledges v m n (k + 1) terms (done ++ hand at_hand) (Some (raw_of p)) ps all (raw_ends p stand.0) (omega (arith, at, more)) (omega (arith, due, more)) numbered.1 stand.1 (λ one. (known one).1))
+    (run_pledges v m n (k + 1) terms (done ++ hand at_hand) (Some p) ps all laid.1 (omega (arith, at, more)) (omega (arith, due, more)) laid.3)
 
 are_raw : (ps : List PledgeValue) → Each IsStanding ps → Each (λ p. IsNumber p.agreement.number) ps
 are_raw [] h = tt
 are_raw (p ∷ ps) h = (h.0.within.number, are_raw ps h.1)
-
-counted : (ps : List PledgeValue) → length (map raw_of ps) ≡ length ps
-counted [] = refl
-counted (p ∷ ps) = omega (arith, counted ps)
 
 begins : (v : Version) (m n : ℕ) → m ≤ most_terms → n ≤ most_pledges → place None (Row.Book v m n) ≡ Ok (begun v m n [] [] None)
 begins v m n few_terms few_pledges =
     let few : (nat_lt most_terms m || nat_lt most_pledges n) ≡ false = grind (arith, nat_tests, few_terms, few_pledges) in
     ap (λ (t : Bool). let r : Result Begun Cause = cond t (Err cause.TooMany) (Ok (begun v m n [] [] None)) in r) few
 
--- the rows of a book were taken, and make it
-abbrev Makes : Version → BookRows → Type 0
-Makes v k = (b : Begun) × (run None (rows_of_csv v k) ≡ Ok (Some b)) × (is_whole (Some b) ≡ true) × IsBegunOf b k
-
-makes_book : (v : Version) (k : BookRows) → AreReplayable k.terms k.pledges → Follows v (length k.terms) (length k.pledges) k.terms [] None k.pledges → Makes v k
-makes_book v k replayable (now, last, ran, same, ends) =
-    let m = length k.terms in
-    let n = length k.pledges in
-    let count : length (now ++ hand last) ≡ n = ap length same ∙ counted k.pledges in (
-      begun v m n k.terms now last,
-      step None (Row.Book v m n) (terms_rows 1 k.terms ++ flat_map pledge_csv_rows k.pledges) (begun v m n [] [] None) (begins v m n replayable.few_terms replayable.few_pledges)
-          ∙ run_on (terms_rows 1 k.terms) (flat_map pledge_csv_rows k.pledges) (Some (begun v m n [] [] None)) (Some (begun v m n k.terms [] None)) (run_terms v m n 1 [] k.terms refl (omega arith))
+-- rows that are laid out are taken to their end
+pub layouts_are_taken : LayoutsAreTaken
+layouts_are_taken v terms pledges laid =
+    let m = length terms in
+    let n = length pledges in
+    let (now, last, ran, same, ends) = run_pledges v m n 1 terms [] None pledges refl refl refl (omega arith) laid.pledges in
+    let count : length (now ++ hand last) ≡ n = ap length same in (
+      begun v m n terms now last,
+      step None (Row.Book v m n) (terms_rows 1 terms ++ flat_map raw_rows pledges) (begun v m n [] [] None) (begins v m n laid.few_terms laid.few_pledges)
+          ∙ run_on (terms_rows 1 terms) (flat_map raw_rows pledges) (Some (begun v m n [] [] None)) (Some (begun v m n terms [] None)) (run_terms v m n 1 [] terms refl (omega arith))
           ∙ ran,
       both_hold ((m == m) && (length (now ++ hand last) == n)) (may_end last) (both_hold (m == m) (length (now ++ hand last) == n) (equal m m refl) (equal (length (now ++ hand last)) n count)) ends,
-      (refl, (same, replayable.under, are_raw k.pledges replayable.standing)),
+      refl,
+      same,
     )
 
-run_book : (v : Version) (k : BookRows) → AreReplayable k.terms k.pledges → Knows v k → Makes v k
+-- ---- the rows of a book that can have come about
+
+begins_with : (is : List Issued) → has_first is → not (is_nil is) ≡ true
+begins_with [] h = absurd h
+begins_with (i ∷ is) h = refl
+
+laid_from : (v : Version) (k : ℕ) (ps : List PledgeValue) → AreNumberedFrom k ps → Each IsStanding ps → (v ≡ version.One → Each (λ p. p.extensions ≡ []) ps) → AreLaidFrom k v (map raw_of ps)
+laid_from v k [] numbered stand known = tt
+laid_from v k (p ∷ ps) numbered stand known = (
+  numbered.0,
+  begins_with p.secrets (first_there _ _ p.secrets stand.0.replayable.issued.sorts),
+  record {
+    secrets = stand.0.within.secrets;
+    entries = stand.0.within.entries;
+    extensions = stand.0.within.extensions;
+    numbered = stand.0.replayable.entered.numbered;
+    known = λ one. (known one).0;
+  },
+  laid_from v (k + 1) ps numbered.1 stand.1 (λ one. (known one).1),
+)
+
+plain : (v : Version) (k : BookRows) → Knows v k → v ≡ version.One → Each (λ p. p.extensions ≡ []) k.pledges
+plain version.One k h e = h
+plain version.Two k h e = cc
+
+laid_book : (v : Version) (k : BookRows) → AreReplayable k.terms k.pledges → Knows v k → IsLaidOut v k.terms (map raw_of k.pledges)
+laid_book v k replayable knows = record {
+  few_terms = replayable.few_terms;
+  few_pledges = (let count = length-raw k.pledges in let few = replayable.few_pledges in omega (arith, count, few));
+  pledges = laid_from v 1 k.pledges replayable.numbered replayable.standing (plain v k knows);
+}
+
+-- its rows are laid out
+pub book_rows_are : (v : Version) (k : BookRows) → laid_rows v k.terms (map raw_of k.pledges) ≡ rows_of_csv v k
+book_rows_are v k =
+    λ i. Row.Book v (length k.terms) (length-raw k.pledges i) ∷ (terms_rows 1 k.terms ++ flat_map-raw k.pledges i)
+
+-- the rows of a book were taken, and make it
+abbrev pub Makes : Version → BookRows → Type 0
+Makes v k = (b : Begun) × (run None (rows_of_csv v k) ≡ Ok (Some b)) × (is_whole (Some b) ≡ true) × IsBegunOf b k
+
+pub run_book : (v : Version) (k : BookRows) → AreReplayable k.terms k.pledges → Knows v k → Makes v k
 run_book v k replayable knows =
-    makes_book v k replayable
-    (run_pledges v (length k.terms) (length k.pledges) 1 k.terms [] None k.pledges refl refl refl (omega arith) replayable.numbered replayable.standing (plain v k knows))
-  where
-    plain : (v : Version) (k : BookRows) → Knows v k → v ≡ version.One → Each (λ p. p.extensions ≡ []) k.pledges
-    plain version.One k h e = h
-    plain version.Two k h e = cc
+    let (b, ran, whole, terms, pledges) = layouts_are_taken v k.terms (map raw_of k.pledges) (laid_book v k replayable knows) in (
+      b,
+      ap (run None) (sym (book_rows_are v k)) ∙ ran,
+      whole,
+      (terms, (pledges, subst (λ (ts : List Rates). Each (IsUnder ts) k.pledges) (sym terms) replayable.under, are_raw k.pledges replayable.standing)),
+    )
 
 -- the records of a book's text are taken to their end, and make the book
 pub texts_are_read_as : TextsAreReadAs

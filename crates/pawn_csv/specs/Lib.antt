@@ -6,6 +6,7 @@ pub mod Order
 pub mod Answers
 pub mod Finishing
 pub mod Reading
+pub mod Layout
 pub mod Laws
 pub mod Sent
 pub mod Exports

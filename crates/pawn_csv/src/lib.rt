@@ -18,7 +18,9 @@ mod writing;
 pub use exporting::{RowWriter, export};
 pub use fault::{Cause, CsvFault};
 pub use importing::import;
-pub use laws::{laws_of_texts, rows_have_one_spelling, texts_have_one_reading};
+pub use laws::{
+    laws_of_texts, rows_have_one_layout, rows_have_one_spelling, texts_have_one_reading,
+};
 pub use pawn_book::{
     BookRows, Booking, Day, Entry, Extension, Issued, Keep, Number, Opening, Rates, Refusal,
     ReplayableRows, Reply, Secret, Stamp,

@@ -49,7 +49,7 @@ named_all day ps named names = upto 16 (omega arith)
   where
     one : (w : ℕ) → w ≤ 15 → (c : Bool) → list_any (λ n. n == w) named ≡ c → cond c (window_sheet ps day w) [] ≡ window_sheet ps day w
     one w few true is = refl
-    one w few false is = sym (ap (window_items (part_of.Confirmed w)) (names w few is))
+    one w few false is = sym (ap (window_items (part_of.Confirmed w)) (names.whole w few is))
 
     upto : (n : ℕ) → n ≤ 16 → flat_map (named_sheet named ps day) (windows_below n) ≡ flat_map (window_sheet ps day) (windows_below n)
     upto zero few = refl

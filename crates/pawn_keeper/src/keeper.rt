@@ -204,6 +204,10 @@ impl<S: Alter> Keep for TableKeep<S> {
     fn save(&mut self, change: &Change) -> Result<(), SaveError> {
         save(&mut self.conn, change)
     }
+
+    ghost use Rattle.pawn_tables.proofs.OneHost.{tables_whole_is_sound};
+
+    ghost whole_is_sound = { tables_whole_is_sound (λ k. state S.Store k.conn) };
 }
 
 // The number above which a book is sought; 0 where there is none.

@@ -96,6 +96,6 @@ SavesListed old change (Err Full) new = (new ≡ old) × (old.limit < rows (with
 SavesListed old change (Err Memory) new = new ≡ old
 SavesListed old change (Err (Store fault)) new = ⊥
 
--- a list is always honest, serves, is steady and whole, and a crash would leave what it has
+-- a list is always honest, serves and is steady, and a crash would leave what it has; it is whole where that is sound
 abbrev pub list_keeping : Keeping Books
-list_keeping = record { stands = λ k h. h ≡ host_of k; honest = λ k. ⊤; serves = λ k. ⊤; steady = λ k. ⊤; leaves = λ k h. h ≡ host_of k; whole = λ k. ⊤ }
+list_keeping = record { stands = λ k h. h ≡ host_of k; honest = λ k. ⊤; serves = λ k. ⊤; steady = λ k. ⊤; leaves = λ k h. h ≡ host_of k; whole = λ k. IsSound (host_of k) }

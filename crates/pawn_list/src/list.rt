@@ -1,5 +1,6 @@
 ghost use Rattle.std.specs.Prelude.{◌≡◌, ◌≤◌, [], map};
 ghost use Rattle.pawn_book.specs.Changes.{CanSave};
+ghost use Rattle.pawn_book.specs.Sound.{IsSound};
 ghost use Rattle.pawn_list.specs.Listed.{SavesListed, host_of};
 
 use crate::kept::Kept;
@@ -58,6 +59,7 @@ impl ListKeep {
     fn make(&mut self, change: &Change) -> Result<(), SaveError>
         requires can_save { CanSave (host_of self.old) change.now }
         ensures saves { SavesListed self.old change.now result self.new }
+        ensures sound { IsSound (host_of self.new) }
     {
         let rows = rows_with(&self.books, self.rows, change);
         if rows > u128::from(self.limit) {
@@ -177,4 +179,10 @@ impl Keep for ListKeep {
         let _ = &self.rows;
         self.make(change)
     }
+
+    ghost use Rattle.std.proofs.Common.{refl, subst, sym};
+    ghost use Rattle.pawn_book.specs.Sound.{IsSound};
+    ghost use Rattle.pawn_list.specs.Listed.{host_of};
+
+    ghost whole_is_sound = { record { stands = λ k sound. (host_of k, sound, refl); left = λ k sound h is. subst IsSound (sym is) sound } };
 }

@@ -13,13 +13,14 @@ use Rattle.pawn_book.specs.declared.fault.KeepError.TheVariants as Keeper
 use Rattle.pawn_book.specs.declared.fault.StoreFault.TheVariants.{NoRecord, Database}
 use Rattle.pawn_opening.proofs.Begun.{opens_as}
 use Rattle.pawn_opening.specs.Opened.{IsAsBefore, OpensAs}
+use Rattle.pawn_opening.specs.Refusing.{NotesSchema}
 use Rattle.pawn_tables.specs.Finding.{Finds}
 use Rattle.pawn_tables.specs.OneHost.{StandForOne}
 use Rattle.pawn_tables.specs.StandsFor.{StandsFor}
 use Rattle.pawn_move.proofs.Told.{third_is_ours}
 use Rattle.pawn_move.specs.declared.fault.MoveFault.{MoveFault}
 use Rattle.pawn_move.specs.declared.fault.MoveFault.TheVariants.{NotOurs, NewerSchema, Damaged, Store, Memory}
-use Rattle.pawn_move.specs.Migrating.{HoldMoved, HoldSameHost, IsFailure, IsMoved, IsUnmovable, Migrates, MigratesOwed, MovesStore, MovesStoreOwed, TellsNumber, move_fault_of}
+use Rattle.pawn_move.specs.Migrating.{HoldMoved, HoldSameHost, IsFailure, IsMoved, IsNotOurs, IsUnmovable, IsUntellable, Migrates, MigratesOwed, MovesStore, MovesStoreOwed, TellsNumber, move_fault_of}
 use Rattle.pawn_move.specs.StandsUnder.{IsSchema, StandsUnder}
 
 -- an older schema is the first or the second
@@ -59,11 +60,26 @@ module _ (s0 s1 : State) (last : IsTrue s0.is_open → (trees : Trees) → s0.ma
   failing n h Store it = tt
   failing n h Memory it = tt
 
+  unmovable : (why : MoveFault) → IsUntellable s0.now why → IsUnmovable s0.now why
+  unmovable NotOurs it = it
+  unmovable NewerSchema it = it
+  unmovable Damaged none = absurd none
+  unmovable Store it = it
+  unmovable Memory it = it
+
+  bare : (why : MoveFault) → IsNotOurs {A = ℕ} (Err why) → IsNotOurs {A = ℕ × ℕ} (Err why)
+  bare NotOurs it = it
+  bare NewerSchema it = it
+  bare Damaged it = it
+  bare Store it = it
+  bare Memory it = it
+
   pub not_told : (why : MoveFault) → TellsNumber s0 s1 (Err why) → Migrates s0 s1 (Err why)
   not_told why it = record {
     found = λ clean. tt;
     moved = λ clean n h schema none st. failing n h why (it.stands clean n h schema st);
-    refuses = it.refuses;
+    refuses = λ clean. unmovable why (it.refuses clean);
+    empty = λ clean none. bare why (it.empty clean none);
     err = it.same;
     ended = it.ended;
     survives = quiet it.survives;
@@ -84,6 +100,7 @@ module _ (s0 s1 : State) (last : IsTrue s0.is_open → (trees : Trees) → s0.ma
           opens_as s1 h one serves it.ended (same.now serves ∙ settled (same.was_open serves) ∙ sym (same.committed serves)) (left serves) (subst (λ d. StandsFor d h) (sym (same.now serves)) stands),
         );
     refuses = λ clean. tt;
+    empty = λ clean none. it.empty clean none;
     err = λ clean. tt;
     ended = it.ended;
     survives = quiet it.survives;
@@ -120,6 +137,7 @@ module _ (s0 s1 : State) (last : IsTrue s0.is_open → (trees : Trees) → s0.ma
     found = λ clean. ((it.ok (early s2 from it (Ok tt) mv clean)).0, it.known, refl);
     moved = λ clean n h schema none st. let told = (on s2 from it (Ok tt) mv (early s2 from it (Ok tt) mv clean) n h schema st).0 in (λ i. (told i, 3), moves s2 from it (Ok tt) mv clean n h schema none st);
     refuses = λ clean. tt;
+    empty = λ clean none. it.empty (early s2 from it (Ok tt) mv clean) none;
     err = λ clean. tt;
     ended = mv.ended;
     survives = survived s2 from it (Ok tt) mv;
@@ -133,7 +151,8 @@ module _ (s0 s1 : State) (last : IsTrue s0.is_open → (trees : Trees) → s0.ma
   failed s2 from e it mv = record {
     found = λ clean. tt;
     moved = λ clean n h schema none st. unmoved n h e (moves s2 from it (Err e) mv clean n h schema none st);
-    refuses = λ clean. refuses e (λ n h schema none st. moves s2 from it (Err e) mv clean n h schema none st);
+    empty = λ clean none. absurd (it.empty (early s2 from it (Err e) mv clean) none);
+    refuses = λ clean. refuses e (from, (it.ok (early s2 from it (Err e) mv clean)).0, it.known) (λ n h schema none st. moves s2 from it (Err e) mv clean n h schema none st);
     err = λ clean. then_as_before s0 s1 s2 (λ now. it.same (early s2 from it (Err e) mv clean)) (mv.err clean);
     ended = mv.ended;
     survives = survived s2 from it (Err e) mv;
@@ -149,7 +168,7 @@ module _ (s0 s1 : State) (last : IsTrue s0.is_open → (trees : Trees) → s0.ma
       no_sound h None at found = found at
       no_sound h (Some k) at found = (0, (k, at, λ sound. absurd (let least = sound.0.0 in omega (arith, least))))
 
-      refuses : (x : KeepError) → ((n : ℕ) (h : Host) → IsSchema n → get h.books 0 ≡ None → StandsUnder n s0.now h → Finds {A = Unit {0}} (Err x) (λ done. OpensAs s2 h) (HasUnsoundBook h)) → IsUnmovable s0.now (move_fault_of x)
-      refuses Keeper.Memory it = tt
-      refuses (Keeper.Store NoRecord) it = λ n h schema st. no_sound h (get h.books 0) refl (λ none. it n h schema none st)
-      refuses (Keeper.Store Database) it = tt
+      refuses : (x : KeepError) → ((n : ℕ) × NotesSchema s0.now n × IsSchema n) → ((n : ℕ) (h : Host) → IsSchema n → get h.books 0 ≡ None → StandsUnder n s0.now h → Finds {A = Unit {0}} (Err x) (λ done. OpensAs s2 h) (HasUnsoundBook h)) → IsUnmovable s0.now (move_fault_of x)
+      refuses Keeper.Memory noted it = tt
+      refuses (Keeper.Store NoRecord) noted it = (noted, λ n h schema st. no_sound h (get h.books 0) refl (λ none. it n h schema none st))
+      refuses (Keeper.Store Database) noted it = tt

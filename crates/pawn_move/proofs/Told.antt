@@ -1,5 +1,5 @@
 -- Tables that stand for a host under a schema note its number, and it is told.
-use Rattle.std.proofs.Common.{◌≡◌, ◌==◌, inl, inr, ℕ, Bool, true, false, Option, Some, None, Ok, Err, Result, IsTrue, refl, sym, subst, ◌∙◌, arith}
+use Rattle.std.proofs.Common.{◌≡◌, ◌==◌, inl, inr, ℕ, Bool, true, false, Option, Some, None, Ok, Err, Result, IsTrue, refl, sym, ap, subst, ◌∙◌, arith}
 use Rattle.std.specs.Prelude.{if◌then◌else◌, IfErr, IfOk, IfSome}
 use Rattle.sqlite.specs.Effect.{Database}
 use Rattle.sqlite.specs.Listing.{understood}
@@ -9,14 +9,18 @@ use Rattle.pawn_book.specs.HostStep.{Host, rows}
 use Rattle.one_table.specs.Listing.{Holds, Lists}
 use Rattle.pawn_opening.specs.declared.fault.OpenFault.{OpenFault}
 use Rattle.pawn_opening.specs.Opened.{TellsSchema}
-use Rattle.pawn_opening.specs.Refusing.{IsNoted, NotesNoSchema, NotesSchema}
+use Rattle.sqlite_resolve.specs.declared.compiled.Compiled.{Compiled}
+use Rattle.sqlite_resolve.specs.declared.error.CompileError.{CompileError}
+use Rattle.one_table.specs.Columns.{no_schema}
+use Rattle.pawn_tables.specs.declared.texts.TheConstants.{READ_SCHEMA}
+use Rattle.pawn_opening.specs.Refusing.{IsEmptyStore, IsNoted, NotesNoSchema, NotesSchema}
 use Rattle.pawn_opening.proofs.Ours as ours
 use Rattle.pawn_saving.proofs.Hosting.{as_lists, as_stands}
 use Rattle.pawn_tables.specs.Meta.{notes}
 use Rattle.pawn_tables.specs.Schema.{first_schema, second_schema, keep_schema, meta, meta_tree}
 use Rattle.pawn_move.specs.declared.fault.MoveFault.{MoveFault}
 use Rattle.pawn_move.specs.declared.fault.MoveFault.TheVariants.{NotOurs, NewerSchema, Damaged, Store, Memory}
-use Rattle.pawn_move.specs.Migrating.{IsFailure, IsNumberJudged, IsMoveTold, IsUnmovable, TellsNumber}
+use Rattle.pawn_move.specs.Migrating.{IsFailure, IsNumberJudged, IsMoveTold, IsNotOurs, IsUntellable, TellsNumber}
 use Rattle.pawn_move.specs.StandsUnder.{IsSchema, StandsUnder, ThirdIsOurs, listed_under, schema_numbered}
 
 -- ---- the third schema is the program's
@@ -59,6 +63,19 @@ module _ (n : ℕ) (db : Database) (h : Host) (st : StandsUnder n db h) where
   pub notes_some : NotesNoSchema db → ⊥
   notes_some = ours.notes_some db (schema_numbered n) (asks (n == 1) (n == 2)) n (rows h) h.limit st.lists.schema_is (meta_held (n == 1) (n == 2) n db h st.lists)
 
+-- ---- an empty store notes none
+
+Refuses : Result Compiled CompileError → Type 0
+Refuses (Ok means) = ⊥
+Refuses (Err fault) = Unit {0}
+
+refuses_all : Refuses (understood no_schema READ_SCHEMA.now)
+unfolding understood everything
+refuses_all = tt
+
+pub notes_none : (db : Database) → IsEmptyStore db → (n : ℕ) → NotesSchema db n → ⊥
+notes_none db empty n it = subst Refuses (sym (ap (λ s. understood s READ_SCHEMA.now) empty) ∙ it.1.is_understood) refuses_all
+
 -- ---- and told
 
 module _ (old new : State) where
@@ -92,7 +109,7 @@ module _ (old new : State) where
   standing n h schema st (Err Store) o v is = tt
   standing n h schema st (Err Memory) o v is = tt
 
-  refused : (r : Result ℕ MoveFault) (o : Option ℕ) → IsNumberJudged o r → IsNoted old.now o → IfErr r (IsUnmovable old.now)
+  refused : (r : Result ℕ MoveFault) (o : Option ℕ) → IsNumberJudged o r → IsNoted old.now o → IfErr r (IsUntellable old.now)
   refused (Ok n) o v is = tt
   refused (Err NotOurs) None v is = inl is
   refused (Err NotOurs) (Some k) (inl none) is = absurd (let e = none in cc)
@@ -103,23 +120,41 @@ module _ (old new : State) where
   refused (Err Store) o v is = tt
   refused (Err Memory) o v is = tt
 
+  bare : IsEmptyStore old.now → (r : Result ℕ MoveFault) (o : Option ℕ) → IsNumberJudged o r → IsNoted old.now o → IsNotOurs r
+  bare empty (Ok n) None v is = absurd (let e = v.0 in cc)
+  bare empty (Ok n) (Some k) v is = notes_none old.now empty k is
+  bare empty (Err NotOurs) o v is = tt
+  bare empty (Err NewerSchema) None v is = absurd (let e = v.1 in cc)
+  bare empty (Err NewerSchema) (Some k) v is = notes_none old.now empty k is
+  bare empty (Err Damaged) o v is = absurd v
+  bare empty (Err Store) o v is = tt
+  bare empty (Err Memory) o v is = tt
+
   pub told : (noted : Option ℕ) (r : Result ℕ MoveFault) → TellsSchema old new (Ok noted) → IsNumberJudged noted r → TellsNumber old new r
   told noted r it verdict = record {
     known = known r noted verdict;
     ok = λ clean. accepted r noted verdict (it.ok clean) (it.serves clean);
     stands = λ clean n h schema st. standing n h schema st r noted verdict (it.ok clean);
     refuses = λ clean. refused r noted verdict (it.ok clean);
+    empty = λ clean none. bare none r noted verdict (it.ok clean);
     same = it.same;
     ended = it.ended;
     survives = it.survives;
   }
 
-  unmovable : (why : MoveFault) → IsFailure why → IsUnmovable old.now why
+  unmovable : (why : MoveFault) → IsFailure why → IsUntellable old.now why
   unmovable NotOurs none = absurd none
   unmovable NewerSchema none = absurd none
   unmovable Damaged none = absurd none
   unmovable Store it = tt
   unmovable Memory it = tt
+
+  none_of_ours : (why : MoveFault) → IsFailure why → IsNotOurs {A = ℕ} (Err why)
+  none_of_ours NotOurs none = tt
+  none_of_ours NewerSchema none = none
+  none_of_ours Damaged none = none
+  none_of_ours Store it = it
+  none_of_ours Memory it = it
 
   pub not_told : (cause : OpenFault) (why : MoveFault) → TellsSchema old new (Err cause) → IsFailure why → TellsNumber old new (Err why)
   not_told cause why it failure = record {
@@ -127,6 +162,7 @@ module _ (old new : State) where
     ok = λ clean. tt;
     stands = λ clean n h schema st. failure;
     refuses = λ clean. unmovable why failure;
+    empty = λ clean none. none_of_ours why failure;
     same = it.same;
     ended = it.ended;
     survives = it.survives;

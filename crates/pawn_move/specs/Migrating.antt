@@ -10,7 +10,9 @@ use Rattle.pawn_book.specs.declared.fault.KeepError.{KeepError}
 use Rattle.pawn_book.specs.declared.fault.KeepError.TheVariants as Keeper
 use Rattle.pawn_book.specs.declared.fault.StoreFault.TheVariants.{NoRecord, Database}
 use Rattle.pawn_opening.specs.Opened.{IsAsBefore, OpensAs}
-use Rattle.pawn_opening.specs.Refusing.{NotesNoSchema, NotesSchema}
+use Rattle.pawn_opening.specs.declared.fault.OpenFault.{OpenFault}
+use Rattle.pawn_opening.specs.declared.fault.OpenFault.TheVariants as Opening
+use Rattle.pawn_opening.specs.Refusing.{IsEmptyStore, NotesNoSchema, NotesSchema}
 use Rattle.pawn_tables.specs.Finding.{Finds}
 use Rattle.pawn_tables.specs.StandsFor.{HoldHost}
 use Rattle.pawn_move.specs.declared.fault.MoveFault.{MoveFault}
@@ -24,13 +26,18 @@ use Rattle.pawn_move.specs.StandsUnder.{IsSchema, StandsUnder}
 abbrev pub StandsForNoSound : Tables → Type 0
 StandsForNoSound db = (n : ℕ) (h : Host) → IsSchema n → StandsUnder n db h → HasUnsoundBook h
 
--- a store is refused as another's, as a newer one, or as damaged only where it is
+-- a store's schema is not told, as none of ours or as a newer one, only if it is so
+abbrev pub IsUntellable : Tables → MoveFault → Type 0
+IsUntellable db NotOurs = NotesNoSchema db ⊎ NotesSchema db 0
+IsUntellable db NewerSchema = (n : ℕ) × NotesSchema db n × (3 < n)
+IsUntellable db Damaged = ⊥
+IsUntellable db Store = Unit {0}
+IsUntellable db Memory = Unit {0}
+
+-- a store is refused as damaged only if it notes the program's schema or an older one, and stands for no sound host
 abbrev pub IsUnmovable : Tables → MoveFault → Type 0
-IsUnmovable db NotOurs = NotesNoSchema db ⊎ NotesSchema db 0
-IsUnmovable db NewerSchema = (n : ℕ) × NotesSchema db n × (3 < n)
-IsUnmovable db Damaged = StandsForNoSound db
-IsUnmovable db Store = Unit {0}
-IsUnmovable db Memory = Unit {0}
+IsUnmovable db Damaged = ((n : ℕ) × NotesSchema db n × IsSchema n) × StandsForNoSound db
+IsUnmovable db why = IsUntellable db why
 
 -- the store failed, and nothing is said of what it holds
 abbrev pub IsFailure : MoveFault → Type 0
@@ -39,6 +46,19 @@ IsFailure NewerSchema = ⊥
 IsFailure Damaged = ⊥
 IsFailure Store = Unit {0}
 IsFailure Memory = Unit {0}
+
+-- an empty store is none of ours, unless the store failed
+abbrev pub IsNotOurs : {A : Type 0} → Result A MoveFault → Type 0
+IsNotOurs (Ok told) = ⊥
+IsNotOurs (Err NotOurs) = Unit {0}
+IsNotOurs (Err why) = IsFailure why
+
+-- what is told where a store is not opened, or not closed, or does not tell its schema
+abbrev pub fault_of_opening : OpenFault → MoveFault
+fault_of_opening Opening.Memory = Memory
+fault_of_opening Opening.Store = Store
+fault_of_opening Opening.NotOurs = Store
+fault_of_opening (Opening.OldSchema n) = Store
 
 -- what is told where the transaction failed
 abbrev pub move_fault_of : KeepError → MoveFault
@@ -67,7 +87,8 @@ pub record TellsNumber (old new : State) (result : Result ℕ MoveFault) : Type 
   pub known : IfOk result IsSchema
   pub ok : HasCleanDisk new → IfOk result (λ n. NotesSchema old.now n × IsTrue new.is_open)
   pub stands : HasCleanDisk new → (n : ℕ) (h : Host) → IsSchema n → StandsUnder n old.now h → IsMoveTold n result
-  pub refuses : HasCleanDisk new → IfErr result (IsUnmovable old.now)
+  pub refuses : HasCleanDisk new → IfErr result (IsUntellable old.now)
+  pub empty : HasCleanDisk new → IsEmptyStore old.now → IsNotOurs result
   pub same : HasCleanDisk new → IsAsBefore old new
   pub ended : new.in_transaction ≡ false
   pub survives : Survives old new (λ _. ⊥)
@@ -94,6 +115,7 @@ pub record Migrates (old new : State) (result : Result (ℕ × ℕ) MoveFault) :
   pub found : HasCleanDisk new → IfOk result (λ told. NotesSchema old.now told.0 × IsSchema told.0 × (told.1 ≡ 3))
   pub moved : HasCleanDisk new → (n : ℕ) (h : Host) → IsSchema n → get h.books 0 ≡ None → StandsUnder n old.now h → IsMoved n h new result
   pub refuses : HasCleanDisk new → IfErr result (IsUnmovable old.now)
+  pub empty : HasCleanDisk new → IsEmptyStore old.now → IsNotOurs result
   pub err : HasCleanDisk new → OnErr result (IsAsBefore old new)
   pub ended : new.in_transaction ≡ false
   pub survives : Survives old new (HoldSameHost old.now)

@@ -1,5 +1,5 @@
 ghost use Rattle.std.specs.Prelude.{◌≡◌};
-ghost use Rattle.pawn_move.specs.Migrating.{IsFailure, move_fault_of};
+ghost use Rattle.pawn_move.specs.Migrating.{IsFailure, fault_of_opening, move_fault_of};
 
 use pawn_book::{KeepError, StoreFault};
 use pawn_opening::OpenFault;
@@ -19,9 +19,11 @@ pub enum MoveFault {
 }
 
 impl MoveFault {
-    /// Why a store is not opened, does not tell its schema or is not closed, as far as that is not of what it holds.
+    /// Why a store is not opened, does not tell its schema or is not closed, if that is not for what it holds: `Memory` exactly for
+    /// want of memory, else `Store`.
     pub fn of_opening(why: OpenFault) -> MoveFault
         ensures failure { IsFailure result }
+        ensures told { result ≡ fault_of_opening why }
     {
         match why {
             OpenFault::Memory => MoveFault::Memory,

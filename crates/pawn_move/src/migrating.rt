@@ -57,9 +57,11 @@ fn move_store<S: Alter>(conn: &mut Connection<S>, alloc: Global, from: u32) -> R
 }
 
 /// Moves the store of a connection that is at rest to the program's schema, in one transaction, and tells the number of the schema
-/// that it had and the program's. Nothing is done to a store of the program's schema. A store that is refused stays as it was: an
-/// empty one and another program's is `NotOurs`, a newer one `NewerSchema`, and an older one of which the debt of some pledge can't
-/// have come about `Damaged`.
+/// that it had and the program's. Nothing is done to a store of the program's schema. A store that is refused stays as it was.
+///
+/// # Errors
+/// `NotOurs` for an empty store and for one that notes no schema; `NewerSchema` if it notes a newer one; `Damaged` if it notes an older
+/// one and the debt of some pledge can't have come about; `Store` and `Memory` if the store failed, or memory was wanting.
 pub fn migrate<S: Alter>(alloc: Global, conn: &mut Connection<S>) -> Result<(u32, u32), MoveFault>
     requires rests { conn.old.in_transaction ≡ false }
     ensures migrates { Migrates (state S.Store conn.old) (state S.Store conn.new) result }

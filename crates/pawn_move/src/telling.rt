@@ -22,8 +22,11 @@ fn judge(noted: Option<u64>) -> Result<u32, MoveFault>
     Ok(number as u32)
 }
 
-/// The number of the schema that a store notes, from 1 to the program's. An empty store, and another program's, are `NotOurs`, a
-/// newer one `NewerSchema`; a store that stands for a host under its schema is neither. The store is left as it was.
+/// The number of the schema that a store notes, from 1 to the program's. The store is left as it was.
+///
+/// # Errors
+/// `NotOurs` for an empty store and for one that notes no schema; `NewerSchema` if it notes a newer one; `Store` and `Memory` if the
+/// store failed, or memory was wanting. It is never `Damaged`.
 pub fn schema_of<S: Alter>(conn: &mut Connection<S>) -> Result<u32, MoveFault>
     requires rests { conn.old.in_transaction ≡ false }
     ensures tells { TellsNumber (state S.Store conn.old) (state S.Store conn.new) result }

@@ -34,10 +34,10 @@ use Rattle.pawn_tables.specs.Schema.{keep_schema}
 use Rattle.pawn_tables.specs.StandsFor.{StandsFor, HoldHost}
 use Rattle.pawn_opening.proofs.Begun.{held}
 use Rattle.pawn_opening.specs.Closed.{AreClosedFor, HasCommitted, IsLeftUnclosed, StandsAlone}
-use Rattle.pawn_opening.specs.FilesStand.{HoldsIn, IsBlank, IsRefusedStore, StandsIn}
+use Rattle.pawn_opening.specs.FilesStand.{HoldsIn, IsBlank, IsRefusedStore, OpensFound, StandsIn}
 use Rattle.pawn_opening.specs.declared.fault.OpenFault.{OpenFault}
-use Rattle.pawn_opening.specs.Opened.{Prepares}
-use Rattle.pawn_opening.specs.Refusing.{IsEmptyStore, IsRefusedFor, IsStoreFault}
+use Rattle.pawn_opening.specs.Opened.{IsOpenable, Prepares}
+use Rattle.pawn_opening.specs.Refusing.{IsEmptyStore, IsRefusedFor, IsStoreFault, NotesSchema}
 use Rattle.pawn_opening.specs.declared.fault.OpenFault.TheVariants as Fault
 
 -- the trees list one schema
@@ -72,6 +72,19 @@ module _ (image : Image) (s : State) (opened : Opens s × IsLive s) (found : Fin
   finds_none blank =
       let bare : s.now.trees catalog_tree ≡ [] = ap (λ (db : Trees). db catalog_tree) trees_are ∙ blank _ found.reads in
       schema_once s.now.schema no_schema s.now.trees sound (empty_is_sound s.now.trees bare)
+
+  -- the database that was found is opened
+  pub accepted : (new : State) → IsOpenable s new → OpensFound image new
+  accepted new is = record {
+    found = s.committed;
+    reads = found.reads;
+    holds = found.holds;
+    sound = (opened.1 opened.0.is_open).1;
+    opened = elim is [
+      | inl empty ↦ inl (subst IsEmptyStore opened.0.clean empty)
+      | inr ours ↦ inr (subst (λ d. NotesSchema d 3) opened.0.clean ours.0, ours.1.0, ours.1.1.now ours.1.0 ∙ opened.0.clean, ours.1.1.committed ours.1.0)
+    ];
+  }
 
   -- the database that was found is refused
   pub refused : {D : Type 0} {g : Ghosts D} (new : Held (FileStore D g)) (it : FileStore D g) (limit : ℕ) (why : OpenFault) → Prepares s (file_state new) limit (Err why) → IsQuiet view faults recovers is_shielded new.store it

@@ -9,7 +9,7 @@ use Rattle.pawn_tables.specs.OneHost.{StandForOne}
 use Rattle.pawn_tables.specs.StandsFor.{StandsFor, HoldHost}
 use Rattle.pawn_opening.specs.declared.fault.OpenFault.{OpenFault}
 use Rattle.pawn_opening.specs.declared.fault.OpenFault.TheVariants.{NotOurs, OldSchema, Store, Memory}
-use Rattle.pawn_opening.specs.Opened.{LaysOut, OpensAs, Prepares, Recognises, empty_host}
+use Rattle.pawn_opening.specs.Opened.{IsOpenable, LaysOut, OpensAs, Prepares, Recognises, empty_host}
 use Rattle.pawn_opening.specs.Refusing.{IsEmptyStore, IsRefusedFor, IsStoreFault, NotesSchema}
 use Rattle.pawn_opening.proofs.Begun.{opens_as}
 use Rattle.pawn_opening.proofs.Ours.{not_empty, only_faults}
@@ -33,6 +33,7 @@ module _ (old new : State) (limit : ℕ) (r : Result (Unit {0}) OpenFault) (last
 
   pub when_empty : IsEmptyStore old.now → LaysOut old new limit r → Prepares old new limit r
   when_empty empty it = record {
+    opens = λ clean. openable r;
     new_store = it.ok;
     stands = λ clean h st. absurd (not_empty old.now h st empty);
     bare = λ clean empty'. it.why;
@@ -44,6 +45,10 @@ module _ (old new : State) (limit : ℕ) (r : Result (Unit {0}) OpenFault) (last
     crash = crashed laid;
   }
     where
+      openable : (r' : Result (Unit {0}) OpenFault) → OnOk r' (IsOpenable old new)
+      openable (Ok done) = inl empty
+      openable (Err why) = tt
+
       laid : Survives old new New
       laid = survives_weaker old new _ New (λ clean trees holds. (empty, holds empty)) it.survives
 
@@ -54,6 +59,7 @@ module _ (old new : State) (limit : ℕ) (r : Result (Unit {0}) OpenFault) (last
   pub when_other : StandForOne → (IsEmptyStore old.now → ⊥) → (IsTrue old.is_open → old.now ≡ old.committed) → (IsTrue new.is_open → (trees : Trees) → new.may_leave trees → trees ≡ new.committed.trees)
       → Recognises old new r → Prepares old new limit r
   when_other one other settled left it = record {
+    opens = λ clean. openable clean r (it.ok clean);
     new_store = λ clean empty. absurd (other empty);
     stands = λ clean h st. accepted clean h st r (it.ok clean);
     bare = λ clean empty. absurd (other empty);
@@ -67,6 +73,10 @@ module _ (old new : State) (limit : ℕ) (r : Result (Unit {0}) OpenFault) (last
     where
       same_store : Survives old new New
       same_store = survives_weaker old new (λ _. ⊥) New (λ clean trees none. absurd none) it.survives
+
+      openable : HasCleanDisk new → (r' : Result (Unit {0}) OpenFault) → OnOk r' (IsTrue new.is_open × NotesSchema old.now 3) → OnOk r' (IsOpenable old new)
+      openable clean (Ok done) ok = inr (ok.1, ok.0, it.same clean)
+      openable clean (Err why) ok = tt
 
       accepted : HasCleanDisk new → (h : Host) → StandsFor old.now h → (r' : Result (Unit {0}) OpenFault) → OnOk r' (IsTrue new.is_open × NotesSchema old.now 3) → OnOk r' (OpensAs new h)
       accepted clean h st (Err why) ok = tt

@@ -1,11 +1,12 @@
 -- What files hold before an open, and what a refusal leaves of them.
-use Rattle.std.specs.Prelude.{◌≡◌, ◌⊎◌, ℕ, []}
+use Rattle.std.specs.Prelude.{◌≡◌, ◌⊎◌, ℕ, [], IsTrue}
 use Rattle.sqlite_disk.specs.declared.Disk.{Ghosts}
 use Rattle.sqlite_disk.specs.declared.Files.{Files}
 use Rattle.sqlite_wal.specs.Recovery.{Image}
 use Rattle.sqlite_store.specs.declared.store.FileStore.{FileStore}
 use Rattle.sqlite_store.specs.FileStore.{recovers}
 use Rattle.sqlite_trees.specs.Objects.{catalog_tree}
+use Rattle.sqlite.specs.State.{State}
 use Rattle.sqlite.specs.Tree.{Trees}
 use Rattle.sqlite.specs.declared.file.Leftover.{Leftover}
 use Rattle.sqlite.specs.declared.file.Leftover.TheVariants as left
@@ -15,7 +16,7 @@ use Rattle.pawn_book.specs.HostStep.{Host}
 use Rattle.pawn_tables.specs.StandsFor.{HoldHost}
 use Rattle.pawn_opening.specs.declared.fault.OpenFault.{OpenFault}
 use Rattle.pawn_opening.specs.Opened.{empty_host}
-use Rattle.pawn_opening.specs.Refusing.{IsEmptyStore, IsRefusedFor, IsStoreFault}
+use Rattle.pawn_opening.specs.Refusing.{IsEmptyStore, IsRefusedFor, IsStoreFault, NotesSchema}
 
 -- the bytes of the files hold a database that stands for the host
 pub record StandsIn (image : Image) (h : Host) : Type 0 where
@@ -39,6 +40,14 @@ pub record RefusesFound {D : Type 0} {g : Ghosts D} (image : Image) (limit : ℕ
   pub sound : IsDatabase found
   pub refused : IsRefusedFor found why
   pub crash : (trees : Trees) → recovers it trees → (trees ≡ found.trees) ⊎ (IsEmptyStore found × HoldHost trees (empty_host limit))
+
+-- The bytes held a database that is opened: an empty one, or one that notes the program's schema, which the store holds as it was.
+pub record OpensFound (image : Image) (s : State) : Type 0 where
+  pub found : Database
+  pub reads : AreFoundIn image found.trees
+  pub holds : (db : Trees) → HoldsDatabase image db → found.trees ≡ db
+  pub sound : IsDatabase found
+  pub opened : IsEmptyStore found ⊎ (NotesSchema found 3 × IsTrue s.is_open × (s.now ≡ found) × (s.committed ≡ found))
 
 -- a store over the files is left, whose database is refused
 abbrev pub IsRefusedStore : {D : Type 0} {g : Ghosts D} → Image → ℕ → OpenFault → Leftover D g → Type 0

@@ -58,9 +58,15 @@ pub record Recognises (old new : State) (result : Result (Unit {0}) OpenFault) :
   pub ended : new.in_transaction ≡ false
   pub survives : Survives old new (λ _. ⊥)
 
--- A store is opened. An empty one is laid out for the empty host with this limit; one that stands for a host is left as it is;
--- any other is refused, and left as it is. A crash on the way leaves the store as it was or, if it was empty, laid out.
+-- only an empty store is opened, or one that notes the program's schema: that one is open, as it was
+abbrev pub IsOpenable : State → State → Type 0
+IsOpenable old new = IsEmptyStore old.now ⊎ (NotesSchema old.now 3 × IsTrue new.is_open × IsAsBefore old new)
+
+-- A store is opened. An empty one is laid out for the empty host with this limit; one that notes the program's schema is opened as
+-- it was, for the host that it stands for, if it stands for one; any other is refused, and left as it was. A crash on the way leaves
+-- the store as it was or, if it was empty, laid out.
 pub record Prepares (old new : State) (limit : ℕ) (result : Result (Unit {0}) OpenFault) : Type 0 where
+  pub opens : HasCleanDisk new → OnOk result (IsOpenable old new)
   pub new_store : HasCleanDisk new → IsEmptyStore old.now → OnOk result (OpensAs new (empty_host limit))
   pub stands : HasCleanDisk new → (h : Host) → StandsFor old.now h → OnOk result (OpensAs new h)
   -- an empty store, or one that stands for a host, is not refused for what it holds

@@ -9,7 +9,7 @@ ghost use Rattle.sqlite_wal.specs.Files.{image_at};
 ghost use Rattle.pawn_book.specs.HostStep.{Host};
 ghost use Rattle.pawn_book.specs.Limits.{most_rows};
 ghost use Rattle.pawn_opening.specs.Closed.{AreClosedFor, HasCommitted, IsLeftUnclosed};
-ghost use Rattle.pawn_opening.specs.FilesStand.{IsBlank, RefusesFiles, RefusesHeld, StandsIn};
+ghost use Rattle.pawn_opening.specs.FilesStand.{IsBlank, OpensFound, RefusesFiles, RefusesHeld, StandsIn};
 ghost use Rattle.pawn_opening.specs.Opened.{OpensAs, empty_host};
 ghost use Rattle.pawn_opening.specs.Refusing.{IsStoreFault};
 
@@ -37,8 +37,9 @@ pub fn open_memory(alloc: Global, limit: u32) -> Result<Connection<MemStore>, Op
     }
 }
 
-/// The store in two files. An empty one is laid out for the empty host with this limit; in another the stored limit stands.
-/// The limit on rows is 1 to 10,000,000. Where the store is refused, what is left of the files comes back.
+/// The store in two files. An empty one is laid out for the empty host with this limit. One that notes the program's schema is
+/// opened as it is, with the stored limit; whether it stands for a host is not judged. The limit on rows is 1 to 10,000,000. If the
+/// store is refused, what is left of the files comes back.
 pub fn open_files<D: Disk + Drop>(
     alloc: Global,
     files: Files<D>,
@@ -53,6 +54,8 @@ pub fn open_files<D: Disk + Drop>(
         (image_of D.Disk files) → OpensAs (file_state conn) (empty_host limit)) }
     ensures stands { IfOk result (λ conn. HasCleanDisk (file_state conn) → (h : Host) → StandsIn
         (image_of D.Disk files) h → OpensAs (file_state conn) h) }
+    ensures found { IfOk result (λ conn. HasCleanDisk (file_state conn) → OpensFound
+        (image_of D.Disk files) (file_state conn)) }
     ensures mode { IfOk result (λ conn. conn.in_transaction ≡ false) }
     ensures refuses { IfErr result (λ e. IsCleanLeft e.1 → RefusesFiles files limit e.0 e.1) }
 {
@@ -66,10 +69,10 @@ pub fn open_files<D: Disk + Drop>(
     }
 }
 
-/// The store in the file at a path, which is made where there is none, over whatever `start` says of its bytes. An empty one is
-/// laid out for the empty host with this limit; in another the stored limit stands. The limit on rows is 1 to 10,000,000.
-/// Where the store is refused, what is left of the files comes back, once they were opened: of those that were, to which nothing
-/// had been done.
+/// The store in the file at a path, which is made if there is none, over whatever `start` says of its bytes. An empty one is laid
+/// out for the empty host with this limit. One that notes the program's schema is opened as it is, with the stored limit; whether it
+/// stands for a host is not judged. The limit on rows is 1 to 10,000,000. If the store is refused after its files were opened, what
+/// is left of them comes back: of those that were opened, nothing having been done to them.
 pub fn open_path<S: Start>(
     rt: &HostRuntime,
     path: &str,
@@ -82,6 +85,8 @@ pub fn open_path<S: Start>(
         → OpensAs (file_state conn) (empty_host limit)) }
     ensures stands { IfOk result (λ conn. HasCleanDisk (file_state conn) → (h : Host) → StandsIn
         (image_at S.Start) h → OpensAs (file_state conn) h) }
+    ensures found { IfOk result (λ conn. HasCleanDisk (file_state conn) → OpensFound
+        (image_at S.Start) (file_state conn)) }
     ensures mode { IfOk result (λ conn. conn.in_transaction ≡ false) }
     ensures unopened { IfErr result (λ e. e.1 ≡ None → IsStoreFault e.0) }
     ensures refuses { IfErr result

@@ -37,7 +37,12 @@ fn is_empty<S: Alter>(conn: &Connection<S>) -> bool
 }
 
 /// Opens the store of a connection that is at rest. An empty store is laid out for the empty host with this limit, in one
-/// transaction; in another the stored limit stands, and nothing is written. The limit on rows is 1 to 10,000,000.
+/// transaction. One that notes the program's schema is opened as it is, with the stored limit, and nothing is written; whether it
+/// stands for a host is not judged. The limit on rows is 1 to 10,000,000.
+///
+/// # Errors
+/// `OldSchema` with its number if the store notes an older schema; `NotOurs` if it is not empty and notes no schema, or a newer one;
+/// `Store` and `Memory` if the store failed, or memory was wanting.
 pub fn prepare<S: Alter>(conn: &mut Connection<S>, limit: u32) -> Result<(), OpenFault>
     requires rests { conn.old.in_transaction ≡ false }
     requires least { 1 ≤ limit }

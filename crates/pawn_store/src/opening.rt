@@ -11,7 +11,7 @@ ghost use Rattle.pawn_book.specs.HostStep.{Host};
 ghost use Rattle.pawn_book.specs.Limits.{most_rows};
 ghost use Rattle.pawn_tables.specs.Keeps.{Keeps};
 ghost use Rattle.pawn_opening.specs.Closed.{AreClosedFor, IsLeftUnclosed};
-ghost use Rattle.pawn_opening.specs.FilesStand.{IsBlank, RefusesHeld, StandsIn};
+ghost use Rattle.pawn_opening.specs.FilesStand.{IsBlank, OpensFound, RefusesHeld, StandsIn};
 ghost use Rattle.pawn_opening.specs.Opened.{OpensAs, empty_host};
 ghost use Rattle.pawn_opening.specs.Refusing.{IsStoreFault};
 ghost use Rattle.pawn_store.specs.Running.{Reopens};
@@ -40,11 +40,12 @@ pub fn keep_in_memory(alloc: Global, limit: u32) -> Result<TableKeep<MemStore>, 
     }
 }
 
-/// A keeper over the store in the file at a path, which is made where there is none, over whatever `start` says of its bytes.
-/// An empty one is laid out for the empty host with this limit; in another the stored limit stands. The limit on rows is 1 to
-/// 10,000,000. Where the files hold what a crash left of a store that had answered requests, it is opened for the host of all
-/// of them, or for that one with one request more. Where the store is refused, what is left of the files comes back, once they
-/// were opened: of those that were, to which nothing had been done.
+/// A keeper over the store in the file at a path, which is made if there is none, over whatever `start` says of its bytes.
+/// An empty one is laid out for the empty host with this limit. One that notes the program's schema is opened as it is, with the
+/// stored limit; whether it stands for a host is not judged. The limit on rows is 1 to 10,000,000. If the files hold what a crash
+/// left of a store that had answered requests, it is opened for the host of all of them, or for that one with one request more. If
+/// the store is refused after its files were opened, what is left of them comes back: of those that were opened, nothing having been
+/// done to them.
 pub fn keep_at_path<S: Start>(
     rt: &HostRuntime,
     path: &str,
@@ -57,6 +58,8 @@ pub fn keep_at_path<S: Start>(
         (image_at S.Start) → OpensAs (file_state keep.conn) (empty_host limit)) }
     ensures stands { IfOk result (λ keep. HasCleanDisk (file_state keep.conn) → (h : Host)
         → StandsIn (image_at S.Start) h → OpensAs (file_state keep.conn) h) }
+    ensures found { IfOk result (λ keep. HasCleanDisk (file_state keep.conn) → OpensFound
+        (image_at S.Start) (file_state keep.conn)) }
     ensures reopens { IfOk result (λ keep. HasCleanDisk (file_state keep.conn) → Reopens
         (image_at S.Start) (file_state keep.conn)) }
     ensures unopened { IfErr result (λ e. e.1 ≡ None → IsStoreFault e.0) }

@@ -19,12 +19,31 @@ const SMALL: Options = Options {
     seed: 1,
 };
 
-/// Disks of which the log fails after so many calls.
-pub fn disks(alloc: Global, log: u64) -> Disks {
+/// The file whose calls fail from some call on.
+#[derive(Clone, Copy, Debug)]
+pub enum Failing {
+    Log,
+    Database,
+}
+
+/// Disks of which one file answers so many calls, and fails at each one after them.
+pub fn disks(alloc: Global, failing: Failing, calls: u64) -> Disks {
+    let (log, db) = match failing {
+        Failing::Log => (calls, NEVER),
+        Failing::Database => (NEVER, calls),
+    };
     Files {
         log: Fuse::new(Memory::new(alloc), log),
-        db: Fuse::new(Memory::new(alloc), NEVER),
+        db: Fuse::new(Memory::new(alloc), db),
     }
+}
+
+/// Whether both files would have answered one call more.
+pub fn go_on(disks: &mut Disks) -> bool {
+    if !disks.log.may_be_used() || !disks.db.may_be_used() {
+        return false;
+    }
+    disks.log.len().is_ok() && disks.db.len().is_ok()
 }
 
 /// The disks as a stop leaves them: what was synced, and they answer again.
@@ -34,15 +53,19 @@ pub fn crashed(mut disks: Disks) -> Disks {
     disks
 }
 
-/// The store on the disks, made with room for a hundred rows where there is none.
-pub fn store_on(alloc: Global, disks: Disks) -> Option<Connection<FileStore<Fuse<Memory>>>> {
+/// The store on the disks, made with room for a hundred rows if there is none; or what a stop leaves of the disks, if it is not
+/// opened.
+pub fn store_on(alloc: Global, disks: Disks) -> Result<Connection<FileStore<Fuse<Memory>>>, Disks> {
     if !disks.log.may_be_used() {
-        return None;
+        return Err(disks);
     }
     if !disks.db.may_be_used() {
-        return None;
+        return Err(disks);
     }
-    open_files(alloc, disks, SMALL, 100).ok()
+    match open_files(alloc, disks, SMALL, 100) {
+        Ok(conn) => Ok(conn),
+        Err((_, left)) => Err(crashed(left.into_files())),
+    }
 }
 
 /// A connection to the database on the disks, whatever it holds.

@@ -1,6 +1,7 @@
-//! A store of the first schema whose log stops at some call while it is moved: what is there when it is opened again. The script
-//! `tests/migration.py` shows it by kills over files, and each total by value.
-use crate::disks::{Disks, connected, crashed, disks, store_on};
+//! A store of an older schema of which a file stops at some call while it is moved: what is there when it is opened again. Each call
+//! of either file is such a stop, until a migration meets none. The script `tests/migration.py` shows it by kills over files, and each
+//! total by value.
+use crate::disks::{Disks, Failing, connected, crashed, disks, go_on, store_on};
 use pawn_check::{CheckFault, Counts, check};
 use pawn_keeper::TableKeep;
 use pawn_move::{MoveFault, migrate, schema_of};
@@ -13,26 +14,61 @@ use std::test::Fail;
 const FIRST: &str =
     "INSERT INTO books VALUES (7, X'00000000000000000000000000000001', 'High Street', 2, 1, 1, NULL, NULL); INSERT INTO terms VALUES (7, 1, 2667, 0, 0); INSERT INTO pledges VALUES (7, 1, 'A1', 'Gold ring', 0, 10000, 19723, NULL, 0, 1, 19905, 0, 19753, 0, NULL, NULL); INSERT INTO entries VALUES (7, 1, 1, 19753, 1, 1000); INSERT INTO secrets VALUES (7, 1, 1, 19723, 0, X'00000000000000000000000000000003'); UPDATE meta SET value = 5 WHERE name = 'rows'; DROP TABLE extensions; DROP TABLE totals; UPDATE meta SET value = 1 WHERE name = 'schema'";
 
+// The same of the second, which has the totals of the pledge on the day of its entry.
+const SECOND: &str =
+    "INSERT INTO books VALUES (7, X'00000000000000000000000000000001', 'High Street', 2, 1, 1, NULL, NULL); INSERT INTO terms VALUES (7, 1, 2667, 0, 0); INSERT INTO pledges VALUES (7, 1, 'A1', 'Gold ring', 0, 10000, 19723, NULL, 0, 1, 19905, 0, 19753, 0, NULL, NULL); INSERT INTO entries VALUES (7, 1, 1, 19753, 1, 1000); INSERT INTO secrets VALUES (7, 1, 1, 19723, 0, X'00000000000000000000000000000003'); INSERT INTO totals VALUES (7, 1, 19753, 9800, 100000); UPDATE meta SET value = 5 WHERE name = 'rows'; DROP TABLE extensions; UPDATE meta SET value = 2 WHERE name = 'schema'";
+
+// A schema from which a store is moved: its number, and what makes such a store.
+#[derive(Clone, Copy)]
+struct Older {
+    number: u32,
+    made: &'static str,
+}
+
+const OLDER: [Older; 2] = [
+    Older {
+        number: 1,
+        made: FIRST,
+    },
+    Older {
+        number: 2,
+        made: SECOND,
+    },
+];
+
 // The numbers of the schemas from which and to which a store is moved.
 type Moved = Result<(u32, u32), MoveFault>;
 
-// How a migration of a store ends that is made one of the first schema. None where it stops before.
-fn moved_from_first<S: Alter>(alloc: Global, conn: &mut Connection<S>) -> Option<Moved> {
-    conn.execute_batch(FIRST).ok()?;
+// How a migration of a store ends that is made one of an older schema. None if it stops before.
+fn moved_from<S: Alter>(alloc: Global, conn: &mut Connection<S>, older: Older) -> Option<Moved> {
+    conn.execute_batch(older.made).ok()?;
     if !conn.is_autocommit() {
         return None;
     }
     Some(migrate(alloc, conn))
 }
 
-// How a migration of a store of the first schema ends on the disks, and what a stop then leaves of them. None where they stop
-// before it.
-fn stopped(alloc: Global, disks: Disks) -> Option<(Moved, Disks)> {
-    let mut conn = store_on(alloc, disks)?;
-    let end = moved_from_first(alloc, &mut conn);
-    let left = crashed(conn.into_store().close());
+// A migration on disks: how it ended, whether no call failed, and what a stop then leaves of the disks.
+#[derive(Drop)]
+struct Run {
+    end: Moved,
+    is_whole: bool,
+    left: Disks,
+}
+
+// A migration of a store of an older schema. None if the disks stop before it.
+fn run_on(alloc: Global, disks: Disks, older: Older) -> Option<Run> {
+    let mut conn = store_on(alloc, disks).ok()?;
+    let end = moved_from(alloc, &mut conn, older);
+    let mut left = conn.into_store().close();
+    let is_whole = go_on(&mut left);
+    let left = crashed(left);
     match end {
-        Some(end) => Some((end, left)),
+        Some(end) => Some(Run {
+            end,
+            is_whole,
+            left,
+        }),
         None => None,
     }
 }
@@ -64,48 +100,65 @@ fn found(alloc: Global, disks: Disks) -> Option<(u32, Moved, Result<Counts, Chec
     Some((number, end, counts))
 }
 
-// Lets the log stop at that call. The old tables are there then, or the new ones, and they are moved and judged. Tells how the
-// migration ended that was stopped.
-fn stops(rt: &impl Abort, alloc: Global, calls: u64) -> Result<Option<Moved>, Fail> {
-    let Some((end, left)) = stopped(alloc, disks(alloc, calls)) else {
-        return Ok(None);
+// Lets a file stop at that call. The old tables are there then, or the new ones, and they are moved and judged. Tells whether no call
+// failed.
+fn stops(
+    rt: &impl Abort,
+    alloc: Global,
+    older: Older,
+    failing: Failing,
+    calls: u64,
+) -> Result<bool, Fail> {
+    let Some(run) = run_on(alloc, disks(alloc, failing, calls), older) else {
+        return Ok(false);
     };
-    let (number, again, judged) = found(alloc, left).ok_or("opened again")?;
+    let (number, again, judged) = found(alloc, run.left).ok_or("opened again")?;
     let counts = Counts {
         books: 1,
         pledges: 1,
         rows: 5,
     };
-    assert!(rt;
-        number == 3 || (number == 1 && end.is_err()),
-        "schema {number}, {calls} calls"
-    );
-    assert_eq!(rt; again, Ok((number, 3)), "{calls} calls");
-    assert_eq!(rt; judged, Ok(counts), "{calls} calls");
-    Ok(Some(end))
+    match run.end {
+        Ok(numbers) => {
+            assert_eq!(rt; numbers, (older.number, 3));
+            assert_eq!(rt; number, 3, "{calls} calls of {failing:?}");
+        }
+        Err(why) => {
+            assert_eq!(rt; why, MoveFault::Store);
+            assert!(rt;
+                number == 3 || number == older.number,
+                "{calls} calls of {failing:?}"
+            );
+        }
+    }
+    assert_eq!(rt; again, Ok((number, 3)), "{calls} calls of {failing:?}");
+    assert_eq!(rt; judged, Ok(counts), "{calls} calls of {failing:?}");
+    Ok(run.is_whole)
+}
+
+// Lets a file stop at its first call, at its second, and so on, until a migration meets no stop.
+fn stops_at_each_call(rt: &impl Abort, alloc: Global, failing: Failing) -> Result<(), Fail> {
+    for older in OLDER {
+        let mut is_whole = false;
+        for calls in 0..10_000u64 {
+            if stops(rt, alloc, older, failing, calls)? {
+                is_whole = true;
+                break;
+            }
+        }
+        assert!(rt; is_whole, "a migration without a stop");
+    }
+    Ok(())
 }
 
 #[test]
 fn a_log_that_stops_leaves_the_old_tables_or_the_new(rt: HostRuntime) -> Result<(), Fail> {
-    let mut calls = 0u64;
-    let mut stopped = 0u32;
-    for _ in 0..200u32 {
-        match stops(&rt, rt.alloc(), calls)? {
-            Some(Err(why)) => {
-                assert_eq!(rt; why, MoveFault::Store);
-                stopped = stopped.saturating_add(1);
-                if stopped == 3 {
-                    return Ok(());
-                }
-            }
-            Some(Ok(numbers)) => {
-                assert_eq!(rt; numbers, (1, 3));
-                assert!(rt; stopped > 0);
-                return Ok(());
-            }
-            None => {}
-        }
-        calls = calls.saturating_add(5);
-    }
-    Err(Fail::from("a stop at each call"))
+    stops_at_each_call(&rt, rt.alloc(), Failing::Log)
+}
+
+#[test]
+fn a_database_file_that_stops_leaves_the_old_tables_or_the_new(
+    rt: HostRuntime,
+) -> Result<(), Fail> {
+    stops_at_each_call(&rt, rt.alloc(), Failing::Database)
 }

@@ -11,15 +11,18 @@ use Rattle.sqlite.specs.declared.types.Value.TheVariants.{Text}
 use Rattle.sqlite.specs.Ops.{binary}
 use Rattle.sqlite.specs.Order.{Row, column, value_cmp}
 use Rattle.sqlite.specs.Effect.{Database}
+use Rattle.sqlite.specs.State.{State}
 use Rattle.sqlite.proofs.Callers.{one_permutation}
 use Rattle.pawn_terms.specs.declared.terms.Rates.{Rates}
 use Rattle.pawn_pledge.specs.declared.record.Booking.{Booking}
 use Rattle.pawn_pledge.specs.Pledge.{PledgeValue}
 use Rattle.pawn_book.specs.BookStep.{BookValue, pledge_from, pledge_in}
 use Rattle.pawn_book.specs.HostStep.{Host, rows}
-use Rattle.pawn_book.specs.Keeping.{entries_of, extensions_of, secrets_of, terms_of}
+use Rattle.pawn_book.specs.Keeping.{WholeIsSound, entries_of, extensions_of, secrets_of, terms_of}
 use Rattle.pawn_book.specs.Rows.{terms_at}
 use Rattle.pawn_book.specs.Written.{IsWord, AreWords}
+use Rattle.pawn_book.specs.Sound.{IsSound}
+use Rattle.pawn_tables.specs.Keeps.{keeping_by}
 use Rattle.pawn_tables.specs.Rows.{under, at_most_one, placed_from, head_cells, terms_cells, pledge_cells, pledge_listed, entry_cells, entries_listed, secret_cells, secrets_listed, extension_cells, extensions_listed, booking_cells, booking_listed}
 use Rattle.pawn_tables.specs.Entries.{RiseFrom}
 use Rattle.pawn_tables.specs.Meta.{meta_row, meta_rows}
@@ -234,3 +237,14 @@ tables_stand_for_one_host db h g a c =
     let books = same_map nat_cmp_total nat_cmp-IsAntisymmetric h.books g.books (book_same db h g a c) in
     let limit = limit_same db h g a c in
     λ i. record { books = books i; limit = limit i }
+
+-- ---- a keeper over a connection that is whole
+
+-- stands for a sound host, and so does whatever a crash now may leave
+pub tables_whole_is_sound : {K : Type 0} (state : K → State) → WholeIsSound (keeping_by state)
+tables_whole_is_sound state = record {
+  stands = λ k whole. (whole.host, whole.sound, whole.keeps);
+  left = λ k whole h leaves.
+      let held = whole.crash leaves.trees leaves.left in
+      subst IsSound (tables_stand_for_one_host _ held.0 h held.2 leaves.stands) held.1;
+}

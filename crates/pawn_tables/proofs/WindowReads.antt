@@ -1,8 +1,8 @@
 -- What the query for the windows of a day shows, where the tables stand for a host.
-use Rattle.std.proofs.Common.{◌≡◌, ◌≢◌, ◌==◌, ℕ, ◌<◌, pos, List, [], ◌∷◌, map, filter, filter_map, nat_lt, Bool, true, false, cond, ◌&&◌, ◌||◌, Option, Some, None, refl, sym, ap, subst, ◌∙◌, arith, true≢false}
-use Rattle.std.specs.List.{AllByRecursion, list_all, list_any, cons_option}
+use Rattle.std.proofs.Common.{◌≡◌, ◌≢◌, ◌==◌, ℕ, ◌<◌, ◌≤◌, pos, List, [], ◌∷◌, map, filter, filter_map, nat_lt, Bool, true, false, cond, ◌&&◌, ◌||◌, Option, Some, None, refl, sym, ap, subst, ◌∙◌, arith, true≢false}
+use Rattle.std.specs.List.{AllByRecursion, IsDistinct, list_all, list_any, cons_option}
 use Rattle.std.specs.FinMap.{get}
-use Rattle.std.specs.Ordering.{is_eq, ordering_then}
+use Rattle.std.specs.Ordering.{eq_by_cmp, is_eq, ordering_then}
 use Rattle.std.specs.declared.cmp.Ordering.{Ordering}
 use Rattle.std.specs.declared.cmp.Ordering.TheVariants.{Less, Equal, Greater}
 use Rattle.std.proofs.lemmas.Bool.Decides.{nat_tests}
@@ -29,7 +29,7 @@ use Rattle.pawn_tables.specs.Lines.{NamesWindows}
 use Rattle.pawn_tables.specs.Rows.{number, number_in_book, under, booking_cells, booking_listed, state_number}
 use Rattle.pawn_tables.specs.Schema.{keep_schema, bookings, bookings_tree}
 use Rattle.pawn_tables.specs.StandsFor.{StandsFor, of_pledges}
-use Rattle.one_table.proofs.Distinct.{each_shown_once, shown_once_each}
+use Rattle.one_table.proofs.Distinct.{each_shown_once, shown_apart, shown_once_each}
 use Rattle.pawn_tables.proofs.ReadTexts as text
 use Rattle.pawn_tables.proofs.BookReads as books
 use Rattle.pawn_tables.proofs.BookReads.{one_test}
@@ -67,12 +67,53 @@ none_comes day w few (p ∷ ps) all = go (λ more. none_comes day w few ps more)
         each true false false l same low all = rest all
         each false e s l same low all = rest all
 
+-- an item before others
+some_items : {X : Type 0} (o : Option X) (xs : List X) → xs ≢ [] → cons_option o xs ≢ []
+some_items None xs some = some
+some_items (Some x) xs some = λ none. absurd (let e = none in cc)
+
+one_shown : {X : Type 0} (c : Bool) (x : X) (xs : List X) → c ≡ true → cons_option (cond c (Some x) None) xs ≢ []
+one_shown true x xs is = λ none. absurd (let e = none in cc)
+one_shown false x xs is = absurd (true≢false (sym is))
+
+-- a window of the day, in which somebody comes of a pledge with this booking and of these others
+abbrev Comes : ℕ → PledgeValue → List PledgeValue → Option Booking → ℕ → Type 0
+Comes day p ps o n = (n ≤ 15) × (cons_option (cond (is_confirmed_for day n o) (Some (Confirmed (number_in_book p))) None) (part_items (part_of.Confirmed n) day ps) ≢ [])
+
+-- somebody comes in a window that is told of a pledge
+some_comes : (day : ℕ) (ps : List PledgeValue) → AllByRecursion (λ (n : ℕ). (n ≤ 15) × (part_items (part_of.Confirmed n) day ps ≢ [])) (filter_map (window_told day) ps)
+some_comes day [] = tt
+some_comes day (p ∷ ps) = go (some_comes day ps) p.standing.booking
+  where
+    later : (o : Option Booking) → AllByRecursion (λ (n : ℕ). (n ≤ 15) × (part_items (part_of.Confirmed n) day ps ≢ [])) (filter_map (window_told day) ps) → AllByRecursion (Comes day p ps o) (filter_map (window_told day) ps)
+    later o all = all_weaker (λ (n : ℕ). (n ≤ 15) × (part_items (part_of.Confirmed n) day ps ≢ [])) (Comes day p ps o) (λ n it. (it.0, some_items (cond (is_confirmed_for day n o) (Some (Confirmed (number_in_book p))) None) (part_items (part_of.Confirmed n) day ps) it.1)) (filter_map (window_told day) ps) all
+
+    comes : (k : Booking) → (k.day == day) ≡ true → is_confirmed k.state ≡ true → nat_lt k.window 16 ≡ true → Comes day p ps (Some k) k.window
+    comes k on confirmed low =
+        let here : (k.window == k.window) ≡ true = grind (arith, nat_tests) in
+        (grind (arith, nat_tests, low), one_shown (is_confirmed_for day k.window (Some k)) (Confirmed (number_in_book p)) (part_items (part_of.Confirmed k.window) day ps) (λ i. (on i && here i) && confirmed i))
+
+    go : AllByRecursion (λ (n : ℕ). (n ≤ 15) × (part_items (part_of.Confirmed n) day ps ≢ [])) (filter_map (window_told day) ps) → (o : Option Booking)
+        → AllByRecursion (Comes day p ps o) (cons_option (tell_of (comes_on day) (λ n (k : Booking). k.window) (number_in_book p) o) (filter_map (window_told day) ps))
+    go all None = later None all
+    go all (Some k) = each (k.day == day) (is_confirmed k.state) (nat_lt k.window 16) refl refl refl
+      where
+        each : (d s l : Bool) → (k.day == day) ≡ d → is_confirmed k.state ≡ s → nat_lt k.window 16 ≡ l
+            → AllByRecursion (Comes day p ps (Some k)) (cons_option (cond (d && (s && l)) (Some k.window) None) (filter_map (window_told day) ps))
+        each true true true on confirmed low = (comes k on confirmed low, later (Some k) all)
+        each true true false on confirmed low = later (Some k) all
+        each true false l on confirmed low = later (Some k) all
+        each false s l on confirmed low = later (Some k) all
+
 abbrev at_windows : ℕ → ℕ → Row → Bool
 at_windows b day v = list_all (λ (x : Bool). x) (is_at (column v 0) (number b) ∷ is_at (column v 2) (number day) ∷ is_at (column v 4) (number 1) ∷ is_below (column v 3) (number 16) ∷ [])
 
 windows_passes : (b day m n : ℕ) (k : Booking) → at_windows b day (under m n (booking_cells k)) ≡ ((m == b) && (true && comes_on day k))
 windows_passes b day m n k =
     λ i. equals m b i && (equals k.day day i && ((equals (state_number k.state) 1 ∙ confirmed_state k.state) i && (one_test (is_below (number k.window) (number 16)) ∙ books.lesser k.window 16) i))
+
+one_number : (m n : ℕ) → number_cells m ≡ number_cells n → m ≡ n
+one_number m n same = let e = same in cc
 
 numbers_in : (rows : List Row) → AllByRecursion (λ r. (n : ℕ) × (r ≡ number_cells n)) rows → (ns : List ℕ) × (rows ≡ map number_cells ns)
 numbers_in [] all = ([], refl)
@@ -81,6 +122,21 @@ numbers_in (r ∷ rs) all = let rest = numbers_in rs all.1 in (all.0.0 ∷ rest.
 -- rows of other numbers
 tied : (m n : ℕ) → is_eq (value_cmp (number m) (number n)) ≡ (m == n)
 tied m n = ap is_eq (value_cmp-Int (pos m) (pos n)) ∙ grind (arith, nat_tests)
+
+then_equal : (o : Ordering) → is_eq (ordering_then o (collated_cmp [] [] [])) ≡ is_eq o
+then_equal Less = refl
+then_equal Equal = refl
+then_equal Greater = refl
+
+-- numbers of rows of which no two are equal
+numbers_apart : (ns : List ℕ) → IsDistinct (eq_by_cmp (collated_cmp (Binary ∷ []))) (map number_cells ns) → IsDistinct (λ m n. m == n) ns
+unfolding IsDistinct
+numbers_apart [] apart = tt
+numbers_apart (n ∷ ns) apart = (
+  all_weaker _ (λ (m : ℕ). (n == m) ≡ false) (λ m other. sym (then_equal (value_cmp (number n) (number m)) ∙ tied n m) ∙ other) ns
+      (all_from_map (λ r. eq_by_cmp (collated_cmp (Binary ∷ [])) (number_cells n) r ≡ false) number_cells ns apart.0),
+  numbers_apart ns apart.1,
+)
 
 others : (w : ℕ) (ns : List ℕ) → list_any (λ n. n == w) ns ≡ false → AllByRecursion (λ (n : ℕ). (n == w) ≡ false) ns
 others w [] none = tt
@@ -112,13 +168,28 @@ module _ (b day : ℕ) (old new : State) (h : Host) (rows : List Row) (st : Stan
   told = shown_each b booking_in booking_cells (at_windows b day) (λ n. true) (comes_on day) (λ n (k : Booking). k.window) cells number_cells (windows_passes b day) (λ m n k. refl) h
       ∙ ap (λ qs. map number_cells (filter_map (window_told day) qs)) (all_kept ps)
 
+  abbrev IsComing : Row → Type 0
+  IsComing r = (n : ℕ) × (r ≡ number_cells n) × (n ≤ 15) × (part_items (part_of.Confirmed n) day ps ≢ [])
+
   pub windows_shown : (ns : List ℕ) × (rows ≡ map number_cells ns) × NamesWindows day ps ns
   windows_shown =
-      let numbers = shown_once_each keep_schema bookings_tree (λ _. refl) table text.windows_tests text.windows_shows (Binary ∷ []) (number b ∷ number day ∷ []) (at_windows b day) cells (λ _. refl) (λ _. refl) text.READ_WINDOWS.now _ text.windows_is old new (of_pledges h booking_listed) rows st.schema st.bookings shown
-      (λ r. (n : ℕ) × (r ≡ number_cells n)) (subst (AllByRecursion (λ r. (n : ℕ) × (r ≡ number_cells n))) (sym told) (all-map (λ r. (n : ℕ) × (r ≡ number_cells n)) number_cells _ (all_of (λ m. (n : ℕ) × (number_cells m ≡ number_cells n)) (λ m. (m, refl)) _))) in
-      let ns = numbers_in rows numbers in
-      (ns.0, ns.1, λ w few none. none_comes day w (omega (arith, few)) ps (names w ns.0 ns.1 none))
+      let told_come = all-map IsComing number_cells _ (all_weaker _ (λ n. IsComing (number_cells n)) (λ n it. (n, refl, it.0, it.1)) _ (some_comes day ps)) in
+      let shown_come = shown_once_each keep_schema bookings_tree (λ _. refl) table text.windows_tests text.windows_shows (Binary ∷ []) (number b ∷ number day ∷ []) (at_windows b day) cells (λ _. refl) (λ _. refl) text.READ_WINDOWS.now _ text.windows_is old new (of_pledges h booking_listed) rows st.schema st.bookings shown
+      IsComing (subst (AllByRecursion IsComing) (sym told) told_come) in
+      let ns = numbers_in rows (all_weaker IsComing (λ r. (n : ℕ) × (r ≡ number_cells n)) (λ r it. (it.0, it.1)) rows shown_come) in
+      let apart = shown_apart keep_schema bookings_tree (λ _. refl) table text.windows_tests text.windows_shows (Binary ∷ []) (number b ∷ number day ∷ []) (at_windows b day) cells (λ _. refl) (λ _. refl) text.READ_WINDOWS.now _ text.windows_is old new (of_pledges h booking_listed) rows st.schema st.bookings shown in (
+        ns.0,
+        ns.1,
+        record {
+          whole = λ w few none. none_comes day w (omega (arith, few)) ps (names w ns.0 ns.1 none);
+          comes = comes_all ns.0 (all_from_map IsComing number_cells ns.0 (subst (AllByRecursion IsComing) ns.1 shown_come));
+          once = numbers_apart ns.0 (subst (IsDistinct (eq_by_cmp (collated_cmp (Binary ∷ [])))) ns.1 apart);
+        },
+      )
     where
+      comes_all : (ns : List ℕ) → AllByRecursion (λ n. IsComing (number_cells n)) ns → AllByRecursion (λ w. (w ≤ 15) × (part_items (part_of.Confirmed w) day ps ≢ [])) ns
+      comes_all ns all = all_weaker (λ (n : ℕ). IsComing (number_cells n)) (λ (w : ℕ). (w ≤ 15) × (part_items (part_of.Confirmed w) day ps ≢ [])) (λ n it. let same : n ≡ it.0 = one_number n it.0 it.1 in subst (λ m. (m ≤ 15) × (part_items (part_of.Confirmed m) day ps ≢ [])) (sym same) (it.2, it.3)) ns all
+
       names : (w : ℕ) (ns : List ℕ) → rows ≡ map number_cells ns → list_any (λ n. n == w) ns ≡ false → AllByRecursion (λ (n : ℕ). n ≢ w) (filter_map (window_told day) ps)
       names w ns are none =
           let P : Row → Type 0 = λ r. collated_cmp (Binary ∷ []) (number_cells w) r ≡ Equal → ⊥ in

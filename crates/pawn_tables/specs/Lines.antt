@@ -1,6 +1,6 @@
 -- The lines of a day's sheet, page by page.
-use Rattle.std.specs.Prelude.{ℕ, ◌≡◌, ◌≤◌, ◌==◌, false, List, [], ◌∷◌, drop}
-use Rattle.std.specs.List.{list_any}
+use Rattle.std.specs.Prelude.{ℕ, ◌≡◌, ◌≢◌, ◌≤◌, ◌==◌, false, List, [], ◌∷◌, drop}
+use Rattle.std.specs.List.{AllByRecursion, IsDistinct, list_any}
 use Rattle.sqlite.specs.Order.{Row}
 use Rattle.pawn_pledge.specs.Pledge.{PledgeValue}
 use Rattle.pawn_pledge.specs.Limits.{last_window}
@@ -56,6 +56,9 @@ line_cells (part.Confirmed window) line = number_cells line.number
 line_cells part.Asked line = asked_cells (line.number, line.window)
 line_cells part.Ends line = number_cells line.number
 
--- whoever comes on a day comes in one of these windows
-abbrev pub NamesWindows : ℕ → List PledgeValue → List ℕ → Type 0
-NamesWindows day pledges windows = (w : ℕ) → w ≤ last_window → list_any (λ n. n == w) windows ≡ false → part_items (part.Confirmed w) day pledges ≡ []
+-- the windows of a day in which somebody comes, each once
+pub record NamesWindows (day : ℕ) (pledges : List PledgeValue) (windows : List ℕ) : Type 0 where
+  -- whoever comes on the day comes in one of them
+  pub whole : (w : ℕ) → w ≤ last_window → list_any (λ n. n == w) windows ≡ false → part_items (part.Confirmed w) day pledges ≡ []
+  pub comes : AllByRecursion (λ w. (w ≤ last_window) × (part_items (part.Confirmed w) day pledges ≢ [])) windows
+  pub once : IsDistinct (λ m n. m == n) windows

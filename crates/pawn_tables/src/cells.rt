@@ -14,7 +14,7 @@ ghost use Rattle.pawn_tables.specs.Entries.{IsAmount};
 ghost use Rattle.pawn_tables.specs.Finding.{IsRead};
 ghost use Rattle.sqlite.specs.declared.error.Error.TheVariants as SqlError;
 ghost use Rattle.sqlite.specs.declared.error.ErrorCode.TheVariants.{OutOfMemory};
-ghost use Rattle.pawn_book.specs.declared.fault.StoreFault.TheVariants.{NoRecord};
+ghost use Rattle.pawn_book.specs.declared.fault.StoreFault.TheVariants.{Database, NoRecord};
 ghost use Rattle.pawn_book.specs.declared.fault.KeepError.TheVariants as Keeper;
 
 use pawn_book::{BookingState, Day, Issue, KeepError, RequestDay, Secret, Sort, StoreFault};
@@ -31,6 +31,7 @@ pub(crate) const NO_RECORD: KeepError = KeepError::Store(StoreFault::NoRecord);
 pub fn refused(error: Error) -> KeepError
     ensures no_row { result ≢ Keeper.Store NoRecord }
     ensures memory { result ≡ Keeper.Memory → error ≡ SqlError.SqliteFailure OutOfMemory }
+    ensures told { error ≡ SqlError.SqliteFailure OutOfMemory → result ≡ Keeper.Memory }
 {
     match error {
         Error::SqliteFailure(ErrorCode::OutOfMemory) => KeepError::Memory,
@@ -41,10 +42,12 @@ pub fn refused(error: Error) -> KeepError
 // Why a value of a row was not read.
 fn unread(error: Error) -> KeepError
     ensures memory { error ≡ SqlError.SqliteFailure OutOfMemory → result ≡ Keeper.Memory }
+    ensures told { result ≡ Keeper.Memory → error ≡ SqlError.SqliteFailure OutOfMemory }
+    ensures no_fault { result ≢ Keeper.Store Database }
 {
-    match error {
-        Error::SqliteFailure(ErrorCode::OutOfMemory) => KeepError::Memory,
-        _ => NO_RECORD,
+    match refused(error) {
+        KeepError::Memory => KeepError::Memory,
+        KeepError::Store(_) => NO_RECORD,
     }
 }
 

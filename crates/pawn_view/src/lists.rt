@@ -10,7 +10,7 @@ ghost use Rattle.pawn_book.specs.Visits.{IsShare, Visits, call_end};
 use pawn_book::{Brief, Entry, Extension, Keep, KeepError, Number, Visitor};
 
 /// Hands the visitor the extensions of the pledge that this brief is of, in order, until it wants no more. The keeper is
-/// not asked where the brief says that there are none. Errors: `Memory` and `Store` where the keeper does not answer.
+/// not asked if the brief says that there are none. Errors: `Memory` and `Store` if the keeper does not answer.
 pub fn visit_extensions<K: Keep, V: Visitor<Extension>>(
     keep: &mut K,
     book: Number,
@@ -23,6 +23,7 @@ pub fn visit_extensions<K: Keep, V: Visitor<Extension>>(
         → pledge_in (get h.books book) number ≡ Some p → brief.now ≡ brief_of p
         → IsShare given flow (call_end result)
         (extensions_of (pledge_in (get h.books book) number)))) }
+    ensures unasked { brief.now.counts.extensions ≡ 0 → keep.new ≡ keep.old }
     ensures steady { IsSteady K.keeping keep.old result }
 {
     if brief.fields().counts.extensions == 0 {
@@ -32,7 +33,7 @@ pub fn visit_extensions<K: Keep, V: Visitor<Extension>>(
 }
 
 /// Hands the visitor the entries of the pledge that this brief is of, in order, until it wants no more. The keeper is not
-/// asked where the brief says that there are none. Errors: `Memory` and `Store` where the keeper does not answer.
+/// asked if the brief says that there are none. Errors: `Memory` and `Store` if the keeper does not answer.
 pub fn visit_entries<K: Keep, V: Visitor<Entry>>(
     keep: &mut K,
     book: Number,
@@ -45,6 +46,7 @@ pub fn visit_entries<K: Keep, V: Visitor<Entry>>(
         → pledge_in (get h.books book) number ≡ Some p → brief.now ≡ brief_of p
         → IsShare given flow (call_end result)
         (entries_of (pledge_in (get h.books book) number)))) }
+    ensures unasked { brief.now.counts.entries ≡ 0 → keep.new ≡ keep.old }
     ensures steady { IsSteady K.keeping keep.old result }
 {
     if brief.fields().counts.entries == 0 {

@@ -3,7 +3,7 @@
 //! what a store holds.
 #![tactic(auto)]
 
-ghost use Rattle.std.specs.Prelude.{◌≡◌, Err, IfOk, false};
+ghost use Rattle.std.specs.Prelude.{◌≡◌, ◌+◌, Err, IfOk, false};
 ghost use Rattle.pawn_host.specs.Keeps.{service_operator};
 ghost use Rattle.pawn_opening.specs.declared.fault.OpenFault.TheVariants.{Store};
 ghost use Rattle.pawn_store.specs.Running.{store_of};
@@ -21,7 +21,7 @@ use fault::Fault;
 use moving::move_file;
 use pawn_check::check;
 use pawn_host::{Reading, Secret, Service, Writing};
-use pawn_program::{ClockStamps, ServeSettings, Settings, SettingsFault, Stamps, Words};
+use pawn_program::{ClockStamps, ServeSettings, Served, Settings, SettingsFault, Stamps, Words};
 use pawn_store::{OpenFault, TableKeep, answer_over_tables, serve_over_tables};
 use sqlite::Alter;
 use std::env;
@@ -125,16 +125,21 @@ fn serve_over<S: Alter + Drop>(
     settings: ServeSettings,
 ) -> Result<(TableKeep<S>, Result<(), Stop>), Stop> {
     let mut service = open(rt, keep, settings.operator)?;
-    let end = listen(rt, &mut service, settings.port);
+    let end = match listen(rt, &mut service, settings.port) {
+        Ok(_) => Ok(()),
+        Err(stop) => Err(stop),
+    };
     Ok((service.into_keep(), end))
 }
 
-// Listens on a port, and answers by a service. It stops for a fault of the store only where one has shut it.
+// Listens on a port, and answers by a service until so many connections were accepted, or could not be. It stops for a fault of the
+// store only if one has shut it.
 fn listen<S: Alter + Drop>(
     rt: &HostRuntime,
     service: &mut Service<TableKeep<S>>,
     port: u16,
-) -> Result<(), Stop>
+) -> Result<Served, Stop>
+    ensures counted { IfOk result (λ served. served.answered + served.failed ≡ CONNECTIONS) }
     ensures shut { result ≡ Err (Stops.Fault (Opening Store))
         → (store_of S.Store service.new).is_open ≡ false }
 {
@@ -152,7 +157,7 @@ fn listen<S: Alter + Drop>(
     if served.is_shut {
         return Err(Stop::Fault(Fault::Opening(OpenFault::Store)));
     }
-    Ok(())
+    Ok(served.served)
 }
 
 // Moves a store to the program's schema, and tells which it had.

@@ -1,16 +1,55 @@
-//! A log that fails at some call of a run, as at a stop of the machine which takes what was not synced: what is there when the
-//! store is opened again. The script `tests/disk.py` shows it at each call of either file, over files of the system.
+//! A file that fails at some call of a run, as at a stop of the machine which takes what was not synced: what is there when the store
+//! is opened again. Each call of either file is such a stop, from the first, at which the empty store is opened, until a run meets
+//! none. The script `tests/disk.py` shows it over files of the system.
 
-use super::turns::{EXPORT, TURNS};
+use super::turns::{EXPORT, EXPORT_OTHER, TURNS};
 use super::{ROWS, bytes_of, service_of, service_over, stamp};
-use crate::disks::{Disks, crashed, disks, store_on};
+use crate::disks::{Disks, Failing, crashed, disks, go_on, store_on};
 use pawn_book::Keep;
+use pawn_check::{CheckFault, Counts, check};
 use pawn_host::{Answer, Service};
 use pawn_keeper::TableKeep;
 use sqlite::{Alter, Connection};
 use std::alloc::Global;
 use std::process::Abort;
 use std::test::Fail;
+
+// What a service shows: the counts of a check of its keeper, and the texts of the two books.
+#[derive(Drop)]
+struct Shown {
+    counts: Result<Counts, CheckFault>,
+    book: Answer,
+    other: Answer,
+}
+
+fn shown<K: Keep>(rt: &impl Abort, service: &mut Service<K>) -> Shown {
+    let counts = check(&mut service.keep);
+    let book = service.answer_one(&stamp(rt, 0), EXPORT);
+    let other = service.answer_one(&stamp(rt, 0), EXPORT_OTHER);
+    Shown {
+        counts,
+        book,
+        other,
+    }
+}
+
+fn are_same(one: &Shown, other: &Shown) -> bool {
+    one.counts == other.counts
+        && bytes_of(&one.book) == bytes_of(&other.book)
+        && bytes_of(&one.other) == bytes_of(&other.other)
+}
+
+// What a list shows after none of the turns, after the first, and so on to all of them.
+fn shown_after_each(rt: &impl Abort, alloc: Global) -> Result<Vec<Shown>, Fail> {
+    let mut service = service_of(rt, alloc, ROWS);
+    let mut all = Vec::new(alloc);
+    all.push(shown(rt, &mut service))?;
+    for turn in TURNS {
+        service.answer_one(&stamp(rt, turn.word), turn.request);
+        all.push(shown(rt, &mut service))?;
+    }
+    Ok(all)
+}
 
 // How many turns a service answers before the first that it does not.
 fn played<K: Keep>(rt: &impl Abort, service: &mut Service<K>) -> usize {
@@ -38,71 +77,94 @@ fn played_over<S: Alter + Drop>(
     Some((answered, store))
 }
 
-// How many turns are answered over the disks before the first that is not, and what a stop then leaves of the disks.
-fn stopped(rt: &impl Abort, alloc: Global, disks: Disks) -> Option<(usize, Disks)> {
-    let conn = store_on(alloc, disks)?;
-    let (answered, store) = played_over(rt, alloc, conn)?;
-    Some((answered, crashed(store.close())))
+// A run over disks: how many turns were answered before the first that was not, or none if the store was not opened; whether no
+// call failed; and what a stop then leaves of the disks.
+#[derive(Drop)]
+struct Run {
+    answered: Option<usize>,
+    is_whole: bool,
+    left: Disks,
 }
 
-// The text of book 7 in a store.
-fn text_over<S: Alter + Drop>(
+fn run_on(rt: &impl Abort, alloc: Global, disks: Disks) -> Option<Run> {
+    let conn = match store_on(alloc, disks) {
+        Ok(conn) => conn,
+        Err(left) => {
+            return Some(Run {
+                answered: None,
+                is_whole: false,
+                left,
+            });
+        }
+    };
+    let (answered, store) = played_over(rt, alloc, conn)?;
+    let mut left = store.close();
+    Some(Run {
+        answered: Some(answered),
+        is_whole: go_on(&mut left),
+        left: crashed(left),
+    })
+}
+
+fn shown_over<S: Alter + Drop>(
     rt: &impl Abort,
     alloc: Global,
     conn: Connection<S>,
-) -> Option<Answer> {
+) -> Option<Shown> {
     let keep = TableKeep::over(alloc, conn).ok()?;
     let mut service = service_over(rt, alloc, keep);
-    Some(service.answer_one(&stamp(rt, 0), EXPORT))
+    Some(shown(rt, &mut service))
 }
 
-// The text of book 7 on the disks.
-fn text_on(rt: &impl Abort, alloc: Global, disks: Disks) -> Option<Answer> {
-    let conn = store_on(alloc, disks)?;
-    text_over(rt, alloc, conn)
+// What is shown of the disks once they are opened again.
+fn shown_on(rt: &impl Abort, alloc: Global, disks: Disks) -> Option<Shown> {
+    let conn = store_on(alloc, disks).ok()?;
+    shown_over(rt, alloc, conn)
 }
 
-// The text of book 7 in a list, after so many turns.
-fn text_after(rt: &impl Abort, alloc: Global, turns: usize) -> Answer {
-    let mut service = service_of(rt, alloc, ROWS);
-    for turn in TURNS.iter().take(turns) {
-        service.answer_one(&stamp(rt, turn.word), turn.request);
-    }
-    service.answer_one(&stamp(rt, 0), EXPORT)
-}
-
-// Lets the log stop at that call. What was answered is there then, with or without the turn in hand. Tells how many turns were
-// answered: none where the store was not made yet.
-fn stops(rt: &impl Abort, alloc: Global, calls: u64) -> Result<usize, Fail> {
-    let Some((answered, left)) = stopped(rt, alloc, disks(alloc, calls)) else {
-        return Ok(0);
+// Lets a file stop at that call. What was answered is there then, with or without the turn in hand; or no book, if the stop came
+// before the store was opened. Tells whether no call failed.
+fn stops(
+    rt: &impl Abort,
+    alloc: Global,
+    wanted: &[Shown],
+    failing: Failing,
+    calls: u64,
+) -> Result<bool, Fail> {
+    let run = run_on(rt, alloc, disks(alloc, failing, calls)).ok_or("a keeper")?;
+    let found = shown_on(rt, alloc, run.left).ok_or("opened again")?;
+    let (first, last) = match run.answered {
+        Some(answered) => (answered, answered.saturating_add(1)),
+        None => (0, 0),
     };
-    let found = text_on(rt, alloc, left).ok_or("opened again")?;
-    let without = text_after(rt, alloc, answered);
-    let with = text_after(rt, alloc, answered.saturating_add(1));
-    let told = bytes_of(&found);
-    let stands = told == bytes_of(&without) || told == bytes_of(&with);
-    assert!(rt; stands, "{answered} answered, {calls} calls");
-    Ok(answered)
+    let mut stands = false;
+    for (turns, shown) in wanted.iter().enumerate() {
+        stands = stands || (first <= turns && turns <= last && are_same(&found, shown));
+    }
+    assert!(rt; stands, "{first} answered, {calls} calls of {failing:?}");
+    if run.is_whole {
+        assert_eq!(rt; first, TURNS.len());
+    }
+    Ok(run.is_whole)
+}
+
+// Lets a file stop at its first call, at its second, and so on, until a run meets no stop.
+fn stops_at_each_call(rt: &impl Abort, alloc: Global, failing: Failing) -> Result<(), Fail> {
+    let wanted = shown_after_each(rt, alloc)?;
+    for calls in 0..10_000u64 {
+        if stops(rt, alloc, wanted.as_slice(), failing, calls)? {
+            return Ok(());
+        }
+    }
+    Err(Fail::from("a run without a stop"))
 }
 
 #[test]
 fn a_log_that_stops_leaves_what_was_answered(rt: HostRuntime) -> Result<(), Fail> {
-    let mut calls = 0u64;
-    let mut stopped = 0u32;
-    for _ in 0..100u32 {
-        let answered = stops(&rt, rt.alloc(), calls)?;
-        if answered == TURNS.len() {
-            assert!(rt; stopped > 0);
-            return Ok(());
-        }
-        if answered > 0 {
-            stopped = stopped.saturating_add(1);
-        }
-        if stopped == 3 {
-            return Ok(());
-        }
-        calls = calls.saturating_add(8);
-    }
-    Err(Fail::from("a stop at each call"))
+    stops_at_each_call(&rt, rt.alloc(), Failing::Log)
+}
+
+#[test]
+fn a_database_file_that_stops_leaves_what_was_answered(rt: HostRuntime) -> Result<(), Fail> {
+    stops_at_each_call(&rt, rt.alloc(), Failing::Database)
 }

@@ -64,3 +64,7 @@ pub const TURNS: [Turn; 9] = [
 /// What shows book 7.
 pub const EXPORT: &[u8] =
     b"GET /books/7/export HTTP/1.1\r\nPledge-Key: 22222222-2222-2222-2222-222222222222\r\nContent-Length: 0\r\n\r\n";
+
+/// What shows book 8.
+pub const EXPORT_OTHER: &[u8] =
+    b"GET /books/8/export HTTP/1.1\r\nPledge-Key: 22222222-2222-2222-2222-222222222222\r\nContent-Length: 0\r\n\r\n";

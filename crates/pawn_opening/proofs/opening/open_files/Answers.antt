@@ -2,7 +2,7 @@ use Rattle.std.proofs.Common.{inr, arith}
 use Rattle.sqlite_trees.proofs.Doubt.{no_doubt}
 use Rattle.sqlite.specs.Files.{file_state, image_of}
 use Rattle.sqlite.specs.State.{HasCleanDisk}
-use Rattle.pawn_opening.proofs.Found.{as_found, finds_host, finds_none, refused}
+use Rattle.pawn_opening.proofs.Found.{accepted, as_found, finds_host, finds_none, refused}
 use Rattle.pawn_opening.proofs.opening.open_files.Goals as goal
 
 pub returns-in-Ok-prepare-clause-blank : goal.returns-in-Ok-prepare-clause-blank
@@ -16,6 +16,12 @@ returns-in-Ok-prepare-clause-stands g c clean h files =
     let p = c.in-Ok-prepare.ensures.prepared in
     let early : HasCleanDisk (file_state c.in-Ok.conn) = omega (arith, clean, p.survives.clean) in
     p.stands clean h (finds_host (image_of g.D.Disk c.args.files) (file_state c.in-Ok.conn) (c.in-Ok.ensures.opened early) (as_found c.args.files c.in-Ok.conn (c.in-Ok.ensures.found early)) h files)
+
+pub returns-in-Ok-prepare-clause-found : goal.returns-in-Ok-prepare-clause-found
+returns-in-Ok-prepare-clause-found g c clean =
+    let p = c.in-Ok-prepare.ensures.prepared in
+    let early : HasCleanDisk (file_state c.in-Ok.conn) = omega (arith, clean, p.survives.clean) in
+    accepted (image_of g.D.Disk c.args.files) (file_state c.in-Ok.conn) (c.in-Ok.ensures.opened early) (as_found c.args.files c.in-Ok.conn (c.in-Ok.ensures.found early)) (file_state c.prepare.new.conn) (p.opens clean)
 
 pub returns-in-Err-prepare-clause-refuses : goal.returns-in-Err-prepare-clause-refuses
 returns-in-Err-prepare-clause-refuses g c clean =

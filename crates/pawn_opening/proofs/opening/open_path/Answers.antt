@@ -1,5 +1,6 @@
 use Rattle.std.proofs.Common.{inl, inr, subst, sym}
-use Rattle.pawn_opening.specs.FilesStand.{IsBlank, IsRefusedStore, StandsIn}
+use Rattle.sqlite.specs.Files.{file_state}
+use Rattle.pawn_opening.specs.FilesStand.{IsBlank, IsRefusedStore, OpensFound, StandsIn}
 use Rattle.pawn_opening.proofs.Seen.{untouched}
 use Rattle.pawn_opening.proofs.opening.open_path.Goals as goal
 
@@ -12,6 +13,11 @@ pub returns-in-Ok-open_files-clause-stands : goal.returns-in-Ok-open_files-claus
 returns-in-Ok-open_files-clause-stands g c clean h stands =
     let fresh = c.in-Ok.ensures.fresh in
     c.in-Ok-open_files.ensures.stands clean h (subst (λ i. StandsIn i h) (sym (untouched g.S.Start.log g.S.Start.db fresh.0 fresh.1)) stands)
+
+pub returns-in-Ok-open_files-clause-found : goal.returns-in-Ok-open_files-clause-found
+returns-in-Ok-open_files-clause-found g c clean =
+    let fresh = c.in-Ok.ensures.fresh in
+    subst (λ i. OpensFound i (file_state c.in-Ok-open_files.conn)) (untouched g.S.Start.log g.S.Start.db fresh.0 fresh.1) (c.in-Ok-open_files.ensures.found clean)
 
 pub returns-in-Err-open_files-clause-refuses : goal.returns-in-Err-open_files-clause-refuses
 returns-in-Err-open_files-clause-refuses g c =

@@ -3,7 +3,7 @@ use Rattle.sqlite.specs.Files.{file_state}
 use Rattle.sqlite.specs.State.{HasCleanDisk}
 use Rattle.sqlite_wal.specs.Files.{image_at}
 use Rattle.pawn_book.specs.HostStep.{Host}
-use Rattle.pawn_opening.specs.FilesStand.{IsBlank, StandsIn}
+use Rattle.pawn_opening.specs.FilesStand.{IsBlank, OpensFound, StandsIn}
 use Rattle.pawn_opening.specs.Opened.{OpensAs, empty_host}
 use Rattle.pawn_store.specs.Running.{Reopens}
 use Rattle.pawn_store.proofs.Runs.{reopens}
@@ -18,6 +18,11 @@ pub returns-in-Ok-over-clause-stands : goal.returns-in-Ok-over-clause-stands
 returns-in-Ok-over-clause-stands g c = subst
     (λ conn. HasCleanDisk (file_state conn) → (h : Host) → StandsIn (image_at g.S.Start) h → OpensAs (file_state conn) h)
     (sym c.in-Ok-over.ensures.same) c.in-Ok.ensures.stands
+
+pub returns-in-Ok-over-clause-found : goal.returns-in-Ok-over-clause-found
+returns-in-Ok-over-clause-found g c = subst
+    (λ conn. HasCleanDisk (file_state conn) → OpensFound (image_at g.S.Start) (file_state conn))
+    (sym c.in-Ok-over.ensures.same) c.in-Ok.ensures.found
 
 pub returns-in-Ok-over-clause-reopens : goal.returns-in-Ok-over-clause-reopens
 returns-in-Ok-over-clause-reopens g c = subst (λ conn. HasCleanDisk (file_state conn) → Reopens (image_at g.S.Start) (file_state conn)) (sym c.in-Ok-over.ensures.same)

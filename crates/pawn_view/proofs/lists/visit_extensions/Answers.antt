@@ -10,3 +10,6 @@ pub returns-then-fields-eq0-clause-reads : goal.returns-then-fields-eq0-clause-r
 returns-then-fields-eq0-clause-reads g c =
     let none = λ (b : BriefFields). b.counts.extensions in
     ([], Go, (refl, refl), reads_none _ _ _ (λ h p at is. nothing_shared extensions_of at (sym (ap none (c.fields.ensures.value ∙ is)) ∙ c.if-fields-eq0.true)))
+
+pub returns-clause-unasked : goal.returns-clause-unasked
+returns-clause-unasked g c none = absurd (c.if-fields-eq0.false (ap (λ (b : BriefFields). b.counts.extensions) c.fields.ensures.value ∙ none))

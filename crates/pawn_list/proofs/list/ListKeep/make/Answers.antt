@@ -1,6 +1,7 @@
 use Rattle.std.proofs.Common.{◌≡◌, ◌+◌, ◌≤◌, List, arith, map, refl, subst, sym}
+use Rattle.pawn_book.specs.Sound.{IsSound}
 use Rattle.pawn_list.specs.declared.kept.Kept.{Kept}
-use Rattle.pawn_list.specs.Listed.{Fits, added_rows, listed_book, replaced_rows}
+use Rattle.pawn_list.specs.Listed.{Fits, added_rows, host_of, listed_book, replaced_rows}
 use Rattle.pawn_list.proofs.ListSaves.{change_counted, change_fits, change_full, change_saved}
 use Rattle.pawn_list.proofs.list.ListKeep.make.Goals as goal
 
@@ -17,6 +18,7 @@ returns-then-rows-from c = record {
       let sums = subst (λ (ks : List Kept). c.rows_with-rows.result + replaced_rows (map listed_book ks) c.args.change.now ≡ c.self.inside.rows + added_rows c.args.change.now) c.deref.ensures.value c.rows_with-rows.ensures.rows in
       let limit = c.from.ensures in let over = c.if-rows-from.true in
       change_full _ c.args.self.now _ c.rows_with-rows.result c.args.change.now c.self.invariant c.self.view_is c.requires.can_save sums (omega (arith, over, limit)));
+  sound = subst (λ k. IsSound (host_of k)) c.self.view_is c.self.invariant.sound;
 }
 
 pub make_change-requires : goal.make_change-requires
@@ -36,4 +38,9 @@ returns c = record {
       let limit = c.from.ensures in let room = c.if-rows-from.false in
       (change_saved _ c.args.self.now (record { books = map listed_book c.make_change.new.books.items; limit = c.self.inside.limit }) _ c.rows_with-rows.result c.args.change.now
       c.self.invariant c.self.view_is c.requires.can_save c.in-Ok.ensures.ok refl sums (omega (arith, room, limit))).1);
+  sound = (
+      let sums = subst (λ (ks : List Kept). c.rows_with-rows.result + replaced_rows (map listed_book ks) c.args.change.now ≡ c.self.inside.rows + added_rows c.args.change.now) c.deref.ensures.value c.rows_with-rows.ensures.rows in
+      let limit = c.from.ensures in let room = c.if-rows-from.false in
+      (change_saved _ c.args.self.now (record { books = map listed_book c.make_change.new.books.items; limit = c.self.inside.limit }) _ c.rows_with-rows.result c.args.change.now
+      c.self.invariant c.self.view_is c.requires.can_save c.in-Ok.ensures.ok refl sums (omega (arith, room, limit))).0.sound);
 }

@@ -1,0 +1,95 @@
+-- How the rows of a book are laid out, whether or not it can have come about.
+use Rattle.std.specs.Prelude.{◌≡◌, ◌≢◌, ◌×◌, ◌⊎◌, ◌↔◌, ℕ, ◌+◌, ◌≤◌, ◌<◌, true, List, [], ◌∷◌, ◌++◌, length, Option, None, Some, Result, Ok, Err}
+use Rattle.std.specs.List.{flat_map}
+use Rattle.pawn_terms.specs.declared.terms.Rates.{Rates}
+use Rattle.pawn_debt.specs.Limits.{most_entries}
+use Rattle.pawn_debt.specs.declared.entry.Entry.{Entry}
+use Rattle.pawn_pledge.specs.Limits.{most_extensions, most_secrets}
+use Rattle.pawn_pledge.specs.Replayable.{AreNumbered}
+use Rattle.pawn_pledge.specs.declared.record.Booking.{Booking}
+use Rattle.pawn_pledge.specs.declared.record.Extension.{Extension}
+use Rattle.pawn_pledge.specs.declared.record.Issued.{Issued}
+use Rattle.pawn_book.specs.Limits.{most_pledges, most_terms}
+use Rattle.pawn_book.specs.Rows.{AreReplayable}
+use Rattle.pawn_book.specs.declared.rows.BookRows.{BookRows}
+use Rattle.pawn_csv.specs.declared.fault.Cause.{Cause}
+use Rattle.pawn_csv.specs.declared.fault.Cause.TheVariants as cause
+use Rattle.pawn_csv.specs.declared.order.RawPledge.{RawPledge}
+use Rattle.pawn_csv.specs.declared.row.Row.{Row}
+use Rattle.pawn_csv.specs.declared.row.Version.{Version}
+use Rattle.pawn_csv.specs.declared.row.Version.TheVariants as version
+use Rattle.pawn_csv.specs.Order.{Begun, has_secret, is_whole, place, pledges_begun, run}
+use Rattle.pawn_csv.specs.Reading.{RefusesEnd}
+use Rattle.pawn_csv.specs.Rows.{Knows, booking_csv_rows, entry_rows, extension_rows, rows_of_csv, secret_rows, terms_rows}
+
+-- the rows of a pledge's lists
+abbrev pub list_rows : ℕ → List Issued → List Entry → List Extension → Option Booking → List Row
+list_rows n secrets entries extensions booking =
+    secret_rows n 1 secrets ++ (entry_rows n entries ++ (extension_rows n 1 extensions ++ booking_csv_rows n booking))
+
+-- the rows of a pledge: its own, and those of its lists
+abbrev pub raw_rows : RawPledge → List Row
+raw_rows p = Row.Pledge p.columns ∷ list_rows p.columns.number p.secrets p.entries p.extensions p.booking
+
+-- the lists of a pledge are within the limits, and its entries numbered 1, 2, ..; only the second version has extensions
+pub record IsWithin (v : Version) (p : RawPledge) : Type 0 where
+  pub secrets : length p.secrets ≤ most_secrets
+  pub entries : length p.entries ≤ most_entries
+  pub extensions : length p.extensions ≤ most_extensions
+  pub numbered : AreNumbered 1 p.entries
+  pub known : v ≡ version.One → p.extensions ≡ []
+
+-- pledges are numbered from here on, and each has the secret of its opening
+abbrev pub AreLaidFrom : ℕ → Version → List RawPledge → Type 0
+AreLaidFrom n v [] = Unit {0}
+AreLaidFrom n v (p ∷ ps) = (p.columns.number ≡ n) × (has_secret p ≡ true) × IsWithin v p × AreLaidFrom (n + 1) v ps
+
+-- a book whose rows can be laid out
+pub record IsLaidOut (v : Version) (terms : List Rates) (pledges : List RawPledge) : Type 0 where
+  pub few_terms : length terms ≤ most_terms
+  pub few_pledges : length pledges ≤ most_pledges
+  pub pledges : AreLaidFrom 1 v pledges
+
+-- its rows: the counts, the terms by version, and the pledges by number
+abbrev pub laid_rows : Version → List Rates → List RawPledge → List Row
+laid_rows v terms pledges = Row.Book v (length terms) (length pledges) ∷ (terms_rows 1 terms ++ flat_map raw_rows pledges)
+
+-- what is said of the rows of a book that are taken in turn, of those of this version, with these terms and pledges
+
+-- laid out, they are taken to their end
+abbrev pub LayoutsAreTaken : Type 0
+LayoutsAreTaken =
+    (v : Version) (terms : List Rates) (pledges : List RawPledge) → IsLaidOut v terms pledges
+    → (b : Begun) × (run None (laid_rows v terms pledges) ≡ Ok (Some b)) × (is_whole (Some b) ≡ true) × (b.terms ≡ terms) × (pledges_begun b ≡ pledges)
+
+-- and only rows that are laid out are
+abbrev pub TakenAreLaidOut : Type 0
+TakenAreLaidOut =
+    (rows : List Row) (b : Begun) → run None rows ≡ Ok (Some b) → is_whole (Some b) ≡ true
+    → IsLaidOut b.version b.terms (pledges_begun b) × (rows ≡ laid_rows b.version b.terms (pledges_begun b))
+
+-- so a row is refused only if no more rows can lay out a book with those up to it
+abbrev pub RefusedAreNoFront : Type 0
+RefusedAreNoFront =
+    (rows more : List Row) (c : Cause) (v : Version) (terms : List Rates) (pledges : List RawPledge)
+    → run None rows ≡ Err c → IsLaidOut v terms pledges → rows ++ more ≡ laid_rows v terms pledges → ⊥
+
+-- a row above a limit: the counts of a book, or one more of a list of the pledge at hand
+abbrev pub IsAboveALimit : Option Begun → Row → Type 0
+IsAboveALimit s (Row.Book v terms pledges) = (most_terms < terms) ⊎ (most_pledges < pledges)
+IsAboveALimit s (Row.Secret number place x) = (b : Begun) × (p : RawPledge) × (s ≡ Some b) × (b.at_hand ≡ Some p) × (most_secrets ≤ length p.secrets)
+IsAboveALimit s (Row.Entry number x) = (b : Begun) × (p : RawPledge) × (s ≡ Some b) × (b.at_hand ≡ Some p) × (most_entries ≤ length p.entries)
+IsAboveALimit s (Row.Extension number place x) = (b : Begun) × (p : RawPledge) × (s ≡ Some b) × (b.at_hand ≡ Some p) × (most_extensions ≤ length p.extensions)
+IsAboveALimit s (Row.Terms v x) = ⊥
+IsAboveALimit s (Row.Pledge x) = ⊥
+IsAboveALimit s (Row.Booking number x) = ⊥
+
+-- only such a row is one too many
+abbrev pub TooManyIsAboveALimit : Type 0
+TooManyIsAboveALimit = (s : Option Begun) (r : Row) → place s r ≡ Err cause.TooMany → IsAboveALimit s r
+
+-- rows that are laid out are of no book that can have come about exactly if none has these rows
+abbrev pub NotReplayableIsOfNoBook : Type 0
+NotReplayableIsOfNoBook =
+    (v : Version) (terms : List Rates) (pledges : List RawPledge) (s : Option Begun) → IsLaidOut v terms pledges → run None (laid_rows v terms pledges) ≡ Ok s
+    → RefusesEnd s cause.NotReplayable ↔ ((k : BookRows) → AreReplayable k.terms k.pledges → Knows v k → laid_rows v terms pledges ≢ rows_of_csv v k)
