@@ -1,8 +1,9 @@
 #!/usr/bin/env python3
-"""Memory that is refused: each allocation of a story in turn, alone and with all that follow, over memory and over a file, and in a service that runs. Each answer is as the rules have it
-with some requests answered 491, and the content is that of the others.
+"""Memory that is refused: each allocation of each story and of a migration in turn, and in a service that runs. Each answer is as the
+rules have it with some requests answered 491, and the content is that of the others.
 
-With EVERY=1 in the environment, as under `make fuzz`, each allocation is tried over a file too; else one in so many, from a place that a seed gives."""
+Over a file, and with all allocations that follow refused too, one in so many is tried, from a place that a seed gives. With EVERY=1 in
+the environment, as under `make fuzz`, each is."""
 import http.client
 import os
 import random
@@ -31,9 +32,8 @@ def told(count):
 
 
 def each_allocation_over_memory():
-    told(each_refused(a_first_pledge(), "memory", "m", ENDS))
-    for story in (a_lost_receipt(), two_for_a_window(), a_book_that_moves()):
-        told(each_refused(story, "memory", "m", ENDS, **one_in(7)))
+    for story in (a_first_pledge(), a_lost_receipt(), two_for_a_window(), a_book_that_moves()):
+        told(each_refused(story, "memory", "m", ENDS))
 
 
 def each_allocation_over_a_file():
@@ -49,8 +49,7 @@ def all_memory_from_some_allocation_on():
 
 def each_allocation_of_a_migration():
     """An allocation that is refused while a store of an older schema is moved leaves the store for another try, which moves it to the same books."""
-    step = 1 if EVERY else 211
-    for count in each_refused_in_a_migration("m", NOT_MOVED, step, lambda: CHANCE.randrange(1, step + 1)):
+    for count in each_refused_in_a_migration("m", NOT_MOVED, books=1):
         told(count)
 
 

@@ -174,21 +174,32 @@ def each_refused(story, kind, calls, ends, step=1, first=1, **how):
     return whole
 
 
-def each_refused_in_a_migration(calls, ends, step=1, first=lambda: 1, **how):
-    """Refuses each of these calls in turn while a store of an older schema is moved. Each run moves it or ends as one of ends, and leaves the store for another try, which moves
-    it to the same books. Gives how many calls there were for each schema."""
+def each_refused_in_a_migration(calls, ends, step=1, first=lambda: 1, books=8, **how):
+    """Refuses each of these calls in turn while a store of an older schema is moved. Each run moves it or ends as one of ends, and
+    leaves the store for another try, which moves it to the same books. Gives how many calls there were for each schema."""
     told = []
     for number, statements in ((1, TO_FIRST), (2, TO_SECOND)):
         with tempfile.TemporaryDirectory() as room:
             made, count = os.path.join(room, "made"), os.path.join(room, "count")
-            fill(made, 8, 1, entries=2, bookings=True)
+            fill(made, books, 1, entries=2, bookings=True)
             old = bent_back(made, os.path.join(room, "old"), *statements)
             whole = bent_back(old, os.path.join(room, "whole"))
             expect("a migration", migrated(whole, refusing(calls, count=count)), moved(number))
             with open(count) as it:
                 told.append(int(it.read()))
-            for at in range(first(), told[-1] + 1, step):
-                one_of_a_migration(old, os.path.join(room, "books"), number, ends, content(whole), f"call {at} ({calls}, {how})", refusing(calls, at=at, **how))
+            wanted = content(whole)
+
+            def one(at):
+                folder = tempfile.mkdtemp(dir=room)
+                try:
+                    one_of_a_migration(old, os.path.join(folder, "books"), number, ends, wanted, f"call {at} ({calls}, {how})",
+                                       refusing(calls, at=at, **how))
+                finally:
+                    shutil.rmtree(folder)
+
+            with concurrent.futures.ThreadPoolExecutor(len(os.sched_getaffinity(0))) as pool:
+                for _ in pool.map(one, range(first(), told[-1] + 1, step)):
+                    pass
     return told
 
 
@@ -199,6 +210,3 @@ def one_of_a_migration(old, path, number, ends, wanted, step, environment):
         raise Failed(f"a migration from {number}, {step}: {ended}")
     expect(f"it is moved then, {step}", migrated(path) in (moved(number), moved(3)), True)
     expect(f"what it holds, {step}", content(path), wanted)
-    for left in (path, f"{path}-wal"):
-        if os.path.exists(left):
-            os.remove(left)

@@ -82,7 +82,7 @@ module _ (image : Image) (s : State) (opened : Opens s × IsLive s) (found : Fin
     sound = (opened.1 opened.0.is_open).1;
     opened = elim is [
       | inl empty ↦ inl (subst IsEmptyStore opened.0.clean empty)
-      | inr ours ↦ inr (subst (λ d. NotesSchema d 3) opened.0.clean ours.0, ours.1.0, ours.1.1.now ours.1.0 ∙ opened.0.clean, ours.1.1.committed ours.1.0)
+      | inr ours ↦ inr (subst (λ d. NotesSchema d 3) opened.0.clean ours.0, ours.1, ours.2.now ours.1 ∙ opened.0.clean, ours.2.committed ours.1)
     ];
   }
 
