@@ -45,7 +45,7 @@ record IsLaidSoFar (b : Begun) : Type 0 where
   pub at_hand : IsLaidHand b.version b.pledges b.at_hand
 
 laid_push : (v : Version) (k : ℕ) (ps : List RawPledge) (p : RawPledge) → AreLaidFrom k v ps → p.columns.number ≡ length ps + k → has_secret p ≡ true → IsWithin v p → AreLaidFrom k v (ps ++ p ∷ [])
-laid_push v k [] p laid at first within = (at, first, within, tt)
+laid_push v k [] p laid at first within = (omega (arith, at), first, within, tt)
 laid_push v k (q ∷ ps) p laid at first within = (laid.0, laid.1, laid.2, laid_push v (k + 1) ps p laid.3 (omega (arith, at)) first within)
 
 -- the pledges so far, once the one at hand may end
@@ -58,7 +58,7 @@ laid_all v ps None laid none over = subst (AreLaidFrom 1 v) (sym (none_more ps))
 laid_all v ps (Some p) laid at over = laid_push v 1 ps p laid at.0 over at.1
 
 numbered_push : (k : ℕ) (es : List Entry) (e : Entry) → AreNumbered k es → e.seq ≡ length es + k → AreNumbered k (es ++ e ∷ [])
-numbered_push k [] e numbered at = (at, tt)
+numbered_push k [] e numbered at = (omega (arith, at), tt)
 numbered_push k (x ∷ es) e numbered at = (numbered.0, numbered_push (k + 1) es e numbered.1 (omega (arith, at)))
 
 -- one more in a list that was not full
@@ -193,7 +193,7 @@ taken_are_laid_out rows b ran whole =
     let few_terms = laid.few_terms in
     let few_pledges = laid.few_pledges in
     let shown = (run_grows rows None (Some b) ran tt).0 in (
-      record { few_terms = omega (arith, terms, few_terms); few_pledges = omega (arith, pledges, few_pledges); pledges = laid_all b.version b.pledges b.at_hand laid.pledges laid.at_hand w.1 },
+      record { few_terms = omega (arith, terms, few_terms); few_pledges = omega (arith, pledges, few_pledges); laid = laid_all b.version b.pledges b.at_hand laid.pledges laid.at_hand w.1 },
       sym shown ∙ (λ i. Row.Book b.version (terms i) (pledges i) ∷ (terms_rows 1 b.terms ++ flat_map raw_rows (pledges_begun b))),
     )
 
@@ -301,7 +301,7 @@ not_replayable_is_of_no_book v terms pledges s laid ran =
         λ k of_book replayable.
             let terms_same : terms ≡ k.terms = sym terms_are ∙ of_book.0 in
             let pledges_same : pledges ≡ map raw_of k.pledges = sym pledges_are ∙ of_book.1.0 in
-            none k replayable (knows v k (subst (AreLaidFrom 1 v) pledges_same laid.pledges))
+            none k replayable (knows v k (subst (AreLaidFrom 1 v) pledges_same laid.laid))
             ((λ i. laid_rows v (terms_same i) (pledges_same i)) ∙ book_rows_are v k),
       ),
     )

@@ -254,7 +254,7 @@ pub layouts_are_taken : LayoutsAreTaken
 layouts_are_taken v terms pledges laid =
     let m = length terms in
     let n = length pledges in
-    let (now, last, ran, same, ends) = run_pledges v m n 1 terms [] None pledges refl refl refl (omega arith) laid.pledges in
+    let (now, last, ran, same, ends) = run_pledges v m n 1 terms [] None pledges refl refl refl (omega arith) laid.laid in
     let count : length (now ++ hand last) ≡ n = ap length same in (
       begun v m n terms now last,
       step None (Row.Book v m n) (terms_rows 1 terms ++ flat_map raw_rows pledges) (begun v m n [] [] None) (begins v m n laid.few_terms laid.few_pledges)
@@ -294,7 +294,7 @@ laid_book : (v : Version) (k : BookRows) → AreReplayable k.terms k.pledges →
 laid_book v k replayable knows = record {
   few_terms = replayable.few_terms;
   few_pledges = (let count = length-raw k.pledges in let few = replayable.few_pledges in omega (arith, count, few));
-  pledges = laid_from v 1 k.pledges replayable.numbered replayable.standing (plain v k knows);
+  laid = laid_from v 1 k.pledges replayable.numbered replayable.standing (plain v k knows);
 }
 
 -- its rows are laid out

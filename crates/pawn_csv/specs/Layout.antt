@@ -1,5 +1,5 @@
 -- How the rows of a book are laid out, whether or not it can have come about.
-use Rattle.std.specs.Prelude.{◌≡◌, ◌≢◌, ◌×◌, ◌⊎◌, ◌↔◌, ℕ, ◌+◌, ◌≤◌, ◌<◌, true, List, [], ◌∷◌, ◌++◌, length, Option, None, Some, Result, Ok, Err}
+use Rattle.std.specs.Prelude.{◌≡◌, ◌≢◌, ◌⊎◌, ◌↔◌, ℕ, ◌+◌, ◌≤◌, ◌<◌, true, List, [], ◌∷◌, ◌++◌, length, Option, None, Some, Result, Ok, Err}
 use Rattle.std.specs.List.{flat_map}
 use Rattle.pawn_terms.specs.declared.terms.Rates.{Rates}
 use Rattle.pawn_debt.specs.Limits.{most_entries}
@@ -48,7 +48,7 @@ AreLaidFrom n v (p ∷ ps) = (p.columns.number ≡ n) × (has_secret p ≡ true)
 pub record IsLaidOut (v : Version) (terms : List Rates) (pledges : List RawPledge) : Type 0 where
   pub few_terms : length terms ≤ most_terms
   pub few_pledges : length pledges ≤ most_pledges
-  pub pledges : AreLaidFrom 1 v pledges
+  pub laid : AreLaidFrom 1 v pledges
 
 -- its rows: the counts, the terms by version, and the pledges by number
 abbrev pub laid_rows : Version → List Rates → List RawPledge → List Row

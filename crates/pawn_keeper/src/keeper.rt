@@ -207,7 +207,7 @@ impl<S: Alter> Keep for TableKeep<S> {
 
     ghost use Rattle.pawn_tables.proofs.OneHost.{tables_whole_is_sound};
 
-    ghost whole_is_sound = { tables_whole_is_sound (λ k. state S.Store k.conn) };
+    ghost whole_is_sound = { tables_whole_is_sound _ };
 }
 
 // The number above which a book is sought; 0 where there is none.
