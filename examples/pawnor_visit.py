@@ -38,24 +38,32 @@ def pay(book, amount):
             raise
 
 
+def agreed(question):
+    """Whether a person says yes. Nobody there is no."""
+    print(question, end=" ", flush=True)
+    said = sys.stdin.readline().strip()
+    print()
+    return said == "yes"
+
+
 def redeem(book):
-    """Pays all that is owing. A repeat can't pay twice; where the first was done it is refused as 402, since the receipt was surrendered."""
+    """Pays all that is owing. A repeat can't pay twice: where the first was done it is refused as 402, since the receipt was
+    surrendered. Where another sum is owing by now, as on the next day, it is paid only if a person says so."""
     paid = pence(value(book.get("/held"), "Owing"))
-    for first in (True, False):
+    while True:
         try:
             said = book.post("/held/redeem", {"paid": paid})
-            print("redeemed on", said["redeemed"], "for", money(said["paid"]))
-            return
+            return print("redeemed on", said["redeemed"], "for", money(said["paid"]))
         except Refused as why:
-            if why.code == 310 and first:
-                # It is another day by now, and the reply has today's total.
-                paid = why.said["total"]
+            if why.code == 310:
+                total = why.said["total"]
+                if not agreed(f"Owing is {money(total)} now, and not {money(paid)}. Pay that? (yes)"):
+                    return print("not redeemed")
+                paid = total
             elif why.code == 303:
-                print("the broker holds it back")
-                return
+                return print("the broker holds it back")
             elif why.code == 402 and why.repeated:
-                print("redeemed, it seems: the reply was lost, and the receipt is not live any more. The broker can tell.")
-                return
+                return print("redeemed, it seems: the reply was lost, and the receipt is not live any more. The broker can tell.")
             else:
                 raise
 
