@@ -64,8 +64,8 @@ def the_demo_on_a_clean_clone():
     expect("the requests of docs/THEOREM.md", re.findall(r"(?m)^(\d+)\. ", rest), [str(number) for number in range(1, 16)])
     expect("its end", "23 requests, 23 answered as expected" in said[-3], True)
     print(f"        the demo took {taken:.0f} seconds from git clone on", flush=True)
-    if len(os.sched_getaffinity(0)) >= 4:
-        expect(f"within {SOON} seconds", taken < SOON, True)
+    # Beside other work it takes as much longer as that is more than the processors can do.
+    expect(f"within {SOON} seconds, where nothing else runs on four processors", taken < SOON * max(1, os.getloadavg()[1] / 4, 4 / len(os.sched_getaffinity(0))), True)
 
 
 def serve(command, port, data):
