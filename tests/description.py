@@ -211,13 +211,13 @@ def members_that_are_ignored_are_read():
 def texts_that_an_import_takes():
     """What is taken is of the schema of a text that is handed in, and goes out as of the schema of an export."""
     turn_to("texts")
-    pledge = row("P", 1, "A1", '"Ring, ""gold"" \u2028=1+1"', "fixed", 100, DAY, "", "no", 1, "no", DAY, "open")
+    pledge = row("P", 1, "A1", '"=1+1, ""gold"" \u2028"', "fixed", 100, DAY, "", "no", 1, "no", DAY, "open")
     rows = [HEADER, row("B", 2, 1, 1), row("T", 1, 0, 0, 0), pledge, *secrets(1, 1)]
     plain = "\n".join([*rows, ""])
     older = plain.replace("B,2", "B,1")
     quoted = plain.replace(HEADER, ",".join(f'"{it}"' for it in HEADER.split(","))).replace("B,2", '"B","2"')
     taken = [plain, older, quoted, plain[:-1], plain.replace("\n", "\r\n"), plain.replace("\n", "\r"), plain.replace("\n", "\n\n"), f"\ufeff{plain}"]
-    kept = [plain.replace(",", ";"), plain.replace("B,2", "B, 2"), plain.replace(DAY, "31/01/2024"), plain.encode("utf-16"), plain.replace("Ring", "Ring\n")]
+    kept = [plain.replace(",", ";"), plain.replace("B,2", "B, 2"), plain.replace(DAY, "31/01/2024"), plain.encode("utf-16"), plain.replace("gold", "gold\n")]
     handed_in, out = OPERATIONS["importBook"].body, OPERATIONS["exportBook"].schemas[200, "text/csv; charset=utf-8"]
     for book, given in enumerate([*taken, *kept], 1):
         RUN.send("makeBook", 0, {"capacity": 1, "key": BROKER, "name": "High Street"}, book=book)

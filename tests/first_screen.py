@@ -68,6 +68,35 @@ def the_demo_on_a_clean_clone():
     expect(f"within {SOON} seconds, where nothing else runs on four processors", taken < SOON * max(1, os.getloadavg()[1] / 4, 4 / len(os.sched_getaffinity(0))), True)
 
 
+STORY = """\
+# A clock is taken.
+2024-01-31|0|operator|POST /books/7|{"capacity":1,"key":"22222222-2222-2222-2222-222222222222","name":"High Street"}
+200 OK|{"book":7}
+2024-01-31|0|broker|POST /books/7/terms|{"keep_after":0,"keep_before":0,"rate":0,"version":1}
+2024-01-31|1|broker|POST /books/7/pledges|{"article":"Clock","five_days":false,"kind":"fixed","pence":10000,"ref":"A1"}
+200 OK|{"number":1,"receipt":"1-00000000-0000-0000-0000-000000000001"}
+# And shown the next day.
+2024-02-01|0|1-1|GET /books/7/held|
+"""
+
+
+def a_story_of_ones_own():
+    """A reply that nobody wrote down is shown, and one that is another than was written down is told."""
+    with tempfile.TemporaryDirectory() as room:
+        path = os.path.join(room, "story.txt")
+        for story, status in ((STORY, 0), (STORY.replace('{"book":7}', '{"book":8}'), 2), ("x\n", 2), ("", 2)):
+            with open(path, "w") as it:
+                it.write(story)
+            ran = subprocess.run(["make", "-s", "demo", f"FILE={path}"], cwd=TOP, stdin=subprocess.DEVNULL, capture_output=True, text=True, env={**os.environ, "PAWND": PROGRAM}, timeout=60)
+            expect(f"how make ended with {story[:200]!r}", ran.returncode, status)
+            if story.startswith("#"):
+                for line in ("A clock is taken.\n  2024-01-31  POST /books/7   with the operator's key\n", "And shown the next day.\n  2024-02-01  GET /books/7/held   with receipt 1-", "    Article Clock\n"):
+                    expect(f"it tells {line!r}", line in ran.stdout, True)
+                expect("what it tells of a reply", "NOT AS EXPECTED" in ran.stdout, story != STORY)
+            else:
+                expect("what it says of no story", "demo: " in ran.stderr and "Traceback" not in ran.stderr, True)
+
+
 def serve(command, port, data):
     """The service, started by the README's own command, on this port and in this folder."""
     program = subprocess.Popen([*command.split(), f"PORT={port}", f"DATA={data}"], cwd=TOP, stdin=subprocess.DEVNULL, stdout=subprocess.PIPE, text=True,
@@ -119,4 +148,4 @@ def the_first_screen():
             program.communicate(timeout=30)
 
 
-main(the_demo_on_a_clean_clone, the_first_screen)
+main(the_demo_on_a_clean_clone, a_story_of_ones_own, the_first_screen)
