@@ -1,6 +1,7 @@
 #!/usr/bin/env node
 /**
- * A broker's day: terms, a pledge, a repayment over the counter, tomorrow's bookings, and the book as rows in the evening.
+ * A broker's day: terms, a pledge, a repayment over the counter, tomorrow's bookings, and the book as rows in the
+ * evening.
  *
  * usage: broker_day.mjs URL BOOK KEY [LOST]      or the variables PLEDGE_URL, PLEDGE_BOOK and PLEDGE_KEY
  *
@@ -8,6 +9,7 @@
  */
 import { Book, Lost, Refused, day, lines, money, nextEntry, settings, stop } from "./client.mjs";
 
+const MAY_BE_MADE = "no reply: a new receipt may have been made. Declare again only if nobody was given it.";
 const TERMS = { keep_after: 0, keep_before: 0, rate: 2667, version: 1 };
 
 /** What a request gives, or null where it is refused for one of these reasons, each with what it does then. */
@@ -63,7 +65,7 @@ async function declareLost(book, number) {
     console.log(`new receipt ${said.receipt}`);
   } catch (why) {
     if (!(why instanceof Lost)) throw why;
-    console.log(why.sent ? "no reply: a new receipt may have been made. Declare again only if nobody was given it." : "nothing was sent, so no receipt was made");
+    console.log(why.sent ? MAY_BE_MADE : "nothing was sent, so no receipt was made");
   }
 }
 
@@ -74,7 +76,8 @@ async function evening(book) {
   console.log(`the book has ${count("P,")} pledges and ${count("E,")} entries`);
 }
 
-const [url, number, key, ...lost] = settings("broker_day.mjs URL BOOK KEY [LOST]", "PLEDGE_URL", "PLEDGE_BOOK", "PLEDGE_KEY");
+const USAGE = "broker_day.mjs URL BOOK KEY [LOST]";
+const [url, number, key, ...lost] = settings(USAGE, "PLEDGE_URL", "PLEDGE_BOOK", "PLEDGE_KEY");
 const book = new Book(url, number, { "Pledge-Key": key });
 try {
   await putTerms(book);

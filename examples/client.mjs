@@ -1,4 +1,7 @@
-/** A small client of the pledge books for node, without packages: it tells refusals by their code, and what to do where no reply came. */
+/**
+ * A small client of the pledge books for node, without packages: it tells refusals by their code, and what to do where no
+ * reply came.
+ */
 import http from "node:http";
 import https from "node:https";
 
@@ -8,7 +11,10 @@ const PATIENCE = 30;
 /** The proxy's own refusals that may be over soon. */
 const PASSING = [429, 502, 503, 504];
 
-/** The service refused a request, and changed nothing by it. Where `repeated` is set, an earlier sending got no reply, and may have been done. */
+/**
+ * The service refused a request, and changed nothing by it. Where `repeated` is set, an earlier sending got no reply, and
+ * may have been done.
+ */
 export class Refused extends Error {
   constructor(said, repeated) {
     super(`${said.code} ${said.name}`);
@@ -24,7 +30,7 @@ export class Lost extends Error {
   }
 }
 
-/** Nobody took the request, or the proxy kept it back. It was not done. `pause` is how long to wait; null is for ever. */
+/** Nobody took the request, or the proxy kept it back, so it was not done. `pause` is how long to wait; null is ever. */
 class NotHandedOn extends Error {
   constructor(words, pause) {
     super(words);
@@ -42,7 +48,7 @@ export class Book {
     return this.ask("GET", path);
   }
 
-  /** `repeat` is whether the request may be sent again where it may have been done. The description says so of each one, in `x-repeat`. */
+  /** `repeat` is whether the request may be sent again where it may have been done, as `x-repeat` of the description says. */
   post(path, body, repeat = true) {
     return this.ask("POST", path, body, repeat);
   }
@@ -87,19 +93,22 @@ function once(method, url, fields, body) {
       reply.on("error", failed);
     });
     let connected = false;
-    request.on("socket", (socket) => socket.once(library === https ? "secureConnect" : "connect", () => { connected = true; }));
+    const event = library === https ? "secureConnect" : "connect";
+    request.on("socket", (socket) => socket.once(event, () => { connected = true; }));
     request.on("timeout", () => request.destroy(new Error("it took too long")));
-    request.on("error", (why) => failed(connected ? why : new NotHandedOn(`nobody is there: ${why.message || why.code}`, PAUSE)));
+    const nobody = (why) => new NotHandedOn(`nobody is there: ${why.message || why.code}`, PAUSE);
+    request.on("error", (why) => failed(connected ? why : nobody(why)));
     request.end(text);
   });
 }
 
-/** What a reply of the service says. A reply of the proxy's own is a fault, which says whether it handed the request on. */
+/** What a reply of the service says. A reply of the proxy's own is a fault: it says whether the request was handed on. */
 function told({ status, headers, said }) {
   const value = headers["content-type"] === "application/json" ? JSON.parse(said) : said;
   if (status === 200 || value.code) return value;
   if (value.handed_on === false) {
-    throw new NotHandedOn(`the proxy said ${status}`, PASSING.includes(status) ? Number(headers["retry-after"] ?? PAUSE) : null);
+    const pause = PASSING.includes(status) ? Number(headers["retry-after"] ?? PAUSE) : null;
+    throw new NotHandedOn(`the proxy said ${status}`, pause);
   }
   throw new Error(`${status} by another than the service`);
 }
@@ -121,7 +130,10 @@ export const money = (pence) => `${Math.floor(pence / 100)}.${String(pence % 100
 export const lines = (text) => text.split("\n").slice(0, -1);
 
 /** What stands in a statement behind this word. */
-export const value = (statement, label) => lines(statement).find((line) => line.startsWith(`${label} `)).slice(label.length + 1);
+export const value = (statement, label) => {
+  const found = lines(statement).find((line) => line.startsWith(`${label} `));
+  return found.slice(label.length + 1);
+};
 
 /** Pounds and pence of a statement, as pence. */
 export const pence = (amount) => Number(amount.replace(".", ""));

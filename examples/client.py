@@ -1,4 +1,5 @@
-"""A small client of the pledge books, in Python's standard library: it tells refusals by their code, and what to do where no reply came."""
+"""A small client of the pledge books, in Python's standard library: it tells refusals by their code, and what to do where
+no reply came."""
 import http.client
 import json
 import os
@@ -31,7 +32,7 @@ class Lost(Exception):
 
 
 class NotHandedOn(Exception):
-    """Nobody took the request, or the proxy kept it back. It was not done. `pause` is how long to wait; None is for ever."""
+    """Nobody took the request, or the proxy kept it back, so it was not done. `pause` is how long to wait; None is for ever."""
 
     def __init__(self, words, pause):
         super().__init__(words)
@@ -49,8 +50,8 @@ class Book:
         return self.ask("GET", path)
 
     def post(self, path, body=None, repeat=True):
-        """`repeat` is whether the request may be sent again where it may have been done. The description says so of each
-        one, in `x-repeat`."""
+        """`repeat` is whether the request may be sent again where it may have been done. The description says so of each,
+        in `x-repeat`."""
         return self.ask("POST", path, body, repeat)
 
     def ask(self, method, path, body=None, repeat=True):
@@ -94,7 +95,7 @@ class Book:
 
 
 def told(reply, said):
-    """What a reply of the service says. A reply of the proxy's own is a fault, which says whether it handed the request on."""
+    """What a reply of the service says. A reply of the proxy's own is a fault: it says whether the request was handed on."""
     said = json.loads(said) if reply.getheader("Content-Type") == "application/json" else said
     if reply.status == 200 or (isinstance(said, dict) and "code" in said):
         return said
@@ -118,7 +119,7 @@ def money(pence):
 
 
 def lines(text):
-    """The lines of a text of the service. They end with LF alone: `splitlines` would end one within an article, too, at U+2028."""
+    """The lines of a text of the service. They end with LF alone; `splitlines` would end one at U+2028 in an article, too."""
     return text.split("\n")[:-1]
 
 

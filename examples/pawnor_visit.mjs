@@ -1,13 +1,15 @@
 #!/usr/bin/env node
 /**
- * A pawnor's visit: looks at a pledge by its receipt, asks for a window tomorrow, pays ten pounds, and redeems the rest.
+ * A pawnor's visit: looks at a pledge by its receipt, asks for a window tomorrow, pays ten pounds, redeems the rest.
  *
  * usage: pawnor_visit.mjs URL BOOK RECEIPT      or the variables PLEDGE_URL, PLEDGE_BOOK and PLEDGE_RECEIPT
  *
- * Who has the receipt has the article, so better say it by the environment: a command line is seen by others of the machine.
+ * Who has the receipt has the article, so better say it by the environment: others of the machine see a command line.
  */
 import { createInterface } from "node:readline/promises";
 import { Book, Lost, Refused, day, money, nextEntry, pence, settings, stop, value } from "./client.mjs";
+
+const SEEMS = "redeemed, it seems: the reply was lost, and the receipt is not live any more. The broker can tell.";
 
 /** A window of tomorrow. Asked again for the same one nothing changes, so it may be repeated. */
 async function askForTomorrow(book) {
@@ -20,7 +22,7 @@ async function askForTomorrow(book) {
   }
 }
 
-/** Pays once: the number of the entry is taken from the statement before the first sending, and is the same in a repeat. */
+/** Pays once: the number of the entry is taken from the statement before the first sending, and stays in a repeat. */
 async function pay(book, amount) {
   const entry = { pence: amount, seq: nextEntry(await book.get("/held")) };
   try {
@@ -44,8 +46,8 @@ async function agreed(question) {
 }
 
 /**
- * Pays all that is owing. A repeat can't pay twice: where the first was done it is refused as 402, since the receipt was surrendered.
- * Where another sum is owing by now, as on the next day, it is paid only if a person says so.
+ * Pays all that is owing. A repeat can't pay twice: where the first was done it is refused as 402, since the receipt was
+ * surrendered. Where another sum is owing by now, as on the next day, it is paid only if a person says so.
  */
 async function redeem(book) {
   let paid = pence(value(await book.get("/held"), "Owing"));
@@ -55,18 +57,18 @@ async function redeem(book) {
       return console.log(`redeemed on ${said.redeemed} for ${money(said.paid)}`);
     } catch (why) {
       if (why.code === 303) return console.log("the broker holds it back");
-      if (why.code === 402 && why.repeated) {
-        return console.log("redeemed, it seems: the reply was lost, and the receipt is not live any more. The broker can tell.");
-      }
+      if (why.code === 402 && why.repeated) return console.log(SEEMS);
       if (why.code !== 310) throw why;
       const { total } = why.said;
-      if (!await agreed(`Owing is ${money(total)} now, and not ${money(paid)}. Pay that? (yes)`)) return console.log("not redeemed");
+      const question = `Owing is ${money(total)} now, and not ${money(paid)}. Pay that? (yes)`;
+      if (!await agreed(question)) return console.log("not redeemed");
       paid = total;
     }
   }
 }
 
-const [url, number, receipt] = settings("pawnor_visit.mjs URL BOOK RECEIPT", "PLEDGE_URL", "PLEDGE_BOOK", "PLEDGE_RECEIPT");
+const USAGE = "pawnor_visit.mjs URL BOOK RECEIPT";
+const [url, number, receipt] = settings(USAGE, "PLEDGE_URL", "PLEDGE_BOOK", "PLEDGE_RECEIPT");
 const book = new Book(url, number, { "Pledge-Receipt": receipt });
 try {
   process.stdout.write(await book.get("/held"));

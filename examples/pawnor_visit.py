@@ -10,6 +10,8 @@ import sys
 
 from client import Book, Lost, Refused, money, next_entry, pence, settings, value
 
+SEEMS = "redeemed, it seems: the reply was lost, and the receipt is not live any more. The broker can tell."
+
 
 def ask_for_tomorrow(book):
     """A window of tomorrow. Asked again for the same one nothing changes, so it may be repeated."""
@@ -47,8 +49,8 @@ def agreed(question):
 
 
 def redeem(book):
-    """Pays all that is owing. A repeat can't pay twice: where the first was done it is refused as 402, since the receipt was
-    surrendered. Where another sum is owing by now, as on the next day, it is paid only if a person says so."""
+    """Pays all that is owing. A repeat can't pay twice: where the first was done it is refused as 402, since the receipt
+    was surrendered. Where another sum is owing by now, as on the next day, it is paid only if a person says so."""
     paid = pence(value(book.get("/held"), "Owing"))
     while True:
         try:
@@ -63,7 +65,7 @@ def redeem(book):
             elif why.code == 303:
                 return print("the broker holds it back")
             elif why.code == 402 and why.repeated:
-                return print("redeemed, it seems: the reply was lost, and the receipt is not live any more. The broker can tell.")
+                return print(SEEMS)
             else:
                 raise
 

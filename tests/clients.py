@@ -1,6 +1,7 @@
 #!/usr/bin/env python3
-"""What docs/CLIENTS.md tells a writer of clients, shown by the clients themselves: five requests by each that the machine has, with the times; how connections end; several
-receipts; two senders of one entry; what the proxy says by itself; and the two ways to try."""
+"""What docs/CLIENTS.md tells a writer of clients, shown by the clients themselves: five requests by each that the machine
+has, with the times; how connections end; several receipts; two senders of one entry; what the proxy says by itself; and the
+two ways to try."""
 import contextlib
 import http.client
 import json
@@ -8,14 +9,17 @@ import os
 import re
 import shutil
 import signal
+import socket
 import subprocess
 import tempfile
 import time
 
 from browser import provide
-from service import BROKER, OPERATOR, PATIENCE, PROGRAM, SEED, TOP, Server, Session, expect, free_port, main, read_all, refusal, request
+from service import (BROKER, OPERATOR, PATIENCE, PROGRAM, SEED, TOP, Server, Session, expect, free_port, main, read_all,
+                     refusal, request)
 
 BODY_BYTES = 1_048_576
+KEY, IMPORT, CLOSE = f"Pledge-Key: {BROKER}", f"Import-Key: {BROKER}", "Connection: close"
 JAVA = """
 import java.net.URI;
 import java.net.http.HttpClient;
@@ -40,19 +44,22 @@ public class Five {
 NODE = """
 import http from "node:http";
 const [, , how, url, ...receipts] = process.argv;
+const field = { "Pledge-Receipt": receipts[0] };
 const ways = {
-  "fetch kept": async () => (await fetch(url, { headers: { "Pledge-Receipt": receipts[0] } })).text(),
-  "fetch closed": async () => (await fetch(url, { headers: { "Pledge-Receipt": receipts[0], Connection: "close" } })).text(),
+  "fetch kept": async () => (await fetch(url, { headers: field })).text(),
+  "fetch closed": async () => (await fetch(url, { headers: { ...field, Connection: "close" } })).text(),
   "fetch appended": async () => {
     const headers = new Headers({ Connection: "close" });
     for (const it of receipts) headers.append("Pledge-Receipt", it);
     return (await fetch(url, { headers })).text();
   },
-  "http": () => new Promise((done) => http.get(url, { agent: false, headers: { "Pledge-Receipt": receipts } }, (reply) => {
-    let said = "";
-    reply.on("data", (piece) => { said += piece; });
-    reply.on("end", () => done(said));
-  })),
+  "http": () => new Promise((done) => {
+    http.get(url, { agent: false, headers: { "Pledge-Receipt": receipts } }, (reply) => {
+      let said = "";
+      reply.on("data", (piece) => { said += piece; });
+      reply.on("end", () => done(said));
+    });
+  }),
 };
 for (let turn = 0; turn < 5; turn += 1) console.log((await ways[how]()).split("Pledge ").length, how);
 """
@@ -100,8 +107,9 @@ def output(*words, **how):
 
 def by_http_client(server, receipt, closes):
     connection, statuses = http.client.HTTPConnection("127.0.0.1", server.port, timeout=60), []
+    fields = {"Pledge-Receipt": receipt, **({"Connection": "close"} if closes else {})}
     for _ in range(5):
-        connection.request("GET", "/books/7/held", headers={"Pledge-Receipt": receipt, **({"Connection": "close"} if closes else {})})
+        connection.request("GET", "/books/7/held", headers=fields)
         reply = connection.getresponse()
         statuses.append((reply.status, len(reply.read()) > 0))
         if closes:
@@ -111,22 +119,30 @@ def by_http_client(server, receipt, closes):
 
 
 def five_requests_by_each_client():
-    """All are answered. Those that keep a connection and open another wait for its end, and those that close each do not."""
+    """All are answered. Those that keep a connection and open another wait for its end. Those that close each do not."""
     with two_pledges() as (server, receipts):
-        field = ["-H", f"Pledge-Receipt: {receipts[0]}"]
-        curl = ["curl", "-sS", *field]
-        for who, words in (("curl, five times", None), ("curl, one process", [held(server)] * 5)):
-            said, taken = timed(who, lambda: [output(*curl, *(words or [held(server)])) for _ in range(1 if words else 5)])
-            expect(f"the replies to {who}", "".join(said).count("Pledge 1"), 5)
-            expect(f"{who} is quick", taken < PATIENCE, True)
+        by_curl(server, ["curl", "-sS", "-H", f"Pledge-Receipt: {receipts[0]}"])
         for closes in (False, True):
-            said, taken = timed(f"http.client, {'closed' if closes else 'kept'}", lambda: by_http_client(server, receipts[0], closes))
-            expect("the replies to http.client", (said, taken < PATIENCE), ([(200, True)] * 5, True))
-        for words, waits in (([], True), (["-H", "Connection: close"], False)):
-            said, taken = timed(f"curl -Z, {'kept' if waits else 'closed'}", lambda: output(*curl, "-Z", "--no-progress-meter", *words, *[held(server)] * 5))
-            expect("the replies to curl -Z, and whether it waits for itself", (said.count("Pledge 1"), taken > PATIENCE - 1), (5, waits))
+            who = f"http.client, {'closed' if closes else 'kept'}"
+            said, taken = timed(who, lambda: by_http_client(server, receipts[0], closes))
+            expect(f"the replies to {who}", (said, taken < PATIENCE), ([(200, True)] * 5, True))
         by_node(server, receipts)
         by_java(server, receipts)
+
+
+def by_curl(server, curl):
+    five, together = [held(server)] * 5, ["-Z", "--no-progress-meter"]
+    for who, words, waits in (("curl, one process", five, False), ("curl -Z, kept", together + five, True),
+                              ("curl -Z, closed", together + ["-H", CLOSE] + five, False)):
+        said, taken = timed(who, lambda: output(*curl, *words))
+        expect(f"the replies to {who}, and whether it waits for itself", (said.count("Pledge 1"), taken > PATIENCE - 1), (5, waits))
+    said, taken = timed("curl, five times", lambda: "".join(output(*curl, held(server)) for _ in range(5)))
+    expect("the replies to curl, five times", (said.count("Pledge 1"), taken < PATIENCE - 1), (5, True))
+
+
+def node(*words):
+    """What the program for node prints. It begins with what a script's path is else."""
+    return output("node", "--input-type=module", "-e", f"process.argv.splice(1, 0, '');{NODE}", *words)
 
 
 def by_node(server, receipts):
@@ -134,10 +150,10 @@ def by_node(server, receipts):
         return not_tried("the clients of node", "node is not installed")
     for how, waits in (("fetch kept", True), ("fetch closed", False), ("http", False)):
         asked = receipts[:1] if how.startswith("fetch") else receipts
-        said, taken = timed(f"node, {how}", lambda: output("node", "--input-type=module", "-e", f"process.argv.splice(1, 0, '');{NODE}", how, held(server), *asked))
+        said, taken = timed(f"node, {how}", lambda: node(how, held(server), *asked))
         expect(f"the replies to {how}", said.split("\n")[:-1], [f"{len(asked) + 1} {how}"] * 5)
         expect(f"{how} waits", taken > PATIENCE - 1, waits)
-    said = output("node", "--input-type=module", "-e", f"process.argv.splice(1, 0, '');{NODE}", "fetch appended", held(server), *receipts)
+    said = node("fetch appended", held(server), *receipts)
     expect("fetch joins receipts by a comma", said.split("\n")[0], "1 fetch appended")
 
 
@@ -149,7 +165,8 @@ def by_java(server, receipts):
         with open(path, "w") as it:
             it.write(JAVA)
         output("javac", "-d", room, path)
-        said, _ = timed("Java, twice five by two clients", lambda: output("java", "-Djdk.httpclient.keepalive.timeout=0", "-cp", room, "Five", held(server), *receipts))
+        java = ["java", "-Djdk.httpclient.keepalive.timeout=0", "-cp", room, "Five"]
+        said, _ = timed("Java, twice five by two clients", lambda: output(*java, held(server), *receipts))
         expect("the replies to Java, of which none waited", said.split("\n")[:-1], ["200 3"] * 10)
 
 
@@ -157,10 +174,10 @@ def an_idle_connection_bars_the_others():
     with two_pledges() as (server, _), server.connect() as idle:
         idle.sendall(request("GET", "/books/7/held"))
         idle.recv(4096)
-        for field, waits in (("Connection: close", True), ("Connection: close", False)):
+        for waits in (True, False):
             begun = time.monotonic()
             with server.connect() as peer:
-                peer.sendall(request("GET", "/books/7/held", field))
+                peer.sendall(request("GET", "/books/7/held", CLOSE))
                 expect("a reply", read_all(peer), refusal(712, "NoReceipt", "400 Bad Request"))
             expect("it waited", time.monotonic() - begun > PATIENCE - 1, waits)
         expect("the idle one is ended", idle.recv(10), b"")
@@ -169,21 +186,22 @@ def an_idle_connection_bars_the_others():
 def how_connections_end():
     with two_pledges() as (server, _):
         none = refusal(712, "NoReceipt", "400 Bad Request")
-        for field, replies in (("Connection: close", 1), ("Connection: CLOSE", 1), ("Connection: keep-alive, close", 2)):
+        for field, replies in ((CLOSE, 1), ("Connection: CLOSE", 1), ("Connection: keep-alive, close", 2)):
             with server.connect() as peer:
-                peer.sendall(request("GET", "/books/7/held", field) + request("GET", "/books/7/held", "Connection: close"))
+                peer.sendall(request("GET", "/books/7/held", field) + request("GET", "/books/7/held", CLOSE))
                 expect(field, read_all(peer), none * replies)
         with server.connect() as peer:
             peer.sendall(request("GET", "/books/7/held") * 1001)
             said = read_all(peer)
-        expect("a thousand replies, and no word of the end", (said.count(b"HTTP/1.1 "), b"connection" in said.lower(), b"date:" in said.lower()), (1000, False, False))
+        told = (said.count(b"HTTP/1.1 "), b"connection" in said.lower(), b"date:" in said.lower())
+        expect("a thousand replies, and no word of the end", told, (1000, False, False))
         for method in ("HEAD", "OPTIONS"):
             with server.connect() as peer:
-                peer.sendall(request(method, "/books/7/held", "Connection: close"))
+                peer.sendall(request(method, "/books/7/held", CLOSE))
                 expect(method, read_all(peer), refusal(707, "WrongMethod", "400 Bad Request"))
         with server.connect() as peer:
             body = '{"keep_after":0,"keep_before":0,"rate":0,"version":1}'
-            peer.sendall(request("POST", "/books/7/terms", f"Pledge-Key: {BROKER}", "Expect: 100-continue", "Connection: close", body=body)[:-len(body)])
+            peer.sendall(request("POST", "/books/7/terms", KEY, "Expect: 100-continue", CLOSE, body=body)[:-len(body)])
             peer.settimeout(1)
             with contextlib.suppress(TimeoutError):
                 expect("nothing comes to Expect", peer.recv(100), "nothing")
@@ -192,13 +210,13 @@ def how_connections_end():
 
 
 def a_body_that_is_too_long():
-    """It is refused while it is written. Some clients see the reply, and some that the connection is broken; one byte less is read."""
+    """It is refused while it is written: the reply is seen, or that the connection is broken. One byte less is read."""
     with two_pledges() as (server, _):
-        seen = {}
-        for turn in range(20):
+        seen, fields = {}, {"Pledge-Key": BROKER, "Import-Key": BROKER, "Connection": "close"}
+        for _ in range(20):
             connection = http.client.HTTPConnection("127.0.0.1", server.port, timeout=60)
             try:
-                connection.request("POST", "/books/7/import", b"x" * 2 * BODY_BYTES, {"Pledge-Key": BROKER, "Import-Key": BROKER, "Connection": "close"})
+                connection.request("POST", "/books/7/import", b"x" * 2 * BODY_BYTES, fields)
                 said = json.loads(connection.getresponse().read())["code"]
             except OSError as why:
                 said = type(why).__name__
@@ -207,14 +225,15 @@ def a_body_that_is_too_long():
         print(f"        http.client saw {seen}", flush=True)
         expect("what was seen", set(seen) <= {705, "BrokenPipeError", "ConnectionResetError"}, True)
         with server.connect() as peer:
-            peer.sendall(request("POST", "/books/7/import", f"Pledge-Key: {BROKER}", f"Import-Key: {BROKER}", "Connection: close", body="x" * BODY_BYTES))
+            peer.sendall(request("POST", "/books/7/import", KEY, IMPORT, CLOSE, body="x" * BODY_BYTES))
             expect("the longest body", read_all(peer).endswith(b'{"code":602,"name":"Columns","row":1}'), True)
 
 
 def several_receipts():
     with two_pledges() as (server, receipts):
         fields = [word for it in receipts for word in ("-H", f"Pledge-Receipt: {it}")]
-        expect("by curl", re.findall(r"Pledge \d", output("curl", "-sS", *fields, held(server))), ["Pledge 1", "Pledge 2"])
+        shown = output("curl", "-sS", *fields, held(server))
+        expect("by curl", re.findall(r"Pledge \d", shown), ["Pledge 1", "Pledge 2"])
         joined = output("curl", "-sS", "-H", f"Pledge-Receipt: {', '.join(receipts)}", held(server))
         expect("joined by a comma", json.loads(joined)["code"], 710)
         connection = http.client.HTTPConnection("127.0.0.1", server.port, timeout=60)
@@ -230,12 +249,12 @@ def several_receipts():
 def two_senders_of_one_entry():
     """Both are told that it stands, and it stands once."""
     with two_pledges() as (server, receipts):
-        session, entry = server.session(), {"pence": 1000, "seq": 1}
-        told = [session.bearer(receipts[0], "POST", "/books/7/held/repay", entry), session.broker("POST", "/books/7/pledges/1/repay", entry)]
-        expect("both are told the same", (told[0], told[0][0]), (told[1], 200))
+        session, entry, at = server.session(), {"pence": 1000, "seq": 1}, "/books/7/pledges/1/repay"
+        one = session.bearer(receipts[0], "POST", "/books/7/held/repay", entry)
+        expect("both are told the same", (session.broker("POST", at, entry), one[0]), (one, 200))
         shown = session.broker("GET", "/books/7/pledges/1")[1]
         expect("it stands once", (shown.count("Entry "), "Owing 90.00\n" in shown), (1, True))
-        expect("another sum", session.broker("POST", "/books/7/pledges/1/repay", {"pence": 999, "seq": 1})[1]["code"], 301)
+        expect("another sum", session.broker("POST", at, {"pence": 999, "seq": 1})[1]["code"], 301)
         session.close()
 
 
@@ -246,11 +265,11 @@ def proxied(port):
         here = free_port()
         environment = {**os.environ, "PORT": str(port), "PAGES_PORT": str(here), "ROOM": os.path.join(room, "pages")}
         os.chmod(room, 0o755)
-        proxy = subprocess.Popen([os.path.join(TOP, "tools/pages")], stdin=subprocess.DEVNULL, stdout=subprocess.DEVNULL, stderr=subprocess.DEVNULL, env=environment)
+        how = dict.fromkeys(("stdin", "stdout", "stderr"), subprocess.DEVNULL)
+        proxy = subprocess.Popen([os.path.join(TOP, "tools/pages")], env=environment, **how)
         try:
             for _ in range(100):
-                with contextlib.suppress(OSError), contextlib.closing(http.client.HTTPConnection("127.0.0.1", here, timeout=10)) as it:
-                    it.connect()
+                with contextlib.suppress(OSError), socket.create_connection(("127.0.0.1", here), timeout=10):
                     break
                 time.sleep(0.1)
             yield here
@@ -266,27 +285,54 @@ def what_the_proxy_says_by_itself():
     with open(os.path.join(TOP, "docs/openapi.json"), encoding="utf-8") as it:
         told = json.load(it)["components"]
     with two_pledges() as (server, receipts), proxied(server.port) as port:
-        def asked(target, body=None, **fields):
-            connection = http.client.HTTPConnection("127.0.0.1", port, timeout=60)
-            connection.request("GET" if body is None else "POST", target, body, fields)
-            reply = connection.getresponse()
-            said = reply.read()
-            connection.close()
-            return reply.status, json.loads(said) if reply.getheader("Content-Type").startswith("application/json") else said, reply.getheader("Retry-After")
         view = {"Pledge-Receipt": receipts[0]}
-        expect("a view", (asked("/books/7/held", **view)[0], asked("/books/7/held", **{"Pledge-Receipt": "x"})[1]["code"]), (200, 710))
-        expect("a target of another shape", asked("/books/7/held?x=1"), (404, {"proxy": 404, "handed_on": False}, "2"))
-        expect("a long body", asked("/books/7/import", b"x" * (BODY_BYTES + 1))[:2], (413, {"proxy": 413, "handed_on": False}))
-        expect("a long head", asked("/books/7/held", **{"X": "x" * 40_000})[:2], (400, {"proxy": 400, "handed_on": False}))
-        seen = [asked("/books/7/held", **view) for _ in range(40)]
+        statuses = [by_proxy(port, "/books/7/held", **it)[0] for it in (view, {"Pledge-Receipt": "x"})]
+        expect("what the service says", statuses, [200, 400])
+        expect("a target of another shape", by_proxy(port, "/books/7/held?x=1"), (404, not_handed_on(404), "2"))
+        expect("a long body", by_proxy(port, "/books/7/import", b"x" * (BODY_BYTES + 1))[:2], (413, not_handed_on(413)))
+        expect("a long head", by_proxy(port, "/books/7/held", X="x" * 40_000)[:2], (400, not_handed_on(400)))
+        seen = [by_proxy(port, "/books/7/held", **view) for _ in range(40)]
         expect("many", {(it[0], it[2]) for it in seen}, {(200, None), (429, "2")})
-        expect("what they are told", next(it[1] for it in seen if it[0] == 429), {"proxy": 429, "handed_on": False})
+        expect("what they are told", next(it[1] for it in seen if it[0] == 429), not_handed_on(429))
         time.sleep(2)
-        expect("after as long as it said", asked("/books/7/held", **view)[0], 200)
+        expect("after as long as it said", by_proxy(port, "/books/7/held", **view)[0], 200)
         server.program.kill()
         server.program.wait()
-        expect("a service that is not there", asked("/books/7/pledges/1", **{"Pledge-Key": BROKER}), (502, {"proxy": 502, "handed_on": False}, "2"))
+        away = by_proxy(port, "/books/7/pledges/1", **{"Pledge-Key": BROKER})
+        expect("a service that is not there", away, (502, not_handed_on(502), "2"))
         expect("its schema", sorted(told["schemas"]["ProxyRefusal"]["required"]), ["handed_on", "proxy"])
+
+
+def not_handed_on(status):
+    return {"proxy": status, "handed_on": False}
+
+
+def by_proxy(port, target, body=None, **fields):
+    """The status of a reply, what it says, and how long it asks to wait."""
+    connection = http.client.HTTPConnection("127.0.0.1", port, timeout=60)
+    connection.request("GET" if body is None else "POST", target, body, fields)
+    reply = connection.getresponse()
+    said = reply.read()
+    connection.close()
+    if reply.getheader("Content-Type").startswith("application/json"):
+        said = json.loads(said)
+    return reply.status, said, reply.getheader("Retry-After")
+
+
+def answered(stream):
+    """What the program answers to a stream on a day of long ago."""
+    words = [PROGRAM, "answer", ":memory:", "2024-01-31", SEED, OPERATOR]
+    return subprocess.run(words, input=stream, capture_output=True, timeout=60, check=True).stdout
+
+
+def a_pledge_of_long_ago():
+    """The requests that take it."""
+    book = {"capacity": 1, "key": BROKER, "name": "High Street"}
+    terms = {"version": 1, "rate": 2667, "keep_before": 0, "keep_after": 0}
+    opening = {"ref": "A1", "article": "Ring", "kind": "fixed", "pence": 10000, "five_days": False}
+    return b"".join([request("POST", "/books/7", f"Pledge-Key: {OPERATOR}", body=json.dumps(book)),
+                     request("POST", "/books/7/terms", KEY, body=json.dumps(terms)),
+                     request("POST", "/books/7/pledges", KEY, body=json.dumps(opening))])
 
 
 def two_ways_to_try():
@@ -295,28 +341,23 @@ def two_ways_to_try():
         pass
     with Server() as server:
         session = server.session()
-        expect("another sandbox", session.bearer(receipts[0], "GET", "/books/7/held")[1], {"code": 402, "name": "NoSuchReceipt"})
+        expect("another sandbox", session.bearer(receipts[0], "GET", "/books/7/held")[1]["code"], 402)
         session.close()
-    stream = request("POST", "/books/7", f"Pledge-Key: {OPERATOR}", body=f'{{"capacity":1,"key":"{BROKER}","name":"x"}}')
-    stream += request("POST", "/books/7/terms", f"Pledge-Key: {BROKER}", body='{"version":1,"rate":2667,"keep_before":0,"keep_after":0}')
-    stream += request("POST", "/books/7/pledges", f"Pledge-Key: {BROKER}", body='{"ref":"A1","article":"Ring","kind":"fixed","pence":10000,"five_days":false}')
-    stream += request("GET", "/books/7/pledges/1", f"Pledge-Key: {BROKER}")
-    said = [subprocess.run([PROGRAM, "answer", ":memory:", "2024-01-31", SEED, OPERATOR], input=stream, capture_output=True, timeout=60).stdout for _ in range(2)]
+    stream = a_pledge_of_long_ago() + request("GET", "/books/7/pledges/1", KEY)
+    said = [answered(stream) for _ in range(2)]
     expect("the same replies", (said[0], b"Taken 2024-01-31\n" in said[0]), (said[1], True))
-    old_days(stream)
 
 
-def old_days(stream):
-    """A pledge that was taken long ago comes in by an import, and is charged for since, or passed."""
-    exported = subprocess.run([PROGRAM, "answer", ":memory:", "2024-01-31", SEED, OPERATOR], input=stream + request("GET", "/books/7/export", f"Pledge-Key: {BROKER}"),
-                              capture_output=True, timeout=60).stdout
-    rows = b"row,c1" + exported.split(b"row,c1", 1)[1]
+def old_days_by_an_import():
+    """A pledge that was taken long ago comes in by an import, and its period is over."""
+    exported = answered(a_pledge_of_long_ago() + request("GET", "/books/7/export", KEY))
+    rows = "row,c1" + exported.decode().split("row,c1", 1)[1]
     with Server() as server:
         session = server.session()
         session.ask("POST", "/books/8", {"capacity": 1, "key": BROKER, "name": "x"}, Pledge_Key=OPERATOR)
         session.close()
         with server.connect() as peer:
-            peer.sendall(request("POST", "/books/8/import", f"Pledge-Key: {BROKER}", f"Import-Key: {BROKER}", "Connection: close", body=rows.decode()))
+            peer.sendall(request("POST", "/books/8/import", KEY, IMPORT, CLOSE, body=rows))
             expect("the import", read_all(peer).endswith(b'{"imported":1}'), True)
         session = Session(server.port)
         shown = session.broker("GET", "/books/8/pledges/1")[1]
@@ -325,5 +366,5 @@ def old_days(stream):
 
 
 if __name__ == "__main__":
-    main(five_requests_by_each_client, an_idle_connection_bars_the_others, how_connections_end, a_body_that_is_too_long, several_receipts, two_senders_of_one_entry,
-         what_the_proxy_says_by_itself, two_ways_to_try)
+    main(five_requests_by_each_client, an_idle_connection_bars_the_others, how_connections_end, a_body_that_is_too_long,
+         several_receipts, two_senders_of_one_entry, what_the_proxy_says_by_itself, two_ways_to_try, old_days_by_an_import)
