@@ -1,5 +1,6 @@
 #!/usr/bin/env python3
-"""A broker's day: terms, a pledge, a repayment over the counter, tomorrow's bookings, and the book as rows in the evening.
+"""A broker's day: terms, a pledge, a repayment over the counter, tomorrow's bookings, and the book as rows in the
+evening.
 
 usage: broker_day.py URL BOOK KEY [LOST]      or the variables PLEDGE_URL, PLEDGE_BOOK and PLEDGE_KEY
 

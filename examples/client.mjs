@@ -1,6 +1,6 @@
 /**
- * A small client of the pledge books for node, without packages: it tells refusals by their code, and what to do where no
- * reply came.
+ * A small client of the pledge books for node, without packages: it tells refusals by their code, and what to do
+ * where no reply came.
  */
 import http from "node:http";
 import https from "node:https";
@@ -12,8 +12,8 @@ const PATIENCE = 30;
 const PASSING = [429, 502, 503, 504];
 
 /**
- * The service refused a request, and changed nothing by it. Where `repeated` is set, an earlier sending got no reply, and
- * may have been done.
+ * The service refused a request, and changed nothing by it. Where `repeated` is set, an earlier sending got no
+ * reply, and may have been done.
  */
 export class Refused extends Error {
   constructor(said, repeated) {
@@ -30,7 +30,10 @@ export class Lost extends Error {
   }
 }
 
-/** Nobody took the request, or the proxy kept it back, so it was not done. `pause` is how long to wait; null is ever. */
+/**
+ * Nobody took the request, or the proxy kept it back, so it was not done. `pause` is how long to wait; null is for
+ * ever.
+ */
 class NotHandedOn extends Error {
   constructor(words, pause) {
     super(words);
@@ -48,7 +51,10 @@ export class Book {
     return this.ask("GET", path);
   }
 
-  /** `repeat` is whether the request may be sent again where it may have been done, as `x-repeat` of the description says. */
+  /**
+   * `repeat` is whether the request may be sent again where it may have been done, as `x-repeat` of the description
+   * says.
+   */
   post(path, body, repeat = true) {
     return this.ask("POST", path, body, repeat);
   }
@@ -102,7 +108,9 @@ function once(method, url, fields, body) {
   });
 }
 
-/** What a reply of the service says. A reply of the proxy's own is a fault: it says whether the request was handed on. */
+/**
+ * What a reply of the service says. A reply of the proxy's own is a fault: it says whether the request was handed on.
+ */
 function told({ status, headers, said }) {
   const value = headers["content-type"] === "application/json" ? JSON.parse(said) : said;
   if (status === 200 || value.code) return value;

@@ -1,5 +1,5 @@
-"""A small client of the pledge books, in Python's standard library: it tells refusals by their code, and what to do where
-no reply came."""
+"""A small client of the pledge books, in Python's standard library: it tells refusals by their code, and what to do
+where no reply came."""
 import http.client
 import json
 import os
@@ -32,7 +32,8 @@ class Lost(Exception):
 
 
 class NotHandedOn(Exception):
-    """Nobody took the request, or the proxy kept it back, so it was not done. `pause` is how long to wait; None is for ever."""
+    """Nobody took the request, or the proxy kept it back, so it was not done. `pause` is how long to wait; None is
+    for ever."""
 
     def __init__(self, words, pause):
         super().__init__(words)
@@ -50,8 +51,8 @@ class Book:
         return self.ask("GET", path)
 
     def post(self, path, body=None, repeat=True):
-        """`repeat` is whether the request may be sent again where it may have been done. The description says so of each,
-        in `x-repeat`."""
+        """`repeat` is whether the request may be sent again where it may have been done. The description says so of
+        each, in `x-repeat`."""
         return self.ask("POST", path, body, repeat)
 
     def ask(self, method, path, body=None, repeat=True):
@@ -95,7 +96,8 @@ class Book:
 
 
 def told(reply, said):
-    """What a reply of the service says. A reply of the proxy's own is a fault: it says whether the request was handed on."""
+    """What a reply of the service says. A reply of the proxy's own is a fault: it says whether the request was
+    handed on."""
     said = json.loads(said) if reply.getheader("Content-Type") == "application/json" else said
     if reply.status == 200 or (isinstance(said, dict) and "code" in said):
         return said
@@ -119,7 +121,8 @@ def money(pence):
 
 
 def lines(text):
-    """The lines of a text of the service. They end with LF alone; `splitlines` would end one at U+2028 in an article, too."""
+    """The lines of a text of the service. They end with LF alone; `splitlines` would end one at U+2028 in an
+    article, too."""
     return text.split("\n")[:-1]
 
 

@@ -1,16 +1,17 @@
 # What the two scripts in bash share; it is read by them, and not run. URL is the service, BOOK the number of a book,
 # and HEADER the line that lets in.
 
-# Sends a request, and again where no reply came: ask METHOD PATH [BODY]. SAID is the reply, and CODE the code of a refusal
-# or 0. SENT is how many sendings without a reply may have been done. It fails by 1 where the service refused, and by 2
-# where it did not answer. ONCE=1 before it sends nothing again that may have been done.
+# Sends a request, and again where no reply came: ask METHOD PATH [BODY]. SAID is the reply, and CODE the code of a
+# refusal or 0. SENT is how many sendings without a reply may have been done. It fails by 1 where the service
+# refused, and by 2 where it did not answer. ONCE=1 before it sends nothing again that may have been done.
 ask() {
     local left=3 status told http bytes wait
     CODE=0 SENT=0
     while ((left-- > 0)); do
         # The header goes in by a file, since a command line is seen by others.
         SAID=$(curl -s --max-time 30 -X "$1" -H 'Connection: close' -H @<(printf '%s\n' "$HEADER") \
-            ${3+--data-binary "$3"} -w '\n%{http_code} %{size_request} %header{retry-after}' "$URL/books/$BOOK$2") && status=0 || status=$?
+            ${3+--data-binary "$3"} -w '\n%{http_code} %{size_request} %header{retry-after}' \
+            "$URL/books/$BOOK$2") && status=0 || status=$?
         told=${SAID##*$'\n'} SAID=${SAID%$'\n'*}
         SAID=${SAID%$'\n'}
         read -r http bytes wait <<<"$told"

@@ -46,8 +46,9 @@ async function agreed(question) {
 }
 
 /**
- * Pays all that is owing. A repeat can't pay twice: where the first was done it is refused as 402, since the receipt was
- * surrendered. Where another sum is owing by now, as on the next day, it is paid only if a person says so.
+ * Pays all that is owing. A repeat can't pay twice: where the first was done it is refused as 402, since the
+ * receipt was surrendered. Where another sum is owing by now, as on the next day, it is paid only if a person says
+ * so.
  */
 async function redeem(book) {
   let paid = pence(value(await book.get("/held"), "Owing"));

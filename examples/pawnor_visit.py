@@ -1,5 +1,6 @@
 #!/usr/bin/env python3
-"""A pawnor's visit: looks at a pledge by its receipt, asks for a window tomorrow, pays ten pounds, and redeems the rest.
+"""A pawnor's visit: looks at a pledge by its receipt, asks for a window tomorrow, pays ten pounds, and redeems the
+rest.
 
 usage: pawnor_visit.py URL BOOK RECEIPT      or the variables PLEDGE_URL, PLEDGE_BOOK and PLEDGE_RECEIPT
 
@@ -26,7 +27,8 @@ def ask_for_tomorrow(book):
 
 
 def pay(book, amount):
-    """Pays once: the number of the entry is taken from the statement before the first sending, and is the same in a repeat."""
+    """Pays once: the number of the entry is taken from the statement before the first sending, and is the same in
+    a repeat."""
     entry = {"pence": amount, "seq": next_entry(book.get("/held"))}
     try:
         said = book.post("/held/repay", entry)
@@ -49,8 +51,9 @@ def agreed(question):
 
 
 def redeem(book):
-    """Pays all that is owing. A repeat can't pay twice: where the first was done it is refused as 402, since the receipt
-    was surrendered. Where another sum is owing by now, as on the next day, it is paid only if a person says so."""
+    """Pays all that is owing. A repeat can't pay twice: where the first was done it is refused as 402, since the
+    receipt was surrendered. Where another sum is owing by now, as on the next day, it is paid only if a person says
+    so."""
     paid = pence(value(book.get("/held"), "Owing"))
     while True:
         try:

@@ -1,9 +1,11 @@
 #!/usr/bin/env bash
-# A pawnor's visit by curl: looks at a pledge by its receipt, asks for a window tomorrow, pays ten pounds, and redeems the rest.
+# A pawnor's visit by curl: looks at a pledge by its receipt, asks for a window tomorrow, pays ten pounds, and
+# redeems the rest.
 #
 # usage: pawnor_visit.sh URL BOOK RECEIPT      or the variables PLEDGE_URL, PLEDGE_BOOK and PLEDGE_RECEIPT
 #
-# Who has the receipt has the article, so better say it by the environment: a command line is seen by others of the machine.
+# Who has the receipt has the article, so better say it by the environment: a command line is seen by others of the
+# machine.
 set -euo pipefail
 . "$(dirname "$0")/client.sh"
 usage="usage: pawnor_visit.sh URL BOOK RECEIPT"

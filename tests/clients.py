@@ -1,7 +1,7 @@
 #!/usr/bin/env python3
-"""What docs/CLIENTS.md tells a writer of clients, shown by the clients themselves: five requests by each that the machine
-has, with the times; how connections end; several receipts; two senders of one entry; what the proxy says by itself; and the
-two ways to try."""
+"""What docs/CLIENTS.md tells a writer of clients, shown by the clients themselves: five requests by each that the
+machine has, with the times; how connections end; several receipts; two senders of one entry; what the proxy says by
+itself; and the two ways to try."""
 import contextlib
 import http.client
 import json
@@ -119,7 +119,8 @@ def by_http_client(server, receipt, closes):
 
 
 def five_requests_by_each_client():
-    """All are answered. Those that keep a connection and open another wait for its end. Those that close each do not."""
+    """All are answered. Those that keep a connection and open another wait for its end. Those that close each do
+    not."""
     with two_pledges() as (server, receipts):
         by_curl(server, ["curl", "-sS", "-H", f"Pledge-Receipt: {receipts[0]}"])
         for closes in (False, True):
@@ -135,7 +136,8 @@ def by_curl(server, curl):
     for who, words, waits in (("curl, one process", five, False), ("curl -Z, kept", together + five, True),
                               ("curl -Z, closed", together + ["-H", CLOSE] + five, False)):
         said, taken = timed(who, lambda: output(*curl, *words))
-        expect(f"the replies to {who}, and whether it waits for itself", (said.count("Pledge 1"), taken > PATIENCE - 1), (5, waits))
+        found = (said.count("Pledge 1"), taken > PATIENCE - 1)
+        expect(f"the replies to {who}, and whether it waits for itself", found, (5, waits))
     said, taken = timed("curl, five times", lambda: "".join(output(*curl, held(server)) for _ in range(5)))
     expect("the replies to curl, five times", (said.count("Pledge 1"), taken < PATIENCE - 1), (5, True))
 
@@ -367,4 +369,5 @@ def old_days_by_an_import():
 
 if __name__ == "__main__":
     main(five_requests_by_each_client, an_idle_connection_bars_the_others, how_connections_end, a_body_that_is_too_long,
-         several_receipts, two_senders_of_one_entry, what_the_proxy_says_by_itself, two_ways_to_try, old_days_by_an_import)
+         several_receipts, two_senders_of_one_entry, what_the_proxy_says_by_itself, two_ways_to_try,
+         old_days_by_an_import)

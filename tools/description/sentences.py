@@ -1,5 +1,5 @@
-"""What each refusal is to a person: why, and what to do next, as the pages of web/ say it. Where only a writer of clients
-can mend it, it stands here."""
+"""What each refusal is to a person: why, and what to do next, as the pages of web/ say it. Where only a writer of
+clients can mend it, it stands here."""
 import os
 import re
 
@@ -30,7 +30,8 @@ def sentences():
     path = next(path for path in PLACES if os.path.exists(os.path.join(TOP, path)))
     with open(os.path.join(TOP, path), encoding="utf-8") as it:
         found = ENTRY.findall(it.read())
-    return {int(code): (name, plain(why), OF_WRITERS.get(int(code), plain(remedy))) for code, name, why, remedy in found}
+    return {int(code): (name, plain(why), OF_WRITERS.get(int(code), plain(remedy)))
+            for code, name, why, remedy in found}
 
 
 def plain(text):
