@@ -290,6 +290,12 @@ def what_the_proxy_says_by_itself():
         view = {"Pledge-Receipt": receipts[0]}
         statuses = [by_proxy(port, "/books/7/held", **it)[0] for it in (view, {"Pledge-Receipt": "x"})]
         expect("what the service says", statuses, [200, 400])
+        with socket.create_connection(("127.0.0.1", port), timeout=60) as idle:
+            idle.sendall(request("GET", "/books/7/held", "Host: x", f"Pledge-Receipt: {receipts[0]}"))
+            expect("a reply to one that stays", idle.recv(12), b"HTTP/1.1 200")
+            begun = time.monotonic()
+            expect("a reply to another", by_proxy(port, "/books/7/held", **view)[0], 200)
+            expect("it did not wait", time.monotonic() - begun < PATIENCE - 1, True)
         expect("a target of another shape", by_proxy(port, "/books/7/held?x=1"), (404, not_handed_on(404), "2"))
         expect("a long body", by_proxy(port, "/books/7/import", b"x" * (BODY_BYTES + 1))[:2], (413, not_handed_on(413)))
         expect("a long head", by_proxy(port, "/books/7/held", X="x" * 40_000)[:2], (400, not_handed_on(400)))
