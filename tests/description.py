@@ -12,7 +12,7 @@ import subprocess
 import sys
 import tempfile
 
-from described import DAY, DESCRIPTION, CODES, NOBODY, OPERATIONS, PATH, VALIDATORS, Run, chosen, compact, resolved
+from described import DAY, DESCRIPTION, CODES, NOBODY, OPERATIONS, PATH, VALIDATORS, Run, Schema, chosen, compact, resolved
 from service import BROKER, TOP, Failed, expect, main, opened
 
 STRANGER = [["Pledge-Key", "99999999-9999-9999-9999-999999999999"]]
@@ -130,7 +130,9 @@ def each_part_has_its_form():
         said = operation.said
         expect(f"the tags of {operation.name}", (len(said["tags"]), set(said["tags"]) <= tags), (1, True))
         expect(f"who may ask {operation.name}", (len(said["security"]), set(said["security"][0]) <= schemes), (1, True))
-        expect(f"the proxy in place of {operation.name}", resolved(said["responses"]["default"])["content"]["application/json"]["schema"], {"$ref": "#/components/schemas/ProxyRefusal"})
+        for status in (400, 403, 404, 413, 429, 502, 503, 504):
+            response = resolved(said["responses"].get(str(status)) or said["responses"]["default"])
+            expect(f"the proxy's {status} in place of {operation.name}", Schema(response["content"]["application/json"]["schema"]).fault({"proxy": status, "handed_on": False}), None)
 
 
 def its_refusals_are_those_of_the_pages():
