@@ -5,7 +5,7 @@ build:
 	@tools/build
 
 demo:
-	@exec tools/demo $(FILE)
+	@exec tools/demo $(if $(FILE),"$(FILE)")
 
 serve:
 	@exec tools/serve

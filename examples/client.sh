@@ -1,11 +1,11 @@
 # What the two scripts in bash share; it is read by them, and not run. URL is the service, BOOK the number of a book,
 # and HEADER the line that lets in.
 
-# Sends a request, and again where no reply came: ask METHOD PATH [BODY]. SAID is the reply, and CODE the code of a
-# refusal or 0. SENT is how many sendings without a reply may have been done. It fails by 1 where the service
-# refused, and by 2 where it did not answer. ONCE=1 before it sends nothing again that may have been done.
+# Sends a request, and again where no reply came: ask METHOD PATH [BODY]. SAID is the reply, HTTP its status, and CODE
+# the code of a refusal or 0. SENT is how many sendings without a reply may have been done. It fails by 1 where the
+# service refused, and by 2 where it did not answer. ONCE=1 before it sends nothing again that may have been done.
 ask() {
-    local left=3 status told http bytes wait
+    local left=3 status told bytes wait
     CODE=0 SENT=0
     while ((left-- > 0)); do
         # The header goes in by a file, since a command line is seen by others.
@@ -14,8 +14,8 @@ ask() {
             "$URL/books/$BOOK$2") && status=0 || status=$?
         told=${SAID##*$'\n'} SAID=${SAID%$'\n'*}
         SAID=${SAID%$'\n'}
-        read -r http bytes wait <<<"$told"
-        if ((status == 0 && http == 200)); then return 0; fi
+        read -r HTTP bytes wait <<<"$told"
+        if ((status == 0 && HTTP == 200)); then return 0; fi
         CODE=$(said code)
         CODE=${CODE:-0}
         if ((CODE)); then return 1; fi
@@ -25,7 +25,7 @@ ask() {
             if ((${ONCE:-0})); then return 2; fi
         elif ((bytes > 0)); then
             # What the proxy refuses for good is not better the next time.
-            case $http in 429 | 502 | 503 | 504) ;; *) return 2 ;; esac
+            case $HTTP in 429 | 502 | 503 | 504) ;; *) return 2 ;; esac
         fi
         if ((left > 0)); then
             echo "no reply to $1 $2; sent again" >&2
@@ -52,6 +52,6 @@ money() {
 
 # Ends the script by what the last request met.
 stop() {
-    if ((CODE)); then echo "stopped: $CODE $(said name)" >&2; else echo "stopped: no reply" >&2; fi
+    if ((CODE)); then echo "stopped: $CODE $(said name)" >&2; else echo "stopped: no reply (HTTP $HTTP)" >&2; fi
     exit 1
 }

@@ -63,7 +63,7 @@ const ways = {
 };
 for (let turn = 0; turn < 5; turn += 1) console.log((await ways[how]()).split("Pledge ").length, how);
 """
-RUNS = {"node": "nodejs", "java": "default-jdk-headless", "nginx": "nginx-light"}
+RUNS = {"node": "nodejs", "nginx": "nginx-light"}
 
 
 def not_tried(what, why):
@@ -160,7 +160,7 @@ def by_node(server, receipts):
 
 
 def by_java(server, receipts):
-    if not has("java") or not shutil.which("javac"):
+    if not shutil.which("java") or not shutil.which("javac"):
         return not_tried("the client of Java", "its kit is not installed")
     with tempfile.TemporaryDirectory() as room:
         path = os.path.join(room, "Five.java")
