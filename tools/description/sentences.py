@@ -18,7 +18,7 @@ OF_WRITERS = {
     703: "Send a `Content-Length`, and no chunks.",
     704: "Send one `Content-Length`, of the bytes and not of the characters.",
     707: "Mend the method.",
-    708: "Mend the member. A number has neither point nor exponent, and a text has its limit in bytes.",
+    708: "Mend the member; a text has its limit in bytes.",
     710: "Give each receipt a field of its own, as it was issued.",
     711: "Send 32 receipts at most, or one with a command.",
     712: "Send the receipt.",
