@@ -144,6 +144,12 @@ def its_refusals_are_those_of_the_pages():
     expect("without a remedy", [name for name in CODES.values() if len(DESCRIPTION["components"]["schemas"][name]["x-remedy"]) < 8], [])
 
 
+def each_operation_stands_once_among_the_retries():
+    with open(os.path.join(TOP, "docs/CLIENTS.md"), encoding="utf-8") as it:
+        rows = re.findall(r"^\| (`.*?) \|", it.read().split("\n## Retries\n")[1].split("\n## ")[0], re.M)
+    expect("the operations", sorted(re.findall(r"`(\w+)`", " ".join(rows))), sorted(OPERATIONS))
+
+
 def repeated(operation, step, body, first):
     """Whether the same request, sent again over a copy of the file, is answered as the operation's `x-repeat` says."""
     path, copy = RUN.path, os.path.join(ROOM, "copy")
@@ -471,5 +477,5 @@ def each_pair_and_each_example_was_seen():
 
 
 main(it_is_valid_and_what_its_generator_writes, each_part_has_its_words, each_part_has_its_form, its_refusals_and_routes_are_those_of_the_rules, its_refusals_stand_in_the_order_of_the_rules,
-     its_refusals_are_those_of_the_pages, its_story_is_what_the_program_answers, bodies_are_refused_where_the_description_refuses_them, members_that_are_ignored_are_read, texts_that_an_import_takes,
+     its_refusals_are_those_of_the_pages, each_operation_stands_once_among_the_retries, its_story_is_what_the_program_answers, bodies_are_refused_where_the_description_refuses_them, members_that_are_ignored_are_read, texts_that_an_import_takes,
      heads_are_refused, each_refusal_is_met, two_thousand_requests_at_random, each_pair_and_each_example_was_seen)
