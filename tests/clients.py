@@ -99,6 +99,15 @@ def timed(who, asked):
     return said, taken
 
 
+def waits(who, asked):
+    """What comes of it, and whether it waited for a connection of its own, as it mostly does: it has three turns."""
+    for _ in range(3):
+        said, taken = timed(who, asked)
+        if taken > PATIENCE - 1:
+            break
+    return said, taken > PATIENCE - 1
+
+
 def output(*words, **how):
     ran = subprocess.run(words, stdin=subprocess.DEVNULL, capture_output=True, text=True, timeout=120, **how)
     expect(f"how {words[0]} ended", (ran.returncode, ran.stderr[-300:]), (0, ""))
@@ -133,11 +142,11 @@ def five_requests_by_each_client():
 
 def by_curl(server, curl):
     five, together = [held(server)] * 5, ["-Z", "--no-progress-meter"]
-    for who, words, waits in (("curl, one process", five, False), ("curl -Z, kept", together + five, True),
-                              ("curl -Z, closed", together + ["-H", CLOSE] + five, False)):
+    said, waited = waits("curl -Z, kept", lambda: output(*curl, *together, *five))
+    expect("the replies to curl -Z, and whether it waits for itself", (said.count("Pledge 1"), waited), (5, True))
+    for who, words in (("curl, one process", five), ("curl -Z, closed", [*together, "-H", CLOSE, *five])):
         said, taken = timed(who, lambda: output(*curl, *words))
-        found = (said.count("Pledge 1"), taken > PATIENCE - 1)
-        expect(f"the replies to {who}, and whether it waits for itself", found, (5, waits))
+        expect(f"the replies to {who}", (said.count("Pledge 1"), taken < PATIENCE - 1), (5, True))
     said, taken = timed("curl, five times", lambda: "".join(output(*curl, held(server)) for _ in range(5)))
     expect("the replies to curl, five times", (said.count("Pledge 1"), taken < PATIENCE - 1), (5, True))
 
@@ -150,11 +159,11 @@ def node(*words):
 def by_node(server, receipts):
     if not has("node"):
         return not_tried("the clients of node", "node is not installed")
-    for how, waits in (("fetch kept", True), ("fetch closed", False), ("http", False)):
-        asked = receipts[:1] if how.startswith("fetch") else receipts
+    said, waited = waits("node, fetch kept", lambda: node("fetch kept", held(server), receipts[0]))
+    expect("the replies to fetch, and whether it waits for itself", (said, waited), ("2 fetch kept\n" * 5, True))
+    for how, asked in (("fetch closed", receipts[:1]), ("http", receipts)):
         said, taken = timed(f"node, {how}", lambda: node(how, held(server), *asked))
-        expect(f"the replies to {how}", said.split("\n")[:-1], [f"{len(asked) + 1} {how}"] * 5)
-        expect(f"{how} waits", taken > PATIENCE - 1, waits)
+        expect(f"the replies to {how}", (said, taken < PATIENCE - 1), (f"{len(asked) + 1} {how}\n" * 5, True))
     said = node("fetch appended", held(server), *receipts)
     expect("fetch joins receipts by a comma", said.split("\n")[0], "1 fetch appended")
 
