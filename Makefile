@@ -1,8 +1,11 @@
 # The commands of this repository. Each is a script of tools/ or tests/, which says more of itself.
-.PHONY: build serve pages check test fuzz bench release clean help
+.PHONY: build demo serve pages check test fuzz bench release clean help
 
 build:
 	@tools/build
+
+demo:
+	@exec tools/demo $(if $(FILE),"$(FILE)")
 
 serve:
 	@exec tools/serve

@@ -1,5 +1,6 @@
 #!/usr/bin/env python3
-"""A broker's day: terms, a pledge, a repayment over the counter, tomorrow's bookings, and the book as rows in the evening.
+"""A broker's day: terms, a pledge, a repayment over the counter, tomorrow's bookings, and the book as rows in the
+evening.
 
 usage: broker_day.py URL BOOK KEY [LOST]      or the variables PLEDGE_URL, PLEDGE_BOOK and PLEDGE_KEY
 
@@ -8,7 +9,7 @@ LOST is the number of a pledge whose receipt was lost. Run twice on one day, it 
 import datetime
 import sys
 
-from client import Book, Lost, Refused, money, next_entry, settings
+from client import Book, Lost, Refused, lines, money, next_entry, settings
 
 TERMS = {"keep_after": 0, "keep_before": 0, "rate": 2667, "version": 1}
 
@@ -49,7 +50,7 @@ def counter(book, number):
 def bookings(book, day):
     """Confirms what is asked for a day, as long as there is room, and refuses the rest."""
     sheet = book.get(f"/days/{day}")
-    for line in sheet.splitlines():
+    for line in lines(sheet):
         if " window " not in line:
             continue
         _, number, _, window = line.split()
@@ -66,14 +67,18 @@ def declare_lost(book, number):
     """A new receipt. It is never sent again by itself: a second one would make the first new receipt worthless."""
     try:
         print("new receipt", book.post(f"/pledges/{number}/declare", {"paper": "sworn"}, repeat=False)["receipt"])
-    except Lost:
-        print("no reply: a new receipt may have been made. Declare again only if nobody was given it.")
+    except Lost as why:
+        if why.sent:
+            print("no reply: a new receipt may have been made. Declare again only if nobody was given it.")
+        else:
+            print("nothing was sent, so no receipt was made")
 
 
 def evening(book, today):
     print(book.get(f"/days/{today}"), end="")
-    rows = book.get("/export").splitlines()
-    print("the book has", sum(row.startswith("P,") for row in rows), "pledges and", sum(row.startswith("E,") for row in rows), "entries")
+    rows = lines(book.get("/export"))
+    pledges, entries = (sum(row.startswith(kind) for row in rows) for kind in ("P,", "E,"))
+    print("the book has", pledges, "pledges and", entries, "entries")
 
 
 def main():

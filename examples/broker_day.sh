@@ -1,5 +1,6 @@
 #!/usr/bin/env bash
-# A broker's day by curl: terms, a pledge, a repayment over the counter, tomorrow's bookings, and the book as rows in the evening.
+# A broker's day by curl: terms, a pledge, a repayment over the counter, tomorrow's bookings, and the book as rows
+# in the evening.
 #
 # usage: broker_day.sh URL BOOK KEY [LOST]      or the variables PLEDGE_URL, PLEDGE_BOOK and PLEDGE_KEY
 #
@@ -49,11 +50,14 @@ done <<<"$SAID"
 
 # A new receipt. It is never sent again by itself: a second one would make the first new receipt worthless.
 if [ -n "$LOST" ]; then
-    if TRIES=1 ask POST "/pledges/$LOST/declare" '{"paper":"sworn"}'; then
+    if ONCE=1 ask POST "/pledges/$LOST/declare" '{"paper":"sworn"}'; then
         echo "new receipt $(said receipt)"
-    else
-        ((CODE == 0)) || stop
+    elif ((SENT > 0)); then
         echo "no reply: a new receipt may have been made. Declare again only if nobody was given it."
+    elif ((CODE == 0)); then
+        echo "nothing was sent, so no receipt was made"
+    else
+        stop
     fi
 fi
 

@@ -1,4 +1,5 @@
-"""A small client of the pledge books, in Python's standard library: it tells refusals by their code, and what to do where a reply was lost."""
+"""A small client of the pledge books, in Python's standard library: it tells refusals by their code, and what to do
+where no reply came."""
 import http.client
 import json
 import os
@@ -9,10 +10,13 @@ import urllib.parse
 TRIES = 3
 PAUSE = 0.5
 PATIENCE = 30
+# The proxy's own refusals that may be over soon.
+PASSING = (429, 502, 503, 504)
 
 
 class Refused(Exception):
-    """The service refused a request, and changed nothing by it. `code` says why. Where `repeated` is set, an earlier sending of the same request got no reply, and may have been done."""
+    """The service refused a request, and changed nothing by it. `code` says why. Where `repeated` is set, an earlier
+    sending of the same request got no reply, and may have been done."""
 
     def __init__(self, said, repeated):
         super().__init__(f"{said['code']} {said['name']}")
@@ -20,7 +24,20 @@ class Refused(Exception):
 
 
 class Lost(Exception):
-    """A request was sent and no reply came. It may have been done, or not."""
+    """No reply of the service came. Where `sent` is set the request may have been done, and else it was not."""
+
+    def __init__(self, words, sent):
+        super().__init__(words)
+        self.sent = sent
+
+
+class NotHandedOn(Exception):
+    """Nobody took the request, or the proxy kept it back, so it was not done. `pause` is how long to wait; None is
+    for ever."""
+
+    def __init__(self, words, pause):
+        super().__init__(words)
+        self.pause = pause
 
 
 class Book:
@@ -34,44 +51,60 @@ class Book:
         return self.ask("GET", path)
 
     def post(self, path, body=None, repeat=True):
-        """`repeat` is whether the request may be sent again where no reply came. The description says so of each one, in `x-repeat`."""
+        """`repeat` is whether the request may be sent again where it may have been done. The description says so of
+        each, in `x-repeat`."""
         return self.ask("POST", path, body, repeat)
 
     def ask(self, method, path, body=None, repeat=True):
         """What the reply says: JSON as what it is, a text as it is."""
-        unanswered = 0
+        sent = False
         for left in reversed(range(TRIES)):
+            pause = PAUSE
             try:
                 said = self.once(method, path, body)
-            except ConnectionRefusedError:
-                why = "it is not there"
+            except NotHandedOn as fault:
+                why, pause = fault, fault.pause
             except (OSError, http.client.HTTPException, ValueError) as fault:
-                unanswered, why = unanswered + 1, fault
-                if not repeat:
-                    break
+                why, sent = fault, True
             else:
                 if isinstance(said, dict) and "code" in said:
-                    raise Refused(said, unanswered > 0)
+                    raise Refused(said, sent)
                 return said
+            if pause is None or (sent and not repeat):
+                break
             if left:
                 print(f"no reply to {method} {path}; sent again", file=sys.stderr)
-                time.sleep(PAUSE)
-        raise Lost(f"no reply to {method} {path}: {why}")
+                time.sleep(pause)
+        raise Lost(f"no reply to {method} {path}: {why}", sent)
 
     def once(self, method, path, body):
         kind = http.client.HTTPSConnection if self.url.scheme == "https" else http.client.HTTPConnection
         connection = kind(self.url.netloc, timeout=PATIENCE)
         try:
+            try:
+                connection.connect()
+            except OSError as why:
+                raise NotHandedOn(f"nobody is there: {why}", PAUSE) from why
             text = None if body is None else json.dumps(body)
             connection.request(method, f"/books/{self.number}{path}", text, {**self.headers, "Connection": "close"})
             reply = connection.getresponse()
             said = reply.read().decode()
         finally:
+            # The service has closed it, too, and no field of its reply says so.
             connection.close()
-        told = json.loads(said) if reply.getheader("Content-Type") == "application/json" else said
-        if reply.status != 200 and "code" not in told:
-            raise ValueError(f"{reply.status} by another than the service")
-        return told
+        return told(reply, said)
+
+
+def told(reply, said):
+    """What a reply of the service says. A reply of the proxy's own is a fault: it says whether the request was
+    handed on."""
+    said = json.loads(said) if reply.getheader("Content-Type") == "application/json" else said
+    if reply.status == 200 or (isinstance(said, dict) and "code" in said):
+        return said
+    if isinstance(said, dict) and said.get("handed_on") is False:
+        pause = float(reply.getheader("Retry-After") or PAUSE) if reply.status in PASSING else None
+        raise NotHandedOn(f"the proxy said {reply.status}", pause)
+    raise ValueError(f"{reply.status} by another than the service")
 
 
 def settings(usage, *names):
@@ -87,9 +120,15 @@ def money(pence):
     return f"{pence // 100}.{pence % 100:02}"
 
 
+def lines(text):
+    """The lines of a text of the service. They end with LF alone; `splitlines` would end one at U+2028 in an
+    article, too."""
+    return text.split("\n")[:-1]
+
+
 def value(statement, label):
     """What stands in a statement behind this word."""
-    return next(line[len(label) + 1:] for line in statement.splitlines() if line.startswith(f"{label} "))
+    return next(line[len(label) + 1:] for line in lines(statement) if line.startswith(f"{label} "))
 
 
 def pence(amount):
@@ -99,4 +138,4 @@ def pence(amount):
 
 def next_entry(statement):
     """The number that the next entry has."""
-    return 1 + sum(line.startswith("Entry ") for line in statement.splitlines())
+    return 1 + sum(line.startswith("Entry ") for line in lines(statement))

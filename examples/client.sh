@@ -1,24 +1,35 @@
-# What the two scripts in bash share; it is read by them, and not run. URL is the service, BOOK the number of a book, and HEADER the line that lets in.
+# What the two scripts in bash share; it is read by them, and not run. URL is the service, BOOK the number of a book,
+# and HEADER the line that lets in.
 
-# Sends a request, and again where no reply came: ask METHOD PATH [BODY]. SAID is the reply, CODE the code of a refusal or 0, and REPEATED how many sendings got no
-# reply. It fails by 1 where it was refused, and by 2 where no reply came at all. TRIES=1 before it sends once, as for what must not be repeated.
+# Sends a request, and again where no reply came: ask METHOD PATH [BODY]. SAID is the reply, HTTP its status, and CODE
+# the code of a refusal or 0. SENT is how many sendings without a reply may have been done. It fails by 1 where the
+# service refused, and by 2 where it did not answer. ONCE=1 before it sends nothing again that may have been done.
 ask() {
-    local left=${TRIES:-3} status http
-    CODE=0 REPEATED=0
+    local left=3 status told bytes wait
+    CODE=0 SENT=0
     while ((left-- > 0)); do
         # The header goes in by a file, since a command line is seen by others.
-        SAID=$(curl -s --max-time 30 -X "$1" -H @<(printf '%s\n' "$HEADER") ${3+--data-binary "$3"} -w '\n%{http_code}' "$URL/books/$BOOK$2") && status=0 || status=$?
-        http=${SAID##*$'\n'} SAID=${SAID%$'\n'*}
+        SAID=$(curl -s --max-time 30 -X "$1" -H 'Connection: close' -H @<(printf '%s\n' "$HEADER") \
+            ${3+--data-binary "$3"} -w '\n%{http_code} %{size_request} %header{retry-after}' \
+            "$URL/books/$BOOK$2") && status=0 || status=$?
+        told=${SAID##*$'\n'} SAID=${SAID%$'\n'*}
         SAID=${SAID%$'\n'}
-        if ((status == 0 && http == 200)); then return 0; fi
+        read -r HTTP bytes wait <<<"$told"
+        if ((status == 0 && HTTP == 200)); then return 0; fi
         CODE=$(said code)
         CODE=${CODE:-0}
         if ((CODE)); then return 1; fi
-        # Where nobody was there to take it (7) it was not done. Any other way it may have been.
-        ((status == 7)) || REPEATED=$((REPEATED + 1))
+        # It was not done where no byte was sent, or where the proxy says that it handed nothing on.
+        if ((bytes > 0)) && [ "$(said handed_on)" != false ]; then
+            SENT=$((SENT + 1))
+            if ((${ONCE:-0})); then return 2; fi
+        elif ((bytes > 0)); then
+            # What the proxy refuses for good is not better the next time.
+            case $HTTP in 429 | 502 | 503 | 504) ;; *) return 2 ;; esac
+        fi
         if ((left > 0)); then
             echo "no reply to $1 $2; sent again" >&2
-            sleep 0.5
+            sleep "${wait:-0.5}"
         fi
     done
     return 2
@@ -41,6 +52,6 @@ money() {
 
 # Ends the script by what the last request met.
 stop() {
-    if ((CODE)); then echo "stopped: $CODE $(said name)" >&2; else echo "stopped: no reply" >&2; fi
+    if ((CODE)); then echo "stopped: $CODE $(said name)" >&2; else echo "stopped: no reply (HTTP $HTTP)" >&2; fi
     exit 1
 }

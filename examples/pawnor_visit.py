@@ -1,5 +1,6 @@
 #!/usr/bin/env python3
-"""A pawnor's visit: looks at a pledge by its receipt, asks for a window tomorrow, pays ten pounds, and redeems the rest.
+"""A pawnor's visit: looks at a pledge by its receipt, asks for a window tomorrow, pays ten pounds, and redeems the
+rest.
 
 usage: pawnor_visit.py URL BOOK RECEIPT      or the variables PLEDGE_URL, PLEDGE_BOOK and PLEDGE_RECEIPT
 
@@ -9,6 +10,8 @@ import datetime
 import sys
 
 from client import Book, Lost, Refused, money, next_entry, pence, settings, value
+
+SEEMS = "redeemed, it seems: the reply was lost, and the receipt is not live any more. The broker can tell."
 
 
 def ask_for_tomorrow(book):
@@ -24,7 +27,8 @@ def ask_for_tomorrow(book):
 
 
 def pay(book, amount):
-    """Pays once: the number of the entry is taken from the statement before the first sending, and is the same in a repeat."""
+    """Pays once: the number of the entry is taken from the statement before the first sending, and is the same in
+    a repeat."""
     entry = {"pence": amount, "seq": next_entry(book.get("/held"))}
     try:
         said = book.post("/held/repay", entry)
@@ -38,24 +42,33 @@ def pay(book, amount):
             raise
 
 
+def agreed(question):
+    """Whether a person says yes. Nobody there is no."""
+    print(question, end=" ", flush=True)
+    said = sys.stdin.readline().strip()
+    print()
+    return said == "yes"
+
+
 def redeem(book):
-    """Pays all that is owing. A repeat can't pay twice; where the first was done it is refused as 402, since the receipt was surrendered."""
+    """Pays all that is owing. A repeat can't pay twice: where the first was done it is refused as 402, since the
+    receipt was surrendered. Where another sum is owing by now, as on the next day, it is paid only if a person says
+    so."""
     paid = pence(value(book.get("/held"), "Owing"))
-    for first in (True, False):
+    while True:
         try:
             said = book.post("/held/redeem", {"paid": paid})
-            print("redeemed on", said["redeemed"], "for", money(said["paid"]))
-            return
+            return print("redeemed on", said["redeemed"], "for", money(said["paid"]))
         except Refused as why:
-            if why.code == 310 and first:
-                # It is another day by now, and the reply has today's total.
-                paid = why.said["total"]
+            if why.code == 310:
+                total = why.said["total"]
+                if not agreed(f"Owing is {money(total)} now, and not {money(paid)}. Pay that? (yes)"):
+                    return print("not redeemed")
+                paid = total
             elif why.code == 303:
-                print("the broker holds it back")
-                return
+                return print("the broker holds it back")
             elif why.code == 402 and why.repeated:
-                print("redeemed, it seems: the reply was lost, and the receipt is not live any more. The broker can tell.")
-                return
+                return print(SEEMS)
             else:
                 raise
 

@@ -1,9 +1,11 @@
 #!/usr/bin/env bash
-# A pawnor's visit by curl: looks at a pledge by its receipt, asks for a window tomorrow, pays ten pounds, and redeems the rest.
+# A pawnor's visit by curl: looks at a pledge by its receipt, asks for a window tomorrow, pays ten pounds, and
+# redeems the rest.
 #
 # usage: pawnor_visit.sh URL BOOK RECEIPT      or the variables PLEDGE_URL, PLEDGE_BOOK and PLEDGE_RECEIPT
 #
-# Who has the receipt has the article, so better say it by the environment: a command line is seen by others of the machine.
+# Who has the receipt has the article, so better say it by the environment: a command line is seen by others of the
+# machine.
 set -euo pipefail
 . "$(dirname "$0")/client.sh"
 usage="usage: pawnor_visit.sh URL BOOK RECEIPT"
@@ -36,23 +38,29 @@ else
     esac
 fi
 
-# Pays all that is owing. A repeat can't pay twice; where the first was done it is refused as 402, since the receipt was surrendered.
+# Pays all that is owing. A repeat can't pay twice: where the first was done it is refused as 402, since the receipt was
+# surrendered. Where another sum is owing by now, as on the next day, it is paid only if a person says so.
 ask GET /held || stop
 paid=$(sed -n 's/^Owing \([0-9]*\)\.\([0-9]*\)$/\1\2/p' <<<"$SAID")
-for try in 1 2; do
-    if ask POST /held/redeem '{"paid":'"$((10#$paid))"'}'; then
-        echo "redeemed on $(said redeemed) for $(money "$(said paid)")"
-        break
-    elif ((CODE == 310 && try == 1)); then
-        # It is another day by now, and the reply has today's total.
+paid=$((10#$paid))
+until ask POST /held/redeem '{"paid":'"$paid"'}'; do
+    if ((CODE == 310)); then
+        printf 'Owing is %s now, and not %s. Pay that? (yes) ' "$(money "$(said total)")" "$(money "$paid")"
+        read -r answer || answer=
+        echo
+        if [ "$answer" != yes ]; then
+            echo "not redeemed"
+            exit
+        fi
         paid=$(said total)
     elif ((CODE == 303)); then
         echo "the broker holds it back"
-        break
-    elif ((CODE == 402 && REPEATED > 0)); then
+        exit
+    elif ((CODE == 402 && SENT > 0)); then
         echo "redeemed, it seems: the reply was lost, and the receipt is not live any more. The broker can tell."
-        break
+        exit
     else
         stop
     fi
 done
+echo "redeemed on $(said redeemed) for $(money "$(said paid)")"

@@ -78,12 +78,14 @@ class Operation:
         self.path, self.method, self.said, self.name = path, method.upper(), said, said["operationId"]
         self.caller = next(iter(said["security"][0]))
         self.pattern = re.compile(re.sub(r"\{\w+\}", "[^/?%]+", path))
-        self.responses = {int(status): resolved(it) for status, it in said["responses"].items()}
+        self.responses = {int(status): resolved(it) for status, it in said["responses"].items() if status != "default"}
         self.codes = said["x-refusals-in-order"]
         sent = said.get("requestBody", {}).get("content", {})
         self.body_kind = next(iter(sent), None)
         self.body = Schema(sent[self.body_kind]["schema"]) if sent else None
-        self.bodies = {name: it["value"] for name, it in sent[self.body_kind]["examples"].items()} if sent else {}
+        examples = sent[self.body_kind]["examples"] if sent else {}
+        self.bodies = {name: it["value"] for name, it in examples.items()}
+        self.refused = {name: it["x-refused"] for name, it in examples.items() if "x-refused" in it}
         self.schemas = {(status, kind): Schema(content["schema"]) for status, it in self.responses.items() for kind, content in it["content"].items()}
 
     def examples(self):

@@ -9,9 +9,10 @@ import random
 import re
 import shutil
 import subprocess
+import sys
 import tempfile
 
-from described import DAY, DESCRIPTION, CODES, NOBODY, OPERATIONS, PATH, VALIDATORS, Run, chosen, compact, resolved
+from described import DAY, DESCRIPTION, CODES, NOBODY, OPERATIONS, PATH, VALIDATORS, Run, Schema, chosen, compact, resolved
 from service import BROKER, TOP, Failed, expect, main, opened
 
 STRANGER = [["Pledge-Key", "99999999-9999-9999-9999-999999999999"]]
@@ -55,10 +56,11 @@ def not_tried(what, why):
 
 
 def it_is_valid_and_what_its_generator_writes():
-    made = subprocess.run([os.path.join(TOP, "tools/describe"), "-"], capture_output=True, timeout=60)
-    expect("tools/describe", (made.returncode, made.stderr), (0, b""))
-    with open(PATH, "rb") as it:
-        expect("docs/openapi.json is what tools/describe writes", it.read() == made.stdout, True)
+    for word, path in (("openapi", PATH), ("clients", os.path.join(TOP, "docs/CLIENTS.md"))):
+        made = subprocess.run([os.path.join(TOP, "tools/describe"), word], capture_output=True, timeout=60)
+        expect(f"tools/describe {word}", (made.returncode, made.stderr), (0, b""))
+        with open(path, "rb") as it:
+            expect(f"{os.path.relpath(path, TOP)} is what tools/describe writes: run it, where a sentence of web/ was changed", it.read() == made.stdout, True)
     if importlib.util.find_spec("openapi_spec_validator"):
         import openapi_spec_validator
         try:
@@ -107,6 +109,47 @@ def each_part_has_its_words():
     expect("members without words", [(name, member) for name, member, it in members if "const" not in it and "description" not in {**resolved(it), **it}], [])
 
 
+def each_part_has_its_form():
+    """Whole numbers say how many bits they take, operations have a tag and one way to be let in, and each says what the proxy may answer in place of the service."""
+    numbers = []
+
+    def walk(value):
+        if isinstance(value, dict):
+            if value.get("type") == "integer":
+                numbers.append(value)
+            for it in value.values():
+                walk(it)
+        elif isinstance(value, list):
+            for it in value:
+                walk(it)
+    walk(DESCRIPTION)
+    expect("numbers without a format", [it for it in numbers if it.get("format") not in ("int32", "int64")], [])
+    expect("numbers that 32 bits don't hold", [it for it in numbers if it["format"] == "int32" and it.get("maximum", 0) >= 2**31], [])
+    tags, schemes = {it["name"] for it in DESCRIPTION["tags"]}, set(DESCRIPTION["components"]["securitySchemes"])
+    for operation in OPERATIONS.values():
+        said = operation.said
+        expect(f"the tags of {operation.name}", (len(said["tags"]), set(said["tags"]) <= tags), (1, True))
+        expect(f"who may ask {operation.name}", (len(said["security"]), set(said["security"][0]) <= schemes), (1, True))
+        for status in (400, 403, 404, 413, 429, 502, 503, 504):
+            response = resolved(said["responses"].get(str(status)) or said["responses"]["default"])
+            expect(f"the proxy's {status} in place of {operation.name}", Schema(response["content"]["application/json"]["schema"]).fault({"proxy": status, "handed_on": False}), None)
+
+
+def its_refusals_are_those_of_the_pages():
+    """Each refusal has the name that the pages give it, and says what to do."""
+    sys.path.insert(0, os.path.join(TOP, "tools"))
+    from description.sentences import sentences
+    told = {code: name for code, (name, _, _) in sentences().items()}
+    expect("codes and names", {code: told[code] for code in CODES}, CODES)
+    expect("without a remedy", [name for name in CODES.values() if len(DESCRIPTION["components"]["schemas"][name]["x-remedy"]) < 8], [])
+
+
+def each_operation_stands_once_among_the_retries():
+    with open(os.path.join(TOP, "docs/CLIENTS.md"), encoding="utf-8") as it:
+        rows = re.findall(r"^\| (`.*?) \|", it.read().split("\n## Retries\n")[1].split("\n## ")[0], re.M)
+    expect("the operations", sorted(re.findall(r"`(\w+)`", " ".join(rows))), sorted(OPERATIONS))
+
+
 def repeated(operation, step, body, first):
     """Whether the same request, sent again over a copy of the file, is answered as the operation's `x-repeat` says."""
     path, copy = RUN.path, os.path.join(ROOM, "copy")
@@ -128,11 +171,15 @@ def its_story_is_what_the_program_answers():
         body = compact(operation.bodies[step["sends"]]) if "sends" in step else ""
         _, said = RUN.ask(operation.method, step["target"], step["fields"], body.encode(), step["day"], step["step"])
         expect(at, compact(said), compact(operation.examples()[step["status"], step["answered"]]))
+        if step.get("sends") in operation.refused:
+            expect(f"{at} is refused on purpose", said["code"], operation.refused[step["sends"]])
         if step["status"] == 200:
             repeated(operation, step, body.encode(), said)
     for operation in OPERATIONS.values():
         sent = {it.get("sends") for it in DESCRIPTION["x-story"] if it["operation"] == operation.name} - {None}
         expect(f"the bodies of {operation.name} that are sent", sent, set(operation.bodies))
+        done = {it.get("sends") for it in DESCRIPTION["x-story"] if it["operation"] == operation.name and it["status"] == 200} - {None}
+        expect(f"the bodies of {operation.name} that are done", set(operation.bodies) - set(operation.refused), done)
         for name, body in operation.bodies.items() if operation.body_kind == "application/json" else ():
             expect(f"{name} of {operation.name}", operation.body.fault(body), None)
 
@@ -157,6 +204,37 @@ def bodies_are_refused_where_the_description_refuses_them():
             fits = operation.body.fault(body) is None if isinstance(body, dict) else False
             said = RUN.send(operation.name, None, compact(body).encode() if body is not None else b"null", fields)
             expect(f"{operation.name} with {body}", said["code"] != 708, fits)
+
+
+def members_that_are_ignored_are_read():
+    """What no reader of JSON can hold is refused in a member that is not named, too."""
+    turn_to(None)
+    for operation in OPERATIONS.values():
+        for more, is_bad in (('"\\ud800"', True), ("1e999", True), ("-1e999", True), ("1e308", False), ('"\\ud83d\\ude00"', False), ("{}", False)) if operation.body_kind == "application/json" else ():
+            body = compact(operation.first_body())[:-1] + f',"more":{more}}}'
+            said = RUN.send(operation.name, None, body.encode(), STRANGER if operation.caller != "bearer" else None)
+            expect(f"{operation.name} with {more}", said["code"] == 708, is_bad)
+
+
+def texts_that_an_import_takes():
+    """What is taken is of the schema of a text that is handed in, and goes out as of the schema of an export."""
+    turn_to("texts")
+    pledge = row("P", 1, "A1", '"=1+1, ""gold"" \u2028"', "fixed", 100, DAY, "", "no", 1, "no", DAY, "open")
+    rows = [HEADER, row("B", 2, 1, 1), row("T", 1, 0, 0, 0), pledge, *secrets(1, 1)]
+    plain = "\n".join([*rows, ""])
+    older = plain.replace("B,2", "B,1")
+    quoted = plain.replace(HEADER, ",".join(f'"{it}"' for it in HEADER.split(","))).replace("B,2", '"B","2"')
+    taken = [plain, older, quoted, plain[:-1], plain.replace("\n", "\r\n"), plain.replace("\n", "\r"), plain.replace("\n", "\n\n"), f"\ufeff{plain}"]
+    kept = [plain.replace(",", ";"), plain.replace("B,2", "B, 2"), plain.replace(DAY, "31/01/2024"), plain.encode("utf-16"), plain.replace("gold", "gold\n")]
+    handed_in, out = OPERATIONS["importBook"].body, OPERATIONS["exportBook"].schemas[200, "text/csv; charset=utf-8"]
+    for book, given in enumerate([*taken, *kept], 1):
+        RUN.send("makeBook", 0, {"capacity": 1, "key": BROKER, "name": "High Street"}, book=book)
+        said = RUN.send("importBook", None, given if isinstance(given, bytes) else given.encode(), book=book)
+        expect(f"the import {given[:200]!r}", said.get("imported"), 1 if given in taken else None)
+        if given in taken:
+            expect(f"its schema {given[:200]!r}", handed_in.fault(given), None)
+            exported = RUN.send("exportBook", book=book)
+            expect(f"what goes out of {given[:200]!r}", (exported, out.fault(exported)), (plain, None))
 
 
 def head_refused(operation, code, fields, head=None, method=None, target=None, body=b""):
@@ -321,6 +399,21 @@ def a_store_without_room(account):
     RUN.send("askBooking", 490, {"day": "2024-03-04", "window": 1}, receipt=account)
 
 
+def a_store_with_more_rows_than_its_limit(ring):
+    """Whatever writes is refused then, what adds no row too."""
+    RUN.send("hold", 0, number=3)
+    RUN.close()
+    with opened(RUN.path) as tables:
+        tables.execute("UPDATE meta SET value = value - 1 WHERE name = 'limit'")
+    RUN.send("hold", 490)
+    RUN.send("release", 490, number=3)
+    RUN.send("extend", 490, {"until": "2024-12-01"})
+    RUN.send("decideBooking", 490, {"yes": False})
+    RUN.send("cancelBooking", 490, receipt=ring)
+    RUN.send("redeem", 490, {"paid": 9999}, receipt=ring)
+    RUN.send("sell", 490, {"net": 1}, day=LATE)
+
+
 def a_store_with_a_bent_row(account):
     RUN.close()
     with opened(RUN.path) as tables:
@@ -343,6 +436,7 @@ def each_refusal_is_met():
     imports()
     counts_at_their_limits()
     a_store_without_room(account)
+    a_store_with_more_rows_than_its_limit(ring)
     a_store_with_a_bent_row(account)
 
 
@@ -382,5 +476,6 @@ def each_pair_and_each_example_was_seen():
     RUN.close()
 
 
-main(it_is_valid_and_what_its_generator_writes, each_part_has_its_words, its_refusals_and_routes_are_those_of_the_rules, its_refusals_stand_in_the_order_of_the_rules, its_story_is_what_the_program_answers,
-     bodies_are_refused_where_the_description_refuses_them, heads_are_refused, each_refusal_is_met, two_thousand_requests_at_random, each_pair_and_each_example_was_seen)
+main(it_is_valid_and_what_its_generator_writes, each_part_has_its_words, each_part_has_its_form, its_refusals_and_routes_are_those_of_the_rules, its_refusals_stand_in_the_order_of_the_rules,
+     its_refusals_are_those_of_the_pages, each_operation_stands_once_among_the_retries, its_story_is_what_the_program_answers, bodies_are_refused_where_the_description_refuses_them, members_that_are_ignored_are_read, texts_that_an_import_takes,
+     heads_are_refused, each_refusal_is_met, two_thousand_requests_at_random, each_pair_and_each_example_was_seen)

@@ -207,4 +207,5 @@ def strangers_change_no_reply_to_a_bearer():
     expect("the replies among strangers", among, alone)
 
 
-main(*map(playing, FILES), a_day_in_memory_is_as_over_a_file, strangers_change_no_reply_to_a_bearer)
+if __name__ == "__main__":
+    main(*map(playing, FILES), a_day_in_memory_is_as_over_a_file, strangers_change_no_reply_to_a_bearer)

@@ -17,7 +17,8 @@ def one_of_form(name, words, **more):
 
 
 def whole(words, least, most, **more):
-    return {"type": "integer", "minimum": least, "maximum": most, "description": words, **more}
+    """A whole number. What a client keeps it in has 64 bits where 32 are too few."""
+    return {"type": "integer", "format": "int32" if most < 2**31 else "int64", "minimum": least, "maximum": most, "description": words, **more}
 
 
 def limited(words, most, code):
@@ -97,16 +98,25 @@ def presented():
 
 
 def rows():
-    """A book as rows."""
-    return {"type": "string", "pattern": rf"^{HEADER}\nB,2,[0-9]+,[0-9]+,{{11}}\n([TPSEXK],[^\n]*\n)*$", "x-max-bytes": 1_048_576,
+    """A book as rows, as it goes out."""
+    return {"type": "string", "pattern": rf"^{HEADER}\nB,2,[0-9]+,[0-9]+,{{11}}\n([TPSEXK],[^\n]*\n)*$", 
             "description": "A book as comma-separated rows of 15 columns: the header, one `B` with its counts, the `T` of its versions of terms, and for each pledge its `P`, `S`, `E`, "
-                           "`X` and `K`. The rules say each column, under \"The book as a text\". It has the secret of every receipt. An export can be longer than an import may be."}
+                           "`X` and `K`. The rules say each column, under \"The book as a text\". It has the secret of every receipt. Lines end with LF alone, and a field is quoted "
+                           "where it has a comma or a quotation mark, as RFC 4180 has it. An export can be longer than an import may be."}
+
+
+def rows_handed_in():
+    """A book as rows, as it may come in: what a schema can't say is refused by 601 to 606."""
+    return {"type": "string", "maxLength": 1_048_576, "x-max-bytes": 1_048_576,
+            "description": "A book as an export has it. Also taken are records that end with CR LF or CR, a last one without an end, empty lines, a byte order mark, any field in quotation marks, "
+                           "and version 1 of the form, whose `B` says 1 and which has no `X`. Not taken are other separators, blanks round a number, and what a spreadsheet spells anew. UTF-8 alone."}
 
 
 SCHEMAS = {
     "Number": whole("A whole number without a point or an exponent, as every number of a body is.", 0, 999_999_999_999),
     "Pence": whole("A sum of money in pence, a whole number. 100,000,000 pence are a million pounds.", 0, 999_999_999_999),
     "Seq": whole("The number of an entry of the pledge, from 1 without a gap. The sender chooses the next one (else 302), so that an entry that is sent again is known. "
+                 "Two senders that choose the same number for the same sum are answered alike, and it is one entry: read the statement, and only then choose. "
                  "A pledge has at most 9,999 (206).", 0, 999_999_999_999),
     "Day": {"type": "string", "format": "date", "pattern": "^2[01][0-9]{2}-(0[1-9]|1[0-2])-(0[1-9]|[12][0-9]|3[01])$",
             "description": "A day of the calendar, from 2000-01-01 to 2199-12-31. Days are those of UTC.", "examples": ["2024-01-31"]},
@@ -159,13 +169,17 @@ SCHEMAS = {
     "Statements": presented(),
     "Sheet": lines("A day of the book in words. Lines end with LF; pledges stand in the order of their numbers.", *SHEET),
     "Rows": rows(),
+    "RowsHandedIn": rows_handed_in(),
+    "ProxyRefusal": told("What the proxy in front says by itself. It is no refusal of the service, and has no `code`.",
+                         proxy=whole("The status of this reply, once more.", 400, 599),
+                         handed_on={"type": "boolean", "description": "Whether the request may have been done. Where it is false the service never heard of it, so that it may be sent again, whatever it asks."}),
 }
 
 PARAMETERS = {
     "book": {"name": "book", "in": "path", "required": True, "description": "The number of the book, without a leading zero. Outside its range the target is no route (706).",
-             "schema": {"type": "integer", "minimum": 1, "maximum": 999_999_999}, "example": 7},
+             "schema": {"type": "integer", "format": "int32", "minimum": 1, "maximum": 999_999_999}, "example": 7},
     "number": {"name": "number", "in": "path", "required": True, "description": "The number of the pledge, without a leading zero. Outside its range the target is no route (706).",
-               "schema": {"type": "integer", "minimum": 1, "maximum": 999_999_999}, "example": 1},
+               "schema": {"type": "integer", "format": "int32", "minimum": 1, "maximum": 999_999_999}, "example": 1},
     "day": {"name": "day", "in": "path", "required": True, "description": "The day of the sheet. What is no day that may be named is no route (706).", "schema": ref("schemas", "Day"),
             "example": "2024-03-04"},
     "importKey": {"name": "Import-Key", "in": "header", "required": True, "description": "A key that the broker makes for this one import. It is how a repeat is known.",
@@ -179,4 +193,7 @@ SECURITY = {
                "description": "A receipt of the book. Exactly one field, but for `showHeld`, which takes up to 32. Each field is one receipt: they are never joined by commas. The secret may be in any form of a key."},
 }
 
-HEADERS = {"Length": {"description": "The bytes of the body.", "required": True, "schema": {"type": "integer", "minimum": 0}}}
+HEADERS = {
+    "Length": {"description": "The bytes of the body.", "required": True, "schema": {"type": "integer", "format": "int64", "minimum": 0}},
+    "RetryAfter": {"description": "How many seconds to wait before the request is sent again.", "schema": {"type": "integer", "format": "int32", "minimum": 0}},
+}

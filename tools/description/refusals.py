@@ -1,4 +1,7 @@
 """The refusals that a request can meet: the code and name of each, its status, and what it says in words."""
+from .sentences import sentences
+
+REMEDIES = {code: remedy for code, (_, _, remedy) in sentences().items()}
 
 WORDS = {
     102: ("RateTooHigh", "The rate is above 20,000 millionths a day."),
@@ -38,7 +41,7 @@ WORDS = {
     410: ("NotOperator", "The key is not the operator's."),
     411: ("TermsFull", "The book has 99 versions of terms, and takes no more."),
     412: ("PledgesFull", "The book has 1,000,000 pledges, and takes no more."),
-    490: ("Full", "The service has no room for the rows that this would add. Nothing was changed."),
+    490: ("Full", "The service has no room for the rows that this would add. Nothing was changed. What adds no row meets it only where the store holds more rows than its limit."),
     491: ("Memory", "Memory was wanting. Nothing was changed."),
     492: ("Store", "The store failed. Nothing was changed."),
     601: ("Csv", "A row after the header has another number of columns than 15. The reply tells its `row`."),
@@ -50,14 +53,26 @@ WORDS = {
     701: ("BadHead", "There is no head of a request, or it has more than 64 fields, or more than 8,192 bytes. The connection ends."),
     703: ("Transfer", "There is a `Transfer-Encoding`. Send a `Content-Length`. The connection ends."),
     704: ("BadLength", "The `Content-Length` stands twice, is no number, or is not that of the body. The connection ends."),
-    705: ("BodyTooLong", "The body is above 1,048,576 bytes. The connection ends."),
+    705: ("BodyTooLong", "The body is above 1,048,576 bytes. The connection ends, maybe while the client still writes."),
     706: ("NoRoute", "The target is none of the service: a number in it is out of range or begins with 0, or a day is none that may be named."),
     707: ("WrongMethod", "The target is there, with another method."),
-    708: ("BadBody", "The body is not JSON, or a member is missing or not of its form."),
+    708: ("BadBody", "The body is not JSON, or has anywhere a lone surrogate or a number that no double holds, or a member is missing or not of its form."),
     709: ("BadKey", "There is not exactly one `Pledge-Key`, and for an import one `Import-Key`, or it is not of a key's form."),
     710: ("BadReceipt", "A `Pledge-Receipt` is not of a receipt's form."),
     711: ("TooManyReceipts", "There are more `Pledge-Receipt` fields than this request takes."),
     712: ("NoReceipt", "There is no `Pledge-Receipt`."),
+}
+
+# What the proxy of deploy/ says by itself, by the status of that, and what to do.
+OF_THE_PROXY = {
+    400: "the head is no request, or is too long: mend it.",
+    403: "a book is made by the operator, from the proxy's own machine; or the request came without TLS.",
+    404: "the target has not the shape of the service's: no query, no percent escape.",
+    413: "the body is above 1,048,576 bytes.",
+    429: "too many requests: wait the seconds of `Retry-After`, and send it again.",
+    502: "the service is not there. Where `handed_on` is true it went away before it replied.",
+    503: "the book is being moved: wait, and send it again.",
+    504: "the service took too long: as after a lost reply.",
 }
 
 # What the bytes of any request can be refused for, before it is known what it asks. The connection ends after each.
@@ -86,10 +101,10 @@ def schema(code):
     name, words = WORDS[code]
     members = {"code": {"const": code}, "name": {"const": name}}
     if code in WITH_TOTAL:
-        members["total"] = {"description": "All that is owing today, in pence.", "minimum": 0, "type": "integer"}
+        members["total"] = {"description": "All that is owing today, in pence.", "minimum": 0, "type": "integer", "format": "int64"}
     if code in WITH_ROW:
-        members["row"] = {"description": "The row of the first fault. The header is row 1, and the end of the text is one past its last row.", "minimum": 1, "type": "integer"}
-    return {"title": f"{code} {name}", "description": words, "type": "object", "properties": members, "required": list(members), "additionalProperties": False}
+        members["row"] = {"description": "The row of the first fault. The header is row 1, and the end of the text is one past its last row.", "minimum": 1, "type": "integer", "format": "int64"}
+    return {"title": f"{code} {name}", "description": words, "x-remedy": REMEDIES[code], "type": "object", "properties": members, "required": list(members), "additionalProperties": False}
 
 
 def example(code):

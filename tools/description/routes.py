@@ -29,12 +29,14 @@ class Route:
     repeat: tuple
     body: str = None
     kind: str = JSON
-    adds_rows: bool = False
     receipts: int = 1
     rules: str = field(default="Requests")
 
     def takes_json(self):
-        return self.body is not None and self.body != "Rows"
+        return self.body is not None and self.body != "RowsHandedIn"
+
+    def writes(self):
+        return self.method == "post"
 
 
 ON_PLEDGE = "/books/{book}/pledges/{number}"
@@ -42,14 +44,14 @@ ON_HELD = "/books/{book}/held"
 
 ROUTES = [
     Route("post", "/books/{book}", "makeBook", "operator", "Make a book", "Makes a book for the broker who is given its key. A book is never deleted, and its key never changes.",
-          "BookMade", [410, 404], ALWAYS, "Book", adds_rows=True),
+          "BookMade", [410, 404], ALWAYS, "Book"),
     Route("post", "/books/{book}/terms", "addTerms", "broker", "Add a version of terms",
           "Adds the next version of the book's terms. Pledges taken from then on have them; those that stand keep theirs.",
-          "TermsMade", [401, 406, 411, 102, 103, 104], ALWAYS, "Terms", adds_rows=True),
+          "TermsMade", [401, 406, 411, 102, 103, 104], ALWAYS, "Terms"),
     Route("post", "/books/{book}/pledges", "takePledge", "broker", "Take a pledge",
           "Takes an article in pledge, under the newest terms, and issues its receipt. An equal opening under a reference that stands is answered with the first number and the "
           "first receipt, which may since have been replaced.",
-          "PledgeTaken", [401, 407, 405, 201, 412], ALWAYS, "Opening", adds_rows=True),
+          "PledgeTaken", [401, 407, 405, 201, 412], ALWAYS, "Opening"),
     Route("get", ON_PLEDGE, "showPledge", "broker", "Show a pledge", "The statement of a pledge as it stands today, or of a closed one as on its closing day.",
           "Statement", [401, 403], VIEW, kind=TEXT, rules="The statement"),
     Route("get", "/books/{book}/days/{day}", "showDay", "broker", "Show a day", "The day sheet: who comes in which window, who asked to, and which periods end.",
@@ -60,11 +62,11 @@ ROUTES = [
           "Whatever is the first fault of the text is told with its row.",
           "Imported", [601, 602, 603, 604, 605, 606, 401, 409],
           ("always", "Send it again under the same `Import-Key`: it is answered with the number of pledges that came the first time, whatever rows come now."),
-          "Rows", adds_rows=True, rules="An import"),
+          "RowsHandedIn", rules="An import"),
     Route("post", f"{ON_PLEDGE}/draw", "draw", "broker", "Draw on a running account", "Enters a drawing by the number that the sender gives it.",
-          "Entry", [401, 403, *NUMBERED, *CHANGES, 314, 202, 201, 206, 203], ALWAYS, "Payment", adds_rows=True, rules="Commands on a pledge"),
+          "Entry", [401, 403, *NUMBERED, *CHANGES, 314, 202, 201, 206, 203], ALWAYS, "Payment", rules="Commands on a pledge"),
     Route("post", f"{ON_PLEDGE}/repay", "repay", "broker", "Take a repayment", "Enters a repayment over the counter by the number that the sender gives it.",
-          "Entry", [401, 403, *NUMBERED, *CHANGES, 201, 206, 204], ALWAYS, "Payment", adds_rows=True, rules="Commands on a pledge"),
+          "Entry", [401, 403, *NUMBERED, *CHANGES, 201, 206, 204], ALWAYS, "Payment", rules="Commands on a pledge"),
     Route("post", f"{ON_PLEDGE}/hold", "hold", "broker", "Hold a pledge back", "Bars the pledge from being redeemed. A body is not looked at.",
           "HeldBack", [401, 403, *CHANGES], STATE, rules="Commands on a pledge"),
     Route("post", f"{ON_PLEDGE}/release", "release", "broker", "Release a pledge", "Lets the pledge be redeemed again. A body is not looked at.",
@@ -73,7 +75,7 @@ ROUTES = [
           "NewReceipt", [401, 403, *CHANGES, 307, 309, 308],
           ("never", "Never send it again by itself: each one makes another receipt, and the one before, which the pawnor may have in hand, is worth nothing. "
                     "After a lost reply let a person decide; a new declaration is right where nobody was given a receipt."),
-          "Paper", adds_rows=True, rules="Commands on a pledge"),
+          "Paper", rules="Commands on a pledge"),
     Route("post", f"{ON_PLEDGE}/decide", "decideBooking", "broker", "Decide on a booking", "Confirms the booking of a pledge, or refuses it.",
           "BookingDecided", [401, 403, *CHANGES, 311, 312, 408], STATE, "Decision", rules="Commands on a pledge"),
     Route("post", f"{ON_PLEDGE}/sell", "sell", "broker", "Tell of a sale", "Closes a pledge whose article was sold, and tells the surplus or the shortfall.",
@@ -85,9 +87,9 @@ ROUTES = [
     Route("get", ON_HELD, "showHeld", "bearer", "Show what is held", "The statements of the receipts presented, in their order. It is refused only where none of them is live.",
           "Statements", [402], VIEW, kind=TEXT, receipts=32, rules="The statement"),
     Route("post", f"{ON_HELD}/repay", "repayHeld", "bearer", "Repay", "Enters a repayment by who presents the receipt.",
-          "Entry", [402, *NUMBERED, *CHANGES, 201, 206, 204], BEARING, "Payment", adds_rows=True, rules="Commands on a pledge"),
+          "Entry", [402, *NUMBERED, *CHANGES, 201, 206, 204], BEARING, "Payment", rules="Commands on a pledge"),
     Route("post", f"{ON_HELD}/ask", "askBooking", "bearer", "Ask for a booking", "Asks to collect the article on a day, in a window, in place of any earlier booking.",
-          "BookingAsked", [402, *CHANGES, 313, 312], STATE, "Asking", adds_rows=True, rules="Commands on a pledge"),
+          "BookingAsked", [402, *CHANGES, 313, 312], STATE, "Asking", rules="Commands on a pledge"),
     Route("post", f"{ON_HELD}/cancel", "cancelBooking", "bearer", "Cancel a booking", "Cancels the booking. A body is not looked at.",
           "BookingCancelled", [402, *CHANGES, 311], STATE, rules="Commands on a pledge"),
     Route("post", f"{ON_HELD}/redeem", "redeem", "bearer", "Redeem the pledge", "Pays all that is owing, and takes the article back. The receipt is surrendered.",
