@@ -110,13 +110,17 @@ class Story:
         return self.clean[marks]
 
 
-def content(path):
+def content(path, books=(7, 8)):
     """What a file holds: its counts, and the text of each of its books."""
-    told = check(path)
-    texts = Ran(path, b"".join(request("GET", f"/books/{book}/export", f"Pledge-Key: {BROKER}") for book in (7, 8)))
+    return check(path), texts_of(path, books)
+
+
+def texts_of(path, books=(1, 8)):
+    """The text of each of these books of a file."""
+    texts = Ran(path, b"".join(request("GET", f"/books/{book}/export", f"Pledge-Key: {BROKER}") for book in books))
     if texts.status:
         raise Failed(f"the content of {path}: {texts.status}, {texts.complained}")
-    return told, texts.said
+    return texts.said
 
 
 def judge(story, ran, path):
@@ -187,7 +191,7 @@ def each_refused_in_a_migration(calls, ends, step=1, first=lambda: 1, books=8, *
             expect("a migration", migrated(whole, refusing(calls, count=count)), moved(number))
             with open(count) as it:
                 told.append(int(it.read()))
-            wanted = content(whole)
+            wanted = texts_of(whole)
 
             def one(at):
                 folder = tempfile.mkdtemp(dir=room)
@@ -204,9 +208,10 @@ def each_refused_in_a_migration(calls, ends, step=1, first=lambda: 1, books=8, *
 
 
 def one_of_a_migration(old, path, number, ends, wanted, step, environment):
+    """Moves a copy of an old store with something refused, and moves it again: it holds the same books."""
     bent_back(old, path)
     ended = migrated(path, environment)
     if ended != moved(number) and ended not in ends:
         raise Failed(f"a migration from {number}, {step}: {ended}")
     expect(f"it is moved then, {step}", migrated(path) in (moved(number), moved(3)), True)
-    expect(f"what it holds, {step}", content(path), wanted)
+    expect(f"what it holds, {step}", texts_of(path), wanted)

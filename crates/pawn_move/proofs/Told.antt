@@ -2,7 +2,7 @@
 use Rattle.std.proofs.Common.{◌≡◌, ◌==◌, inl, inr, ℕ, Bool, true, false, Option, Some, None, Ok, Err, Result, IsTrue, refl, sym, ap, subst, ◌∙◌, arith}
 use Rattle.std.specs.Prelude.{if◌then◌else◌, IfErr, IfOk, IfSome}
 use Rattle.sqlite.specs.Effect.{Database}
-use Rattle.sqlite.specs.Listing.{understood}
+use Rattle.sqlite.specs.Listing.{listing_schema, understood}
 use Rattle.sqlite.specs.State.{State}
 use Rattle.sqlite_tied.specs.Compute.{everything}
 use Rattle.pawn_book.specs.HostStep.{Host, rows}
@@ -65,12 +65,12 @@ module _ (n : ℕ) (db : Database) (h : Host) (st : StandsUnder n db h) where
 
 -- ---- an empty store notes none
 
-Refuses : Result Compiled CompileError → Type 0
+abbrev Refuses : Result Compiled CompileError → Type 0
 Refuses (Ok means) = ⊥
 Refuses (Err fault) = Unit {0}
 
 refuses_all : Refuses (understood no_schema READ_SCHEMA.now)
-unfolding understood everything
+unfolding understood listing_schema everything
 refuses_all = tt
 
 pub notes_none : (db : Database) → IsEmptyStore db → (n : ℕ) → NotesSchema db n → ⊥
