@@ -209,8 +209,8 @@ still_refused (r ∷ rows) more s c h =
 
 pub refused_are_no_front : RefusedAreNoFront
 refused_are_no_front rows more c v terms pledges refused laid same =
-    let (b, ran, rest) = layouts_are_taken v terms pledges laid in
-    absurd (let e = sym (still_refused rows more None c refused) ∙ ap (run None) same ∙ ran in cc)
+    let took = layouts_are_taken v terms pledges laid in
+    absurd (let e = sym (still_refused rows more None c refused) ∙ ap (run None) same ∙ took.1 in cc)
 
 -- a list that is full, or another answer
 full : {A : Type 0} (count most : ℕ) (answer : Result A Cause) → (answer ≡ Err cause.TooMany → ⊥) → unless_full count most answer ≡ Err cause.TooMany → most ≤ count
