@@ -99,9 +99,9 @@ def each_refusal_has_a_sentence():
     wanted = set(re.findall(r"\b(\d{3}) ([A-Z][A-Za-z]+)\b", rules))
     for codes, names in re.findall(r"^\| ([\d, ]+) \| ([A-Za-z, ]+) \|", rules, re.M):
         wanted |= set(zip(codes.split(", "), names.split(", ")))
-    found = re.findall(r'^  (\d{3}): \{ name: "(\w+)", why: "[^"]+\.", next: "[^"]+\."', read("web", "refusals.js"), re.M)
+    found = re.findall(r'^  (\d{3}): \{ name: "(\w+)", why: "[^"]+\.", next: "[^"]+\."', read("web", "shared", "refusals.js"), re.M)
     expect("refusals without a sentence, and sentences of none", (wanted - set(found), set(found) - wanted), (set(), set()))
-    whys = re.findall(r'why: "([^"]+)"', read("web", "refusals.js"))
+    whys = re.findall(r'why: "([^"]+)"', read("web", "shared", "refusals.js"))
     expect("each has a sentence of its own", (len(set(whys)), len(wanted)), (len(found), len(found)))
 
 
@@ -122,15 +122,15 @@ def days_and_amounts_as_people_write_them():
         browser.go(pages.address + "/")
         first = datetime.date(2024, 1, 31)
         days = [first + datetime.timedelta(days=step) for step in range(0, 800, 7)] + [datetime.date(2023, 8, month) for month in (29, 30, 31)]
-        told = browser.run_later("const days = await import('/days.js'); return given[0].map((day) => [days.inWords(day), days.sixMonthsAfter(day), days.daysBetween(given[0][0], day)])", [str(day) for day in days])
+        told = browser.run_later("const days = await import('/shared/days.js'); return given[0].map((day) => [days.inWords(day), days.sixMonthsAfter(day), days.daysBetween(given[0][0], day)])", [str(day) for day in days])
         expect("days", told, [[in_words(day), str(six_months_after(day)), (day - first).days] for day in days])
         amounts = {"100": 10000, "£99.50": 9950, "1,000": 100000, "£1,234,567.89": 123456789, " 0.01 ": 1, "0": 0}
-        told = browser.run_later("const money = await import('/money.js'); return given[0].map((text) => money.readPounds(text))", list(amounts))
+        told = browser.run_later("const money = await import('/shared/money.js'); return given[0].map((text) => money.readPounds(text))", list(amounts))
         expect("amounts", told, list(amounts.values()))
-        told = browser.run_later("const money = await import('/money.js'); return given[0].filter((text) => { try { money.readPounds(text); return true; } catch { return false; } })",
+        told = browser.run_later("const money = await import('/shared/money.js'); return given[0].filter((text) => { try { money.readPounds(text); return true; } catch { return false; } })",
                                  ["", "1.5", "1,00", "-1", "1e3", "10.000", "ten", "1,0000"])
         expect("what is no amount", told, [])
-        told = browser.run_later("const money = await import('/money.js'); return given[0].map((pence) => money.inPounds(pence))", [0, 5, 10000, 123456789])
+        told = browser.run_later("const money = await import('/shared/money.js'); return given[0].map((pence) => money.inPounds(pence))", [0, 5, 10000, 123456789])
         expect("pounds", told, ["£0.00", "£0.05", "£100.00", "£1,234,567.89"])
         browser.shoot("doors")
         no_faults()
@@ -392,7 +392,7 @@ def what_is_due_and_the_book_as_a_file():
         lists = browser.run("return [...document.querySelectorAll('#due-lists .card')].map((card) => [...card.querySelectorAll('tbody tr')].map((row) => row.cells[0].textContent))")
         expect("what is due", lists, [["1", "6"], ["4"], ["2"]])
         browser.shoot("broker-due")
-        statuses = browser.run_later("const { readBook } = await import('/book.js'); const { statusOn } = await import('/period.js'); return readBook(given[0]).pledges.map((pledge) => statusOn(pledge, given[1]))",
+        statuses = browser.run_later("const { readBook } = await import('/shared/book.js'); const { statusOn } = await import('/shared/period.js'); return readBook(given[0]).pledges.map((pledge) => statusOn(pledge, given[1]))",
                                      text, str(today()))
         told = [re.search(r"^Status (.*)$", pages.session.broker("GET", f"/books/7/pledges/{number}")[1], re.M)[1] for number in range(1, 7)]
         expect("how the pledges stand, by the page and by the service", statuses, told)
@@ -523,7 +523,7 @@ def what_nginx_sends_and_notes():
         receipt = pages.session.open_pledge(1)
         show_receipt(pages, receipt)
         browser.says("Gold ring", "#cards")
-        for path, status, keeping in (("/", 200, "no-cache"), ("/pawn/", 200, "no-cache"), ("/api.js", 200, "no-cache"), ("/books/7/held", 400, "no-store"), ("/books/07/held", 404, "no-store"),
+        for path, status, keeping in (("/", 200, "no-cache"), ("/pawn/", 200, "no-cache"), ("/shared/api.js", 200, "no-cache"), ("/books/7/held", 400, "no-store"), ("/books/07/held", 404, "no-store"),
                                       ("/books/7/held?receipt=" + receipt, 404, "no-store"), ("/books/7/../7/held", 404, "no-store"), ("/nginx.conf", 404, "no-cache"), ("/README.md", 404, "no-cache")):
             connection = http.client.HTTPConnection("127.0.0.1", pages.port, timeout=10)
             connection.request("GET", path)
@@ -553,9 +553,9 @@ def a_receipt_on_paper():
         path = browser.run("return document.querySelector('.paper svg path').getAttribute('d')")
         expect("the code", text_of_code({(int(column), int(row)) for column, row in re.findall(r"M(\d+) (\d+)h1v1h-1z", path)}), link)
         for length in (1, 106, 107, 134):
-            code = browser.run_later("const { modulesOf } = await import('/qr.js'); return modulesOf(given[0])", "a" * length)
+            code = browser.run_later("const { modulesOf } = await import('/shared/qr.js'); return modulesOf(given[0])", "a" * length)
             expect(f"a code of {length} bytes", text_of_code({(column, row) for row, line in enumerate(code) for column, dark in enumerate(line) if dark}), "a" * length)
-        expect("a longer text has none", browser.run_later("const { modulesOf } = await import('/qr.js'); return modulesOf('a'.repeat(135))"), None)
+        expect("a longer text has none", browser.run_later("const { modulesOf } = await import('/shared/qr.js'); return modulesOf('a'.repeat(135))"), None)
         pdf = browser.print("receipt")
         expect("one page", len(re.findall(rb"/Type\s*/Page\b", pdf)), 1)
         box = [float(side) for side in re.search(rb"/MediaBox\s*\[([^\]]*)\]", pdf)[1].split()]

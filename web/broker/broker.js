@@ -1,7 +1,7 @@
 /** The broker's page: opening the book, and going from part to part. The part is named by the address's fragment, which holds no secret. */
-import { byId } from "/dom.js";
-import { today } from "/days.js";
-import { onSend, tell } from "/forms.js";
+import { byId } from "/shared/dom.js";
+import { today } from "/shared/days.js";
+import { onSend, tell } from "/shared/forms.js";
 import { askBook, begin, current, end, keepSession } from "./session.js";
 import { setUpDue, showDue } from "./due.js";
 import { setUpFiles } from "./files.js";

@@ -1,11 +1,11 @@
 /** The commands on a pledge, each with its form. What would be refused now stands apart, with the reason; the service decides. */
-import { make } from "/dom.js";
-import { inWords } from "/days.js";
-import { Lost } from "/faults.js";
-import { field, fold } from "/forms.js";
-import { inPounds, readPounds } from "/money.js";
-import { confirmed } from "/questions.js";
-import { bookingInWords } from "/summary.js";
+import { make } from "/shared/dom.js";
+import { inWords } from "/shared/days.js";
+import { Lost } from "/shared/faults.js";
+import { field, fold } from "/shared/forms.js";
+import { inPounds, readPounds } from "/shared/money.js";
+import { confirmed } from "/shared/questions.js";
+import { bookingInWords } from "/shared/summary.js";
 
 /** One command: its name, why not now or null, the parts of its form, and what it does with the form's fields. */
 function foldOf({ title, barred, parts, act }, desk) {

@@ -1,9 +1,9 @@
 /** What can be sold now and what ends this month, read from the whole book. */
-import { byId, foreign, make } from "/dom.js";
-import { inShort, monthOf, seenFrom, today } from "/days.js";
-import { onSend } from "/forms.js";
-import { inPounds } from "/money.js";
-import { endOf, statusOn } from "/period.js";
+import { byId, foreign, make } from "/shared/dom.js";
+import { inShort, monthOf, seenFrom, today } from "/shared/days.js";
+import { onSend } from "/shared/forms.js";
+import { inPounds } from "/shared/money.js";
+import { endOf, statusOn } from "/shared/period.js";
 import { wholeBook } from "./session.js";
 
 function row(pledge, now) {

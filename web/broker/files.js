@@ -1,8 +1,8 @@
 /** The book as a file, out and in. */
-import { byId, make } from "/dom.js";
-import { today } from "/days.js";
-import { onSend } from "/forms.js";
-import { Unreadable } from "/unreadable.js";
+import { byId, make } from "/shared/dom.js";
+import { today } from "/shared/days.js";
+import { onSend } from "/shared/forms.js";
+import { Unreadable } from "/shared/unreadable.js";
 import { askBook, current } from "./session.js";
 
 const LONGEST = 1_048_576;

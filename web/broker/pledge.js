@@ -1,10 +1,10 @@
 /** One pledge of the book: found by its number or by the broker's reference, with its statement and commands. */
-import { byId, foreign, make } from "/dom.js";
-import { inWords } from "/days.js";
-import { Lost, Refused, tellFault } from "/faults.js";
-import { makeNotice, onSend, run, tell } from "/forms.js";
-import { readStatement } from "/statement.js";
-import { summaryOf } from "/summary.js";
+import { byId, foreign, make } from "/shared/dom.js";
+import { inWords } from "/shared/days.js";
+import { Lost, Refused, tellFault } from "/shared/faults.js";
+import { makeNotice, onSend, run, tell } from "/shared/forms.js";
+import { readStatement } from "/shared/statement.js";
+import { summaryOf } from "/shared/summary.js";
 import { commandsOf } from "./commands.js";
 import { receiptSheet } from "./receipt.js";
 import { askBook, current, wholeBook } from "./session.js";

@@ -1,8 +1,8 @@
 /** A receipt on paper: one page of A5, with the square code of the pawnor's link. */
-import { facts, foreign, make } from "/dom.js";
-import { inWords } from "/days.js";
-import { inPounds } from "/money.js";
-import { pictureOf } from "/qr.js";
+import { facts, foreign, make } from "/shared/dom.js";
+import { inWords } from "/shared/days.js";
+import { inPounds } from "/shared/money.js";
+import { pictureOf } from "/shared/qr.js";
 import { current } from "./session.js";
 
 /** The pawnor's link. What follows the # reaches no server and no log. */

@@ -1,7 +1,7 @@
 /** The open book: its number, its key and the shop's name, kept for this tab alone. */
-import { ask } from "/api.js";
-import { readBook } from "/book.js";
-import { Unreadable } from "/unreadable.js";
+import { ask } from "/shared/api.js";
+import { readBook } from "/shared/book.js";
+import { Unreadable } from "/shared/unreadable.js";
 
 const KEPT = "broker";
 let session = JSON.parse(sessionStorage.getItem(KEPT) ?? "null");

@@ -1,8 +1,8 @@
 /** Taking a pledge, and printing its receipt. */
-import { byId, foreign, make } from "/dom.js";
-import { onSend } from "/forms.js";
-import { readPounds } from "/money.js";
-import { readStatement } from "/statement.js";
+import { byId, foreign, make } from "/shared/dom.js";
+import { onSend } from "/shared/forms.js";
+import { readPounds } from "/shared/money.js";
+import { readStatement } from "/shared/statement.js";
 import { receiptSheet } from "./receipt.js";
 import { askBook } from "./session.js";
 

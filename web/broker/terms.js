@@ -1,9 +1,9 @@
 /** The book's terms: the versions that stand, and the next. */
-import { byId, make } from "/dom.js";
-import { Refused } from "/faults.js";
-import { onSend, run } from "/forms.js";
-import { inPounds } from "/money.js";
-import { Unreadable } from "/unreadable.js";
+import { byId, make } from "/shared/dom.js";
+import { Refused } from "/shared/faults.js";
+import { onSend, run } from "/shared/forms.js";
+import { inPounds } from "/shared/money.js";
+import { Unreadable } from "/shared/unreadable.js";
 import { askBook, wholeBook } from "./session.js";
 
 /** Rates are kept in millionths a day, which is so many places of a per cent; charges in millionths of a penny. */

@@ -1,9 +1,9 @@
 /** The sheet of a day: who comes, who asked to come, and which periods end. */
-import { byId, make } from "/dom.js";
-import { inWords, plusDays, seenFrom, today } from "/days.js";
-import { onSend } from "/forms.js";
-import { readSheet } from "/sheet.js";
-import { windowInWords } from "/windows.js";
+import { byId, make } from "/shared/dom.js";
+import { inWords, plusDays, seenFrom, today } from "/shared/days.js";
+import { onSend } from "/shared/forms.js";
+import { readSheet } from "/shared/sheet.js";
+import { windowInWords } from "/shared/windows.js";
 import { askBook } from "./session.js";
 
 const dayField = () => byId("sheet-day").elements.day;

@@ -1,12 +1,12 @@
 /** What a pawnor may do with a pledge: ask for a time to come, take that back, pay a part, redeem. */
-import { make } from "/dom.js";
-import { inWords, seenFrom, today } from "/days.js";
-import { Lost } from "/faults.js";
-import { field, fold } from "/forms.js";
-import { inPounds, readPounds } from "/money.js";
-import { confirmed } from "/questions.js";
-import { Unreadable } from "/unreadable.js";
-import { WINDOWS, windowInWords } from "/windows.js";
+import { make } from "/shared/dom.js";
+import { inWords, seenFrom, today } from "/shared/days.js";
+import { Lost } from "/shared/faults.js";
+import { field, fold } from "/shared/forms.js";
+import { inPounds, readPounds } from "/shared/money.js";
+import { confirmed } from "/shared/questions.js";
+import { Unreadable } from "/shared/unreadable.js";
+import { WINDOWS, windowInWords } from "/shared/windows.js";
 
 /** A form in a fold, which acts on the card when it is sent. */
 const foldOf = (card, title, parts, act) => fold(title, make("form", { autocomplete: "off" }, ...parts), card.notice, (fields) => card.perform(() => act(fields)));

@@ -1,10 +1,10 @@
 /** One pledge of the pawnor's: how it stands, and what may be done. */
-import { ask } from "/api.js";
-import { make } from "/dom.js";
-import { Lost, Refused, tellFault } from "/faults.js";
-import { makeNotice, run, tell } from "/forms.js";
-import { readStatement } from "/statement.js";
-import { summaryOf } from "/summary.js";
+import { ask } from "/shared/api.js";
+import { make } from "/shared/dom.js";
+import { Lost, Refused, tellFault } from "/shared/faults.js";
+import { makeNotice, run, tell } from "/shared/forms.js";
+import { readStatement } from "/shared/statement.js";
+import { summaryOf } from "/shared/summary.js";
 import { actionsOf } from "./actions.js";
 
 const NO_SUCH_RECEIPT = 402;

@@ -1,6 +1,6 @@
 /** The pawnor's page: the cards of the receipts that this tab holds, and the form that shows another. */
-import { byId } from "/dom.js";
-import { onSend } from "/forms.js";
+import { byId } from "/shared/dom.js";
+import { onSend } from "/shared/forms.js";
 import { Card } from "./card.js";
 import { keep, kept, ofTyped, takeFragment } from "./receipts.js";
 

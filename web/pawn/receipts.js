@@ -1,5 +1,5 @@
 /** The receipts that this tab holds: typed, pasted, or carried by a link's fragment, which reaches no server and no log. */
-import { Unreadable } from "/unreadable.js";
+import { Unreadable } from "/shared/unreadable.js";
 
 const KEPT = "receipts";
 const BOOK = /^[1-9]\d{0,8}$/;

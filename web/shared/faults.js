@@ -1,6 +1,6 @@
 /** What can stand in the way of an answer, and how a person is told. */
-import { sentence } from "/refusals.js";
-import { Unreadable } from "/unreadable.js";
+import { sentence } from "/shared/refusals.js";
+import { Unreadable } from "/shared/unreadable.js";
 
 /** The service refused: its code, its name, and the total or the row that it named. Nothing was changed. */
 export class Refused extends Error {

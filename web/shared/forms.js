@@ -1,6 +1,6 @@
 /** Forms that ask the service, and the line under each that says what came of it. */
-import { make } from "/dom.js";
-import { tellFault } from "/faults.js";
+import { make } from "/shared/dom.js";
+import { tellFault } from "/shared/faults.js";
 
 /** Says something in a notice: "good", "bad" or "quiet". An empty text hides it. */
 export function tell(notice, text, tone = "quiet") {

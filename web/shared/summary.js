@@ -1,9 +1,9 @@
 /** A pledge as a person reads it, for both pages. */
-import { facts, foreign, make } from "/dom.js";
-import { countDays, daysBetween, inShort, inWords, today } from "/days.js";
-import { inPounds } from "/money.js";
-import { graceEnd } from "/period.js";
-import { windowInWords } from "/windows.js";
+import { facts, foreign, make } from "/shared/dom.js";
+import { countDays, daysBetween, inShort, inWords, today } from "/shared/days.js";
+import { inPounds } from "/shared/money.js";
+import { graceEnd } from "/shared/period.js";
+import { windowInWords } from "/shared/windows.js";
 
 /** The state in a word or two, a sentence, and a tone. */
 const STATES = {

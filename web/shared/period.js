@@ -1,5 +1,5 @@
 /** When a pledge's period ends and how the pledge stands on a day, by the rules, for pledges that are read from the book's own text. */
-import { plusDays, sixMonthsAfter } from "/days.js";
+import { plusDays, sixMonthsAfter } from "/shared/days.js";
 
 /** Up to this credit in pence, an article whose period of six months is over is the broker's. */
 const SMALL = 7500;

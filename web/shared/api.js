@@ -1,5 +1,5 @@
 /** Requests to the service at the same origin. */
-import { Lost, NotReached, Refused } from "/faults.js";
+import { Lost, NotReached, Refused } from "/shared/faults.js";
 
 /** How long to wait before a request is repeated, in milliseconds, in turn. */
 const WAITS = [300, 1000, 2500];

@@ -1,5 +1,5 @@
 /** A question before what can't be taken back. */
-import { make } from "/dom.js";
+import { make } from "/shared/dom.js";
 
 /** Asks in a dialog, and gives whether the answer was yes. Escape is no. */
 export function confirmed({ title, lines, yes, no }) {

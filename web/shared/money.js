@@ -1,5 +1,5 @@
 /** Amounts: whole pence in the pages and the service, pounds for people. */
-import { Unreadable } from "/unreadable.js";
+import { Unreadable } from "/shared/unreadable.js";
 
 /** Pence as people write pounds: 123456 is £1,234.56. */
 export function inPounds(pence) {
