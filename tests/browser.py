@@ -205,7 +205,15 @@ class Browser:
         return next(iter(found.values()))
 
     def press(self, selector, text=None):
-        self.ask("POST", f"/element/{self.element(selector, text)}/click", {})
+        """Presses an element; once more where it was drawn anew in between."""
+        for last in (False, False, True):
+            try:
+                self.ask("POST", f"/element/{self.element(selector, text)}/click", {})
+                return
+            except Failed as why:
+                if last or not any(word in str(why) for word in ("stale element", "not interactable", "click intercepted")):
+                    raise
+                time.sleep(0.2)
 
     def keys(self, text):
         """Keys that are pressed and let go in turn, wherever the focus is."""

@@ -1,49 +1,69 @@
-/** A book, read from the text of comma-separated rows that the service exports. */
+/** A book, read from the text of comma-separated rows that the service exports: version 1, without extensions, or 2. */
+import { endOf } from "/shared/period.js";
 
-/** One field of a record from this place, and the place after it. */
-function fieldAt(text, start) {
-  if (text[start] !== '"') {
-    const length = text.slice(start).search(/[,\n]/);
-    return [text.slice(start, start + length), start + length];
-  }
-  let end = text.indexOf('"', start + 1);
-  while (text[end + 1] === '"') end = text.indexOf('"', end + 2);
-  return [text.slice(start + 1, end).replaceAll('""', '"'), end + 1];
-}
-
-/** The records of a text whose lines end with LF. */
-function recordsOf(text) {
-  const records = [];
-  for (const line of splitLines(text)) {
-    const fields = [];
-    for (let place = 0; place < line.length; place += 1) {
-      const [field, after] = fieldAt(line, place);
-      fields.push(field);
-      place = after;
+/** The fields of a record that has quotes: a quote in a field stands twice. */
+function quotedFields(line) {
+  const fields = [];
+  for (let place = 0; place <= line.length; place += 1) {
+    if (line[place] !== '"') {
+      const comma = line.indexOf(",", place);
+      const end = comma < 0 ? line.length : comma;
+      fields.push(line.slice(place, end));
+      place = end;
+    } else {
+      let end = line.indexOf('"', place + 1);
+      while (line[end + 1] === '"') end = line.indexOf('"', end + 2);
+      if (end < 0) throw new Error("a quote in the book's text has no end");
+      fields.push(line.slice(place + 1, end).replaceAll('""', '"'));
+      place = end + 1;
     }
-    records.push(fields);
   }
-  return records;
+  return fields;
 }
 
 /** Texts have no control characters, so no field holds the end of a line. */
-const splitLines = (text) => text.split("\n").slice(0, -1).map((line) => `${line}\n`);
+const fieldsOf = (line) => (line.includes('"') ? quotedFields(line) : line.split(","));
 
+function termsOf([version, rate, keepBefore, keepAfter]) {
+  return { version: Number(version), rate: Number(rate), keepBefore: Number(keepBefore), keepAfter: Number(keepAfter) };
+}
+
+function pledgeOf([number, reference, article, kind, pence, taken, agreed, fiveDays, version, held, changed, state, closed, amount]) {
+  return {
+    number: Number(number), reference, article, kind, pence: Number(pence), taken, agreed: agreed || null,
+    fiveDays: fiveDays === "yes", version: Number(version), held: held === "yes", changed, state, closed: closed || null,
+    amount: amount === "" ? null : Number(amount), secrets: [], entries: [], extensions: [], booking: null, ends: null,
+  };
+}
+
+/** What each kind of row adds to the book, to its last pledge where it is of one. */
 const readers = {
-  T: (book, [version, rate, keepBefore, keepAfter]) => book.terms.push({ version: Number(version), rate: Number(rate), keepBefore: Number(keepBefore), keepAfter: Number(keepAfter) }),
-  P: (book, [number, reference, article, kind, pence, taken, agreed, fiveDays, version, held, changed, state, closed]) =>
-    book.pledges.push({
-      number: Number(number), reference, article, kind, pence: Number(pence), taken, agreed: agreed || null, fiveDays: fiveDays === "yes", version: Number(version),
-      held: held === "yes", changed, state, closed: closed || null, secrets: [], extensions: [], booking: null,
-    }),
+  B: () => {},
+  T: (book, fields) => book.terms.push(termsOf(fields)),
+  P: (book, fields) => book.pledges.push(pledgeOf(fields)),
   S: (book, [, , day, paper, secret]) => book.pledges.at(-1).secrets.push({ day, paper, secret }),
-  X: (book, [, , , end]) => book.pledges.at(-1).extensions.push(end),
+  E: (book, [, seq, day, sort, pence]) => book.pledges.at(-1).entries.push({ seq: Number(seq), day, sort, pence: Number(pence) }),
+  X: (book, [, , day, end]) => book.pledges.at(-1).extensions.push([day, end]),
   K: (book, [, day, window, state]) => { book.pledges.at(-1).booking = { day, window: Number(window), state }; },
 };
 
-/** Its versions of terms and its pledges, in order. */
+/** Its versions of terms and its pledges, in order. Throws where the text is not a book's, or not whole. */
 export function readBook(text) {
+  const lines = text.split("\n");
+  if (lines.pop() !== "" || !lines.shift()?.startsWith("row,c1,")) throw new Error("the book's text is not whole");
   const book = { terms: [], pledges: [] };
-  for (const [sort, ...fields] of recordsOf(text)) readers[sort]?.(book, fields);
+  for (const line of lines) {
+    const [sort, ...fields] = fieldsOf(line);
+    if (!readers[sort]) throw new Error(`no row of a book: ${sort}`);
+    readers[sort](book, fields);
+  }
+  const [, version, , pledges] = lines[0]?.split(",") ?? [];
+  if (!["1", "2"].includes(version) || Number(pledges) !== book.pledges.length) throw new Error("the book's text is not whole");
+  for (const pledge of book.pledges) pledge.ends = endOf(pledge);
   return book;
+}
+
+/** The receipt that opens a pledge, or null where none does: the last secret's, until the pledge is redeemed. */
+export function liveReceipt({ number, state, secrets }) {
+  return state === "redeemed" || secrets.length === 0 ? null : `${number}-${secrets.at(-1).secret}`;
 }

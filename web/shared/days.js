@@ -28,8 +28,15 @@ export const daysBetween = (first, second) => Math.round((dateOf(second) - dateO
 /** The day so many days later. */
 export const plusDays = (day, count) => dayOf(new Date(dateOf(day).getTime() + count * ONE_DAY));
 
-/** The same day six months later, cut to its month's last day. */
+/** The same day six months later, cut to its month's last day. A book asks for the same days again and again. */
 export function sixMonthsAfter(day) {
+  if (!later.has(day)) later.set(day, countSixMonths(day));
+  return later.get(day);
+}
+
+const later = new Map();
+
+function countSixMonths(day) {
   const [year, month, date] = day.split("-").map(Number);
   const last = new Date(Date.UTC(year, month + 6, 0)).getUTCDate();
   return dayOf(new Date(Date.UTC(year, month - 1 + 6, Math.min(date, last))));

@@ -49,6 +49,10 @@ function closingOf(lines) {
   return null;
 }
 
+function readOwed(lines) {
+  return { principal: penceOf(lines.take("Principal")), charges: penceOf(lines.take("Charges")), owing: penceOf(lines.take("Owing")) };
+}
+
 function entryOf(text) {
   const [seq, day, sort, amount] = text.split(" ");
   return { seq: Number(seq), day, sort, pence: penceOf(amount) };
@@ -64,11 +68,12 @@ export function readStatement(text) {
   const ends = lines.take("Ends");
   const extensions = lines.takeAll("Extended").map((line) => line.split(" to "));
   const status = lines.take("Status");
-  const owed = status === "passed" ? null : { principal: penceOf(lines.take("Principal")), charges: penceOf(lines.take("Charges")), owing: penceOf(lines.take("Owing")) };
+  const owed = status === "passed" ? null : readOwed(lines);
   const held = lines.take("Held") === "yes";
   const booking = bookingOf(lines.take("Booking"));
   const closing = closingOf(lines);
   const entries = lines.takeAll("Entry").map(entryOf);
   if (lines.lines.length > 0) throw new Error("the statement goes on");
-  return { number, article, kind, credit: penceOf(credit), taken, ends, extensions, status, owed, held, booking, closing, entries, nextSeq: entries.length + 1 };
+  const nextSeq = entries.length + 1;
+  return { number, article, kind, credit: penceOf(credit), taken, ends, extensions, status, owed, held, booking, closing, entries, nextSeq };
 }
