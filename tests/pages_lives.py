@@ -266,7 +266,7 @@ def sell_and_show_ended(pages):
     browser.forget()
     wanted = "&".join(f"receipt={number}-{number:08}-0000-4000-8000-000000000000" for number in (1, 2, 3, 6))
     browser.go(f"{pages.address}/pawn/#book=7&{wanted}")
-    for says in ("Sold on", "The article belongs to the pawnbroker now", "Days of grace run to", "It can be redeemed until it is sold"):
+    for says in ("Sold on", "The article belongs to the pawnbroker now", "days of grace run", "You can still fetch it, until the shop sells it"):
         browser.says(says, "#cards")
     browser.shoot("pawn-ended")
     no_faults()
@@ -285,11 +285,12 @@ def replies_that_are_lost():
         with pages.relay.loses("/declare"):
             command("Replace a lost receipt", "Make a new receipt")
             browser.press("dialog button", "Make a new receipt")
-            browser.says("so this may have been done", "#commands")
+            browser.says("so a new receipt may have been made", "#commands")
         expect("one new receipt was made", len(receipts_made(pages, 1)), 2)
         browser.shoot("broker-lost")
-        browser.press("#new-receipt button", "Read the newest receipt from the book")
-        browser.says("The pledge has had 2 receipts.", "#new-receipt")
+        command("Print the receipt again", "Print the receipt again")
+        browser.press("dialog button", "Print it again")
+        browser.says("The pledge has had 2 receipts.", "#commands")
         newest = browser.text(".paper .secret").strip()
         expect("it is another", newest != receipt, True)
         show_receipt(pages, newest)
@@ -313,7 +314,7 @@ def a_service_that_is_down():
         pages.relay.listener.shutdown(2)
         pages.relay.listener.close()
         command("Ask for a time to come", "Ask for this time", day=str(today()), window="3")
-        browser.says("The service can’t be reached just now. Nothing was done.", "#cards")
+        browser.says("What you asked for was not sent, so it was not done.", "#cards")
         browser.ask("POST", "/refresh", {})
         browser.says("The pledge can’t be shown just now", "#cards")
         browser.shoot("pawn-down")

@@ -25,7 +25,7 @@ const SECTIONS = {
 function rowOf(pledge, { day, more }, now) {
   const under = more ? make("span", { className: "reference" }, more(pledge)) : null;
   return make("tr", {}, numberCell(pledge), articleCell(pledge),
-    make("td", { className: "number" }, inPounds(pledge.pence)), make("td", { className: "day" }, day(pledge, now), under));
+    make("td", { className: "number" }, inPounds(pledge.pence)), make("td", { className: "when" }, day(pledge, now), under));
 }
 
 export function showDue() {

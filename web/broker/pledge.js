@@ -73,6 +73,7 @@ async function perform(act, { form, notice: line, title }) {
   const { number } = statement;
   const fields = fieldsOf(form);
   byId("new-receipt").replaceChildren();
+  tell(notice, "");
   let said;
   const fault = await run({ notice: line, within: byId("commands"), reader: "broker", act: async () => { said = await act(); return said; } });
   if (fault instanceof Unreadable) return;
@@ -135,11 +136,12 @@ const desk = {
   paper: () => (paper && statement && numberOf(paper) === statement.number ? paper : ""),
 };
 
-/** Goes to a pledge, by the address; or shows it as it stands now where it is there already. */
+/** Goes to a pledge, by the address; or shows it as it stands now where it is there already. The empty form is no place to go back to. */
 export function goTo(number) {
   const hash = `#pledge=${number}`;
   if (location.hash === hash) return showPledge(String(number));
-  location.hash = hash;
+  if (location.hash === "#pledge") location.replace(hash);
+  else location.hash = hash;
   return null;
 }
 
@@ -189,7 +191,12 @@ function sayMessage() {
 
 /** Shows the pledge that the address names as it stands now; without a number the form that finds one. */
 export async function showPledge(number) {
-  if (number === undefined) return;
+  if (number === undefined) {
+    byId("found").hidden = true;
+    byId("new-receipt").replaceChildren();
+    statement = null;
+    return;
+  }
   if (paper && numberOf(paper) !== Number(number)) paper = null;
   if (statement?.number !== Number(number)) {
     byId("new-receipt").replaceChildren();
