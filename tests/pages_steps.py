@@ -18,6 +18,11 @@ def read(*path):
         return it.read()
 
 
+def files(*ends):
+    """The pages' files of these endings, by their paths."""
+    return sorted(os.path.relpath(os.path.join(folder, name), TOP) for folder, _, names in os.walk(WEB) for name in names if name.endswith(ends))
+
+
 def in_words(day):
     return f"{day:%A} {day.day} {day:%B %Y}"
 
