@@ -101,14 +101,17 @@ class Once(Session):
 
 
 class Pages:
-    """The pages by `tools/pages`, in front of a service with an empty book 7."""
+    """The pages by `tools/pages`, in front of a service; of a store in memory, where no other is made in the room."""
+
+    def __init__(self, served=lambda room: Server()):
+        self.served = served
 
     def __enter__(self):
         self.stack = contextlib.ExitStack()
-        self.server = self.stack.enter_context(Server())
-        self.relay = self.stack.enter_context(Relay(self.server.port))
         self.room = self.stack.enter_context(tempfile.TemporaryDirectory())
         os.chmod(self.room, 0o711)
+        self.server = self.stack.enter_context(self.served(self.room))
+        self.relay = self.stack.enter_context(Relay(self.server.port))
         self.port = free_port()
         self.address = f"http://localhost:{self.port}"
         self.session = Once(self.server.port)

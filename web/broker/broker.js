@@ -1,6 +1,6 @@
 /** The broker's page: opening the book, and going from part to part. The address names the part, the pledge and the day, and no secret. */
 import { byId } from "/shared/dom.js";
-import { today } from "/shared/days.js";
+import { inShort, today } from "/shared/days.js";
 import { onSend, tell } from "/shared/forms.js";
 import { setUpAge, showAge } from "./age.js";
 import { setUpAll, showAll } from "./all.js";
@@ -33,7 +33,9 @@ function place() {
 
 function showWhose() {
   const { name, till } = shop();
-  byId("whose-book").textContent = [`Book ${current().book}`, name, till].filter(Boolean).join(", ");
+  const whose = [`Book ${current().book}`, name, till].filter(Boolean).join(", ");
+  byId("whose-book").textContent = whose;
+  byId("paper-head").textContent = `${whose}. Printed on ${inShort(today())}.`;
 }
 
 /** The page's title, and the part that is marked among all. */
@@ -53,7 +55,7 @@ async function showPart({ focus }) {
   const { name, detail } = place();
   byId("door").hidden = open;
   byId("places").hidden = byId("whose").hidden = byId("book-line").hidden = !open;
-  for (const section of document.querySelectorAll(".place")) section.hidden = !open || section.id !== name;
+  for (const section of document.querySelectorAll("section.place")) section.hidden = !open || section.id !== name;
   if (!open) {
     document.title = "Pledge book";
     return;
@@ -62,6 +64,7 @@ async function showPart({ focus }) {
   const heading = mark(name);
   if (focus) heading.focus();
   if (name !== "pledge") clearChoices();
+  for (const part of ["due", "till"]) if (part !== name) byId(`${part}-lists`).replaceChildren();
   await PARTS[name](detail);
   if (place().name === name) mark(name);
 }

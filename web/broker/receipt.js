@@ -32,7 +32,7 @@ function factsOf({ kind, credit, taken, ends }, { fiveDays, agreed }, terms) {
 function headOf(number, reference) {
   const { name, address } = shop();
   const which = make("p", { className: "which" }, `Pawn receipt: book ${current().book}, pledge ${number}, reference `, foreign(reference));
-  return make("header", {}, make("div", {}, make("p", { className: "shop" }, foreign(name || "Pawnbroker")), address && make("p", { className: "place" }, foreign(address))), which);
+  return make("header", {}, make("div", {}, make("p", { className: "shop" }, foreign(name || "Pawnbroker")), address && make("p", { className: "shop-address" }, foreign(address))), which);
 }
 
 /**

@@ -10,7 +10,7 @@ import { askBook } from "./session.js";
 import { pledgeLink } from "./tables.js";
 
 /** At most so many lines stand in a card. */
-const MOST = 60;
+const MOST = 40;
 
 let notice;
 let sheet = null;

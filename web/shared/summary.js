@@ -80,7 +80,8 @@ function periodBar({ taken, ends }, now) {
 function owedBlock({ owed, closing }) {
   if (!owed) return null;
   const parts = [["Lent and not repaid", inPounds(owed.principal)], ["Interest and safe keeping", inPounds(owed.charges)]];
-  const amount = make("p", { className: "amount" }, make("strong", {}, inPounds(owed.owing)), closing ? " was owed then" : " owed today");
+  const when = closing ? [" was owed then"] : [make("span", { className: "screen" }, " owed today"), make("span", { className: "on-paper" }, ` owed on ${inShort(today())}`)];
+  const amount = make("p", { className: "amount" }, make("strong", {}, inPounds(owed.owing)), ...when);
   return make("div", { className: "owed" }, amount, facts(parts));
 }
 
