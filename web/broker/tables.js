@@ -3,7 +3,7 @@ import { foreign, make } from "/shared/dom.js";
 import { printWhole } from "/shared/printing.js";
 
 /** How many rows a section shows first, so that six sections are not above some two hundred rows. */
-const FIRST = 25;
+const FIRST = 20;
 const MORE = 100;
 
 export const pledgeLink = (number) => make("a", { href: `#pledge=${number}`, className: "pledge-link" }, `Pledge ${number}`);
