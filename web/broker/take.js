@@ -139,7 +139,7 @@ async function settle({ opening, said, known }) {
   const stands = make("p", { className: "taken screen" }, link, " stands: ", foreign(opening.article), ".");
   place().replaceChildren(stands, receiptSheet({ statement: held, receipt: said.receipt, pledge, terms: termsOf(pledge) }));
   form().reset();
-  offerReference();
+  showTaking();
   place().scrollIntoView();
   return `Taken as pledge ${said.number}. Its receipt is ready to print.`;
 }

@@ -1,5 +1,5 @@
 /** The sheet of a day: who comes, who asked to come and waits for an answer, and which periods end. */
-import { byId, make } from "/shared/dom.js";
+import { byId, foreign, make } from "/shared/dom.js";
 import { inShort, inWords, plusDays, seenFrom, today } from "/shared/days.js";
 import { onSend, run } from "/shared/forms.js";
 import { readSheet } from "/shared/sheet.js";
@@ -37,7 +37,9 @@ function asked(now) {
   const all = [...others, ...here].sort((one, other) => (key(one) < key(other) ? -1 : 1));
   return all.map(({ number, window, day }) => {
     const when = day < now ? `${inShort(day)}, which is over` : `${inShort(day)}, ${seenFrom(now, day)}`;
-    return make("li", {}, make("span", { className: "time" }, `${when}, ${windowInWords(window)}`), make("span", { className: "links" }, pledgeLink(number)));
+    const pledge = pledgeOf(number);
+    const links = make("span", { className: "links" }, pledgeLink(number), pledge && foreign(pledge.article));
+    return make("li", {}, make("span", { className: "time" }, `${when}, ${windowInWords(window)}`), links);
   });
 }
 
