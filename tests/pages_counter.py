@@ -266,7 +266,7 @@ def back_reload_and_today():
         browser.says("Gold ring", "#statement")
         find("2")
         browser.says("Silver spoon", "#statement")
-        expect("the title", browser.run("return document.title"), "Find a pledge, book 7")
+        expect("the title", browser.run("return document.title"), "Pledge 2, book 7")
         browser.ask("POST", "/refresh", {})
         browser.says("Silver spoon", "#statement")
         browser.ask("POST", "/back", {})

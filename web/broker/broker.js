@@ -38,15 +38,16 @@ function showWhose() {
   byId("paper-head").textContent = `${whose}. Printed on ${inShort(today())}.`;
 }
 
-/** The page's title, and the part that is marked among all. */
-function mark(name) {
+/** The page's title, which names the pledge where one is shown, and the part that is marked among all. */
+function mark({ name, detail }) {
   for (const link of byId("places").children) {
     if (link.hash === `#${name}`) link.setAttribute("aria-current", "page");
     else link.removeAttribute("aria-current");
   }
   const heading = byId(name).querySelector("h1");
   heading.tabIndex = -1;
-  document.title = `${heading.textContent}, book ${current().book}`;
+  const what = name === "pledge" && detail ? `Pledge ${detail}` : heading.textContent;
+  document.title = `${what}, book ${current().book}`;
   return heading;
 }
 
@@ -61,12 +62,12 @@ async function showPart({ focus }) {
     return;
   }
   showWhose();
-  const heading = mark(name);
+  const heading = mark({ name, detail });
   if (focus) heading.focus();
   if (name !== "pledge") clearChoices();
   for (const part of ["due", "till"]) if (part !== name) byId(`${part}-lists`).replaceChildren();
   await PARTS[name](detail);
-  if (place().name === name) mark(name);
+  if (place().name === name && current() !== null) mark(place());
 }
 
 /** Opens the book: the key is tried by today's sheet, and the whole book is read after it. */

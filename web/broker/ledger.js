@@ -16,6 +16,7 @@ let book = null;
 let readAt = 0;
 let reading = null;
 let fault = null;
+let isStale = false;
 const listeners = [];
 
 /** Is told whenever the book was read or mended, is being read, or could not be. */
@@ -31,6 +32,7 @@ export const ledgerState = () => ({ readAt, fault, reading: reading !== null });
 
 export function forgetLedger() {
   book = reading = fault = null;
+  isStale = false;
   readAt = 0;
   told({ sort: "forgotten" });
 }
@@ -42,7 +44,7 @@ async function read() {
     const { text } = await askBook("GET", "/export", { watch: (part) => mine === reading && told({ sort: "progress", part }) });
     const found = readBook(text);
     if (mine !== reading) return;
-    [book, readAt, fault] = [found, Date.now(), null];
+    [book, readAt, fault, isStale] = [found, Date.now(), null, false];
   } catch (why) {
     if (mine === reading) fault = why;
     throw why;
@@ -69,14 +71,16 @@ export async function theLedger() {
   return book;
 }
 
-/** Reads the book anew where it is old. */
+/** Reads the book anew where it is old, or another changed it. */
 export function readIfOld() {
-  if (book && !reading && Date.now() - readAt >= OLD) readLedger().catch(() => {});
+  const age = Date.now() - readAt;
+  if (book && !reading && (age >= OLD || (isStale && age >= SOON))) readLedger().catch(() => {});
 }
 
-/** Another changed the book: it is read anew, and what it says meanwhile is mended where it is known. */
+/** Another changed the book: it is read anew, at once or a little later. */
 export function anotherChanged() {
-  if (book && !reading && Date.now() - readAt >= SOON) readLedger().catch(() => {});
+  isStale = true;
+  readIfOld();
 }
 
 /** The pledge of a number, or null. */
@@ -90,10 +94,11 @@ export function withReference(reference) {
 
 const isPair = (one, other) => one?.day === other?.day && one?.window === other?.window && one?.state === other?.state;
 
-/** Whether a statement tells what the book in the page does not know. */
-export function isNews(statement) {
+/** Whether a statement tells what the book in the page does not know: after a command of this page's own, another entry beside its own. */
+export function isNews(statement, own) {
   const pledge = pledgeOf(statement.number);
   if (!pledge) return book !== null;
+  if (own) return statement.entries.length > pledge.entries.length + 1;
   const state = ["redeemed", "sold"].includes(statement.status) ? statement.status : "open";
   return pledge.state !== state || pledge.held !== statement.held || pledge.ends !== statement.ends
     || pledge.entries.length !== statement.entries.length || !isPair(pledge.booking, statement.booking);

@@ -56,7 +56,7 @@ function draw() {
 /** Reads the pledge as it stands, and shows it with what may be done. What this page did itself is no news. */
 async function look(number, own = false) {
   const found = await read(number);
-  const news = !own && isNews(found);
+  const news = isNews(found, own);
   statement = found;
   mend(statement);
   draw();
@@ -128,7 +128,7 @@ function toldOfReceipts() {
 
 /** What the commands' forms use. */
 const desk = {
-  perform, command, showReceipt, newestReceipt, toldOfReceipts,
+  perform, command, showReceipt, newestReceipt, toldOfReceipts, isLive,
   read: () => read(statement.number),
   held: async (receipt) => readStatement((await askHeld(receipt, "")).text),
   redeem: (receipt, paid) => askHeld(receipt, "/redeem", { body: { paid }, harmless: false }),

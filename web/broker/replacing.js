@@ -31,6 +31,8 @@ export const printing = (statement, desk) => ({
 /** After a lost reply the book tells whether a new receipt was made. */
 const LOST = "The reply was lost, so a new receipt may have been made. Don’t ask for another: “Print the receipt again” shows the newest one.";
 
+const OVERTAKEN = "A new receipt was made, but another one took its place at the same time, so it is not shown. “Print the receipt again” shows the newest one.";
+
 async function declare({ paper }, desk) {
   const before = paper === "sworn" ? "You have the sworn declaration before you." : "You have the written statement before you.";
   const yes = await confirmed({
@@ -42,6 +44,7 @@ async function declare({ paper }, desk) {
   try {
     const { said } = await desk.command("declare", { paper }, false);
     addReceipt(said.receipt, paper);
+    if (!await desk.isLive(said.receipt)) return { sentence: OVERTAKEN, tone: "bad" };
     await desk.showReceipt(said.receipt);
   } catch (fault) {
     if (fault instanceof Lost) return { sentence: LOST, tone: "bad" };

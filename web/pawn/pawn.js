@@ -1,11 +1,15 @@
 /** The pawnor's page: the cards of the receipts that this tab holds, and the form that shows another. */
 import { byId } from "/shared/dom.js";
+import { today } from "/shared/days.js";
 import { onSend } from "/shared/forms.js";
 import { Card } from "./card.js";
 import { keep, kept, ofTyped, takeFragment } from "./receipts.js";
 import { inTurn } from "./turns.js";
 
+const TICK = 20_000;
+
 const cards = [];
+let day = today();
 
 function store() {
   keep(cards.map(({ book, receipt, shop, rate }) => ({ book, receipt, shop, rate })));
@@ -51,6 +55,15 @@ onSend(byId("find"), "pawnor", async (fields) => {
   else byId("find").reset();
   return "";
 });
+/** A tab that was left open notices the new day, on which more may be owed. */
+function tick() {
+  if (document.hidden || day === today()) return;
+  day = today();
+  show(cards);
+}
+
+document.addEventListener("visibilitychange", tick);
+setInterval(tick, TICK);
 byId("print-page").addEventListener("click", () => print());
 addEventListener("hashchange", showFragment);
 const before = kept();
