@@ -1,12 +1,16 @@
 #!/usr/bin/env python3
-"""Both pages as anybody uses them: by the keyboard alone, on screens of each width, light and dark, with each field named and each refusal tied to its field;
-and what nginx sends and notes. In a real browser, by the real nginx, in front of the program. Pictures are left in build/pages/."""
+"""Both pages as anybody uses them: by the keyboard alone, on screens of each width, light and dark, each field named and
+each refusal tied to its field; and what nginx sends and notes. In a real browser, by the real nginx, in front of the
+program. Pictures are left in build/pages/."""
 import http.client
 import os
 import subprocess
 
 from browser import Pages
-from pages_steps import (ago, book_text, browser, command, drive, fill_book, find, make_book, no_faults, open_book, part, read, show_receipt, take_a_ring, the_book_is_read)
+from pages_steps import (
+    ago, book_text, browser, command, drive, fill_book, find, make_book, no_faults, open_book, part, read, show_receipt,
+    take_a_ring, the_book_is_read,
+)
 from service import BROKER, OPERATOR, TOP, Failed, expect
 
 TAB, ENTER, SPACE, DOWN = "\ue004", "\ue007", " ", "\ue015"
@@ -16,7 +20,10 @@ def tab_to(words):
     """Goes on by the tabulator until something of these words or this name has the focus, and shows it."""
     for _ in range(40):
         browser.keys(TAB)
-        found, shown = browser.run("const one = document.activeElement; return [[one.textContent.trim(), one.name], getComputedStyle(one).outlineStyle !== 'none']")
+        found, shown = browser.run(
+            "const one = document.activeElement; "
+            "return [[one.textContent.trim(), one.name], getComputedStyle(one).outlineStyle !== 'none']"
+        )
         if words in found:
             expect(f"the focus on {words} is seen", shown, True)
             return
@@ -68,25 +75,45 @@ def what_nginx_sends_and_notes():
         receipt = pages.session.open_pledge(1)
         show_receipt(pages, receipt)
         browser.says("Gold ring", "#cards")
-        for path, status, keeping in (("/", 200, "no-cache"), ("/pawn/", 200, "no-cache"), ("/shared/api.js", 200, "no-cache"), ("/books/7/held", 400, "no-store"), ("/books/07/held", 404, "no-store"),
-                                      ("/books/7/held?receipt=" + receipt, 404, "no-store"), ("/books/7/../7/held", 404, "no-store"), ("/nginx.conf", 404, "no-cache"), ("/README.md", 404, "no-cache")):
+        for path, status, keeping in (
+            ("/", 200, "no-cache"), ("/pawn/", 200, "no-cache"), ("/shared/api.js", 200, "no-cache"),
+            ("/books/7/held", 400, "no-store"), ("/books/07/held", 404, "no-store"),
+            ("/books/7/held?receipt=" + receipt, 404, "no-store"), ("/books/7/../7/held", 404, "no-store"),
+            ("/nginx.conf", 404, "no-cache"), ("/README.md", 404, "no-cache"),
+        ):
             connection = http.client.HTTPConnection("127.0.0.1", pages.port, timeout=10)
             connection.request("GET", path)
             reply = connection.getresponse()
             reply.read()
             policy = reply.getheader("Content-Security-Policy", "")
-            expect(f"GET {path}", (reply.status, reply.getheader("Cache-Control"), "require-trusted-types-for 'script'" in policy, "unsafe" in policy), (status, keeping, True, False))
+            expect(
+                f"GET {path}",
+                (
+                    reply.status, reply.getheader("Cache-Control"), "require-trusted-types-for 'script'" in policy,
+                    "unsafe" in policy,
+                ),
+                (status, keeping, True, False),
+            )
             connection.close()
         for name in ("access.log", "error.log"):
             noted = read(pages.room, "room", name)
-            expect(f"no secret in {name}", [secret for secret in (receipt, receipt[2:], BROKER, OPERATOR) if secret in noted], [])
+            expect(
+                f"no secret in {name}",
+                [secret for secret in (receipt, receipt[2:], BROKER, OPERATOR) if secret in noted], [],
+            )
 
 
 def starts_that_are_refused():
     with Pages() as pages:
-        for words, says in (({"PAGES_PORT": str(pages.port)}, f"port {pages.port} is taken"), ({"PAGES_PORT": "0"}, "are numbers from 1 to 65535"), ({"PORT": "x"}, "are numbers from 1 to 65535")):
+        for words, says in (
+            ({"PAGES_PORT": str(pages.port)}, f"port {pages.port} is taken"),
+            ({"PAGES_PORT": "0"}, "are numbers from 1 to 65535"), ({"PORT": "x"}, "are numbers from 1 to 65535"),
+        ):
             room = os.path.join(pages.room, "other")
-            ran = subprocess.run([os.path.join(TOP, "tools/pages")], env={**os.environ, **words, "ROOM": room}, stdin=subprocess.DEVNULL, capture_output=True, text=True, timeout=20)
+            ran = subprocess.run(
+                [os.path.join(TOP, "tools/pages")], env={**os.environ, **words, "ROOM": room}, stdin=subprocess.DEVNULL,
+                capture_output=True, text=True, timeout=20,
+            )
             expect(f"{words}", (ran.returncode, says in ran.stderr, os.path.exists(room)), (1, True, False))
 
 
@@ -96,14 +123,19 @@ const wrong = [];
 const seen = [...document.querySelectorAll("body *")].filter((one) => one.checkVisibility());
 for (const one of seen) {
   for (const name of ["aria-describedby", "aria-labelledby", "aria-errormessage"]) {
-    for (const id of (one.getAttribute(name) ?? "").split(" ").filter(Boolean)) if (!document.getElementById(id)) wrong.push(`${name} of nothing: ${id}`);
+    const ids = (one.getAttribute(name) ?? "").split(" ").filter(Boolean);
+    for (const id of ids) if (!document.getElementById(id)) wrong.push(`${name} of nothing: ${id}`);
   }
   const box = one.getBoundingClientRect();
-  if (one.matches("a, button, summary, input, select, textarea") && (box.height < 24 || box.width < 24) && !one.matches("[type=radio], [type=checkbox]")) wrong.push(`too small to press: ${one.textContent || one.name} ${box.width} by ${box.height}`);
-  if (one.matches(".hint") && !document.querySelector(`[aria-describedby~="${one.id}"]`)) wrong.push(`a hint of nothing: ${one.textContent}`);
-  if (one.matches(".hint") && one.closest("label")) wrong.push(`a hint in a name: ${one.textContent}`);
+  const isPressed = one.matches("a, button, summary, input:not([type=radio], [type=checkbox]), select, textarea");
+  const name = one.textContent || one.name;
+  if (isPressed && (box.height < 24 || box.width < 24)) wrong.push(`too small: ${name} ${box.width} by ${box.height}`);
+  const isHint = one.matches(".hint");
+  if (isHint && !document.querySelector(`[aria-describedby~="${one.id}"]`)) wrong.push(`a hint of nothing: ${name}`);
+  if (isHint && one.closest("label")) wrong.push(`a hint in a name: ${name}`);
 }
-if (document.documentElement.scrollWidth > document.documentElement.clientWidth) wrong.push(`it is ${document.documentElement.scrollWidth} wide`);
+const { scrollWidth, clientWidth } = document.documentElement;
+if (scrollWidth > clientWidth) wrong.push(`it is ${scrollWidth} wide`);
 return wrong;
 """
 PARTS = ("today", "take", "pledge", "all", "due", "till", "terms", "files", "shop")
@@ -117,10 +149,13 @@ def is_right(name):
 
 
 def each_part_is_right(scheme):
-    """Each part of the broker's page: the heading has the focus, the title tells it, nothing is too wide or too small."""
+    """Each part of the broker's page: the heading has the focus, the title tells it, nothing is too wide or too
+    small."""
     for name in PARTS:
         part(name)
-        browser.until("return document.activeElement.matches(`#${arguments[0]} h1`)", f"{name}: the focus on its heading", name)
+        browser.until(
+            "return document.activeElement.matches(`#${arguments[0]} h1`)", f"{name}: the focus on its heading", name,
+        )
         browser.until("return document.title === document.activeElement.textContent + ', book 7'", f"{name}: the title")
         browser.says("The book was read", "#book-line")
         is_right(f"{scheme} {name}")
@@ -128,12 +163,21 @@ def each_part_is_right(scheme):
 
 
 def screens_of_each_width_light_and_dark():
-    pledges = [("Clock", "D1", 9000, ago(400), ago(2), "yes"), ("Ring with a very long name that goes on, and on, to eighty letters and no more", "A-REFERENCE-OF-FORTY-LETTERS-IN-ONE-WORD", 9000, ago(3), "", "no"),
-               ("Lamp", "D5", 100000000, ago(400), ago(-30), "no"), ("Vase", "D7", 9000, ago(400), "", "no"), ("Watch", "D8", 5000, ago(400), "", "no")]
+    pledges = [
+        ("Clock", "D1", 9000, ago(400), ago(2), "yes"),
+        (
+            "Ring with a very long name that goes on, and on, to eighty letters and no more",
+            "A-REFERENCE-OF-FORTY-LETTERS-IN-ONE-WORD", 9000, ago(3), "", "no",
+        ),
+        ("Lamp", "D5", 100000000, ago(400), ago(-30), "no"), ("Vase", "D7", 9000, ago(400), "", "no"),
+        ("Watch", "D8", 5000, ago(400), "", "no"),
+    ]
     with Pages() as pages:
         make_book(pages, terms=False)
         fill_book(pages, book_text(pledges))
-        pages.session.bearer("2-00000002-0000-4000-8000-000000000000", "POST", "/books/7/held/ask", {"day": str(ago(-3)), "window": 2})
+        pages.session.bearer(
+            "2-00000002-0000-4000-8000-000000000000", "POST", "/books/7/held/ask", {"day": str(ago(-3)), "window": 2},
+        )
         for scheme in ("light", "dark"):
             browser.devtools("Emulation.setEmulatedMedia", features=[{"name": "prefers-color-scheme", "value": scheme}])
             browser.forget()
@@ -148,7 +192,10 @@ def screens_of_each_width_light_and_dark():
             browser.says("asked for, not confirmed yet", "#statement")
             command("Repayment", "Record the repayment", amount="x")
             browser.says("Write the amount in pounds", "#commands")
-            expect("the refusal is tied to its field, and stands near it", browser.run(TIED), ["amount", "true", "Write the amount in pounds, as 100 or 99.50.", True])
+            expect(
+                "the refusal is tied to its field, and stands near it", browser.run(TIED),
+                ["amount", "true", "Write the amount in pounds, as 100 or 99.50.", True],
+            )
             is_right(f"{scheme} pledge")
             browser.shoot(f"{scheme}-pledge")
             take_a_ring(reference=scheme)
@@ -165,8 +212,12 @@ def screens_of_each_width_light_and_dark():
 TIED = """
 const field = document.activeElement;
 const said = document.getElementById(field.getAttribute("aria-errormessage"));
-return [field.name, field.ariaInvalid, said.textContent, Math.abs(said.getBoundingClientRect().top - field.getBoundingClientRect().bottom) < 200];
+const apart = said.getBoundingClientRect().top - field.getBoundingClientRect().bottom;
+return [field.name, field.ariaInvalid, said.textContent, Math.abs(apart) < 200];
 """
 
 
-drive(115, (), (by_the_keyboard_alone, screens_of_each_width_light_and_dark, what_nginx_sends_and_notes, starts_that_are_refused))
+drive(
+    115, (),
+    (by_the_keyboard_alone, screens_of_each_width_light_and_dark, what_nginx_sends_and_notes, starts_that_are_refused),
+)

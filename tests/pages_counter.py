@@ -1,10 +1,13 @@
 #!/usr/bin/env python3
-"""What the broker's page once said at the counter that was not so, each as it was found; in a real browser, in front of the program."""
+"""What the broker's page once said at the counter that was not so, each as it was found; in a real browser, in front of
+the program."""
 import os
 
 from browser import Pages
-from pages_steps import (agree, ago, book_text, browser, command, drive, entries, fill_book, find, in_short, in_words, make_book, no_faults, open_book, part,
-                         receipts_made, secret_of, send_taking, take_a_ring, the_book_is_read, unfold)
+from pages_steps import (
+    agree, ago, book_text, browser, command, drive, entries, fill_book, find, in_short, in_words, make_book, no_faults,
+    open_book, part, receipts_made, secret_of, send_taking, take_a_ring, the_book_is_read, unfold,
+)
 from service import expect, six_months_after, today
 
 
@@ -27,7 +30,10 @@ def a_dead_receipt_is_not_printed_as_new():
         browser.says(f"Pledge 1 has this reference since {in_short(today())}.", "#taking")
         browser.says("Redeemed on", "#taken-receipt")
         there_is_no_paper()
-        expect("and the field is marked", browser.run("return document.activeElement.name + document.activeElement.ariaInvalid"), "reftrue")
+        expect(
+            "and the field is marked",
+            browser.run("return document.activeElement.name + document.activeElement.ariaInvalid"), "reftrue",
+        )
         second = pages.session.open_pledge(2)
         pages.session.broker("POST", "/books/7/pledges/2/declare", {"paper": "sworn"})
         send_taking(article="Gold ring", ref="A2", amount="100")
@@ -75,11 +81,21 @@ def two_equal_payments_are_two():
         browser.says("Something came in between", "dialog")
         browser.says(f"Repaid: £10.00, on {in_short(today())}.", "dialog")
         browser.says("£90.00 is owed now.", "dialog")
-        expect("the dialog has the name of its heading", browser.run("const one = document.querySelector('dialog'); return document.getElementById(one.getAttribute('aria-labelledby')).textContent"), "Something came in between")
+        expect(
+            "the dialog has the name of its heading",
+            browser.run(
+                "const one = document.querySelector('dialog'); "
+                "return document.getElementById(one.getAttribute('aria-labelledby')).textContent"
+            ),
+            "Something came in between",
+        )
         browser.shoot("broker-between")
         browser.press("dialog button", "No, record nothing")
         browser.says("Nothing was recorded.", "#commands")
-        expect("not told as done", browser.run("return document.querySelector('.action[open] .notice').className"), "notice quiet")
+        expect(
+            "not told as done", browser.run("return document.querySelector('.action[open] .notice').className"),
+            "notice quiet",
+        )
         expect("one entry", len(entries(pages, 1)), 1)
         pages.session.broker("POST", "/books/7/pledges/1/repay", {"pence": 1000, "seq": 2})
         browser.press(".action[open] button", "Record the repayment")
@@ -134,7 +150,9 @@ def a_receipt_is_printed_again():
         browser.ask("POST", "/refresh", {})
         find("A1")
         browser.says("£100.00 owed today", "#statement")
-        for title, button, says in (("Put on hold", "Hold", "The pledge is on hold"), ("Release the hold", "Release", "The hold is released.")):
+        for title, button, says in (
+            ("Put on hold", "Hold", "The pledge is on hold"), ("Release the hold", "Release", "The hold is released."),
+        ):
             command("Print the receipt again", "Print the receipt again")
             browser.says("whoever has either can redeem it", "dialog")
             browser.press("dialog button", "Print it again")
@@ -165,9 +183,12 @@ def who_waits_for_another_day():
 def what_is_due():
     """In grace, within 7, 14 and 30 days whatever the month, to be sold, and passed; and the first day of a sale."""
     long_ago = ago(400)
-    pledges = [("Clock", "D1", 9000, long_ago, ago(2), "yes"), ("Small clock", "D2", 5000, long_ago, ago(1), "yes"), ("Ring", "D3", 9000, long_ago, ago(-7), "no"),
-               ("Brooch", "D4", 9000, long_ago, ago(-8), "yes"), ("Lamp", "D5", 9000, long_ago, ago(-30), "no"), ("Violin", "D6", 9000, long_ago, ago(-31), "no"),
-               ("Vase", "D7", 9000, long_ago, "", "no"), ("Watch", "D8", 5000, long_ago, "", "no")]
+    pledges = [
+        ("Clock", "D1", 9000, long_ago, ago(2), "yes"), ("Small clock", "D2", 5000, long_ago, ago(1), "yes"),
+        ("Ring", "D3", 9000, long_ago, ago(-7), "no"), ("Brooch", "D4", 9000, long_ago, ago(-8), "yes"),
+        ("Lamp", "D5", 9000, long_ago, ago(-30), "no"), ("Violin", "D6", 9000, long_ago, ago(-31), "no"),
+        ("Vase", "D7", 9000, long_ago, "", "no"), ("Watch", "D8", 5000, long_ago, "", "no"),
+    ]
     with Pages() as pages:
         make_book(pages, terms=False)
         fill_book(pages, book_text(pledges))
@@ -175,14 +196,25 @@ def what_is_due():
         the_book_is_read()
         part("due")
         browser.says("Small clock", "#due-lists")
-        lists = browser.run("return [...document.querySelectorAll('#due-lists .card')].map((card) => [card.querySelector('h2').firstChild.textContent, ...[...card.querySelectorAll('tbody tr')].map((row) => row.innerText.replace(/\\s+/g, ' '))])")
-        expect("the sections", [(one[0], len(one) - 1) for one in lists], [("In their days of grace", 2), ("Ends within 7 days", 1), ("Ends within 14 days, after those", 1),
-                                                                        ("Ends within 30 days, after those", 1), ("Can be sold now", 1), ("Passed to you", 1)])
+        lists = browser.run(
+            "return [...document.querySelectorAll('#due-lists .card')].map((card) => "
+            "[card.querySelector('h2').firstChild.textContent, ...[...card.querySelectorAll('tbody tr')].map((row) "
+            "=> row.innerText.replace(/\\s+/g, ' '))])"
+        )
+        expect(
+            "the sections", [(one[0], len(one) - 1) for one in lists],
+            [
+                ("In their days of grace", 2), ("Ends within 7 days", 1), ("Ends within 14 days, after those", 1),
+                ("Ends within 30 days, after those", 1), ("Can be sold now", 1), ("Passed to you", 1),
+            ],
+        )
         expect("in grace", lists[0][1], f"1 Clock D1 £90.00 can be sold on {in_short(ago(-4))}")
         expect("with the day of the other", f"can be sold on {in_short(ago(-5))}" in lists[0][2], True)
         find("D4")
         unfold("Sale")
-        browser.says(f"It can be sold on {in_words(ago(-14))} first, if it is not redeemed or extended before.", "#commands")
+        browser.says(
+            f"It can be sold on {in_words(ago(-14))} first, if it is not redeemed or extended before.", "#commands",
+        )
         no_faults()
 
 
@@ -199,7 +231,10 @@ def a_visit_that_was_changed_is_not_confirmed_unseen():
         command("Visit", "Confirm")
         browser.says("The visit was changed since it was shown, so nothing was decided.", "#commands")
         browser.says(f"{in_words(second)}, 11:00 to 11:30: asked for", "#statement")
-        expect("it stands as asked", f"Booking {second} 4 asked" in pages.session.broker("GET", "/books/7/pledges/1")[1], True)
+        expect(
+            "it stands as asked", f"Booking {second} 4 asked" in pages.session.broker("GET", "/books/7/pledges/1")[1],
+            True,
+        )
         browser.press(".action[open] button", "Confirm")
         browser.says(f"The visit on {in_words(second)}, 11:00 to 11:30 is confirmed.", "#commands")
         no_faults()
@@ -217,13 +252,19 @@ def references_are_found():
         browser.says("Ring 4", "#statement")
         find("2")
         browser.says("More than one pledge can be meant.", "#finding")
-        expect("the one of the reference first", browser.run("return [...document.querySelectorAll('#choices a')].map((one) => one.textContent)"), ["Pledge 3", "Pledge 2"])
+        expect(
+            "the one of the reference first",
+            browser.run("return [...document.querySelectorAll('#choices a')].map((one) => one.textContent)"),
+            ["Pledge 3", "Pledge 2"],
+        )
         browser.press("#choices a", "Pledge 3")
         browser.says("Ring 3", "#statement")
         find("3")
         browser.says("Ring 3", "#statement")
         take_a_ring(article="  Silver   spoon ", reference=" B1 ")
-        expect("trimmed when it is taken", ",B1,Silver spoon," in pages.session.broker("GET", "/books/7/export")[1], True)
+        expect(
+            "trimmed when it is taken", ",B1,Silver spoon," in pages.session.broker("GET", "/books/7/export")[1], True,
+        )
         part("take")
         browser.fill("#taking", ref="b1")
         browser.says("Pledge 5 has this reference: Silver spoon.", "#reference-stands")
@@ -275,7 +316,11 @@ def back_reload_and_today():
         browser.says(f"Today, {in_words(today())}", "#today")
         expect("the heading has the focus", browser.run("return document.activeElement.id"), "sheet-title")
         tomorrow = ago(-1)
-        browser.run("const real = Date; window.Date = class extends real { constructor(...given) { if (given.length) super(...given); else super(real.now() + 86400000); } }; document.dispatchEvent(new Event('visibilitychange'))")
+        browser.run(
+            "const real = Date; window.Date = class extends real { constructor(...given) { if (given.length) "
+            "super(...given); else super(real.now() + 86400000); } }; "
+            "document.dispatchEvent(new Event('visibilitychange'))"
+        )
         browser.says(f"Today, {in_words(tomorrow)}", "#today")
 
 
@@ -284,21 +329,33 @@ def what_is_typed_is_looked_at():
         make_book(pages)
         open_book(pages)
         part("take")
-        for fields, says in (({"article": "   ", "ref": "A1", "amount": "1"}, "The article is empty."), ({"article": "é" * 41, "ref": "A1", "amount": "1"}, "The article is too long by 2"),
-                             ({"article": "Ring", "ref": "£" * 21, "amount": "1"}, "The reference is too long by 2"),
-                             ({"article": "Ring", "ref": "A1", "amount": "1", "agreed": str(today())}, "The agreed end is not after today")):
+        for fields, says in (
+            ({"article": "   ", "ref": "A1", "amount": "1"}, "The article is empty."),
+            ({"article": "é" * 41, "ref": "A1", "amount": "1"}, "The article is too long by 2"),
+            ({"article": "Ring", "ref": "£" * 21, "amount": "1"}, "The reference is too long by 2"),
+            (
+                {"article": "Ring", "ref": "A1", "amount": "1", "agreed": str(today())},
+                "The agreed end is not after today",
+            ),
+        ):
             browser.fill("#taking", **fields)
             browser.press("#taking button", "Take the pledge")
             browser.says(says, "#taking")
             expect("its field is marked", browser.run("return document.activeElement.ariaInvalid"), "true")
         browser.fill("#taking", article="Ring", ref="A1", amount="1,000,000", agreed=str(ago(-3)))
         browser.press("#taking button", "Take the pledge")
-        for says in ("Take this pledge for £1,000,000.00?", "counts for nothing", "That is a large sum", f"The period ends on {in_words(six_months_after(today()))}"):
+        for says in (
+            "Take this pledge for £1,000,000.00?", "counts for nothing", "That is a large sum",
+            f"The period ends on {in_words(six_months_after(today()))}"
+        ):
             browser.says(says, "dialog")
         browser.shoot("broker-large")
         browser.press("dialog button", "Not now")
         browser.says("Nothing was done.", "#taking")
-        expect("and is not told as done", browser.run("return document.querySelector('#taking .notice').className"), "notice quiet")
+        expect(
+            "and is not told as done", browser.run("return document.querySelector('#taking .notice').className"),
+            "notice quiet",
+        )
         expect("nothing was taken", pages.session.broker("GET", "/books/7/pledges/1")[0], 404)
         no_faults()
 
@@ -321,7 +378,13 @@ def a_shops_day():
     """From opening to the till's sum: taken, drawn, repaid at the counter and by the pawnor, redeemed, sold."""
     with Pages() as pages:
         make_book(pages, terms=False)
-        fill_book(pages, book_text([("Old clock", "O1", 9000, ago(220), "", "no"), ("Old ring", "O2", 20000, ago(30), "", "no")], rates=(0, 0, 0)))
+        fill_book(
+            pages,
+            book_text(
+                [("Old clock", "O1", 9000, ago(220), "", "no"), ("Old ring", "O2", 20000, ago(30), "", "no")],
+                rates=(0, 0, 0),
+            ),
+        )
         open_book(pages)
         the_book_is_read()
         part("shop")
@@ -355,8 +418,17 @@ def the_till_tells_it():
     part("till")
     browser.press("#read-book")
     browser.says("Repaid2: £35.00", "#till-lists")
-    sums = browser.run("return Object.fromEntries([...document.querySelectorAll('.sums .facts > div')].map((one) => [one.firstChild.textContent, one.lastChild.textContent]))")
-    expect("the sums", sums, {"Taken: lent on fixed sums": "£100.00", "Drawn": "£200.50", "Paid out": "£300.50", "Repaid": "£35.00", "Redeemed": "£200.00", "Sold, net": "£120.25", "Received": "£355.25"})
+    sums = browser.run(
+        "return Object.fromEntries([...document.querySelectorAll('.sums .facts > div')].map((one) => "
+        "[one.firstChild.textContent, one.lastChild.textContent]))"
+    )
+    expect(
+        "the sums", sums,
+        {
+            "Taken: lent on fixed sums": "£100.00", "Drawn": "£200.50", "Paid out": "£300.50", "Repaid": "£35.00",
+            "Redeemed": "£200.00", "Sold, net": "£120.25", "Received": "£355.25",
+        },
+    )
     browser.says("The drawer has £54.75 more than at the day’s beginning", "#till-lists")
     browser.shoot("broker-till")
     browser.ask("POST", "/refresh", {})
@@ -364,6 +436,12 @@ def the_till_tells_it():
     no_faults()
 
 
-drive(115, (), (a_dead_receipt_is_not_printed_as_new, a_receipt_that_dies_while_it_is_taken_is_not_printed, two_equal_payments_are_two, redemption_by_the_paper,
-                a_receipt_is_printed_again, who_waits_for_another_day, what_is_due, a_visit_that_was_changed_is_not_confirmed_unseen, references_are_found,
-                all_entries_can_be_seen, back_reload_and_today, what_is_typed_is_looked_at, the_same_file_is_one_import, a_shops_day))
+drive(
+    115, (),
+    (
+        a_dead_receipt_is_not_printed_as_new, a_receipt_that_dies_while_it_is_taken_is_not_printed,
+        two_equal_payments_are_two, redemption_by_the_paper, a_receipt_is_printed_again, who_waits_for_another_day,
+        what_is_due, a_visit_that_was_changed_is_not_confirmed_unseen, references_are_found, all_entries_can_be_seen,
+        back_reload_and_today, what_is_typed_is_looked_at, the_same_file_is_one_import, a_shops_day,
+    ),
+)

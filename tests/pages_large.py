@@ -1,5 +1,6 @@
 #!/usr/bin/env python3
-"""The broker's page with books of 2,000 and 20,000 pledges, in a real browser: how soon it is ready, finds and filters, and how much it draws and keeps."""
+"""The broker's page with books of 2,000 and 20,000 pledges, in a real browser: how soon it is ready, finds and filters,
+and how much it draws and keeps."""
 import datetime
 import os
 import random
@@ -12,7 +13,10 @@ from service import BROKER, OPERATOR, Failed, Server, expect, opened, six_months
 from stores import answer, keyed
 
 EPOCH = datetime.date(1970, 1, 1)
-ARTICLES = ("Gold ring", "Silver spoon", "Violin by an unknown maker", "Watch, steel", "Brooch with a garnet", "Clock", "Medal", "Camera with two lenses")
+ARTICLES = (
+    "Gold ring", "Silver spoon", "Violin by an unknown maker", "Watch, steel", "Brooch with a garnet", "Clock", "Medal",
+    "Camera with two lenses",
+)
 
 # What a quiet machine keeps, and how much longer a busy one may take.
 READY, FOUND, DUE, ROWS, BUSY = 3000, 100, 300, 200, 4
@@ -23,7 +27,8 @@ def number_of(day):
 
 
 def filled(path, count):
-    """A file with book 7, whose pledges are put in by SQL, as the program stores them: a third are closed, some wait for an answer."""
+    """A file with book 7, whose pledges are put in by SQL, as the program stores them: a third are closed, some wait
+    for an answer."""
     book = keyed("POST", "/books/7", {"capacity": 2, "key": BROKER, "name": "High Street"}, OPERATOR)
     terms = keyed("POST", "/books/7/terms", {"keep_after": 0, "keep_before": 0, "rate": 0, "version": 1})
     expect("the book", [status for status, _ in answer(path, book, terms)], [200, 200])
@@ -34,7 +39,12 @@ def filled(path, count):
         ends, pence = six_months_after(taken), draw.choice((5000, 7500, 12345, 60000))
         closed = 1 if draw.random() < 0.33 else 0
         day = number_of(min(now, taken + datetime.timedelta(days=draw.randrange(150)))) if closed else None
-        pledges.append((7, number, f"HS-{number:06}", draw.choice(ARTICLES), 0, pence, number_of(taken), None, number % 2, 1, number_of(ends), 0, day or number_of(taken), closed, day, pence if closed else None))
+        pledges.append(
+            (
+                7, number, f"HS-{number:06}", draw.choice(ARTICLES), 0, pence, number_of(taken), None, number % 2, 1,
+                number_of(ends), 0, day or number_of(taken), closed, day, pence if closed else None,
+            )
+        )
         secrets.append((7, number, 1, number_of(taken), 0, uuid.UUID(int=draw.getrandbits(128)).bytes))
         totals.append((7, number, number_of(taken), pence, 0))
         if not closed and ends > now and number % 50 == 0:
@@ -43,7 +53,9 @@ def filled(path, count):
         for table, rows in (("pledges", pledges), ("secrets", secrets), ("totals", totals), ("bookings", bookings)):
             tables.executemany(f"INSERT INTO {table} VALUES ({', '.join('?' * len(rows[0]))})", rows)
         tables.execute("UPDATE books SET pledges = ?", (count,))
-        tables.execute("UPDATE meta SET value = value + ? WHERE name = 'rows'", (len(pledges) + len(secrets) + len(bookings),))
+        tables.execute(
+            "UPDATE meta SET value = value + ? WHERE name = 'rows'", (len(pledges) + len(secrets) + len(bookings),),
+        )
     return path
 
 
@@ -53,6 +65,16 @@ const field = document.querySelector(arguments[0]);
 field.value = arguments[1];
 field.dispatchEvent(new Event(arguments[2], { bubbles: true }));
 document.body.offsetHeight;
+return performance.now() - begun;
+"""
+
+
+FILTER = """
+const { found } = await import("/broker/groups.js");
+const { ledger } = await import("/broker/ledger.js");
+const { today } = await import("/shared/days.js");
+const begun = performance.now();
+found(ledger(), { text: "", group: given[0], order: "ends" }, today());
 return performance.now() - begun;
 """
 
@@ -78,9 +100,7 @@ def searches(count):
         slowest = max(slowest, browser.run(TIME, "#search-order", order, "change"))
         rows.append(rows_drawn())
     for group in ("sale", "passed", "grace", "comes", "all"):
-        taken = browser.run_later("const { found } = await import('/broker/groups.js'); const { ledger } = await import('/broker/ledger.js'); const days = await import('/shared/days.js');"
-                                  " const begun = performance.now(); found(ledger(), { text: '', group: given[0], order: 'ends' }, days.today()); return performance.now() - begun", group)
-        slowest = max(slowest, taken)
+        slowest = max(slowest, browser.run_later(FILTER, group))
     return slowest, max(rows)
 
 
@@ -91,14 +111,20 @@ def rows_drawn():
 def scrolled(count):
     """Rows are drawn where one scrolls to, down to the last."""
     browser.run("document.querySelector('.rows').scrollTop = 1e9")
-    browser.until("return [...document.querySelectorAll('.row')].some((one) => one.ariaPosInSet === arguments[0])", "the last row", str(count))
+    browser.until(
+        "return [...document.querySelectorAll('.row')].some((one) => one.ariaPosInSet === arguments[0])",
+        "the last row", str(count),
+    )
     return rows_drawn()
 
 
 def due():
     part("due")
     browser.says("Can be sold now", "#due")
-    taken = browser.run_later("const { showDue } = await import('/broker/due.js'); const begun = performance.now(); showDue(); document.body.offsetHeight; return performance.now() - begun")
+    taken = browser.run_later(
+        "const { showDue } = await import('/broker/due.js'); const begun = performance.now(); showDue(); "
+        "document.body.offsetHeight; return performance.now() - begun"
+    )
     return taken, rows_drawn()
 
 
@@ -114,7 +140,11 @@ def a_book_of(count):
         before = kept()
         begun = time.monotonic()
         open_book(pages)
-        browser.until("return document.querySelector('#sheet .card') && document.querySelector('#book-age').textContent.startsWith('The book was read ')", "the first screen", patience=60)
+        browser.until(
+            "return document.querySelector('#sheet .card') && "
+            "document.querySelector('#book-age').textContent.startsWith('The book was read ')",
+            "the first screen", patience=60,
+        )
         ready = (time.monotonic() - begun) * 1000
         browser.says("Waiting for an answer, on any day", "#sheet")
         expect("who waits", browser.run("return document.querySelectorAll('#sheet .lines li').length > 0"), True)
@@ -123,7 +153,13 @@ def a_book_of(count):
         rows = max(rows, scrolled(count))
         taken, due_rows = due()
         memory = kept() - before
-        tell(count, [f"{size:.1f} MB", f"first screen and whole book {ready:.0f} ms", f"slowest find {found:.0f} ms", f"Due {taken:.0f} ms", f"at most {max(rows, due_rows)} rows", f"{memory:.0f} MB kept"])
+        tell(
+            count,
+            [
+                f"{size:.1f} MB", f"first screen and whole book {ready:.0f} ms", f"slowest find {found:.0f} ms",
+                f"Due {taken:.0f} ms", f"at most {max(rows, due_rows)} rows", f"{memory:.0f} MB kept",
+            ],
+        )
         for what, value, wanted in (("the first screen", ready, READY), ("a find", found, FOUND), ("Due", taken, DUE)):
             is_within(what, value, wanted)
         expect("few rows", max(rows, due_rows) <= ROWS, True)

@@ -1,12 +1,15 @@
 #!/usr/bin/env python3
-"""The life of pledges on both pages, in a real browser, by the real nginx, in front of the program. Pictures are left in build/pages/."""
+"""The life of pledges on both pages, in a real browser, by the real nginx, in front of the program. Pictures are left
+in build/pages/."""
 import datetime
 import os
 import re
 
 from browser import Pages, wait_for
-from pages_steps import (SHOP, WRONG_SECRET, ago, book_text, browser, command, drive, entries, find, in_words, make_book, no_faults, open_book, part, receipts_made,
-                         show_receipt, take_a_ring, unfold)
+from pages_steps import (
+    SHOP, WRONG_SECRET, ago, book_text, browser, command, drive, entries, find, in_words, make_book, no_faults,
+    open_book, part, receipts_made, show_receipt, take_a_ring, unfold,
+)
 from service import BROKER, expect, six_months_after, today
 
 EVIL = "<img src=x onerror=document.title='ran'>"
@@ -128,14 +131,19 @@ def a_running_account_and_what_is_refused():
         receipt = browser.text(".paper .secret").strip()
         find("R/1")
         browser.says("a running account up to £1,000.00", "#statement")
-        for amount, says in (("250", "Drawn: £250.00"), ("750.01", "Drawing that much would pass the limit"), ("0", "at least a penny"), ("ten", "Write the amount in pounds")):
+        for amount, says in (
+            ("250", "Drawn: £250.00"), ("750.01", "Drawing that much would pass the limit"), ("0", "at least a penny"),
+            ("ten", "Write the amount in pounds"),
+        ):
             command("Drawing", "Record the drawing", amount=amount)
             browser.says(says, "#commands")
         browser.says("£250.00 owed today", "#statement")
         browser.press(".action[open] > summary")
         command("Replace a lost receipt", "Make a new receipt", "broker-commands", paper="written")
         browser.press("dialog button", "Make a new receipt")
-        browser.says("A written statement is enough only for credit up to £75.00. Ask for a sworn declaration.", "#commands")
+        browser.says(
+            "A written statement is enough only for credit up to £75.00. Ask for a sworn declaration.", "#commands"
+        )
         command("Sale", "Record the sale", amount="10")
         browser.press("dialog button", "Sold for £10.00")
         browser.says("The pledge can’t be sold yet", "#commands")
@@ -186,7 +194,10 @@ def wrong_keys_and_receipts():
         browser.press("#open button")
         browser.says("That is no key.", "#open")
         browser.go(pages.address + "/pawn/")
-        for book, typed, says in (("x", receipt, "The book is a number"), ("7", "1-12", "That is no receipt."), ("7", "1-" + "g" * 36, "That is no receipt.")):
+        for book, typed, says in (
+            ("x", receipt, "The book is a number"), ("7", "1-12", "That is no receipt."),
+            ("7", "1-" + "g" * 36, "That is no receipt."),
+        ):
             browser.fill("#find", book=book, receipts=typed)
             browser.press("#find button")
             browser.says(says, "#find")
@@ -219,15 +230,24 @@ def a_text_of_markup_stays_a_text():
             return [document.images.length, document.title, held];""")
         expect("nothing ran", found, [0, "Your pledge", "yes"])
         browser.faults()
-        expect("other places can't be asked", browser.run_later("return fetch('http://localhost:1/').then(() => 'asked', () => 'refused')"), "refused")
+        expect(
+            "other places can't be asked",
+            browser.run_later("return fetch('http://localhost:1/').then(() => 'asked', () => 'refused')"), "refused",
+        )
         browser.faults()
 
 
 def ended_periods():
-    """A book of six pledges: to be sold, passed, in grace, ending today, running, and to be sold after days of grace."""
+    """A book of six pledges: to be sold, passed, in grace, ending today, running, and to be sold after days of
+    grace."""
     long_ago = ago(220)
-    return book_text([("Silver, old", "S1", 10000, long_ago, "", "no"), ("Watch", "S2", 5000, long_ago, "", "no"), ('"Big" clock', "S3", 9000, long_ago, ago(2), "yes"),
-                      ("Brooch", "S4", 8000, long_ago, today(), "no"), ("Violin", "S5", 20000, today(), "", "no"), ("Lamp", "S6", 5000, long_ago, ago(9), "yes")])
+    return book_text(
+        [
+            ("Silver, old", "S1", 10000, long_ago, "", "no"), ("Watch", "S2", 5000, long_ago, "", "no"),
+            ('"Big" clock', "S3", 9000, long_ago, ago(2), "yes"), ("Brooch", "S4", 8000, long_ago, today(), "no"),
+            ("Violin", "S5", 20000, today(), "", "no"), ("Lamp", "S6", 5000, long_ago, ago(9), "yes"),
+        ]
+    )
 
 
 def what_is_due_and_the_book_as_a_file():
@@ -250,7 +270,10 @@ def what_is_due_and_the_book_as_a_file():
         browser.shoot("broker-files")
         part("due")
         browser.says("Silver, old", "#due-lists")
-        lists = browser.run("return [...document.querySelectorAll('#due-lists .card')].map((card) => [...card.querySelectorAll('tbody tr')].map((row) => row.cells[0].textContent))")
+        lists = browser.run(
+            "return [...document.querySelectorAll('#due-lists .card')].map((card) => "
+            "[...card.querySelectorAll('tbody tr')].map((row) => row.cells[0].textContent))"
+        )
         expect("what is due", lists, [["3"], ["4"], [], [], ["1", "6"], ["2"]])
         browser.shoot("broker-due")
         sell_and_show_ended(pages)
@@ -266,7 +289,10 @@ def sell_and_show_ended(pages):
     browser.forget()
     wanted = "&".join(f"receipt={number}-{number:08}-0000-4000-8000-000000000000" for number in (1, 2, 3, 6))
     browser.go(f"{pages.address}/pawn/#book=7&{wanted}")
-    for says in ("Sold on", "The article belongs to the pawnbroker now", "days of grace run", "You can still fetch it, until the shop sells it"):
+    for says in (
+        "Sold on", "The article belongs to the pawnbroker now", "days of grace run",
+        "You can still fetch it, until the shop sells it",
+    ):
         browser.says(says, "#cards")
     browser.shoot("pawn-ended")
     no_faults()
@@ -322,5 +348,11 @@ def a_service_that_is_down():
         no_faults()
 
 
-drive(115, (), (the_life_of_a_pledge, a_running_account_and_what_is_refused, a_lost_receipt_is_replaced, wrong_keys_and_receipts, a_text_of_markup_stays_a_text,
-                what_is_due_and_the_book_as_a_file, replies_that_are_lost, a_service_that_is_down))
+drive(
+    115, (),
+    (
+        the_life_of_a_pledge, a_running_account_and_what_is_refused, a_lost_receipt_is_replaced,
+        wrong_keys_and_receipts, a_text_of_markup_stays_a_text, what_is_due_and_the_book_as_a_file,
+        replies_that_are_lost, a_service_that_is_down,
+    ),
+)

@@ -1,9 +1,13 @@
 #!/usr/bin/env python3
-"""What the pawnor's page once said that was not so, each as it was found, and its words; in a real browser, by the real nginx, in front of the program."""
+"""What the pawnor's page once said that was not so, each as it was found, and its words; in a real browser, by the real
+nginx, in front of the program."""
 import re
 
 from browser import Pages, wait_for
-from pages_steps import (agree, ago, browser, command, drive, entries, in_short, in_words, make_book, no_faults, open_book, show_receipt, take_a_ring)
+from pages_steps import (
+    agree, ago, browser, command, drive, entries, in_short, in_words, make_book, no_faults, open_book, show_receipt,
+    take_a_ring,
+)
 from service import expect, six_months_after, today
 
 
@@ -61,14 +65,22 @@ def without_a_line():
         command("Record a part payment", "Record the payment", amount="10")
         browser.press("dialog button", "Yes, £10.00 was received")
         browser.says("The pledge can’t be shown just now", "#cards", patience=20)
-        expect("no word that nothing was done", [says for says in ("Nothing was done", "was not done", "was not sent") if says in browser.text("#cards")], [])
+        expect(
+            "no word that nothing was done",
+            [says for says in ("Nothing was done", "was not done", "was not sent") if says in browser.text("#cards")],
+            [],
+        )
         browser.devtools("Network.emulateNetworkConditions", offline=False, **line)
         browser.press("button", "Try again")
         browser.says("£100.00 owed today", "#cards")
         command("Redeem", "Redeem for £100.00")
         browser.press("dialog button", "Not yet")
         browser.says("Nothing was done.", "#cards")
-        expect("and is not told as done", browser.run("return [...document.querySelectorAll('.notice')].find((one) => one.textContent).className"), "notice quiet")
+        expect(
+            "and is not told as done",
+            browser.run("return [...document.querySelectorAll('.notice')].find((one) => one.textContent).className"),
+            "notice quiet",
+        )
 
 
 def a_payment_whose_reply_is_lost_for_good():
@@ -107,7 +119,10 @@ def receipts_as_people_write_them():
         receipt = pages.session.open_pledge(1)
         link = f"{pages.address}/pawn/#book=7&receipt={receipt}"
         number, secret = receipt.split("-", 1)
-        spelled = (receipt.upper(), receipt.replace("-", "–"), f" {number} - {secret.replace('-', ' ')} ", secret and f"{number}-{secret.replace('-', '')}", f"{number}—{{{secret}}}", f"{number}-urn:uuid:{secret}")
+        spelled = (
+            receipt.upper(), receipt.replace("-", "–"), f" {number} - {secret.replace('-', ' ')} ",
+            secret and f"{number}-{secret.replace('-', '')}", f"{number}—{{{secret}}}", f"{number}-urn:uuid:{secret}",
+        )
         for typed in spelled:
             type_receipts(pages, typed, "7")
             browser.says("Gold ring", "#cards")
@@ -116,7 +131,10 @@ def receipts_as_people_write_them():
             browser.says("Gold ring", "#cards")
         type_receipts(pages, receipt)
         browser.says("Type the number of the shop’s book too", "#find")
-        expect("its field is marked", browser.run("return document.activeElement.name + document.activeElement.ariaInvalid"), "booktrue")
+        expect(
+            "its field is marked",
+            browser.run("return document.activeElement.name + document.activeElement.ariaInvalid"), "booktrue",
+        )
         no_faults()
 
 
@@ -127,7 +145,10 @@ def forty_receipts_at_once():
         joined = browser_joins(pages, receipts[:2])
         expect("a browser joins equal fields, and two receipts in one are none", joined, 710)
         type_receipts(pages, "\n".join(receipts), "7")
-        wait_for(lambda: browser.run("return document.querySelectorAll('.card.pledge .amount').length") == 40, "forty pledges", 40)
+        wait_for(
+            lambda: browser.run("return document.querySelectorAll('.card.pledge .amount').length") == 40,
+            "forty pledges", 40,
+        )
         browser.says("Ring 40", "#cards")
         expect("none was refused", browser.text("#cards").count("can’t be shown"), 0)
 
@@ -145,7 +166,10 @@ def the_link_names_the_shop():
         make_book(pages)
         open_book(pages)
         receipt, link = take_a_ring()
-        expect("the link", re.sub(r"^.*#", "", link), f"book=7&receipt={receipt}&shop=High+Street+Pawnbrokers&rate=%C2%A38.00+in+30+days+on+%C2%A3100")
+        expect(
+            "the link", re.sub(r"^.*#", "", link),
+            f"book=7&receipt={receipt}&shop=High+Street+Pawnbrokers&rate=%C2%A38.00+in+30+days+on+%C2%A3100",
+        )
         browser.forget()
         browser.go(link)
         browser.says("Pledge 1 at High Street Pawnbrokers", "#cards")
@@ -154,15 +178,29 @@ def the_link_names_the_shop():
         browser.says("Pledge 1 at High Street Pawnbrokers", "#cards")
         browser.shoot("pawn-shop")
         browser.forget()
-        browser.go(f"{pages.address}/pawn/#book=7&receipt={receipt}&shop=%3Cimg%20src%3Dx%20onerror%3D%22document.title%3D'ran'%22%3E")
+        browser.go(
+            f"{pages.address}/pawn/#book=7&receipt={receipt}&"
+            f"shop=%3Cimg%20src%3Dx%20onerror%3D%22document.title%3D'ran'%22%3E"
+        )
         browser.says("at <img src=x", "#cards")
-        expect("a shop of markup stays a text", browser.run("return [document.images.length, document.title]"), [0, "Your pledge"])
+        expect(
+            "a shop of markup stays a text", browser.run("return [document.images.length, document.title]"),
+            [0, "Your pledge"],
+        )
         browser.forget()
         browser.go(f"{pages.address}/pawn/#book=7&receipt={receipt}")
         browser.says("Gold ring", "#cards")
-        expect("an older link, and no word of clerks", [word for word in ("book 7", "not live", "Running") if word in browser.text("#cards")], [])
+        expect(
+            "an older link, and no word of clerks",
+            [word for word in ("book 7", "not live", "Running") if word in browser.text("#cards")], [],
+        )
         no_faults()
 
 
-drive(115, (), (two_equal_payments_are_two, what_the_page_says_of_links, without_a_line, a_payment_whose_reply_is_lost_for_good, a_visit_after_the_end,
-                receipts_as_people_write_them, forty_receipts_at_once, the_link_names_the_shop))
+drive(
+    115, (),
+    (
+        two_equal_payments_are_two, what_the_page_says_of_links, without_a_line, a_payment_whose_reply_is_lost_for_good,
+        a_visit_after_the_end, receipts_as_people_write_them, forty_receipts_at_once, the_link_names_the_shop,
+    ),
+)

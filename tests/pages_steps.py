@@ -20,7 +20,10 @@ def read(*path):
 
 def files(*ends):
     """The pages' files of these endings, by their paths."""
-    return sorted(os.path.relpath(os.path.join(folder, name), TOP) for folder, _, names in os.walk(WEB) for name in names if name.endswith(ends))
+    return sorted(
+        os.path.relpath(os.path.join(folder, name), TOP)
+        for folder, _, names in os.walk(WEB) for name in names if name.endswith(ends)
+    )
 
 
 def in_words(day):
@@ -32,7 +35,9 @@ def in_short(day):
 
 
 def make_book(pages, book=7, terms=True):
-    made = pages.session.ask("POST", f"/books/{book}", {"capacity": 2, "key": BROKER, "name": "High Street"}, Pledge_Key=OPERATOR)
+    made = pages.session.ask(
+        "POST", f"/books/{book}", {"capacity": 2, "key": BROKER, "name": "High Street"}, Pledge_Key=OPERATOR,
+    )
     expect("a book", made, (200, {"book": book}))
     if terms:
         put = {"keep_after": 0, "keep_before": 0, "rate": 2667, "version": 1}
@@ -90,7 +95,10 @@ def receipts_made(pages, number, book=7):
 def no_faults():
     """Nothing was complained of but by pages of tests before, whose service is gone."""
     origin = browser.run("return location.origin")
-    expect("the console", [said for said in browser.faults() if said.startswith(origin) or not said.startswith("http://localhost:")], [])
+    expect(
+        "the console",
+        [said for said in browser.faults() if said.startswith(origin) or not said.startswith("http://localhost:")], [],
+    )
 
 
 def agree(patience=2):
@@ -129,8 +137,11 @@ def secret_of(number):
 
 
 def book_text(pledges, rates=(2667, 1000000, 500000), version=2):
-    """The text of a book of these pledges: article, reference, pence, day taken, agreed end or an empty text, five days."""
-    rows = [row("row", *(f"c{place}" for place in range(1, 15))), row("B", version, 1, len(pledges)), row("T", 1, *rates)]
+    """The text of a book of these pledges: article, reference, pence, day taken, agreed end or an empty text, five
+    days."""
+    rows = [
+        row("row", *(f"c{place}" for place in range(1, 15))), row("B", version, 1, len(pledges)), row("T", 1, *rates),
+    ]
     for number, (article, reference, pence, taken, agreed, five) in enumerate(pledges, 1):
         quoted = '"' + article.replace('"', '""') + '"' if set(article) & set(',"') else article
         rows.append(row("P", number, reference, quoted, "fixed", pence, taken, agreed, five, 1, "no", taken, "open"))

@@ -5,12 +5,18 @@ GENERATOR = [1]
 for _ in range(254):
     GENERATOR.append(GENERATOR[-1] << 1 if GENERATOR[-1] < 128 else GENERATOR[-1] << 1 ^ 0x11d)
 
-# Where the alignment marks' centres stand, and how the bytes are parted: by the standard's tables, version and level to blocks, their bytes and their data.
-CENTRES = {6: (6, 34), 7: (6, 22, 38), 8: (6, 24, 42), 9: (6, 26, 46), 10: (6, 28, 50), 11: (6, 30, 54), 12: (6, 32, 58), 13: (6, 34, 62), 14: (6, 26, 46, 66), 15: (6, 26, 48, 70)}
+# Where the alignment marks' centres stand, and how the bytes are parted: by the standard's tables, version and level to
+# blocks, their bytes and their data.
+CENTRES = {
+    6: (6, 34), 7: (6, 22, 38), 8: (6, 24, 42), 9: (6, 26, 46), 10: (6, 28, 50), 11: (6, 30, 54), 12: (6, 32, 58),
+    13: (6, 34, 62), 14: (6, 26, 46, 66), 15: (6, 26, 48, 70),
+}
 BLOCKS = {
-    (6, "M"): ((4, 43, 27),), (7, "M"): ((4, 49, 31),), (8, "M"): ((2, 60, 38), (2, 61, 39)), (9, "M"): ((3, 58, 36), (2, 59, 37)),
-    (6, "L"): ((2, 86, 68),), (7, "L"): ((2, 98, 78),), (8, "L"): ((2, 121, 97),), (9, "L"): ((2, 146, 116),), (10, "L"): ((2, 86, 68), (2, 87, 69)), (11, "L"): ((4, 101, 81),),
-    (12, "L"): ((2, 116, 92), (2, 117, 93)), (13, "L"): ((4, 133, 107),), (14, "L"): ((3, 145, 115), (1, 146, 116)), (15, "L"): ((5, 109, 87), (1, 110, 88)),
+    (6, "M"): ((4, 43, 27),), (7, "M"): ((4, 49, 31),), (8, "M"): ((2, 60, 38), (2, 61, 39)),
+    (9, "M"): ((3, 58, 36), (2, 59, 37)), (6, "L"): ((2, 86, 68),), (7, "L"): ((2, 98, 78),), (8, "L"): ((2, 121, 97),),
+    (9, "L"): ((2, 146, 116),), (10, "L"): ((2, 86, 68), (2, 87, 69)), (11, "L"): ((4, 101, 81),),
+    (12, "L"): ((2, 116, 92), (2, 117, 93)), (13, "L"): ((4, 133, 107),), (14, "L"): ((3, 145, 115), (1, 146, 116)),
+    (15, "L"): ((5, 109, 87), (1, 110, 88)),
 }
 
 
@@ -19,12 +25,16 @@ def times(first, second):
 
 
 def is_frame(column, row, size):
-    """Whether something other than bytes stands there: finders with their format, timing, alignment marks, the version."""
+    """Whether something other than bytes stands there: finders with their format, timing, alignment marks, the
+    version."""
     corner = (column < 9 and row < 9) or (column < 9 and row > size - 9) or (column > size - 9 and row < 9)
     version = size > 41 and ((column < 6 and row > size - 12) or (row < 6 and column > size - 12))
     centres = CENTRES[(size - 17) // 4]
     ends = {(6, 6), (6, centres[-1]), (centres[-1], 6)}
-    marks = any(abs(column - across) < 3 and abs(row - down) < 3 for across in centres for down in centres if (across, down) not in ends)
+    marks = any(
+        abs(column - across) < 3 and abs(row - down) < 3
+        for across in centres for down in centres if (across, down) not in ends
+    )
     return corner or version or 6 in (column, row) or marks
 
 

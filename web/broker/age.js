@@ -18,7 +18,11 @@ export function showAge() {
   byId("book-bar").hidden = !reading;
   byId("read-book").disabled = reading;
   const age = ledger() ? ageInWords(readAt) : "The book was not read yet.";
-  byId("book-age").textContent = reading ? "The book is being read." : fault ? `${age} It could not be read anew: ${tellFault(fault, "broker")}` : age;
+  byId("book-age").textContent = reading
+    ? "The book is being read."
+    : fault
+    ? `${age} It could not be read anew: ${tellFault(fault, "broker")}`
+    : age;
   byId("book-age").classList.toggle("stale", fault !== null && !reading);
 }
 

@@ -10,7 +10,10 @@ import { ledger } from "./ledger.js";
 import { openReceipt } from "./pledge.js";
 import { Rows } from "./rows.js";
 
-const STATES = { inside: "in its period", grace: "in grace", realisable: "can be sold", passed: "passed", redeemed: "redeemed", sold: "sold" };
+const STATES = {
+  inside: "in its period", grace: "in grace", realisable: "can be sold", passed: "passed", redeemed: "redeemed",
+  sold: "sold",
+};
 
 const form = () => byId("searching");
 
@@ -21,9 +24,13 @@ function drawRow(pledge) {
   const when = state === "open" ? `ends ${inShort(ends)}` : inShort(closed);
   return make("a", { href: `#pledge=${number}`, className: "row-link" },
     make("span", { className: "row-number" }, String(number)),
-    make("span", { className: "row-article" }, foreign(article), make("span", { className: "reference" }, foreign(reference))),
+    make(
+      "span", { className: "row-article" }, foreign(article),
+      make("span", { className: "reference" }, foreign(reference)),
+    ),
     make("span", { className: "row-sum" }, inPounds(pence)),
-    make("span", { className: "row-state" }, STATES[statusOn(pledge, today())], make("span", { className: "reference" }, when)));
+    make("span", { className: "row-state" }, STATES[statusOn(pledge, today())],
+      make("span", { className: "reference" }, when)));
 }
 
 /** Finds and shows what the form says. */
@@ -32,7 +39,8 @@ function search(stay = false) {
   if (book === null) return;
   const { text, group, order } = Object.fromEntries(new FormData(form()));
   const pledges = found(book, { text, group, order }, today());
-  byId("search-count").textContent = `${pledges.length.toLocaleString("en-GB")} of ${book.pledges.length.toLocaleString("en-GB")} pledges`;
+  byId("search-count").textContent =
+    `${pledges.length.toLocaleString("en-GB")} of ${book.pledges.length.toLocaleString("en-GB")} pledges`;
   rows.show(pledges, stay);
 }
 
@@ -46,7 +54,9 @@ export function setUpAll() {
   byId("all-rows").append(rows.whole);
   elements.text.addEventListener("input", () => search());
   elements.order.addEventListener("change", () => search());
-  elements.group.addEventListener("change", () => { location.hash = elements.group.value === "all" ? "all" : `all=${elements.group.value}`; });
+  elements.group.addEventListener(
+    "change", () => { location.hash = elements.group.value === "all" ? "all" : `all=${elements.group.value}`; },
+  );
   const notice = form().appendChild(makeNotice());
   form().addEventListener("submit", (event) => {
     event.preventDefault();

@@ -1,4 +1,7 @@
-/** The broker's page: opening the book, and going from part to part. The address names the part, the pledge and the day, and no secret. */
+/**
+ * The broker's page: opening the book, and going from part to part. The address names the part, the pledge and the day,
+ * and no secret.
+ */
 import { byId } from "/shared/dom.js";
 import { inShort, today } from "/shared/days.js";
 import { onSend, tell } from "/shared/forms.js";
@@ -18,10 +21,13 @@ import { clearToday, redrawToday, setUpToday, showToday } from "./today.js";
 
 /** What each part does when it is gone to. What follows an equals sign in the address is handed to it. */
 const PARTS = {
-  today: showToday, take: showTaking, pledge: showPledge, all: showAll, due: showDue, till: showTill, terms: showTerms, files: () => {}, shop: showShop,
+  today: showToday, take: showTaking, pledge: showPledge, all: showAll, due: showDue, till: showTill, terms: showTerms,
+  files: () => {}, shop: showShop,
 };
 /** What each part draws anew when the book was read or mended. */
-const FROM_BOOK = { today: redrawToday, take: showTaking, pledge: redrawPledge, all: showAll, due: showDue, till: showTill };
+const FROM_BOOK = {
+  today: redrawToday, take: showTaking, pledge: redrawPledge, all: showAll, due: showDue, till: showTill,
+};
 const TICK = 20_000;
 
 let day = today();
@@ -116,7 +122,9 @@ onLedger(({ sort }) => {
   if (["read", "mended"].includes(sort) && !ledgerState().reading) FROM_BOOK[name]?.(detail);
 });
 
-[setUpAge, setUpToday, setUpTaking, setUpFinding, setUpAll, setUpTill, setUpTerms, setUpFiles].forEach((setUp) => setUp());
+[
+  setUpAge, setUpToday, setUpTaking, setUpFinding, setUpAll, setUpTill, setUpTerms, setUpFiles,
+].forEach((setUp) => setUp());
 setUpShop(showWhose);
 addEventListener("hashchange", () => showPart({ focus: true }));
 document.addEventListener("visibilitychange", tick);

@@ -1,4 +1,7 @@
-/** The commands on a pledge, each with its form. What would be refused now stands apart, with the reason; the service decides. */
+/**
+ * The commands on a pledge, each with its form. What would be refused now stands apart, with the reason; the service
+ * decides.
+ */
 import { make } from "/shared/dom.js";
 import { inShort, inWords } from "/shared/days.js";
 import { buttons, field, fold } from "/shared/forms.js";
@@ -28,7 +31,10 @@ const entry = (shown, desk, sort, amount) => recordEntry({
 const repayment = (statement, desk) => ({
   title: "Repayment",
   barred: null,
-  parts: [lead("Money that you have received. It goes to charges first, then to what was lent."), amountField("Received, in pounds"), buttons(button("Record the repayment"))],
+  parts: [
+    lead("Money that you have received. It goes to charges first, then to what was lent."),
+    amountField("Received, in pounds"), buttons(button("Record the repayment")),
+  ],
   act: ({ amount }) => entry(statement, desk, "repay", amount),
 });
 
@@ -37,25 +43,36 @@ function drawing(statement, desk) {
   return {
     title: "Drawing",
     barred: fixed ?? (statement.status === "inside" ? null : "The period is over."),
-    parts: [lead("Money that you pay out on a running account, up to its limit."), amountField("Paid out, in pounds"), buttons(button("Record the drawing"))],
+    parts: [
+      lead("Money that you pay out on a running account, up to its limit."), amountField("Paid out, in pounds"),
+      buttons(button("Record the drawing")),
+    ],
     act: ({ amount }) => entry(statement, desk, "draw", amount),
   };
 }
 
 const visitOn = ({ day, window }) => `${inWords(day)}, ${windowInWords(window)}`;
-const isSameVisit = (one, other) => one?.day === other?.day && one?.window === other?.window && one?.state === other?.state;
+const isSameVisit = (one, other) =>
+  one?.day === other?.day && one?.window === other?.window && one?.state === other?.state;
 
 /** Decides on the visit that is shown, if it is still the one that stands; and tells the one that was decided on. */
 async function decide(shown, yes, desk) {
   const { booking } = await desk.read();
   if (!isSameVisit(shown, booking)) {
     const now = booking ? ` Now it stands so: ${bookingInWords(booking)}.` : "";
-    return { sentence: `The visit was changed since it was shown, so nothing was decided.${now} Decide on this one.`, tone: "bad" };
+    return {
+      sentence: `The visit was changed since it was shown, so nothing was decided.${now} Decide on this one.`,
+      tone: "bad",
+    };
   }
   const { said } = await desk.command("decide", { yes }, true);
   const done = `The visit on ${visitOn(said)} is ${said.booking}.`;
   if (said.day === booking.day && said.window === booking.window) return done;
-  return { sentence: `${done} It is another one than was shown: the pawnor changed it at the same time. Decide again if it does not suit.`, tone: "bad" };
+  return {
+    sentence: `${done} It is another one than was shown: the pawnor changed it at the same time. `
+      + `Decide again if it does not suit.`,
+    tone: "bad",
+  };
 }
 
 function visit({ booking }, desk) {
@@ -63,7 +80,10 @@ function visit({ booking }, desk) {
   return {
     title: "Visit",
     barred: waits ? null : "No visit of this pledge waits for an answer.",
-    parts: [lead(booking ? `${bookingInWords(booking)}.` : "The pawnor asks for a day and a time."), buttons(button("Confirm", "yes"), button("Refuse", "no", "plain"))],
+    parts: [
+      lead(booking ? `${bookingInWords(booking)}.` : "The pawnor asks for a day and a time."),
+      buttons(button("Confirm", "yes"), button("Refuse", "no", "plain")),
+    ],
     act: ({ button: value }) => decide(booking, value === "yes", desk),
   };
 }
@@ -72,7 +92,8 @@ const extension = ({ status, ends }, desk) => ({
   title: "Extend the period",
   barred: status === "inside" ? null : "The period is over.",
   parts: [lead(`You and the pawnor agree on a later end than ${inWords(ends)}. It can’t be made earlier again.`),
-    field("New end", make("input", { type: "date", name: "until", min: ends, required: true })), buttons(button("Extend"))],
+    field("New end", make("input", { type: "date", name: "until", min: ends, required: true })),
+    buttons(button("Extend"))],
   act: async ({ until }) => {
     if (until <= ends) throw new Unreadable(`The new end is to be after ${inShort(ends)}.`, "until");
     const { said } = await desk.command("extend", { until }, true);
@@ -83,7 +104,10 @@ const extension = ({ status, ends }, desk) => ({
 const hold = ({ held }, desk) => ({
   title: held ? "Release the hold" : "Put on hold",
   barred: null,
-  parts: [lead(held ? "Redemption is barred now. Releasing the hold allows it again." : "A hold bars redemption until you release it."),
+  parts: [
+    lead(held
+      ? "Redemption is barred now. Releasing the hold allows it again."
+      : "A hold bars redemption until you release it."),
     buttons(button(held ? "Release" : "Hold"))],
   act: async () => {
     const { said } = await desk.command(held ? "release" : "hold", undefined, true);
@@ -91,13 +115,20 @@ const hold = ({ held }, desk) => ({
   },
 });
 
-/** The folds of all commands: those for now first. Of a pledge that is over only the receipt can be printed, if it has one. */
+/**
+ * The folds of all commands: those for now first. Of a pledge that is over only the receipt can be printed, if it has
+ * one.
+ */
 export function commandsOf(statement, desk) {
   const open = ["inside", "grace", "realisable"].includes(statement.status);
   const over = make("p", { className: "empty" }, "This pledge is over: nothing more is done on it.");
   if (!open) return statement.status === "redeemed" ? [over] : [over, foldOf(printing(statement, desk), desk)];
-  const all = [visit, repayment, drawing, redemption, extension, hold, printing, replacement, sale].map((of) => of(statement, desk));
+  const all = [
+    visit, repayment, drawing, redemption, extension, hold, printing, replacement, sale,
+  ].map((of) => of(statement, desk));
   const now = all.filter(({ barred }) => !barred).map((one) => foldOf(one, desk));
   const later = all.filter(({ barred }) => barred).map((one) => foldOf(one, desk));
-  return [make("h2", {}, "What you can do now"), ...now, ...(later.length > 0 ? [make("h3", {}, "Not now"), ...later] : [])];
+  return [
+    make("h2", {}, "What you can do now"), ...now, ...(later.length > 0 ? [make("h3", {}, "Not now"), ...later] : [])
+  ];
 }

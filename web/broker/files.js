@@ -9,9 +9,14 @@ import { askBook, current } from "./session.js";
 const LONGEST = 1_048_576;
 const KEY_BYTES = 16;
 
-/** The key of an import: the beginning of the file's SHA-256, so that the same file is the same import, whenever and wherever it is sent. */
+/**
+ * The key of an import: the beginning of the file's SHA-256, so that the same file is the same import, whenever and
+ * wherever it is sent.
+ */
 async function keyOf(bytes) {
-  if (!crypto.subtle) throw new Unreadable("A file can only be sent where this page was opened by https, or on this machine.");
+  if (!crypto.subtle) throw new Unreadable(
+    "A file can only be sent where this page was opened by https, or on this machine."
+  );
   const digest = new Uint8Array(await crypto.subtle.digest("SHA-256", bytes));
   return [...digest.slice(0, KEY_BYTES)].map((byte) => byte.toString(16).padStart(2, "0")).join("");
 }
@@ -26,11 +31,15 @@ async function saveBook() {
 
 async function fillBook({ file }) {
   if (!file?.name) throw new Unreadable("Choose a file.", "file");
-  if (file.size > LONGEST) throw new Unreadable("The file is above a mebibyte. A book as large as that is moved by whoever runs the service.", "file");
+  if (file.size > LONGEST) throw new Unreadable(
+    "The file is above a mebibyte. A book as large as that is moved by whoever runs the service.", "file",
+  );
   const importKey = await keyOf(await file.arrayBuffer());
   const { said } = await askBook("POST", "/import", { body: await file.text(), harmless: true, importKey });
   readLedger().catch(() => {});
-  return said.imported === 1 ? "The book is filled: 1 pledge came." : `The book is filled: ${said.imported} pledges came.`;
+  return said.imported === 1
+    ? "The book is filled: 1 pledge came."
+    : `The book is filled: ${said.imported} pledges came.`;
 }
 
 export function setUpFiles() {

@@ -37,7 +37,10 @@ async function meantBy(wanted) {
 function choice({ number, as }) {
   const pledge = pledgeOf(number);
   const what = pledge ? [": ", foreign(pledge.article), ", reference ", foreign(pledge.reference)] : [];
-  return make("li", {}, make("a", { href: `#pledge=${number}`, className: "pledge-link" }, `Pledge ${number}`), ...what, `, by its ${as}`);
+  return make(
+    "li", {}, make("a", { href: `#pledge=${number}`, className: "pledge-link" }, `Pledge ${number}`), ...what,
+    `, by its ${as}`,
+  );
 }
 
 async function find({ wanted: typed }) {
@@ -50,7 +53,10 @@ async function find({ wanted: typed }) {
     await readLedger();
     meant = await meantBy(wanted);
   }
-  if (meant.length === 0) throw new Unreadable("The book has no pledge of that number or reference. “All pledges” finds parts of an article or reference.", "wanted");
+  if (meant.length === 0) throw new Unreadable(
+    "The book has no pledge of that number or reference. “All pledges” finds parts of an article or reference.",
+    "wanted",
+  );
   if (meant.length === 1) {
     await goTo(meant[0].number);
     return "";

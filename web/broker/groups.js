@@ -50,7 +50,9 @@ export function dueOf(book, now) {
 export function waiting(book) {
   const asked = book.pledges.filter(({ state, booking }) => state === "open" && booking?.state === "asked");
   const key = ({ booking }) => `${booking.day} ${String(booking.window).padStart(2, "0")}`;
-  return asked.sort((one, other) => (key(one) < key(other) ? -1 : key(one) > key(other) ? 1 : one.number - other.number));
+  return asked.sort(
+    (one, other) => (key(one) < key(other) ? -1 : key(one) > key(other) ? 1 : one.number - other.number)
+  );
 }
 
 /** What a typed text is looked for in. It is made once for each pledge. */

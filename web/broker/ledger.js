@@ -1,5 +1,6 @@
 /**
- * The book in the page: read whole from the export, the only list that the service has, and mended after each command by the
+ * The book in the page: read whole from the export, the only list that the service has, and mended after each command
+ * by the
  * statement of its pledge. It finds and sorts. What is said of one pledge is its statement, read just then.
  */
 import { today } from "/shared/days.js";
@@ -41,7 +42,9 @@ export function forgetLedger() {
 async function read() {
   const mine = reading;
   try {
-    const { text } = await askBook("GET", "/export", { watch: (part) => mine === reading && told({ sort: "progress", part }) });
+    const { text } = await askBook(
+      "GET", "/export", { watch: (part) => mine === reading && told({ sort: "progress", part }) },
+    );
     const found = readBook(text);
     if (mine !== reading) return;
     [book, readAt, fault, isStale] = [found, Date.now(), null, false];
@@ -94,7 +97,10 @@ export function withReference(reference) {
 
 const isPair = (one, other) => one?.day === other?.day && one?.window === other?.window && one?.state === other?.state;
 
-/** Whether a statement tells what the book in the page does not know: after a command of this page's own, another entry beside its own. */
+/**
+ * Whether a statement tells what the book in the page does not know: after a command of this page's own, another entry
+ * beside its own.
+ */
 export function isNews(statement, own) {
   const pledge = pledgeOf(statement.number);
   if (!pledge) return book !== null;
@@ -119,7 +125,8 @@ export function addTaken(opening, statement, receipt) {
   if (!book || statement.number !== book.pledges.length + 1) return;
   const { number, article, kind, credit, taken, ends, held, booking, entries, extensions } = statement;
   book.pledges.push({
-    number, article, kind, pence: credit, taken, ends, held, booking, entries, extensions, reference: opening.ref, agreed: opening.agreed,
+    number, article, kind, pence: credit, taken, ends, held, booking, entries, extensions,
+    reference: opening.ref, agreed: opening.agreed,
     fiveDays: opening.five_days, version: book.terms.length, changed: taken, state: "open", closed: null, amount: null,
     secrets: [{ day: taken, paper: "opening", secret: receipt.slice(receipt.indexOf("-") + 1) }],
   });

@@ -15,7 +15,9 @@ function beside(statement, day) {
   const pledge = { ...pledgeOf(statement.number), ends: statement.ends };
   if (day <= lastSafeDay(pledge)) return "";
   const since = inShort(firstDayAfter(pledge));
-  return willPass(pledge) ? ` But from ${since} on the article is yours, and nothing is owed any more.` : ` From ${since} on it may have been sold.`;
+  return willPass(pledge)
+    ? ` But from ${since} on the article is yours, and nothing is owed any more.`
+    : ` From ${since} on it may have been sold.`;
 }
 
 /** Reckons, and compares what it reckons for today with the statement first. */
@@ -27,7 +29,11 @@ function reckon(statement, terms, day) {
   if (!day || day < today() || day > LAST) throw new Unreadable("Choose a day from today on.", "day");
   const { owing, principal, charges } = owedOn(statement, terms, day);
   const made = `${inPounds(principal)} lent and ${inPounds(charges)} of interest and safe keeping`;
-  return { sentence: `On ${inWords(day)} ${inPounds(owing)} will be owed, if nothing is paid or drawn before: ${made}.${beside(statement, day)}`, tone: "quiet" };
+  return {
+    sentence: `On ${inWords(day)} ${inPounds(owing)} will be owed, if nothing is paid or drawn before: ${made}.`
+      + beside(statement, day),
+    tone: "quiet",
+  };
 }
 
 /** The card's parts; none where nothing is owed any more, or the pledge's terms are not known yet. */
@@ -37,7 +43,8 @@ export function owedCard(statement) {
   const day = make("input", { type: "date", name: "day", min: today(), max: LAST, required: true });
   const notice = makeNotice();
   const form = make("form", { className: "card screen", id: "reckoning", autocomplete: "off" },
-    make("h2", {}, "What will be owed on another day"), field("Day", day), buttons(make("button", { className: "plain" }, "Reckon")), notice);
+    make("h2", {}, "What will be owed on another day"), field("Day", day),
+    buttons(make("button", { className: "plain" }, "Reckon")), notice);
   form.addEventListener("submit", (event) => {
     event.preventDefault();
     run({ notice, within: form, reader: "broker", act: async () => reckon(statement, terms, day.value) });

@@ -66,7 +66,8 @@ async function look(number, own = false) {
 /** Asks for a command on the pledge that is shown. */
 const command = (name, body, harmless) => askBook("POST", `/pledges/${statement.number}/${name}`, { body, harmless });
 
-const foldOf = (title) => [...byId("commands").querySelectorAll("details")].find((one) => one.firstChild.textContent === title) ?? null;
+const foldOf = (title) =>
+  [...byId("commands").querySelectorAll("details")].find((one) => one.firstChild.textContent === title) ?? null;
 
 /** Runs an act on the pledge that is shown, shows the pledge as it stands then, and says what came of it. */
 async function perform(act, { form, notice: line, title }) {
@@ -75,7 +76,9 @@ async function perform(act, { form, notice: line, title }) {
   byId("new-receipt").replaceChildren();
   tell(notice, "");
   let said;
-  const fault = await run({ notice: line, within: byId("commands"), reader: "broker", act: async () => { said = await act(); return said; } });
+  const fault = await run(
+    { notice: line, within: byId("commands"), reader: "broker", act: async () => { said = await act(); return said; } }
+  );
   if (fault instanceof Unreadable) return;
   try {
     await look(number, !(fault instanceof Refused));
@@ -116,7 +119,9 @@ async function newestReceipt() {
   return null;
 }
 
-const PAPERS = { opening: "when the pledge was taken", sworn: "on a sworn declaration", written: "on a written statement" };
+const PAPERS = {
+  opening: "when the pledge was taken", sworn: "on a sworn declaration", written: "on a written statement",
+};
 
 /** What the book tells of the receipts of the pledge that is shown. */
 function toldOfReceipts() {
@@ -136,7 +141,10 @@ const desk = {
   paper: () => (paper && statement && numberOf(paper) === statement.number ? paper : ""),
 };
 
-/** Goes to a pledge, by the address; or shows it as it stands now where it is there already. The empty form is no place to go back to. */
+/**
+ * Goes to a pledge, by the address; or shows it as it stands now where it is there already. The empty form is no place
+ * to go back to.
+ */
 export function goTo(number) {
   const hash = `#pledge=${number}`;
   if (location.hash === hash) return showPledge(String(number));
@@ -151,23 +159,35 @@ async function whyDead(receipt) {
   const pledge = pledgeOf(numberOf(receipt));
   if (!pledge) return `This receipt is not live: book ${current().book} has no pledge ${numberOf(receipt)}.`;
   const place = pledge.secrets.findIndex(({ secret }) => receipt.endsWith(secret));
-  if (place < 0) return `This receipt is not live: pledge ${pledge.number} never had it. Compare it with the paper, letter by letter.`;
-  if (place < pledge.secrets.length - 1) return `This receipt is not live: a newer one took its place on ${inShort(pledge.secrets[place + 1].day)}. Don’t hand out the article for it.`;
+  if (place < 0) {
+    return `This receipt is not live: pledge ${pledge.number} never had it. Compare it with the paper, `
+      + `letter by letter.`;
+  }
+  if (place < pledge.secrets.length - 1) {
+    return `This receipt is not live: a newer one took its place on ${inShort(pledge.secrets[place + 1].day)}. `
+      + `Don’t hand out the article for it.`;
+  }
   return `This receipt is not live: pledge ${pledge.number} was redeemed with it on ${inShort(pledge.closed)}.`;
 }
 
 /** Opens the pledge of a receipt, or of the link of its code, and says whether the receipt is live. */
 export async function openReceipt(typed) {
   const receipts = receiptsTyped(typed);
-  if (receipts.length !== 1) throw new Unreadable("That is no whole receipt, or more than one. Scan or type one at a time.", "wanted");
+  if (receipts.length !== 1) throw new Unreadable(
+    "That is no whole receipt, or more than one. Scan or type one at a time.", "wanted",
+  );
   const [{ book, receipt }] = receipts;
-  if (book && book !== current().book) throw new Unreadable(`That receipt is of book ${book}, and this is book ${current().book}.`, "wanted");
+  if (book && book !== current().book) throw new Unreadable(
+    `That receipt is of book ${book}, and this is book ${current().book}.`, "wanted",
+  );
   const number = numberOf(receipt);
   try {
     const held = readStatement((await askHeld(receipt, "")).text);
     paper = receipt;
     const owed = OPEN.includes(held.status) ? ` ${inPounds(held.owed.owing)} is owed today.` : "";
-    message = { sentence: `This receipt is live.${owed}`, tone: "good", fold: OPEN.includes(held.status) ? REDEEM : null };
+    message = {
+      sentence: `This receipt is live.${owed}`, tone: "good", fold: OPEN.includes(held.status) ? REDEEM : null,
+    };
   } catch (fault) {
     if (!(fault instanceof Refused && fault.code === NO_SUCH_RECEIPT)) throw fault;
     paper = null;
@@ -204,7 +224,9 @@ export async function showPledge(number) {
     tell(notice, "");
   }
   const line = byId("finding").querySelector(".notice");
-  const fault = await run({ notice: line, within: byId("finding"), reader: "broker", act: async () => { await look(Number(number)); return ""; } });
+  const fault = await run(
+    { notice: line, within: byId("finding"), reader: "broker", act: () => look(Number(number)) },
+  );
   if (fault) {
     byId("found").hidden = true;
     message = null;
@@ -212,8 +234,13 @@ export async function showPledge(number) {
   sayMessage();
 }
 
-/** Once the book was read it names the reference, the terms and the days of grace of a pledge that was shown without them. */
+/**
+ * Once the book was read it names the reference, the terms and the days of grace of a pledge that was shown without
+ * them.
+ */
 export function redrawPledge() {
-  if (statement && !drawnByBook && pledgeOf(statement.number) && !byId("commands").querySelector("details[open]")) draw();
+  if (statement && !drawnByBook && pledgeOf(statement.number) && !byId("commands").querySelector("details[open]")) {
+    draw();
+  }
 }
 

@@ -1,4 +1,7 @@
-/** Redemption by the paper, at the counter: the receipt is looked at, the amount is compared with what is owed, and it is asked once more. */
+/**
+ * Redemption by the paper, at the counter: the receipt is looked at, the amount is compared with what is owed, and it
+ * is asked once more.
+ */
 import { make } from "/shared/dom.js";
 import { inWords } from "/shared/days.js";
 import { Lost, Refused } from "/shared/faults.js";
@@ -14,10 +17,17 @@ const NO_SUCH_RECEIPT = 402;
 
 function readReceipt(typed, number) {
   const receipts = receiptsTyped(typed);
-  if (receipts.length !== 1) throw new Unreadable("Scan or type the one receipt that the customer brings, or the link of its code.", "receipt");
+  if (receipts.length !== 1) throw new Unreadable(
+    "Scan or type the one receipt that the customer brings, or the link of its code.", "receipt",
+  );
   const [{ book, receipt }] = receipts;
-  if (book && book !== current().book) throw new Unreadable(`That receipt is of book ${book}, and this is book ${current().book}.`, "receipt");
-  if (!receipt.startsWith(`${number}-`)) throw new Unreadable(`That receipt is of pledge ${receipt.split("-")[0]}, and this is pledge ${number}. Find it by the receipt.`, "receipt");
+  if (book && book !== current().book) throw new Unreadable(
+    `That receipt is of book ${book}, and this is book ${current().book}.`, "receipt",
+  );
+  if (!receipt.startsWith(`${number}-`)) throw new Unreadable(
+    `That receipt is of pledge ${receipt.split("-")[0]}, and this is pledge ${number}. Find it by the receipt.`,
+    "receipt",
+  );
   return receipt;
 }
 
@@ -27,30 +37,47 @@ async function look(desk, receipt) {
     return await desk.held(receipt);
   } catch (fault) {
     if (!(fault instanceof Refused && fault.code === NO_SUCH_RECEIPT)) throw fault;
-    throw new Unreadable("This receipt is not live: a newer one took its place, the pledge is redeemed, or a letter is wrong. Don’t hand out the article for it.", "receipt");
+    throw new Unreadable(
+      "This receipt is not live: a newer one took its place, the pledge is redeemed, or a letter is wrong. "
+        + "Don’t hand out the article for it.",
+      "receipt",
+    );
   }
 }
 
 function compare({ owed, held }, paid) {
   if (held) throw new Unreadable("The pledge is on hold, so it can’t be redeemed. Release the hold first.");
   if (paid !== owed.owing) {
-    throw new Unreadable(`${inPounds(owed.owing)} is owed today, and redeeming wants all of it. You typed ${inPounds(paid)}.`, "amount");
+    throw new Unreadable(
+      `${inPounds(owed.owing)} is owed today, and redeeming wants all of it. You typed ${inPounds(paid)}.`, "amount",
+    );
   }
 }
 
 const question = (number, paid) => confirmed({
   title: `Redeem pledge ${number}?`,
-  lines: [`${inPounds(paid)} was received, and the customer gave you the receipt.`, "The article goes to the customer. The pledge is closed, and the receipt is worth nothing any more. It can’t be taken back."],
+  lines: [
+    `${inPounds(paid)} was received, and the customer gave you the receipt.`,
+    "The article goes to the customer. The pledge is closed, and the receipt is worth nothing any more. "
+      + "It can’t be taken back.",
+  ],
   yes: `Redeem for ${inPounds(paid)}`, no: "Not now",
 });
 
-const done = ({ day, paid }) => `Redeemed on ${inWords(day)}: ${inPounds(paid)} was paid. Hand out the article, and keep the receipt.`;
+const done = ({ day, paid }) =>
+  `Redeemed on ${inWords(day)}: ${inPounds(paid)} was paid. Hand out the article, and keep the receipt.`;
 
 /** After a lost reply the statement tells whether it was done. */
 async function settleLost(desk, fault) {
   const after = await desk.read().catch(() => { throw fault; });
-  if (after.status === "redeemed") return `The reply was lost, but the pledge, read again, is redeemed. ${done(after.closing)}`;
-  return { sentence: "The reply was lost, and the pledge is not redeemed so far. Look at it again in a minute before you redeem it again.", tone: "bad" };
+  if (after.status === "redeemed") {
+    return `The reply was lost, but the pledge, read again, is redeemed. ${done(after.closing)}`;
+  }
+  return {
+    sentence: "The reply was lost, and the pledge is not redeemed so far. "
+      + "Look at it again in a minute before you redeem it again.",
+    tone: "bad",
+  };
 }
 
 async function redeem(fields, statement, desk) {
@@ -69,13 +96,19 @@ async function redeem(fields, statement, desk) {
 }
 
 export function redemption(statement, desk) {
-  const receipt = make("input", { name: "receipt", value: desk.paper(), autocapitalize: "none", spellcheck: false, required: true });
+  const receipt = make(
+    "input", { name: "receipt", value: desk.paper(), autocapitalize: "none", spellcheck: false, required: true },
+  );
   const amount = make("input", { name: "amount", inputMode: "decimal", required: true });
-  const lead = statement.held ? "" : `${inPounds(statement.owed.owing)} is owed today. All of it is to be received${statement.owed.owing === 0 ? ": type 0" : ""}.`;
+  const nothing = statement.owed.owing === 0;
+  const lead = statement.held
+    ? ""
+    : `${inPounds(statement.owed.owing)} is owed today. All of it is to be received${nothing ? ": type 0" : ""}.`;
   return {
     title: REDEEM,
     barred: statement.held ? "The pledge is on hold, so it can’t be redeemed. Release the hold first." : null,
-    parts: [make("p", { className: "lead" }, lead), field("Receipt", receipt, "Scan its code, or type it from the paper."),
+    parts: [make("p", { className: "lead" }, lead),
+      field("Receipt", receipt, "Scan its code, or type it from the paper."),
       field("Received, in pounds", amount), buttons(make("button", { className: "grave" }, "Redeem"))],
     act: (fields) => redeem(fields, statement, desk),
   };

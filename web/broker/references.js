@@ -10,7 +10,8 @@ const partsOf = (reference) => {
   return found && { front: found[1], count: Number(found[2]), width: found[2].length, back: found[3] };
 };
 
-const isNext = (one, other) => one && other && one.front === other.front && one.back === other.back && other.count === one.count + 1;
+const isNext = (one, other) =>
+  one && other && one.front === other.front && one.back === other.back && other.count === one.count + 1;
 
 const written = ({ front, back, width }, count) => `${front}${String(count).padStart(width, "0")}${back}`;
 

@@ -11,7 +11,8 @@ async function printAgain(desk) {
   const yes = await confirmed({
     title: "Print the receipt again?",
     lines: ["It is the same receipt, so both papers open the pledge, and whoever has either can redeem it.",
-      "Print it only for a customer whom you know to have none, or whose paper is spoilt. Where the paper is lost, make a new receipt in its place."],
+      "Print it only for a customer whom you know to have none, or whose paper is spoilt. Where the paper is lost, "
+        + "make a new receipt in its place."],
     yes: "Print it again", no: "Not now",
   });
   if (!yes) return NOTHING_DONE;
@@ -24,17 +25,24 @@ async function printAgain(desk) {
 export const printing = (statement, desk) => ({
   title: "Print the receipt again",
   barred: null,
-  parts: [lead("The same receipt once more. You are asked before it is shown."), buttons(make("button", { className: "plain" }, "Print the receipt again"))],
+  parts: [
+    lead("The same receipt once more. You are asked before it is shown."),
+    buttons(make("button", { className: "plain" }, "Print the receipt again")),
+  ],
   act: () => printAgain(desk),
 });
 
 /** After a lost reply the book tells whether a new receipt was made. */
-const LOST = "The reply was lost, so a new receipt may have been made. Don’t ask for another: “Print the receipt again” shows the newest one.";
+const LOST = "The reply was lost, so a new receipt may have been made. Don’t ask for another: "
+  + "“Print the receipt again” shows the newest one.";
 
-const OVERTAKEN = "A new receipt was made, but another one took its place at the same time, so it is not shown. “Print the receipt again” shows the newest one.";
+const OVERTAKEN = "A new receipt was made, but another one took its place at the same time, so it is not shown. "
+  + "“Print the receipt again” shows the newest one.";
 
 async function declare({ paper }, desk) {
-  const before = paper === "sworn" ? "You have the sworn declaration before you." : "You have the written statement before you.";
+  const before = paper === "sworn"
+    ? "You have the sworn declaration before you."
+    : "You have the written statement before you.";
   const yes = await confirmed({
     title: "Make a new receipt?",
     lines: ["The receipt that the pawnor had is worth nothing from then on, whoever has it.", before],
@@ -54,7 +62,10 @@ async function declare({ paper }, desk) {
 }
 
 function choice(value, text, checked) {
-  return make("label", { className: "choice" }, make("input", { type: "radio", name: "paper", value, checked }), make("span", {}, text));
+  return make(
+    "label", { className: "choice" }, make("input", { type: "radio", name: "paper", value, checked }),
+    make("span", {}, text),
+  );
 }
 
 export const replacement = (statement, desk) => ({

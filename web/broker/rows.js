@@ -41,7 +41,9 @@ export class Rows {
   /** Draws what is in view, and takes away what no longer is. A row that has the focus stays. */
   draw() {
     const first = Math.max(0, Math.floor(this.element.scrollTop / HEIGHT) - BEYOND);
-    const last = Math.min(this.items.length, Math.ceil((this.element.scrollTop + this.element.clientHeight) / HEIGHT) + BEYOND);
+    const last = Math.min(
+      this.items.length, Math.ceil((this.element.scrollTop + this.element.clientHeight) / HEIGHT) + BEYOND,
+    );
     for (const [place, row] of this.drawn) {
       if ((place < first || place >= last) && !row.contains(document.activeElement)) {
         row.remove();

@@ -20,7 +20,10 @@ async function sell({ amount }, desk) {
   const net = readPounds(amount);
   const yes = await confirmed({
     title: "Record the sale?",
-    lines: [`The article was sold, and ${inPounds(net)} is left after the costs of the sale.`, "The pledge is closed by it. It can’t be taken back."],
+    lines: [
+      `The article was sold, and ${inPounds(net)} is left after the costs of the sale.`,
+      "The pledge is closed by it. It can’t be taken back.",
+    ],
     yes: `Sold for ${inPounds(net)}`, no: "Not now",
   });
   if (!yes) return NOTHING_DONE;

@@ -11,7 +11,9 @@ export const current = () => session;
 
 export function begin({ book, key }) {
   if (!/^[1-9]\d{0,8}$/.test(book.trim())) throw new Unreadable("The book is a number from 1 to 999,999,999.", "book");
-  if (!KEY.test(key.trim())) throw new Unreadable("That is no key. A key is 32 digits from 0 to 9 and a to f, in groups of 8, 4, 4, 4 and 12.", "key");
+  if (!KEY.test(key.trim())) throw new Unreadable(
+    "That is no key. A key is 32 digits from 0 to 9 and a to f, in groups of 8, 4, 4, 4 and 12.", "key",
+  );
   session = { book: book.trim(), key: key.trim() };
 }
 
@@ -33,5 +35,10 @@ export function askBook(method, what, { body, harmless, importKey, watch } = {})
 /** Asks for the open book as the bearer of a receipt does, who needs no key. */
 export function askHeld(receipt, what, { body, harmless } = {}) {
   const method = what === "" ? "GET" : "POST";
-  return ask({ method, path: `/books/${session.book}/held${what}`, fields: { "Pledge-Receipt": receipt }, body: body && JSON.stringify(body), harmless });
+  return ask(
+    {
+      method, path: `/books/${session.book}/held${what}`, fields: { "Pledge-Receipt": receipt },
+      body: body && JSON.stringify(body), harmless,
+    }
+  );
 }

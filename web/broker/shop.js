@@ -1,4 +1,6 @@
-/** The shop's name, its address and the name of this till, kept in this browser for each book. None of them is secret. */
+/**
+ * The shop's name, its address and the name of this till, kept in this browser for each book. None of them is secret.
+ */
 import { byId } from "/shared/dom.js";
 import { onSend } from "/shared/forms.js";
 import { current } from "./session.js";

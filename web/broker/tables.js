@@ -6,18 +6,25 @@ import { printWhole } from "/shared/printing.js";
 const FIRST = 20;
 const MORE = 100;
 
-export const pledgeLink = (number) => make("a", { href: `#pledge=${number}`, className: "pledge-link" }, `Pledge ${number}`);
+export const pledgeLink = (number) =>
+  make("a", { href: `#pledge=${number}`, className: "pledge-link" }, `Pledge ${number}`);
 
 /** A pledge's article with its reference under it, as a cell. */
 export const articleCell = ({ article, reference }) =>
   make("td", { className: "article" }, foreign(article), make("span", { className: "reference" }, foreign(reference)));
 
-export const numberCell = ({ number }) => make("td", {}, make("a", { href: `#pledge=${number}`, className: "pledge-link" }, String(number)));
+export const numberCell = ({ number }) =>
+  make("td", {}, make("a", { href: `#pledge=${number}`, className: "pledge-link" }, String(number)));
 
-/** A section with a table: its title, its heads, its items with what makes a row of one, what is said where there are none, and nodes under the title. */
+/**
+ * A section with a table: its title, its heads, its items with what makes a row of one, what is said where there are
+ * none, and nodes under the title.
+ */
 export function section({ title, heads, items, row, empty, count = String(items.length), under = [] }) {
   const heading = make("h2", {}, title, make("span", { className: "count" }, count));
-  if (items.length === 0) return make("section", { className: "card" }, heading, ...under, make("p", { className: "empty" }, empty));
+  if (items.length === 0) return make(
+    "section", { className: "card" }, heading, ...under, make("p", { className: "empty" }, empty),
+  );
   const body = make("tbody");
   const more = make("button", { type: "button", className: "plain screen" });
   let wanted = FIRST;

@@ -1,4 +1,7 @@
-/** Taking a pledge, and printing its receipt. What is printed was looked at just before: a live receipt of a pledge that was taken now. */
+/**
+ * Taking a pledge, and printing its receipt. What is printed was looked at just before: a live receipt of a pledge that
+ * was taken now.
+ */
 import { byId, foreign, make } from "/shared/dom.js";
 import { inShort, inWords, sixMonthsAfter, today } from "/shared/days.js";
 import { Refused } from "/shared/faults.js";
@@ -35,7 +38,10 @@ export function clearTaking() {
 
 function readAgreed(agreed) {
   if (!agreed) return null;
-  if (agreed <= today()) throw new Unreadable("The agreed end is not after today, so it would count for nothing. Choose a later day, or leave it empty.", "agreed");
+  if (agreed <= today()) throw new Unreadable(
+    "The agreed end is not after today, so it would count for nothing. Choose a later day, or leave it empty.",
+    "agreed",
+  );
   return agreed;
 }
 
@@ -55,11 +61,18 @@ function agreedTo({ article, ref, kind, pence, agreed, five_days: fiveDays }) {
     [foreign(article), ", reference ", foreign(ref), "."],
     kind === "fixed" ? `${inPounds(pence)} is lent.` : `A running account up to ${inPounds(pence)}.`,
     `The period ends on ${inWords(end)}${fiveDays ? ", with five days of grace" : ""}.`,
-    agreed && agreed <= six ? `The agreed end, ${inShort(agreed)}, counts for nothing: six months run to ${inShort(six)}.` : null,
+    agreed && agreed <= six
+      ? `The agreed end, ${inShort(agreed)}, counts for nothing: six months run to ${inShort(six)}.`
+      : null,
     pence >= VERY_LARGE ? "That is a large sum: look at it again." : null,
     "It can’t be changed or taken back.",
   ];
-  return confirmed({ title: `Take this pledge for ${inPounds(pence)}?`, lines: lines.filter(Boolean), yes: `Take it for ${inPounds(pence)}`, no: "Not now" });
+  return confirmed(
+    {
+      title: `Take this pledge for ${inPounds(pence)}?`, lines: lines.filter(Boolean),
+      yes: `Take it for ${inPounds(pence)}`, no: "Not now",
+    }
+  );
 }
 
 /** The statement of a pledge, or null where the book has none of that number. */
@@ -85,10 +98,21 @@ async function tellStanding(number, reference) {
   const link = make("a", { href: `#pledge=${number}`, className: "pledge-link" }, `Open pledge ${number}`);
   place().replaceChildren(make("section", { className: "card screen" },
     make("h2", {}, "This reference stands already"),
-    make("p", {}, foreign(reference), ` is pledge ${number}: `, foreign(statement.article), `, taken on ${inWords(statement.taken)}.`),
-    make("p", {}, `${stateInWords(statement)}. If this is the pledge that you mean, open it: its receipt can be printed again there, where it has one.`),
+    make(
+      "p", {}, foreign(reference), ` is pledge ${number}: `, foreign(statement.article),
+      `, taken on ${inWords(statement.taken)}.`,
+    ),
+    make(
+      "p", {},
+      `${stateInWords(statement)}. If this is the pledge that you mean, open it: `,
+      "its receipt can be printed again there, where it has one.",
+    ),
     make("p", {}, link)));
-  throw new Unreadable(`Pledge ${number} has this reference since ${inShort(statement.taken)}. Nothing new was taken, and nothing is printed. Choose another reference.`, "ref");
+  throw new Unreadable(
+    `Pledge ${number} has this reference since ${inShort(statement.taken)}. `
+      + "Nothing new was taken, and nothing is printed. Choose another reference.",
+    "ref",
+  );
 }
 
 async function refuseStanding(reference) {
@@ -96,12 +120,17 @@ async function refuseStanding(reference) {
   if (standing) await tellStanding(standing.number, standing.reference);
 }
 
-/** Whether newer terms than the page knows stand: the next version, put with a rate that is always refused, is refused by its number then. */
+/**
+ * Whether newer terms than the page knows stand: the next version, put with a rate that is always refused, is refused
+ * by its number then.
+ */
 async function hasNewerTerms() {
   const version = ledger().terms.length + 1;
   if (version > 99) return false;
   try {
-    await askBook("POST", "/terms", { body: { version, rate: NO_RATE, keep_before: 0, keep_after: 0 }, harmless: true });
+    await askBook(
+      "POST", "/terms", { body: { version, rate: NO_RATE, keep_before: 0, keep_after: 0 }, harmless: true },
+    );
     return true;
   } catch (fault) {
     if (fault instanceof Refused) return fault.code === TERMS_STAND;
@@ -121,8 +150,10 @@ async function heldStatement(receipt) {
 
 /** Whether a receipt is a live one of a pledge that was taken now, and stands as it was sent. */
 function isTakenNow({ held, opening, said, known }) {
-  return said.number > known && held !== null && held.number === said.number && held.status === "inside" && held.entries.length === 0
-    && held.article === opening.article && held.kind === opening.kind && held.credit === opening.pence && held.booking === null;
+  return said.number > known && held !== null && held.number === said.number && held.status === "inside"
+    && held.entries.length === 0
+    && held.article === opening.article && held.kind === opening.kind && held.credit === opening.pence
+    && held.booking === null;
 }
 
 async function settle({ opening, said, known }) {
@@ -137,7 +168,9 @@ async function settle({ opening, said, known }) {
   const pledge = pledgeOf(said.number);
   const link = make("a", { href: `#pledge=${said.number}`, className: "pledge-link" }, `Pledge ${said.number}`);
   const stands = make("p", { className: "taken screen" }, link, " stands: ", foreign(opening.article), ".");
-  place().replaceChildren(stands, receiptSheet({ statement: held, receipt: said.receipt, pledge, terms: termsOf(pledge) }));
+  place().replaceChildren(
+    stands, receiptSheet({ statement: held, receipt: said.receipt, pledge, terms: termsOf(pledge) }),
+  );
   form().reset();
   showTaking();
   place().scrollIntoView();
@@ -168,7 +201,9 @@ function offerReference() {
 /** Says while typing that a reference stands. */
 function warnStanding() {
   const [standing] = withReference(form().elements.ref.value);
-  byId("reference-stands").replaceChildren(...(standing ? [`Pledge ${standing.number} has this reference: `, foreign(standing.article), "."] : []));
+  byId("reference-stands").replaceChildren(
+    ...(standing ? [`Pledge ${standing.number} has this reference: `, foreign(standing.article), "."] : [])
+  );
 }
 
 export function setUpTaking() {

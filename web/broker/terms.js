@@ -27,7 +27,9 @@ function inDecimal(value, places) {
 }
 
 const readTerms = ({ rate, before, after }) => ({
-  rate: readDecimal(rate, RATE_PLACES, "rate"), keep_before: readDecimal(before, CHARGE_PLACES, "before"), keep_after: readDecimal(after, CHARGE_PLACES, "after"),
+  rate: readDecimal(rate, RATE_PLACES, "rate"), keep_before: readDecimal(
+    before, CHARGE_PLACES, "before",
+  ), keep_after: readDecimal(after, CHARGE_PLACES, "after"),
 });
 
 /** What a hundred pounds cost for thirty days. */
@@ -38,17 +40,27 @@ function exampleOf(terms) {
 }
 
 function row({ version, rate, keepBefore, keepAfter }) {
-  const cells = [String(version), `${inDecimal(rate, RATE_PLACES)}%`, `${inDecimal(keepBefore, CHARGE_PLACES)}p`, `${inDecimal(keepAfter, CHARGE_PLACES)}p`];
+  const cells = [
+    String(version), `${inDecimal(rate, RATE_PLACES)}%`, `${inDecimal(keepBefore, CHARGE_PLACES)}p`,
+    `${inDecimal(keepAfter, CHARGE_PLACES)}p`,
+  ];
   return make("tr", {}, ...cells.map((cell) => make("td", {}, cell)));
 }
 
 /** Shows the versions that stand in the book as it was read. */
 function draw() {
   versions = ledger().terms;
-  const heads = ["Version", "Interest a day", "Keeping a day", "After the end"].map((head) => make("th", { scope: "col" }, head));
-  const table = make("table", { className: "list" }, make("thead", {}, make("tr", {}, ...heads)), make("tbody", {}, ...versions.map(row).reverse()));
+  const heads = [
+    "Version", "Interest a day", "Keeping a day", "After the end",
+  ].map((head) => make("th", { scope: "col" }, head));
+  const table = make(
+    "table", { className: "list" }, make("thead", {}, make("tr", {}, ...heads)),
+    make("tbody", {}, ...versions.map(row).reverse()),
+  );
   const none = make("p", { className: "empty" }, "The book has no terms yet. A pledge can be taken once it has.");
-  byId("terms-list").replaceChildren(make("section", { className: "card" }, make("h2", {}, "Terms that stand"), versions.length > 0 ? table : none));
+  byId("terms-list").replaceChildren(
+    make("section", { className: "card" }, make("h2", {}, "Terms that stand"), versions.length > 0 ? table : none)
+  );
   byId("next-version").textContent = `Version ${versions.length + 1}`;
 }
 
@@ -57,10 +69,15 @@ async function readAnew() {
   draw();
 }
 
-/** Puts the next version. After a lost reply the versions that were read stay, so that the same terms are the same version; after a refusal they are read again. */
+/**
+ * Puts the next version. After a lost reply the versions that were read stay, so that the same terms are the same
+ * version; after a refusal they are read again.
+ */
 async function put(terms) {
   try {
-    const { said } = await askBook("POST", "/terms", { body: { version: versions.length + 1, ...terms }, harmless: true });
+    const { said } = await askBook(
+      "POST", "/terms", { body: { version: versions.length + 1, ...terms }, harmless: true },
+    );
     return said.version;
   } catch (fault) {
     if (fault instanceof Refused) versions = null;
@@ -92,5 +109,7 @@ export function setUpTerms() {
 
 /** Shows the terms that the book in the page has. */
 export function showTerms() {
-  return run({ notice, within: byId("new-terms"), reader: "broker", act: async () => { await theLedger(); draw(); return ""; } });
+  return run(
+    { notice, within: byId("new-terms"), reader: "broker", act: async () => { await theLedger(); draw(); return ""; } }
+  );
 }

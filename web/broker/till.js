@@ -1,4 +1,7 @@
-/** The till: what was taken, drawn, repaid, redeemed and sold on a day, so that the drawer can be compared with the book. */
+/**
+ * The till: what was taken, drawn, repaid, redeemed and sold on a day, so that the drawer can be compared with the
+ * book.
+ */
 import { byId, facts, make } from "/shared/dom.js";
 import { inWords, plusDays, seenFrom, today } from "/shared/days.js";
 import { onSend } from "/shared/forms.js";
@@ -16,7 +19,9 @@ export function tillOf(book, day) {
   const lists = { taken: [], drawn: [], repaid: [], redeemed: [], sold: [] };
   for (const pledge of book.pledges) {
     if (pledge.taken === day) lists.taken.push({ pledge, pence: pledge.kind === "fixed" ? pledge.pence : 0 });
-    for (const { day: on, sort, pence } of pledge.entries) if (on === day) lists[sort === "draw" ? "drawn" : "repaid"].push({ pledge, pence });
+    for (const { day: on, sort, pence } of pledge.entries) {
+      if (on === day) lists[sort === "draw" ? "drawn" : "repaid"].push({ pledge, pence });
+    }
     if (pledge.closed === day) lists[pledge.state].push({ pledge, pence: pledge.amount });
   }
   const sums = Object.fromEntries(Object.entries(lists).map(([name, lines]) => [name, sum(lines)]));
@@ -31,7 +36,8 @@ const SECTIONS = {
   sold: { title: "Sold", way: "Net proceeds", empty: "Nothing was sold." },
 };
 
-const rowOf = ({ pledge, pence }) => make("tr", {}, numberCell(pledge), articleCell(pledge), make("td", { className: "number" }, inPounds(pence)));
+const rowOf = ({ pledge, pence }) =>
+  make("tr", {}, numberCell(pledge), articleCell(pledge), make("td", { className: "number" }, inPounds(pence)));
 
 function sectionOf([name, { title, way, empty }], { lists, sums }) {
   return section({
@@ -45,13 +51,22 @@ function sumsCard(till, day) {
   const { sums } = till;
   const change = till.in - till.out;
   const told = facts([
-    ["Taken: lent on fixed sums", inPounds(sums.taken)], ["Drawn", inPounds(sums.drawn)], ["Paid out", inPounds(till.out)],
-    ["Repaid", inPounds(sums.repaid)], ["Redeemed", inPounds(sums.redeemed)], ["Sold, net", inPounds(sums.sold)], ["Received", inPounds(till.in)],
+    ["Taken: lent on fixed sums", inPounds(sums.taken)],
+    ["Drawn", inPounds(sums.drawn)],
+    ["Paid out", inPounds(till.out)],
+    ["Repaid", inPounds(sums.repaid)],
+    ["Redeemed", inPounds(sums.redeemed)],
+    ["Sold, net", inPounds(sums.sold)],
+    ["Received", inPounds(till.in)],
   ]);
   const { till: name } = shop();
-  const title = make("h2", {}, day === today() ? "Sums of today" : `Sums of ${inWords(day)}`, name && make("span", { className: "count" }, name));
-  const line = `The drawer has ${inPounds(Math.abs(change))} ${change < 0 ? "less" : "more"} than at the day’s beginning, by the book.`;
-  return make("section", { className: "card sums" }, title, told, make("p", { className: "example" }, change === 0 ? "The drawer has as much as at the day’s beginning, by the book." : line));
+  const title = make(
+    "h2", {}, day === today() ? "Sums of today" : `Sums of ${inWords(day)}`,
+    name && make("span", { className: "count" }, name),
+  );
+  const by = `${inPounds(Math.abs(change))} ${change < 0 ? "less" : "more"} than`;
+  const line = `The drawer has ${change === 0 ? "as much as" : by} at the day’s beginning, by the book.`;
+  return make("section", { className: "card sums" }, title, told, make("p", { className: "example" }, line));
 }
 
 function show(day) {
@@ -59,8 +74,12 @@ function show(day) {
   dayField().value = day;
   if (book === null) return;
   const till = tillOf(book, day);
-  byId("till-title").textContent = day === today() ? `Till, today, ${inWords(day)}` : `Till, ${inWords(day)}, ${seenFrom(today(), day)}`;
-  byId("till-lists").replaceChildren(sumsCard(till, day), ...Object.entries(SECTIONS).map((one) => sectionOf(one, till)));
+  byId("till-title").textContent = day === today()
+    ? `Till, today, ${inWords(day)}`
+    : `Till, ${inWords(day)}, ${seenFrom(today(), day)}`;
+  byId("till-lists").replaceChildren(
+    sumsCard(till, day), ...Object.entries(SECTIONS).map((one) => sectionOf(one, till))
+  );
 }
 
 export function setUpTill() {

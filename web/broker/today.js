@@ -20,18 +20,27 @@ const dayField = () => byId("sheet-day").elements.day;
 function card(title, lines, empty) {
   const shown = lines.slice(0, MOST);
   if (lines.length > MOST) shown.push(make("li", {}, `and ${lines.length - MOST} more: see “All pledges”.`));
-  const body = lines.length > 0 ? make("ul", { className: "lines" }, ...shown) : make("p", { className: "empty" }, empty);
+  const body = lines.length > 0
+    ? make("ul", { className: "lines" }, ...shown)
+    : make("p", { className: "empty" }, empty);
   return make("section", { className: "card" }, make("h2", {}, title), body);
 }
 
 function windowLine({ window, capacity, pledges }) {
   const count = make("span", { className: "count" }, `${pledges.length} of ${capacity}`);
-  return make("li", {}, make("span", { className: "time" }, windowInWords(window)), count, make("span", { className: "links" }, ...pledges.map(pledgeLink)));
+  return make(
+    "li", {}, make("span", { className: "time" }, windowInWords(window)), count,
+    make("span", { className: "links" }, ...pledges.map(pledgeLink)),
+  );
 }
 
-/** The visits that wait: those of the book in the page on other days, and those of this sheet, which was read just now. */
+/**
+ * The visits that wait: those of the book in the page on other days, and those of this sheet, which was read just now.
+ */
 function asked(now) {
-  const others = waiting(ledger()).map(({ number, booking }) => ({ number, ...booking })).filter(({ day }) => day !== sheet.day);
+  const others = waiting(ledger()).map(
+    ({ number, booking }) => ({ number, ...booking })
+  ).filter(({ day }) => day !== sheet.day);
   const here = sheet.asked.map(({ number, window }) => ({ number, window, day: sheet.day }));
   const key = ({ day, window }) => `${day} ${String(window).padStart(2, "0")}`;
   const all = [...others, ...here].sort((one, other) => (key(one) < key(other) ? -1 : 1));
@@ -45,8 +54,14 @@ function asked(now) {
 
 /** Before the book was read, only this day is known. */
 function waitingCard(now) {
-  if (ledger() !== null) return card("Waiting for an answer, on any day", asked(now), "Nobody waits for an answer, as the book was read.");
-  const lines = sheet.asked.map(({ number, window }) => make("li", {}, make("span", { className: "time" }, windowInWords(window)), pledgeLink(number)));
+  if (ledger() !== null) return card(
+    "Waiting for an answer, on any day", asked(now), "Nobody waits for an answer, as the book was read.",
+  );
+  const lines = sheet.asked.map(
+    ({ number, window }) => make(
+      "li", {}, make("span", { className: "time" }, windowInWords(window)), pledgeLink(number),
+    )
+  );
   const whole = card("Waiting for an answer, on this day", lines, "Nobody asked to come on this day.");
   whole.append(make("p", { className: "empty" }, "Other days are told once the book is read."));
   return whole;
@@ -54,7 +69,9 @@ function waitingCard(now) {
 
 function draw() {
   const now = today();
-  byId("sheet-title").textContent = sheet.day === now ? `Today, ${inWords(now)}` : `${inWords(sheet.day)}, ${seenFrom(now, sheet.day)}`;
+  byId("sheet-title").textContent = sheet.day === now
+    ? `Today, ${inWords(now)}`
+    : `${inWords(sheet.day)}, ${seenFrom(now, sheet.day)}`;
   byId("sheet").replaceChildren(
     card("Coming", sheet.windows.map(windowLine), "No visit is confirmed for this day."),
     waitingCard(now),
@@ -93,7 +110,9 @@ export function setUpToday() {
 
 /** The sheet of the day that the address names, or today's. */
 export function showToday(day) {
-  return run({ notice, within: byId("sheet-day"), reader: "broker", act: async () => { await read(day ?? today()); return ""; } });
+  return run(
+    { notice, within: byId("sheet-day"), reader: "broker", act: async () => { await read(day ?? today()); return ""; } }
+  );
 }
 
 /** The list of who waits is drawn again when the book was read. */

@@ -11,7 +11,9 @@ import { WINDOWS, windowInWords } from "/shared/windows.js";
 
 /** A form in a fold, which acts on the card when it is sent. */
 const foldOf = (card, title, parts, act) =>
-  fold(title, make("form", { autocomplete: "off" }, ...parts), (fields, place) => card.perform(() => act(fields), place));
+  fold(
+    title, make("form", { autocomplete: "off" }, ...parts), (fields, place) => card.perform(() => act(fields), place),
+  );
 
 /** What is said where the answer to a question was no. Nothing was changed, so nothing is looked at. */
 const NOT_NOW = { ...NOTHING_DONE, look: false };
@@ -21,7 +23,10 @@ function agreedToLate({ ends }, day) {
   if (day <= ends) return true;
   return confirmed({
     title: "Come after the time is over?",
-    lines: [`The time of this pledge is over after ${inWords(ends)}. On ${inWords(day)} the article may have been sold, or belong to the shop.`],
+    lines: [
+      `The time of this pledge is over after ${inWords(ends)}. On ${inWords(day)} the article may have been sold, `
+        + `or belong to the shop.`
+    ],
     yes: "Ask for this day all the same", no: "Choose another day",
   });
 }
@@ -39,18 +44,29 @@ async function askForVisit(card, { day, window }) {
 function visitFold(card) {
   const { booking } = card.statement;
   const day = make("input", { type: "date", name: "day", min: today(), required: true });
-  const times = make("select", { name: "window" }, ...WINDOWS.map((window) => make("option", { value: window }, windowInWords(window))));
+  const times = make(
+    "select", { name: "window" }, ...WINDOWS.map((window) => make("option", { value: window }, windowInWords(window)))
+  );
   const standing = booking && ["asked", "confirmed"].includes(booking.state);
-  const lead = standing ? "A new time takes the place of the one that stands." : "Say when you would like to fetch it. The shop confirms it or not.";
-  const parts = [make("p", { className: "lead" }, lead), field("Day", day), field("Time", times), buttons(make("button", {}, "Ask for this time"))];
-  return foldOf(card, standing ? "Ask for another time" : "Ask for a time to come", parts, (fields) => askForVisit(card, fields));
+  const lead = standing
+    ? "A new time takes the place of the one that stands."
+    : "Say when you would like to fetch it. The shop confirms it or not.";
+  const parts = [
+    make("p", { className: "lead" }, lead), field("Day", day), field("Time", times),
+    buttons(make("button", {}, "Ask for this time")),
+  ];
+  return foldOf(
+    card, standing ? "Ask for another time" : "Ask for a time to come", parts, (fields) => askForVisit(card, fields),
+  );
 }
 
 function cancelFold(card) {
   const { booking } = card.statement;
   if (!booking || !["asked", "confirmed"].includes(booking.state)) return null;
-  const when = `Your visit ${seenFrom(today(), booking.day)}, ${inWords(booking.day)}, is taken back. You can ask for another.`;
-  return foldOf(card, "Cancel the visit", [make("p", { className: "lead" }, when), buttons(make("button", {}, "Cancel the visit"))], async () => {
+  const when = `Your visit ${seenFrom(today(), booking.day)}, ${inWords(booking.day)}, is taken back. `
+    + "You can ask for another.";
+  const parts = [make("p", { className: "lead" }, when), buttons(make("button", {}, "Cancel the visit"))];
+  return foldOf(card, "Cancel the visit", parts, async () => {
     const { said } = await card.ask("/cancel", undefined, true);
     return `The visit is cancelled: ${inWords(said.day)}, ${windowInWords(said.window)}.`;
   });
@@ -60,19 +76,28 @@ async function repay(card, { amount }) {
   const pence = readPounds(amount);
   const yes = await confirmed({
     title: `Record ${inPounds(pence)} as paid?`,
-    lines: ["This page moves no money. Say yes only where the pawnbroker has received the amount.", "If the shop has recorded it already, say no: it would count twice."],
+    lines: [
+      "This page moves no money. Say yes only where the pawnbroker has received the amount.",
+      "If the shop has recorded it already, say no: it would count twice.",
+    ],
     yes: `Yes, ${inPounds(pence)} was received`, no: "Not yet",
   });
   if (!yes) return { sentence: "Nothing was recorded.", tone: "quiet", look: false };
   return recordEntry({
-    shown: card.statement, sort: "repay", pence, read: () => card.read(), send: (body) => card.ask("/repay", body, true),
+    shown: card.statement, sort: "repay", pence, read: () => card.read(), send: (body) => card.ask(
+      "/repay", body, true,
+    ),
   });
 }
 
 function repayFold(card) {
   const amount = make("input", { name: "amount", inputMode: "decimal", required: true });
-  const lead = "A part that the pawnbroker has received already. It goes to interest and safe keeping first, then to what was lent.";
-  const parts = [make("p", { className: "lead" }, lead), field("Amount in pounds", amount), buttons(make("button", {}, "Record the payment"))];
+  const lead = "A part that the pawnbroker has received already. It goes to interest and safe keeping first, "
+    + "then to what was lent.";
+  const parts = [
+    make("p", { className: "lead" }, lead), field("Amount in pounds", amount),
+    buttons(make("button", {}, "Record the payment")),
+  ];
   return foldOf(card, "Record a part payment", parts, (fields) => repay(card, fields));
 }
 
@@ -80,7 +105,9 @@ async function redeem(card) {
   const { owing } = card.statement.owed;
   const yes = await confirmed({
     title: "Redeem this pledge?",
-    lines: [`You say that ${inPounds(owing)} has been paid and that the pawnbroker has received it. This page moves no money.`,
+    lines: [
+      `You say that ${inPounds(owing)} has been paid and that the pawnbroker has received it.`,
+      "This page moves no money.",
       "The pledge is over then, and this receipt is worth nothing any more. It can’t be taken back."],
     yes: `Yes, ${inPounds(owing)} was received`, no: "Not yet",
   });
@@ -98,7 +125,8 @@ async function redeem(card) {
 function redeemFold(card) {
   const { owed, held } = card.statement;
   const lead = held ? "The pawnbroker holds this pledge, so it can’t be redeemed just now. Ask at the shop why."
-    : `Redeeming wants all that is owed today, ${inPounds(owed.owing)}, received by the pawnbroker. You are asked once more before it is done.`;
+    : `Redeeming wants all that is owed today, ${inPounds(owed.owing)}, received by the pawnbroker. `
+      + `You are asked once more before it is done.`;
   const button = make("button", { className: "grave", disabled: held }, `Redeem for ${inPounds(owed.owing)}`);
   return foldOf(card, "Redeem", [make("p", { className: "lead" }, lead), buttons(button)], () => redeem(card));
 }

@@ -22,7 +22,9 @@ async function readWatched(reply, watch) {
   return text + decoder.decode();
 }
 
-/** One attempt: the answer, a refusal, or whether the request may have reached the service without a reply coming back. */
+/**
+ * One attempt: the answer, a refusal, or whether the request may have reached the service without a reply coming back.
+ */
 async function attempt({ method, path, fields, body, watch }) {
   let status, type, text;
   try {
@@ -43,7 +45,8 @@ async function attempt({ method, path, fields, body, watch }) {
 /**
  * Asks the service, and gives the reply's text and what it says as JSON.
  *
- * What was not handed to the service is asked again, since nothing was done. A request whose reply was lost is asked again only
+ * What was not handed to the service is asked again, since nothing was done. A request whose reply was lost is asked
+ * again only
  * where a repeat is harmless. Throws Refused, NotReached or Lost. How much of a long reply has come is told to `watch`.
  */
 export async function ask({ method, path, fields, body, watch, harmless = method === "GET" }) {

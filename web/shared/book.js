@@ -28,10 +28,14 @@ function termsOf([version, rate, keepBefore, keepAfter]) {
   return { version: Number(version), rate: Number(rate), keepBefore: Number(keepBefore), keepAfter: Number(keepAfter) };
 }
 
-function pledgeOf([number, reference, article, kind, pence, taken, agreed, fiveDays, version, held, changed, state, closed, amount]) {
+function pledgeOf(
+  [number, reference, article, kind, pence, taken, agreed, fiveDays, version, held, changed, state, closed, amount]
+) {
   return {
     number: Number(number), reference, article, kind, pence: Number(pence), taken, agreed: agreed || null,
-    fiveDays: fiveDays === "yes", version: Number(version), held: held === "yes", changed, state, closed: closed || null,
+    fiveDays: fiveDays === "yes", version: Number(
+      version
+    ), held: held === "yes", changed, state, closed: closed || null,
     amount: amount === "" ? null : Number(amount), secrets: [], entries: [], extensions: [], booking: null, ends: null,
   };
 }
@@ -42,7 +46,9 @@ const readers = {
   T: (book, fields) => book.terms.push(termsOf(fields)),
   P: (book, fields) => book.pledges.push(pledgeOf(fields)),
   S: (book, [, , day, paper, secret]) => book.pledges.at(-1).secrets.push({ day, paper, secret }),
-  E: (book, [, seq, day, sort, pence]) => book.pledges.at(-1).entries.push({ seq: Number(seq), day, sort, pence: Number(pence) }),
+  E: (book, [, seq, day, sort, pence]) => book.pledges.at(-1).entries.push(
+    { seq: Number(seq), day, sort, pence: Number(pence) }
+  ),
   X: (book, [, , day, end]) => book.pledges.at(-1).extensions.push([day, end]),
   K: (book, [, day, window, state]) => { book.pledges.at(-1).booking = { day, window: Number(window), state }; },
 };
@@ -58,7 +64,9 @@ export function readBook(text) {
     readers[sort](book, fields);
   }
   const [, version, , pledges] = lines[0]?.split(",") ?? [];
-  if (!["1", "2"].includes(version) || Number(pledges) !== book.pledges.length) throw new Error("the book's text is not whole");
+  if (!["1", "2"].includes(version) || Number(pledges) !== book.pledges.length) {
+    throw new Error("the book's text is not whole");
+  }
   for (const pledge of book.pledges) pledge.ends = endOf(pledge);
   return book;
 }

@@ -1,7 +1,10 @@
 /** Days are texts such as 2026-11-26, in the calendar of the service: UTC. */
 
 const WEEKDAYS = ["Sunday", "Monday", "Tuesday", "Wednesday", "Thursday", "Friday", "Saturday"];
-const MONTHS = ["January", "February", "March", "April", "May", "June", "July", "August", "September", "October", "November", "December"];
+const MONTHS = [
+  "January", "February", "March", "April", "May", "June", "July", "August", "September", "October", "November",
+  "December",
+];
 const ONE_DAY = 86_400_000;
 
 const dateOf = (day) => new Date(`${day}T00:00:00Z`);

@@ -9,9 +9,11 @@ const FIRST = 12;
 const MORE = 100;
 
 const line = ({ day, sort, pence }) => make("tr", {},
-  make("td", {}, inShort(day)), make("td", {}, sort === "draw" ? "Drawn" : "Repaid"), make("td", { className: "number" }, inPounds(pence)));
+  make("td", {}, inShort(day)), make("td", {}, sort === "draw" ? "Drawn" : "Repaid"),
+  make("td", { className: "number" }, inPounds(pence)));
 
-const captionOf = (shown, whole) => (shown < whole ? `The last ${shown} of ${whole} payments and drawings` : "Payments and drawings");
+const captionOf = (shown, whole) =>
+  (shown < whole ? `The last ${shown} of ${whole} payments and drawings` : "Payments and drawings");
 
 /** The table of the entries, the newest first, with a button for the earlier ones; or null where there are none. */
 export function entriesTable(entries) {
@@ -37,4 +39,5 @@ export function entriesTable(entries) {
 }
 
 /** An entry as a line of a sentence. */
-export const entryInWords = ({ day, sort, pence }) => `${sort === "draw" ? "Drawn" : "Repaid"}: ${inPounds(pence)}, on ${inShort(day)}.`;
+export const entryInWords = ({ day, sort, pence }) =>
+  `${sort === "draw" ? "Drawn" : "Repaid"}: ${inPounds(pence)}, on ${inShort(day)}.`;

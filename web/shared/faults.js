@@ -23,9 +23,14 @@ const UNSEEN = "The service can’t be reached just now. Try again in a minute."
 export function tellFault(fault, reader) {
   if (fault instanceof Refused) return sentence(fault, reader);
   if (fault instanceof Unreadable) return fault.message;
-  if (fault instanceof NotReached) return fault.message === "look" ? UNSEEN : `${UNSEEN} What you asked for was not sent, so it was not done.`;
-  if (fault instanceof Lost) return "The reply was lost, so this may have been done. Look at how the pledge stands before you do it again.";
-  return `This page did not understand what came back (${fault.message}). Look at how the pledge stands before you do anything again.`;
+  if (fault instanceof NotReached) return fault.message === "look"
+    ? UNSEEN
+    : `${UNSEEN} What you asked for was not sent, so it was not done.`;
+  if (fault instanceof Lost) {
+    return "The reply was lost, so this may have been done. Look at how the pledge stands before you do it again.";
+  }
+  return `This page did not understand what came back (${fault.message}). `
+    + "Look at how the pledge stands before you do anything again.";
 }
 
 /** The field of a form that a refusal speaks of, by its code. */

@@ -14,7 +14,8 @@ export function tell(notice, text, tone = "quiet") {
 }
 
 /** A line that screen readers speak when it changes. */
-export const makeNotice = () => make("p", { className: "notice quiet", role: "status", tabIndex: -1, id: newId("notice") });
+export const makeNotice = () =>
+  make("p", { className: "notice quiet", role: "status", tabIndex: -1, id: newId("notice") });
 
 /** Ties a refusal to the field that it speaks of, and gives that field. */
 function markField(within, notice, name) {
@@ -33,7 +34,8 @@ function clearMarks(within) {
 }
 
 /**
- * Runs an act with its buttons out of use, and says in the notice what came of it. The act gives the sentence of its success, or
+ * Runs an act with its buttons out of use, and says in the notice what came of it. The act gives the sentence of its
+ * success, or
  * a sentence with its tone. Gives the fault, or null.
  */
 export async function run({ notice, within, reader, act }) {
@@ -93,7 +95,8 @@ function fillAgain(form, fields) {
 }
 
 /**
- * Says what came of an act after which all folds were made anew: in the notice above them where it was done, else in the fold of that
+ * Says what came of an act after which all folds were made anew: in the notice above them where it was done, else in
+ * the fold of that
  * title, which is opened again with what was typed.
  */
 export function sayAfter({ within, notice, title, fields, said, fault, reader }) {

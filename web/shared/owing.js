@@ -4,7 +4,10 @@ import { daysBetween } from "/shared/days.js";
 /** Charges are kept in millionths of a penny. */
 const PENNY = 1_000_000n;
 
-/** The charges of the days after one day, up to another: interest on what is lent, and safe keeping before and after the end. */
+/**
+ * The charges of the days after one day, up to another: interest on what is lent, and safe keeping before and after the
+ * end.
+ */
 function chargesBetween(from, to, { ends, rates, principal }) {
   const days = daysBetween(from, to);
   const before = Math.min(days, Math.max(0, daysBetween(from, ends)));
@@ -12,7 +15,10 @@ function chargesBetween(from, to, { ends, rates, principal }) {
     + BigInt(days - before) * BigInt(rates.keepAfter);
 }
 
-/** What an entry leaves: a repayment pays whole pence of charges first, then what is lent; the fraction of a penny stays. */
+/**
+ * What an entry leaves: a repayment pays whole pence of charges first, then what is lent; the fraction of a penny
+ * stays.
+ */
 function afterEntry({ principal, millionths }, { sort, pence }) {
   const amount = BigInt(pence);
   if (sort === "draw") return { principal: principal + amount, millionths };
@@ -22,7 +28,8 @@ function afterEntry({ principal, millionths }, { sort, pence }) {
 }
 
 /**
- * The principal, the charges and their sum in pence on a day, of a pledge as its statement tells it and by the terms that it keeps.
+ * The principal, the charges and their sum in pence on a day, of a pledge as its statement tells it and by the terms
+ * that it keeps.
  * Throws where the day is before the day taken or before an entry.
  */
 export function owedOn({ kind, credit, taken, ends, entries }, rates, day) {
@@ -30,7 +37,9 @@ export function owedOn({ kind, credit, taken, ends, entries }, rates, day) {
   let owed = { principal: kind === "fixed" ? BigInt(credit) : 0n, millionths: 0n };
   for (const entry of [...entries, { day, sort: "draw", pence: 0 }]) {
     if (entry.day < at) throw new Error("what is owed is not told for a day before the last payment");
-    owed = { ...owed, millionths: owed.millionths + chargesBetween(at, entry.day, { ends, rates, principal: owed.principal }) };
+    owed = {
+      ...owed, millionths: owed.millionths + chargesBetween(at, entry.day, { ends, rates, principal: owed.principal }),
+    };
     owed = afterEntry(owed, entry);
     at = entry.day;
   }

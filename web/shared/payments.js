@@ -1,7 +1,8 @@
 /**
  * Drawings and repayments, recorded so that two clerks, or a clerk and a pawnor, don't take one for the other.
  *
- * The service can't tell two equal entries of one number apart: it answers the second as it answered the first. So the pledge is
+ * The service can't tell two equal entries of one number apart: it answers the second as it answered the first. So the
+ * pledge is
  * read before, and what came in between is shown; and it is read after, and compared with what must stand.
  */
 import { inWords, today } from "/shared/days.js";
@@ -23,7 +24,9 @@ function cameBetween(shown, now) {
   const entries = now.entries.slice(shown.entries.length);
   const lines = entries.slice(-TOLD).map(entryInWords);
   if (entries.length > TOLD) lines.unshift(`${entries.length - TOLD} other entries.`);
-  if (now.status !== shown.status || now.held !== shown.held || now.ends !== shown.ends) lines.push("How the pledge stands has changed.");
+  if (now.status !== shown.status || now.held !== shown.held || now.ends !== shown.ends) {
+    lines.push("How the pledge stands has changed.");
+  }
   return lines;
 }
 
@@ -36,12 +39,20 @@ async function agreed({ shown, now, sort, pence }) {
   if (between.length > 0) {
     return confirmed({
       title: "Something came in between",
-      lines: ["Since this pledge was shown here, somebody else did this:", ...between, owedLine(now), `Is your ${amount} another one, beside these?`],
+      lines: [
+        "Since this pledge was shown here, somebody else did this:", ...between, owedLine(now),
+        `Is your ${amount} another one, beside these?`,
+      ],
       yes: `Yes, record ${amount} as well`, no: "No, record nothing",
     });
   }
   if (pence < LARGE) return true;
-  return confirmed({ title: `Record ${amount} as ${WORDS[sort].as}?`, lines: [owedLine(now), "An entry can’t be taken back."], yes: `Record ${amount}`, no: "Not now" });
+  return confirmed(
+    {
+      title: `Record ${amount} as ${WORDS[sort].as}?`, lines: [owedLine(now), "An entry can’t be taken back."],
+      yes: `Record ${amount}`, no: "Not now",
+    }
+  );
 }
 
 /** Whether what is read after the entry is what must stand then. A new day adds charges of its own. */
@@ -49,7 +60,10 @@ function judge({ now, after, said, day }) {
   const others = after.entries.length - now.entries.length - 1;
   const mine = after.entries.find(({ seq }) => seq === said.seq);
   if (!mine || !isSame(mine, said)) return "But the pledge, read again, does not have it. Look at its entries";
-  if (others > 0) return `But somebody else recorded ${others === 1 ? "another entry" : `${others} other entries`} at the same time. Look at the entries`;
+  if (others > 0) {
+    const what = others === 1 ? "another entry" : `${others} other entries`;
+    return `But somebody else recorded ${what} at the same time. Look at the entries`;
+  }
   const change = said.sort === "draw" ? said.pence : -said.pence;
   const wanted = now.owed.owing + change;
   if (day !== today() || !after.owed || after.owed.owing === wanted) return null;
@@ -59,21 +73,35 @@ function judge({ now, after, said, day }) {
 function tellOf({ now, after, said, day }) {
   const done = `${WORDS[said.sort].done}: ${inPounds(said.pence)}, on ${inWords(said.day)}.`;
   const wrong = judge({ now, after, said, day });
-  return wrong ? { sentence: `${done} ${wrong} before you do more.`, tone: "bad" } : { sentence: `${done} ${owedLine(after)}`, tone: "good" };
+  return wrong
+    ? { sentence: `${done} ${wrong} before you do more.`, tone: "bad" }
+    : { sentence: `${done} ${owedLine(after)}`, tone: "good" };
 }
 
 /** What a look says of an entry whose reply was lost. */
 function tellLost({ now, after, entry }) {
   const found = after.entries.find(({ seq }) => seq === entry.seq);
   if (found && isSame(found, entry)) {
-    return { sentence: `The reply was lost, but the pledge, read again, has the entry. ${entryInWords(found)} ${owedLine(after)}`, tone: "good" };
+    return {
+      sentence: `The reply was lost, but the pledge, read again, has the entry. `
+        + `${entryInWords(found)} ${owedLine(after)}`,
+      tone: "good",
+    };
   }
-  if (after.entries.length > now.entries.length) return { sentence: "The reply was lost, and somebody else’s entry stands. Look at the entries before you do more.", tone: "bad" };
-  return { sentence: "The reply was lost, and the pledge does not have the entry so far. Look at it again in a minute before you record it again.", tone: "bad" };
+  if (after.entries.length > now.entries.length) return {
+    sentence: "The reply was lost, and somebody else’s entry stands. Look at the entries before you do more.",
+    tone: "bad",
+  };
+  return {
+    sentence: "The reply was lost, and the pledge does not have the entry so far. "
+      + "Look at it again in a minute before you record it again.",
+    tone: "bad",
+  };
 }
 
 /**
- * Records an entry on a pledge: `read` gives its statement as it stands, `send` sends the body, `sort` is draw or repay. Gives what is to
+ * Records an entry on a pledge: `read` gives its statement as it stands, `send` sends the body, `sort` is draw or
+ * repay. Gives what is to
  * be said, with its tone. Throws what the service or the line refuses.
  */
 export async function recordEntry({ shown, read, send, sort, pence }) {

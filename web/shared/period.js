@@ -1,4 +1,6 @@
-/** When a pledge's period ends, and how the pledge stands on a day, by the rules, for pledges of the book in the page. */
+/**
+ * When a pledge's period ends, and how the pledge stands on a day, by the rules, for pledges of the book in the page.
+ */
 import { plusDays, sixMonthsAfter } from "/shared/days.js";
 
 /** Up to this credit in pence, an article whose period of six months is over is the broker's. */

@@ -11,7 +11,9 @@ export function printWhole(element, drawAll, drawBack) {
 
 for (const name of ["beforeprint", "afterprint"]) {
   addEventListener(name, () => {
-    for (const element of document.getElementsByClassName(WHOLE)) if (element.checkVisibility()) element.dispatchEvent(new Event(name));
+    for (const element of document.getElementsByClassName(WHOLE)) {
+      if (element.checkVisibility()) element.dispatchEvent(new Event(name));
+    }
   });
 }
 

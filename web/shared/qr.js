@@ -1,9 +1,20 @@
-/** QR codes of links, by mask 0: the smallest version from 6 (41 by 41) on that holds the text, in level M where a version up to 9 does, else in L. */
+/**
+ * QR codes of links, by mask 0: the smallest version from 6 (41 by 41) on that holds the text, in level M where a
+ * version up to 9 does, else in L.
+ */
 
-/** For each level its format's bits (with mask 0), and for the versions from 6 on the check bytes of a block and the number of blocks. */
+/**
+ * For each level its format's bits (with mask 0), and for the versions from 6 on the check bytes of a block and the
+ * number of blocks.
+ */
 const LEVELS = {
-  M: { format: 0b101010000010010, checks: [16, 18, 22, 22, 26, 30, 22, 22, 24, 24], blocks: [4, 4, 4, 5, 5, 5, 8, 9, 9, 10] },
-  L: { format: 0b111011111000100, checks: [18, 20, 24, 30, 18, 20, 24, 26, 30, 22], blocks: [2, 2, 2, 2, 4, 4, 4, 4, 4, 6] },
+  M: {
+    format: 0b101010000010010, checks: [16, 18, 22, 22, 26, 30, 22, 22, 24, 24],
+    blocks: [4, 4, 4, 5, 5, 5, 8, 9, 9, 10],
+  },
+  L: {
+    format: 0b111011111000100, checks: [18, 20, 24, 30, 18, 20, 24, 26, 30, 22], blocks: [2, 2, 2, 2, 4, 4, 4, 4, 4, 6],
+  },
 };
 const FIRST = 6;
 const LAST = 15;
@@ -25,7 +36,9 @@ function marksOf(version) {
 /** How many bytes a code of this version has, data and checks. */
 function bytesOf(version) {
   const marks = Math.floor(version / 7) + 2;
-  const modules = (16 * version + 128) * version + 64 - ((25 * marks - 10) * marks - 55) - (version >= TELLS_VERSION ? 36 : 0);
+  const modules = (16 * version + 128) * version + 64 - ((25 * marks - 10) * marks - 55) - (
+    version >= TELLS_VERSION ? 36 : 0
+  );
   return Math.floor(modules / 8);
 }
 
@@ -34,7 +47,10 @@ function formFor(length) {
   for (const [name, last] of [["M", LAST_OF_M], ["L", LAST]]) {
     for (let version = FIRST; version <= last; version += 1) {
       const level = LEVELS[name];
-      const form = { version, format: level.format, checks: level.checks[version - FIRST], blocks: level.blocks[version - FIRST], bytes: bytesOf(version) };
+      const form = {
+        version, format: level.format, checks: level.checks[version - FIRST], blocks: level.blocks[version - FIRST],
+        bytes: bytesOf(version),
+      };
       const head = version >= LONG_COUNT ? 3 : 2;
       if (length + head <= form.bytes - form.checks * form.blocks) return form;
     }
@@ -57,7 +73,9 @@ function divisorOf(degree) {
   const divisor = new Array(degree).fill(0);
   divisor[degree - 1] = 1;
   for (let step = 0, root = 1; step < degree; step += 1, root = times(root, 2)) {
-    for (let place = 0; place < degree; place += 1) divisor[place] = times(divisor[place], root) ^ (divisor[place + 1] ?? 0);
+    for (let place = 0; place < degree; place += 1) {
+      divisor[place] = times(divisor[place], root) ^ (divisor[place + 1] ?? 0);
+    }
   }
   return divisor;
 }
@@ -85,7 +103,10 @@ function dataOf(text, count, version) {
   return data.slice(0, count);
 }
 
-/** Data and checks, in the order in which they are drawn: the first byte of each block, the second of each, and so on. The last blocks may have a byte more. */
+/**
+ * Data and checks, in the order in which they are drawn: the first byte of each block, the second of each, and so on.
+ * The last blocks may have a byte more.
+ */
 function codewords(text, { version, blocks, checks, bytes }) {
   const data = dataOf(text, bytes - checks * blocks, version);
   const short = Math.floor(bytes / blocks) - checks;
@@ -102,7 +123,9 @@ function codewords(text, { version, blocks, checks, bytes }) {
 function drawRings(modules, column, row, reach, light) {
   for (let down = -reach; down <= reach; down += 1) {
     for (let right = -reach; right <= reach; right += 1) {
-      if (modules[row + down]?.[column + right] !== undefined) modules[row + down][column + right] = !light.includes(Math.max(Math.abs(down), Math.abs(right)));
+      if (modules[row + down]?.[column + right] !== undefined) {
+        modules[row + down][column + right] = !light.includes(Math.max(Math.abs(down), Math.abs(right)));
+      }
     }
   }
 }
@@ -127,8 +150,11 @@ function drawVersion(modules, version) {
 function drawMarks(modules, version) {
   const places = marksOf(version);
   const last = places.at(-1);
-  const inFinder = (column, row) => (column === 6 && row === 6) || (column === 6 && row === last) || (column === last && row === 6);
-  for (const row of places) for (const column of places) if (!inFinder(column, row)) drawRings(modules, column, row, 2, [1]);
+  const inFinder = (column, row) =>
+    (column === 6 && row === 6) || (column === 6 && row === last) || (column === last && row === 6);
+  for (const row of places) for (const column of places) if (!inFinder(column, row)) drawRings(
+    modules, column, row, 2, [1],
+  );
 }
 
 function drawFormat(modules, format) {
@@ -143,7 +169,10 @@ function drawFormat(modules, format) {
   modules[size - 8][8] = true;
 }
 
-/** What stands in every code: timing lines, finders, alignment marks, the format's bits twice, and from version 7 on the version's. */
+/**
+ * What stands in every code: timing lines, finders, alignment marks, the format's bits twice, and from version 7 on the
+ * version's.
+ */
 function drawFrame(modules, { version, format }) {
   const size = modules.length;
   for (let place = 0; place < size; place += 1) modules[6][place] = modules[place][6] = place % 2 === 0;

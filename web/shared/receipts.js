@@ -34,7 +34,9 @@ export function ofFragment(fragment) {
   const said = new URLSearchParams(fragment.replace(/^#/, ""));
   const book = (said.get("book") ?? "").trim();
   if (!isBook(book)) return [];
-  const told = Object.fromEntries(Object.entries(LONGEST).map(([name, longest]) => [name, (said.get(name) ?? "").trim().slice(0, longest)]));
+  const told = Object.fromEntries(
+    Object.entries(LONGEST).map(([name, longest]) => [name, (said.get(name) ?? "").trim().slice(0, longest)])
+  );
   return said.getAll("receipt").flatMap(receiptsIn).map((receipt) => ({ book, receipt, ...told }));
 }
 

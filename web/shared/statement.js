@@ -50,7 +50,10 @@ function closingOf(lines) {
 }
 
 function readOwed(lines) {
-  return { principal: penceOf(lines.take("Principal")), charges: penceOf(lines.take("Charges")), owing: penceOf(lines.take("Owing")) };
+  return {
+    principal: penceOf(lines.take("Principal")), charges: penceOf(lines.take("Charges")),
+    owing: penceOf(lines.take("Owing")),
+  };
 }
 
 function entryOf(text) {
@@ -58,7 +61,10 @@ function entryOf(text) {
   return { seq: Number(seq), day, sort, pence: penceOf(amount) };
 }
 
-/** The statement as values: amounts in pence, days as texts. What is owed is null once the pledge has passed. Throws where it is no statement. */
+/**
+ * The statement as values: amounts in pence, days as texts. What is owed is null once the pledge has passed. Throws
+ * where it is no statement.
+ */
 export function readStatement(text) {
   const lines = new Lines(text);
   const number = Number(lines.take("Pledge"));
@@ -75,5 +81,8 @@ export function readStatement(text) {
   const entries = lines.takeAll("Entry").map(entryOf);
   if (lines.lines.length > 0) throw new Error("the statement goes on");
   const nextSeq = entries.length + 1;
-  return { number, article, kind, credit: penceOf(credit), taken, ends, extensions, status, owed, held, booking, closing, entries, nextSeq };
+  return {
+    number, article, kind, credit: penceOf(credit), taken, ends, extensions, status, owed, held, booking, closing,
+    entries, nextSeq,
+  };
 }

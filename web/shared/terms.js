@@ -15,7 +15,8 @@ export function interestInWords({ rate }) {
   return `${inPounds(Math.floor((SAMPLE * rate * MONTH) / MILLION))} in 30 days on £100`;
 }
 
-const keeping = (millionths) => (millionths === 0 ? "nothing" : `${small(Math.floor((millionths * MONTH) / MILLION))} in 30 days`);
+const keeping = (millionths) =>
+  (millionths === 0 ? "nothing" : `${small(Math.floor((millionths * MONTH) / MILLION))} in 30 days`);
 
 /** Safe keeping up to the end of the period and after it. */
 export function keepingInWords({ keepBefore, keepAfter }) {

@@ -1,4 +1,7 @@
-/** Texts that go to the service: blanks at their ends are taken off, and their length is counted in bytes as the service counts it. */
+/**
+ * Texts that go to the service: blanks at their ends are taken off, and their length is counted in bytes as the service
+ * counts it.
+ */
 import { Unreadable } from "/shared/unreadable.js";
 
 const bytesOf = (text) => new TextEncoder().encode(text).length;
@@ -8,7 +11,9 @@ export function readText(text, { field, name, most }) {
   const trimmed = text.trim().replace(/\s+/g, " ");
   if (trimmed === "") throw new Unreadable(`${name} is empty. Write at least a letter.`, field);
   const over = bytesOf(trimmed) - most;
-  if (over > 0) throw new Unreadable(`${name} is too long by ${over} (${most} plain letters have room; a letter such as é or £ counts two).`, field);
+  if (over > 0) throw new Unreadable(
+    `${name} is too long by ${over} (${most} plain letters have room; a letter such as é or £ counts two).`, field,
+  );
   return trimmed;
 }
 
