@@ -195,6 +195,20 @@ class Browser:
         whole = f"const done = arguments[arguments.length - 1]; (async (...given) => {{ {script} }})(...arguments).then(done, (fault) => done(String(fault)))"
         return self.ask("POST", "/execute/async", {"script": whole, "args": list(arguments)})
 
+    @contextlib.contextmanager
+    def without_a_line(self):
+        """The browser reaches nobody."""
+        def put(offline):
+            line = {"latency": 0, "downloadThroughput": -1, "uploadThroughput": -1}
+            self.devtools("Network.enable")
+            self.devtools("Network.emulateNetworkConditions", offline=offline, **line)
+
+        put(True)
+        try:
+            yield
+        finally:
+            put(False)
+
     def devtools(self, command, **parameters):
         return self.ask("POST", "/goog/cdp/execute", {"cmd": command, "params": parameters})
 
