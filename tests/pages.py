@@ -8,7 +8,7 @@ import subprocess
 
 from browser import Pages
 from pages_steps import (
-    ago, book_text, browser, command, drive, fill_book, find, make_book, no_faults, open_book, part, read, show_receipt,
+    ago, book_text, browser, command, main, fill_book, find, make_book, no_faults, open_book, part, read, show_receipt,
     take_a_ring, the_book_is_read,
 )
 from service import BROKER, OPERATOR, TOP, Failed, expect
@@ -217,7 +217,7 @@ return [field.name, field.ariaInvalid, said.textContent, Math.abs(apart) < 200];
 """
 
 
-drive(
+main(
     115, (),
     (by_the_keyboard_alone, screens_of_each_width_light_and_dark, what_nginx_sends_and_notes, starts_that_are_refused),
 )

@@ -5,7 +5,7 @@ import os
 
 from browser import Pages
 from pages_steps import (
-    agree, ago, book_text, browser, command, drive, entries, fill_book, find, in_short, in_words, make_book, no_faults,
+    agree, ago, book_text, browser, command, main, entries, fill_book, find, in_short, in_words, make_book, no_faults,
     open_book, part, receipts_made, secret_of, send_taking, take_a_ring, the_book_is_read, unfold,
 )
 from service import expect, six_months_after, today
@@ -436,7 +436,7 @@ def the_till_tells_it():
     no_faults()
 
 
-drive(
+main(
     115, (),
     (
         a_dead_receipt_is_not_printed_as_new, a_receipt_that_dies_while_it_is_taken_is_not_printed,

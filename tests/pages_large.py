@@ -8,7 +8,7 @@ import time
 import uuid
 
 from browser import Pages
-from pages_steps import browser, drive, find, no_faults, open_book, part
+from pages_steps import browser, main, find, no_faults, open_book, part
 from service import BROKER, OPERATOR, Failed, Server, expect, opened, six_months_after, today
 from stores import answer, keyed
 
@@ -182,4 +182,4 @@ def a_book_of_20000():
     a_book_of(20000)
 
 
-drive(170, (), (a_book_of_2000, a_book_of_20000))
+main(170, (), (a_book_of_2000, a_book_of_20000))

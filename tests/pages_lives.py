@@ -7,7 +7,7 @@ import re
 
 from browser import Pages, wait_for
 from pages_steps import (
-    SHOP, WRONG_SECRET, ago, book_text, browser, command, drive, entries, find, in_words, make_book, no_faults,
+    SHOP, WRONG_SECRET, ago, book_text, browser, command, main, entries, find, in_words, make_book, no_faults,
     open_book, part, receipts_made, show_receipt, take_a_ring, unfold,
 )
 from service import BROKER, expect, six_months_after, today
@@ -348,7 +348,7 @@ def a_service_that_is_down():
         no_faults()
 
 
-drive(
+main(
     115, (),
     (
         the_life_of_a_pledge, a_running_account_and_what_is_refused, a_lost_receipt_is_replaced,

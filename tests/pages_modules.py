@@ -9,7 +9,7 @@ import subprocess
 import tempfile
 
 from browser import Pages
-from pages_steps import ago, book_text, browser, drive, files, fill_book, in_words, no_faults, read, row
+from pages_steps import ago, book_text, browser, main, files, fill_book, in_words, no_faults, read, row
 from service import BROKER, OPERATOR, expect, six_months_after, today
 from square_code import text_of_code
 
@@ -364,7 +364,7 @@ def each_refusal_has_a_sentence():
     expect("each has a sentence of its own", (len(set(whys)), len(wanted)), (len(found), len(found)))
 
 
-drive(
+main(
     115, (each_refusal_has_a_sentence, no_text_becomes_code_or_markup),
     (
         days_and_amounts_as_people_write_them, statements_are_read, sheets_are_read, books_of_both_versions_are_read,

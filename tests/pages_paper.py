@@ -7,7 +7,7 @@ import tempfile
 
 from browser import PACKAGES, Pages, missing, provide
 from pages_steps import (
-    ago, book_text, browser, command, drive, fill_book, find, in_short, in_words, make_book, no_faults, open_book, part,
+    ago, book_text, browser, command, main, fill_book, find, in_short, in_words, make_book, no_faults, open_book, part,
     show_receipt, take_a_ring, the_book_is_read,
 )
 from service import expect, six_months_after, today
@@ -158,4 +158,4 @@ def all_else_goes_on_a4():
 
 if provide({**PACKAGES, **READER}) and missing(READER):
     print("not tried: what stands on the paper, since there is no pdftotext", flush=True)
-drive(115, (), (a_receipt_is_one_a5, a_receipt_without_more, all_else_goes_on_a4))
+main(115, (), (a_receipt_is_one_a5, a_receipt_without_more, all_else_goes_on_a4))

@@ -5,7 +5,7 @@ import re
 
 from browser import Pages, wait_for
 from pages_steps import (
-    agree, ago, browser, command, drive, entries, in_short, in_words, make_book, no_faults, open_book, show_receipt,
+    agree, ago, browser, command, main, entries, in_short, in_words, make_book, no_faults, open_book, show_receipt,
     take_a_ring,
 )
 from service import expect, six_months_after, today
@@ -192,7 +192,7 @@ def the_link_names_the_shop():
         no_faults()
 
 
-drive(
+main(
     115, (),
     (
         two_equal_payments_are_two, what_the_page_says_of_links, without_a_line, a_payment_whose_reply_is_lost_for_good,

@@ -7,7 +7,7 @@ import random
 import tempfile
 
 from browser import Pages
-from pages_steps import browser, drive
+from pages_steps import browser, main
 from service import BROKER, OPERATOR, Failed, expect, six_months_after
 from stores import answer, keyed, statement
 
@@ -175,4 +175,4 @@ def what_will_be_owed_is_what_the_program_says():
         raise Failed(f"only {owed} amounts were compared")
 
 
-drive(290, (), (what_will_be_owed_is_what_the_program_says,))
+main(290, (), (what_will_be_owed_is_what_the_program_says,))

@@ -5,7 +5,8 @@ import os
 import signal
 
 from browser import Browser, Pages, missing, provide
-from service import BROKER, OPERATOR, TOP, Failed, expect, main, today
+from service import main as run_tests
+from service import BROKER, OPERATOR, TOP, Failed, expect, today
 
 WEB = os.path.join(TOP, "web")
 WRONG_SECRET = "00000000-0000-4000-8000-000000000000"
@@ -163,7 +164,7 @@ def ago(days):
     return today() - datetime.timedelta(days=days)
 
 
-def drive(bound, static, in_a_browser):
+def main(bound, static, in_a_browser):
     """Runs the tests within so many seconds, those in a browser if there is one."""
     def too_long(*_):
         signal.alarm(2)
@@ -171,8 +172,8 @@ def drive(bound, static, in_a_browser):
 
     if provide():
         print(f"not tried: the pages in a browser, since there is no {' and no '.join(missing())}", flush=True)
-        main(*static)
+        run_tests(*static)
     signal.signal(signal.SIGALRM, too_long)
     signal.alarm(bound)
     with browser:
-        main(*static, *in_a_browser)
+        run_tests(*static, *in_a_browser)

@@ -88,8 +88,8 @@ onSend(byId("open"), "broker", async (fields) => {
   keepSession();
   if (fields.shop.trim()) keepShop({ name: fields.shop });
   byId("open").reset();
-  readLedger().catch(() => {});
   await showPart({ focus: true });
+  readLedger().catch(() => {});
   return "";
 });
 
@@ -129,5 +129,4 @@ setUpShop(showWhose);
 addEventListener("hashchange", () => showPart({ focus: true }));
 document.addEventListener("visibilitychange", tick);
 setInterval(tick, TICK);
-if (current() !== null) readLedger().catch(() => {});
-showPart({ focus: false });
+showPart({ focus: false }).then(() => current() && readLedger().catch(() => {}));
