@@ -8,7 +8,7 @@ import subprocess
 
 from browser import Pages
 from pages_steps import (
-    ago, book_text, browser, command, main, fill_book, find, make_book, no_faults, open_book, part, read, show_receipt,
+    ago, book_text, browser, command, fill_book, find, main, make_book, no_faults, open_book, part, read, show_receipt,
     take_a_ring, the_book_is_read,
 )
 from service import BROKER, OPERATOR, TOP, Failed, expect

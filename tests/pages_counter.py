@@ -5,7 +5,7 @@ import os
 
 from browser import Pages
 from pages_steps import (
-    agree, ago, book_text, browser, command, main, entries, fill_book, find, in_short, in_words, make_book, no_faults,
+    agree, ago, book_text, browser, command, entries, fill_book, find, in_short, in_words, main, make_book, no_faults,
     open_book, part, receipts_made, secret_of, send_taking, take_a_ring, the_book_is_read, unfold,
 )
 from service import expect, six_months_after, today
@@ -67,6 +67,57 @@ def a_receipt_that_dies_while_it_is_taken_is_not_printed():
         send_taking(article="Gold ring", ref="A1", amount="100")
         browser.says("Pledge 1 has this reference since", "#taking")
         there_is_no_paper()
+
+
+def a_receipt_has_the_terms_of_its_pledge():
+    """Newer terms that another till put are those of the pledge; and a receipt that is printed again keeps its own."""
+    with Pages() as pages:
+        make_book(pages)
+        open_book(pages)
+        the_book_is_read()
+        put = {"keep_after": 0, "keep_before": 1000000, "rate": 1000, "version": 2}
+        expect("newer terms", pages.session.broker("POST", "/books/7/terms", put), (200, {"version": 2}))
+        take_a_ring()
+        browser.says("£3.00 in 30 days on £100", ".paper")
+        browser.says("30p in 30 days, after the end nothing", ".paper")
+        put = {**put, "rate": 0, "version": 3}
+        expect("newer terms again", pages.session.broker("POST", "/books/7/terms", put), (200, {"version": 3}))
+        browser.ask("POST", "/refresh", {})
+        find("1")
+        command("Print the receipt again", "Print the receipt again")
+        agree()
+        browser.says("£3.00 in 30 days on £100", ".paper")
+        _, text = pages.session.broker("GET", "/books/7/export")
+        expect("no terms were put by the page", text.count("\nT,"), 3)
+        no_faults()
+
+
+def a_new_receipt_that_another_replaced_is_not_printed():
+    with Pages() as pages:
+        make_book(pages)
+        pages.session.open_pledge(1)
+        open_book(pages)
+        find("1")
+        browser.says("£100.00 owed today", "#statement")
+        browser.run(DECLARED_TWICE)
+        command("Replace a lost receipt", "Make a new receipt")
+        agree()
+        browser.says("another one took its place at the same time", "#commands")
+        there_is_no_paper()
+        expect("three receipts were made", len(receipts_made(pages, 1)), 3)
+
+
+# Another till declares the same receipt lost once this page's declaration was answered.
+DECLARED_TWICE = """
+const real = window.fetch;
+window.fetch = async (path, how) => {
+  const reply = await real(path, how);
+  if (path.endsWith("/declare")) {
+    window.fetch = real;
+    await real(path, how);
+  }
+  return reply;
+};"""
 
 
 def two_equal_payments_are_two():
@@ -440,6 +491,7 @@ main(
     115, (),
     (
         a_dead_receipt_is_not_printed_as_new, a_receipt_that_dies_while_it_is_taken_is_not_printed,
+        a_receipt_has_the_terms_of_its_pledge, a_new_receipt_that_another_replaced_is_not_printed,
         two_equal_payments_are_two, redemption_by_the_paper, a_receipt_is_printed_again, who_waits_for_another_day,
         what_is_due, a_visit_that_was_changed_is_not_confirmed_unseen, references_are_found, all_entries_can_be_seen,
         back_reload_and_today, what_is_typed_is_looked_at, the_same_file_is_one_import, a_shops_day,

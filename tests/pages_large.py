@@ -8,7 +8,7 @@ import time
 import uuid
 
 from browser import Pages
-from pages_steps import browser, main, find, no_faults, open_book, part
+from pages_steps import browser, find, main, no_faults, open_book, part
 from service import BROKER, OPERATOR, Failed, Server, expect, opened, six_months_after, today
 from stores import answer, keyed
 

@@ -7,7 +7,7 @@ import re
 
 from browser import Pages, wait_for
 from pages_steps import (
-    SHOP, WRONG_SECRET, ago, book_text, browser, command, main, entries, find, in_words, make_book, no_faults,
+    SHOP, WRONG_SECRET, ago, book_text, browser, command, entries, find, in_words, main, make_book, no_faults,
     open_book, part, receipts_made, show_receipt, take_a_ring, unfold,
 )
 from service import BROKER, expect, six_months_after, today

@@ -9,7 +9,7 @@ import subprocess
 import tempfile
 
 from browser import Pages
-from pages_steps import ago, book_text, browser, main, files, fill_book, in_words, no_faults, read, row
+from pages_steps import ago, book_text, browser, files, fill_book, in_words, main, no_faults, read, row
 from service import BROKER, OPERATOR, expect, six_months_after, today
 from square_code import text_of_code
 

@@ -7,7 +7,7 @@ import tempfile
 
 from browser import PACKAGES, Pages, missing, provide
 from pages_steps import (
-    ago, book_text, browser, command, main, fill_book, find, in_short, in_words, make_book, no_faults, open_book, part,
+    ago, book_text, browser, command, fill_book, find, in_short, in_words, main, make_book, no_faults, open_book, part,
     show_receipt, take_a_ring, the_book_is_read,
 )
 from service import expect, six_months_after, today

@@ -5,7 +5,7 @@ import re
 
 from browser import Pages, wait_for
 from pages_steps import (
-    agree, ago, browser, command, main, entries, in_short, in_words, make_book, no_faults, open_book, show_receipt,
+    agree, ago, browser, command, entries, in_short, in_words, main, make_book, no_faults, open_book, show_receipt,
     take_a_ring,
 )
 from service import expect, six_months_after, today
