@@ -11,6 +11,9 @@ from pages_steps import (
 from service import expect, six_months_after, today
 
 
+ENTER = "\ue007"
+
+
 def there_is_no_paper():
     expect("no receipt is shown", browser.run("return document.querySelectorAll('.paper').length"), 0)
 
@@ -186,6 +189,11 @@ def redemption_by_the_paper():
         part("all")
         browser.fill("#searching", text=receipt)
         browser.says("1 of 1 pledges", "#all")
+        part("due")
+        browser.until("return document.activeElement.matches('#due h1')", "the focus in no field")
+        browser.keys(link + ENTER)
+        browser.until("return location.hash === '#pledge=1'", "the pledge of a link that was scanned anywhere")
+        browser.says("This receipt is not live: pledge 1 was redeemed with it", "#commands")
         part("take")
         browser.fill("#taking", article="x", ref=link, amount="1")
         browser.press("#taking button", "Take the pledge")

@@ -48,7 +48,7 @@ def what_the_page_says_of_links():
         receipt = pages.session.open_pledge(1)
         show_receipt(pages, receipt)
         browser.says("Gold ring", "#cards")
-        browser.says("But a link that you opened may stay in the browser’s history, with the receipt.")
+        browser.says("And a link that you opened may stay in the browser’s history, with the receipt.")
         browser.says("open the link in a private window")
         expect("what is not so", "keeps it in this tab alone" in browser.text(), False)
 

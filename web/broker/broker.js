@@ -12,6 +12,7 @@ import { setUpFiles } from "./files.js";
 import { clearChoices, setUpFinding } from "./find.js";
 import { forgetLedger, ledgerState, onLedger, readIfOld, readLedger } from "./ledger.js";
 import { clearPledge, redrawPledge, showPledge } from "./pledge.js";
+import { setUpScanner } from "./scanner.js";
 import { askBook, begin, current, end, keepSession } from "./session.js";
 import { keepShop, setUpShop, shop, showShop } from "./shop.js";
 import { clearTaking, setUpTaking, showTaking } from "./take.js";
@@ -124,6 +125,7 @@ onLedger(({ sort }) => {
 
 [
   setUpAge, setUpToday, setUpTaking, setUpFinding, setUpAll, setUpTill, setUpTerms, setUpFiles,
+  setUpScanner,
 ].forEach((setUp) => setUp());
 setUpShop(showWhose);
 addEventListener("hashchange", () => showPart({ focus: true }));
