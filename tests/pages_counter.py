@@ -299,6 +299,49 @@ def a_visit_that_was_changed_is_not_confirmed_unseen():
         no_faults()
 
 
+EXPORTS = "return performance.getEntriesByType('resource').filter(({ name }) => name.endsWith('/export')).length"
+
+# The page's clock goes on by so many seconds, and the page is looked at again.
+LATER = """
+const real = Object.getPrototypeOf(Date.prototype).constructor === Object ? Date : Object.getPrototypeOf(Date);
+const more = arguments[0] * 1000;
+window.Date = class Later extends real {
+  constructor(...given) { if (given.length) super(...given); else super(real.now() + more); }
+  static now() { return real.now() + more; }
+};
+document.dispatchEvent(new Event("visibilitychange"));
+"""
+
+
+def the_book_is_read_anew():
+    """Where another changed it, and after ten minutes; and by the button."""
+    with Pages() as pages:
+        make_book(pages)
+        pages.session.open_pledge(1)
+        open_book(pages)
+        the_book_is_read()
+        pages.session.open_pledge(2)
+        pages.session.broker("POST", "/books/7/pledges/1/repay", {"pence": 1000, "seq": 1})
+        find("1")
+        browser.says("£90.00 owed today", "#statement")
+        expect("not at once", browser.run(EXPORTS), 1)
+        browser.run(LATER, 31)
+        browser.until(EXPORTS.replace("length", "length === 2"), "the book after another's change")
+        part("all")
+        browser.says("2 of 2 pledges", "#all")
+        pages.session.open_pledge(3)
+        browser.run(LATER, 500)
+        browser.says("The book was read 7 minutes ago", "#book-line")
+        expect("not before ten minutes", browser.run(EXPORTS), 2)
+        browser.run(LATER, 700)
+        browser.says("3 of 3 pledges", "#all")
+        pages.session.open_pledge(4)
+        browser.press("#read-book")
+        browser.says("4 of 4 pledges", "#all")
+        expect("four times in all", browser.run(EXPORTS), 4)
+        no_faults()
+
+
 def references_are_found():
     with Pages() as pages:
         make_book(pages)
@@ -501,7 +544,8 @@ main(
         a_dead_receipt_is_not_printed_as_new, a_receipt_that_dies_while_it_is_taken_is_not_printed,
         a_receipt_has_the_terms_of_its_pledge, a_new_receipt_that_another_replaced_is_not_printed,
         two_equal_payments_are_two, redemption_by_the_paper, a_receipt_is_printed_again, who_waits_for_another_day,
-        what_is_due, a_visit_that_was_changed_is_not_confirmed_unseen, references_are_found, all_entries_can_be_seen,
-        back_reload_and_today, what_is_typed_is_looked_at, the_same_file_is_one_import, a_shops_day,
+        what_is_due, the_book_is_read_anew, a_visit_that_was_changed_is_not_confirmed_unseen, references_are_found,
+        all_entries_can_be_seen, back_reload_and_today, what_is_typed_is_looked_at, the_same_file_is_one_import,
+        a_shops_day,
     ),
 )

@@ -26,11 +26,13 @@ export class Rows {
 
   /** Shows these items, from the first or from where the list stands. */
   show(items, stay) {
+    const focused = [...this.drawn].find(([, row]) => row.contains(document.activeElement))?.[0];
     this.items = items;
     this.clear();
     this.canvas.style.setProperty("height", `${items.length * HEIGHT}px`);
     if (!stay) this.element.scrollTop = 0;
     this.draw();
+    this.drawn.get(focused)?.firstChild.focus({ preventScroll: true });
   }
 
   clear() {

@@ -72,11 +72,14 @@ function draw() {
   byId("sheet-title").textContent = sheet.day === now
     ? `Today, ${inWords(now)}`
     : `${inWords(sheet.day)}, ${seenFrom(now, sheet.day)}`;
-  byId("sheet").replaceChildren(
+  const cards = [
     card("Coming", sheet.windows.map(windowLine), "No visit is confirmed for this day."),
     waitingCard(now),
     card("Period ends", sheet.ends.map((number) => make("li", {}, pledgeLink(number))), "No period ends on this day."),
-  );
+  ];
+  // Where nothing is new, whatever has the focus or is being pressed stays.
+  const isNew = cards.map(({ textContent }) => textContent).join("") !== byId("sheet").textContent;
+  if (isNew) byId("sheet").replaceChildren(...cards);
 }
 
 /** Whether the sheet has an ask that the book in the page has not: somebody asked since it was read. */
