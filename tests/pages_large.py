@@ -8,7 +8,7 @@ import time
 import uuid
 
 from browser import Pages
-from pages_steps import browser, find, main, no_faults, open_book, part
+from pages_steps import browser, find, main, no_faults, part
 from service import BROKER, OPERATOR, Failed, Server, expect, opened, six_months_after, today
 from stores import answer, keyed
 
@@ -134,18 +134,23 @@ def kept():
     return browser.devtools("Runtime.getHeapUsage")["usedSize"] / 1e6
 
 
+def opened_within():
+    """How long after the key the first screen is there, and the whole book, in milliseconds."""
+    browser.fill("#open", book="7", key=BROKER)
+    begun = time.monotonic()
+    browser.press("#open button")
+    browser.until("return document.querySelector('#sheet .card') !== null", "the first screen", patience=60)
+    screen = time.monotonic() - begun
+    read = "return document.querySelector('#book-age').textContent.startsWith('The book was read ')"
+    browser.until(read, "the whole book", patience=60)
+    return screen * 1000, (time.monotonic() - begun) * 1000
+
+
 def a_book_of(count):
     with Pages(lambda room: Server(filled(os.path.join(room, "books.db"), count))) as pages:
         browser.go(pages.address + "/broker/")
         before = kept()
-        begun = time.monotonic()
-        open_book(pages)
-        browser.until(
-            "return document.querySelector('#sheet .card') && "
-            "document.querySelector('#book-age').textContent.startsWith('The book was read ')",
-            "the first screen", patience=60,
-        )
-        ready = (time.monotonic() - begun) * 1000
+        screen, ready = opened_within()
         browser.says("Waiting for an answer, on any day", "#sheet")
         expect("who waits", browser.run("return document.querySelectorAll('#sheet .lines li').length > 0"), True)
         size = len(pages.session.broker("GET", "/books/7/export")[1]) / 1e6
@@ -156,11 +161,12 @@ def a_book_of(count):
         tell(
             count,
             [
-                f"{size:.1f} MB", f"first screen and whole book {ready:.0f} ms", f"slowest find {found:.0f} ms",
-                f"Due {taken:.0f} ms", f"at most {max(rows, due_rows)} rows", f"{memory:.0f} MB kept",
+                f"{size:.1f} MB", f"first screen {screen:.0f} ms", f"whole book {ready:.0f} ms",
+                f"slowest find {found:.0f} ms", f"Due {taken:.0f} ms", f"at most {max(rows, due_rows)} rows",
+                f"{memory:.0f} MB kept",
             ],
         )
-        for what, value, wanted in (("the first screen", ready, READY), ("a find", found, FOUND), ("Due", taken, DUE)):
+        for what, value, wanted in (("the whole book", ready, READY), ("a find", found, FOUND), ("Due", taken, DUE)):
             is_within(what, value, wanted)
         expect("few rows", max(rows, due_rows) <= ROWS, True)
         it_is_worked_with(count)

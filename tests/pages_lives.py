@@ -3,12 +3,11 @@
 in build/pages/."""
 import datetime
 import os
-import re
 
 from browser import Pages, wait_for
 from pages_steps import (
-    SHOP, WRONG_SECRET, ago, book_text, browser, command, entries, find, in_words, main, make_book, no_faults,
-    open_book, part, receipts_made, show_receipt, take_a_ring, unfold,
+    WRONG_SECRET, ago, book_text, browser, command, entries, find, in_words, main, make_book, no_faults,
+    open_book, part, receipts_made, show_receipt, take_a_ring,
 )
 from service import BROKER, expect, six_months_after, today
 

@@ -2,7 +2,6 @@
 """The pages' modules by themselves, in the browser's own engine: days, amounts, statements, sheets, books, receipts,
 terms, periods, references, codes."""
 import datetime
-import random
 import re
 import shutil
 import subprocess

@@ -4,7 +4,7 @@ import datetime
 import os
 import signal
 
-from browser import Browser, Pages, missing, provide
+from browser import Browser, missing, provide
 from service import main as run_tests
 from service import BROKER, OPERATOR, TOP, Failed, expect, today
 

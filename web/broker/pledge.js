@@ -1,5 +1,5 @@
 /** One pledge of the book, with its statement and its commands. What is said of it was read just then. */
-import { byId, foreign, make } from "/shared/dom.js";
+import { byId, foreign } from "/shared/dom.js";
 import { inShort } from "/shared/days.js";
 import { Refused } from "/shared/faults.js";
 import { fieldsOf, makeNotice, run, sayAfter, tell } from "/shared/forms.js";

@@ -15,7 +15,7 @@ const dayField = () => byId("till-day").elements.day;
 const sum = (lines) => lines.reduce((total, { pence }) => total + pence, 0);
 
 /** What was done on a day, as lines of a pledge and an amount. Nothing is paid out when a running account is opened. */
-export function tillOf(book, day) {
+function tillOf(book, day) {
   const lists = { taken: [], drawn: [], repaid: [], redeemed: [], sold: [] };
   for (const pledge of book.pledges) {
     if (pledge.taken === day) lists.taken.push({ pledge, pence: pledge.kind === "fixed" ? pledge.pence : 0 });

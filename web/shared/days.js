@@ -22,9 +22,6 @@ export function inWords(day) {
 /** 26 November 2026, where the day of the week doesn't matter. */
 export const inShort = (day) => inWords(day).split(" ").slice(1).join(" ");
 
-/** November 2026, of any day in it. */
-export const monthOf = (day) => inWords(day).split(" ").slice(2).join(" ");
-
 /** How many days the second is after the first. */
 export const daysBetween = (first, second) => Math.round((dateOf(second) - dateOf(first)) / ONE_DAY);
 

@@ -16,10 +16,3 @@ for (const name of ["beforeprint", "afterprint"]) {
     }
   });
 }
-
-/** A button that prints the page. */
-export function printButton(words, make) {
-  const button = make("button", { type: "button", className: "plain screen" }, words);
-  button.addEventListener("click", () => print());
-  return button;
-}
