@@ -162,22 +162,42 @@ def each_part_is_right(scheme):
         browser.shoot(f"{scheme}-{name}")
 
 
-def screens_of_each_width_light_and_dark():
-    pledges = [
-        ("Clock", "D1", 9000, ago(400), ago(2), "yes"),
-        (
-            "Ring with a very long name that goes on, and on, to eighty letters and no more",
-            "A-REFERENCE-OF-FORTY-LETTERS-IN-ONE-WORD", 9000, ago(3), "", "no",
-        ),
+LONG_NAMES = (
+    "Ring with a very long name that goes on, and on, to eighty letters and no more",
+    "A-REFERENCE-OF-FORTY-LETTERS-IN-ONE-WORD",
+)
+RING = "2-00000002-0000-4000-8000-000000000000"
+
+
+def fill_with_all_sorts(pages):
+    """A book with a pledge of each sort, long names and large sums; somebody asks to come."""
+    fill_book(pages, book_text([
+        ("Clock", "D1", 9000, ago(400), ago(2), "yes"), (*LONG_NAMES, 9000, ago(3), "", "no"),
         ("Lamp", "D5", 100000000, ago(400), ago(-30), "no"), ("Vase", "D7", 9000, ago(400), "", "no"),
         ("Watch", "D8", 5000, ago(400), "", "no"),
-    ]
+    ]))
+    pages.session.bearer(RING, "POST", "/books/7/held/ask", {"day": str(ago(-3)), "window": 2})
+
+
+def a_pledge_is_right(scheme):
+    """A pledge with a refusal, and a receipt."""
+    find("2")
+    browser.says("asked for, not confirmed yet", "#statement")
+    command("Repayment", "Record the repayment", amount="x")
+    browser.says("Write the amount in pounds", "#commands")
+    wanted = ["amount", "true", "Write the amount in pounds, as 100 or 99.50.", True]
+    expect("the refusal is tied to its field, and stands near it", browser.run(TIED), wanted)
+    is_right(f"{scheme} pledge")
+    browser.shoot(f"{scheme}-pledge")
+    take_a_ring(reference=scheme)
+    is_right(f"{scheme} receipt")
+    browser.shoot(f"{scheme}-receipt")
+
+
+def screens_of_each_width_light_and_dark():
     with Pages() as pages:
         make_book(pages, terms=False)
-        fill_book(pages, book_text(pledges))
-        pages.session.bearer(
-            "2-00000002-0000-4000-8000-000000000000", "POST", "/books/7/held/ask", {"day": str(ago(-3)), "window": 2},
-        )
+        fill_with_all_sorts(pages)
         for scheme in ("light", "dark"):
             browser.devtools("Emulation.setEmulatedMedia", features=[{"name": "prefers-color-scheme", "value": scheme}])
             browser.forget()
@@ -188,20 +208,8 @@ def screens_of_each_width_light_and_dark():
             open_book(pages)
             the_book_is_read()
             each_part_is_right(scheme)
-            find("2")
-            browser.says("asked for, not confirmed yet", "#statement")
-            command("Repayment", "Record the repayment", amount="x")
-            browser.says("Write the amount in pounds", "#commands")
-            expect(
-                "the refusal is tied to its field, and stands near it", browser.run(TIED),
-                ["amount", "true", "Write the amount in pounds, as 100 or 99.50.", True],
-            )
-            is_right(f"{scheme} pledge")
-            browser.shoot(f"{scheme}-pledge")
-            take_a_ring(reference=scheme)
-            is_right(f"{scheme} receipt")
-            browser.shoot(f"{scheme}-receipt")
-            show_receipt(pages, "2-00000002-0000-4000-8000-000000000000")
+            a_pledge_is_right(scheme)
+            show_receipt(pages, RING)
             browser.says("Still yours", "#cards")
             is_right(f"{scheme} pawnor")
             browser.shoot(f"{scheme}-pawnor")

@@ -146,6 +146,13 @@ def forty_receipts_at_once():
         )
         browser.says("Ring 40", "#cards")
         expect("none was refused", browser.text("#cards").count("can’t be shown"), 0)
+        expect("nor met the proxy’s limit", browser.run(STATUSES), [200])
+
+
+STATUSES = """
+const asked = performance.getEntriesByType("resource").filter(({ name }) => name.endsWith("/held"));
+return [...new Set(asked.map(({ responseStatus }) => responseStatus))];
+"""
 
 
 def browser_joins(pages, receipts):
