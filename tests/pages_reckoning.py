@@ -97,7 +97,7 @@ def days_to_look(draw, last, book):
     ends = {six_months_after(pledge["day"]) for pledge in book}
     edges = [
         end + datetime.timedelta(days=more)
-        for end in ends for more in (0, 1, 5, 6) if end + datetime.timedelta(days=more) >= last
+        for end in sorted(ends) for more in (0, 1, 5, 6) if end + datetime.timedelta(days=more) >= last
     ]
     far = [last + datetime.timedelta(days=days) for days in (0, 1, 2, 30, 365, 3650, 36500)]
     return sorted(set(draw.sample(edges, min(len(edges), 40)) + far))
