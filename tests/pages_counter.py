@@ -123,6 +123,46 @@ window.fetch = async (path, how) => {
 };"""
 
 
+# Once a command was answered, nothing can be looked at any more.
+THEN_NO_LINE = """
+const [real, command] = [window.fetch, arguments[0]];
+let answered = false;
+window.fetch = async (path, how) => {
+  if (answered) throw new TypeError("no line");
+  const reply = await real(path, how);
+  answered ||= how.method === "POST" && path.endsWith(command);
+  return reply;
+};"""
+
+
+def what_was_done_is_told_where_it_can_no_longer_be_looked_at():
+    with Pages() as pages:
+        make_book(pages)
+        pages.session.open_pledge(1)
+        for action, title, button, says in (
+            ("/repay", "Repayment", "Record the repayment", "It is recorded, but the pledge can’t be read just now."),
+            (
+                "/declare", "Replace a lost receipt", "Make a new receipt",
+                "A new receipt was made, but could not be looked",
+            ),
+        ):
+            open_book(pages)
+            find("1")
+            browser.says("owed today", "#statement")
+            browser.run(THEN_NO_LINE, action)
+            command(title, button, **({"amount": "10"} if action == "/repay" else {}))
+            agree(1)
+            browser.says(says, "#commands", patience=20)
+        there_is_no_paper()
+        open_book(pages)
+        the_book_is_read()
+        browser.run(THEN_NO_LINE, "/pledges")
+        part("take")
+        send_taking(article="Spoon", ref="B1", amount="5")
+        browser.says("Pledge 2 has this reference. It could not be looked at just now", "#taking", patience=20)
+        there_is_no_paper()
+
+
 def two_equal_payments_are_two():
     with Pages() as pages:
         make_book(pages)
@@ -542,10 +582,10 @@ main(
     115, (),
     (
         a_dead_receipt_is_not_printed_as_new, a_receipt_that_dies_while_it_is_taken_is_not_printed,
-        a_receipt_has_the_terms_of_its_pledge, a_new_receipt_that_another_replaced_is_not_printed,
-        two_equal_payments_are_two, redemption_by_the_paper, a_receipt_is_printed_again, who_waits_for_another_day,
-        what_is_due, the_book_is_read_anew, a_visit_that_was_changed_is_not_confirmed_unseen, references_are_found,
-        all_entries_can_be_seen, back_reload_and_today, what_is_typed_is_looked_at, the_same_file_is_one_import,
-        a_shops_day,
+        what_was_done_is_told_where_it_can_no_longer_be_looked_at, a_receipt_has_the_terms_of_its_pledge,
+        a_new_receipt_that_another_replaced_is_not_printed, two_equal_payments_are_two, redemption_by_the_paper,
+        a_receipt_is_printed_again, who_waits_for_another_day, what_is_due, the_book_is_read_anew,
+        a_visit_that_was_changed_is_not_confirmed_unseen, references_are_found, all_entries_can_be_seen,
+        back_reload_and_today, what_is_typed_is_looked_at, the_same_file_is_one_import, a_shops_day,
     ),
 )

@@ -39,6 +39,21 @@ const LOST = "The reply was lost, so a new receipt may have been made. Don’t a
 const OVERTAKEN = "A new receipt was made, but another one took its place at the same time, so it is not shown. "
   + "“Print the receipt again” shows the newest one.";
 
+const UNSEEN = "A new receipt was made, but could not be looked at just now, so it is not shown. "
+  + "Don’t ask for another: “Print the receipt again” shows it.";
+
+/** Shows a receipt that was made just now, if it is live. */
+async function showNew(receipt, paper, desk) {
+  addReceipt(receipt, paper);
+  try {
+    if (!await desk.isLive(receipt)) return { sentence: OVERTAKEN, tone: "bad" };
+    await desk.showReceipt(receipt);
+    return "A new receipt stands below. Print it: the old one is worth nothing.";
+  } catch {
+    return { sentence: UNSEEN, tone: "bad" };
+  }
+}
+
 async function declare({ paper }, desk) {
   const before = paper === "sworn"
     ? "You have the sworn declaration before you."
@@ -49,16 +64,14 @@ async function declare({ paper }, desk) {
     yes: "Make a new receipt", no: "Not now",
   });
   if (!yes) return NOTHING_DONE;
+  let receipt;
   try {
-    const { said } = await desk.command("declare", { paper }, false);
-    addReceipt(said.receipt, paper);
-    if (!await desk.isLive(said.receipt)) return { sentence: OVERTAKEN, tone: "bad" };
-    await desk.showReceipt(said.receipt);
+    receipt = (await desk.command("declare", { paper }, false)).said.receipt;
   } catch (fault) {
     if (fault instanceof Lost) return { sentence: LOST, tone: "bad" };
     throw fault;
   }
-  return "A new receipt stands below. Print it: the old one is worth nothing.";
+  return showNew(receipt, paper, desk);
 }
 
 function choice(value, text, checked) {

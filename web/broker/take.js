@@ -177,6 +177,10 @@ async function settle({ opening, said, known }) {
   return `Taken as pledge ${said.number}. Its receipt is ready to print.`;
 }
 
+/** The pledge was taken, or stood: it is not to be taken again. */
+const UNSEEN = "It could not be looked at just now, so no receipt is shown. Open it in a minute: "
+  + "its receipt can be printed there.";
+
 async function take(fields) {
   place().replaceChildren();
   for (const typed of [fields.ref, fields.article]) if (isReceiptLike(typed)) return openReceipt(typed);
@@ -187,7 +191,12 @@ async function take(fields) {
   const known = await lastNumber();
   await refuseStanding(opening.ref);
   const { said } = await askBook("POST", "/pledges", { body: opening, harmless: true });
-  return settle({ opening, said, known });
+  try {
+    return await settle({ opening, said, known });
+  } catch (fault) {
+    if (fault instanceof Unreadable) throw fault;
+    return { sentence: `Pledge ${said.number} has this reference. ${UNSEEN}`, tone: "bad" };
+  }
 }
 
 /** Offers the next reference where the last ones are a series. */

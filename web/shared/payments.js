@@ -70,8 +70,12 @@ function judge({ now, after, said, day }) {
   return `But ${inPounds(after.owed.owing)} is owed, where ${inPounds(wanted)} was to be. Look at the entries`;
 }
 
+/**
+ * What came of an entry that the service took. After it the pledge may be out of reach: that is not to be done again.
+ */
 function tellOf({ now, after, said, day }) {
   const done = `${WORDS[said.sort].done}: ${inPounds(said.pence)}, on ${inWords(said.day)}.`;
+  if (!after) return { sentence: `${done} It is recorded, but the pledge can’t be read just now.`, tone: "good" };
   const wrong = judge({ now, after, said, day });
   return wrong
     ? { sentence: `${done} ${wrong} before you do more.`, tone: "bad" }
@@ -111,7 +115,7 @@ export async function recordEntry({ shown, read, send, sort, pence }) {
   const day = today();
   try {
     const { said } = await send({ seq: entry.seq, pence });
-    const after = await read();
+    const after = await read().catch(() => null);
     return tellOf({ now, after, said, day });
   } catch (fault) {
     if (!(fault instanceof Lost)) throw fault;
