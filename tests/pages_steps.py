@@ -3,6 +3,7 @@ import contextlib
 import datetime
 import os
 import signal
+import time
 
 from browser import Browser, missing, provide
 from service import main as run_tests
@@ -74,13 +75,16 @@ def unfold(title):
 
 
 def command(title, button, picture=None, **fields):
-    """Unfolds a command, fills its form and sends it; the picture of the form is taken before."""
-    unfold(title)
-    if fields:
-        browser.fill(".action[open] form", **fields)
-    if picture:
-        browser.shoot(picture)
-    browser.press(".action[open] button", button)
+    """Unfolds a command, fills its form and sends it; once more where the folds were drawn anew in between."""
+    for last in (False, True):
+        unfold(title)
+        if fields:
+            browser.fill(".action[open] form", **fields)
+        if picture:
+            browser.shoot(picture)
+        time.sleep(0.1)
+        if last or browser.run("return document.querySelector('.action[open]') !== null"):
+            return browser.press(".action[open] button", button)
 
 
 def entries(pages, number, book=7):
