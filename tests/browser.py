@@ -101,14 +101,17 @@ class Once(Session):
 
 
 class Pages:
-    """The pages by `tools/pages`, in front of a service with an empty book 7."""
+    """The pages by `tools/pages`, in front of a service; of a store in memory, where no other is made in the room."""
+
+    def __init__(self, served=lambda room: Server()):
+        self.served = served
 
     def __enter__(self):
         self.stack = contextlib.ExitStack()
-        self.server = self.stack.enter_context(Server())
-        self.relay = self.stack.enter_context(Relay(self.server.port))
         self.room = self.stack.enter_context(tempfile.TemporaryDirectory())
         os.chmod(self.room, 0o711)
+        self.server = self.stack.enter_context(self.served(self.room))
+        self.relay = self.stack.enter_context(Relay(self.server.port))
         self.port = free_port()
         self.address = f"http://localhost:{self.port}"
         self.session = Once(self.server.port)
@@ -192,6 +195,20 @@ class Browser:
         whole = f"const done = arguments[arguments.length - 1]; (async (...given) => {{ {script} }})(...arguments).then(done, (fault) => done(String(fault)))"
         return self.ask("POST", "/execute/async", {"script": whole, "args": list(arguments)})
 
+    @contextlib.contextmanager
+    def without_a_line(self):
+        """The browser reaches nobody."""
+        def put(offline):
+            line = {"latency": 0, "downloadThroughput": -1, "uploadThroughput": -1}
+            self.devtools("Network.enable")
+            self.devtools("Network.emulateNetworkConditions", offline=offline, **line)
+
+        put(True)
+        try:
+            yield
+        finally:
+            put(False)
+
     def devtools(self, command, **parameters):
         return self.ask("POST", "/goog/cdp/execute", {"cmd": command, "params": parameters})
 
@@ -205,7 +222,15 @@ class Browser:
         return next(iter(found.values()))
 
     def press(self, selector, text=None):
-        self.ask("POST", f"/element/{self.element(selector, text)}/click", {})
+        """Presses an element; once more where it was drawn anew in between."""
+        for last in (False, False, True):
+            try:
+                self.ask("POST", f"/element/{self.element(selector, text)}/click", {})
+                return
+            except Failed as why:
+                if last or not any(word in str(why) for word in ("stale element", "not interactable", "click intercepted")):
+                    raise
+                time.sleep(0.2)
 
     def keys(self, text):
         """Keys that are pressed and let go in turn, wherever the focus is."""

@@ -1,50 +1,61 @@
-/** What can be sold now and what ends this month, read from the whole book. */
-import { byId, foreign, make } from "/dom.js";
-import { inShort, monthOf, seenFrom, today } from "/days.js";
-import { onSend } from "/forms.js";
-import { inPounds } from "/money.js";
-import { endOf, statusOn } from "/period.js";
-import { wholeBook } from "./session.js";
+/** What is due: in grace, ending soon, to be sold, and passed, from the book in the page. */
+import { byId, make } from "/shared/dom.js";
+import { inShort, seenFrom, today } from "/shared/days.js";
+import { inPounds } from "/shared/money.js";
+import { firstDayAfter, willPass } from "/shared/period.js";
+import { dueOf } from "./groups.js";
+import { ledger } from "./ledger.js";
+import { articleCell, numberCell, section } from "./tables.js";
 
-function row(pledge, now) {
-  const ends = endOf(pledge);
-  return make("tr", {},
-    make("td", {}, make("a", { href: `#pledge=${pledge.number}` }, String(pledge.number))),
-    make("td", { className: "article" }, foreign(pledge.article), make("span", { className: "reference" }, foreign(pledge.reference))),
+/** What happens on the first day after: the broker's, or to be sold. */
+const turn = (pledge) => `${willPass(pledge) ? "passes" : "can be sold"} on ${inShort(firstDayAfter(pledge))}`;
+
+const ended = ({ ends }, now) => `${inShort(ends)}, ${seenFrom(now, ends)}`;
+
+/** Each group: its title, what is said where it is empty, and the day that counts for it. */
+const SECTIONS = {
+  grace: {
+    title: "In their days of grace", empty: "No pledge is in its days of grace.", head: "What comes", day: turn,
+  },
+  week: {
+    title: "Ends within 7 days", empty: "No period ends within 7 days.", head: "Period’s end", day: ended, more: turn,
+  },
+  fortnight: {
+    title: "Ends within 14 days, after those", empty: "No period ends on the days after those.", head: "Period’s end",
+    day: ended, more: turn,
+  },
+  month: {
+    title: "Ends within 30 days, after those", empty: "No period ends on the days after those.", head: "Period’s end",
+    day: ended, more: turn,
+  },
+  sale: {
+    title: "Can be sold now", empty: "Nothing can be sold today.", head: "Since",
+    day: (pledge) => inShort(firstDayAfter(pledge)),
+  },
+  passed: {
+    title: "Passed to you", empty: "No article has passed to you.", head: "Since",
+    day: (pledge) => inShort(firstDayAfter(pledge)),
+  },
+};
+
+function rowOf(pledge, { day, more }, now) {
+  const under = more ? make("span", { className: "reference" }, more(pledge)) : null;
+  return make("tr", {}, numberCell(pledge), articleCell(pledge),
     make("td", { className: "number" }, inPounds(pledge.pence)),
-    make("td", { className: "day" }, inShort(ends), make("span", { className: "reference" }, seenFrom(now, ends))));
+    make("td", { className: "when" }, day(pledge, now), under));
 }
 
-function list(title, pledges, empty, now) {
-  const heads = ["No.", "Article and reference", "Credit", "Period’s end"].map((head) => make("th", { scope: "col" }, head));
-  const table = make("table", { className: "list due" }, make("thead", {}, make("tr", {}, ...heads)), make("tbody", {}, ...pledges.map((pledge) => row(pledge, now))));
-  return make("section", { className: "card" }, make("h2", {}, title, make("span", { className: "count" }, String(pledges.length))), pledges.length > 0 ? table : make("p", { className: "empty" }, empty));
+export function showDue() {
+  const book = ledger();
+  if (book === null) return;
+  const now = today();
+  const lists = dueOf(book, now);
+  byId("due-lead").textContent =
+    `On ${inShort(now)}. Sums are what was lent, or the account’s limit: `
+      + `what is owed stands in each pledge’s statement.`;
+  byId("due-lists").replaceChildren(...Object.entries(SECTIONS).map(([name, told]) => section({
+    title: told.title, empty: told.empty, items: lists[name],
+    heads: [["No."], ["Article and reference"], ["Sum", "number"], [told.head]],
+    row: (pledge) => rowOf(pledge, told, now),
+  })));
 }
-
-const byEnd = (first, second) => (endOf(first) < endOf(second) ? -1 : 1);
-
-/** The open pledges of a book that stand so on the day, the earliest end first. */
-export function dueOf(book, now) {
-  const open = book.pledges.filter(({ state }) => state === "open").sort(byEnd);
-  const status = (pledge) => statusOn(pledge, now);
-  return {
-    realisable: open.filter((pledge) => status(pledge) === "realisable"),
-    passed: open.filter((pledge) => status(pledge) === "passed"),
-    ending: open.filter((pledge) => endOf(pledge) >= now && endOf(pledge).slice(0, 7) === now.slice(0, 7)),
-  };
-}
-
-export function setUpDue() {
-  onSend(byId("reading-due"), "broker", async () => {
-    const now = today();
-    const due = dueOf(await wholeBook(), now);
-    byId("due-lists").replaceChildren(
-      list("Can be sold now", due.realisable, "Nothing can be sold today.", now),
-      list(`Period ends in ${monthOf(now)}`, due.ending, "No period ends in the rest of this month.", now),
-      list("Passed to you", due.passed, "No article has passed to you.", now),
-    );
-    return "";
-  });
-}
-
-export const showDue = () => byId("reading-due").requestSubmit();

@@ -1,21 +1,24 @@
 /** The book as a file, out and in. */
-import { byId, make } from "/dom.js";
-import { today } from "/days.js";
-import { onSend } from "/forms.js";
-import { Unreadable } from "/unreadable.js";
+import { byId, make } from "/shared/dom.js";
+import { today } from "/shared/days.js";
+import { onSend } from "/shared/forms.js";
+import { Unreadable } from "/shared/unreadable.js";
+import { readLedger } from "./ledger.js";
 import { askBook, current } from "./session.js";
 
 const LONGEST = 1_048_576;
+const KEY_BYTES = 16;
 
-/** The key of each text that was sent from this page, so that the same text is never an import of its own twice. */
-const importKeys = new Map();
-
-/** A new key: 32 random digits. */
-const newKey = () => [...crypto.getRandomValues(new Uint8Array(16))].map((byte) => byte.toString(16).padStart(2, "0")).join("");
-
-function keyOf(text) {
-  if (!importKeys.has(text)) importKeys.set(text, newKey());
-  return importKeys.get(text);
+/**
+ * The key of an import: the beginning of the file's SHA-256, so that the same file is the same import, whenever and
+ * wherever it is sent.
+ */
+async function keyOf(bytes) {
+  if (!crypto.subtle) throw new Unreadable(
+    "A file can only be sent where this page was opened by https, or on this machine."
+  );
+  const digest = new Uint8Array(await crypto.subtle.digest("SHA-256", bytes));
+  return [...digest.slice(0, KEY_BYTES)].map((byte) => byte.toString(16).padStart(2, "0")).join("");
 }
 
 async function saveBook() {
@@ -27,11 +30,16 @@ async function saveBook() {
 }
 
 async function fillBook({ file }) {
-  if (!file?.name) throw new Unreadable("Choose a file.");
-  if (file.size > LONGEST) throw new Unreadable("The file is above a mebibyte. A book as large as that is moved by whoever runs the service.");
-  const text = await file.text();
-  const { said } = await askBook("POST", "/import", { body: text, harmless: true, importKey: keyOf(text) });
-  return said.imported === 1 ? "The book is filled: 1 pledge came." : `The book is filled: ${said.imported} pledges came.`;
+  if (!file?.name) throw new Unreadable("Choose a file.", "file");
+  if (file.size > LONGEST) throw new Unreadable(
+    "The file is above a mebibyte. A book as large as that is moved by whoever runs the service.", "file",
+  );
+  const importKey = await keyOf(await file.arrayBuffer());
+  const { said } = await askBook("POST", "/import", { body: await file.text(), harmless: true, importKey });
+  readLedger().catch(() => {});
+  return said.imported === 1
+    ? "The book is filled: 1 pledge came."
+    : `The book is filled: ${said.imported} pledges came.`;
 }
 
 export function setUpFiles() {

@@ -1,116 +1,246 @@
-/** One pledge of the book: found by its number or by the broker's reference, with its statement and commands. */
-import { byId, foreign, make } from "/dom.js";
-import { inWords } from "/days.js";
-import { Lost, Refused, tellFault } from "/faults.js";
-import { makeNotice, onSend, run, tell } from "/forms.js";
-import { readStatement } from "/statement.js";
-import { summaryOf } from "/summary.js";
+/** One pledge of the book, with its statement and its commands. What is said of it was read just then. */
+import { byId, foreign } from "/shared/dom.js";
+import { inShort } from "/shared/days.js";
+import { Refused } from "/shared/faults.js";
+import { fieldsOf, makeNotice, run, sayAfter, tell } from "/shared/forms.js";
+import { inPounds } from "/shared/money.js";
+import { liveReceipt } from "/shared/book.js";
+import { numberOf, receiptsTyped } from "/shared/receipts.js";
+import { readStatement } from "/shared/statement.js";
+import { summaryOf } from "/shared/summary.js";
+import { Unreadable } from "/shared/unreadable.js";
 import { commandsOf } from "./commands.js";
+import { anotherChanged, isNews, mend, pledgeOf, readLedger, termsOf, theLedger } from "./ledger.js";
+import { owedCard } from "./owedcard.js";
 import { receiptSheet } from "./receipt.js";
-import { askBook, current, wholeBook } from "./session.js";
+import { REDEEM } from "./redeem.js";
+import { askBook, askHeld, current } from "./session.js";
 
-const NO_SUCH_PLEDGE = 403;
-const NUMBER = /^[1-9]\d{0,8}$/;
+const NO_SUCH_RECEIPT = 402;
+const OPEN = ["inside", "grace", "realisable"];
 
 let statement = null;
-let reference = null;
+/** A receipt that was found live, until another pledge is looked at; and what is said once its pledge is shown. */
+let paper = null;
+let message = null;
+/** Whether the book told its part when the pledge was drawn. */
+let drawnByBook = false;
 const notice = makeNotice();
 
 export function clearPledge() {
-  statement = reference = null;
+  statement = paper = message = null;
   byId("found").hidden = true;
-  byId("statement").replaceChildren();
-  byId("commands").replaceChildren();
-  byId("new-receipt").replaceChildren();
+  for (const part of ["statement", "owed-on", "commands", "new-receipt"]) byId(part).replaceChildren();
   byId("finding").reset();
   tell(notice, "");
 }
 
-/** Reads the pledge as it stands, and shows it with what may be done. */
-async function look(number) {
+async function read(number) {
   const { text } = await askBook("GET", `/pledges/${number}`);
-  statement = readStatement(text);
-  const place = [`Pledge ${statement.number} of book ${current().book}`, ...(reference === null ? [] : [", reference ", foreign(reference)])];
-  byId("statement").replaceChildren(...summaryOf(statement, place));
+  return readStatement(text);
+}
+
+function placeOf({ number }) {
+  const pledge = pledgeOf(number);
+  return [`Pledge ${number} of book ${current().book}`, ...(pledge ? [", reference ", foreign(pledge.reference)] : [])];
+}
+
+function draw() {
+  drawnByBook = pledgeOf(statement.number) !== null;
+  byId("statement").replaceChildren(...summaryOf(statement, placeOf(statement)));
+  byId("owed-on").replaceChildren(...owedCard(statement));
   byId("commands").replaceChildren(notice, ...commandsOf(statement, desk));
   byId("found").hidden = false;
+}
+
+/** Reads the pledge as it stands, and shows it with what may be done. What this page did itself is no news. */
+async function look(number, own = false) {
+  const found = await read(number);
+  const news = isNews(found, own);
+  statement = found;
+  mend(statement);
+  draw();
+  if (news) anotherChanged();
 }
 
 /** Asks for a command on the pledge that is shown. */
 const command = (name, body, harmless) => askBook("POST", `/pledges/${statement.number}/${name}`, { body, harmless });
 
-/** Runs an act on the pledge that is shown, says what came of it, and shows the pledge as it stands then. */
-function perform(act) {
+const foldOf = (title) =>
+  [...byId("commands").querySelectorAll("details")].find((one) => one.firstChild.textContent === title) ?? null;
+
+/** Runs an act on the pledge that is shown, shows the pledge as it stands then, and says what came of it. */
+async function perform(act, { form, notice: line, title }) {
   const { number } = statement;
+  const fields = fieldsOf(form);
   byId("new-receipt").replaceChildren();
-  return run({ notice, within: byId("commands"), reader: "broker", act: async () => {
-    try {
-      const said = await act();
-      await look(number);
-      return said;
-    } catch (fault) {
-      if (fault instanceof Refused || fault instanceof Lost) await look(number).catch(() => {});
-      throw fault;
-    }
-  } });
+  tell(notice, "");
+  let said;
+  const fault = await run(
+    { notice: line, within: byId("commands"), reader: "broker", act: async () => { said = await act(); return said; } }
+  );
+  if (fault instanceof Unreadable) return;
+  try {
+    await look(number, !(fault instanceof Refused));
+  } catch {
+    return;
+  }
+  sayAfter({ within: byId("commands"), notice, title, fields, said, fault, reader: "broker" });
 }
 
-/** Shows a receipt for the pledge that is shown, to be printed. */
-function showReceipt(receipt) {
-  byId("new-receipt").replaceChildren(receiptSheet(statement, receipt));
+/** Shows a receipt of the pledge that is shown, to be printed, once it was found live and the book tells its terms. */
+async function showReceipt(receipt) {
+  const pledge = pledgeOf(statement.number) ?? (await theLedger(), pledgeOf(statement.number));
+  const terms = termsOf(pledge);
+  if (!terms) throw new Error("the book does not tell the pledge’s terms");
+  byId("new-receipt").replaceChildren(receiptSheet({ statement, receipt, pledge, terms }));
+  byId("new-receipt").scrollIntoView();
 }
 
-/** Shows what can be done where the reply to a declaration was lost: the book itself tells the newest receipt. */
-function offerNewest() {
-  const said = make("p", {}, "A new receipt may have been made. If so, the old one is worth nothing, and only the book tells the new one. Don’t ask for another before you have looked.");
-  const button = make("button", { type: "button" }, "Read the newest receipt from the book");
-  const box = make("section", { className: "card screen" }, make("h2", {}, "Was a new receipt made?"), said, make("div", { className: "buttons" }, button));
-  button.addEventListener("click", () => readNewest().catch((fault) => box.append(make("p", { className: "notice bad" }, tellFault(fault, "broker")))));
-  byId("new-receipt").replaceChildren(box);
+/** Whether a receipt opens the pledge that is shown. */
+async function isLive(receipt) {
+  try {
+    return readStatement((await askHeld(receipt, "")).text).number === statement.number;
+  } catch (fault) {
+    if (fault instanceof Refused && fault.code === NO_SUCH_RECEIPT) return false;
+    throw fault;
+  }
 }
 
-const PAPERS = { opening: "when the pledge was taken", sworn: "on a sworn declaration", written: "on a written statement" };
+/** The live receipt of the pledge that is shown, by the book in the page or else read anew, or null. */
+async function newestReceipt() {
+  await theLedger();
+  for (const again of [false, true]) {
+    if (again) await readLedger();
+    const pledge = pledgeOf(statement.number);
+    const receipt = pledge && liveReceipt(pledge);
+    if (receipt && await isLive(receipt)) return receipt;
+  }
+  return null;
+}
 
-async function readNewest() {
-  const { secrets } = (await wholeBook()).pledges[statement.number - 1];
-  const { day, paper, secret } = secrets.at(-1);
-  showReceipt(`${statement.number}-${secret}`);
-  byId("new-receipt").prepend(make("p", { className: "taken screen" }, `The pledge has had ${secrets.length === 1 ? "one receipt" : `${secrets.length} receipts`}. The newest was made on ${inWords(day)}, ${PAPERS[paper]}:`));
+const PAPERS = {
+  opening: "when the pledge was taken", sworn: "on a sworn declaration", written: "on a written statement",
+};
+
+/** What the book tells of the receipts of the pledge that is shown. */
+function toldOfReceipts() {
+  const { secrets } = pledgeOf(statement.number);
+  const { day, paper: sort } = secrets.at(-1);
+  const count = secrets.length === 1 ? "one receipt" : `${secrets.length} receipts`;
+  return `The pledge has had ${count}. The newest was made on ${inShort(day)}, ${PAPERS[sort]}.`;
 }
 
 /** What the commands' forms use. */
-const desk = { notice, command, perform, showReceipt, offerNewest };
+const desk = {
+  perform, command, showReceipt, newestReceipt, toldOfReceipts, isLive,
+  read: () => read(statement.number),
+  held: async (receipt) => readStatement((await askHeld(receipt, "")).text),
+  redeem: (receipt, paid) => askHeld(receipt, "/redeem", { body: { paid }, harmless: false }),
+  pledge: () => pledgeOf(statement.number),
+  paper: () => (paper && statement && numberOf(paper) === statement.number ? paper : ""),
+};
 
-/** The pledge of a number; where the book has none of that number, or the text is no number, the one of that reference. */
-async function find(wanted) {
-  if (NUMBER.test(wanted)) {
-    try {
-      reference = null;
-      return await look(wanted);
-    } catch (fault) {
-      if (!(fault instanceof Refused && fault.code === NO_SUCH_PLEDGE)) throw fault;
-    }
-  }
-  const found = (await wholeBook()).pledges.find((pledge) => pledge.reference === wanted);
-  if (!found) throw new Refused({ code: NO_SUCH_PLEDGE, name: "NoSuchPledge" });
-  reference = found.reference;
-  return look(found.number);
+/**
+ * Goes to a pledge, by the address; or shows it as it stands now where it is there already. The empty form is no place
+ * to go back to.
+ */
+export function goTo(number) {
+  const hash = `#pledge=${number}`;
+  if (location.hash === hash) return showPledge(String(number));
+  if (location.hash === "#pledge") location.replace(hash);
+  else location.hash = hash;
+  return null;
 }
 
-export function setUpPledge() {
-  onSend(byId("finding"), "broker", async ({ wanted }) => {
+/** Why a receipt is not live, by the book as it stands. */
+async function whyDead(receipt) {
+  await readLedger();
+  const pledge = pledgeOf(numberOf(receipt));
+  if (!pledge) return `This receipt is not live: book ${current().book} has no pledge ${numberOf(receipt)}.`;
+  const place = pledge.secrets.findIndex(({ secret }) => receipt.endsWith(secret));
+  if (place < 0) {
+    return `This receipt is not live: pledge ${pledge.number} never had it. Compare it with the paper, `
+      + `letter by letter.`;
+  }
+  if (place < pledge.secrets.length - 1) {
+    return `This receipt is not live: a newer one took its place on ${inShort(pledge.secrets[place + 1].day)}. `
+      + `Don’t hand out the article for it.`;
+  }
+  return `This receipt is not live: pledge ${pledge.number} was redeemed with it on ${inShort(pledge.closed)}.`;
+}
+
+/** Opens the pledge of a receipt, or of the link of its code, and says whether the receipt is live. */
+export async function openReceipt(typed) {
+  const receipts = receiptsTyped(typed);
+  if (receipts.length !== 1) throw new Unreadable(
+    "That is no whole receipt, or more than one. Scan or type one at a time.", "wanted",
+  );
+  const [{ book, receipt }] = receipts;
+  if (book && book !== current().book) throw new Unreadable(
+    `That receipt is of book ${book}, and this is book ${current().book}.`, "wanted",
+  );
+  const number = numberOf(receipt);
+  try {
+    const held = readStatement((await askHeld(receipt, "")).text);
+    paper = receipt;
+    const owed = OPEN.includes(held.status) ? ` ${inPounds(held.owed.owing)} is owed today.` : "";
+    message = {
+      sentence: `This receipt is live.${owed}`, tone: "good", fold: OPEN.includes(held.status) ? REDEEM : null,
+    };
+  } catch (fault) {
+    if (!(fault instanceof Refused && fault.code === NO_SUCH_RECEIPT)) throw fault;
+    paper = null;
+    message = { sentence: await whyDead(receipt), tone: "bad", fold: null };
+    if (!pledgeOf(number)) throw new Unreadable(message.sentence, "wanted");
+  }
+  await goTo(number);
+  return "";
+}
+
+/** Says what was to be said once the pledge is shown. */
+function sayMessage() {
+  if (!message) return;
+  const { sentence, tone, fold } = message;
+  message = null;
+  const details = fold && foldOf(fold);
+  if (details) details.open = true;
+  tell(notice, sentence, tone);
+  notice.focus();
+}
+
+/** Shows the pledge that the address names as it stands now; without a number the form that finds one. */
+export async function showPledge(number) {
+  if (number === undefined) {
     byId("found").hidden = true;
     byId("new-receipt").replaceChildren();
+    statement = null;
+    return;
+  }
+  if (paper && numberOf(paper) !== Number(number)) paper = null;
+  if (statement?.number !== Number(number)) {
+    byId("new-receipt").replaceChildren();
+    byId("found").hidden = true;
     tell(notice, "");
-    await find(wanted.trim());
-    return "";
-  });
+  }
+  const line = byId("finding").querySelector(".notice");
+  const fault = await run(
+    { notice: line, within: byId("finding"), reader: "broker", act: () => look(Number(number)) },
+  );
+  if (fault) {
+    byId("found").hidden = true;
+    message = null;
+  }
+  sayMessage();
 }
 
-/** Shows the pledge that the address names, or the one that was shown last as it stands now. */
-export function showPledge(number) {
-  const wanted = number ?? (statement && String(statement.number));
-  if (!wanted) return byId("finding").elements.wanted.focus();
-  byId("finding").elements.wanted.value = wanted;
-  return byId("finding").requestSubmit();
+/**
+ * Once the book was read it names the reference, the terms and the days of grace of a pledge that was shown without
+ * them.
+ */
+export function redrawPledge() {
+  if (statement && !drawnByBook && pledgeOf(statement.number) && !byId("commands").querySelector("details[open]")) {
+    draw();
+  }
 }
+

@@ -1,18 +1,20 @@
-/** The open book: its number, its key and the shop's name, kept for this tab alone. */
-import { ask } from "/api.js";
-import { readBook } from "/book.js";
-import { Unreadable } from "/unreadable.js";
+/** The open book: its number and its key, kept for this tab alone. */
+import { ask } from "/shared/api.js";
+import { Unreadable } from "/shared/unreadable.js";
 
 const KEPT = "broker";
+const KEY = /^[\x21-\x7e]{32,47}$/;
 let session = JSON.parse(sessionStorage.getItem(KEPT) ?? "null");
 
 /** The session, or null where no book is open. */
 export const current = () => session;
 
-export function begin({ book, key, shop }) {
-  if (!/^[1-9]\d{0,8}$/.test(book.trim())) throw new Unreadable("The book is a number from 1 to 999,999,999.");
-  if (!/^[\x21-\x7e]{32,47}$/.test(key.trim())) throw new Unreadable("That is no key. A key is 32 digits from 0 to 9 and a to f, in groups of 8, 4, 4, 4 and 12.");
-  session = { book: book.trim(), key: key.trim(), shop: shop.trim() };
+export function begin({ book, key }) {
+  if (!/^[1-9]\d{0,8}$/.test(book.trim())) throw new Unreadable("The book is a number from 1 to 999,999,999.", "book");
+  if (!KEY.test(key.trim())) throw new Unreadable(
+    "That is no key. A key is 32 digits from 0 to 9 and a to f, in groups of 8, 4, 4, 4 and 12.", "key",
+  );
+  session = { book: book.trim(), key: key.trim() };
 }
 
 /** Keeps the session for the tab, once its key was found to be right. */
@@ -24,14 +26,19 @@ export function end() {
 }
 
 /** Asks for the open book. A body is a text, or what is sent as JSON. */
-export function askBook(method, what, { body, harmless, importKey } = {}) {
+export function askBook(method, what, { body, harmless, importKey, watch } = {}) {
   const fields = { "Pledge-Key": session.key, ...(importKey && { "Import-Key": importKey }) };
   const sent = body === undefined || typeof body === "string" ? body : JSON.stringify(body);
-  return ask({ method, path: `/books/${session.book}${what}`, fields, body: sent, harmless });
+  return ask({ method, path: `/books/${session.book}${what}`, fields, body: sent, harmless, watch });
 }
 
-/** The whole book as it stands. It is the only list of pledges, and the only place of references. */
-export async function wholeBook() {
-  const { text } = await askBook("GET", "/export");
-  return readBook(text);
+/** Asks for the open book as the bearer of a receipt does, who needs no key. */
+export function askHeld(receipt, what, { body, harmless } = {}) {
+  const method = what === "" ? "GET" : "POST";
+  return ask(
+    {
+      method, path: `/books/${session.book}/held${what}`, fields: { "Pledge-Receipt": receipt },
+      body: body && JSON.stringify(body), harmless,
+    }
+  );
 }

@@ -1,10 +1,11 @@
 /** The book's terms: the versions that stand, and the next. */
-import { byId, make } from "/dom.js";
-import { Refused } from "/faults.js";
-import { onSend, run } from "/forms.js";
-import { inPounds } from "/money.js";
-import { Unreadable } from "/unreadable.js";
-import { askBook, wholeBook } from "./session.js";
+import { byId, make } from "/shared/dom.js";
+import { Refused } from "/shared/faults.js";
+import { onSend, run } from "/shared/forms.js";
+import { inPounds } from "/shared/money.js";
+import { Unreadable } from "/shared/unreadable.js";
+import { ledger, readLedger, theLedger } from "./ledger.js";
+import { askBook } from "./session.js";
 
 /** Rates are kept in millionths a day, which is so many places of a per cent; charges in millionths of a penny. */
 const RATE_PLACES = 4;
@@ -13,9 +14,9 @@ const CHARGE_PLACES = 6;
 let versions = null;
 
 /** A decimal as a whole number of its last place. */
-function readDecimal(text, places) {
+function readDecimal(text, places, field) {
   const found = new RegExp(`^(\\d{1,4})(?:\\.(\\d{1,${places}}))?$`).exec(text.trim());
-  if (!found) throw new Unreadable(`Write a number such as 0 or 0.5, with at most ${places} places.`);
+  if (!found) throw new Unreadable(`Write a number such as 0 or 0.5, with at most ${places} places.`, field);
   return Number(found[1] + (found[2] ?? "").padEnd(places, "0"));
 }
 
@@ -25,7 +26,11 @@ function inDecimal(value, places) {
   return `${digits.slice(0, -places)}.${digits.slice(-places)}`.replace(/\.?0+$/, "");
 }
 
-const readTerms = ({ rate, before, after }) => ({ rate: readDecimal(rate, RATE_PLACES), keep_before: readDecimal(before, CHARGE_PLACES), keep_after: readDecimal(after, CHARGE_PLACES) });
+const readTerms = ({ rate, before, after }) => ({
+  rate: readDecimal(rate, RATE_PLACES, "rate"), keep_before: readDecimal(
+    before, CHARGE_PLACES, "before",
+  ), keep_after: readDecimal(after, CHARGE_PLACES, "after"),
+});
 
 /** What a hundred pounds cost for thirty days. */
 function exampleOf(terms) {
@@ -35,23 +40,44 @@ function exampleOf(terms) {
 }
 
 function row({ version, rate, keepBefore, keepAfter }) {
-  const cells = [String(version), `${inDecimal(rate, RATE_PLACES)}%`, `${inDecimal(keepBefore, CHARGE_PLACES)}p`, `${inDecimal(keepAfter, CHARGE_PLACES)}p`];
+  const cells = [
+    String(version), `${inDecimal(rate, RATE_PLACES)}%`, `${inDecimal(keepBefore, CHARGE_PLACES)}p`,
+    `${inDecimal(keepAfter, CHARGE_PLACES)}p`,
+  ];
   return make("tr", {}, ...cells.map((cell) => make("td", {}, cell)));
 }
 
-/** Reads the versions that stand, and shows them. */
-async function read() {
-  versions = (await wholeBook()).terms;
-  const heads = ["Version", "Interest a day", "Keeping a day", "After the end"].map((head) => make("th", { scope: "col" }, head));
-  const table = make("table", { className: "list" }, make("thead", {}, make("tr", {}, ...heads)), make("tbody", {}, ...versions.map(row).reverse()));
-  byId("terms-list").replaceChildren(make("section", { className: "card" }, make("h2", {}, "Terms that stand"), versions.length > 0 ? table : make("p", { className: "empty" }, "The book has no terms yet. A pledge can be taken once it has.")));
+/** Shows the versions that stand in the book as it was read. */
+function draw() {
+  versions = ledger().terms;
+  const heads = [
+    "Version", "Interest a day", "Keeping a day", "After the end",
+  ].map((head) => make("th", { scope: "col" }, head));
+  const table = make(
+    "table", { className: "list" }, make("thead", {}, make("tr", {}, ...heads)),
+    make("tbody", {}, ...versions.map(row).reverse()),
+  );
+  const none = make("p", { className: "empty" }, "The book has no terms yet. A pledge can be taken once it has.");
+  byId("terms-list").replaceChildren(
+    make("section", { className: "card" }, make("h2", {}, "Terms that stand"), versions.length > 0 ? table : none)
+  );
   byId("next-version").textContent = `Version ${versions.length + 1}`;
 }
 
-/** Puts the next version. After a lost reply the versions that were read stay, so that the same terms are the same version; after a refusal they are read again. */
+async function readAnew() {
+  await readLedger();
+  draw();
+}
+
+/**
+ * Puts the next version. After a lost reply the versions that were read stay, so that the same terms are the same
+ * version; after a refusal they are read again.
+ */
 async function put(terms) {
   try {
-    const { said } = await askBook("POST", "/terms", { body: { version: versions.length + 1, ...terms }, harmless: true });
+    const { said } = await askBook(
+      "POST", "/terms", { body: { version: versions.length + 1, ...terms }, harmless: true },
+    );
     return said.version;
   } catch (fault) {
     if (fault instanceof Refused) versions = null;
@@ -74,14 +100,16 @@ export function setUpTerms() {
   byId("new-terms").addEventListener("input", showExample);
   notice = onSend(byId("new-terms"), "broker", async (fields) => {
     const terms = readTerms(fields);
-    if (versions === null) await read();
+    if (versions === null) await readAnew();
     const version = await put(terms);
-    await read();
+    await readAnew();
     return `Version ${version} stands. It counts for pledges that are taken from now on.`;
   });
 }
 
+/** Shows the terms that the book in the page has. */
 export function showTerms() {
-  versions = null;
-  return run({ notice, within: byId("new-terms"), reader: "broker", act: async () => { await read(); return ""; } });
+  return run(
+    { notice, within: byId("new-terms"), reader: "broker", act: async () => { await theLedger(); draw(); return ""; } }
+  );
 }

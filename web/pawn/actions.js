@@ -1,40 +1,74 @@
 /** What a pawnor may do with a pledge: ask for a time to come, take that back, pay a part, redeem. */
-import { make } from "/dom.js";
-import { inWords, seenFrom, today } from "/days.js";
-import { Lost } from "/faults.js";
-import { field, fold } from "/forms.js";
-import { inPounds, readPounds } from "/money.js";
-import { confirmed } from "/questions.js";
-import { Unreadable } from "/unreadable.js";
-import { WINDOWS, windowInWords } from "/windows.js";
+import { make } from "/shared/dom.js";
+import { inWords, seenFrom, today } from "/shared/days.js";
+import { Lost } from "/shared/faults.js";
+import { buttons, field, fold } from "/shared/forms.js";
+import { inPounds, readPounds } from "/shared/money.js";
+import { recordEntry } from "/shared/payments.js";
+import { confirmed, NOTHING_DONE } from "/shared/questions.js";
+import { Unreadable } from "/shared/unreadable.js";
+import { WINDOWS, windowInWords } from "/shared/windows.js";
 
 /** A form in a fold, which acts on the card when it is sent. */
-const foldOf = (card, title, parts, act) => fold(title, make("form", { autocomplete: "off" }, ...parts), card.notice, (fields) => card.perform(() => act(fields)));
+const foldOf = (card, title, parts, act) =>
+  fold(
+    title, make("form", { autocomplete: "off" }, ...parts), (fields, place) => card.perform(() => act(fields), place),
+  );
 
-const buttons = (...all) => make("div", { className: "buttons" }, ...all);
+/** What is said where the answer to a question was no. Nothing was changed, so nothing is looked at. */
+const NOT_NOW = { ...NOTHING_DONE, look: false };
+
+/** A visit after the period's end may come too late: it is asked about. */
+function agreedToLate({ ends }, day) {
+  if (day <= ends) return true;
+  return confirmed({
+    title: "Come after the time is over?",
+    lines: [
+      `The time of this pledge is over after ${inWords(ends)}. On ${inWords(day)} the article may have been sold, `
+        + `or belong to the shop.`
+    ],
+    yes: "Ask for this day all the same", no: "Choose another day",
+  });
+}
 
 async function askForVisit(card, { day, window }) {
-  if (!day) throw new Unreadable("Choose a day.");
+  if (!day) throw new Unreadable("Choose a day.", "day");
+  if (day < today()) throw new Unreadable("That day is over. Choose a later one.", "day");
+  if (!await agreedToLate(card.statement, day)) return NOT_NOW;
   const { said } = await card.ask("/ask", { day, window: Number(window) }, true);
-  return { sentence: `Asked for ${inWords(said.day)}, ${windowInWords(said.window)}. The shop says yes or no; look here again.` };
+  const when = `${inWords(said.day)}, ${windowInWords(said.window)}`;
+  if (said.booking === "confirmed") return `The shop has confirmed this time already: ${when}.`;
+  return `Asked for ${when}. The shop says yes or no; look here again.`;
 }
 
 function visitFold(card) {
   const { booking } = card.statement;
   const day = make("input", { type: "date", name: "day", min: today(), required: true });
-  const times = make("select", { name: "window" }, ...WINDOWS.map((window) => make("option", { value: window }, windowInWords(window))));
+  const times = make(
+    "select", { name: "window" }, ...WINDOWS.map((window) => make("option", { value: window }, windowInWords(window)))
+  );
   const standing = booking && ["asked", "confirmed"].includes(booking.state);
-  const lead = make("p", { className: "lead" }, standing ? "A new time takes the place of the one that stands." : "Say when you would like to fetch it. The shop confirms it or not.");
-  return foldOf(card, standing ? "Ask for another time" : "Ask for a time to come", [lead, field("Day", day), field("Time", times), buttons(make("button", {}, "Ask for this time"))], (fields) => askForVisit(card, fields));
+  const lead = standing
+    ? "A new time takes the place of the one that stands."
+    : "Say when you would like to fetch it. The shop confirms it or not.";
+  const parts = [
+    make("p", { className: "lead" }, lead), field("Day", day), field("Time", times),
+    buttons(make("button", {}, "Ask for this time")),
+  ];
+  return foldOf(
+    card, standing ? "Ask for another time" : "Ask for a time to come", parts, (fields) => askForVisit(card, fields),
+  );
 }
 
 function cancelFold(card) {
   const { booking } = card.statement;
   if (!booking || !["asked", "confirmed"].includes(booking.state)) return null;
-  const lead = make("p", { className: "lead" }, `Your visit ${seenFrom(today(), booking.day)}, ${inWords(booking.day)}, is taken back. You can ask for another.`);
-  return foldOf(card, "Cancel the visit", [lead, buttons(make("button", {}, "Cancel the visit"))], async () => {
-    await card.ask("/cancel", undefined, true);
-    return { sentence: "The visit is cancelled." };
+  const when = `Your visit ${seenFrom(today(), booking.day)}, ${inWords(booking.day)}, is taken back. `
+    + "You can ask for another.";
+  const parts = [make("p", { className: "lead" }, when), buttons(make("button", {}, "Cancel the visit"))];
+  return foldOf(card, "Cancel the visit", parts, async () => {
+    const { said } = await card.ask("/cancel", undefined, true);
+    return `The visit is cancelled: ${inWords(said.day)}, ${windowInWords(said.window)}.`;
   });
 }
 
@@ -42,28 +76,42 @@ async function repay(card, { amount }) {
   const pence = readPounds(amount);
   const yes = await confirmed({
     title: `Record ${inPounds(pence)} as paid?`,
-    lines: ["This page moves no money. Say yes only where the pawnbroker has received the amount."],
+    lines: [
+      "This page moves no money. Say yes only where the pawnbroker has received the amount.",
+      "If the shop has recorded it already, say no: it would count twice.",
+    ],
     yes: `Yes, ${inPounds(pence)} was received`, no: "Not yet",
   });
-  if (!yes) return { sentence: "Nothing was recorded.", look: false };
-  await card.ask("/repay", { seq: card.statement.nextSeq, pence }, true);
-  return { sentence: `${inPounds(pence)} is recorded as paid.` };
+  if (!yes) return { sentence: "Nothing was recorded.", tone: "quiet", look: false };
+  return recordEntry({
+    shown: card.statement, sort: "repay", pence, read: () => card.read(), send: (body) => card.ask(
+      "/repay", body, true,
+    ),
+  });
 }
 
 function repayFold(card) {
   const amount = make("input", { name: "amount", inputMode: "decimal", required: true });
-  const lead = make("p", { className: "lead" }, "A part that the pawnbroker has received already. It goes to interest and safe keeping first, then to what was lent.");
-  return foldOf(card, "Record a part payment", [lead, field("Amount in pounds", amount), buttons(make("button", {}, "Record the payment"))], (fields) => repay(card, fields));
+  const lead = "A part that the pawnbroker has received already. It goes to interest and safe keeping first, "
+    + "then to what was lent.";
+  const parts = [
+    make("p", { className: "lead" }, lead), field("Amount in pounds", amount),
+    buttons(make("button", {}, "Record the payment")),
+  ];
+  return foldOf(card, "Record a part payment", parts, (fields) => repay(card, fields));
 }
 
 async function redeem(card) {
   const { owing } = card.statement.owed;
   const yes = await confirmed({
     title: "Redeem this pledge?",
-    lines: [`You say that ${inPounds(owing)} has been paid and that the pawnbroker has received it. This page moves no money.`, "The pledge is over then, and this receipt is worth nothing any more. It can’t be taken back."],
+    lines: [
+      `You say that ${inPounds(owing)} has been paid and that the pawnbroker has received it.`,
+      "This page moves no money.",
+      "The pledge is over then, and this receipt is worth nothing any more. It can’t be taken back."],
     yes: `Yes, ${inPounds(owing)} was received`, no: "Not yet",
   });
-  if (!yes) return { sentence: "Nothing was done.", look: false };
+  if (!yes) return NOT_NOW;
   try {
     const { said } = await card.ask("/redeem", { paid: owing }, false);
     card.showRedeemed(`Redeemed on ${inWords(said.redeemed)}. ${inPounds(said.paid)} was paid.`);
@@ -76,7 +124,9 @@ async function redeem(card) {
 
 function redeemFold(card) {
   const { owed, held } = card.statement;
-  const lead = held ? "The pawnbroker holds this pledge, so it can’t be redeemed just now. Ask at the shop why." : `Redeeming wants all that is owed today, ${inPounds(owed.owing)}, received by the pawnbroker. You are asked once more before it is done.`;
+  const lead = held ? "The pawnbroker holds this pledge, so it can’t be redeemed just now. Ask at the shop why."
+    : `Redeeming wants all that is owed today, ${inPounds(owed.owing)}, received by the pawnbroker. `
+      + `You are asked once more before it is done.`;
   const button = make("button", { className: "grave", disabled: held }, `Redeem for ${inPounds(owed.owing)}`);
   return foldOf(card, "Redeem", [make("p", { className: "lead" }, lead), buttons(button)], () => redeem(card));
 }

@@ -1,13 +1,19 @@
 /** The pawnor's page: the cards of the receipts that this tab holds, and the form that shows another. */
-import { byId } from "/dom.js";
-import { onSend } from "/forms.js";
+import { byId } from "/shared/dom.js";
+import { today } from "/shared/days.js";
+import { onSend } from "/shared/forms.js";
 import { Card } from "./card.js";
 import { keep, kept, ofTyped, takeFragment } from "./receipts.js";
+import { inTurn } from "./turns.js";
+
+const TICK = 20_000;
 
 const cards = [];
+let day = today();
 
 function store() {
-  keep(cards.map(({ book, receipt }) => ({ book, receipt })));
+  keep(cards.map(({ book, receipt, shop, rate }) => ({ book, receipt, shop, rate })));
+  byId("print-page").hidden = cards.length === 0;
   byId("finder").open = cards.length === 0;
   byId("finder-title").textContent = cards.length === 0 ? "Show a pledge" : "Show another pledge";
 }
@@ -19,35 +25,49 @@ function forget(card) {
   byId("finder").querySelector("summary").focus();
 }
 
-/** Puts a receipt's card on the page, or looks again at the one that is there, and tells whether it shows a pledge. One request carries one receipt. */
-function show(receipts) {
-  return Promise.all(receipts.map((one) => {
-    let card = cards.find(({ book, receipt }) => book === one.book && receipt === one.receipt);
-    if (!card) {
-      card = new Card(one, forget);
-      cards.push(card);
-      byId("cards").append(card.element);
-    }
-    return card.show();
-  }));
+/** The card of a receipt: the one that is there, or a new one at the end. */
+function cardOf(one) {
+  const there = cards.find(({ book, receipt }) => book === one.book && receipt === one.receipt);
+  if (there) return there;
+  const card = new Card(one, forget);
+  cards.push(card);
+  byId("cards").append(card.element);
+  return card;
 }
+
+/** Puts the receipts' cards on the page, looks at each, and tells whether each shows a pledge. */
+const show = (receipts) => inTurn(receipts.map(cardOf).map((card) => () => card.show()));
 
 async function showFragment() {
   const receipts = takeFragment();
   if (receipts.length === 0) return;
-  const shown = show(receipts);
+  receipts.forEach(cardOf);
   store();
-  await shown;
+  await show(receipts);
 }
 
 onSend(byId("find"), "pawnor", async (fields) => {
-  const found = await show(ofTyped(fields));
+  const receipts = ofTyped(fields);
+  receipts.forEach(cardOf);
   store();
+  const found = await show(receipts);
   if (found.includes(false)) byId("finder").open = true;
   else byId("find").reset();
   return "";
 });
+/** A tab that was left open notices the new day, on which more may be owed. */
+function tick() {
+  if (document.hidden || day === today()) return;
+  day = today();
+  show(cards);
+}
+
+document.addEventListener("visibilitychange", tick);
+setInterval(tick, TICK);
+byId("print-page").addEventListener("click", () => print());
 addEventListener("hashchange", showFragment);
-show(kept());
+const before = kept();
+before.forEach(cardOf);
 store();
+show(before);
 showFragment();

@@ -3,10 +3,13 @@
 /** The element with this id, which the page has. */
 export const byId = (id) => document.getElementById(id);
 
-/** A new element with these properties and these children: nodes, or texts that are shown as they are. Children that are null are left out. */
+/**
+ * A new element with these properties and these children: nodes, or texts that are shown as they are. Children that are
+ * null or an empty text are left out.
+ */
 export function make(tag, properties = {}, ...children) {
   const element = Object.assign(document.createElement(tag), properties);
-  element.append(...children.filter((child) => child !== null));
+  element.append(...children.filter((child) => child !== null && child !== "" && child !== undefined));
   return element;
 }
 
@@ -15,5 +18,8 @@ export const foreign = (text) => make("bdi", { textContent: text });
 
 /** A list of names and what they stand for, as pairs. */
 export function facts(pairs) {
-  return make("dl", { className: "facts" }, ...pairs.map(([name, value]) => make("div", {}, make("dt", {}, name), make("dd", {}, value))));
+  return make(
+    "dl", { className: "facts" },
+    ...pairs.map(([name, value]) => make("div", {}, make("dt", {}, name), make("dd", {}, value)))
+  );
 }

@@ -1,9 +1,20 @@
 /** A day's sheet, read from the exact text that the service writes. */
 
 const HEADS = [
-  [/^Window (\d+) confirmed (\d+) of (\d+)$/, (sheet, [window, , capacity]) => sheet.windows.push({ window: Number(window), capacity: Number(capacity), pledges: [] })],
-  [/^Pledge (\d+) window (\d+)$/, (sheet, [number, window]) => sheet.asked.push({ number: Number(number), window: Number(window) })],
-  [/^Pledge (\d+)$/, (sheet, [number]) => (sheet.inEnds ? sheet.ends : sheet.windows.at(-1).pledges).push(Number(number))],
+  [
+    /^Window (\d+) confirmed (\d+) of (\d+)$/,
+    (sheet, [window, , capacity]) => sheet.windows.push(
+      { window: Number(window), capacity: Number(capacity), pledges: [] }
+    ),
+  ],
+  [
+    /^Pledge (\d+) window (\d+)$/,
+    (sheet, [number, window]) => sheet.asked.push({ number: Number(number), window: Number(window) }),
+  ],
+  [
+    /^Pledge (\d+)$/,
+    (sheet, [number]) => (sheet.inEnds ? sheet.ends : sheet.windows.at(-1).pledges).push(Number(number)),
+  ],
   [/^Asked \d+$/, () => {}],
   [/^Ends \d+$/, (sheet) => { sheet.inEnds = true; }],
   [/^Day sheet (\S+)$/, (sheet, [day]) => { sheet.day = day; }],

@@ -1,5 +1,5 @@
 /** Each refusal of the service as a sentence for a person: why it was refused, and what to do. Where the pawnor reads another, it stands beside. */
-import { inPounds } from "/money.js";
+import { inPounds } from "/shared/money.js";
 
 /** By code: the name, why, what to do next, and the same for the pawnor where it differs. */
 export const REFUSALS = {

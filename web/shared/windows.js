@@ -1,9 +1,12 @@
-/** The windows of a day, 0 to 15. The service knows their numbers alone: what hours they are is the shop's to say, here. */
+/**
+ * The windows of a day, 0 to 15. The service knows their numbers alone: what hours they are is the shop's to say, here.
+ */
 
 const FIRST = 9 * 60;
 const LENGTH = 30;
 
-const clock = (minutes) => `${String(Math.floor(minutes / 60)).padStart(2, "0")}:${String(minutes % 60).padStart(2, "0")}`;
+const clock = (minutes) =>
+  `${String(Math.floor(minutes / 60)).padStart(2, "0")}:${String(minutes % 60).padStart(2, "0")}`;
 
 /** 10:30 to 11:00, for window 3. */
 export const windowInWords = (window) => `${clock(FIRST + window * LENGTH)} to ${clock(FIRST + (window + 1) * LENGTH)}`;

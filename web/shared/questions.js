@@ -1,13 +1,20 @@
 /** A question before what can't be taken back. */
-import { make } from "/dom.js";
+import { make } from "/shared/dom.js";
+
+let asked = 0;
+
+/** A line of a question: a text, or nodes beside each other. */
+const lineOf = (line) => make("p", {}, ...(Array.isArray(line) ? line : [line]));
 
 /** Asks in a dialog, and gives whether the answer was yes. Escape is no. */
 export function confirmed({ title, lines, yes, no }) {
-  const dialog = make("dialog", { className: "question" }, make("h2", {}, title), ...lines.map((line) => make("p", {}, line)));
+  asked += 1;
+  const heading = make("h2", { id: `question-${asked}` }, title);
+  const dialog = make("dialog", { className: "question" }, heading, ...lines.map(lineOf));
   const agree = make("button", { type: "button", className: "grave" }, yes);
   const refuse = make("button", { type: "button", className: "plain", autofocus: true }, no);
   dialog.append(make("div", { className: "buttons" }, agree, refuse));
-  dialog.setAttribute("aria-label", title);
+  dialog.setAttribute("aria-labelledby", heading.id);
   document.body.append(dialog);
   dialog.showModal();
   return new Promise((answer) => {
@@ -16,3 +23,6 @@ export function confirmed({ title, lines, yes, no }) {
     dialog.addEventListener("close", () => { dialog.remove(); answer(dialog.returnValue === "yes"); });
   });
 }
+
+/** What is said where the answer was no. */
+export const NOTHING_DONE = { sentence: "Nothing was done.", tone: "quiet" };

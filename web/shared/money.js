@@ -1,5 +1,5 @@
 /** Amounts: whole pence in the pages and the service, pounds for people. */
-import { Unreadable } from "/unreadable.js";
+import { Unreadable } from "/shared/unreadable.js";
 
 /** Pence as people write pounds: 123456 is £1,234.56. */
 export function inPounds(pence) {
@@ -8,8 +8,11 @@ export function inPounds(pence) {
 }
 
 /** The pence of an amount that a person typed: 100, 99.50, £1,000 or £1,000.00. */
-export function readPounds(text) {
+export function readPounds(text, field = "amount") {
   const found = /^£?\s*(\d{1,3}(?:,\d{3})+|\d{1,9})(?:\.(\d\d))?$/.exec(text.trim());
-  if (!found) throw new Unreadable("Write the amount in pounds, as 100 or 99.50.");
+  if (!found) throw new Unreadable("Write the amount in pounds, as 100 or 99.50.", field);
   return Number(found[1].replaceAll(",", "")) * 100 + Number(found[2] ?? 0);
 }
+
+/** From this many pence on, an amount is asked about before it is sent. */
+export const LARGE = 100_000;

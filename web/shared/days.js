@@ -1,7 +1,10 @@
 /** Days are texts such as 2026-11-26, in the calendar of the service: UTC. */
 
 const WEEKDAYS = ["Sunday", "Monday", "Tuesday", "Wednesday", "Thursday", "Friday", "Saturday"];
-const MONTHS = ["January", "February", "March", "April", "May", "June", "July", "August", "September", "October", "November", "December"];
+const MONTHS = [
+  "January", "February", "March", "April", "May", "June", "July", "August", "September", "October", "November",
+  "December",
+];
 const ONE_DAY = 86_400_000;
 
 const dateOf = (day) => new Date(`${day}T00:00:00Z`);
@@ -19,17 +22,21 @@ export function inWords(day) {
 /** 26 November 2026, where the day of the week doesn't matter. */
 export const inShort = (day) => inWords(day).split(" ").slice(1).join(" ");
 
-/** November 2026, of any day in it. */
-export const monthOf = (day) => inWords(day).split(" ").slice(2).join(" ");
-
 /** How many days the second is after the first. */
 export const daysBetween = (first, second) => Math.round((dateOf(second) - dateOf(first)) / ONE_DAY);
 
 /** The day so many days later. */
 export const plusDays = (day, count) => dayOf(new Date(dateOf(day).getTime() + count * ONE_DAY));
 
-/** The same day six months later, cut to its month's last day. */
+/** The same day six months later, cut to its month's last day. A book asks for the same days again and again. */
 export function sixMonthsAfter(day) {
+  if (!later.has(day)) later.set(day, countSixMonths(day));
+  return later.get(day);
+}
+
+const later = new Map();
+
+function countSixMonths(day) {
   const [year, month, date] = day.split("-").map(Number);
   const last = new Date(Date.UTC(year, month + 6, 0)).getUTCDate();
   return dayOf(new Date(Date.UTC(year, month - 1 + 6, Math.min(date, last))));

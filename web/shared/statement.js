@@ -49,12 +49,22 @@ function closingOf(lines) {
   return null;
 }
 
+function readOwed(lines) {
+  return {
+    principal: penceOf(lines.take("Principal")), charges: penceOf(lines.take("Charges")),
+    owing: penceOf(lines.take("Owing")),
+  };
+}
+
 function entryOf(text) {
   const [seq, day, sort, amount] = text.split(" ");
   return { seq: Number(seq), day, sort, pence: penceOf(amount) };
 }
 
-/** The statement as values: amounts in pence, days as texts. What is owed is null once the pledge has passed. Throws where it is no statement. */
+/**
+ * The statement as values: amounts in pence, days as texts. What is owed is null once the pledge has passed. Throws
+ * where it is no statement.
+ */
 export function readStatement(text) {
   const lines = new Lines(text);
   const number = Number(lines.take("Pledge"));
@@ -64,11 +74,15 @@ export function readStatement(text) {
   const ends = lines.take("Ends");
   const extensions = lines.takeAll("Extended").map((line) => line.split(" to "));
   const status = lines.take("Status");
-  const owed = status === "passed" ? null : { principal: penceOf(lines.take("Principal")), charges: penceOf(lines.take("Charges")), owing: penceOf(lines.take("Owing")) };
+  const owed = status === "passed" ? null : readOwed(lines);
   const held = lines.take("Held") === "yes";
   const booking = bookingOf(lines.take("Booking"));
   const closing = closingOf(lines);
   const entries = lines.takeAll("Entry").map(entryOf);
   if (lines.lines.length > 0) throw new Error("the statement goes on");
-  return { number, article, kind, credit: penceOf(credit), taken, ends, extensions, status, owed, held, booking, closing, entries, nextSeq: entries.length + 1 };
+  const nextSeq = entries.length + 1;
+  return {
+    number, article, kind, credit: penceOf(credit), taken, ends, extensions, status, owed, held, booking, closing,
+    entries, nextSeq,
+  };
 }

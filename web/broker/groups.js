@@ -1,0 +1,96 @@
+/** The groups of pledges by how they stand on a day, and what finds them. */
+import { plusDays } from "/shared/days.js";
+import { statusOn } from "/shared/period.js";
+import { numberOf, receiptsIn } from "/shared/receipts.js";
+
+const stands = (...wanted) => (now) => (pledge) => wanted.includes(statusOn(pledge, now));
+
+/** How many days before a period's end it is said to end soon. */
+const SOON = 30;
+
+function endsSoon(now) {
+  const last = plusDays(now, SOON);
+  return ({ state, ends }) => state === "open" && ends >= now && ends <= last;
+}
+
+const isHeld = (now) => (pledge) => pledge.held && ["inside", "grace", "realisable"].includes(statusOn(pledge, now));
+
+const somebodyComes = (now) => ({ state, booking }) =>
+  state === "open" && booking !== null && ["asked", "confirmed"].includes(booking.state) && booking.day >= now;
+
+/** The groups that a list can be narrowed to: for a day, whether a pledge is in it. */
+export const GROUPS = {
+  all: { name: "All", of: () => () => true },
+  open: { name: "Open", of: stands("inside", "grace", "realisable") },
+  due: { name: `Ends within ${SOON} days`, of: endsSoon },
+  grace: { name: "In grace", of: stands("grace") },
+  sale: { name: "Can be sold", of: stands("realisable") },
+  passed: { name: "Passed", of: stands("passed") },
+  redeemed: { name: "Redeemed", of: stands("redeemed") },
+  sold: { name: "Sold", of: stands("sold") },
+  held: { name: "On hold", of: isHeld },
+  comes: { name: "Somebody comes", of: somebodyComes },
+};
+
+const byEnd = (one, other) => (one.ends < other.ends ? -1 : one.ends > other.ends ? 1 : one.number - other.number);
+
+/** The pledges of each group of what is due, the earliest end first: one of a group is in none of the others. */
+export function dueOf(book, now) {
+  const [week, fortnight, month] = [7, 14, SOON].map((count) => plusDays(now, count));
+  const lists = { grace: [], week: [], fortnight: [], month: [], sale: [], passed: [] };
+  const over = { grace: "grace", realisable: "sale", passed: "passed" };
+  for (const pledge of book.pledges.filter(({ state, ends }) => state === "open" && ends <= month).sort(byEnd)) {
+    const inside = pledge.ends <= week ? "week" : pledge.ends <= fortnight ? "fortnight" : "month";
+    lists[over[statusOn(pledge, now)] ?? inside].push(pledge);
+  }
+  return lists;
+}
+
+/** The visits that were asked for and wait for an answer, by day and time. */
+export function waiting(book) {
+  const asked = book.pledges.filter(({ state, booking }) => state === "open" && booking?.state === "asked");
+  const key = ({ booking }) => `${booking.day} ${String(booking.window).padStart(2, "0")}`;
+  return asked.sort(
+    (one, other) => (key(one) < key(other) ? -1 : key(one) > key(other) ? 1 : one.number - other.number)
+  );
+}
+
+/** What a typed text is looked for in. It is made once for each pledge. */
+function textOf(pledge) {
+  pledge.text ??= `${pledge.number}\n${pledge.reference}\n${pledge.article}`.toLowerCase();
+  return pledge.text;
+}
+
+/** Numbers in a reference count as numbers: A2 stands before A10. */
+function placeOf(pledge) {
+  pledge.place ??= pledge.reference.toLowerCase().replace(/\d+/g, (digits) => digits.padStart(15, "0"));
+  return pledge.place;
+}
+
+function by(key) {
+  return (one, other) => {
+    const [first, second] = [key(one), key(other)];
+    return first < second ? -1 : first > second ? 1 : one.number - other.number;
+  };
+}
+
+/** The orders in which a list can stand. */
+export const ORDERS = {
+  newest: { name: "Newest first", compare: (one, other) => other.number - one.number },
+  oldest: { name: "Oldest first", compare: null },
+  ends: { name: "By the period’s end", compare: by(({ ends }) => ends) },
+  reference: { name: "By reference", compare: by(placeOf) },
+  article: { name: "By article", compare: by(({ article }) => article.toLowerCase()) },
+  sum: { name: "Largest sum first", compare: by(({ pence }) => -pence) },
+};
+
+/** The pledges of a book in a group that a text finds, in an order. A receipt finds its own pledge. */
+export function found(book, { text, group, order }, now) {
+  const [receipt] = receiptsIn(text);
+  const wanted = text.trim().toLowerCase();
+  const holds = GROUPS[group].of(now);
+  const hits = receipt ? [book.pledges[numberOf(receipt) - 1]].filter(Boolean)
+    : book.pledges.filter((pledge) => (wanted === "" || textOf(pledge).includes(wanted)) && holds(pledge));
+  const { compare } = ORDERS[order];
+  return compare ? hits.sort(compare) : hits;
+}

@@ -1,0 +1,92 @@
+/** A receipt printed again, and a lost one replaced by a new one. */
+import { make } from "/shared/dom.js";
+import { Lost } from "/shared/faults.js";
+import { buttons } from "/shared/forms.js";
+import { confirmed, NOTHING_DONE } from "/shared/questions.js";
+import { addReceipt } from "./ledger.js";
+
+const lead = (text) => make("p", { className: "lead" }, text);
+
+async function printAgain(desk) {
+  const yes = await confirmed({
+    title: "Print the receipt again?",
+    lines: ["It is the same receipt, so both papers open the pledge, and whoever has either can redeem it.",
+      "Print it only for a customer whom you know to have none, or whose paper is spoilt. Where the paper is lost, "
+        + "make a new receipt in its place."],
+    yes: "Print it again", no: "Not now",
+  });
+  if (!yes) return NOTHING_DONE;
+  const receipt = await desk.newestReceipt();
+  if (receipt === null) return { sentence: "No receipt of this pledge is live, so none is printed.", tone: "bad" };
+  await desk.showReceipt(receipt);
+  return `The receipt stands below, to be printed. It was looked at just now: it is live. ${desk.toldOfReceipts()}`;
+}
+
+export const printing = (statement, desk) => ({
+  title: "Print the receipt again",
+  barred: null,
+  parts: [
+    lead("The same receipt once more. You are asked before it is shown."),
+    buttons(make("button", { className: "plain" }, "Print the receipt again")),
+  ],
+  act: () => printAgain(desk),
+});
+
+/** After a lost reply the book tells whether a new receipt was made. */
+const LOST = "The reply was lost, so a new receipt may have been made. Don’t ask for another: "
+  + "“Print the receipt again” shows the newest one.";
+
+const OVERTAKEN = "A new receipt was made, but another one took its place at the same time, so it is not shown. "
+  + "“Print the receipt again” shows the newest one.";
+
+const UNSEEN = "A new receipt was made, but could not be looked at just now, so it is not shown. "
+  + "Don’t ask for another: “Print the receipt again” shows it.";
+
+/** Shows a receipt that was made just now, if it is live. */
+async function showNew(receipt, paper, desk) {
+  addReceipt(receipt, paper);
+  try {
+    if (!await desk.isLive(receipt)) return { sentence: OVERTAKEN, tone: "bad" };
+    await desk.showReceipt(receipt);
+    return "A new receipt stands below. Print it: the old one is worth nothing.";
+  } catch {
+    return { sentence: UNSEEN, tone: "bad" };
+  }
+}
+
+async function declare({ paper }, desk) {
+  const before = paper === "sworn"
+    ? "You have the sworn declaration before you."
+    : "You have the written statement before you.";
+  const yes = await confirmed({
+    title: "Make a new receipt?",
+    lines: ["The receipt that the pawnor had is worth nothing from then on, whoever has it.", before],
+    yes: "Make a new receipt", no: "Not now",
+  });
+  if (!yes) return NOTHING_DONE;
+  let receipt;
+  try {
+    receipt = (await desk.command("declare", { paper }, false)).said.receipt;
+  } catch (fault) {
+    if (fault instanceof Lost) return { sentence: LOST, tone: "bad" };
+    throw fault;
+  }
+  return showNew(receipt, paper, desk);
+}
+
+function choice(value, text, checked) {
+  return make(
+    "label", { className: "choice" }, make("input", { type: "radio", name: "paper", value, checked }),
+    make("span", {}, text),
+  );
+}
+
+export const replacement = (statement, desk) => ({
+  title: "Replace a lost receipt",
+  barred: null,
+  parts: [lead("The pawnor declares that the receipt is lost. A new one takes its place."),
+    make("fieldset", {}, make("legend", {}, "Paper"), choice("sworn", "A sworn declaration", true),
+      choice("written", "A written statement, for credit up to £75.00", false)),
+    buttons(make("button", { className: "grave" }, "Make a new receipt"))],
+  act: (fields) => declare(fields, desk),
+});

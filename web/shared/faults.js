@@ -1,0 +1,46 @@
+/** What can stand in the way of an answer, and how a person is told. */
+import { sentence } from "/shared/refusals.js";
+import { Unreadable } from "/shared/unreadable.js";
+
+/** The service refused: its code, its name, and the total or the row that it named. Nothing was changed. */
+export class Refused extends Error {
+  constructor({ code, name, total, row }) {
+    super(`${code} ${name}`);
+    Object.assign(this, { code, name, total, row });
+  }
+}
+
+/** The request did not reach the service. Its message says whether it was a look, or a command that was not done. */
+export class NotReached extends Error {}
+
+/** The request may have reached the service, but no reply came back. */
+export class Lost extends Error {}
+
+/** A look that failed after a command was sent: of the command it says nothing. */
+const UNSEEN = "The service can’t be reached just now. Try again in a minute.";
+
+/** A fault as a sentence for the reader of a page, "pawnor" or "broker". */
+export function tellFault(fault, reader) {
+  if (fault instanceof Refused) return sentence(fault, reader);
+  if (fault instanceof Unreadable) return fault.message;
+  if (fault instanceof NotReached) return fault.message === "look"
+    ? UNSEEN
+    : `${UNSEEN} What you asked for was not sent, so it was not done.`;
+  if (fault instanceof Lost) {
+    return "The reply was lost, so this may have been done. Look at how the pledge stands before you do it again.";
+  }
+  return `This page did not understand what came back (${fault.message}). `
+    + "Look at how the pledge stands before you do anything again.";
+}
+
+/** The field of a form that a refusal speaks of, by its code. */
+const FIELDS = {
+  102: "rate", 103: "before", 104: "after", 201: "amount", 203: "amount", 204: "amount", 310: "amount", 307: "paper",
+  312: "day", 313: "window", 315: "until", 401: "key", 407: "ref", 408: null, 402: "receipt", 710: "receipt",
+};
+
+/** The name of the field that a fault speaks of, or null. */
+export function fieldOf(fault) {
+  if (fault instanceof Refused) return FIELDS[fault.code] ?? null;
+  return fault instanceof Unreadable ? fault.field : null;
+}

@@ -1,0 +1,125 @@
+/**
+ * Drawings and repayments, recorded so that two clerks, or a clerk and a pawnor, don't take one for the other.
+ *
+ * The service can't tell two equal entries of one number apart: it answers the second as it answered the first. So the
+ * pledge is
+ * read before, and what came in between is shown; and it is read after, and compared with what must stand.
+ */
+import { inWords, today } from "/shared/days.js";
+import { entryInWords } from "/shared/entries.js";
+import { Lost } from "/shared/faults.js";
+import { inPounds, LARGE } from "/shared/money.js";
+import { confirmed } from "/shared/questions.js";
+
+const NOTHING = { sentence: "Nothing was recorded.", tone: "quiet" };
+const WORDS = { draw: { done: "Drawn", as: "paid out" }, repay: { done: "Repaid", as: "received" } };
+
+/** How much of what came in between is told line by line. */
+const TOLD = 5;
+
+const isSame = (one, other) => one.seq === other.seq && one.sort === other.sort && one.pence === other.pence;
+
+/** What stands now and did not when the pledge was shown, as sentences. */
+function cameBetween(shown, now) {
+  const entries = now.entries.slice(shown.entries.length);
+  const lines = entries.slice(-TOLD).map(entryInWords);
+  if (entries.length > TOLD) lines.unshift(`${entries.length - TOLD} other entries.`);
+  if (now.status !== shown.status || now.held !== shown.held || now.ends !== shown.ends) {
+    lines.push("How the pledge stands has changed.");
+  }
+  return lines;
+}
+
+const owedLine = ({ owed }) => (owed ? `${inPounds(owed.owing)} is owed now.` : "Nothing more is done on this pledge.");
+
+/** Asks where something came in between, or the amount is large. Gives whether to go on. */
+async function agreed({ shown, now, sort, pence }) {
+  const between = cameBetween(shown, now);
+  const amount = inPounds(pence);
+  if (between.length > 0) {
+    return confirmed({
+      title: "Something came in between",
+      lines: [
+        "Since this pledge was shown here, somebody else did this:", ...between, owedLine(now),
+        `Is your ${amount} another one, beside these?`,
+      ],
+      yes: `Yes, record ${amount} as well`, no: "No, record nothing",
+    });
+  }
+  if (pence < LARGE) return true;
+  return confirmed(
+    {
+      title: `Record ${amount} as ${WORDS[sort].as}?`, lines: [owedLine(now), "An entry can’t be taken back."],
+      yes: `Record ${amount}`, no: "Not now",
+    }
+  );
+}
+
+/** Whether what is read after the entry is what must stand then. A new day adds charges of its own. */
+function judge({ now, after, said, day }) {
+  const others = after.entries.length - now.entries.length - 1;
+  const mine = after.entries.find(({ seq }) => seq === said.seq);
+  if (!mine || !isSame(mine, said)) return "But the pledge, read again, does not have it. Look at its entries";
+  if (others > 0) {
+    const what = others === 1 ? "another entry" : `${others} other entries`;
+    return `But somebody else recorded ${what} at the same time. Look at the entries`;
+  }
+  const change = said.sort === "draw" ? said.pence : -said.pence;
+  const wanted = now.owed.owing + change;
+  if (day !== today() || !after.owed || after.owed.owing === wanted) return null;
+  return `But ${inPounds(after.owed.owing)} is owed, where ${inPounds(wanted)} was to be. Look at the entries`;
+}
+
+/**
+ * What came of an entry that the service took. After it the pledge may be out of reach: that is not to be done again.
+ */
+function tellOf({ now, after, said, day }) {
+  const done = `${WORDS[said.sort].done}: ${inPounds(said.pence)}, on ${inWords(said.day)}.`;
+  if (!after) return { sentence: `${done} It is recorded, but the pledge can’t be read just now.`, tone: "good" };
+  const wrong = judge({ now, after, said, day });
+  return wrong
+    ? { sentence: `${done} ${wrong} before you do more.`, tone: "bad" }
+    : { sentence: `${done} ${owedLine(after)}`, tone: "good" };
+}
+
+/** What a look says of an entry whose reply was lost. */
+function tellLost({ now, after, entry }) {
+  const found = after.entries.find(({ seq }) => seq === entry.seq);
+  if (found && isSame(found, entry)) {
+    return {
+      sentence: `The reply was lost, but the pledge, read again, has the entry. `
+        + `${entryInWords(found)} ${owedLine(after)}`,
+      tone: "good",
+    };
+  }
+  if (after.entries.length > now.entries.length) return {
+    sentence: "The reply was lost, and somebody else’s entry stands. Look at the entries before you do more.",
+    tone: "bad",
+  };
+  return {
+    sentence: "The reply was lost, and the pledge does not have the entry so far. "
+      + "Look at it again in a minute before you record it again.",
+    tone: "bad",
+  };
+}
+
+/**
+ * Records an entry on a pledge: `read` gives its statement as it stands, `send` sends the body, `sort` is draw or
+ * repay. Gives what is to
+ * be said, with its tone. Throws what the service or the line refuses.
+ */
+export async function recordEntry({ shown, read, send, sort, pence }) {
+  const now = await read();
+  if (!await agreed({ shown, now, sort, pence })) return NOTHING;
+  const entry = { seq: now.nextSeq, sort, pence };
+  const day = today();
+  try {
+    const { said } = await send({ seq: entry.seq, pence });
+    const after = await read().catch(() => null);
+    return tellOf({ now, after, said, day });
+  } catch (fault) {
+    if (!(fault instanceof Lost)) throw fault;
+    const after = await read().catch(() => { throw fault; });
+    return tellLost({ now, after, entry });
+  }
+}
