@@ -100,7 +100,7 @@ def nothing_secret_is_noted():
                     caller.send(sent.encode())
             if shard:
                 shard.kill()
-        expect("the log notes what was asked", '"GET /books/7/held" 502' in it.log("access") and "(hidden)" in it.log("access"), True)
+        expect("the log notes what was asked", '"target":"/books/7/held","status":"502"' in it.log("access") and "(hidden)" in it.log("access"), True)
         expect("the error log notes that the shard was away", "Connection refused" in it.log("error"), True)
         no_secret_in_a_log(it, [*receipts, BROKER.replace("-", ""), BROKER.replace("-", "").upper()])
 
@@ -538,7 +538,7 @@ def a_shard_on_another_machine():
         relay = subprocess.Popen(["nginx", "-c", conf, "-e", f"{room}/error.log", "-g", "daemon off;"], env={**os.environ, "PATH": PATHS}, stderr=subprocess.DEVNULL, start_new_session=True)
         try:
             wait_for(lambda: os.path.exists(f"{room}/nginx.pid"), "the relay", 20)
-            far.edit("pawnd/shards.conf", (f"127.0.0.1:{far.shards[2].port}", f"127.0.0.1:{port}"))
+            far.edit("shards.conf", (f"127.0.0.1:{far.shards[2].port}", f"127.0.0.1:{port}"))
             far.run_shards("reload")
             through_the_relay(far)
         finally:

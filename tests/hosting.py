@@ -24,6 +24,8 @@ BOOKS = {7: 1, 8: 2, 9: 3}
 MEMORY = "/dev/shm" if os.access("/dev/shm", os.W_OK) and "TMPDIR" not in os.environ else None
 # More than the system keeps of a connection.
 LENGTH = 24_000_000
+# The operator's own files.
+SETTINGS = ("site.conf", "shards.conf", "books.map")
 # Addresses of the loopback, of which each is a caller of its own.
 ADDRESSES = (f"127.{first}.{second}.{third}" for first in range(1, 200) for second in range(1, 250) for third in range(1, 250))
 
@@ -191,6 +193,11 @@ def put(text, *pairs):
     return text
 
 
+def open_text(path):
+    with open(path) as it:
+        return it.read()
+
+
 class Hosted:
     """nginx in front of some shards. The files are those of deploy/nginx, but for paths, addresses and the map; `changes` are pairs of texts in http.conf."""
 
@@ -211,7 +218,9 @@ class Hosted:
     def begin(self):
         self.room = self.stack.enter_context(tempfile.TemporaryDirectory(prefix="pawnd-hosted-", dir=MEMORY))
         os.chmod(self.room, 0o711)
-        self.key = os.path.join(self.room, "operator.key")
+        self.settings = os.path.join(self.room, "settings")
+        os.mkdir(self.settings)
+        self.key = os.path.join(self.settings, "operator.key")
         with open(self.key, "w") as it:
             os.fchmod(it.fileno(), 0o600)
             it.write(OPERATOR + "\n")
@@ -225,9 +234,11 @@ class Hosted:
         return self
 
     def configure(self):
-        """The files of deploy/nginx in a folder of this server's own, and the pages beside it."""
+        """The files of deploy/nginx in a folder of this server's own, the operator's files, and the pages beside them."""
         self.conf = os.path.join(self.room, "nginx")
         shutil.copytree(os.path.join(TOP, "deploy/nginx"), self.conf)
+        for name in SETTINGS:
+            shutil.copy(os.path.join(TOP, "deploy/examples", name), self.settings)
         shutil.copytree(os.path.join(TOP, "web"), os.path.join(self.room, "web"))
         for folder, folders, files in os.walk(os.path.join(self.room, "web")):
             for name in [".", *files]:
@@ -237,19 +248,22 @@ class Hosted:
         subprocess.run(["openssl", "req", "-x509", "-newkey", "ec", "-pkeyopt", "ec_paramgen_curve:prime256v1", "-nodes", "-days", "2", "-subj", f"/CN={NAME}",
                         "-addext", f"subjectAltName=DNS:{NAME}", "-keyout", os.path.join(self.room, "cert.key"), "-out", self.cert], check=True, capture_output=True, timeout=60)
         self.edit("nginx.conf", ("/run/nginx.pid", f"{self.room}/nginx.pid"), ("/var/log/nginx/", f"{self.room}/logs/"), ("/run/nginx-bodies;", f"{self.room}/bodies;"),
-                  ("/run/nginx-replies;", f"{self.room}/replies; " + " ".join(f"{it}_temp_path {self.room}/unused;" for it in ("fastcgi", "uwsgi", "scgi"))))
-        self.edit("pawnd/site.conf", ("listen [::]:443 ssl http2 default_server;", ""), ("listen [::]:80 default_server;", ""), ("listen 443 ", f"listen 127.0.0.1:{self.port} "),
-                  ("listen 80 ", f"listen 127.0.0.1:{self.plain} "), (f"/etc/letsencrypt/live/{NAME}/fullchain.pem", self.cert),
-                  (f"/etc/letsencrypt/live/{NAME}/privkey.pem", os.path.join(self.room, "cert.key")), ("/opt/pawnd/web", f"{self.room}/web"))
-        self.edit("pawnd/shards.conf", *((f"127.0.0.1:810{number}", f"127.0.0.1:{shard.port}") for number, shard in enumerate(self.shards, 1)))
-        with open(os.path.join(self.conf, "pawnd/books.map"), "a") as it:
+                  ("/run/nginx-replies;", f"{self.room}/replies; " + " ".join(f"{it}_temp_path {self.room}/unused;" for it in ("fastcgi", "uwsgi", "scgi"))), ("/etc/pawnd/", f"{self.settings}/"))
+        self.edit("pawnd/plain.conf", ("/var/lib/acme", f"{self.room}/acme"))
+        self.edit("site.conf", ("listen [::]:443 ssl http2 default_server;", ""), ("listen [::]:80 default_server;", ""), ("listen 443 ", f"listen 127.0.0.1:{self.port} "),
+                  ("listen 80 ", f"listen 127.0.0.1:{self.plain} "), ("/etc/pawnd/certificate/fullchain.pem", self.cert),
+                  ("/etc/pawnd/certificate/privkey.pem", os.path.join(self.room, "cert.key")), ("/opt/pawnd/web", f"{self.room}/web"))
+        line = open_text(os.path.join(self.settings, "shards.conf")).splitlines()[-1]
+        with open(os.path.join(self.settings, "shards.conf"), "a") as it:
+            it.writelines(line.replace("shard1", f"shard{number}").replace("8101", f"810{number}") + "\n" for number in range(2, self.many + 1))
+        self.edit("shards.conf", *((f"127.0.0.1:810{number}", f"127.0.0.1:{shard.port}") for number, shard in enumerate(self.shards, 1)))
+        with open(os.path.join(self.settings, "books.map"), "a") as it:
             it.writelines(f"{book} shard{shard};\n" for book, shard in self.books.items())
         self.edit("pawnd/http.conf", *self.changes)
 
     def edit(self, name, *pairs):
-        path = os.path.join(self.conf, name)
-        with open(path) as it:
-            text = put(it.read(), *pairs)
+        path = os.path.join(self.settings if name in SETTINGS else self.conf, name)
+        text = put(open_text(path), *pairs)
         with open(path, "w") as it:
             it.write(text)
 
@@ -301,7 +315,12 @@ class Hosted:
         return receipts
 
     def run_shards(self, *words, wanted=0, **environment):
-        return run_shards(*words, wanted=wanted, CONF=os.path.join(self.conf, "nginx.conf"), KEY=self.key, **environment)
+        return run_shards(*words, wanted=wanted, **self.environment(), **environment)
+
+    def environment(self):
+        """What `deploy/shards` is told of this host."""
+        return {"CONF": os.path.join(self.conf, "nginx.conf"), "SETTINGS": self.settings, "STORES": os.path.join(self.room, "shards"), "COPIES": os.path.join(self.room, "copies"),
+                "ACCESS": os.path.join(self.room, "logs/access.log")}
 
 
 def run_shards(*words, wanted=0, **environment):

@@ -182,7 +182,7 @@ def snapshot_of(disk, kept):
 # ---- one shard becomes three, and a book moves
 
 def mapped(hosted):
-    with open(os.path.join(hosted.conf, "pawnd/books.map")) as it:
+    with open(os.path.join(hosted.settings, "books.map")) as it:
         return {int(book): shard for book, shard in (line.rstrip(";\n").split() for line in it if line[0].isdigit())}
 
 
@@ -221,7 +221,7 @@ def one_shard_becomes_three():
         lines = it.run_shards("split", first.path, *(shard.path for shard in others))
         for shard in others:
             shard.start()
-        with open(os.path.join(it.conf, "pawnd/books.map"), "w") as file:
+        with open(os.path.join(it.settings, "books.map"), "w") as file:
             file.write(lines)
         it.run_shards("reload")
         first.start()
@@ -323,7 +323,7 @@ def somebody_goes_round_the_proxy(it, receipts):
 
 
 def a_book_that_is_too_long(it):
-    with open(os.path.join(it.conf, "pawnd/books.map"), "a") as file:
+    with open(os.path.join(it.settings, "books.map"), "a") as file:
         file.write("13 shard2;\n")
     it.run_shards("reload")
     it.caller("127.0.0.1").ask("POST", "/books/13", f"Pledge-Key: {OPERATOR}", body={"capacity": 2, "key": BROKER, "name": "Long Street"})
