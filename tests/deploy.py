@@ -105,6 +105,76 @@ def nothing_secret_is_noted():
         no_secret_in_a_log(it, [*receipts, BROKER.replace("-", ""), BROKER.replace("-", "").upper()])
 
 
+def a_hundred_forms(receipt):
+    """Requests that hold a receipt where a client might put it by mistake, at random: by TLS or without, of each length, to what is there and to what is not."""
+    chance = random.Random(7)
+    places = ["/?receipt={}", "/README.md?{}", "/pawn/?receipt={}", "/pawn?{}", "/broker/?r={}", "/api.js?{}", "/.well-known/acme-challenge/?{}", "/.well-known/acme-challenge/{}", "/{}", "/pawn/{}/", "/index.html/{}",
+              "/books/7/held?receipt={}", "/books/7/{}", "/books?{}", "/_refused?{}", "/books/7/export?{}", "/pawn/pawn.js?{}", "/%7b{}", "//{}", "/nowhere/?{}"]
+    for _ in range(100):
+        method, length = chance.choice(["GET", "POST", "POST", "PUT", "DELETE"]), chance.choice([0, 0, 10, 1_048_577, 2_000_000, 10**12])
+        yield chance.random() < 0.5, request(method, chance.choice(places).format(receipt), f"Host: {NAME}", f"Pledge-Receipt: {receipt}", *([f"Content-Length: {length}"] if length else []))
+
+
+def no_secret_of_a_hundred_forms():
+    with Hosted() as it:
+        receipt = it.open_books(1)[7][0]
+        os.makedirs(os.path.join(it.room, "acme/.well-known/acme-challenge"))
+        for by_tls, sent in a_hundred_forms(receipt):
+            caller = it.caller()
+            with contextlib.suppress(OSError, Failed):
+                caller.connection = caller.connect() if by_tls else socket.create_connection(("127.0.0.1", it.plain), timeout=10)
+                caller.connection.settimeout(2)
+                caller.send(sent)
+            caller.close()
+        expect("they were noted", it.log("access").count("\n") > 80, True)
+        no_secret_in_a_log(it, [receipt])
+        expect("each line of the log is JSON", {type(json.loads(line)) for line in it.log("access").splitlines()}, {dict})
+        with open(os.path.join(it.room, "acme/.well-known/acme-challenge/a-token"), "w") as file:
+            file.write("what the maker of certificates reads")
+        for folder, _, _ in os.walk(os.path.join(it.room, "acme")):
+            os.chmod(folder, 0o755)
+        os.chmod(file.name, 0o644)
+        expect("a certificate's challenge", plainly(it.plain, request("GET", "/.well-known/acme-challenge/a-token", f"Host: {NAME}")).endswith(b"what the maker of certificates reads"), True)
+
+
+def strangers_bar_nobodys_export():
+    """Bodies without a key that trickle to a book's import, and exports of books that are not there, hold up no broker's export."""
+    with Hosted(books={**BOOKS, **{number: 1 for number in range(100, 120)}}) as it:
+        it.books = BOOKS
+        it.open_books(1)
+        stranger, held = "127.203.4.5", []
+        for number in range(6):
+            caller = it.caller(stranger if number % 2 else None)
+            caller.connection = caller.connect()
+            caller.connection.sendall(f"POST /books/7/import HTTP/1.1\r\nHost: x\r\nContent-Length: 1000\r\n\r\n{'x' * number}".encode())
+            held.append(caller)
+        time.sleep(0.3)
+        for number in range(60):
+            caller = it.caller(stranger)
+            caller.connection = caller.connect()
+            caller.connection.sendall(request("GET", f"/books/{100 + number % 20}/export", "Host: x"))
+            held.append(caller)
+        time.sleep(0.3)
+        told = [status(it.caller().broker("GET", "/books/7/export")) for _ in range(6)]
+        for caller in held:
+            caller.close()
+        expect("the broker's exports", told, [200] * 6)
+        busy = [it.caller("127.203.4.6") for _ in range(2)]
+        busy[0].connection = busy[0].connect()
+        busy[0].connection.sendall(b"POST /books/7/import HTTP/1.1\r\nHost: x\r\nContent-Length: 1000\r\n\r\n")
+        time.sleep(0.2)
+        expect("two of one caller at once", proxys(busy[1].broker("GET", "/books/7/export")), (429, False))
+
+
+def a_book_without_a_line():
+    """It is handed to no shard, whether its line is gone or was never there."""
+    with Hosted(kind=Recorder) as it:
+        before = [len(shard.seen) for shard in it.shards]
+        for target in ("/books/10/held", "/books/10", "/books/10/export", "/books/10/pledges/1/draw"):
+            expect(f"{target}", proxys(it.caller("127.0.0.1").ask("POST", target, body={})), (503, False))
+        expect("what was handed on", [len(shard.seen) for shard in it.shards], before)
+
+
 # ---- which book
 
 TRICKS = ["/books/7", "/books/8", "/books/7/held", "/books/8/held/repay", "/books/9/days/2026-11-25", "/books/9/pledges/1/draw", "/books/1", "/books/123456789/held", "/books/999999999",
@@ -135,10 +205,10 @@ def each_target_comes_to_its_book_or_nowhere():
                 for number, head in came:
                     got = head.split("\r\n")[0].split(" ")[1]
                     book = READ.fullmatch(got)
-                    expect(f"the shard of {target}, which came as {got}", number, BOOKS.get(int(book[1]), 1) if book else None)
+                    expect(f"the shard of {target}, which came as {got}", number, BOOKS.get(int(book[1])) if book else None)
                     expect(f"{target} came as it was", got, target.removeprefix(f"https://{NAME}:1").removeprefix(f"http://{NAME}").removeprefix("http://evil"))
                     landed.add(target)
-        expect("what was handed on", sorted(landed), sorted(target for target in TRICKS[:9] + [f"http://{NAME}/books/8/held", f"https://{NAME}:1/books/9/held", "http://evil/books/8", "/books/8/pledges/07"]))
+        expect("what was handed on", sorted(landed), sorted(target for target in TRICKS[:6] + [f"http://{NAME}/books/8/held", f"https://{NAME}:1/books/9/held", "http://evil/books/8", "/books/8/pledges/07"]))
         no_room_beside_the_shape(it)
 
 
@@ -157,7 +227,7 @@ def no_room_beside_the_shape(it):
         for shard_number, shard in enumerate(it.shards, 1):
             for head, _ in shard.seen[before[shard_number - 1]:]:
                 book = READ.fullmatch(target)
-                expect(f"{target} at shard {shard_number}", (head.split(" ")[1], book and BOOKS.get(int(book[1]), 1)), (target, shard_number))
+                expect(f"{target} at shard {shard_number}", (head.split(" ")[1], book and BOOKS.get(int(book[1]))), (target, shard_number))
                 came += 1
         if number % 15 == 0:
             caller.close()
@@ -176,7 +246,7 @@ def each_target_by_caddy():
     with tempfile.TemporaryDirectory() as room:
         with open(os.path.join(TOP, "deploy/Caddyfile")) as it:
             text = put(it.read(), ("{\n\tservers {", f"{{\n\tadmin off\n\tauto_https off\n\thttp_port {port}\n\tservers {{"), (f"\n{NAME} {{", f"\nhttp://:{port} {{"),
-                       ("\t\tdefault 127.0.0.1:8101\n", f"{lines}\t\t10 moving\n\t\tdefault 127.0.0.1:{shards[0].port}\n"), ("/opt/pawnd/web", os.path.join(TOP, "web")))
+                       ("\t\tdefault moving\n", f"{lines}\t\t10 moving\n\t\tdefault moving\n"), ("/opt/pawnd/web", os.path.join(TOP, "web")))
         with open(os.path.join(room, "Caddyfile"), "w") as it:
             it.write(text)
         caddy = subprocess.Popen(["caddy", "run", "--config", os.path.join(room, "Caddyfile"), "--adapter", "caddyfile"], env={**os.environ, "HOME": room, "XDG_DATA_HOME": room, "XDG_CONFIG_HOME": room},
@@ -184,7 +254,7 @@ def each_target_by_caddy():
         try:
             wait_for(lambda: answers(f"http://127.0.0.1:{port}/"), "caddy", 30)
             landed = [target for target in TRICKS if comes_to_its_book(port, target, shards)]
-            expect("what was handed on", landed, [*TRICKS[:9], "/books/8/pledges/07"])
+            expect("what was handed on", landed, [*TRICKS[:6], "/books/8/pledges/07"])
             expect("a book that is moving", plainly(port, request("GET", "/books/10/held", "Host: x")).endswith(NOT_HANDED_ON % 503), True)
             shards[1].way = "close"
             expect("no reply", plainly(port, request("GET", "/books/8/held", "Host: x")).endswith(b'{"proxy":502,"handed_on":true}'), True)
@@ -211,7 +281,7 @@ def comes_to_its_book(port, target, shards):
     came = [(number, head.split(" ")[1]) for number, shard in enumerate(shards, 1) for head, _ in shard.seen[before[number - 1]:]]
     book = READ.fullmatch(target)
     if came:
-        expect(f"{target}", came, [(BOOKS.get(int(book[1]), 1) if book else None, target)])
+        expect(f"{target}", came, [(BOOKS.get(int(book[1])) if book else None, target)])
     return bool(came)
 
 
@@ -250,7 +320,7 @@ def what_the_program_says_of_them():
         expect("32 receipts", (status(reply), reply.body.count(b"Pledge 1\n"), reply.body.count(b"Pledge 2\n")), (200, 16, 16))
         for step, reply, wanted in (("33", it.caller().ask("GET", "/books/8/held", *fields), (400, 711)), ("no receipt", it.caller().ask("GET", "/books/8/held"), (400, 712)),
                                     ("a receipt of another book", it.caller().ask("GET", "/books/9/held", f"Pledge-Receipt: 2-{receipts[8][0][2:]}"), (404, 402)), ("two keys", it.caller().ask("GET", "/books/8/pledges/1", KEY, KEY), (400, 709)),
-                                    ("no such book", it.caller().broker("GET", "/books/10/pledges/1"), (404, 401)), ("no such route", it.caller().broker("GET", "/books/8/shelves"), (404, 706)),
+                                    ("no such route", it.caller().broker("GET", "/books/8/shelves"), (404, 706)),
                                     ("another method", it.caller().ask("PUT", "/books/8/held", fields[0]), (400, 707)), ("a head of 8,192 bytes", it.caller().ask("GET", "/books/8/held", fields[0], "X: " + "x" * 8150), (400, 701))):
             expect(step, (status(reply), json.loads(reply.body).get("code")), wanted)
         head = it.caller().ask("HEAD", "/books/8/held", fields[0])
@@ -334,7 +404,7 @@ def to(port):
 def the_same_bytes_as_of_one_service():
     """Two thousand requests at random on four books: one program that has them all, and three shards behind the proxy. (Each book is made without the proxy.)"""
     chance = random.Random(43)
-    with Hosted() as hosted, Server() as one:
+    with Hosted(books={**BOOKS, 10: 2}) as hosted, Server() as one:
         worlds = World(to(one.port)), World(through(hosted))
         made = [hosted.shard_of(book).port for book in BOOKS]
         for book, port in zip(BOOKS, made, strict=True):
@@ -558,7 +628,7 @@ def through_the_relay(far):
     expect("when it is there again", status(far.caller().ask("GET", "/books/9/held", fields[0])), 200)
 
 
-TESTS = (the_life_of_a_pledge_over_tls, nothing_secret_is_noted, each_target_comes_to_its_book_or_nowhere, each_target_by_caddy, heads_and_bodies, what_the_program_says_of_them,
+TESTS = (the_life_of_a_pledge_over_tls, nothing_secret_is_noted, no_secret_of_a_hundred_forms, strangers_bar_nobodys_export, a_book_without_a_line, each_target_comes_to_its_book_or_nowhere, each_target_by_caddy, heads_and_bodies, what_the_program_says_of_them,
          what_is_unknown_and_what_was_not_done, guesses_are_slowed_down, the_same_bytes_as_of_one_service, slow_peers_hold_nobody_up, a_reader_that_reads_nothing, a_hundred_in_flight_and_no_more, a_shard_is_killed_and_started,
          a_shard_on_another_machine)
 

@@ -317,6 +317,14 @@ class Hosted:
     def run_shards(self, *words, wanted=0, **environment):
         return run_shards(*words, wanted=wanted, **self.environment(), **environment)
 
+    def restart(self, number):
+        """A shard as its unit stops it and starts it anew."""
+        shard = self.shards[number - 1]
+        shard.kill()
+        self.run_shards("fold", shard.path)
+        self.run_shards("begin", shard.path)
+        shard.start()
+
     def environment(self):
         """What `deploy/shards` is told of this host."""
         return {"CONF": os.path.join(self.conf, "nginx.conf"), "SETTINGS": self.settings, "STORES": os.path.join(self.room, "shards"), "COPIES": os.path.join(self.room, "copies"),

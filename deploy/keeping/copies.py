@@ -134,6 +134,38 @@ def drill(folder, port):
     say(f"{copy}: {in_words(counts)}, and it was served on port {port}")
 
 
+def packed(folder, names, target, recipients):
+    """An encrypted archive, which is there as a whole or not at all."""
+    part = target + ".part"
+    with open(part, "wb") as it:
+        tar = subprocess.Popen(["tar", "-C", folder, "-c", *names], stdout=subprocess.PIPE)
+        age = subprocess.run(["age", "-R", recipients], stdin=tar.stdout, stdout=it)
+        if tar.wait() or age.returncode:
+            raise Stop(f"{target} was not made")
+    sync(part)
+    os.rename(part, target)
+
+
+def send(folder, target):
+    """Sends the copies of a shard and the operator's settings to another machine, encrypted for those that `recipients` names."""
+    settings = os.environ.get("SETTINGS", "/etc/pawnd")
+    recipients, shard = os.path.join(settings, "recipients"), os.path.basename(os.path.abspath(folder))
+    sent = os.path.join(os.path.dirname(os.path.abspath(folder)), "sent", shard)
+    os.makedirs(sent, 0o700, exist_ok=True)
+    with alone(folder), alone(sent):
+        wanted = copies(folder)
+        for name in wanted:
+            if not os.path.exists(os.path.join(sent, name + ".tar.age")):
+                packed(folder, [name], os.path.join(sent, name + ".tar.age"), recipients)
+        packed(os.path.dirname(settings), [os.path.basename(settings)], os.path.join(sent, "settings.tar.age"), recipients)
+        for name in os.listdir(sent):
+            if name != "settings.tar.age" and name.removesuffix(".tar.age") not in wanted:
+                os.remove(os.path.join(sent, name))
+        if subprocess.run(["rsync", "-a", "--delete-after", sent + "/", target]).returncode:
+            raise Stop(f"{target} was not reached: the copies wait in {sent}")
+    say(f"{target}: {len(wanted)} copies, the newest {wanted[-1] if wanted else 'none'}")
+
+
 def answered(port, book=1, patience=60):
     """Whether a service on this machine answers as it does without a receipt."""
     with socket.create_connection(("127.0.0.1", port), timeout=patience) as peer:
