@@ -241,14 +241,16 @@ def one_shard_becomes_three():
         it.run_shards("reload")
         first.start()
         time.sleep(0.2)
-        expect("what a client saw meanwhile", watcher.end() <= {200, (502, False)}, True)
+        expect("what a client saw meanwhile", watcher.end() - {200, (502, False)}, set())
         at = {book: int(shard[-1]) for book, shard in mapped(it).items()}
         expect("every book has a shard, and every shard a book", (set(at), set(at.values())), (set(it.books), {1, 2, 3}))
         for book in it.books:
             each_is_at_its_own(it, book, at[book], texts[book], receipts[book])
         expect("the other lines", '# a line of mine\n"~^2[0-9]{6}$" shard1;\n' in open_text(os.path.join(it.settings, "books.map")), True)
         first.kill()
+        others[0].kill()
         expect("a second time", "has books already" in it.run_shards("split", "shard1", "shard2", wanted=1), True)
+        others[0].start()
         first.start()
         an_emptied_map(it, receipts)
 
