@@ -18,7 +18,7 @@ from hosting import MEMORY, PACKAGES, TOP, Shard, run_shards
 from service import BROKER, OPERATOR, PROGRAM, Failed, check, expect, main
 
 # The calls by which a command changes what another can see.
-CALLS = ("mkdir", "rename", "link", "unlink", "unlinkat", "rmdir", "fsync", "ioctl", "chown", "fchmod", "pidfd_send_signal", "kill", "flock")
+CALLS = ("mkdir", "rename", "link", "unlink", "unlinkat", "rmdir", "fsync", "ioctl", "chown", "fchmod", "pidfd_send_signal", "kill", "flock", "connect")
 CHANCE = random.Random(48)
 
 

@@ -22,10 +22,10 @@ def the_units_are_as_systemd_reads_them():
     with tempfile.TemporaryDirectory() as room:
         for name in os.listdir(os.path.join(TOP, "deploy/systemd")):
             with open(os.path.join(TOP, "deploy/systemd", name)) as it:
-                text = it.read().replace("/opt/pawnd/pawnd", PROGRAM).replace("/opt/pawnd/deploy", os.path.join(TOP, "deploy"))
+                text = it.read().replace("/opt/pawnd/pawnd", PROGRAM).replace("/opt/pawnd/deploy", os.path.join(TOP, "deploy")).replace("/etc/pawnd/on-failure", "/bin/true")
             with open(os.path.join(room, name), "w") as it:
                 it.write(text)
-        units = ["pawnd@1.service", "pawnd.target", "pawnd-backup@1.service", "pawnd-backup@1.timer"]
+        units = ["pawnd@1.service", "pawnd.target", "pawnd-failed@pawnd-1.service", "pawnd-status.service", "pawnd-status.timer", *(f"pawnd-{it}@1.{end}" for it in ("backup", "send") for end in ("service", "timer"))]
         ran = subprocess.run(["systemd-analyze", "verify", "--man=no", *(os.path.join(room, it) for it in units)], capture_output=True, text=True, timeout=60)
         expect("systemd-analyze verify", (ran.returncode, ran.stdout, ran.stderr), (0, "", ""))
 

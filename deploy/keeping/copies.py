@@ -10,7 +10,7 @@ import tempfile
 import time
 
 from .locks import Stop, alone, at_rest, folder_of, locked, not_served, say
-from .stores import check, copy_store, in_words, now, program, put_in_place, room_in, sum_of, swept, sync, whole
+from .stores import check, copy_store, folder_for, in_words, now, program, put_in_place, room_in, sum_of, swept, sync, whole
 
 STORES = os.environ.get("STORES", "/var/lib/pawnd")
 KEEP = int(os.environ.get("KEEP", "30"))
@@ -103,8 +103,9 @@ def is_for(note, copy, path, said):
 
 def restore(copy, path, *said):
     """Puts a copy in the place of a store, once it was seen to be the copy that was made, and one of this shard."""
-    note, folder = note_of(copy), os.path.dirname(os.path.abspath(path))
+    note = note_of(copy)
     is_for(note, copy, path, said)
+    folder = folder_for(path)
     with alone(folder), alone(folder_of(copy)), not_served(path) if os.path.exists(path) else contextlib.nullcontext(), room_in(folder, "restoring") as room:
         note = as_it_was_made(copy)
         new, counts = taken_from(copy, note, room)
