@@ -13,6 +13,7 @@ import socket
 import statistics
 import subprocess
 import tempfile
+import threading
 import time
 
 from browser import PATHS, answers, missing, provide, wait_for
@@ -344,6 +345,34 @@ def what_is_unknown_and_what_was_not_done():
             expect(f"{field} of a refusal", field in reply.fields, True)
 
 
+def callers_wait_while_a_shard_is_started_anew():
+    """What found no shard is asked again, once it is there, with its whole body; what a shard took, and did not answer, is not."""
+    with Hosted(kind=Recorder) as it:
+        shard, body = it.shards[1], json.dumps({"seq": 1, "pence": 100}) + " " * 70_000
+        for away in (1.0, 3.0):
+            shard.kill()
+            starting = threading.Timer(away, shard.start_again)
+            starting.start()
+            before, begun = len(shard.seen), time.monotonic()
+            callers = [it.caller() for _ in range(20)]
+            for caller in callers:
+                caller.connection = caller.connect()
+                caller.connection.sendall(request("POST", "/books/8/held/repay", "Host: x", "Pledge-Receipt: 1-1", body=body))
+            told = [status(read_reply(caller.connection)) for caller in callers]
+            starting.join()
+            expect(f"after {away} s", (told, time.monotonic() - begun >= away), ([200] * 20, True))
+            expect("each came once, as it was", [(head.split("\r\n")[0], f"Content-Length: {len(body)}" in head, "Pledge-Receipt: 1-1" in head, said.decode() == body) for head, said in shard.seen[before:]],
+                   [("POST /books/8/held/repay HTTP/1.1", True, True, True)] * 20)
+        for way in ("close", "reset"):
+            shard.kill()
+            shard.way, before = way, len(shard.seen)
+            starting = threading.Timer(1, shard.start_again)
+            starting.start()
+            reply = it.caller().ask("POST", "/books/8/held/repay", "Pledge-Receipt: 1-1", body={})
+            starting.join()
+            expect(f"it was there, and then: {way}", (proxys(reply), len(shard.seen) - before), ((502, True), 1))
+
+
 def guesses_are_slowed_down():
     with Hosted() as it:
         it.open_books()
@@ -629,7 +658,7 @@ def through_the_relay(far):
 
 
 TESTS = (the_life_of_a_pledge_over_tls, nothing_secret_is_noted, no_secret_of_a_hundred_forms, strangers_bar_nobodys_export, a_book_without_a_line, each_target_comes_to_its_book_or_nowhere, each_target_by_caddy, heads_and_bodies, what_the_program_says_of_them,
-         what_is_unknown_and_what_was_not_done, guesses_are_slowed_down, the_same_bytes_as_of_one_service, slow_peers_hold_nobody_up, a_reader_that_reads_nothing, a_hundred_in_flight_and_no_more, a_shard_is_killed_and_started,
+         what_is_unknown_and_what_was_not_done, callers_wait_while_a_shard_is_started_anew, guesses_are_slowed_down, the_same_bytes_as_of_one_service, slow_peers_hold_nobody_up, a_reader_that_reads_nothing, a_hundred_in_flight_and_no_more, a_shard_is_killed_and_started,
          a_shard_on_another_machine)
 
 if __name__ == "__main__":

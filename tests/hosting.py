@@ -147,8 +147,11 @@ class Recorder:
         self.seen, self.way, self.rid = [], "answer", False
 
     def start(self, wait=True):
-        self.listener = socket.create_server(("127.0.0.1", steady_port()))
-        self.port = self.listener.getsockname()[1]
+        self.port = steady_port()
+        return self.start_again()
+
+    def start_again(self):
+        self.listener = socket.create_server(("127.0.0.1", self.port))
         threading.Thread(target=self.accept, daemon=True).start()
         return self
 
@@ -228,7 +231,7 @@ class Hosted:
         for shard in self.shards:
             self.stack.callback(shard.kill)
             shard.start()
-        self.port, self.plain = steady_port(), steady_port()
+        self.port, self.plain, self.waiting = steady_port(), steady_port(), steady_port()
         self.configure()
         self.serve()
         return self
@@ -248,7 +251,8 @@ class Hosted:
         subprocess.run(["openssl", "req", "-x509", "-newkey", "ec", "-pkeyopt", "ec_paramgen_curve:prime256v1", "-nodes", "-days", "2", "-subj", f"/CN={NAME}",
                         "-addext", f"subjectAltName=DNS:{NAME}", "-keyout", os.path.join(self.room, "cert.key"), "-out", self.cert], check=True, capture_output=True, timeout=60)
         self.edit("nginx.conf", ("/run/nginx.pid", f"{self.room}/nginx.pid"), ("/var/log/nginx/", f"{self.room}/logs/"), ("/run/nginx-bodies;", f"{self.room}/bodies;"),
-                  ("/run/nginx-replies;", f"{self.room}/replies; " + " ".join(f"{it}_temp_path {self.room}/unused;" for it in ("fastcgi", "uwsgi", "scgi"))), ("/etc/pawnd/", f"{self.settings}/"))
+                  ("/run/nginx-replies;", f"{self.room}/replies; " + " ".join(f"{it}_temp_path {self.room}/unused;" for it in ("fastcgi", "uwsgi", "scgi"))), ("/etc/pawnd/", f"{self.settings}/"), ("127.0.0.1:8100", f"127.0.0.1:{self.waiting}"))
+        self.edit("pawnd/pause.conf", ("127.0.0.1:8100", f"127.0.0.1:{self.waiting}"))
         self.edit("pawnd/plain.conf", ("/var/lib/acme", f"{self.room}/acme"))
         self.edit("site.conf", ("listen [::]:443 ssl http2 default_server;", ""), ("listen [::]:80 default_server;", ""), ("listen 443 ", f"listen 127.0.0.1:{self.port} "),
                   ("listen 80 ", f"listen 127.0.0.1:{self.plain} "), ("/etc/pawnd/certificate/fullchain.pem", self.cert),
