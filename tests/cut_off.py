@@ -1,5 +1,6 @@
 #!/usr/bin/env python3
-"""`deploy/shards` where it is cut off at each call of the system that changes something, run twice at once, and run beside a program that reads the same files."""
+"""`deploy/shards` where it is cut off at each call of the system that changes something, run twice at once, and run
+beside a program that reads the same files."""
 import collections
 import contextlib
 import os
@@ -18,7 +19,22 @@ from hosting import MEMORY, PACKAGES, TOP, Shard, run_shards
 from service import BROKER, OPERATOR, PROGRAM, Failed, check, expect, main
 
 # The calls by which a command changes what another can see.
-CALLS = ("mkdir", "rename", "link", "unlink", "unlinkat", "rmdir", "fsync", "ioctl", "chown", "fchmod", "pidfd_send_signal", "kill", "flock", "connect")
+CALLS = (
+    "mkdir",
+    "rename",
+    "link",
+    "unlink",
+    "unlinkat",
+    "rmdir",
+    "fsync",
+    "ioctl",
+    "chown",
+    "fchmod",
+    "pidfd_send_signal",
+    "kill",
+    "flock",
+    "connect",
+)
 CHANCE = random.Random(48)
 
 
@@ -29,14 +45,32 @@ def not_tried(what, why):
 def traced(words, *rules, environment=None):
     """`deploy/shards` under strace, with these rules: the run, and the calls that it made."""
     with tempfile.NamedTemporaryFile() as trace:
-        ran = subprocess.run(["strace", "-qq", "-o", trace.name, "-e", f"trace={','.join(CALLS)}", *(it for rule in rules for it in ("-e", rule)), sys.executable, os.path.join(TOP, "deploy/shards"), *map(str, words)],
-                             capture_output=True, text=True, timeout=120, stdin=subprocess.DEVNULL, env={**os.environ, "PATH": PATHS, "PAWND": PROGRAM, **(environment or {})})
+        ran = subprocess.run(
+            [
+                "strace",
+                "-qq",
+                "-o",
+                trace.name,
+                "-e",
+                f"trace={','.join(CALLS)}",
+                *(it for rule in rules for it in ("-e", rule)),
+                sys.executable,
+                os.path.join(TOP, "deploy/shards"),
+                *map(str, words),
+            ],
+            capture_output=True,
+            text=True,
+            timeout=120,
+            stdin=subprocess.DEVNULL,
+            env={**os.environ, "PATH": PATHS, "PAWND": PROGRAM, **(environment or {})},
+        )
         calls = collections.Counter(re.findall(r"^(\w+)\(", trace.read().decode(errors="replace"), re.M))
     return ran, calls
 
 
 def each_cut(words, prepare, judge, environment=None, skip=()):
-    """The command is killed at each of its calls in turn, each time over files that were made anew, and what it left is judged."""
+    """The command is killed at each of its calls in turn, each time over files that were made anew, and what it left
+    is judged."""
     prepare()
     ran, calls = traced(words(), environment=environment)
     expect(f"{words()[0]} when it is let run", (ran.returncode, ran.stderr), (0, ""))
@@ -79,11 +113,18 @@ class Stores:
         shutil.copytree(self.pattern, os.path.dirname(self.shard.path))
 
     def found(self):
-        """What a start would find: the counts of a sound store, or a refusal. It is asked of the folder's copy, since a check makes a store where there is none."""
+        """What a start would find: the counts of a sound store, or a refusal. It is asked of the folder's copy, since
+        a check makes a store where there is none."""
         with tempfile.TemporaryDirectory(dir=MEMORY) as room:
             folder = os.path.join(room, "1")
             linked_too(os.path.dirname(self.shard.path), folder)
-            begun = subprocess.run([os.path.join(TOP, "deploy/shards"), "begin", os.path.join(folder, "books.db")], capture_output=True, text=True, timeout=60, env={**os.environ, "PAWND": PROGRAM, "SETTINGS": "/nowhere"})
+            begun = subprocess.run(
+                [os.path.join(TOP, "deploy/shards"), "begin", os.path.join(folder, "books.db")],
+                capture_output=True,
+                text=True,
+                timeout=60,
+                env={**os.environ, "PAWND": PROGRAM, "SETTINGS": "/nowhere"},
+            )
             return check(os.path.join(folder, "books.db")), begun.returncode
 
 
@@ -96,7 +137,8 @@ OLD, NEW, SHUT = "books 1 pledges 2 rows 6\n", "books 1 pledges 0 rows 2\n", (1,
 
 
 def a_copy_that_is_put_back_is_cut_off():
-    """At no moment would a start find an empty store, or a log beside another's database; and the same command again puts the copy there."""
+    """At no moment would a start find an empty store, or a log beside another's database; and the same command again
+    puts the copy there."""
     with Stores() as it:
         seen = collections.Counter()
 
@@ -107,7 +149,16 @@ def a_copy_that_is_put_back_is_cut_off():
             expect(f"whether it is begun after {step}", begun, 1 if said == SHUT else 0)
             run_shards("restore", it.copy, it.shard.path)
             expect(f"after {step}, and once more", it.found()[0], (0, NEW, ""))
-            expect(f"what is left after {step}", [name for name in os.listdir(os.path.dirname(it.shard.path)) if not name.startswith(("before-", "books.db"))], [])
+            expect(
+                f"what is left after {step}",
+                [
+                    name
+                    for name in os.listdir(os.path.dirname(it.shard.path))
+                    if not name.startswith(("before-", "books.db"))
+                ],
+                [],
+            )
+
         count = each_cut(lambda: ("restore", it.copy, it.shard.path), it.prepare, judge)
         expect("all were seen", set(seen) == {"refused", OLD, NEW}, True)
         print(f"        {count} kills: {dict(seen)}", flush=True)
@@ -128,10 +179,13 @@ def a_copy_that_is_being_made_is_cut_off():
             wait_for(lambda: not is_stopped(it.shard.program.pid), f"the shard goes on after {step}", 10)
             run_shards("backup", it.shard.path, it.copies)
             names = os.listdir(it.copies)
-            expect(f"what is left after {step}", [name for name in names if not re.fullmatch(r"\d{8}T\d{6}Z", name)], [])
+            expect(
+                f"what is left after {step}", [name for name in names if not re.fullmatch(r"\d{8}T\d{6}Z", name)], []
+            )
             for name in sorted(names)[1:]:
                 expect(f"the copy {name} after {step}", check(os.path.join(it.copies, name, "books.db"))[1], OLD)
                 shutil.rmtree(os.path.join(it.copies, name))
+
         count = each_cut(lambda: ("backup", it.shard.path, it.copies), lambda: None, judge)
         print(f"        {count} kills", flush=True)
 
@@ -147,7 +201,12 @@ def the_shard_is_frozen_and_not_its_reader():
 
             def watch():
                 while not ended.wait(0.002):
-                    seen.update(name for name, pid in (("reader", reader.pid), ("shard", it.shard.program.pid)) if is_stopped(pid))
+                    seen.update(
+                        name
+                        for name, pid in (("reader", reader.pid), ("shard", it.shard.program.pid))
+                        if is_stopped(pid)
+                    )
+
             watcher = threading.Thread(target=watch, daemon=True)
             watcher.start()
             ran, _ = traced(("backup", it.shard.path, it.copies), "inject=ioctl:delay_enter=200000:when=1+")
@@ -170,13 +229,18 @@ def a_shard_that_is_let_go_is_not_copied():
             while not ended.wait(0.01):
                 if is_stopped(it.shard.program.pid):
                     os.kill(it.shard.program.pid, signal.SIGCONT)
+
         meddler = threading.Thread(target=meddle, daemon=True)
         meddler.start()
         time.sleep(1.1)
         ran, _ = traced(("backup", it.shard.path, it.copies), "inject=ioctl:delay_enter=100000:when=1+")
         ended.set()
         meddler.join()
-        expect("how it ended", (ran.returncode, "did not stand still" in ran.stderr or "stands still" in ran.stderr), (1, True))
+        expect(
+            "how it ended",
+            (ran.returncode, "did not stand still" in ran.stderr or "stands still" in ran.stderr),
+            (1, True),
+        )
         expect("the copies", len(os.listdir(it.copies)), 1)
 
 
@@ -190,19 +254,34 @@ class Repayer(threading.Thread):
 
     def run(self):
         while not self.ended.wait(0.004):
-            if self.shard.session.bearer(self.receipt, "POST", "/books/7/held/repay", {"pence": 1, "seq": self.done + 1})[0] == 200:
+            if (
+                self.shard.session.bearer(
+                    self.receipt, "POST", "/books/7/held/repay", {"pence": 1, "seq": self.done + 1}
+                )[0]
+                == 200
+            ):
                 self.done += 1
 
 
 def two_at_once(first, second):
     """Both commands, begun together: how they ended, and what they said."""
-    begun = [subprocess.Popen([sys.executable, os.path.join(TOP, "deploy/shards"), *map(str, words)], stdin=subprocess.DEVNULL, stdout=subprocess.PIPE, stderr=subprocess.STDOUT, text=True,
-                              env={**os.environ, "PATH": PATHS, "PAWND": PROGRAM}) for words in (first, second)]
+    begun = [
+        subprocess.Popen(
+            [sys.executable, os.path.join(TOP, "deploy/shards"), *map(str, words)],
+            stdin=subprocess.DEVNULL,
+            stdout=subprocess.PIPE,
+            stderr=subprocess.STDOUT,
+            text=True,
+            env={**os.environ, "PATH": PATHS, "PAWND": PROGRAM},
+        )
+        for words in (first, second)
+    ]
     return [(it.communicate(timeout=120)[0], it.returncode) for it in begun]
 
 
 def two_copies_at_once():
-    """Thirty pairs, while it is served and written to: each copy holds what was acknowledged before, and is whole, and the shard goes on."""
+    """Thirty pairs, while it is served and written to: each copy holds what was acknowledged before, and is whole,
+    and the shard goes on."""
     with Stores() as it:
         it.shard.start()
         receipt = it.shard.session.open_pledge(3)
@@ -222,25 +301,43 @@ def two_copies_at_once():
         repayer.join(30)
         expect("all is there", it.shard.export(7).count("\nE,"), repayer.done)
         expect("some waited", waited > 0, True)
-        print(f"        30 pairs during {repayer.done} repayments, of which {waited} had one wait for the other", flush=True)
+        print(
+            f"        30 pairs during {repayer.done} repayments, of which {waited} had one wait for the other",
+            flush=True,
+        )
 
 
 def copies_are_made_and_put_back_at_once():
-    """A copy is made while another is put back, and two are put back at once: the store is one of the two that it may be."""
+    """A copy is made while another is put back, and two are put back at once: the store is one of the two that it may
+    be."""
     with Stores() as it:
         for number in range(10):
             it.prepare()
             words = ("restore", it.copy, it.shard.path)
             told = two_at_once(words, words if number % 2 else ("backup", it.shard.path, it.copies))
-            expect(f"pair {number}: {told}", [status for _, status in told] in ([0, 0], [0, 1]) and (told[1][1] == 0 or "held more" in told[1][0]), True)
+            expect(
+                f"pair {number}: {told}",
+                [status for _, status in told] in ([0, 0], [0, 1]) and (told[1][1] == 0 or "held more" in told[1][0]),
+                True,
+            )
             expect(f"the store after pair {number}", check(it.shard.path)[1], NEW)
             for name in sorted(os.listdir(it.copies))[1:]:
-                expect(f"the copy {name} of pair {number}", check(os.path.join(it.copies, name, "books.db"))[1] in (OLD, NEW), True)
+                expect(
+                    f"the copy {name} of pair {number}",
+                    check(os.path.join(it.copies, name, "books.db"))[1] in (OLD, NEW),
+                    True,
+                )
                 shutil.rmtree(os.path.join(it.copies, name))
 
 
-TESTS = (a_copy_that_is_put_back_is_cut_off, a_copy_that_is_being_made_is_cut_off, the_shard_is_frozen_and_not_its_reader, a_shard_that_is_let_go_is_not_copied, two_copies_at_once,
-         copies_are_made_and_put_back_at_once)
+TESTS = (
+    a_copy_that_is_put_back_is_cut_off,
+    a_copy_that_is_being_made_is_cut_off,
+    the_shard_is_frozen_and_not_its_reader,
+    a_shard_that_is_let_go_is_not_copied,
+    two_copies_at_once,
+    copies_are_made_and_put_back_at_once,
+)
 
 if __name__ == "__main__":
     if provide({**PACKAGES, "strace": "strace"}):

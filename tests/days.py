@@ -1,5 +1,6 @@
 #!/usr/bin/env python3
-"""The commands of docs/DEPLOYING.md as they stand there, on machines of their own: the first day, copies, the second machine, a lost one, an upgrade and the way back, and three shards."""
+"""The commands of docs/DEPLOYING.md as they stand there, on machines of their own: the first day, copies, the second
+machine, a lost one, an upgrade and the way back, and three shards."""
 import json
 import os
 import re
@@ -41,20 +42,28 @@ def first_day(machine, archive, shard_runs=True):
 
 def ask(machine, target, *words, key="/etc/pawnd/7.json"):
     """A request by the broker of a book, over TLS to the proxy of this machine: the reply's body and its status."""
-    code = machine.run(f"""key=$(sed 's/.*"key":"\\([^"]*\\)".*/\\1/' {key})
-curl -sk --resolve books.example.org:443:127.0.0.1 -w '\\n%{{http_code}}' -H "Pledge-Key: $key" {' '.join(words)} https://books.example.org{target}""")
+    code = machine.run(
+        f"""key=$(sed 's/.*"key":"\\([^"]*\\)".*/\\1/' {key})
+curl -sk --resolve books.example.org:443:127.0.0.1 -w '\\n%{{http_code}}' -H "Pledge-Key: $key" {' '.join(words)} https://books.example.org{target}"""
+    )
     body, _, status = code.rpartition("\n")
     return int(status), body
 
 
 def enter(machine, number, book=7):
     """A pledge is taken."""
-    opening = json.dumps({"article": "Gold ring", "five_days": False, "kind": "fixed", "pence": 10000, "ref": f"A{number}"})
+    opening = json.dumps(
+        {"article": "Gold ring", "five_days": False, "kind": "fixed", "pence": 10000, "ref": f"A{number}"}
+    )
     return ask(machine, f"/books/{book}/pledges", "-d", f"'{opening}'")
 
 
 def with_terms(machine):
-    expect("its terms", ask(machine, "/books/7/terms", "-d", """'{"keep_after":0,"keep_before":0,"rate":0,"version":1}'"""), (200, '{"version":1}'))
+    expect(
+        "its terms",
+        ask(machine, "/books/7/terms", "-d", """'{"keep_after":0,"keep_before":0,"rate":0,"version":1}'"""),
+        (200, '{"version":1}'),
+    )
     expect("a pledge", enter(machine, 1)[0], 200)
 
 
@@ -63,8 +72,19 @@ def the_first_day():
         told = first_day(one, pack_release(room))
         expect("its state", ("shard1 at 127.0.0.1:8101: answers; 1 books" in told, "WRONG" in told), (True, False))
         with_terms(one)
-        expect("what the machine has of the release", set(re.findall(r" (is \w+ \w+|differs|is a copy.*)", one.run("shards differ"))), {"is linked to"})
-        expect("what others can read", one.run("find /etc/pawnd /var/lib/pawnd/1 /var/backups/pawnd/1 -maxdepth 1 -perm /077 ! -type l ! -name '*.conf' ! -name '*.map' ! -name certificate"), "")
+        expect(
+            "what the machine has of the release",
+            set(re.findall(r" (is \w+ \w+|differs|is a copy.*)", one.run("shards differ"))),
+            {"is linked to"},
+        )
+        expect(
+            "what others can read",
+            one.run(
+                "find /etc/pawnd /var/lib/pawnd/1 /var/backups/pawnd/1 -maxdepth 1 -perm /077 ! -type l ! -name "
+                "'*.conf' ! -name '*.map' ! -name certificate"
+            ),
+            "",
+        )
         expect("who owns the store", one.run("stat -c %U /var/lib/pawnd/1/books.db").strip(), "pawnd-1")
         rotate = commands(PAGE, "Keys")[0]
         before = one.run("cat /etc/pawnd/operator.key")
@@ -75,17 +95,29 @@ def the_first_day():
         one.run("systemctl start pawnd-backup@1")
         enter(one, 2)
         one.run(put_back)
-        expect("the copy is served", (enter(one, 3), one.run("ls -d /var/lib/pawnd/1/before-*").count("before-")), ((200, enter(one, 3)[1]), 1))
+        expect(
+            "the copy is served",
+            (enter(one, 3), one.run("ls -d /var/lib/pawnd/1/before-*").count("before-")),
+            ((200, enter(one, 3)[1]), 1),
+        )
         three_shards(one)
 
 
 def three_shards(one):
     divide, move = commands(PAGE, "Three shards")
     one.run(divide)
-    expect("the map", sorted(re.findall(r"^\d+ shard\d;", one.run("cat /etc/pawnd/books.map"), re.M)), ["7 shard1;", "8 shard2;"])
+    expect(
+        "the map",
+        sorted(re.findall(r"^\d+ shard\d;", one.run("cat /etc/pawnd/books.map"), re.M)),
+        ["7 shard1;", "8 shard2;"],
+    )
     expect("book 7", enter(one, 4)[0], 200)
     said = one.run(move)
-    expect("it moved, and its twin is gone", ("was started anew, without the book's old twin" in said, "book 7" in one.run("shards verify")), (True, False))
+    expect(
+        "it moved, and its twin is gone",
+        ("was started anew, without the book's old twin" in said, "book 7" in one.run("shards verify")),
+        (True, False),
+    )
     expect("book 7 at another", (enter(one, 5)[0], "7 shard3;" in one.run("cat /etc/pawnd/books.map")), (200, True))
     one.run("shards status", wanted=1)
 
@@ -97,13 +129,24 @@ def an_upgrade_and_the_way_back():
         unpacked, upgrade = commands(PAGE, "Upgrade and way back")[0], commands(PAGE, "Upgrade and way back")[1]
         newer = pack_release(room, "0.0.2")
         one.run(f"cd {room}\n" + unpacked.splitlines()[0].replace(VERSION, "pawnd-0.0.2-x86_64-linux"))
-        one.run("echo '# newer' >>/opt/pawnd-0.0.2-x86_64-linux/deploy/nginx/pawnd/http.conf; echo '# newer' >>/opt/pawnd-0.0.2-x86_64-linux/deploy/examples/site.conf")
+        one.run(
+            "echo '# newer' >>/opt/pawnd-0.0.2-x86_64-linux/deploy/nginx/pawnd/http.conf; echo '# newer' "
+            ">>/opt/pawnd-0.0.2-x86_64-linux/deploy/examples/site.conf"
+        )
         told = one.run(unpacked.splitlines()[1].replace(VERSION, "pawnd-0.0.2-x86_64-linux"))
-        for said in ("nginx/pawnd/http.conf is another than", "+# newer", "/var/lib/pawnd/1/books.db is opened as it is"):
+        for said in (
+            "nginx/pawnd/http.conf is another than",
+            "+# newer",
+            "/var/lib/pawnd/1/books.db is opened as it is",
+        ):
             expect(f"what differs: {said}", said in told, True)
         for version in ("0.0.2", "0.0.1"):
             one.run(upgrade.replace(VERSION, f"pawnd-{version}-x86_64-linux"))
-            expect(f"the release {version}", (one.run("readlink /opt/pawnd").strip()[-18:-13], ask(one, "/books/7/pledges/1")[0]), (version, 200))
+            expect(
+                f"the release {version}",
+                (one.run("readlink /opt/pawnd").strip()[-18:-13], ask(one, "/books/7/pledges/1")[0]),
+                (version, 200),
+            )
         expect("it was packed", os.path.exists(newer), True)
 
 
@@ -117,7 +160,11 @@ def a_second_machine_and_a_lost_one():
         recipient = standby.run(keys).strip().splitlines()[-1]
         let_in(one, standby, room)
         one.run(f"echo {recipient} >/etc/pawnd/recipients\n{send}")
-        expect("no key leaves in the clear", standby.run("grep -rlE 'SQLite format|High Street' /var/backups/received || true"), "")
+        expect(
+            "no key leaves in the clear",
+            standby.run("grep -rlE 'SQLite format|High Street' /var/backups/received || true"),
+            "",
+        )
         first_day(standby, archive, shard_runs=False)
         expect("the drill", "and it was served on port 9101" in standby.run(drill), True)
         enter(one, 2)
@@ -129,9 +176,16 @@ def a_second_machine_and_a_lost_one():
 
 def let_in(one, standby, room):
     """The first machine's root has an ssh key that the second lets in, and knows it as `standby`."""
-    one.run(f"mkdir -p -m 700 /root/.ssh; ssh-keygen -q -t ed25519 -N '' -f /root/.ssh/id_ed25519; cp /root/.ssh/id_ed25519.pub {room}/key.pub; echo 10.9.0.2 standby >>/etc/hosts; "
-            "printf 'Host standby\\nStrictHostKeyChecking accept-new\\n' >/root/.ssh/config")
-    standby.run(f"mkdir -p -m 700 /root/.ssh /run/sshd; cp {room}/key.pub /root/.ssh/authorized_keys; chmod 600 /root/.ssh/authorized_keys; ssh-keygen -A; /usr/sbin/sshd -o ListenAddress=10.9.0.2 -o PermitRootLogin=prohibit-password")
+    one.run(
+        "mkdir -p -m 700 /root/.ssh; ssh-keygen -q -t ed25519 -N '' -f /root/.ssh/id_ed25519; cp "
+        f"/root/.ssh/id_ed25519.pub {room}/key.pub; echo 10.9.0.2 standby >>/etc/hosts; "
+        "printf 'Host standby\\nStrictHostKeyChecking accept-new\\n' >/root/.ssh/config"
+    )
+    standby.run(
+        f"mkdir -p -m 700 /root/.ssh /run/sshd; cp {room}/key.pub /root/.ssh/authorized_keys; chmod 600 "
+        "/root/.ssh/authorized_keys; ssh-keygen -A; /usr/sbin/sshd -o ListenAddress=10.9.0.2 -o "
+        "PermitRootLogin=prohibit-password"
+    )
 
 
 def promote(standby):

@@ -1,5 +1,6 @@
 #!/usr/bin/env python3
-"""In systemctl's place on a machine of tests/machines.py: it runs the steps of a unit as the unit says them, without systemd's walls round them. It also stands for
+"""In systemctl's place on a machine of tests/machines.py: it runs the steps of a unit as the unit says them, without
+systemd's walls round them. It also stands for
 programs that reach the world (apt-get, certbot), which do nothing."""
 import glob
 import os
@@ -46,8 +47,10 @@ def filled(line, instance):
 def run_step(line, instance, told):
     """Whether one line of a unit went well; a line with a minus may fail."""
     signs = re.match(r"[-+]*", line)[0]
-    words = filled(line[len(signs):], instance).replace("$$", "$")
-    ran = subprocess.run(["bash", "-c", words if words.startswith("/bin/sh") else "exec " + words], env=told, stdin=subprocess.DEVNULL)
+    words = filled(line[len(signs) :], instance).replace("$$", "$")
+    ran = subprocess.run(
+        ["bash", "-c", words if words.startswith("/bin/sh") else "exec " + words], env=told, stdin=subprocess.DEVNULL
+    )
     return ran.returncode == 0 or "-" in signs
 
 
@@ -72,7 +75,14 @@ def start(word):
     if values(text, "Type") == ["oneshot"]:
         well = all(run_step(line, instance, told) for line in values(text, "ExecStart"))
         return stopped(text, instance, told, "success" if well else "exit-code") and well
-    program = subprocess.Popen(["bash", "-c", "exec " + filled(values(text, "ExecStart")[0], instance)], env=told, stdin=subprocess.DEVNULL, stdout=subprocess.DEVNULL, stderr=subprocess.DEVNULL, start_new_session=True)
+    program = subprocess.Popen(
+        ["bash", "-c", "exec " + filled(values(text, "ExecStart")[0], instance)],
+        env=told,
+        stdin=subprocess.DEVNULL,
+        stdout=subprocess.DEVNULL,
+        stderr=subprocess.DEVNULL,
+        start_new_session=True,
+    )
     os.makedirs(ROOM, exist_ok=True)
     with open(f"{ROOM}/{name}", "w") as it:
         it.write(str(program.pid))
@@ -108,7 +118,13 @@ def nginx(order):
             time.sleep(0.01)
     except (OSError, ValueError):
         pass
-    return order == "stop" or subprocess.run(["nginx"], stdin=subprocess.DEVNULL, stdout=subprocess.DEVNULL, stderr=subprocess.DEVNULL).returncode == 0
+    return (
+        order == "stop"
+        or subprocess.run(
+            ["nginx"], stdin=subprocess.DEVNULL, stdout=subprocess.DEVNULL, stderr=subprocess.DEVNULL
+        ).returncode
+        == 0
+    )
 
 
 def systemctl(words):

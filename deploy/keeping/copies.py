@@ -10,7 +10,20 @@ import tempfile
 import time
 
 from .locks import Stop, alone, at_rest, folder_of, locked, not_served, say
-from .stores import check, copy_store, folder_for, in_words, now, program, put_in_place, room_in, sum_of, swept, sync, whole
+from .stores import (
+    check,
+    copy_store,
+    folder_for,
+    in_words,
+    now,
+    program,
+    put_in_place,
+    room_in,
+    sum_of,
+    swept,
+    sync,
+    whole,
+)
 
 STORES = os.environ.get("STORES", "/var/lib/pawnd")
 KEEP = int(os.environ.get("KEEP", "30"))
@@ -21,7 +34,9 @@ NAME = re.compile(r"\d{8}T\d{6}Z")
 def copies(folder):
     if not os.path.isdir(folder):
         return []
-    return sorted(name for name in os.listdir(folder) if NAME.fullmatch(name) and os.path.exists(os.path.join(folder, name, NOTE)))
+    return sorted(
+        name for name in os.listdir(folder) if NAME.fullmatch(name) and os.path.exists(os.path.join(folder, name, NOTE))
+    )
 
 
 def note_of(copy):
@@ -63,7 +78,7 @@ def note_down(part, note):
 
 
 def forget_oldest(folder):
-    for old in copies(folder)[:-max(KEEP, 1)]:
+    for old in copies(folder)[: -max(KEEP, 1)]:
         os.rename(os.path.join(folder, old), os.path.join(folder, "part-" + old))
     swept(folder, "part")
 
@@ -72,7 +87,10 @@ def compare(folder, before, counts):
     if before:
         earlier = note_of(os.path.join(folder, before[-1]))["counts"]
         if any(counts[name] < earlier[name] for name in counts):
-            raise Stop(f"the copy before it, {before[-1]}, held more: {in_words(earlier)}. No request takes away rows, so a log may have been lost, or a book was moved. Both copies stay")
+            raise Stop(
+                f"the copy before it, {before[-1]}, held more: {in_words(earlier)}. No request takes away rows, so "
+                "a log may have been lost, or a book was moved. Both copies stay"
+            )
 
 
 def as_it_was_made(copy):
@@ -96,9 +114,14 @@ def taken_from(copy, note, room):
 
 def is_for(note, copy, path, said):
     """Whether a copy is put where its own shard was, or where no shard is, or somebody said whose copy it is."""
-    is_shards = os.path.exists(path) or os.path.dirname(os.path.dirname(os.path.abspath(path))) == os.path.abspath(STORES)
+    is_shards = os.path.exists(path) or os.path.dirname(os.path.dirname(os.path.abspath(path))) == os.path.abspath(
+        STORES
+    )
     if is_shards and shard_of(note["of"]) != shard_of(path) and said != (note["of"],):
-        raise Stop(f"{copy} is a copy of another shard. If it is to be here all the same, name that shard's store behind: {note['of']}")
+        raise Stop(
+            f"{copy} is a copy of another shard. If it is to be here all the same, name that shard's store behind: "
+            f"{note['of']}"
+        )
 
 
 def restore(copy, path, *said):
@@ -106,11 +129,16 @@ def restore(copy, path, *said):
     note = note_of(copy)
     is_for(note, copy, path, said)
     folder = folder_for(path)
-    with alone(folder), alone(folder_of(copy)), not_served(path) if os.path.exists(path) else contextlib.nullcontext(), room_in(folder, "restoring") as room:
+    with alone(folder), alone(folder_of(copy)), not_served(path) if os.path.exists(
+        path
+    ) else contextlib.nullcontext(), room_in(folder, "restoring") as room:
         note = as_it_was_made(copy)
         new, counts = taken_from(copy, note, room)
         kept = put_in_place(new, path)
-    say(f"{path}: {in_words(counts)}, as they were at {note['made']}." + (f" What stood there is in {kept}: remove it when the books are right" if kept else ""))
+    say(
+        f"{path}: {in_words(counts)}, as they were at {note['made']}."
+        + (f" What stood there is in {kept}: remove it when the books are right" if kept else "")
+    )
 
 
 def drill(folder, port):
@@ -124,7 +152,12 @@ def drill(folder, port):
         key = os.path.join(room, "key")
         with open(key, "w") as it:
             it.write("00000000-0000-0000-0000-00000000d711")
-        served = subprocess.Popen([program(), "serve", new, port, key], stdin=subprocess.DEVNULL, stdout=subprocess.PIPE, stderr=subprocess.PIPE)
+        served = subprocess.Popen(
+            [program(), "serve", new, port, key],
+            stdin=subprocess.DEVNULL,
+            stdout=subprocess.PIPE,
+            stderr=subprocess.PIPE,
+        )
         try:
             if served.stdout.readline() != f"listening {port}\n".encode():
                 raise Stop(f"{copy} is not served: {served.stderr.read().decode().strip()}")
@@ -148,7 +181,8 @@ def packed(folder, names, target, recipients):
 
 
 def send(folder, target):
-    """Sends the copies of a shard and the operator's settings to another machine, encrypted for those that `recipients` names."""
+    """Sends the copies of a shard and the operator's settings to another machine, encrypted for those that
+    `recipients` names."""
     settings = os.environ.get("SETTINGS", "/etc/pawnd")
     recipients, shard = os.path.join(settings, "recipients"), os.path.basename(os.path.abspath(folder))
     sent = os.path.join(os.path.dirname(os.path.abspath(folder)), "sent", shard)
@@ -158,7 +192,9 @@ def send(folder, target):
         for name in wanted:
             if not os.path.exists(os.path.join(sent, name + ".tar.age")):
                 packed(folder, [name], os.path.join(sent, name + ".tar.age"), recipients)
-        packed(os.path.dirname(settings), [os.path.basename(settings)], os.path.join(sent, "settings.tar.age"), recipients)
+        packed(
+            os.path.dirname(settings), [os.path.basename(settings)], os.path.join(sent, "settings.tar.age"), recipients
+        )
         for name in os.listdir(sent):
             if name != "settings.tar.age" and name.removesuffix(".tar.age") not in wanted:
                 os.remove(os.path.join(sent, name))

@@ -1,4 +1,5 @@
-"""Who works with a store: one command at a time, and the process that serves it, which is stopped while its files are read."""
+"""Who works with a store: one command at a time, and the process that serves it, which is stopped while its files are
+read."""
 import contextlib
 import fcntl
 import os
@@ -41,7 +42,10 @@ def take(handle, folder):
             return fcntl.flock(handle, fcntl.LOCK_EX | fcntl.LOCK_NB)
         except BlockingIOError:
             if time.monotonic() > end:
-                raise Stop(f"another command still works in {folder} after {PATIENCE} seconds: look what it does, and begin again when it has ended") from None
+                raise Stop(
+                    f"another command still works in {folder} after {PATIENCE} seconds: look what it does, and "
+                    "begin again when it has ended"
+                ) from None
             if not told:
                 print(f"shards: waits until another command has ended in {folder}", file=sys.stderr, flush=True)
                 told = True
@@ -50,7 +54,8 @@ def take(handle, folder):
 
 @contextlib.contextmanager
 def alone(folder):
-    """No other command works in this folder within the block. The folder itself is locked, so that no file has to be made for it."""
+    """No other command works in this folder within the block. The folder itself is locked, so that no file has to be
+    made for it."""
     folder = os.path.realpath(folder)
     if folder in HELD:
         yield
@@ -87,6 +92,7 @@ def not_served(path):
 
 # ---- the process that has the lock
 
+
 def locks_there(pid, handle):
     """Whether this descriptor of a process holds a lock on the bytes that the program locks."""
     with open(f"/proc/{pid}/fdinfo/{handle}") as it:
@@ -101,7 +107,11 @@ def holders(path):
         with contextlib.suppress(OSError):
             for file in os.scandir(f"/proc/{pid}/fd"):
                 with contextlib.suppress(OSError):
-                    if int(pid) != os.getpid() and os.path.samestat(os.stat(file.path), store) and locks_there(pid, file.name):
+                    if (
+                        int(pid) != os.getpid()
+                        and os.path.samestat(os.stat(file.path), store)
+                        and locks_there(pid, file.name)
+                    ):
                         found.append(int(pid))
     return sorted(set(found))
 
@@ -114,6 +124,7 @@ def is_stopped(pid):
     def state(thread):
         with open(f"/proc/{pid}/task/{thread}/stat") as it:
             return it.read().rpartition(")")[2].split()[0]
+
     return all(state(thread) == "T" for thread in threads(pid))
 
 
@@ -166,7 +177,8 @@ def let_go(handles):
 
 @contextlib.contextmanager
 def frozen(pids):
-    """The processes stand still within the block, between two calls of the system. So their files are what a kill at this moment would leave."""
+    """The processes stand still within the block, between two calls of the system. So their files are what a kill at
+    this moment would leave."""
     handles = [os.pidfd_open(pid) for pid in pids]
     child, writes = guard(handles)
     try:

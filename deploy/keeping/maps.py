@@ -1,4 +1,5 @@
-"""The proxy's map: which shard has a book. It is the operator's file, and only these commands and an editor change it."""
+"""The proxy's map: which shard has a book. It is the operator's file, and only these commands and an editor change
+it."""
 import contextlib
 import os
 import re
@@ -12,7 +13,9 @@ from .stores import books_in, written
 SETTINGS = os.environ.get("SETTINGS", "/etc/pawnd")
 CONF = os.environ.get("CONF", "/etc/nginx/nginx.conf")
 PATIENCE = 90
-LINE = re.compile(r"""\s*(?:\#.*|(?P<key>"[^"]*"|[^\s;"]+)\s+(?P<shard>\w+)\s*;\s*(?:\#\s*(?:from\ (?P<old>\w+))?.*)?)?""", re.X)
+LINE = re.compile(
+    r"""\s*(?:\#.*|(?P<key>"[^"]*"|[^\s;"]+)\s+(?P<shard>\w+)\s*;\s*(?:\#\s*(?:from\ (?P<old>\w+))?.*)?)?""", re.X
+)
 
 
 class Map:
@@ -50,17 +53,26 @@ class Map:
         return self.old.get(book) or self.shard(book)
 
     def put(self, turned):
-        """Writes lines of their own for these books: a shard's name, or `moving; # from SHARD`, or None for no line. All other lines stay."""
+        """Writes lines of their own for these books: a shard's name, or `moving; # from SHARD`, or None for no line.
+        All other lines stay."""
+
         def is_of(line):
             found = LINE.fullmatch(line)
             return found["key"] and found["key"].strip('"').isdigit() and int(found["key"].strip('"')) in turned
+
         kept = [line for line in self.lines if not is_of(line)]
-        written(self.path, "".join(line + "\n" for line in [*kept, *(f"{book} {said}" for book, said in sorted(turned.items()) if said)]))
+        written(
+            self.path,
+            "".join(
+                line + "\n" for line in [*kept, *(f"{book} {said}" for book, said in sorted(turned.items()) if said)]
+            ),
+        )
         self.__init__(self.path)
 
 
 class Twins:
-    """Books that may stand at a shard that has given them away, or that was not given them in the end. They are taken out before that shard's next start."""
+    """Books that may stand at a shard that has given them away, or that was not given them in the end. They are taken
+    out before that shard's next start."""
 
     def __init__(self, path):
         self.path, self.all = path, set()
@@ -124,13 +136,17 @@ def children(parent):
 
 # ---- whether the map and the shards fit
 
+
 def faults(proxy):
     """What is wrong with the map, and what is only worth knowing."""
     standing, wrong, noted = proxy.standing(), [], []
     for book, shard in sorted(proxy.map.own.items()):
         owner = proxy.map.owner(book)
         if shard == "moving":
-            noted.append(f"book {book} is fenced: it was being moved from {owner or 'a shard that its line does not name'}. Run `shards move {book} SHARD` again, to that shard or to another")
+            noted.append(
+                f"book {book} is fenced: it was being moved from {owner or 'a shard that its line does not name'}. "
+                f"Run `shards move {book} SHARD` again, to that shard or to another"
+            )
         elif owner not in proxy.addresses:
             wrong.append(f"book {book} has a line for {owner}, which shards.conf has not")
         elif owner in standing and book not in standing[owner]:
@@ -148,9 +164,15 @@ def judge_book(proxy, book, shard, standing, wrong, noted):
     if owner is None:
         wrong.append(f"book {book} stands at {shard}, and has no line")
     elif owner != shard and (book, shard) in proxy.twins.all and (owner not in standing or book in standing[owner]):
-        noted.append(f"book {book} is at {owner}, and its old twin is still at {shard}: it is taken out when {shard} is started anew")
+        noted.append(
+            f"book {book} is at {owner}, and its old twin is still at {shard}: it is taken out when {shard} is "
+            "started anew"
+        )
     elif owner != shard:
-        wrong.append(f"book {book} has a line for {owner}, and stands at {shard}" + (" too" if book in standing.get(owner, ()) else ""))
+        wrong.append(
+            f"book {book} has a line for {owner}, and stands at {shard}"
+            + (" too" if book in standing.get(owner, ()) else "")
+        )
 
 
 def verified(proxy):
@@ -164,7 +186,14 @@ def verify():
     with alone(SETTINGS):
         proxy = Proxy()
         noted = verified(proxy)
-        print("".join(f"{line}\n" for line in [*noted, f"{len(proxy.map.own)} books have a line, and each is where its line says"]), end="", flush=True)
+        print(
+            "".join(
+                f"{line}\n"
+                for line in [*noted, f"{len(proxy.map.own)} books have a line, and each is where its line says"]
+            ),
+            end="",
+            flush=True,
+        )
 
 
 def reload():

@@ -11,7 +11,22 @@ import uuid
 from .copies import shard_of
 from .locks import Stop, alone, folder_of, not_served, say
 from .maps import SETTINGS, Map, Proxy, Twins, verified
-from .stores import books_in, copy_store, folder_for, has_pages, in_words, judged_by_eye, keep_pair, looked_into, put_in_place, room_in, swept, take_out, whole, without
+from .stores import (
+    books_in,
+    copy_store,
+    folder_for,
+    has_pages,
+    in_words,
+    judged_by_eye,
+    keep_pair,
+    looked_into,
+    put_in_place,
+    room_in,
+    swept,
+    take_out,
+    whole,
+    without,
+)
 
 KEY = os.environ.get("KEY", os.path.join(SETTINGS, "operator.key"))
 LARGEST = 1_048_576
@@ -20,7 +35,12 @@ LARGEST = 1_048_576
 def ask(address, method, target, body=None, **fields):
     """The reply's body of a request that is done."""
     connection = http.client.HTTPConnection(address, timeout=600)
-    connection.request(method, target, body, {"Connection": "close", **{name.replace("_", "-"): value for name, value in fields.items()}})
+    connection.request(
+        method,
+        target,
+        body,
+        {"Connection": "close", **{name.replace("_", "-"): value for name, value in fields.items()}},
+    )
     reply = connection.getresponse()
     said = reply.read()
     connection.close()
@@ -42,8 +62,10 @@ def book_number(word):
 
 # ---- a new book
 
+
 def make_book(number, shard, source):
-    """Makes a book at a shard and gives it a line. Sent again it is answered again, so a command that was cut off is run again."""
+    """Makes a book at a shard and gives it a line. Sent again it is answered again, so a command that was cut off is
+    run again."""
     book = book_number(number)
     with alone(SETTINGS):
         proxy = Proxy()
@@ -62,8 +84,10 @@ def make_book(number, shard, source):
 
 # ---- a book that moves
 
+
 def made_with(book, source):
-    """The key, name and capacity of a book: from a store that has it, or from a file with the JSON that it was made with."""
+    """The key, name and capacity of a book: from a store that has it, or from a file with the JSON that it was made
+    with."""
     with open(source, "rb") as it:
         if it.read(16) != b"SQLite format 3\0":
             it.seek(0)
@@ -79,7 +103,10 @@ def carry(book, made, old, new):
     """Takes a book out of one shard and puts it into another, where it is then byte for byte the same."""
     rows = ask(old, "GET", f"/books/{book}/export", Pledge_Key=made["key"])
     if len(rows) > LARGEST:
-        raise Stop(f"book {book} has {len(rows)} bytes as a text, and an import takes {LARGEST}: move the shard's files instead, by `shards split`")
+        raise Stop(
+            f"book {book} has {len(rows)} bytes as a text, and an import takes {LARGEST}: move the shard's files "
+            "instead, by `shards split`"
+        )
     ask(new, "POST", f"/books/{book}", json.dumps(made), Pledge_Key=operators_key())
     ask(new, "POST", f"/books/{book}/import", rows, Pledge_Key=made["key"], Import_Key=str(uuid.uuid4()))
     if ask(new, "GET", f"/books/{book}/export", Pledge_Key=made["key"]) != rows:
@@ -103,7 +130,10 @@ def room_at(proxy, book, shard):
         if (book, shard) not in proxy.twins.all:
             raise Stop(f"book {book} stands at {shard} already, and no move put it there")
         if not restarted(shard) or book in books_in(path):
-            raise Stop(f"{shard} has a twin of book {book}. Start that shard anew, which takes the twin out, and run this again")
+            raise Stop(
+                f"{shard} has a twin of book {book}. Start that shard anew, which takes the twin out, and run this "
+                "again"
+            )
 
 
 def move(number, shard, *source):
@@ -138,7 +168,8 @@ def stay(proxy, book, old):
 
 
 def turn(proxy, book, old, shard, made, addresses):
-    """The move itself. The map alone decides: until its line is turned the new shard's is the twin, and from then on the old one's."""
+    """The move itself. The map alone decides: until its line is turned the new shard's is the twin, and from then on
+    the old one's."""
     line = proxy.map.own.get(book)
     begun = time.monotonic()
     proxy.twins.change(add=[(book, shard)])
@@ -156,7 +187,10 @@ def turn(proxy, book, old, shard, made, addresses):
     proxy.map.put({book: f"{shard};"})
     proxy.reload()
     proxy.twins.change(remove=[(book, shard)])
-    return f"book {book} is at {shard}, and was not served for {time.monotonic() - begun:.1f} s. The key of an earlier import is not kept"
+    return (
+        f"book {book} is at {shard}, and was not served for {time.monotonic() - begun:.1f} s. The key of an "
+        "earlier import is not kept"
+    )
 
 
 def finish(book, old, proxy):
@@ -181,6 +215,7 @@ def drop(path, *numbers):
 
 
 # ---- before a start
+
 
 def begin(path):
     """Before a shard is started: there is a store, and it has no book that was given to another shard."""
@@ -209,8 +244,10 @@ def twins_at(shard):
 
 # ---- one shard becomes several
 
+
 def split(first, *others):
-    """Divides the books of a shard that is not served among it and others, which have no store. Cut off anywhere, it is run again."""
+    """Divides the books of a shard that is not served among it and others, which have no store. Cut off anywhere, it
+    is run again."""
     with contextlib.ExitStack() as stack:
         stack.enter_context(alone(SETTINGS))
         proxy = Proxy()
@@ -220,7 +257,11 @@ def split(first, *others):
         stack.enter_context(alone(folder_of(path)))
         judged_by_eye(path)
         stack.enter_context(not_served(path))
-        books = {book: count for book, count in books_in(path).items() if (book, first) not in proxy.twins.all or proxy.map.owner(book) == first}
+        books = {
+            book: count
+            for book, count in books_in(path).items()
+            if (book, first) not in proxy.twins.all or proxy.map.owner(book) == first
+        }
         stray = sorted(book for book in books if proxy.map.owner(book) != first)
         if stray:
             raise Stop(f"{', '.join(map(str, stray))} stand at {first}, and the map does not say so")
@@ -236,7 +277,8 @@ def split(first, *others):
 
 
 def share_out(books, shards):
-    """A shard for each book: those with most pledges come first, and each goes to the shard that has the fewest so far."""
+    """A shard for each book: those with most pledges come first, and each goes to the shard that has the fewest so
+    far."""
     loads, divided = dict.fromkeys(shards, 0), {}
     for book, pledges in sorted(books.items(), key=lambda it: -it[1]):
         divided[book] = min(shards, key=loads.get)
@@ -248,7 +290,9 @@ def part_of(proxy, path, shard, out):
     """A store for a further shard, which has its own books alone."""
     target = os.path.join(os.path.dirname(os.path.dirname(path)), shard.removeprefix("shard"), "books.db")
     folder = folder_for(target)
-    with alone(folder), not_served(target) if os.path.exists(target) else contextlib.nullcontext(), room_in(folder, "splitting") as room:
+    with alone(folder), not_served(target) if os.path.exists(target) else contextlib.nullcontext(), room_in(
+        folder, "splitting"
+    ) as room:
         there = books_in(target) if os.path.exists(target) else ()
         left = [book for book in there if (book, shard) not in proxy.twins.all or proxy.map.owner(book) == shard]
         if left:

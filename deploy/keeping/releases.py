@@ -22,7 +22,9 @@ def installed(release):
     folder = os.path.join(release, "deploy")
     yield CONF, os.path.join(folder, "nginx/nginx.conf")
     yield os.path.join(os.path.dirname(CONF), "pawnd"), os.path.join(folder, "nginx/pawnd")
-    for path in sorted(glob.glob(os.path.join(folder, "systemd/*.[!s]*")) + glob.glob(os.path.join(folder, "systemd/*.service"))):
+    for path in sorted(
+        glob.glob(os.path.join(folder, "systemd/*.[!s]*")) + glob.glob(os.path.join(folder, "systemd/*.service"))
+    ):
         yield os.path.join(UNITS, os.path.basename(path)), path
 
 
@@ -30,7 +32,11 @@ def how(place, path):
     if not os.path.exists(place):
         return "is not there"
     if os.path.islink(place):
-        return "is linked to the release" if os.path.realpath(place) == os.path.realpath(path) else f"is linked to {os.path.realpath(place)}"
+        return (
+            "is linked to the release"
+            if os.path.realpath(place) == os.path.realpath(path)
+            else f"is linked to {os.path.realpath(place)}"
+        )
     if os.path.isdir(place):
         return "is a copy: link it"
     return "is the same" if filecmp.cmp(place, path, shallow=False) else "differs"

@@ -45,16 +45,28 @@ def newest_copy(shard):
     if not names:
         return None
     made = datetime.datetime.strptime(names[-1], "%Y%m%dT%H%M%SZ").replace(tzinfo=datetime.timezone.utc)
-    return {"name": names[-1], "hours": round((now() - made).total_seconds() / 3600, 1), **note_of(os.path.join(folder, names[-1]))["counts"]}
+    return {
+        "name": names[-1],
+        "hours": round((now() - made).total_seconds() / 3600, 1),
+        **note_of(os.path.join(folder, names[-1]))["counts"],
+    }
 
 
 def state_of(proxy, shard, errors):
-    state = {"shard": shard, "address": proxy.addresses[shard], "answers": answers(proxy.addresses[shard]), "errors": errors.get(shard, 0)}
+    state = {
+        "shard": shard,
+        "address": proxy.addresses[shard],
+        "answers": answers(proxy.addresses[shard]),
+        "errors": errors.get(shard, 0),
+    }
     path = proxy.store(shard)
     if path and os.path.exists(path):
         state["frozen"] = any(map(is_stopped, holders(path)))
         state |= counts_of(path)
-        state["bytes"], state["log_bytes"] = os.path.getsize(path), os.path.getsize(path + LOG) if os.path.exists(path + LOG) else 0
+        state["bytes"], state["log_bytes"] = (
+            os.path.getsize(path),
+            os.path.getsize(path + LOG) if os.path.exists(path + LOG) else 0,
+        )
         state["copy"] = newest_copy(shard)
         state["kept"] = sorted(name for name in os.listdir(os.path.dirname(path)) if name.startswith("before-"))
     return state
@@ -76,10 +88,16 @@ def certificate_days():
     """For how many days the certificate that site.conf names is good."""
     with open(os.path.join(SETTINGS, "site.conf")) as it:
         found = re.search(r"^\s*ssl_certificate\s+([^;]+);", it.read(), re.M)
-    ran = subprocess.run(["openssl", "x509", "-noout", "-enddate", "-in", found[1]], capture_output=True, text=True) if found else None
+    ran = (
+        subprocess.run(["openssl", "x509", "-noout", "-enddate", "-in", found[1]], capture_output=True, text=True)
+        if found
+        else None
+    )
     if not ran or ran.returncode:
         return None
-    ends = datetime.datetime.strptime(ran.stdout.strip().partition("=")[2], "%b %d %H:%M:%S %Y %Z").replace(tzinfo=datetime.timezone.utc)
+    ends = datetime.datetime.strptime(ran.stdout.strip().partition("=")[2], "%b %d %H:%M:%S %Y %Z").replace(
+        tzinfo=datetime.timezone.utc
+    )
     return (ends - now()).days
 
 
@@ -100,8 +118,16 @@ def complaints(state):
 def in_text(told):
     for it in told["shards"]:
         copy = it.get("copy")
-        held = f"{it['books']} books, {it['pledges']} pledges, {it['rows']} of {it['limit']} rows, {it['bytes']} bytes and {it['log_bytes']} of log" if "rows" in it else "on another machine"
-        yield f"{it['shard']} at {it['address']}: {'answers' if it['answers'] else 'DOES NOT ANSWER'}; {held}; last copy {copy['name'] if copy else 'none'}; {it['errors']} errors in the log"
+        held = (
+            f"{it['books']} books, {it['pledges']} pledges, {it['rows']} of {it['limit']} rows, {it['bytes']} bytes "
+            f"and {it['log_bytes']} of log"
+            if "rows" in it
+            else "on another machine"
+        )
+        yield (
+            f"{it['shard']} at {it['address']}: {'answers' if it['answers'] else 'DOES NOT ANSWER'}; {held}; last "
+            f"copy {copy['name'] if copy else 'none'}; {it['errors']} errors in the log"
+        )
     yield f"map: {told['lines']} books with a line; certificate: {told['certificate_days']} days"
     yield from (f"note: {line}" for line in told["notes"])
     yield from (f"WRONG: {line}" for line in told["wrong"])

@@ -1,4 +1,5 @@
-"""The files of a store: the database and its log. They are made, judged, replaced and looked into here, and books that are another shard's are taken out."""
+"""The files of a store: the database and its log. They are made, judged, replaced and looked into here, and books
+that are another shard's are taken out."""
 import contextlib
 import fcntl
 import hashlib
@@ -45,6 +46,7 @@ def in_words(counts):
 
 # ---- files
 
+
 def open_plain(path):
     """A plain file, and not what a link of that name leads to."""
     file = open(path, "rb", opener=lambda name, flags: os.open(name, flags | os.O_NOFOLLOW | os.O_NONBLOCK))
@@ -55,7 +57,8 @@ def open_plain(path):
 
 
 def copy_file(source, target, whole=True):
-    """A new file of the same bytes, which shares them where the file system can. Whether it was made: where it need not be whole, only that cheap copy is."""
+    """A new file of the same bytes, which shares them where the file system can. Whether it was made: where it need
+    not be whole, only that cheap copy is."""
     with open_plain(source) as old, open(target, "xb") as new:
         try:
             fcntl.ioctl(new, FICLONE, old.fileno())
@@ -140,8 +143,10 @@ def room_in(folder, kind):
 
 # ---- one store in another's place
 
+
 def put_in_place(new, path):
-    """A database without a log takes the place of a store, which is kept: the folder that keeps it. While the old database has two names the program does not open
+    """A database without a log takes the place of a store, which is kept: the folder that keeps it. While the old
+    database has two names the program does not open
     it. So there is no moment at which a start finds no store, or a log beside a database that is not its own."""
     folder = folder_of(path)
     sync(new)
@@ -180,6 +185,7 @@ def whole(path):
 
 # ---- looking into one
 
+
 @contextlib.contextmanager
 def looked_into(path):
     """The tables of a store as they are at this moment, served or not: those of a copy, which is gone afterwards."""
@@ -204,6 +210,7 @@ def rows_of(tables, where="1"):
 
 # ---- books that are another shard's
 
+
 def without(path, books):
     """Takes books out of a store that nobody else sees, with all that belongs to them, and judges what is left."""
     named = ",".join(str(int(book)) for book in books)
@@ -221,7 +228,9 @@ def without(path, books):
         tables.execute("VACUUM")
     after = whole(path)
     if any(after[name] != before[name] - gone[name] for name in before):
-        raise Stop(f"{path}: it held {in_words(before)}, and {in_words(after)} without books {named}: that does not fit")
+        raise Stop(
+            f"{path}: it held {in_words(before)}, and {in_words(after)} without books {named}: that does not fit"
+        )
     return after
 
 
@@ -233,13 +242,17 @@ def take_out(path, books):
         copy_store(path, new)
         counts = without(new, books)
         kept = put_in_place(new, path)
-    say(f"{path}: without books {', '.join(map(str, sorted(books)))}, which another shard has, it holds {in_words(counts)}. What stood there is in {kept}")
+    say(
+        f"{path}: without books {', '.join(map(str, sorted(books)))}, which another shard has, it holds "
+        f"{in_words(counts)}. What stood there is in {kept}"
+    )
 
 
 # ---- before a start and after a stop
 
+
 def keep_pair(path):
-    """Where the file system copies without cost, the pair as the service left it stays beside it until the next time."""
+    """Where the file system copies without cost, the pair as the service left it stays beside it."""
     folder = folder_of(path)
     last = os.path.join(folder, "last-end")
     with room_in(folder, "keeping") as room:
@@ -258,7 +271,10 @@ def has_pages(path):
 def judged_by_eye(path):
     """Whether a start would find a store there, and not make an empty one."""
     if not os.path.exists(path) or os.path.getsize(path) == 0:
-        raise Stop(f"there is no store at {path}. Is its disk there? Put a copy back by `shards restore`. A new shard is made by `shards new`")
+        raise Stop(
+            f"there is no store at {path}. Is its disk there? Put a copy back by `shards restore`. A new shard is "
+            "made by `shards new`"
+        )
     if os.stat(path).st_nlink > 1:
         raise Stop(f"{path} has a second name, as it has when `shards restore` was cut off: run that again")
 
