@@ -42,9 +42,10 @@ def first_day(machine, archive, shard_runs=True):
 
 def ask(machine, target, *words, key="/etc/pawnd/7.json"):
     """A request by the broker of a book, over TLS to the proxy of this machine: the reply's body and its status."""
+    at = f"--resolve books.example.org:443:127.0.0.1 https://books.example.org{target}"
     code = machine.run(
         f"""key=$(sed 's/.*"key":"\\([^"]*\\)".*/\\1/' {key})
-curl -sk --resolve books.example.org:443:127.0.0.1 -w '\\n%{{http_code}}' -H "Pledge-Key: $key" {' '.join(words)} https://books.example.org{target}"""
+curl -sk -w '\\n%{{http_code}}' -H "Pledge-Key: $key" {' '.join(words)} {at}"""
     )
     body, _, status = code.rpartition("\n")
     return int(status), body
