@@ -6,7 +6,6 @@ import re
 import shutil
 import socket
 import subprocess
-import tempfile
 import time
 
 from .locks import Stop, alone, at_rest, folder_of, locked, not_served, say
@@ -147,7 +146,7 @@ def drill(folder, port):
     if not names:
         raise Stop(f"{folder} has no copy")
     copy = os.path.join(folder, names[-1])
-    with alone(folder), tempfile.TemporaryDirectory(prefix="drill-") as room:
+    with alone(folder), room_in(folder, "part") as room:
         new, counts = taken_from(copy, as_it_was_made(copy), room)
         key = os.path.join(room, "key")
         with open(key, "w") as it:

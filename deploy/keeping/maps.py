@@ -50,7 +50,8 @@ class Map:
 
     def owner(self, book):
         """The shard that has a book; of one that is being moved, the one that it is moved from."""
-        return self.old.get(book) or self.shard(book)
+        shard = self.shard(book)
+        return self.old.get(book) if shard == "moving" else shard
 
     def put(self, turned):
         """Writes lines of their own for these books: a shard's name, or `moving; # from SHARD`, or None for no line.
@@ -162,7 +163,7 @@ def faults(proxy):
 def judge_book(proxy, book, shard, standing, wrong, noted):
     owner = proxy.map.owner(book)
     if owner is None:
-        wrong.append(f"book {book} stands at {shard}, and has no line")
+        wrong += [] if proxy.map.shard(book) else [f"book {book} stands at {shard}, and has no line"]
     elif owner != shard and (book, shard) in proxy.twins.all and (owner not in standing or book in standing[owner]):
         noted.append(
             f"book {book} is at {owner}, and its old twin is still at {shard}: it is taken out when {shard} is "

@@ -146,6 +146,7 @@ def move(number, shard, *source):
             raise Stop(f"book {book} has no line" + (" that says where it is" if fenced else ""))
         addresses = proxy.address(old), proxy.address(shard)
         if old == shard and not fenced:
+            verified(proxy)
             proxy.reload()
             raise Stop(f"book {book} is at {shard} already")
         if old == shard:
@@ -163,6 +164,7 @@ def move(number, shard, *source):
 
 def stay(proxy, book, old):
     proxy.map.put({book: f"{old};"})
+    verified(proxy)
     proxy.reload()
     say(f"book {book} stays at {old}")
 
