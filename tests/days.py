@@ -9,7 +9,7 @@ import tempfile
 from browser import missing, provide
 from hosting import PACKAGES
 from machines import Machine, can_be_made, commands, pack_release
-from service import expect, main
+from service import BROKER, OPERATOR, PROGRAM, TOP, expect, main
 
 PAGE = "docs/DEPLOYING.md"
 NEEDED = {**PACKAGES, "age": "age", "rsync": "rsync", "sshd": "openssh-server", "ip": "iproute2"}
@@ -101,7 +101,48 @@ def the_first_day():
             (enter(one, 3), one.run("ls -d /var/lib/pawnd/1/before-*").count("before-")),
             ((200, enter(one, 3)[1]), 1),
         )
+        what_a_monitor_sees(one)
         three_shards(one)
+
+
+def what_a_monitor_sees(one):
+    """The reply that needs no key, and the log, which is turned as Debian turns it."""
+    monitor = commands("docs/OPERATING.md", "What to watch")[0]
+    expect("the fixed reply", one.run(monitor), '{"code":712,"name":"NoReceipt"}')
+    expect("Debian turns these logs", "/var/log/nginx/*.log {" in one.run("cat /etc/logrotate.d/nginx"), True)
+    one.run("mv /var/log/nginx/access.log /var/log/nginx/access.log.1; kill -USR1 $(cat /run/nginx.pid); sleep 0.5")
+    one.run(monitor)
+    line = json.loads(one.run("sleep 0.2; tail -n 1 /var/log/nginx/access.log"))
+    expect("its line", (line["status"], line["shard"], line["target"]), ("400", "shard1", "/books/7/held"))
+
+
+def the_commands_of_the_page_on_files():
+    """Each of docs/FILES.md, in a folder as `make serve` makes it."""
+    with Machine("one") as one:
+        (copy, take_out), (stored,), (look,), (judge,), (move,) = (
+            commands("docs/FILES.md", heading)
+            for heading in ("Copying", "The program itself", "Looking into one", "Judging one", "Moving an older file")
+        )
+        at = "cd /root/work; "
+        one.run(
+            f"mkdir -p /root/work/data/BACKUP /root/work/build /root/work/crates/pawnd; cp {PROGRAM} "
+            "/root/work/build/pawnd; "
+            f"ln -s /root/work/build/pawnd /usr/local/bin/pawnd; cp {TOP}/crates/pawnd/stdin /root/work/crates/pawnd/"
+        )
+        one.run(
+            at
+            + f"echo {OPERATOR} >data/operator.key; "
+            "(build/pawnd serve data/books.db 8080 data/operator.key >/dev/null 2>&1 &); "
+            "until (: </dev/tcp/127.0.0.1/8080) 2>/dev/null; do sleep 0.1; done"
+        )
+        made = json.dumps({"capacity": 2, "key": BROKER, "name": "High Street"})
+        one.run(at + f"curl -sf -H 'Pledge-Key: {OPERATOR}' -d '{made}' localhost:8080/books/7")
+        expect("a book taken out and in", one.run(at + take_out).endswith('{"imported":0}'), True)
+        expect("the stored run", one.run(at + stored).count("HTTP/1.1 200 OK"), 4)
+        one.run("kill $(pgrep -xf 'build/pawnd serve data/books.db 8080 data/operator.key')")
+        for block, says in ((copy, ""), (look, ""), (judge, "books 2 pledges 0 rows 2\n"), (move, "schema 3 to 3\n")):
+            # A check leaves a log without pages, which is copied too.
+            expect(block, one.run(f"cd /root/work/data; {block}"), says)
 
 
 def three_shards(one):
@@ -199,7 +240,7 @@ def promote(standby):
     expect("it goes on", enter(standby, 3)[0], 200)
 
 
-TESTS = (the_first_day, an_upgrade_and_the_way_back, a_second_machine_and_a_lost_one)
+TESTS = (the_first_day, the_commands_of_the_page_on_files, an_upgrade_and_the_way_back, a_second_machine_and_a_lost_one)
 
 if __name__ == "__main__":
     why = can_be_made() or (f"there is no {' and no '.join(missing(NEEDED))}" if provide(NEEDED) else None)

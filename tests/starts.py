@@ -48,7 +48,9 @@ def no_store_is_made_by_a_start():
         os.remove(shard.path + ".other")
         begun(shard.path)
         os.symlink("/etc/passwd", os.path.join(room, "link"))
-        expect("a link in a store's place", run_shards("backup", os.path.join(room, "link"), room, wanted=1) != "", True)
+        expect(
+            "a link in a store's place", run_shards("backup", os.path.join(room, "link"), room, wanted=1) != "", True
+        )
 
 
 def a_copy_of_another_shard_is_not_put_there():
@@ -59,7 +61,9 @@ def a_copy_of_another_shard_is_not_put_there():
         copy, other = os.path.join(copies, os.listdir(copies)[0]), os.path.join(room, "2", "books.db")
         run_shards("new", other)
         said = run_shards("restore", copy, other, wanted=1)
-        expect("it is refused", ("a copy of another shard" in said, check(other)[1]), (True, "books 0 pledges 0 rows 0\n"))
+        expect(
+            "it is refused", ("a copy of another shard" in said, check(other)[1]), (True, "books 0 pledges 0 rows 0\n")
+        )
         run_shards("restore", copy, other, shard.path)
         expect("it is put there where somebody says so", check(other)[1], "books 1 pledges 0 rows 2\n")
 
@@ -90,7 +94,11 @@ def the_log_is_folded_in_after_a_stop():
         expect("the log", os.path.exists(shard.path + "-wal"), False)
         folded = timed(shard)
         expect("what it holds", check(shard.path), before)
-        print(f"        {PLEDGES} pledges: a start with all of them in the log {by_itself:.2f} s; folded in {folding:.2f} s, and then {folded:.2f} s", flush=True)
+        print(
+            f"        {PLEDGES} pledges: a start with all of them in the log {by_itself:.2f} s; folded in "
+            f"{folding:.2f} s, and then {folded:.2f} s",
+            flush=True,
+        )
 
 
 def rewritten(path):
@@ -113,7 +121,8 @@ def check_of_a_copy(path):
 
 
 def the_pair_is_kept_where_that_is_cheap():
-    """A log that was bent before a start loses what stands behind; the pair of before is still there, where the file system shares bytes."""
+    """A log that was bent before a start loses what stands behind; the pair of before is still there, where the file
+    system shares bytes."""
     if os.geteuid() or provide({"mkfs.btrfs": "btrfs-progs"}):
         not_tried("the pair of before a start", "it needs root and btrfs-progs")
         return
@@ -132,7 +141,11 @@ def the_pair_is_kept_where_that_is_cheap():
         shard.session.open_pledge(4)
         shard.kill()
         begun(shard.path)
-        expect("after a power cut, which no step followed", check(os.path.join(last, "books.db"))[1], "books 1 pledges 4 rows 10\n")
+        expect(
+            "after a power cut, which no step followed",
+            check(os.path.join(last, "books.db"))[1],
+            "books 1 pledges 4 rows 10\n",
+        )
         expect("its owner alone", os.stat(last).st_mode & 0o077, 0)
 
 

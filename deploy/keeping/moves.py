@@ -30,6 +30,8 @@ from .stores import (
 
 KEY = os.environ.get("KEY", os.path.join(SETTINGS, "operator.key"))
 LARGEST = 1_048_576
+# What a command that was killed may have left beside a store.
+ROOMS = ("looking", "taking", "keeping", "making", "restoring", "splitting")
 
 
 def ask(address, method, target, body=None, **fields):
@@ -224,7 +226,8 @@ def begin(path):
     folder = folder_of(path)
     with alone(folder):
         judged_by_eye(path)
-        swept(folder, "restoring")
+        for kind in ROOMS:
+            swept(folder, kind)
         with not_served(path):
             pass
         if has_pages(path):
