@@ -113,19 +113,16 @@ class Stores:
         shutil.copytree(self.pattern, os.path.dirname(self.shard.path))
 
     def found(self):
-        """What a start would find: the counts of a sound store, or a refusal. It is asked of the folder's copy, since
-        a check makes a store where there is none."""
+        """What the program finds, and what it finds after the step before a start: the counts of a sound store, or a
+        refusal. It is asked of the folder's copies, since a check makes a store where there is none."""
         with tempfile.TemporaryDirectory(dir=MEMORY) as room:
-            folder = os.path.join(room, "1")
-            linked_too(os.path.dirname(self.shard.path), folder)
-            begun = subprocess.run(
-                [os.path.join(TOP, "deploy/shards"), "begin", os.path.join(folder, "books.db")],
-                capture_output=True,
-                text=True,
-                timeout=60,
-                env={**os.environ, "PAWND": PROGRAM, "SETTINGS": "/nowhere"},
-            )
-            return check(os.path.join(folder, "books.db")), begun.returncode
+            path = os.path.join(room, "1", "books.db")
+            linked_too(os.path.dirname(self.shard.path), os.path.dirname(path))
+            told = check(path)
+            linked_too(os.path.dirname(self.shard.path), os.path.join(room, "2"))
+            path = os.path.join(room, "2", "books.db")
+            run_shards("begin", path, SETTINGS="/nowhere")
+            return told, check(path)[1]
 
 
 def linked_too(source, target):
@@ -145,19 +142,16 @@ def a_copy_that_is_put_back_is_cut_off():
         def judge(step):
             said, begun = it.found()
             seen["refused" if said == SHUT else said[1]] += 1
-            expect(f"what a start finds after {step}", said == SHUT or said[1] in (OLD, NEW), True)
-            expect(f"whether it is begun after {step}", begun, 1 if said == SHUT else 0)
+            expect(f"what the program finds after {step}", said == SHUT or said[1] in (OLD, NEW), True)
+            expect(f"what a start finds after {step}", begun, OLD if said == SHUT else said[1])
             run_shards("restore", it.copy, it.shard.path)
-            expect(f"after {step}, and once more", it.found()[0], (0, NEW, ""))
-            expect(
-                f"what is left after {step}",
-                [
-                    name
-                    for name in os.listdir(os.path.dirname(it.shard.path))
-                    if not name.startswith(("before-", "books.db"))
-                ],
-                [],
-            )
+            expect(f"after {step}, and once more", it.found(), ((0, NEW, ""), NEW))
+            left = [
+                name
+                for name in os.listdir(os.path.dirname(it.shard.path))
+                if not name.startswith(("before-", "books.db"))
+            ]
+            expect(f"what is left after {step}", left, [])
 
         count = each_cut(lambda: ("restore", it.copy, it.shard.path), it.prepare, judge)
         expect("all were seen", set(seen) == {"refused", OLD, NEW}, True)

@@ -161,7 +161,7 @@ class Divided:
     def judge(self, step):
         if step and (again := self.run("split", "shard1", "shard2", "shard3")).returncode:
             # All was done but the words at its end: each book has a line, and what is left is taken out before a start.
-            expect(f"{step}, once more", "has books already" in again.stderr, True)
+            expect(f"{step}, once more: {again.stderr}", "has books already" in again.stderr, True)
             expect(
                 f"{step}: the first is begun", self.run("begin", os.path.join(self.stores, "1/books.db")).returncode, 0
             )

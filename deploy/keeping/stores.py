@@ -144,11 +144,28 @@ def room_in(folder, kind):
 # ---- one store in another's place
 
 
+def undone(path):
+    """A replacement that was cut off before its last step: the old pair has its own names again, and no others."""
+    folder, name = folder_of(path), os.path.basename(path)
+    if not os.path.exists(path) or os.stat(path).st_nlink == 1:
+        return
+    for kept in sorted(it for it in os.listdir(folder) if it.startswith("before-")):
+        old = os.path.join(folder, kept, name)
+        if os.path.exists(old) and os.path.samefile(old, path):
+            if os.path.lexists(old + LOG):
+                os.rename(old + LOG, path + LOG)
+            sync(folder)
+            os.unlink(old)
+            os.rmdir(os.path.dirname(old))
+            say(f"{path}: what was begun there and cut off was undone")
+
+
 def put_in_place(new, path):
     """A database without a log takes the place of a store, which is kept: the folder that keeps it. While the old
     database has two names the program does not open
     it. So there is no moment at which a start finds no store, or a log beside a database that is not its own."""
     folder = folder_of(path)
+    undone(path)
     sync(new)
     own_as(folder, new)
     kept = os.path.join(folder, "before-" + now(folder, "before-"))
@@ -270,13 +287,14 @@ def has_pages(path):
 
 def judged_by_eye(path):
     """Whether a start would find a store there, and not make an empty one."""
+    undone(path)
     if not os.path.exists(path) or os.path.getsize(path) == 0:
         raise Stop(
             f"there is no store at {path}. Is its disk there? Put a copy back by `shards restore`. A new shard is "
             "made by `shards new`"
         )
     if os.stat(path).st_nlink > 1:
-        raise Stop(f"{path} has a second name, as it has when `shards restore` was cut off: run that again")
+        raise Stop(f"{path} has a second name, so the program does not open it: remove that name")
 
 
 def fold(path):
