@@ -35,6 +35,8 @@ CALLS = (
     "flock",
     "connect",
 )
+# Those that leave no other files than the call before them.
+QUIET = ("flock", "connect", "fchmod", "rmdir", "unlinkat", "kill")
 CHANCE = random.Random(48)
 
 
@@ -153,7 +155,7 @@ def a_copy_that_is_put_back_is_cut_off():
             ]
             expect(f"what is left after {step}", left, [])
 
-        count = each_cut(lambda: ("restore", it.copy, it.shard.path), it.prepare, judge)
+        count = each_cut(lambda: ("restore", it.copy, it.shard.path), it.prepare, judge, skip=QUIET)
         expect("all were seen", set(seen) == {"refused", OLD, NEW}, True)
         print(f"        {count} kills: {dict(seen)}", flush=True)
 
@@ -180,7 +182,7 @@ def a_copy_that_is_being_made_is_cut_off():
                 expect(f"the copy {name} after {step}", check(os.path.join(it.copies, name, "books.db"))[1], OLD)
                 shutil.rmtree(os.path.join(it.copies, name))
 
-        count = each_cut(lambda: ("backup", it.shard.path, it.copies), lambda: None, judge)
+        count = each_cut(lambda: ("backup", it.shard.path, it.copies), lambda: None, judge, skip=QUIET)
         print(f"        {count} kills", flush=True)
 
 

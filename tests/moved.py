@@ -10,7 +10,7 @@ import sys
 import tempfile
 
 from browser import PATHS, missing, provide
-from cut_off import each_cut, not_tried, traced
+from cut_off import QUIET, each_cut, not_tried, traced
 from hosting import MEMORY, PACKAGES, TOP, Hosted, Shard, proxys, status
 from service import BROKER, OPERATOR, PROGRAM, check, expect, main
 from shards import mapped, shut_at
@@ -187,7 +187,7 @@ def a_division_that_is_cut_off():
             it.prepare,
             it.judge,
             it.environment,
-            skip=("flock", "unlinkat", "unlink", "rmdir", "ioctl", "fchmod", "chown", "kill"),
+            skip=(*QUIET, "unlink", "ioctl", "chown"),
         )
         print(f"        {count} kills", flush=True)
 
