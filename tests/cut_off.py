@@ -36,7 +36,7 @@ CALLS = (
     "connect",
 )
 # Those that leave no other files than the call before them.
-QUIET = ("flock", "connect", "fchmod", "rmdir", "unlinkat", "kill")
+QUIET = ("flock", "connect", "chown", "fchmod", "rmdir", "unlink", "unlinkat", "kill")
 CHANCE = random.Random(48)
 
 
@@ -114,6 +114,11 @@ class Stores:
         shutil.rmtree(os.path.dirname(self.shard.path))
         shutil.copytree(self.pattern, os.path.dirname(self.shard.path))
 
+    def prepare_again(self):
+        """The same where the folder may be gone."""
+        os.makedirs(os.path.dirname(self.shard.path), exist_ok=True)
+        self.prepare()
+
     def found(self):
         """What the program finds, and what it finds after the step before a start: the counts of a sound store, or a
         refusal. It is asked of the folder's copies, since a check makes a store where there is none."""
@@ -147,7 +152,7 @@ def a_copy_that_is_put_back_is_cut_off():
             expect(f"what the program finds after {step}", said == SHUT or said[1] in (OLD, NEW), True)
             expect(f"what a start finds after {step}", begun, OLD if said == SHUT else said[1])
             run_shards("restore", it.copy, it.shard.path)
-            expect(f"after {step}, and once more", it.found(), ((0, NEW, ""), NEW))
+            expect(f"after {step}, and once more", check(it.shard.path), (0, NEW, ""))
             left = [
                 name
                 for name in os.listdir(os.path.dirname(it.shard.path))
@@ -155,7 +160,7 @@ def a_copy_that_is_put_back_is_cut_off():
             ]
             expect(f"what is left after {step}", left, [])
 
-        count = each_cut(lambda: ("restore", it.copy, it.shard.path), it.prepare, judge, skip=QUIET)
+        count = each_cut(lambda: ("restore", it.copy, it.shard.path), it.prepare, judge, skip=(*QUIET, "ioctl"))
         expect("all were seen", set(seen) == {"refused", OLD, NEW}, True)
         print(f"        {count} kills: {dict(seen)}", flush=True)
 
@@ -326,6 +331,47 @@ def copies_are_made_and_put_back_at_once():
                 shutil.rmtree(os.path.join(it.copies, name))
 
 
+def the_steps_of_a_unit_are_cut_off():
+    """A new store that is made, a log that is folded in, a book that is taken out: what is there is whole, and the
+    same again ends it."""
+    with Stores() as it:
+        folder, empty = os.path.dirname(it.shard.path), "books 0 pledges 0 rows 0\n"
+
+        def made_again(step):
+            run_shards("new", it.shard.path, wanted=None)
+            expect(f"a new store after {step}", check(it.shard.path)[1], empty)
+            expect(
+                f"what is left after {step}",
+                sorted(os.listdir(folder)) in (["books.db"], ["books.db", "books.db-wal"]),
+                True,
+            )
+
+        def folded_again(step):
+            expect(f"what is there after {step}", it.found()[1], OLD)
+            run_shards("fold", it.shard.path)
+            expect(
+                f"folded, after {step}", (os.path.exists(it.shard.path + "-wal"), check(it.shard.path)[1]), (False, OLD)
+            )
+
+        def dropped_again(step):
+            expect(f"what is there after {step}", it.found()[1] in (OLD, empty), True)
+            run_shards("drop", it.shard.path, 7, SETTINGS="/nowhere", wanted=None)
+            expect(f"without the book, after {step}", check(it.shard.path)[1], empty)
+
+        count = each_cut(
+            lambda: ("new", it.shard.path), lambda: shutil.rmtree(folder, ignore_errors=True), made_again, skip=QUIET
+        )
+        count += each_cut(lambda: ("fold", it.shard.path), it.prepare_again, folded_again, skip=QUIET)
+        count += each_cut(
+            lambda: ("drop", it.shard.path, 7),
+            it.prepare_again,
+            dropped_again,
+            {"SETTINGS": "/nowhere"},
+            skip=(*QUIET, "ioctl"),
+        )
+        print(f"        {count} kills", flush=True)
+
+
 TESTS = (
     a_copy_that_is_put_back_is_cut_off,
     a_copy_that_is_being_made_is_cut_off,
@@ -333,6 +379,7 @@ TESTS = (
     a_shard_that_is_let_go_is_not_copied,
     two_copies_at_once,
     copies_are_made_and_put_back_at_once,
+    the_steps_of_a_unit_are_cut_off,
 )
 
 if __name__ == "__main__":

@@ -102,6 +102,7 @@ def the_first_day():
             ((200, enter(one, 3)[1]), 1),
         )
         what_a_monitor_sees(one)
+        somebody_is_told(one)
         three_shards(one)
 
 
@@ -130,8 +131,7 @@ def the_commands_of_the_page_on_files():
             f"ln -s /root/work/build/pawnd /usr/local/bin/pawnd; cp {TOP}/crates/pawnd/stdin /root/work/crates/pawnd/"
         )
         one.run(
-            at
-            + f"echo {OPERATOR} >data/operator.key; "
+            at + f"echo {OPERATOR} >data/operator.key; "
             "(build/pawnd serve data/books.db 8080 data/operator.key >/dev/null 2>&1 &); "
             "until (: </dev/tcp/127.0.0.1/8080) 2>/dev/null; do sleep 0.1; done"
         )
@@ -143,6 +143,29 @@ def the_commands_of_the_page_on_files():
         for block, says in ((copy, ""), (look, ""), (judge, "books 2 pledges 0 rows 2\n"), (move, "schema 3 to 3\n")):
             # A check leaves a log without pages, which is copied too.
             expect(block, one.run(f"cd /root/work/data; {block}"), says)
+
+
+def somebody_is_told(one):
+    """A shard whose store is gone does not start, and the operator's own program hears of it."""
+    one.run("printf '#!/bin/sh\\necho \"$1\" >>/root/told\\n' >/etc/pawnd/on-failure; chmod +x /etc/pawnd/on-failure")
+    one.run("systemctl stop pawnd@1; mv /var/lib/pawnd/1/books.db /var/lib/pawnd/1/away")
+    one.run("systemctl start pawnd@1", wanted=1)
+    expect("it was told", one.run("cat /root/told"), "pawnd@1.service\n")
+    one.run("mv /var/lib/pawnd/1/away /var/lib/pawnd/1/books.db; systemctl start pawnd@1")
+
+
+def a_relay_before_its_tunnel():
+    """The relay's nginx starts before its address is there, and answers the proxy's machine alone once it is."""
+    with tempfile.TemporaryDirectory() as room, Machine("relay") as relay, Machine("proxy") as proxy:
+        first_day(relay, pack_release(room), shard_runs=False)
+        relay.run(commands(PAGE, "Several machines")[0])
+        relay.run("nginx -t && systemctl restart nginx")
+        relay.address(proxy, "10.0.0.3", "10.0.0.1")
+        ask_relay = "curl -s --max-time 10 http://10.0.0.3:8103/books/7/held"
+        told = '{"proxy":%d,"handed_on":false}'
+        expect("the proxy's machine", proxy.run(ask_relay), told % 502)
+        proxy.run("ip address add 10.0.0.2/24 dev to-relay")
+        expect("another", proxy.run(f"{ask_relay} --interface 10.0.0.2"), told % 403)
 
 
 def three_shards(one):
@@ -240,7 +263,13 @@ def promote(standby):
     expect("it goes on", enter(standby, 3)[0], 200)
 
 
-TESTS = (the_first_day, the_commands_of_the_page_on_files, an_upgrade_and_the_way_back, a_second_machine_and_a_lost_one)
+TESTS = (
+    the_first_day,
+    a_relay_before_its_tunnel,
+    the_commands_of_the_page_on_files,
+    an_upgrade_and_the_way_back,
+    a_second_machine_and_a_lost_one,
+)
 
 if __name__ == "__main__":
     why = can_be_made() or (f"there is no {' and no '.join(missing(NEEDED))}" if provide(NEEDED) else None)

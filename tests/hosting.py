@@ -336,10 +336,10 @@ class Hosted:
 
 
 def run_shards(*words, wanted=0, **environment):
-    """What `deploy/shards` prints, or what it complains of where it is to end with another status than 0."""
+    """What `deploy/shards` prints, or what it complains of where it is to end with another status than 0; None is any."""
     ran = subprocess.run([os.path.join(TOP, "deploy/shards"), *map(str, words)], capture_output=True, text=True, timeout=120, stdin=subprocess.DEVNULL,
                          env={**os.environ, "PATH": PATHS, "PAWND": PROGRAM, **environment})
-    if ran.returncode != wanted:
+    if wanted is not None and ran.returncode != wanted:
         raise Failed(f"shards {words[0]} ended with {ran.returncode}: {ran.stdout[-300:]} {ran.stderr[-600:]}")
     return ran.stdout if wanted == 0 else ran.stderr
 

@@ -27,8 +27,8 @@ def values(text, key):
     return re.findall(rf"^{key}=(.*)$", text, re.M)
 
 
-def environment_of(text, instance):
-    told = {**os.environ, "SERVICE_RESULT": "success"}
+def environment_of(name, text, instance):
+    told = {**os.environ, "SERVICE_RESULT": "success", "UNIT": name}
     for line in values(text, "Environment"):
         name, _, value = filled(line, instance).partition("=")
         told[name] = value
@@ -47,7 +47,7 @@ def filled(line, instance):
 def run_step(line, instance, told):
     """Whether one line of a unit went well; a line with a minus may fail."""
     signs = re.match(r"[-+]*", line)[0]
-    words = filled(line[len(signs) :], instance).replace("$$", "$")
+    words = filled(line[len(signs) :], instance).replace("%n", told["UNIT"]).replace("$$", "$")
     ran = subprocess.run(
         ["bash", "-c", words if words.startswith("/bin/sh") else "exec " + words], env=told, stdin=subprocess.DEVNULL
     )
@@ -68,7 +68,7 @@ def start(word):
     name, instance, text = unit_of(word)
     if name.endswith((".timer", ".target")) or pid_of(name):
         return True
-    told = environment_of(text, instance)
+    told = environment_of(name, text, instance)
     if not all(run_step(line, instance, told) for line in values(text, "ExecStartPre")):
         stopped(text, instance, told, "exit-code")
         return False
@@ -101,7 +101,7 @@ def stop(word):
         while pid_of(name):
             time.sleep(0.01)
         os.remove(f"{ROOM}/{name}")
-        stopped(text, instance, environment_of(text, instance), "success")
+        stopped(text, instance, environment_of(name, text, instance), "success")
     return True
 
 
