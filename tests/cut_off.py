@@ -79,7 +79,8 @@ def each_cut(words, prepare, judge, environment=None, skip=()):
     judge(None)
     count = 0
     for name, often in sorted(calls.items()):
-        for number in range(1, often + 1) if name not in skip else ():
+        # Of a call that is made very often, some twenty.
+        for number in range(1, often + 1, max(1, often // 20)) if name not in skip else ():
             prepare()
             ran, _ = traced(words(), f"inject={name}:signal=KILL:when={number}", environment=environment)
             judge(f"{name} {number}")
@@ -210,7 +211,7 @@ def the_shard_is_frozen_and_not_its_reader():
 
             watcher = threading.Thread(target=watch, daemon=True)
             watcher.start()
-            ran, _ = traced(("backup", it.shard.path, it.copies), "inject=ioctl:delay_enter=200000:when=1+")
+            ran, _ = traced(("backup", it.shard.path, it.copies), "inject=ioctl:delay_enter=30000:when=1+")
             ended.set()
             watcher.join()
             expect(f"the copy {ran.stderr}", ran.returncode, 0)
@@ -218,6 +219,39 @@ def the_shard_is_frozen_and_not_its_reader():
         finally:
             reader.kill()
             reader.wait()
+
+
+def a_guard_lets_the_shard_go_on():
+    """The command is killed while the shard stands still for it: the shard goes on, and the next copy clears what is
+    left."""
+    with Stores() as it:
+        it.shard.start()
+        for _ in range(3):
+            slowly = [
+                "strace",
+                "-qq",
+                "-o",
+                "/dev/null",
+                "-e",
+                "trace=ioctl",
+                "-e",
+                "inject=ioctl:delay_enter=50000:when=1+",
+            ]
+            words = [sys.executable, os.path.join(TOP, "deploy/shards"), "backup", it.shard.path, it.copies]
+            begun = subprocess.Popen(
+                [*slowly, *words],
+                stdout=subprocess.DEVNULL,
+                stderr=subprocess.DEVNULL,
+                env={**os.environ, "PAWND": PROGRAM},
+            )
+            wait_for(lambda: is_stopped(it.shard.program.pid), "the shard stands still", 60)
+            with open(f"/proc/{begun.pid}/task/{begun.pid}/children") as file:
+                os.kill(int(file.read().split()[0]), signal.SIGKILL)
+            wait_for(lambda: not is_stopped(it.shard.program.pid), "the shard goes on", 5)
+            begun.wait()
+            expect("it serves", it.shard.export(7).count("\nP,"), 2)
+        run_shards("backup", it.shard.path, it.copies)
+        expect("parts that are left", [name for name in os.listdir(it.copies) if name.startswith("part-")], [])
 
 
 def a_shard_that_is_let_go_is_not_copied():
@@ -234,7 +268,7 @@ def a_shard_that_is_let_go_is_not_copied():
         meddler = threading.Thread(target=meddle, daemon=True)
         meddler.start()
         time.sleep(1.1)
-        ran, _ = traced(("backup", it.shard.path, it.copies), "inject=ioctl:delay_enter=100000:when=1+")
+        ran, _ = traced(("backup", it.shard.path, it.copies), "inject=ioctl:delay_enter=30000:when=1+")
         ended.set()
         meddler.join()
         expect(
@@ -359,9 +393,12 @@ def the_steps_of_a_unit_are_cut_off():
             expect(f"without the book, after {step}", check(it.shard.path)[1], empty)
 
         count = each_cut(
-            lambda: ("new", it.shard.path), lambda: shutil.rmtree(folder, ignore_errors=True), made_again, skip=QUIET
+            lambda: ("new", it.shard.path),
+            lambda: shutil.rmtree(folder, ignore_errors=True),
+            made_again,
+            skip=(*QUIET, "ioctl"),
         )
-        count += each_cut(lambda: ("fold", it.shard.path), it.prepare_again, folded_again, skip=QUIET)
+        count += each_cut(lambda: ("fold", it.shard.path), it.prepare_again, folded_again, skip=(*QUIET, "ioctl"))
         count += each_cut(
             lambda: ("drop", it.shard.path, 7),
             it.prepare_again,
@@ -376,6 +413,7 @@ TESTS = (
     a_copy_that_is_put_back_is_cut_off,
     a_copy_that_is_being_made_is_cut_off,
     the_shard_is_frozen_and_not_its_reader,
+    a_guard_lets_the_shard_go_on,
     a_shard_that_is_let_go_is_not_copied,
     two_copies_at_once,
     copies_are_made_and_put_back_at_once,

@@ -88,7 +88,7 @@ def two_moves_at_once():
     acknowledged."""
     with Hosted() as it:
         receipts = it.open_books(1)
-        for number in range(8):
+        for number in range(5):
             at = mapped(it)
             books = CHANCE.choice([(7, 8), (8, 9), (7, 7)])
             to = {
