@@ -110,7 +110,12 @@ def what_a_monitor_sees(one):
     """The reply that needs no key, and the log, which is turned as Debian turns it."""
     monitor = commands("docs/OPERATING.md", "What to watch")[0]
     expect("the fixed reply", one.run(monitor), '{"code":712,"name":"NoReceipt"}')
-    expect("Debian turns these logs", "/var/log/nginx/*.log {" in one.run("cat /etc/logrotate.d/nginx"), True)
+    turned = one.run("cat /etc/logrotate.d/nginx")
+    expect(
+        "Debian turns these logs",
+        [said in turned for said in ("/var/log/nginx/*.log {", "daily", "rotate 14")],
+        [True] * 3,
+    )
     one.run("mv /var/log/nginx/access.log /var/log/nginx/access.log.1; kill -USR1 $(cat /run/nginx.pid); sleep 0.5")
     one.run(monitor)
     line = json.loads(one.run("sleep 0.2; tail -n 1 /var/log/nginx/access.log"))
@@ -132,17 +137,25 @@ def the_commands_of_the_page_on_files():
         )
         one.run(
             at + f"echo {OPERATOR} >data/operator.key; "
-            "(build/pawnd serve data/books.db 8080 data/operator.key >/dev/null 2>&1 &); "
+            "(build/pawnd serve data/books.db 8080 data/operator.key >/dev/null 2>&1 & echo $! >pid); "
             "until (: </dev/tcp/127.0.0.1/8080) 2>/dev/null; do sleep 0.1; done"
         )
         made = json.dumps({"capacity": 2, "key": BROKER, "name": "High Street"})
         one.run(at + f"curl -sf -H 'Pledge-Key: {OPERATOR}' -d '{made}' localhost:8080/books/7")
-        expect("a book taken out and in", one.run(at + take_out).endswith('{"imported":0}'), True)
+        asked = f"curl -sf -H 'Pledge-Key: {BROKER}' localhost:8080/books/7"
+        terms = '{"keep_after":0,"keep_before":0,"rate":0,"version":1}'
+        opening = '{"article":"Ring","five_days":false,"kind":"fixed","pence":100,"ref":"A1"}'
+        one.run(f"{asked}/terms -d '{terms}'")
+        receipt = json.loads(one.run(f"{asked}/pledges -d '{opening}'"))["receipt"]
+        expect("a book taken out and in", one.run(at + take_out).endswith('{"imported":1}'), True)
+        seen = one.run(f"curl -sf -H 'Pledge-Receipt: {receipt}' localhost:8080/books/8/held")
+        expect("its receipts there", seen.splitlines()[0], "Pledge 1")
         expect("the stored run", one.run(at + stored).count("HTTP/1.1 200 OK"), 4)
-        one.run("kill $(pgrep -xf 'build/pawnd serve data/books.db 8080 data/operator.key')")
-        for block, says in ((copy, ""), (look, ""), (judge, "books 2 pledges 0 rows 2\n"), (move, "schema 3 to 3\n")):
+        one.run(at + "kill $(cat pid)")
+        for block, says in ((copy, ""), (look, None), (judge, "books 2 pledges 2 rows 8\n"), (move, "schema 3 to 3\n")):
             # A check leaves a log without pages, which is copied too.
-            expect(block, one.run(f"cd /root/work/data; {block}"), says)
+            told = one.run(f"cd /root/work/data; {block}")
+            expect(block, told if says is not None else told.count("|Ring|"), says if says is not None else 1)
 
 
 def somebody_is_told(one):

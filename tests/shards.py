@@ -322,7 +322,7 @@ def each_is_at_its_own(it, book, number, text, receipts):
 
 
 def an_emptied_map(it, receipts):
-    """The release's own map is put over the operator's: `reload` refuses it, and nginx itself hands on nothing by it."""
+    """The release's map is put over the operator's: `reload` refuses it, and nginx itself hands on nothing by it."""
     path = os.path.join(it.settings, "books.map")
     kept = open_text(path)
     shutil.copy(os.path.join(TOP, "deploy/examples/books.map"), path)
@@ -366,7 +366,11 @@ def the_map_is_compared_with_the_shards():
                 expect(f"{command} of {new!r}", says in it.run_shards(command, wanted=1), True)
         with open(path, "w") as file:
             file.write(kept.replace("7 shard1;", '"~^[17]$" shard1;  # the old books'))
+        idle = it.caller()
+        idle.broker("GET", "/books/8/pledges/1")
         it.run_shards("reload")
+        expect("a connection that was kept idle is ended", idle.connection.recv(100), b"")
+        idle.close()
         expect("a book by its range", status(it.caller().broker("GET", "/books/7/pledges/1")), 200)
         it.run_shards("move", 7, "shard2")
         expect(
@@ -457,7 +461,8 @@ def a_slow_request_does_not_pass_the_fence():
         slow, body = it.caller(), json.dumps({"pence": 1, "seq": 1})
         slow.connection = slow.connect()
         slow.connection.sendall(
-            f"POST /books/7/held/repay HTTP/1.1\r\nHost: x\r\nPledge-Receipt: {receipts[7][0]}\r\nContent-Length: {len(body)}\r\n\r\n{body[:5]}".encode()
+            f"POST /books/7/held/repay HTTP/1.1\r\nHost: x\r\nPledge-Receipt: {receipts[7][0]}\r\n"
+            f"Content-Length: {len(body)}\r\n\r\n{body[:5]}".encode()
         )
         time.sleep(0.5)
         begun = time.monotonic()
