@@ -37,7 +37,7 @@ def a_release_is_packed():
         raise Failed(f"make release ended with {made.returncode}: {made.stdout[-300:]} {made.stderr[-300:]}")
     with tempfile.TemporaryDirectory() as room:
         top = unpacked(room)
-        for path in ("pawnd", "serve", "check", "README.md", "CHANGELOG.md", "settings.example", "deploy/shards", "deploy/nginx/pawnd/http.conf", "deploy/systemd/pawnd@.service", "docs/FILES.md", "docs/RULES.md", "docs/openapi.json", "examples/README.md"):
+        for path in ("pawnd", "serve", "check", "README.md", "CHANGELOG.md", "settings.example", "deploy/shards", "deploy/keeping/moves.py", "deploy/examples/site.conf", "deploy/nginx/pawnd/http.conf", "deploy/systemd/pawnd@.service", "docs/FILES.md", "docs/RULES.md", "docs/openapi.json", "examples/README.md"):
             expect(f"{path} is there", os.path.isfile(os.path.join(top, path)), True)
         sums = dict(reversed(line.split(maxsplit=1)) for line in text(os.path.join(top, "SHA256SUMS")).splitlines())
         found = {os.path.relpath(os.path.join(at, it), top) for at, _, files in os.walk(top) for it in files}

@@ -442,6 +442,11 @@ def a_book_moves():
             "POST", "/books/7", f"Pledge-Key: {OPERATOR}", body={"capacity": 2, "key": BROKER, "name": "High Street"}
         )
         expect("its key, name and capacity", again.body, b'{"book":7}')
+        with open(os.path.join(it.settings, "books.map"), "a") as file:
+            file.write("7 shard1\n")
+        it.restart(1)
+        expect("by a map with a slip nothing is taken out", it.shards[0].export(7), twin)
+        it.edit("books.map", ("7 shard1\n", ""))
         it.restart(1)
         shut_at(it.shards[0], 7, receipts[7])
         expect("the store that it was taken out of", check_while_served(it.shards[0].path)[0], 0)

@@ -244,6 +244,10 @@ def twins_at(shard):
         books, twins = Map(os.path.join(SETTINGS, "books.map")), Twins(os.path.join(SETTINGS, "twins"))
     except FileNotFoundError:
         return []
+    except Stop as why:
+        # A shard is not kept from its start by a slip in the map, of which nginx still has the last good one.
+        say(f"{why}. So no book is taken out of {shard}")
+        return []
     return [book for book, at in twins.all if at == shard and books.owner(book) not in (None, "moving", shard)]
 
 
