@@ -20,6 +20,7 @@ from .stores import (
     judged_by_eye,
     keep_pair,
     looked_into,
+    place_for,
     put_in_place,
     room_in,
     swept,
@@ -227,7 +228,7 @@ def begin(path):
     with alone(folder):
         judged_by_eye(path)
         for kind in ROOMS:
-            swept(folder, kind)
+            swept(*place_for(folder, kind))
         with not_served(path):
             pass
         if has_pages(path):

@@ -95,7 +95,7 @@ def own_as(folder, *paths):
     owner = os.stat(folder)
     if os.geteuid() == 0:
         for path in paths:
-            os.chown(path, owner.st_uid, owner.st_gid)
+            os.chown(path, owner.st_uid, owner.st_gid, follow_symlinks=False)
 
 
 def written(path, text):
@@ -130,11 +130,21 @@ def swept(folder, kind):
             shutil.rmtree(os.path.join(folder, name), ignore_errors=True)
 
 
+def place_for(folder, kind):
+    """Where the files of a folder are made, and by what name. It is the folder itself, or the one above where another
+    user has the folder: whoever took a shard over could put a link in the place of what is made there."""
+    above, there = os.path.dirname(os.path.realpath(folder)), os.stat(folder)
+    if there.st_uid != os.geteuid() == os.stat(above).st_uid and there.st_dev == os.stat(above).st_dev:
+        return above, f"{kind}-{os.path.basename(os.path.realpath(folder))}"
+    return folder, kind
+
+
 @contextlib.contextmanager
 def room_in(folder, kind):
     """A folder for files that are being made, in a folder that is held: root's alone, and gone afterwards."""
-    swept(folder, kind)
-    room = tempfile.mkdtemp(prefix=kind + "-", dir=folder)
+    place, kind = place_for(folder, kind)
+    swept(place, kind)
+    room = tempfile.mkdtemp(prefix=kind + "-", dir=place)
     try:
         yield room
     finally:
@@ -287,6 +297,8 @@ def has_pages(path):
 
 def judged_by_eye(path):
     """Whether a start would find a store there, and not make an empty one."""
+    if os.path.islink(path):
+        raise Stop(f"{path} is a link, and no store")
     undone(path)
     if not os.path.exists(path) or os.path.getsize(path) == 0:
         raise Stop(
