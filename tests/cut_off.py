@@ -70,7 +70,7 @@ def traced(words, *rules, environment=None):
     return ran, calls
 
 
-def each_cut(words, prepare, judge, environment=None, skip=()):
+def each_cut(words, prepare, judge, environment=None, skip=(), most=20):
     """The command is killed at each of its calls in turn, each time over files that were made anew, and what it left
     is judged."""
     prepare()
@@ -79,8 +79,8 @@ def each_cut(words, prepare, judge, environment=None, skip=()):
     judge(None)
     count = 0
     for name, often in sorted(calls.items()):
-        # Of a call that is made very often, some twenty.
-        for number in range(1, often + 1, max(1, often // 20)) if name not in skip else ():
+        # Of a call that is made very often, some are taken.
+        for number in range(1, often + 1, max(1, often // most)) if name not in skip else ():
             prepare()
             ran, _ = traced(words(), f"inject={name}:signal=KILL:when={number}", environment=environment)
             judge(f"{name} {number}")
@@ -226,7 +226,7 @@ def a_guard_lets_the_shard_go_on():
     left."""
     with Stores() as it:
         it.shard.start()
-        for _ in range(3):
+        for _ in range(2):
             slowly = [
                 "strace",
                 "-qq",

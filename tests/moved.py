@@ -188,6 +188,7 @@ def a_division_that_is_cut_off():
             it.judge,
             it.environment,
             skip=(*QUIET, "ioctl"),
+            most=8,
         )
         print(f"        {count} kills", flush=True)
 
