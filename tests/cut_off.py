@@ -2,7 +2,6 @@
 """`deploy/shards` where it is cut off at each call of the system that changes something, run twice at once, and run
 beside a program that reads the same files."""
 import collections
-import contextlib
 import os
 import random
 import re
@@ -16,7 +15,7 @@ import time
 
 from browser import PATHS, missing, provide, wait_for
 from hosting import MEMORY, PACKAGES, TOP, Shard, run_shards
-from service import BROKER, OPERATOR, PROGRAM, Failed, check, expect, main
+from service import OPERATOR, PROGRAM, check, expect, main
 
 # The calls by which a command changes what another can see.
 CALLS = (

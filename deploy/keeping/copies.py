@@ -1,14 +1,12 @@
 """Copies of stores: made while a store is served too, put back, and tried."""
-import contextlib
 import json
 import os
 import re
-import shutil
 import socket
 import subprocess
 import time
 
-from .locks import Stop, alone, at_rest, folder_of, locked, not_served, say
+from .locks import Stop, alone, at_rest, folder_of, not_served, say
 from .stores import (
     check,
     copy_store,
@@ -113,9 +111,8 @@ def taken_from(copy, note, room):
 
 def is_for(note, copy, path, said):
     """Whether a copy is put where its own shard was, or where no shard is, or somebody said whose copy it is."""
-    is_shards = os.path.exists(path) or os.path.dirname(os.path.dirname(os.path.abspath(path))) == os.path.abspath(
-        STORES
-    )
+    above = os.path.dirname(os.path.dirname(os.path.abspath(path)))
+    is_shards = os.path.exists(path) or above == os.path.abspath(STORES)
     if is_shards and shard_of(note["of"]) != shard_of(path) and said != (note["of"],):
         raise Stop(
             f"{copy} is a copy of another shard. If it is to be here all the same, name that shard's store behind: "
@@ -128,9 +125,7 @@ def restore(copy, path, *said):
     note = note_of(copy)
     is_for(note, copy, path, said)
     folder = folder_for(path)
-    with alone(folder), alone(folder_of(copy)), not_served(path) if os.path.exists(
-        path
-    ) else contextlib.nullcontext(), room_in(folder, "restoring") as room:
+    with alone(folder), alone(folder_of(copy)), not_served(path), room_in(folder, "restoring") as room:
         note = as_it_was_made(copy)
         new, counts = taken_from(copy, note, room)
         kept = put_in_place(new, path)

@@ -84,7 +84,8 @@ def locked(path):
 
 @contextlib.contextmanager
 def not_served(path):
-    with locked(path) as free:
+    """Nobody serves the store within the block, or there is none."""
+    with locked(path) if os.path.exists(path) else contextlib.nullcontext(True) as free:
         if not free:
             raise Stop(f"{path} is served: stop its service first")
         yield

@@ -300,9 +300,7 @@ def part_of(proxy, path, shard, out):
     """A store for a further shard, which has its own books alone."""
     target = os.path.join(os.path.dirname(os.path.dirname(path)), shard.removeprefix("shard"), "books.db")
     folder = folder_for(target)
-    with alone(folder), not_served(target) if os.path.exists(target) else contextlib.nullcontext(), room_in(
-        folder, "splitting"
-    ) as room:
+    with alone(folder), not_served(target), room_in(folder, "splitting") as room:
         there = books_in(target) if os.path.exists(target) else ()
         left = [book for book in there if (book, shard) not in proxy.twins.all or proxy.map.owner(book) == shard]
         if left:

@@ -217,7 +217,8 @@ def whole(path):
 def looked_into(path):
     """The tables of a store as they are at this moment, served or not: those of a copy, which is gone afterwards."""
     folder = folder_of(path)
-    with alone(folder), room_in(folder if os.access(folder, os.W_OK) else tempfile.gettempdir(), "looking") as room:
+    beside = os.access(folder, os.W_OK)
+    with alone(folder), room_in(folder, "looking") if beside else tempfile.TemporaryDirectory() as room:
         copy = os.path.join(room, "books.db")
         with at_rest(path):
             copy_store(path, copy)
