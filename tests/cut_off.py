@@ -91,7 +91,8 @@ class Stores:
     """A shard with an old store and a copy of a newer one, in a folder of their own; each can be put back as it was."""
 
     def __enter__(self):
-        self.room = tempfile.mkdtemp(dir=MEMORY)
+        self.held = tempfile.TemporaryDirectory(dir=MEMORY)
+        self.room = self.held.name
         self.shard = Shard(os.path.join(self.room, "shards/1"), OPERATOR)
         self.copies, self.pattern = os.path.join(self.room, "copies"), os.path.join(self.room, "pattern")
         self.shard.start()
@@ -108,7 +109,7 @@ class Stores:
 
     def __exit__(self, *_):
         self.shard.kill()
-        shutil.rmtree(self.room)
+        self.held.cleanup()
 
     def prepare(self):
         shutil.rmtree(os.path.dirname(self.shard.path))

@@ -124,7 +124,8 @@ class Divided:
     """A shard with three books, which is not served, and the settings for three, in a folder of their own."""
 
     def __enter__(self):
-        self.room = tempfile.mkdtemp(dir=MEMORY)
+        self.held = tempfile.TemporaryDirectory(dir=MEMORY)
+        self.room = self.held.name
         self.pattern, self.settings = os.path.join(self.room, "pattern"), os.path.join(self.room, "settings")
         shard = Shard(os.path.join(self.pattern, "1"), OPERATOR).start()
         for book in (7, 8, 9):
@@ -137,7 +138,7 @@ class Divided:
         return self
 
     def __exit__(self, *_):
-        shutil.rmtree(self.room)
+        self.held.cleanup()
 
     def prepare(self):
         for folder in (self.stores, self.settings):
