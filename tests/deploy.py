@@ -100,7 +100,7 @@ def nothing_secret_is_noted():
                     caller.send(sent.encode())
             if shard:
                 shard.kill()
-        expect("the log notes what was asked", '"GET /books/7/held" 502' in it.log("access") and "(hidden)" in it.log("access"), True)
+        expect("the log notes what was asked", '"target":"/books/7/held","status":"502"' in it.log("access") and "(hidden)" in it.log("access"), True)
         expect("the error log notes that the shard was away", "Connection refused" in it.log("error"), True)
         no_secret_in_a_log(it, [*receipts, BROKER.replace("-", ""), BROKER.replace("-", "").upper()])
 
@@ -135,10 +135,10 @@ def each_target_comes_to_its_book_or_nowhere():
                 for number, head in came:
                     got = head.split("\r\n")[0].split(" ")[1]
                     book = READ.fullmatch(got)
-                    expect(f"the shard of {target}, which came as {got}", number, BOOKS.get(int(book[1]), 1) if book else None)
+                    expect(f"the shard of {target}, which came as {got}", number, BOOKS.get(int(book[1])) if book else None)
                     expect(f"{target} came as it was", got, target.removeprefix(f"https://{NAME}:1").removeprefix(f"http://{NAME}").removeprefix("http://evil"))
                     landed.add(target)
-        expect("what was handed on", sorted(landed), sorted(target for target in TRICKS[:9] + [f"http://{NAME}/books/8/held", f"https://{NAME}:1/books/9/held", "http://evil/books/8", "/books/8/pledges/07"]))
+        expect("what was handed on", sorted(landed), sorted(target for target in TRICKS[:6] + [f"http://{NAME}/books/8/held", f"https://{NAME}:1/books/9/held", "http://evil/books/8", "/books/8/pledges/07"]))
         no_room_beside_the_shape(it)
 
 
@@ -157,7 +157,7 @@ def no_room_beside_the_shape(it):
         for shard_number, shard in enumerate(it.shards, 1):
             for head, _ in shard.seen[before[shard_number - 1]:]:
                 book = READ.fullmatch(target)
-                expect(f"{target} at shard {shard_number}", (head.split(" ")[1], book and BOOKS.get(int(book[1]), 1)), (target, shard_number))
+                expect(f"{target} at shard {shard_number}", (head.split(" ")[1], book and BOOKS.get(int(book[1]))), (target, shard_number))
                 came += 1
         if number % 15 == 0:
             caller.close()
@@ -176,7 +176,7 @@ def each_target_by_caddy():
     with tempfile.TemporaryDirectory() as room:
         with open(os.path.join(TOP, "deploy/Caddyfile")) as it:
             text = put(it.read(), ("{\n\tservers {", f"{{\n\tadmin off\n\tauto_https off\n\thttp_port {port}\n\tservers {{"), (f"\n{NAME} {{", f"\nhttp://:{port} {{"),
-                       ("\t\tdefault 127.0.0.1:8101\n", f"{lines}\t\t10 moving\n\t\tdefault 127.0.0.1:{shards[0].port}\n"), ("/opt/pawnd/web", os.path.join(TOP, "web")))
+                       ("\t\tdefault moving\n", f"{lines}\t\t10 moving\n\t\tdefault moving\n"), ("/opt/pawnd/web", os.path.join(TOP, "web")))
         with open(os.path.join(room, "Caddyfile"), "w") as it:
             it.write(text)
         caddy = subprocess.Popen(["caddy", "run", "--config", os.path.join(room, "Caddyfile"), "--adapter", "caddyfile"], env={**os.environ, "HOME": room, "XDG_DATA_HOME": room, "XDG_CONFIG_HOME": room},
@@ -184,7 +184,7 @@ def each_target_by_caddy():
         try:
             wait_for(lambda: answers(f"http://127.0.0.1:{port}/"), "caddy", 30)
             landed = [target for target in TRICKS if comes_to_its_book(port, target, shards)]
-            expect("what was handed on", landed, [*TRICKS[:9], "/books/8/pledges/07"])
+            expect("what was handed on", landed, [*TRICKS[:6], "/books/8/pledges/07"])
             expect("a book that is moving", plainly(port, request("GET", "/books/10/held", "Host: x")).endswith(NOT_HANDED_ON % 503), True)
             shards[1].way = "close"
             expect("no reply", plainly(port, request("GET", "/books/8/held", "Host: x")).endswith(b'{"proxy":502,"handed_on":true}'), True)
@@ -211,7 +211,7 @@ def comes_to_its_book(port, target, shards):
     came = [(number, head.split(" ")[1]) for number, shard in enumerate(shards, 1) for head, _ in shard.seen[before[number - 1]:]]
     book = READ.fullmatch(target)
     if came:
-        expect(f"{target}", came, [(BOOKS.get(int(book[1]), 1) if book else None, target)])
+        expect(f"{target}", came, [(BOOKS.get(int(book[1])) if book else None, target)])
     return bool(came)
 
 
@@ -250,7 +250,7 @@ def what_the_program_says_of_them():
         expect("32 receipts", (status(reply), reply.body.count(b"Pledge 1\n"), reply.body.count(b"Pledge 2\n")), (200, 16, 16))
         for step, reply, wanted in (("33", it.caller().ask("GET", "/books/8/held", *fields), (400, 711)), ("no receipt", it.caller().ask("GET", "/books/8/held"), (400, 712)),
                                     ("a receipt of another book", it.caller().ask("GET", "/books/9/held", f"Pledge-Receipt: 2-{receipts[8][0][2:]}"), (404, 402)), ("two keys", it.caller().ask("GET", "/books/8/pledges/1", KEY, KEY), (400, 709)),
-                                    ("no such book", it.caller().broker("GET", "/books/10/pledges/1"), (404, 401)), ("no such route", it.caller().broker("GET", "/books/8/shelves"), (404, 706)),
+                                    ("no such route", it.caller().broker("GET", "/books/8/shelves"), (404, 706)),
                                     ("another method", it.caller().ask("PUT", "/books/8/held", fields[0]), (400, 707)), ("a head of 8,192 bytes", it.caller().ask("GET", "/books/8/held", fields[0], "X: " + "x" * 8150), (400, 701))):
             expect(step, (status(reply), json.loads(reply.body).get("code")), wanted)
         head = it.caller().ask("HEAD", "/books/8/held", fields[0])
@@ -334,7 +334,7 @@ def to(port):
 def the_same_bytes_as_of_one_service():
     """Two thousand requests at random on four books: one program that has them all, and three shards behind the proxy. (Each book is made without the proxy.)"""
     chance = random.Random(43)
-    with Hosted() as hosted, Server() as one:
+    with Hosted(books={**BOOKS, 10: 2}) as hosted, Server() as one:
         worlds = World(to(one.port)), World(through(hosted))
         made = [hosted.shard_of(book).port for book in BOOKS]
         for book, port in zip(BOOKS, made, strict=True):
@@ -519,7 +519,7 @@ def a_shard_is_killed_and_started():
             text = it.shard_of(writer.book).export(writer.book)
             expect(f"the entries of pledge {writer.number} of book {writer.book}", text.count(f"\nE,{writer.number},") in (writer.acknowledged, writer.sent), True)
         mine = [writer for writer in running if writer.book == 8]
-        expect("the shard was missed", sum(writer.not_done + writer.unknown for writer in mine) > 0, True)
+        expect("what was not done", sum(writer.not_done for writer in mine), 0)
         print(f"        {sum(it.acknowledged for it in running)} repayments, 4 kills; {sum(it.not_done for it in mine)} not handed on and {sum(it.unknown for it in mine)} unknown at the killed shard, none at the others", flush=True)
 
 
@@ -538,16 +538,16 @@ def a_shard_on_another_machine():
         relay = subprocess.Popen(["nginx", "-c", conf, "-e", f"{room}/error.log", "-g", "daemon off;"], env={**os.environ, "PATH": PATHS}, stderr=subprocess.DEVNULL, start_new_session=True)
         try:
             wait_for(lambda: os.path.exists(f"{room}/nginx.pid"), "the relay", 20)
-            far.edit("pawnd/shards.conf", (f"127.0.0.1:{far.shards[2].port}", f"127.0.0.1:{port}"))
+            far.edit("shards.conf", (f"127.0.0.1:{far.shards[2].port}", f"127.0.0.1:{port}"))
+            receipts = far.open_books(2)
             far.run_shards("reload")
-            through_the_relay(far)
+            through_the_relay(far, receipts)
         finally:
             os.killpg(relay.pid, signal.SIGTERM)
             relay.wait(20)
 
 
-def through_the_relay(far):
-    receipts = far.open_books(2)
+def through_the_relay(far, receipts):
     fields = [f"Pledge-Receipt: {receipts[9][number % 2]}" for number in range(32)]
     expect("32 receipts", far.caller().ask("GET", "/books/9/held", *fields).body.count(b"Article Gold ring\n"), 32)
     expect("a long body", json.loads(far.caller().ask("POST", "/books/9/held/repay", fields[0], body=json.dumps({"pence": 1, "seq": 1}) + " " * 1_000_000).body)["seq"], 1)

@@ -41,7 +41,7 @@ def places(document, section, path):
     """Where a path may stand: from the top, from the document's folder, in a folder of scripts, or in a crate that the section names (in any, where it names none)."""
     yield path
     yield os.path.join(os.path.dirname(document), path)
-    for inside in ("crates", "tests", "tools", "deploy", "deploy/nginx", "deploy/nginx/pawnd", "deploy/systemd", "docs", "web"):
+    for inside in ("crates", "tests", "tools", "deploy", "deploy/nginx", "deploy/nginx/pawnd", "deploy/systemd", "deploy/examples", "docs", "web"):
         yield os.path.join(inside, path)
     of_section = [crate for crate in CRATES if re.search(rf"\b{crate}\b", section)]
     for crate in of_section or CRATES:

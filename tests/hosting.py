@@ -1,4 +1,5 @@
-"""nginx by the files of deploy/nginx, in front of shards of the program or of recorders in their place, on free ports of the loopback; and its clients over TLS."""
+"""nginx by the files of deploy/nginx, in front of shards of the program or of recorders in their place, on free ports
+of the loopback; and its clients over TLS."""
 import collections
 import contextlib
 import json
@@ -24,8 +25,12 @@ BOOKS = {7: 1, 8: 2, 9: 3}
 MEMORY = "/dev/shm" if os.access("/dev/shm", os.W_OK) and "TMPDIR" not in os.environ else None
 # More than the system keeps of a connection.
 LENGTH = 24_000_000
+# The operator's own files.
+SETTINGS = ("site.conf", "shards.conf", "books.map")
 # Addresses of the loopback, of which each is a caller of its own.
-ADDRESSES = (f"127.{first}.{second}.{third}" for first in range(1, 200) for second in range(1, 250) for third in range(1, 250))
+ADDRESSES = (
+    f"127.{first}.{second}.{third}" for first in range(1, 200) for second in range(1, 250) for third in range(1, 250)
+)
 
 Reply = collections.namedtuple("Reply", "line fields body")
 
@@ -35,7 +40,8 @@ def status(reply):
 
 
 def proxys(reply):
-    """What the proxy said in the service's place, as the status that it named and whether the request was handed on; None of a reply of the service."""
+    """What the proxy said in the service's place, as the status that it named and whether the request was handed on;
+    None of a reply of the service."""
     said = json.loads(reply.body) if reply.fields.get("content-type") == "application/json" else {}
     return (said["proxy"], said["handed_on"]) if "proxy" in said else None
 
@@ -104,7 +110,8 @@ class Caller:
 
 
 def steady_port():
-    """A free port below those of which the system gives connections their own, so that none takes it while a shard is away."""
+    """A free port below those of which the system gives connections their own, so that none takes it while a shard is
+    away."""
     while True:
         port = random.randrange(15_000, 32_000)
         with contextlib.suppress(OSError), socket.socket() as it:
@@ -121,7 +128,13 @@ class Shard:
         self.session = Once(self.port)
 
     def start(self, wait=True):
-        self.program = subprocess.Popen([PROGRAM, "serve", self.path, str(self.port), self.key], stdin=subprocess.DEVNULL, stdout=subprocess.PIPE, stderr=subprocess.DEVNULL, umask=0o077)
+        self.program = subprocess.Popen(
+            [PROGRAM, "serve", self.path, str(self.port), self.key],
+            stdin=subprocess.DEVNULL,
+            stdout=subprocess.PIPE,
+            stderr=subprocess.DEVNULL,
+            umask=0o077,
+        )
         if wait:
             expect("the first line of a shard", self.program.stdout.readline(), f"listening {self.port}\n".encode())
         return self
@@ -139,14 +152,18 @@ class Shard:
 
 
 class Recorder:
-    """In a shard's place: it keeps what it was sent, and answers as it is told: shortly, at length, not at all, or by closing the connection."""
+    """In a shard's place: it keeps what it was sent, and answers as it is told: shortly, at length, not at all, or by
+    closing the connection."""
 
     def __init__(self, *_):
         self.seen, self.way, self.rid = [], "answer", False
 
     def start(self, wait=True):
-        self.listener = socket.create_server(("127.0.0.1", steady_port()))
-        self.port = self.listener.getsockname()[1]
+        self.port = steady_port()
+        return self.start_again()
+
+    def start_again(self):
+        self.listener = socket.create_server(("127.0.0.1", self.port))
         threading.Thread(target=self.accept, daemon=True).start()
         return self
 
@@ -167,14 +184,18 @@ class Recorder:
             while b"\r\n\r\n" not in sent:
                 sent += peer.recv(65536)
             head, body = sent.split(b"\r\n\r\n", 1)
-            length = next((int(line[15:]) for line in head.split(b"\r\n") if line.lower().startswith(b"content-length:")), 0)
+            length = next(
+                (int(line[15:]) for line in head.split(b"\r\n") if line.lower().startswith(b"content-length:")), 0
+            )
             while len(body) < length:
                 body += peer.recv(65536)
             self.seen.append((head.decode("latin-1"), body))
             if self.way == "answer":
                 peer.sendall(b"HTTP/1.1 200 OK\r\nContent-Length: 2\r\nContent-Type: application/json\r\n\r\n{}")
             elif self.way == "at length":
-                peer.sendall(b"HTTP/1.1 200 OK\r\nContent-Length: %d\r\nContent-Type: text/csv\r\n\r\n" % LENGTH + b"x" * LENGTH)
+                peer.sendall(
+                    b"HTTP/1.1 200 OK\r\nContent-Length: %d\r\nContent-Type: text/csv\r\n\r\n" % LENGTH + b"x" * LENGTH
+                )
                 self.rid = True
             elif self.way == "reset":
                 peer.setsockopt(socket.SOL_SOCKET, socket.SO_LINGER, b"\1\0\0\0\0\0\0\0")
@@ -191,8 +212,14 @@ def put(text, *pairs):
     return text
 
 
+def open_text(path):
+    with open(path) as it:
+        return it.read()
+
+
 class Hosted:
-    """nginx in front of some shards. The files are those of deploy/nginx, but for paths, addresses and the map; `changes` are pairs of texts in http.conf."""
+    """nginx in front of some shards. The files are those of deploy/nginx, but for paths, addresses and the map;
+    `changes` are pairs of texts in http.conf."""
 
     def __init__(self, shards=3, books=BOOKS, kind=Shard, changes=()):
         self.many, self.books, self.kind, self.changes = shards, books, kind, changes
@@ -211,51 +238,122 @@ class Hosted:
     def begin(self):
         self.room = self.stack.enter_context(tempfile.TemporaryDirectory(prefix="pawnd-hosted-", dir=MEMORY))
         os.chmod(self.room, 0o711)
-        self.key = os.path.join(self.room, "operator.key")
+        self.settings = os.path.join(self.room, "settings")
+        os.mkdir(self.settings)
+        self.key = os.path.join(self.settings, "operator.key")
         with open(self.key, "w") as it:
             os.fchmod(it.fileno(), 0o600)
             it.write(OPERATOR + "\n")
-        self.shards = [self.kind(os.path.join(self.room, "shards", str(number)), self.key) for number in range(1, self.many + 1)]
+        self.shards = [
+            self.kind(os.path.join(self.room, "shards", str(number)), self.key) for number in range(1, self.many + 1)
+        ]
         for shard in self.shards:
             self.stack.callback(shard.kill)
             shard.start()
-        self.port, self.plain = steady_port(), steady_port()
+        self.port, self.plain, self.waiting = steady_port(), steady_port(), steady_port()
         self.configure()
         self.serve()
         return self
 
     def configure(self):
-        """The files of deploy/nginx in a folder of this server's own, and the pages beside it."""
+        """The files of deploy/nginx in a folder of this server's own, the operator's files, and the pages beside
+        them."""
         self.conf = os.path.join(self.room, "nginx")
         shutil.copytree(os.path.join(TOP, "deploy/nginx"), self.conf)
+        for name in SETTINGS:
+            shutil.copy(os.path.join(TOP, "deploy/examples", name), self.settings)
         shutil.copytree(os.path.join(TOP, "web"), os.path.join(self.room, "web"))
         for folder, folders, files in os.walk(os.path.join(self.room, "web")):
             for name in [".", *files]:
                 os.chmod(os.path.join(folder, name), 0o755)
         os.mkdir(os.path.join(self.room, "logs"))
         self.cert = os.path.join(self.room, "cert.pem")
-        subprocess.run(["openssl", "req", "-x509", "-newkey", "ec", "-pkeyopt", "ec_paramgen_curve:prime256v1", "-nodes", "-days", "2", "-subj", f"/CN={NAME}",
-                        "-addext", f"subjectAltName=DNS:{NAME}", "-keyout", os.path.join(self.room, "cert.key"), "-out", self.cert], check=True, capture_output=True, timeout=60)
-        self.edit("nginx.conf", ("/run/nginx.pid", f"{self.room}/nginx.pid"), ("/var/log/nginx/", f"{self.room}/logs/"), ("/run/nginx-bodies;", f"{self.room}/bodies;"),
-                  ("/run/nginx-replies;", f"{self.room}/replies; " + " ".join(f"{it}_temp_path {self.room}/unused;" for it in ("fastcgi", "uwsgi", "scgi"))))
-        self.edit("pawnd/site.conf", ("listen [::]:443 ssl http2 default_server;", ""), ("listen [::]:80 default_server;", ""), ("listen 443 ", f"listen 127.0.0.1:{self.port} "),
-                  ("listen 80 ", f"listen 127.0.0.1:{self.plain} "), (f"/etc/letsencrypt/live/{NAME}/fullchain.pem", self.cert),
-                  (f"/etc/letsencrypt/live/{NAME}/privkey.pem", os.path.join(self.room, "cert.key")), ("/opt/pawnd/web", f"{self.room}/web"))
-        self.edit("pawnd/shards.conf", *((f"127.0.0.1:810{number}", f"127.0.0.1:{shard.port}") for number, shard in enumerate(self.shards, 1)))
-        with open(os.path.join(self.conf, "pawnd/books.map"), "a") as it:
+        subprocess.run(
+            [
+                "openssl",
+                "req",
+                "-x509",
+                "-newkey",
+                "ec",
+                "-pkeyopt",
+                "ec_paramgen_curve:prime256v1",
+                "-nodes",
+                "-days",
+                "2",
+                "-subj",
+                f"/CN={NAME}",
+                "-addext",
+                f"subjectAltName=DNS:{NAME}",
+                "-keyout",
+                os.path.join(self.room, "cert.key"),
+                "-out",
+                self.cert,
+            ],
+            check=True,
+            capture_output=True,
+            timeout=60,
+        )
+        self.edit(
+            "nginx.conf",
+            ("/run/nginx.pid", f"{self.room}/nginx.pid"),
+            ("/var/log/nginx/", f"{self.room}/logs/"),
+            ("/run/nginx-bodies;", f"{self.room}/bodies;"),
+            (
+                "/run/nginx-replies;",
+                f"{self.room}/replies; "
+                + " ".join(f"{it}_temp_path {self.room}/unused;" for it in ("fastcgi", "uwsgi", "scgi")),
+            ),
+            ("/etc/pawnd/", f"{self.settings}/"),
+            ("127.0.0.1:8100", f"127.0.0.1:{self.waiting}"),
+        )
+        self.edit("pawnd/pause.conf", ("127.0.0.1:8100", f"127.0.0.1:{self.waiting}"))
+        self.edit("pawnd/plain.conf", ("/var/lib/acme", f"{self.room}/acme"))
+        self.edit(
+            "site.conf",
+            ("listen [::]:443 ssl http2 default_server;", ""),
+            ("listen [::]:80 default_server;", ""),
+            ("listen 443 ", f"listen 127.0.0.1:{self.port} "),
+            ("listen 80 ", f"listen 127.0.0.1:{self.plain} "),
+            ("/etc/pawnd/certificate/fullchain.pem", self.cert),
+            ("/etc/pawnd/certificate/privkey.pem", os.path.join(self.room, "cert.key")),
+            ("/opt/pawnd/web", f"{self.room}/web"),
+        )
+        line = open_text(os.path.join(self.settings, "shards.conf")).splitlines()[-1]
+        with open(os.path.join(self.settings, "shards.conf"), "a") as it:
+            for number in range(2, self.many + 1):
+                it.write(line.replace("shard1", f"shard{number}").replace("8101", f"810{number}") + "\n")
+        self.edit(
+            "shards.conf",
+            *((f"127.0.0.1:810{number}", f"127.0.0.1:{shard.port}") for number, shard in enumerate(self.shards, 1)),
+        )
+        with open(os.path.join(self.settings, "books.map"), "a") as it:
             it.writelines(f"{book} shard{shard};\n" for book, shard in self.books.items())
         self.edit("pawnd/http.conf", *self.changes)
 
     def edit(self, name, *pairs):
-        path = os.path.join(self.conf, name)
-        with open(path) as it:
-            text = put(it.read(), *pairs)
+        path = os.path.join(self.settings if name in SETTINGS else self.conf, name)
+        text = put(open_text(path), *pairs)
         with open(path, "w") as it:
             it.write(text)
 
     def serve(self):
-        words = ["nginx", "-c", os.path.join(self.conf, "nginx.conf"), "-e", os.path.join(self.room, "logs/error.log"), "-g", "daemon off;"]
-        self.nginx = subprocess.Popen(words, env={**os.environ, "PATH": PATHS}, stdin=subprocess.DEVNULL, stdout=subprocess.DEVNULL, stderr=subprocess.PIPE, start_new_session=True)
+        words = [
+            "nginx",
+            "-c",
+            os.path.join(self.conf, "nginx.conf"),
+            "-e",
+            os.path.join(self.room, "logs/error.log"),
+            "-g",
+            "daemon off;",
+        ]
+        self.nginx = subprocess.Popen(
+            words,
+            env={**os.environ, "PATH": PATHS},
+            stdin=subprocess.DEVNULL,
+            stdout=subprocess.DEVNULL,
+            stderr=subprocess.PIPE,
+            start_new_session=True,
+        )
         self.stack.callback(self.end)
         wait_for(lambda: self.nginx.poll() is not None or self.listens(), "nginx", 30)
         if self.nginx.poll() is not None:
@@ -286,14 +384,22 @@ class Hosted:
         return self.shards[self.books[book] - 1]
 
     def open_books(self, pledges=1):
-        """Each book of the map with terms that charge nothing, and some pledges: their receipts, by book. All is asked through the proxy."""
+        """Each book of the map with terms that charge nothing, and some pledges: their receipts, by book. All is
+        asked through the proxy."""
         receipts = {}
         operator = self.caller("127.0.0.1")
         for book in self.books:
             caller = self.caller()
-            made = operator.ask("POST", f"/books/{book}", f"Pledge-Key: {OPERATOR}", body={"capacity": 2, "key": BROKER, "name": "High Street"})
+            made = operator.ask(
+                "POST",
+                f"/books/{book}",
+                f"Pledge-Key: {OPERATOR}",
+                body={"capacity": 2, "key": BROKER, "name": "High Street"},
+            )
             expect(f"book {book}", (status(made), made.body), (200, b'{"book":%d}' % book))
-            terms = caller.broker("POST", f"/books/{book}/terms", {"keep_after": 0, "keep_before": 0, "rate": 0, "version": 1})
+            terms = caller.broker(
+                "POST", f"/books/{book}/terms", {"keep_after": 0, "keep_before": 0, "rate": 0, "version": 1}
+            )
             expect(f"the terms of {book}", terms.body, b'{"version":1}')
             receipts[book] = [open_pledge(caller, book, number) for number in range(1, pledges + 1)]
             caller.close()
@@ -301,21 +407,48 @@ class Hosted:
         return receipts
 
     def run_shards(self, *words, wanted=0, **environment):
-        return run_shards(*words, wanted=wanted, CONF=os.path.join(self.conf, "nginx.conf"), KEY=self.key, **environment)
+        return run_shards(*words, wanted=wanted, **self.environment(), **environment)
+
+    def restart(self, number):
+        """A shard as its unit stops it and starts it anew."""
+        shard = self.shards[number - 1]
+        shard.kill()
+        self.run_shards("fold", shard.path)
+        self.run_shards("begin", shard.path)
+        shard.start()
+
+    def environment(self):
+        """What `deploy/shards` is told of this host."""
+        own = {"STORES": "shards", "COPIES": "copies", "ACCESS": "logs/access.log", "CONF": "nginx/nginx.conf"}
+        return {"SETTINGS": self.settings, **{name: os.path.join(self.room, path) for name, path in own.items()}}
 
 
 def run_shards(*words, wanted=0, **environment):
-    """What `deploy/shards` prints, or what it complains of where it is to end with another status than 0."""
-    ran = subprocess.run([os.path.join(TOP, "deploy/shards"), *map(str, words)], capture_output=True, text=True, timeout=120, stdin=subprocess.DEVNULL,
-                         env={**os.environ, "PATH": PATHS, "PAWND": PROGRAM, **environment})
-    if ran.returncode != wanted:
+    """What `deploy/shards` prints, or what it complains of where it is to end with another status than 0 (None is
+    any)."""
+    ran = subprocess.run(
+        [os.path.join(TOP, "deploy/shards"), *map(str, words)],
+        capture_output=True,
+        text=True,
+        timeout=120,
+        stdin=subprocess.DEVNULL,
+        env={**os.environ, "PATH": PATHS, "PAWND": PROGRAM, **environment},
+    )
+    if wanted is not None and ran.returncode != wanted:
         raise Failed(f"shards {words[0]} ended with {ran.returncode}: {ran.stdout[-300:]} {ran.stderr[-600:]}")
     return ran.stdout if wanted == 0 else ran.stderr
 
 
 def open_pledge(caller, book, number, **changed):
     """The receipt of a new pledge, the next of its book."""
-    opening = {"article": "Gold ring", "five_days": False, "kind": "fixed", "pence": 1_000_000, "ref": f"A{number}", **changed}
+    opening = {
+        "article": "Gold ring",
+        "five_days": False,
+        "kind": "fixed",
+        "pence": 1_000_000,
+        "ref": f"A{number}",
+        **changed,
+    }
     reply = caller.broker("POST", f"/books/{book}/pledges", opening)
     said = json.loads(reply.body)
     expect(f"pledge {number} of book {book}", (status(reply), said.get("number")), (200, number))
@@ -323,13 +456,25 @@ def open_pledge(caller, book, number, **changed):
 
 
 class Writer(threading.Thread):
-    """Repays a pledge penny by penny through the proxy, until it is ended, and keeps account of what was acknowledged. Where no reply of the service comes it looks
-    how the pledge stands: what was not handed on was not done, and what was may have been. A connection that the proxy ends under it is `cut`."""
+    """Repays a pledge penny by penny through the proxy, until it is ended, and keeps account of what was
+    acknowledged. Where no reply of the service comes it looks
+    how the pledge stands: what was not handed on was not done, and what was may have been. A connection that the proxy
+    ends under it is `cut`.
+    """
 
     def __init__(self, hosted, book, number, pause=0.012):
         super().__init__(daemon=True)
         self.caller, self.book, self.number, self.pause = hosted.caller(), book, number, pause
-        self.ended, self.acknowledged, self.sent, self.not_done, self.unknown, self.cut, self.longest, self.wrong = threading.Event(), 0, 0, 0, 0, 0, 0.0, []
+        self.ended, self.acknowledged, self.sent, self.not_done, self.unknown, self.cut, self.longest, self.wrong = (
+            threading.Event(),
+            0,
+            0,
+            0,
+            0,
+            0,
+            0.0,
+            [],
+        )
         self.start()
 
     def run(self):
@@ -343,7 +488,9 @@ class Writer(threading.Thread):
     def repay(self):
         self.sent, begun = self.acknowledged + 1, time.monotonic()
         try:
-            reply = self.caller.broker("POST", f"/books/{self.book}/pledges/{self.number}/repay", {"pence": 1, "seq": self.sent})
+            reply = self.caller.broker(
+                "POST", f"/books/{self.book}/pledges/{self.number}/repay", {"pence": 1, "seq": self.sent}
+            )
         except (OSError, Failed):
             self.cut += 1
             return self.settle(True)
@@ -366,7 +513,10 @@ class Writer(threading.Thread):
             if reply and status(reply) == 200:
                 stand = reply.body.count(b"\nEntry ")
                 if stand not in ((self.acknowledged, self.sent) if handed_on else (self.acknowledged,)):
-                    self.wrong.append(f"{stand} entries stand, {self.acknowledged} were acknowledged, and the next was{'' if handed_on else ' not'} handed on")
+                    self.wrong.append(
+                        f"{stand} entries stand, {self.acknowledged} were acknowledged, and the next "
+                        f"was{'' if handed_on else ' not'} handed on"
+                    )
                 self.acknowledged = stand
                 return
             self.ended.wait(0.05)
@@ -397,13 +547,20 @@ def long_book(size):
     def row(*columns):
         rows.append(",".join([*map(str, columns), *[""] * (15 - len(columns))]) + "\n")
         return len(rows[-1])
+
     length, number, seq = 0, 0, 9_900
     while length < size:
         if seq == 9_900:
             number, seq = number + 1, 0
-            length += row("P", number, f"A{number}", "Gold ring", "fixed", 1_000_000, day, "", "no", 1, "no", day, "open", "", "")
+            length += row(
+                "P", number, f"A{number}", "Gold ring", "fixed", 1_000_000, day, "", "no", 1, "no", day, "open", "", ""
+            )
             length += row("S", number, 1, day, "opening", f"33333333-4444-4444-4444-{number:012}")
         seq += 1
         length += row("E", number, seq, day, "repay", 1)
-    head = ["row," + ",".join(f"c{n}" for n in range(1, 15)) + "\n", f"B,2,1,{number}" + "," * 11 + "\n", "T,1,0,0,0" + "," * 10 + "\n"]
+    head = [
+        "row," + ",".join(f"c{n}" for n in range(1, 15)) + "\n",
+        f"B,2,1,{number}" + "," * 11 + "\n",
+        "T,1,0,0,0" + "," * 10 + "\n",
+    ]
     return "".join(head + rows)

@@ -26,17 +26,18 @@ def unpacked(room):
     """The folder of the release, unpacked."""
     with tarfile.open(os.path.join(TOP, "dist", f"{NAME}.tar.gz")) as it:
         expect("owners", {(one.uid, one.gid) for one in it.getmembers()}, {(0, 0)})
+        expect("what not everybody can read", [one.name for one in it.getmembers() if one.mode & 0o055 not in (0o055, 0o044) or one.mode & 0o022], [])
         it.extractall(room)
     return os.path.join(room, NAME)
 
 
 def a_release_is_packed():
-    made = subprocess.run(["make", "-s", "-C", TOP, "release"], capture_output=True, text=True, timeout=10_000)
+    made = subprocess.run(["make", "-s", "-C", TOP, "release"], capture_output=True, text=True, timeout=10_000, umask=0o077)
     if made.returncode:
         raise Failed(f"make release ended with {made.returncode}: {made.stdout[-300:]} {made.stderr[-300:]}")
     with tempfile.TemporaryDirectory() as room:
         top = unpacked(room)
-        for path in ("pawnd", "serve", "check", "README.md", "CHANGELOG.md", "settings.example", "deploy/shards", "deploy/nginx/pawnd/http.conf", "deploy/systemd/pawnd@.service", "docs/FILES.md", "docs/RULES.md", "docs/openapi.json", "examples/README.md"):
+        for path in ("pawnd", "serve", "check", "README.md", "CHANGELOG.md", "settings.example", "deploy/shards", "deploy/keeping/moves.py", "deploy/examples/site.conf", "deploy/nginx/pawnd/http.conf", "deploy/systemd/pawnd@.service", "docs/FILES.md", "docs/RULES.md", "docs/openapi.json", "examples/README.md"):
             expect(f"{path} is there", os.path.isfile(os.path.join(top, path)), True)
         sums = dict(reversed(line.split(maxsplit=1)) for line in text(os.path.join(top, "SHA256SUMS")).splitlines())
         found = {os.path.relpath(os.path.join(at, it), top) for at, _, files in os.walk(top) for it in files}

@@ -233,6 +233,26 @@ def a_service_that_is_stopped_goes_on():
         is_all_there(path, receipts)
 
 
+def a_connection_that_waited_is_closed():
+    """The connection that it was waiting on when it was stopped gets no reply, and what is sent there is not done."""
+    for wait in (0.5, 6):
+        with Server() as server:
+            receipts = make_books(server)
+            body = '{"pence":1,"seq":1}'
+            asked = request("POST", "/books/7/held/repay", f"Pledge-Receipt: {receipts[0]}", body=body)
+            with server.connect() as waiting:
+                time.sleep(0.3)
+                server.program.send_signal(signal.SIGSTOP)
+                stands_still(server.program)
+                time.sleep(wait)
+                waiting.sendall(asked)
+                server.program.send_signal(signal.SIGCONT)
+                expect("what it is told", read_all(waiting), b"")
+            session = server.session()
+            expect("entries", session.bearer(receipts[0], "GET", "/books/7/held")[1].count("\nEntry "), 0)
+            session.close()
+
+
 # ---- the clock
 
 
@@ -405,5 +425,5 @@ if refusing.library() is None:
     print("not tried: what the machine around the program does, since no C compiler is there\n0 passed, 0 failed")
     sys.exit(0)
 main(one_accept_that_fails_costs_nothing, accepts_that_all_fail_end_the_service, no_descriptor_is_left_for_a_connection, standard_streams_that_are_closed, output_that_nobody_reads,
-     signals_that_end_it_lose_nothing, signals_that_it_does_not_mind, a_service_that_is_stopped_goes_on, a_clock_that_jumps, a_limit_on_the_length_of_files, paths_that_are_no_plain_file, a_key_by_a_pipe,
+     signals_that_end_it_lose_nothing, signals_that_it_does_not_mind, a_service_that_is_stopped_goes_on, a_connection_that_waited_is_closed, a_clock_that_jumps, a_limit_on_the_length_of_files, paths_that_are_no_plain_file, a_key_by_a_pipe,
      a_file_with_a_second_name, folders_and_files_of_somebody_else, a_disk_that_can_only_be_read)
