@@ -172,9 +172,9 @@ RING = "2-00000002-0000-4000-8000-000000000000"
 def fill_with_all_sorts(pages):
     """A book with a pledge of each sort, long names and large sums; somebody asks to come."""
     fill_book(pages, book_text([
-        ("Clock", "D1", 9000, ago(400), ago(2), "yes"), (*LONG_NAMES, 9000, ago(3), "", "no"),
-        ("Lamp", "D5", 100000000, ago(400), ago(-30), "no"), ("Vase", "D7", 9000, ago(400), "", "no"),
-        ("Watch", "D8", 5000, ago(400), "", "no"),
+        ("Clock", "G1", 9000, ago(400), ago(2), "yes"), (*LONG_NAMES, 9000, ago(3), "", "no"),
+        ("Lamp", "G5", 100000000, ago(400), ago(-30), "no"), ("Vase", "G7", 9000, ago(400), "", "no"),
+        ("Watch", "G8", 5000, ago(400), "", "no"),
     ]))
     pages.session.bearer(RING, "POST", "/books/7/held/ask", {"day": str(ago(-3)), "window": 2})
 

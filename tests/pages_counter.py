@@ -283,10 +283,10 @@ def what_is_due():
     """In grace, within 7, 14 and 30 days whatever the month, to be sold, and passed; and the first day of a sale."""
     long_ago = ago(400)
     pledges = [
-        ("Clock", "D1", 9000, long_ago, ago(2), "yes"), ("Small clock", "D2", 5000, long_ago, ago(1), "yes"),
-        ("Ring", "D3", 9000, long_ago, ago(-7), "no"), ("Brooch", "D4", 9000, long_ago, ago(-8), "yes"),
-        ("Lamp", "D5", 9000, long_ago, ago(-30), "no"), ("Violin", "D6", 9000, long_ago, ago(-31), "no"),
-        ("Vase", "D7", 9000, long_ago, "", "no"), ("Watch", "D8", 5000, long_ago, "", "no"),
+        ("Clock", "G1", 9000, long_ago, ago(2), "yes"), ("Small clock", "G2", 5000, long_ago, ago(1), "yes"),
+        ("Ring", "G3", 9000, long_ago, ago(-7), "no"), ("Brooch", "G4", 9000, long_ago, ago(-8), "yes"),
+        ("Lamp", "G5", 9000, long_ago, ago(-30), "no"), ("Violin", "G6", 9000, long_ago, ago(-31), "no"),
+        ("Vase", "G7", 9000, long_ago, "", "no"), ("Watch", "G8", 5000, long_ago, "", "no"),
     ]
     with Pages() as pages:
         make_book(pages, terms=False)
@@ -307,9 +307,9 @@ def what_is_due():
                 ("Ends within 30 days, after those", 1), ("Can be sold now", 1), ("Passed to you", 1),
             ],
         )
-        expect("in grace", lists[0][1], f"1 Clock D1 £90.00 can be sold on {in_short(ago(-4))}")
+        expect("in grace", lists[0][1], f"1 Clock G1 £90.00 can be sold on {in_short(ago(-4))}")
         expect("with the day of the other", f"can be sold on {in_short(ago(-5))}" in lists[0][2], True)
-        find("D4")
+        find("G4")
         unfold("Sale")
         browser.says(
             f"It can be sold on {in_words(ago(-14))} first, if it is not redeemed or extended before.", "#commands",
@@ -385,12 +385,12 @@ def the_book_is_read_anew():
 def references_are_found():
     with Pages() as pages:
         make_book(pages)
-        for number, reference in enumerate(("A1", "X", "2", "T1 "), 1):
+        for number, reference in enumerate(("A1", "X", "2", "J1 "), 1):
             pages.session.open_pledge(number, ref=reference, article=f"Ring {number}")
         open_book(pages)
         find("t1")
         browser.says("Ring 4", "#statement")
-        find(" T1 ")
+        find(" J1 ")
         browser.says("Ring 4", "#statement")
         find("2")
         browser.says("More than one pledge can be meant.", "#finding")
@@ -507,7 +507,7 @@ def the_same_file_is_one_import():
         make_book(pages, terms=False)
         path = os.path.join(pages.room, "book.csv")
         with open(path, "w") as it:
-            it.write(book_text([("Ring", "R1", 9000, ago(3), "", "no")]))
+            it.write(book_text([("Ring", "J9", 9000, ago(3), "", "no")]))
         for _ in range(2):
             open_book(pages)
             part("files")

@@ -113,7 +113,7 @@ def all_else_goes_on_a4():
     with Pages() as pages:
         make_book(pages, terms=False)
         pledges = [
-            (f"Article {number}", f"R{number}", 9000 + number, ago(220), ago(-5) if number < 60 else "", "no")
+            (f"Article {number}", f"J{number}", 9000 + number, ago(220), ago(-5) if number < 60 else "", "no")
             for number in range(1, 121)
         ]
         fill_book(pages, book_text(pledges, rates=(0, 0, 0)))
@@ -127,7 +127,7 @@ def all_else_goes_on_a4():
         find("1")
         browser.says("The last 12 of 30", "#statement")
         is_printed(
-            "paper-statement", A4, "Article 1", "reference R1", f"owed on {in_short(today())}",
+            "paper-statement", A4, "Article 1", "reference J1", f"owed on {in_short(today())}",
             "High Street Pawnbrokers", "£1.01", "£1.30", "Payments and drawings",
             never=(*never, "The last 12", "owed today", "Find a pledge"),
         )
