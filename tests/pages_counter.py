@@ -388,7 +388,7 @@ def references_are_found():
         for number, reference in enumerate(("A1", "X", "2", "J1 "), 1):
             pages.session.open_pledge(number, ref=reference, article=f"Ring {number}")
         open_book(pages)
-        find("t1")
+        find("j1")
         browser.says("Ring 4", "#statement")
         find(" J1 ")
         browser.says("Ring 4", "#statement")
