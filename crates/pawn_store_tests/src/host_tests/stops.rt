@@ -22,7 +22,7 @@ struct Shown {
     other: Answer,
 }
 
-fn shown<K: Keep>(rt: &impl Abort, service: &mut Service<K>) -> Shown {
+fn show_all<K: Keep>(rt: &impl Abort, service: &mut Service<K>) -> Shown {
     let counts = check(&mut service.keep);
     let book = service.answer_one(&stamp(rt, 0), EXPORT);
     let other = service.answer_one(&stamp(rt, 0), EXPORT_OTHER);
@@ -43,10 +43,10 @@ fn are_same(one: &Shown, other: &Shown) -> bool {
 fn shown_after_each(rt: &impl Abort, alloc: Global) -> Result<Vec<Shown>, Fail> {
     let mut service = service_of(rt, alloc, ROWS);
     let mut all = Vec::new(alloc);
-    all.push(shown(rt, &mut service))?;
+    all.push(show_all(rt, &mut service))?;
     for turn in TURNS {
         service.answer_one(&stamp(rt, turn.word), turn.request);
-        all.push(shown(rt, &mut service))?;
+        all.push(show_all(rt, &mut service))?;
     }
     Ok(all)
 }
@@ -113,7 +113,7 @@ fn shown_over<S: Alter + Drop>(
 ) -> Option<Shown> {
     let keep = TableKeep::over(alloc, conn).ok()?;
     let mut service = service_over(rt, alloc, keep);
-    Some(shown(rt, &mut service))
+    Some(show_all(rt, &mut service))
 }
 
 // What is shown of the disks once they are opened again.
