@@ -40,7 +40,10 @@ pub fn disks(alloc: Global, failing: Failing, calls: u64) -> Disks {
 
 /// Whether both files would have answered one call more.
 pub fn go_on(disks: &mut Disks) -> bool {
-    if !disks.log.may_be_used() || !disks.db.may_be_used() {
+    if !disks.log.may_be_used() {
+        return false;
+    }
+    if !disks.db.may_be_used() {
         return false;
     }
     disks.log.len().is_ok() && disks.db.len().is_ok()
