@@ -3,10 +3,10 @@
 
 usage: bench/beside.py [--pledges N] PEER [PROGRAM]     (default: 10,000 pledges, build/pawnd)
 
-PEER is a program of the form `PEER answer DATABASE DAY SEED KEY` that keeps its books in tables of the same names and columns, but
-for those that it leaves out. Each makes its own tables, and Python's sqlite3 fills both with the same rows. The requests of a kind
-are a stream; its time is that of the whole process, that of a process without requests taken off, and the best of some runs in
-turns. Then come the slowest requests of the book in absolute words.
+PEER is a program of the form `PEER answer DATABASE DAY SEED KEY` that keeps its books in tables of the same names and
+columns, but for those that it leaves out. Each makes its own tables, and Python's sqlite3 fills both with the same
+rows. The requests of a kind are a stream; its time is that of the whole process, that of a process without requests
+taken off, and the best of some runs in turns. Then come the slowest requests of the book in absolute words.
 """
 import hashlib
 import os
@@ -41,29 +41,38 @@ def receipt(book, number):
     return f"{number}-{digits[:8]}-{digits[8:12]}-{digits[12:16]}-{digits[16:20]}-{digits[20:]}"
 
 
+def put(base, table, columns, rows):
+    """Puts rows into a table, if the program has it, and counts them."""
+    if not base.execute("SELECT 1 FROM sqlite_master WHERE name = ?", (table,)).fetchone():
+        return 0
+    marks = ", ".join("?" * len(columns.split()))
+    return base.executemany(f"INSERT INTO {table} ({', '.join(columns.split())}) VALUES ({marks})", rows).rowcount
+
+
 def fill(program, path):
-    """Book 1 of so many pledges, each with up to three entries and one in twenty with a booking; book 2 with a pledge of many
-    entries, and book 3 for openings."""
-    subprocess.run([program, "answer", path, DAY, SEED, OPERATOR], stdin=subprocess.DEVNULL, stdout=subprocess.DEVNULL, check=True)
+    """Book 1 of so many pledges, each with up to three entries and one in twenty with a booking; book 2 with a
+    pledge of many entries, and book 3 for openings."""
+    subprocess.run(
+        [program, "answer", path, DAY, SEED, OPERATOR], stdin=subprocess.DEVNULL, stdout=subprocess.DEVNULL, check=True,
+    )
     base, key = sqlite3.connect(path), bytes.fromhex(BROKER.replace("-", ""))
-    has = {name for name, in base.execute("SELECT name FROM sqlite_master")}
     every = [(1, number) for number in range(1, PLEDGES + 1)] + [(2, 1)]
     entries = {name: LONG if name == (2, 1) else name[1] % 4 for name in every}
-
-    def put(table, columns, rows):
-        if table not in has:
-            return 0
-        marks = ", ".join("?" * len(columns.split()))
-        return base.executemany(f"INSERT INTO {table} ({', '.join(columns.split())}) VALUES ({marks})", rows).rowcount
-
-    counted = put("books", "book book_key title capacity terms pledges", [(1, key, "High Street", 100, 1, PLEDGES), (2, key, "High Street", 100, 1, 1), (3, key, "High Street", 100, 1, 0)])
-    counted += put("terms", "book version rate keep_before keep_after", [(book, 1, 2667, 0, 0) for book in (1, 2, 3)])
-    counted += put("pledges", "book number ref article kind credit taken five version ends held last_day closed",
-                   [(*name, f"R{name[1]}", "Ring, 9 ct gold", 0, 900000, TODAY, 0, 1, ENDS, 0, TODAY, 0) for name in every])
-    counted += put("entries", "book number seq day sort pence", [(*name, seq, TODAY, 1, 100) for name in every for seq in range(1, entries[name] + 1)])
-    counted += put("secrets", "book number place day sort secret", [(*name, 1, TODAY, 0, word(*name)) for name in every])
-    counted += put("bookings", "book number day slot state", [(1, number, TODAY + 3 + number % 5, number % 16, 0) for number in range(7, PLEDGES + 1, 20)])
-    put("totals", "book number day principal charges", [(*name, TODAY, 900000 - 100 * entries[name], 0) for name in every])
+    columns = "book book_key title capacity terms pledges"
+    counted = put(base, "books", columns, [(n, key, "High Street", 100, 1, (PLEDGES, 1, 0)[n - 1]) for n in (1, 2, 3)])
+    columns = "book version rate keep_before keep_after"
+    counted += put(base, "terms", columns, [(book, 1, 2667, 0, 0) for book in (1, 2, 3)])
+    columns = "book number ref article kind credit taken five version ends held last_day closed"
+    rows = [(*name, f"R{name[1]}", "Ring, 9 ct gold", 0, 900000, TODAY, 0, 1, ENDS, 0, TODAY, 0) for name in every]
+    counted += put(base, "pledges", columns, rows)
+    rows = [(*name, seq, TODAY, 1, 100) for name in every for seq in range(1, entries[name] + 1)]
+    counted += put(base, "entries", "book number seq day sort pence", rows)
+    rows = [(*name, 1, TODAY, 0, word(*name)) for name in every]
+    counted += put(base, "secrets", "book number place day sort secret", rows)
+    rows = [(1, number, TODAY + 3 + number % 5, number % 16, 0) for number in range(7, PLEDGES + 1, 20)]
+    counted += put(base, "bookings", "book number day slot state", rows)
+    rows = [(*name, TODAY, 900000 - 100 * entries[name], 0) for name in every]
+    put(base, "totals", "book number day principal charges", rows)
     base.execute("UPDATE meta SET value = ? WHERE name = 'rows'", (counted,))
     base.commit()
     if base.execute("PRAGMA journal_mode").fetchone()[0] == "wal":
@@ -78,12 +87,23 @@ def streams():
     once = random.Random(2).sample(range(1, PLEDGES + 1), min(900, PLEDGES))
     opening = '{"article":"Ring, 9 ct gold","five_days":true,"kind":"fixed","pence":10000,"ref":"N%d"}'
     return [
-        ("a view", 2.0, [request("GET", "/books/1/held", f"Pledge-Receipt: {receipt(1, number)}") for number in numbers]),
-        ("a repayment", 1.7, [request("POST", f"/books/1/pledges/{number}/repay", key, body='{"pence":10,"seq":%d}' % (number % 4 + 1)) for number in once]),
-        ("an opening", 1.5, [request("POST", "/books/3/pledges", key, body=opening % at) for at in range(900)]),
-        (f"a statement of {LONG} entries", 3, [request("GET", "/books/2/pledges/1", key)] * 300),
-        ("a day's sheet", 30, [request("GET", f"/books/1/days/2024-02-{3 + at % 5:02}", key) for at in range(80)]),
-        ("an export", 8, [request("GET", "/books/1/export", key)] * 4),
+        (
+            "a view", 2.0,
+            [request("GET", "/books/1/held", f"Pledge-Receipt: {receipt(1, number)}") for number in numbers],
+        ),
+        (
+            "a repayment", 1.8,
+            [
+                request(
+                    "POST", f"/books/1/pledges/{number}/repay", key, body='{"pence":10,"seq":%d}' % (number % 4 + 1),
+                )
+                for number in once
+            ],
+        ),
+        ("an opening", 1.7, [request("POST", "/books/3/pledges", key, body=opening % at) for at in range(900)]),
+        (f"a statement of {LONG} entries", 2.5, [request("GET", "/books/2/pledges/1", key)] * 300),
+        ("a day's sheet", 3, [request("GET", f"/books/1/days/2024-02-{3 + at % 5:02}", key) for at in range(80)]),
+        ("an export", 9, [request("GET", "/books/1/export", key)] * 4),
     ]
 
 
@@ -94,7 +114,9 @@ def spent(program, path, asked):
         stream.write(b"".join(asked))
         stream.seek(0)
         before = resource.getrusage(resource.RUSAGE_CHILDREN)
-        ran = subprocess.run([program, "answer", scratch, DAY, SEED, OPERATOR], stdin=stream, stdout=subprocess.PIPE, check=True)
+        ran = subprocess.run(
+            [program, "answer", scratch, DAY, SEED, OPERATOR], stdin=stream, stdout=subprocess.PIPE, check=True,
+        )
         after = resource.getrusage(resource.RUSAGE_CHILDREN)
     return after.ru_utime + after.ru_stime - before.ru_utime - before.ru_stime, ran.stdout
 
@@ -122,7 +144,9 @@ def main():
                     best[at] = time if best[at] is None else min(best[at], time)
             each = [(best[at] - idle[at]) / len(asked) * 1e6 for at in range(len(paths))]
             alike = "" if said[0] == said[1] else "  OTHER BYTES"
-            print(f"{kind}: {each[0]:.0f}, beside {each[1]:.0f}: {each[0] / max(each[1], 0.1):.1f} times, the line is {line}{alike}", flush=True)
+            times = each[0] / max(each[1], 0.1)
+            told = f"{kind}: {each[0]:.0f}, beside {each[1]:.0f}: {times:.1f} times, the line is {line}{alike}"
+            print(told, flush=True)
 
 
 if __name__ == "__main__":

@@ -1,11 +1,13 @@
 #!/usr/bin/env python3
-"""Prints microseconds a request over connections of `pawnd serve :memory:`, beside the same bytes through `pawnd answer`.
+"""Prints microseconds a request over connections of `pawnd serve :memory:`, beside the same bytes through `pawnd
+answer`.
 
 usage: bench/connections.py [PROGRAM]     (default: build/pawnd)
 
-Openings and views of one book of 499 pledges, each request sent when the reply before it has come: over one connection, and over
-a connection for each. Beside them a bare round trip over the loopback, of as many bytes, by a thread that sends back what it
-reads. What a client in Python costs is in all of these, so the service's own part is what is above the round trip.
+Openings and views of one book of 499 pledges, each request sent when the reply before it has come: over one connection,
+and over a connection for each. Beside them a bare round trip over the loopback, of as many bytes, by a thread that
+sends back what it reads. What a client in Python costs is in all of these, so the service's own part is what is above
+the round trip.
 """
 import os
 import socket
@@ -79,7 +81,10 @@ def through_answer(name, asked, before):
         best = None
         for _ in range(9):
             begun = time.perf_counter()
-            subprocess.run([PROGRAM, "answer", ":memory:", "2024-01-31", SEED, OPERATOR], input=b"".join(stream), stdout=subprocess.PIPE, check=True)
+            subprocess.run(
+                [PROGRAM, "answer", ":memory:", "2024-01-31", SEED, OPERATOR], input=b"".join(stream),
+                stdout=subprocess.PIPE, check=True,
+            )
             spent = time.perf_counter() - begun
             best = spent if best is None else min(best, spent)
         return best
@@ -98,7 +103,10 @@ def main():
         timed("a bare round trip over one connection", over_one, port, OPENINGS)
         timed("a bare round trip over a connection for each", over_many, port, OPENINGS)
     through_answer("openings through `pawnd answer`", OPENINGS, START)
-    ran = subprocess.run([PROGRAM, "answer", ":memory:", "2024-01-31", SEED, OPERATOR], input=b"".join(START + OPENINGS), stdout=subprocess.PIPE, check=True)
+    ran = subprocess.run(
+        [PROGRAM, "answer", ":memory:", "2024-01-31", SEED, OPERATOR], input=b"".join(START + OPENINGS),
+        stdout=subprocess.PIPE, check=True,
+    )
     told = ran.stdout.split(b"HTTP/1.1 ")[3:]
     through_answer("views through `pawnd answer`", views(told), START + OPENINGS)
 

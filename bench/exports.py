@@ -1,6 +1,6 @@
 #!/usr/bin/env python3
-"""Prints what an export of a book of 10,000 pledges takes through `pawnd serve`, for each pledge, and how far it lifts the
-server's peak memory, beside the bytes of its text.
+"""Prints what an export of a book of 10,000 pledges takes through `pawnd serve`, for each pledge, and how far it lifts
+the server's peak memory, beside the bytes of its text.
 
 usage: bench/exports.py [PROGRAM]     (default: build/pawnd)
 """
@@ -39,7 +39,8 @@ def main():
             taken = time.perf_counter() - begun
             best = taken if best is None else min(best, taken)
             assert status == 200 and text.count("\nP,") == PLEDGES
-        print(f"an export of {PLEDGES} pledges: {best * 1e6 / PLEDGES:.1f} microseconds each, the client's reading included")
+        each = best * 1e6 / PLEDGES
+        print(f"an export of {PLEDGES} pledges: {each:.1f} microseconds each, the client's reading included")
         print(f"its text: {len(text) // 1024} KiB; peak memory before it: {before} KiB, after it: {peak(server)} KiB")
 
 

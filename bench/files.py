@@ -3,10 +3,11 @@
 
 usage: bench/files.py [--small] [PROGRAM]     (default: build/pawnd)
 
-The files are made by the program and filled by Python's sqlite3, row by row as the program would. A request's time is that from
-the first reply of a stream to the last, over a fresh copy of the file each time; the best of some runs. A repayment and a bare
-insert are measured in turns, since both wait for the disk, and the repayment once more over a file in memory, where nothing does.
-With `--small` there are fewer pledges and runs, to try the script with a program that was built without proofs.
+The files are made by the program and filled by Python's sqlite3, row by row as the program would. A request's time is
+that from the first reply of a stream to the last, over a fresh copy of the file each time; the best of some runs. A
+repayment and a bare insert are measured in turns, since both wait for the disk, and the repayment once more over a file
+in memory, where nothing does. With `--small` there are fewer pledges and runs, to try the script with a program that
+was built without proofs.
 """
 import os
 import random
@@ -56,7 +57,9 @@ def once(path, stream, wanted, place=None):
         asked.write(b"".join(stream))
         asked.seek(0)
         scratch = shutil.copy(path, folder)
-        ran = subprocess.Popen([PROGRAM, "answer", scratch, "2024-01-31", SEED, OPERATOR], stdin=asked, stdout=subprocess.PIPE)
+        ran = subprocess.Popen(
+            [PROGRAM, "answer", scratch, "2024-01-31", SEED, OPERATOR], stdin=asked, stdout=subprocess.PIPE,
+        )
         whole, spent = replies(ran)
         assert ran.wait() == 0 and whole.count(OK) == len(stream) and whole.count(wanted) >= len(stream), whole[-400:]
     return spent * 1e6
@@ -73,7 +76,10 @@ def bare(folder):
         base = sqlite3.connect(os.path.join(scratch, "bare.db"), isolation_level=None)
         base.execute("PRAGMA journal_mode = WAL")
         base.execute("PRAGMA synchronous = FULL")
-        base.execute("CREATE TABLE entries (book INTEGER, number INTEGER, seq INTEGER, day INTEGER, sort INTEGER, pence INTEGER, PRIMARY KEY (book, number, seq)) STRICT")
+        base.execute(
+            "CREATE TABLE entries (book INTEGER, number INTEGER, seq INTEGER, day INTEGER, sort INTEGER, "
+            "pence INTEGER, PRIMARY KEY (book, number, seq)) STRICT"
+        )
         begun = time.perf_counter()
         for seq in range(1000):
             base.execute("INSERT INTO entries VALUES (1, 1, ?, 1, 1, 1)", (seq,))
@@ -93,7 +99,9 @@ def view(name):
 
 
 def repayment(name, seq=1):
-    return request("POST", f"/books/{name[0]}/held/repay", f"Pledge-Receipt: {receipt(*name)}", body=f'{{"pence":1,"seq":{seq}}}')
+    return request(
+        "POST", f"/books/{name[0]}/held/repay", f"Pledge-Receipt: {receipt(*name)}", body=f'{{"pence":1,"seq":{seq}}}',
+    )
 
 
 def opening(number):
@@ -116,22 +124,33 @@ def chosen_among(books):
 
 
 def among_others(folder):
-    """Requests about books of 1,000 pledges, in files of 1, 10 and 100 such books: what grows down a column grows with other books."""
-    print(f"{f'microseconds a request, books of {EACH} pledges':46}" + "".join(f"{name:>12}" for name in ("view", "repayment", "bare insert", "opening", "day sheet", "export")))
+    """Requests about books of 1,000 pledges, in files of 1, 10 and 100 such books: what grows down a column grows
+    with other books."""
+    print(
+        f"{f'microseconds a request, books of {EACH} pledges':46}" + "".join(
+            f"{name:>12}" for name in ("view", "repayment", "bare insert", "opening", "day sheet", "export")
+        )
+    )
     for books in (1, 10, 100):
         path = os.path.join(folder, f"{books}.db")
         fill(path, books, EACH)
         chosen = chosen_among(books)
-        numbers = (each(path, [view(name) for name in chosen], b"Status inside"), *beside_bare(path, [repayment(name) for name in chosen], b'"sort"'),
-                   each(path, [opening(number) for number in range(ASKED)], b'"receipt"'),
-                   each(path, [broker("days/2024-07-31")] * 3, b"Ends "), each(path, [broker("export")] * 3, b"\nP,"))
+        numbers = (
+            each(path, [view(name) for name in chosen], b"Status inside"),
+            *beside_bare(path, [repayment(name) for name in chosen], b'"sort"'),
+            each(path, [opening(number) for number in range(ASKED)], b'"receipt"'),
+            each(path, [broker("days/2024-07-31")] * 3, b"Ends "), each(path, [broker("export")] * 3, b"\nP,"),
+        )
         line(f"{books} of them, {books * EACH} pledges", *numbers)
 
 
 def in_memory(folder):
     """The same repayments over a file in memory: what the program takes itself."""
     path, stream = os.path.join(folder, "10.db"), [repayment(name) for name in chosen_among(10)]
-    line("a repayment among 10 of them, without a disk", min(once(path, stream, b'"sort"', "/dev/shm") for _ in range(TURNS)))
+    line(
+        "a repayment among 10 of them, without a disk",
+        min(once(path, stream, b'"sort"', "/dev/shm") for _ in range(TURNS)),
+    )
 
 
 def one_list(folder):
@@ -139,7 +158,10 @@ def one_list(folder):
     fill(path, 1, EACH, entries=1, long=LONG - 1)
     few, few_repaid = [(1, number) for number in range(2, EACH + 1)][:ASKED], min(ASKED, 200)
     print(f"{'microseconds a request, by entries of a pledge':46}{1:>12}{LONG:>12}")
-    line("view by receipt", each(path, [view(name) for name in few], b"Entry 1"), each(path, [view((1, 1))] * few_repaid, f"Entry {LONG}".encode()))
+    line(
+        "view by receipt", each(path, [view(name) for name in few], b"Entry 1"),
+        each(path, [view((1, 1))] * few_repaid, f"Entry {LONG}".encode()),
+    )
     line("repayment", each(path, [repayment(name, 2) for name in few], b'"sort"'),
          each(path, [repayment((1, 1), LONG + n) for n in range(1, few_repaid + 1)], b'"sort"'))
 
@@ -160,7 +182,9 @@ def opens(folder):
         best, peak = None, 0
         for _ in range(RUNS):
             begun = time.perf_counter()
-            server = subprocess.Popen([PROGRAM, "serve", path, str(port), OPERATOR], stdin=subprocess.DEVNULL, stdout=subprocess.PIPE)
+            server = subprocess.Popen(
+                [PROGRAM, "serve", path, str(port), OPERATOR], stdin=subprocess.DEVNULL, stdout=subprocess.PIPE,
+            )
             server.stdout.readline()
             spent = time.perf_counter() - begun
             best = spent if best is None else min(best, spent)
@@ -169,7 +193,8 @@ def opens(folder):
             server.kill()
             server.communicate()
         size = os.path.getsize(path) // 1024 if books else 0
-        print(f"{'in memory, empty' if not books else 'a file':46}{books * EACH:>12}{best * 1e3:>14.1f}{size:>13}{peak:>10}", flush=True)
+        name = "a file" if books else "in memory, empty"
+        print(f"{name:46}{books * EACH:>12}{best * 1e3:>14.1f}{size:>13}{peak:>10}", flush=True)
     judged = time.perf_counter()
     subprocess.run([PROGRAM, "check", os.path.join(folder, "100.db")], stdout=subprocess.DEVNULL, check=True)
     line(f"`check` of {100 * EACH} pledges, milliseconds", (time.perf_counter() - judged) * 1e3)
@@ -185,6 +210,8 @@ def moves(folder):
         for schema, times in spent.items():
             old = shutil.copy(path, os.path.join(folder, "moved.db"))
             base = sqlite3.connect(old)
+            for index in ("bookings_by_time", "pledges_by_end"):
+                base.execute(f"DROP INDEX IF EXISTS {index}")
             for table in ("extensions", "totals")[:3 - schema]:
                 base.execute(f"DROP TABLE {table}")
             base.execute("UPDATE meta SET value = ? WHERE name = 'schema'", (schema,))

@@ -1,12 +1,16 @@
 #!/usr/bin/env python3
-"""Prints views and repayments a second for one, two and three shards: asked directly, and over TLS through nginx by the files of deploy/nginx.
+"""Prints views and repayments a second for one, two and three shards: asked directly, and over TLS through nginx by the
+files of deploy/nginx.
 
 usage: bench/proxy.py [PROGRAM [RUNS]]     (default: build/pawnd, and the best of 5 runs of a second for each figure)
 
-Directly a shard has one client, since it answers one connection after the other: on one connection that is kept for 1,000 requests, and on a connection for each request. Through nginx
-there are one client or six, each a process with a connection of its own that is kept; nginx asks the shard on a connection for each. The limits on how often an address may ask are
-lifted. The stores are files, in /dev/shm where nothing is said and in the folder TMPDIR where one is named, so repayments wait for a disk there. All of it shares this machine's
-processors, so what the clients take is missing from the others. The time of a processor that a request takes, in the shard and in nginx, says what is left without them.
+Directly a shard has one client, since it answers one connection after the other: on one connection that is kept for
+1,000 requests, and on a connection for each request. Through nginx there are one client or six, each a process with a
+connection of its own that is kept; nginx asks the shard on a connection for each. The limits on how often an address
+may ask are lifted. The stores are files, in /dev/shm where nothing is said and in the folder TMPDIR where one is named,
+so repayments wait for a disk there. All of it shares this machine's processors, so what the clients take is missing
+from the others. The time of a processor that a request takes, in the shard and in nginx, says what is left without
+them.
 """
 import multiprocessing
 import os
@@ -42,7 +46,8 @@ def once(connection, sent):
 
 
 def client(connect, asked, most, turns, told):
-    """Asks in turns, with a new connection after so many requests, and tells of each turn how often and how long it took."""
+    """Asks in turns, with a new connection after so many requests, and tells of each turn how often and how long it
+    took."""
     connection, carried = connect(), 0
     for turn in range(RUNS):
         turns.wait()
@@ -74,7 +79,8 @@ def workers(hosted):
 
 
 def measure(hosted, name, clients):
-    """Runs these clients at once, each a way to connect, its requests, and how many a connection carries; prints the best turn, and what processors a request took in all."""
+    """Runs these clients at once, each a way to connect, its requests, and how many a connection carries; prints the
+    best turn, and what processors a request took in all."""
     shards, proxy = [shard.program.pid for shard in hosted.shards], workers(hosted)
     before = used(shards), used(proxy)
     turns, told = FORK.Barrier(len(clients)), FORK.Queue()
@@ -84,9 +90,19 @@ def measure(hosted, name, clients):
     found = [told.get(timeout=RUNS * SECONDS + 60) for _ in range(RUNS * len(processes))]
     for process in processes:
         process.join()
-    done, median, late = max((sum(it[1] for it in found if it[0] == turn), max(it[2] for it in found if it[0] == turn), max(it[3] for it in found if it[0] == turn)) for turn in range(RUNS))
+    done, median, late = max(
+        (
+            sum(it[1] for it in found if it[0] == turn), max(it[2] for it in found if it[0] == turn),
+            max(it[3] for it in found if it[0] == turn),
+        )
+        for turn in range(RUNS)
+    )
     each = [(after - at) / sum(it[1] for it in found) * 1e6 for after, at in zip((used(shards), used(proxy)), before)]
-    print(f"{name:55}{done / SECONDS:8.0f} a second{median * 1e3:9.2f} ms median{late * 1e3:8.2f} ms for 99 of 100; microseconds of a processor: {each[0]:.0f} the shard, {each[1]:.0f} nginx", flush=True)
+    print(
+        f"{name:55}{done / SECONDS:8.0f} a second{median * 1e3:9.2f} ms median{late * 1e3:8.2f} ms for 99 of 100; "
+        f"microseconds of a processor: {each[0]:.0f} the shard, {each[1]:.0f} nginx",
+        flush=True,
+    )
 
 
 def views(book, receipts):
@@ -100,7 +116,10 @@ def repayments(book, receipts):
     while True:
         receipt = receipts.pop()
         for seq in range(1, 9_001):
-            yield request("POST", f"/books/{book}/held/repay", f"Host: {NAME}", f"Pledge-Receipt: {receipt}", body=f'{{"pence":1,"seq":{seq}}}')
+            yield request(
+                "POST", f"/books/{book}/held/repay", f"Host: {NAME}", f"Pledge-Receipt: {receipt}",
+                body=f'{{"pence":1,"seq":{seq}}}',
+            )
 
 
 def closing(asked):
@@ -124,10 +143,19 @@ def bench(shards):
         for what, asks in (("views", views), ("repayments", repayments)):
             def of(book):
                 return asks(book, [receipts[book].pop() for _ in range(2)] if asks is repayments else receipts[book])
-            measure(it, f"{what}, {many}, directly, connections kept", [(directly(it.shard_of(book).port), of(book), 1000) for book in books])
-            measure(it, f"{what}, {many}, directly, a connection each", [(directly(it.shard_of(book).port), closing(of(book)), 1) for book in books])
+            measure(
+                it, f"{what}, {many}, directly, connections kept",
+                [(directly(it.shard_of(book).port), of(book), 1000) for book in books],
+            )
+            measure(
+                it, f"{what}, {many}, directly, a connection each",
+                [(directly(it.shard_of(book).port), closing(of(book)), 1) for book in books],
+            )
             for clients in (1, 6) if shards == 1 else (6,):
-                measure(it, f"{what}, {many}, through nginx, {clients} client{'s' * (clients > 1)}", [(it.caller().connect, of(list(books)[number % shards]), 1000) for number in range(clients)])
+                measure(
+                    it, f"{what}, {many}, through nginx, {clients} client{'s' * (clients > 1)}",
+                    [(it.caller().connect, of(list(books)[number % shards]), 1000) for number in range(clients)],
+                )
 
 
 def main():

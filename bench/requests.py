@@ -28,8 +28,12 @@ RUNS = 9
 
 
 def start():
-    yield request("POST", "/books/7", f"Pledge-Key: {OPERATOR}", body=f'{{"capacity":2,"key":"{BROKER}","name":"High Street"}}')
-    yield request("POST", "/books/7/terms", f"Pledge-Key: {BROKER}", body='{"keep_after":0,"keep_before":0,"rate":0,"version":1}')
+    yield request(
+        "POST", "/books/7", f"Pledge-Key: {OPERATOR}", body=f'{{"capacity":2,"key":"{BROKER}","name":"High Street"}}',
+    )
+    yield request(
+        "POST", "/books/7/terms", f"Pledge-Key: {BROKER}", body='{"keep_after":0,"keep_before":0,"rate":0,"version":1}',
+    )
 
 
 def opening(n):
@@ -50,7 +54,10 @@ def export():
 
 
 def fill(book, rows):
-    yield request("POST", f"/books/{book}", f"Pledge-Key: {OPERATOR}", body=f'{{"capacity":2,"key":"{BROKER}","name":"High Street"}}')
+    yield request(
+        "POST", f"/books/{book}", f"Pledge-Key: {OPERATOR}",
+        body=f'{{"capacity":2,"key":"{BROKER}","name":"High Street"}}',
+    )
     yield request("POST", f"/books/{book}/import", f"Pledge-Key: {BROKER}", f"Import-Key: {BROKER}", body=rows)
 
 
@@ -92,7 +99,9 @@ def main():
     print(f"start, a book and its terms: {nothing * 1e3:.1f} ms")
     line("openings, start included", 998, openings)
     line("views in a book of 499 pledges", 499, viewed - half_time)
-    for name, day, ending in (("sheets of a day without any", "2024-03-04", 0), ("sheets of a day with all 499", "2024-07-31", 499)):
+    for name, day, ending in (
+        ("sheets of a day without any", "2024-03-04", 0), ("sheets of a day with all 499", "2024-07-31", 499),
+    ):
         told, sheets = answer(program, half + sheet(day) * 499)
         assert told.count(f"Ends {ending}\n".encode()) == 499
         line(name, 499, sheets - half_time)

@@ -8,7 +8,8 @@
 set -euo pipefail
 . "$(dirname "$0")/client.sh"
 usage="usage: broker_day.sh URL BOOK KEY [LOST]"
-URL=${1:-${PLEDGE_URL:?$usage}} BOOK=${2:-${PLEDGE_BOOK:?$usage}} HEADER="Pledge-Key: ${3:-${PLEDGE_KEY:?$usage}}" LOST=${4:-}
+URL=${1:-${PLEDGE_URL:?$usage}} BOOK=${2:-${PLEDGE_BOOK:?$usage}}
+HEADER="Pledge-Key: ${3:-${PLEDGE_KEY:?$usage}}" LOST=${4:-}
 today=$(date -u +%F) tomorrow=$(date -u -d tomorrow +%F)
 
 # The first terms, which may stand already: with the same numbers they are answered again.

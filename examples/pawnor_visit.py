@@ -4,7 +4,8 @@ rest.
 
 usage: pawnor_visit.py URL BOOK RECEIPT      or the variables PLEDGE_URL, PLEDGE_BOOK and PLEDGE_RECEIPT
 
-Who has the receipt has the article, so better say it by the environment: a command line is seen by others of the machine.
+Who has the receipt has the article, so better say it by the environment: a command line is seen by others of the
+machine.
 """
 import datetime
 import sys

@@ -9,7 +9,8 @@
 set -euo pipefail
 . "$(dirname "$0")/client.sh"
 usage="usage: pawnor_visit.sh URL BOOK RECEIPT"
-URL=${1:-${PLEDGE_URL:?$usage}} BOOK=${2:-${PLEDGE_BOOK:?$usage}} HEADER="Pledge-Receipt: ${3:-${PLEDGE_RECEIPT:?$usage}}"
+URL=${1:-${PLEDGE_URL:?$usage}} BOOK=${2:-${PLEDGE_BOOK:?$usage}}
+HEADER="Pledge-Receipt: ${3:-${PLEDGE_RECEIPT:?$usage}}"
 tomorrow=$(date -u -d tomorrow +%F)
 
 if ! ask GET /held; then

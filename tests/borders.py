@@ -1,14 +1,13 @@
 #!/usr/bin/env python3
-"""Which rows make a book: each border met from both sides. A book of three pledges is bent at one place so that its rows can have come about, and imported; bent a
-unit further it is refused. Over a file and in memory."""
+"""Which rows make a book: each border met from both sides. A book of three pledges is bent at one place so that its
+rows can have come about, and imported; bent a unit further it is refused. Over a file and in memory."""
 import json
 import os
 import subprocess
 import tempfile
 
-from service import BROKER, OPERATOR, PROGRAM, SEED, check, expect, main, request
+from service import BROKER, COLUMNS, OPERATOR, PROGRAM, SEED, check, expect, main, request
 
-HEADER = "row," + ",".join(f"c{n}" for n in range(1, 15))
 IMPORT = "44444444-4444-4444-4444-444444444444"
 TERMS = [(0, 0, 0), (0, 1, 1), (20_000, 10_000_000, 10_000_000)]
 
@@ -21,20 +20,31 @@ def day(text):
 
 def pledge(number, **own):
     """A pledge of 100 pounds, taken on 1 February under version 2, to which nothing happened but this."""
-    plain = {"number": number, "ref": f"A{number}", "kind": "fixed", "sum": 10_000, "five": "no", "version": 2, "held": "no", "last": "2-1",
-             "closed": "open", "closed_on": "", "amount": "", "secrets": [("2-1", "opening", 1)], "entries": [], "extensions": [], "booking": None}
+    plain = {
+        "number": number, "ref": f"A{number}", "kind": "fixed", "sum": 10_000, "five": "no", "version": 2, "held": "no",
+        "last": "2-1", "closed": "open", "closed_on": "", "amount": "", "secrets": [("2-1", "opening", 1)],
+        "entries": [], "extensions": [], "booking": None,
+    }
     return {**plain, **own}
 
 
 def book():
-    """Pledge 1 with three secrets, two repayments, a longer period and a confirmed booking; pledge 2, a running account of 75 pounds that was redeemed on
-    the last day with 25 that were owing; pledge 3, sold on the day after its period for a million."""
-    return {1: pledge(1, version=1, secrets=[("2-1", "opening", 1), ("3-1", "sworn", 2), ("3-1", "sworn", 3)],
-                      entries=[(1, "2-1", "repay", 1000), (2, "2-2", "repay", 500)], extensions=[("7-31", "9-30")],
-                      booking=("8-10", 3, "confirmed"), last="8-5"),
-            2: pledge(2, version=1, kind="running", sum=7500, secrets=[("2-1", "opening", 1), ("3-1", "written", 2)],
-                      entries=[(1, "2-1", "draw", 2000), (2, "4-1", "draw", 500)], booking=("8-1", 15, "cancelled"), **redeemed("8-1", 2500)),
-            3: pledge(3, **sold("8-2", 100_000_000))}
+    """Pledge 1 with three secrets, two repayments, a longer period and a confirmed booking; pledge 2, a running
+    account of 75 pounds that was redeemed on the last day with 25 that were owing; pledge 3, sold on the day after
+    its period for a million."""
+    return {
+        1: pledge(
+            1, version=1, secrets=[("2-1", "opening", 1), ("3-1", "sworn", 2), ("3-1", "sworn", 3)],
+            entries=[(1, "2-1", "repay", 1000), (2, "2-2", "repay", 500)], extensions=[("7-31", "9-30")],
+            booking=("8-10", 3, "confirmed"), last="8-5",
+        ),
+        2: pledge(
+            2, version=1, kind="running", sum=7500, secrets=[("2-1", "opening", 1), ("3-1", "written", 2)],
+            entries=[(1, "2-1", "draw", 2000), (2, "4-1", "draw", 500)], booking=("8-1", 15, "cancelled"),
+            **redeemed("8-1", 2500),
+        ),
+        3: pledge(3, **sold("8-2", 100_000_000)),
+    }
 
 
 def redeemed(on, paid, last=None):
@@ -57,7 +67,10 @@ def rows_of(it):
     """The rows of a pledge."""
     n = it["number"]
     closed_on = day(it["closed_on"]) if it["closed_on"] else ""
-    yield row("P", n, it["ref"], "Gold ring", it["kind"], it["sum"], day("2-1"), "", it["five"], it["version"], it["held"], day(it["last"]), it["closed"], closed_on, it["amount"])
+    yield row(
+        "P", n, it["ref"], "Gold ring", it["kind"], it["sum"], day("2-1"), "", it["five"], it["version"], it["held"],
+        day(it["last"]), it["closed"], closed_on, it["amount"],
+    )
     for place, (on, sort, secret) in enumerate(it["secrets"], 1):
         yield row("S", n, place, day(on), sort, f"00000000-0000-0000-0000-{secret:012}")
     for seq, on, sort, pence in it["entries"]:
@@ -70,12 +83,16 @@ def rows_of(it):
 
 
 def text(pledges, terms=TERMS):
-    lines = [HEADER + "\n", row("B", 2, len(terms), len(pledges)), *(row("T", version, *it) for version, it in enumerate(terms, 1))]
+    lines = [
+        COLUMNS + "\n", row("B", 2, len(terms), len(pledges)),
+        *(row("T", version, *it) for version, it in enumerate(terms, 1)),
+    ]
     return "".join([*lines, *(line for it in pledges.values() for line in rows_of(it))])
 
 
 def bent(number, *bends):
-    """The book with pledge NUMBER bent: each bend is members in place of its own, or a member and what stands at a place of it or behind its last."""
+    """The book with pledge NUMBER bent: each bend is members in place of its own, or a member and what stands at a
+    place of it or behind its last."""
     pledges = book()
     for bend in bends:
         for member, value in bend.items():
@@ -133,8 +150,14 @@ BORDERS = [
     ("days of entries don't fall", 1, [], entry(0, 1, "2-2", "repay", 1), entry(0, 1, "2-3", "repay", 1)),
     ("no entry before the day taken", 1, [], entry(0, 1, "2-1", "repay", 1), entry(0, 1, "1-31", "repay", 1)),
     ("no entry after the last change", 1, [], entry(1, 2, "8-5", "repay", 1), entry(1, 2, "8-6", "repay", 1)),
-    ("no drawing above the limit", 2, [still_open("8-1")], entry(1, 2, "8-1", "draw", 5500), entry(1, 2, "8-1", "draw", 5501)),
-    ("no drawing after the end", 3, [still_open("8-2"), RUNNING], entry(0, 1, "8-1", "draw", 1), entry(0, 1, "8-2", "draw", 1)),
+    (
+        "no drawing above the limit", 2, [still_open("8-1")], entry(1, 2, "8-1", "draw", 5500),
+        entry(1, 2, "8-1", "draw", 5501),
+    ),
+    (
+        "no drawing after the end", 3, [still_open("8-2"), RUNNING], entry(0, 1, "8-1", "draw", 1),
+        entry(0, 1, "8-2", "draw", 1),
+    ),
     ("redeemed with no less than is owing", 2, [], redeemed("8-1", 2500), redeemed("8-1", 2499)),
     ("redeemed with no more than is owing", 2, [], redeemed("8-1", 2500), redeemed("8-1", 2501)),
     ("redeemed on the day of the last change", 2, [], redeemed("8-1", 2500), redeemed("7-31", 2500, last="8-1")),
@@ -150,7 +173,10 @@ BORDERS = [
     ("an open pledge has no amount", 3, [], still_open("8-2"), {**still_open("8-2"), "amount": 1}),
     ("no booking before the day taken", 1, [], booking("2-1", 0, "confirmed"), booking("1-31", 0, "confirmed")),
     ("sixteen windows", 1, [], booking("2-1", 15, "confirmed"), booking("2-1", 16, "confirmed")),
-    ("no booking for a day on which the property passed", 2, [], booking("8-1", 0, "refused"), booking("8-2", 0, "refused")),
+    (
+        "no booking for a day on which the property passed", 2, [], booking("8-1", 0, "refused"),
+        booking("8-2", 0, "refused"),
+    ),
     ("nobody is to come for what was closed", 2, [], booking("8-1", 0, "refused"), booking("8-1", 0, "asked")),
     ("nor is confirmed", 2, [], booking("8-1", 0, "refused"), booking("8-1", 0, "confirmed")),
     ("no extension before the day taken", 1, [], extension(0, "2-1", "9-30"), extension(0, "1-31", "9-30")),
@@ -201,7 +227,10 @@ def importing(number, rows):
 
 
 def told(database, stream, wanted):
-    ran = subprocess.run([PROGRAM, "answer", database, "2024-12-31", SEED, OPERATOR], input=b"".join(stream), capture_output=True, timeout=120)
+    ran = subprocess.run(
+        [PROGRAM, "answer", database, "2024-12-31", SEED, OPERATOR], input=b"".join(stream), capture_output=True,
+        timeout=120,
+    )
     expect("how it ended", (ran.returncode, ran.stderr), (0, b""))
     bodies = [it.split(b"HTTP/1.1 ")[0].decode() for it in ran.stdout.split(b"\r\n\r\n")[1:]]
     for (step, want), said in zip(wanted, bodies, strict=True):
@@ -217,7 +246,10 @@ def each_border(database):
     stream, wanted = [], []
     for number, (step, kept, beyond) in enumerate(pairs(), 1):
         stream += [making(number), importing(number, beyond), importing(number, kept)]
-        wanted += [(step, f'{{"book":{number}}}'), (f"{step}: beyond", refusal(605, "NotReplayable", beyond.count("\n") + 1)), (f"{step}: kept", '{"imported":3}')]
+        wanted += [
+            (step, f'{{"book":{number}}}'), (f"{step}: beyond", refusal(605, "NotReplayable", beyond.count("\n") + 1)),
+            (f"{step}: kept", '{"imported":3}'),
+        ]
     for step, rows, (code, name, line) in others():
         stream.append(importing(1, rows))
         wanted.append((step, refusal(code, name, rows[:rows.index(line) + 1].count("\n") + 1)))
@@ -233,7 +265,10 @@ def over_a_file():
         path = os.path.join(room, "books")
         each_border(path)
         status, said, _ = check(path)
-        expect("its check", (status, said.split()[:4]), (0, ["books", str(len(list(pairs()))), "pledges", str(3 * len(list(pairs())))]))
+        expect(
+            "its check", (status, said.split()[:4]),
+            (0, ["books", str(len(list(pairs()))), "pledges", str(3 * len(list(pairs())))]),
+        )
 
 
 def more_bookings_than_a_window_confirms():
@@ -241,7 +276,10 @@ def more_bookings_than_a_window_confirms():
     two = bent(3, still_open("8-2"), booking("8-10", 3, "confirmed"))
     sheet = request("GET", "/books/7/days/2024-08-10", f"Pledge-Key: {BROKER}")
     shown = "Day sheet 2024-08-10\nWindow 3 confirmed 2 of 1\nPledge 1\nPledge 3\nAsked 0\nEnds 0\n"
-    told(":memory:", [making(7), importing(7, two), sheet], [("a book", '{"book":7}'), ("its rows", '{"imported":3}'), ("a sheet", shown)])
+    told(
+        ":memory:", [making(7), importing(7, two), sheet],
+        [("a book", '{"book":7}'), ("its rows", '{"imported":3}'), ("a sheet", shown)],
+    )
 
 
 main(in_memory, over_a_file, more_bookings_than_a_window_confirms)

@@ -151,7 +151,9 @@ def it_ends_when_it_is_asked_to():
         expect("its status", server.program.wait(timeout=10), -signal.SIGTERM)
 
 
-main(many_requests_on_one_connection, a_thousand_requests_and_no_more, a_request_cut_in_two_by_a_pause, a_peer_that_says_nothing,
-     a_peer_that_stops_in_the_middle_of_a_request, a_peer_that_never_reads_its_replies, a_peer_that_resets, a_peer_that_asks_to_be_closed,
-     a_peer_of_the_older_version, a_peer_that_speaks_something_else, three_hundred_connections, what_one_connection_did_the_next_one_sees,
-     it_ends_when_it_is_asked_to)
+main(
+    many_requests_on_one_connection, a_thousand_requests_and_no_more, a_request_cut_in_two_by_a_pause,
+    a_peer_that_says_nothing, a_peer_that_stops_in_the_middle_of_a_request, a_peer_that_never_reads_its_replies,
+    a_peer_that_resets, a_peer_that_asks_to_be_closed, a_peer_of_the_older_version, a_peer_that_speaks_something_else,
+    three_hundred_connections, what_one_connection_did_the_next_one_sees, it_ends_when_it_is_asked_to,
+)

@@ -7,6 +7,7 @@ import random
 import re
 import shutil
 import signal
+import socket
 import subprocess
 import sys
 import tempfile
@@ -14,7 +15,7 @@ import threading
 import time
 
 from browser import PATHS, missing, provide, wait_for
-from hosting import MEMORY, PACKAGES, TOP, Shard, run_shards
+from hosting import MEMORY, PACKAGES, TOP, Shard, run_shards, steady_port
 from service import OPERATOR, PROGRAM, check, expect, main
 
 # The calls by which a command changes what another can see.
@@ -22,6 +23,7 @@ CALLS = (
     "mkdir",
     "rename",
     "link",
+    "symlink",
     "unlink",
     "unlinkat",
     "rmdir",
@@ -37,6 +39,7 @@ CALLS = (
 # Those that leave no other files than the call before them.
 QUIET = ("flock", "connect", "chown", "fchmod", "rmdir", "unlink", "unlinkat", "kill")
 CHANCE = random.Random(48)
+NEEDED = {**PACKAGES, "strace": "strace", "age": "age", "rsync": "rsync"}
 
 
 def not_tried(what, why):
@@ -298,7 +301,7 @@ class Repayer(threading.Thread):
                 self.done += 1
 
 
-def two_at_once(first, second):
+def two_at_once(first, second, **environment):
     """Both commands, begun together: how they ended, and what they said."""
     begun = [
         subprocess.Popen(
@@ -307,7 +310,7 @@ def two_at_once(first, second):
             stdout=subprocess.PIPE,
             stderr=subprocess.STDOUT,
             text=True,
-            env={**os.environ, "PATH": PATHS, "PAWND": PROGRAM},
+            env={**os.environ, "PATH": PATHS, "PAWND": PROGRAM, **environment},
         )
         for words in (first, second)
     ]
@@ -384,7 +387,9 @@ def the_steps_of_a_unit_are_cut_off():
             expect(f"what is there after {step}", it.found()[1], OLD)
             run_shards("fold", it.shard.path)
             expect(
-                f"folded, after {step}", (os.path.exists(it.shard.path + "-wal"), check(it.shard.path)[1]), (False, OLD)
+                f"folded, after {step}",
+                (os.path.exists(it.shard.path + "-wal"), check(it.shard.path)[1]),
+                (False, OLD),
             )
 
         def dropped_again(step):
@@ -409,6 +414,165 @@ def the_steps_of_a_unit_are_cut_off():
         print(f"        {count} kills", flush=True)
 
 
+# ---- what is sent, tried and compared
+
+
+class Sending(Stores):
+    """The same with settings and a key for copies, and a folder in the second machine's place."""
+
+    def __enter__(self):
+        super().__enter__()
+        self.settings, self.target = os.path.join(self.room, "settings"), os.path.join(self.room, "received")
+        self.private, self.bin = os.path.join(self.room, "copies.key"), os.path.join(self.room, "bin")
+        for folder in (self.settings, self.target, self.bin):
+            os.mkdir(folder)
+        subprocess.run(["age-keygen", "-o", self.private], check=True, capture_output=True, timeout=30)
+        told = subprocess.run(["age-keygen", "-y", self.private], check=True, capture_output=True, timeout=30)
+        with open(os.path.join(self.settings, "recipients"), "wb") as it:
+            it.write(told.stdout)
+        run_shards("backup", self.shard.path, self.copies)
+        self.environment = {"SETTINGS": self.settings, "COPIES": self.copies}
+        self.sent = os.path.join(self.room, "sent/copies")
+        return self
+
+    def slowly(self):
+        """What packs and sends takes a while from now on."""
+        for name in ("age", "rsync"):
+            path = os.path.join(self.bin, name)
+            with open(path, "w") as it:
+                it.write(f'#!/bin/bash\nsleep 0.2\n{shutil.which(name)} "$@" | (head -c 200; sleep 0.7; exec cat)\n')
+            os.chmod(path, 0o755)
+        return {**self.environment, "PATH": f"{self.bin}:{PATHS}"}
+
+    def words(self):
+        return "send", self.copies, self.target
+
+    def forget(self):
+        for folder in (self.sent, self.target):
+            shutil.rmtree(folder, ignore_errors=True)
+        os.mkdir(self.target)
+
+    def judge(self, step):
+        """What stands at the other machine is whole, and the same again brings all there."""
+        for name in os.listdir(self.target):
+            expect(f"{name} after {step}", name.startswith(".") or self.opens(name), True)
+        run_shards(*self.words(), **self.environment)
+        there = sorted(os.listdir(self.target))
+        wanted = sorted([*(name + ".tar.age" for name in os.listdir(self.copies)), "settings.tar.age"])
+        expect(f"what is there, once more after {step}", there, wanted)
+        expect(f"what is beside it after {step}", sorted(os.listdir(self.sent)), wanted)
+        for name in there:
+            expect(f"{name}, once more after {step}", self.opens(name), True)
+
+    def opens(self, name):
+        """Whether an archive is whole, and what is in it the copy that was made."""
+        packed = ["age", "-d", "-i", self.private, os.path.join(self.target, name)]
+        with tempfile.TemporaryDirectory(dir=MEMORY) as room:
+            opened = subprocess.run(packed, capture_output=True, timeout=60)
+            ran = subprocess.run(["tar", "-x", "-C", room], input=opened.stdout, capture_output=True, timeout=60)
+            if opened.returncode or ran.returncode:
+                return False
+            stamp = name.removesuffix(".tar.age")
+            if stamp == "settings":
+                return os.listdir(room) == ["settings"]
+            return (
+                subprocess.run(["diff", "-r", f"{room}/{stamp}", f"{self.copies}/{stamp}"], timeout=60).returncode == 0
+            )
+
+
+def a_sending_that_is_cut_off():
+    with Sending() as it:
+        count = each_cut(it.words, it.forget, it.judge, it.environment, skip=QUIET)
+        environment = it.slowly()
+        for wait in (0.2, 0.5, 0.9, 1.3, 1.7, 2.1, 2.5):
+            it.forget()
+            begun = subprocess.Popen(
+                [sys.executable, os.path.join(TOP, "deploy/shards"), *it.words()],
+                stdin=subprocess.DEVNULL,
+                stdout=subprocess.DEVNULL,
+                stderr=subprocess.DEVNULL,
+                env={**os.environ, "PAWND": PROGRAM, **environment},
+            )
+            time.sleep(wait)
+            begun.kill()
+            begun.wait()
+            # At once, while what it began may still be at work.
+            run_shards(*it.words(), **it.environment)
+            time.sleep(1)
+            it.judge(f"{wait} s")
+        print(f"        {count + 7} kills", flush=True)
+
+
+def a_sending_that_can_not_be_packed():
+    """It says so, and does not wait for ever with the copies held."""
+    with Sending() as it:
+        with open(os.path.join(it.settings, "large"), "wb") as file:
+            file.write(os.urandom(1 << 20))
+        os.rename(os.path.join(it.settings, "recipients"), os.path.join(it.room, "recipients"))
+        said = run_shards(*it.words(), wanted=1, within=20, **it.environment)
+        expect("what it says", "was not made" in said, True)
+        os.rename(os.path.join(it.room, "recipients"), os.path.join(it.settings, "recipients"))
+        it.judge("the recipients are there again")
+
+
+def two_sendings_at_once():
+    with Sending() as it:
+        for number in range(10):
+            it.forget()
+            told = two_at_once(it.words(), it.words(), **it.environment)
+            expect(f"pair {number}: {told}", [status for _, status in told], [0, 0])
+            it.judge(f"pair {number}")
+
+
+def listens(port):
+    with socket.socket() as it:
+        return it.connect_ex(("127.0.0.1", port)) == 0
+
+
+def a_drill_that_is_cut_off():
+    """Nothing goes on serving, the folder of copies is as it was, and the same again goes well at once."""
+    with Stores() as it:
+        port, before = steady_port(), sorted(os.listdir(it.copies))
+
+        def judge(step):
+            wait_for(lambda: not listens(port), f"nothing serves after {step}", 5)
+            said = run_shards("drill", it.copies, port)
+            expect(f"once more after {step}", f"served on port {port}" in said, True)
+            expect(f"what is there after {step}", sorted(os.listdir(it.copies)), before)
+
+        skip = [name for name in QUIET if name not in ("connect", "kill")]
+        count = each_cut(lambda: ("drill", it.copies, port), lambda: None, judge, skip=skip)
+        for number in range(10):
+            told = two_at_once(("drill", it.copies, port), ("drill", it.copies, port))
+            expect(f"pair {number}: {told}", [status for _, status in told], [0, 0])
+        expect("what is there", sorted(os.listdir(it.copies)), before)
+        print(f"        {count} kills", flush=True)
+
+
+def a_comparing_that_is_cut_off():
+    """The shard goes on, and its folder is as it was."""
+    with Stores() as it, tempfile.TemporaryDirectory() as release:
+        os.symlink(os.path.join(TOP, "deploy"), os.path.join(release, "deploy"))
+        os.symlink(PROGRAM, os.path.join(release, "pawnd"))
+        it.shard.start()
+        environment = {"STORES": os.path.join(it.room, "shards")}
+        words, folder = ("differ", release), os.path.dirname(it.shard.path)
+
+        def judge(step):
+            wait_for(lambda: not is_stopped(it.shard.program.pid), f"the shard goes on after {step}", 10)
+            said = run_shards(*words, **environment)
+            expect(f"once more after {step}", f"{it.shard.path} is opened as it is" in said, True)
+            expect(f"what is there after {step}", sorted(os.listdir(folder)), ["books.db", "books.db-wal"])
+            expect(f"it serves after {step}", it.shard.export(7).count("\nP,"), 2)
+
+        count = each_cut(lambda: words, lambda: None, judge, environment, skip=QUIET)
+        for number in range(10):
+            told = two_at_once(words, ("backup", it.shard.path, it.copies) if number % 2 else words, **environment)
+            expect(f"pair {number}: {told}", [status for _, status in told], [0, 0])
+            expect(f"the shard stands still after pair {number}", is_stopped(it.shard.program.pid), False)
+        print(f"        {count} kills", flush=True)
+
+
 TESTS = (
     a_copy_that_is_put_back_is_cut_off,
     a_copy_that_is_being_made_is_cut_off,
@@ -418,10 +582,15 @@ TESTS = (
     two_copies_at_once,
     copies_are_made_and_put_back_at_once,
     the_steps_of_a_unit_are_cut_off,
+    a_sending_that_is_cut_off,
+    a_sending_that_can_not_be_packed,
+    two_sendings_at_once,
+    a_drill_that_is_cut_off,
+    a_comparing_that_is_cut_off,
 )
 
 if __name__ == "__main__":
-    if provide({**PACKAGES, "strace": "strace"}):
-        not_tried("all of it", f"there is no {' and no '.join(missing({**PACKAGES, 'strace': 'strace'}))}")
+    if provide(NEEDED):
+        not_tried("all of it", f"there is no {' and no '.join(missing(NEEDED))}")
         main()
     main(*TESTS)

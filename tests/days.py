@@ -152,7 +152,12 @@ def the_commands_of_the_page_on_files():
         expect("its receipts there", seen.splitlines()[0], "Pledge 1")
         expect("the stored run", one.run(at + stored).count("HTTP/1.1 200 OK"), 4)
         one.run(at + "kill $(cat pid)")
-        for block, says in ((copy, ""), (look, None), (judge, "books 2 pledges 2 rows 8\n"), (move, "schema 3 to 3\n")):
+        for block, says in (
+            (copy, ""),
+            (look, None),
+            (judge, "books 2 pledges 2 rows 8\n"),
+            (move, "schema 3 to 3\n"),
+        ):
             # A check leaves a log without pages, which is copied too.
             told = one.run(f"cd /root/work/data; {block}")
             expect(block, told if says is not None else told.count("|Ring|"), says if says is not None else 1)
@@ -234,7 +239,7 @@ def a_second_machine_and_a_lost_one():
         one.address(standby, "10.9.0.1", "10.9.0.2")
         first_day(one, archive)
         with_terms(one)
-        keys, send, drill = commands(PAGE, "Off the machine")
+        keys, send, drill, often = commands(PAGE, "Off the machine")
         recipient = standby.run(keys).strip().splitlines()[-1]
         let_in(one, standby, room)
         one.run(f"echo {recipient} >/etc/pawnd/recipients\n{send}")
@@ -244,6 +249,7 @@ def a_second_machine_and_a_lost_one():
             "",
         )
         first_day(standby, archive, shard_runs=False)
+        one.run(often)
         expect("the drill", "and it was served on port 9101" in standby.run(drill), True)
         enter(one, 2)
         one.run("systemctl start pawnd-backup@1 pawnd-send@1")
@@ -267,13 +273,45 @@ def let_in(one, standby, room):
 
 
 def promote(standby):
-    take, verify = commands(PAGE, "A lost machine")
+    take, reload, _ = commands(PAGE, "A lost machine")
     standby.run(take)
     *_, proxy, _, _, _ = commands(PAGE, "The first day")
     standby.run(proxy)
-    standby.run(verify)
+    standby.run(reload)
     expect("what was sent", [ask(standby, f"/books/7/pledges/{number}")[0] for number in (1, 2, 3)], [200, 200, 404])
     expect("it goes on", enter(standby, 3)[0], 200)
+
+
+def a_relay(machine, archive, address, key):
+    """A machine with shard 3 and its relay at an address, and with the operator's key of the proxy's machine."""
+    first_day(machine, archive, shard_runs=False)
+    machine.run(f"echo {key} >/etc/pawnd/operator.key\n" + commands(PAGE, "Several machines")[0])
+    machine.run(f"sed -i 's/10.0.0.3/{address}/' /etc/nginx/nginx.conf; nginx -t && systemctl restart nginx")
+
+
+def the_machine_behind_a_separate_proxy_is_lost():
+    """The proxy stands on a machine of its own: the shard is put back on another, and its address is turned."""
+    with tempfile.TemporaryDirectory() as room, Machine("proxy") as proxy, Machine("far") as far:
+        archive = pack_release(room)
+        first_day(proxy, archive, shard_runs=False)
+        _, _, _, front, _, book, _ = commands(PAGE, "The first day")
+        proxy.run(front)
+        proxy.run("sed -i 's/shard1/shard3/g;s/127.0.0.1:8101/10.0.0.3:8103/' /etc/pawnd/shards.conf")
+        key = proxy.run("cat /etc/pawnd/operator.key").strip()
+        a_relay(far, archive, "10.0.0.3", key)
+        far.run("shards new /var/lib/pawnd/3/books.db; systemctl enable --now pawnd@3")
+        far.address(proxy, "10.0.0.3", "10.0.0.1")
+        proxy.run(book.replace("shard1", "shard3"))
+        with_terms(proxy)
+        far.run(f"systemctl start pawnd-backup@3; cp -a /var/backups/pawnd/3 {room}/copies")
+        far.run("ip link delete to-proxy")
+        expect("it is away", ask(proxy, "/books/7/pledges/1")[0] in (502, 504), True)
+        with Machine("other") as other:
+            a_relay(other, archive, "10.0.0.4", key)
+            other.run(f"shards restore {room}/copies/2*Z /var/lib/pawnd/3/books.db; systemctl enable --now pawnd@3")
+            other.address(proxy, "10.0.0.4", "10.0.0.1")
+            proxy.run(commands(PAGE, "A lost machine")[2])
+            expect("it is there again", (ask(proxy, "/books/7/pledges/1")[0], enter(proxy, 2)[0]), (200, 200))
 
 
 TESTS = (
@@ -282,6 +320,7 @@ TESTS = (
     the_commands_of_the_page_on_files,
     an_upgrade_and_the_way_back,
     a_second_machine_and_a_lost_one,
+    the_machine_behind_a_separate_proxy_is_lost,
 )
 
 if __name__ == "__main__":

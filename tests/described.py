@@ -28,7 +28,10 @@ def validators():
         import jsonschema
         return jsonschema
     if os.geteuid() == 0 and shutil.which("apt-get"):
-        subprocess.run(["apt-get", "install", "-y", "-q", "python3-jsonschema"], stdin=subprocess.DEVNULL, capture_output=True, timeout=300)
+        subprocess.run(
+            ["apt-get", "install", "-y", "-q", "python3-jsonschema"], stdin=subprocess.DEVNULL, capture_output=True,
+            timeout=300,
+        )
     with contextlib.suppress(ImportError):
         import jsonschema
         return jsonschema
@@ -58,7 +61,9 @@ class Schema:
 
     def __init__(self, schema):
         self.schema = resolved(schema)
-        self.validator = VALIDATORS and VALIDATORS.Draft202012Validator({**schema, "components": DESCRIPTION["components"]})
+        self.validator = VALIDATORS and VALIDATORS.Draft202012Validator(
+            {**schema, "components": DESCRIPTION["components"]}
+        )
 
     def fault(self, value):
         """Why a value is not of the schema, if it is not."""
@@ -86,12 +91,18 @@ class Operation:
         examples = sent[self.body_kind]["examples"] if sent else {}
         self.bodies = {name: it["value"] for name, it in examples.items()}
         self.refused = {name: it["x-refused"] for name, it in examples.items() if "x-refused" in it}
-        self.schemas = {(status, kind): Schema(content["schema"]) for status, it in self.responses.items() for kind, content in it["content"].items()}
+        self.schemas = {
+            (status, kind): Schema(content["schema"])
+            for status, it in self.responses.items() for kind, content in it["content"].items()
+        }
 
     def examples(self):
         """Each example of a reply, by its status and name."""
-        return {(status, name): resolved(it)["value"] for status, response in self.responses.items() for content in response["content"].values()
-                for name, it in content["examples"].items()}
+        return {
+            (status, name): resolved(it)["value"]
+            for status, response in self.responses.items() for content in response["content"].values()
+            for name, it in content["examples"].items()
+        }
 
     def fields(self):
         """The fields of whom the operation is for."""
@@ -106,7 +117,10 @@ class Operation:
 
 OPERATIONS = {said["operationId"]: Operation(path, method, said) for path, methods in DESCRIPTION["paths"].items()
               for method, said in methods.items() if method in ("get", "post")}
-CODES = {it["properties"]["code"]["const"]: name for name, it in DESCRIPTION["components"]["schemas"].items() if "code" in it.get("properties", {})}
+CODES = {
+    it["properties"]["code"]["const"]: name
+    for name, it in DESCRIPTION["components"]["schemas"].items() if "code" in it.get("properties", {})
+}
 
 
 def operation_of(method, target):
@@ -144,10 +158,12 @@ class Run:
             name, _, value = line.partition(": ")
             fields[name] = value
         expect("the fields of a reply", list(fields), ["Content-Length", "Content-Type"])
-        return int(status.split()[1]), fields["Content-Type"], self.program.stdout.read(int(fields["Content-Length"])).decode()
+        body = self.program.stdout.read(int(fields["Content-Length"])).decode()
+        return int(status.split()[1]), fields["Content-Type"], body
 
     def ask(self, method, target, fields, body=b"", day=DAY, seed=None, head=None):
-        """What a request is answered, once it was held against the description: its code, which is 0 where it is done, and what it says."""
+        """What a request is answered, once it was held against the description: its code, which is 0 where it is
+        done, and what it says."""
         self.open(day, seed)
         self.asked += 1
         heads = "".join(f"{name}: {value}\r\n" for name, value in fields)
@@ -168,7 +184,8 @@ class Run:
         said = json.loads(text) if kind == JSON else text
         if operation is None:
             known = any(it.pattern.fullmatch(target) for it in OPERATIONS.values())
-            response = resolved(next(it["x-other-methods"] for path, it in DESCRIPTION["paths"].items() if it["x-other-methods"]) if known else DESCRIPTION["x-other-targets"])
+            others = (it["x-other-methods"] for it in DESCRIPTION["paths"].values() if it["x-other-methods"])
+            response = resolved(next(others) if known else DESCRIPTION["x-other-targets"])
             schema = Schema(response["content"][kind]["schema"])
         else:
             if text in self.replies[operation.name, status]:
@@ -182,16 +199,25 @@ class Run:
         if why:
             raise Failed(f"{method} {target}: {text:.200}: {why}")
 
-    def send(self, name, wanted=0, body=None, fields=None, day=DAY, seed=None, receipt=None, book=7, number=1, shown="2024-03-04"):
-        """Sends an operation with the fields of whom it is for, unless others are given, and gives what it says, which is to be of that code."""
+    def send(
+        self, name, wanted=0, body=None, fields=None, day=DAY, seed=None, receipt=None, book=7, number=1,
+        shown="2024-03-04",
+    ):
+        """Sends an operation with the fields of whom it is for, unless others are given, and gives what it says,
+        which is to be of that code."""
         operation = OPERATIONS[name]
         if receipt:
             fields = [["Pledge-Receipt", receipt]]
         body = body if isinstance(body, bytes) else b"" if body is None else compact(body).encode()
         target = operation.path.format(book=book, number=number, day=shown)
-        code, said = self.ask(operation.method, target, operation.fields() if fields is None else fields, body, day, seed)
+        code, said = self.ask(
+            operation.method, target, operation.fields() if fields is None else fields, body, day, seed,
+        )
         if wanted is not None:
-            expect(f"{name} of {target} on {day} with {body[:80]}", (code, compact(said)[:100] if code != wanted else ""), (wanted, ""))
+            expect(
+                f"{name} of {target} on {day} with {body[:80]}", (code, compact(said)[:100] if code != wanted else ""),
+                (wanted, ""),
+            )
         return said
 
 
@@ -199,10 +225,15 @@ def chosen(chance, seqs, day):
     """A request at random: its operation, its body, and the number of the pledge."""
     number = chance.randint(1, 12)
     near = day + datetime.timedelta(chance.randint(-3, 40))
-    bodies = {"draw": {"pence": chance.randint(1, 9000), "seq": seqs[number]}, "repay": {"pence": chance.randint(1, 4000), "seq": seqs[number]}, "hold": None, "release": None,
-              "declareLost": {"paper": chance.choice(["sworn", "written"])}, "decideBooking": {"yes": chance.random() < 0.7}, "sell": {"net": chance.randint(0, 20000)},
-              "extend": {"until": str(day + datetime.timedelta(chance.randint(0, 300)))}, "showPledge": None, "showDay": None, "showHeld": None,
-              "repayHeld": {"pence": chance.randint(1, 4000), "seq": seqs[number]}, "askBooking": {"day": str(near), "window": chance.randint(0, 16)}, "cancelBooking": None,
-              "redeem": {"paid": chance.randint(1, 9999)}}
+    bodies = {
+        "draw": {"pence": chance.randint(1, 9000), "seq": seqs[number]},
+        "repay": {"pence": chance.randint(1, 4000), "seq": seqs[number]}, "hold": None, "release": None,
+        "declareLost": {"paper": chance.choice(["sworn", "written"])}, "decideBooking": {"yes": chance.random() < 0.7},
+        "sell": {"net": chance.randint(0, 20000)},
+        "extend": {"until": str(day + datetime.timedelta(chance.randint(0, 300)))}, "showPledge": None, "showDay": None,
+        "showHeld": None, "repayHeld": {"pence": chance.randint(1, 4000), "seq": seqs[number]},
+        "askBooking": {"day": str(near), "window": chance.randint(0, 16)}, "cancelBooking": None,
+        "redeem": {"paid": chance.randint(1, 9999)},
+    }
     name = chance.choice(list(bodies))
     return name, bodies[name], number, near

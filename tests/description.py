@@ -1,6 +1,7 @@
 #!/usr/bin/env python3
-"""The description of the service, docs/openapi.json, against the program: it is valid, its examples are what the program answers, each reply of a run of some thousand requests is as
-it says, and each refusal stands at exactly the routes that answer it, but for those named below."""
+"""The description of the service, docs/openapi.json, against the program: it is valid, its examples are what the
+program answers, each reply of a run of some thousand requests is as it says, and each refusal stands at exactly the
+routes that answer it, but for those named below."""
 import atexit
 import datetime
 import importlib.util
@@ -12,11 +13,12 @@ import subprocess
 import sys
 import tempfile
 
-from described import DAY, DESCRIPTION, CODES, NOBODY, OPERATIONS, PATH, VALIDATORS, Run, Schema, chosen, compact, resolved
-from service import BROKER, TOP, Failed, expect, main, opened
+from described import (
+    DAY, DESCRIPTION, CODES, NOBODY, OPERATIONS, PATH, VALIDATORS, Run, Schema, chosen, compact, resolved,
+)
+from service import BROKER, COLUMNS, TOP, Failed, expect, main, opened, row
 
 STRANGER = [["Pledge-Key", "99999999-9999-9999-9999-999999999999"]]
-HEADER = "row," + ",".join(f"c{n}" for n in range(1, 15))
 LATE = "2025-06-01"
 
 # What no request can meet in a test: want of memory, and a book of a million pledges.
@@ -25,11 +27,20 @@ UNSEEN = {(name, 491) for name in OPERATIONS} | {("takePledge", 412)}
 UNTOLD = {607: "Read"}
 
 # The commands on a pledge, as the rules name them.
-NAMED = {"draw": "draw", "repay": "repay", "repayHeld": "repay", "hold": "hold", "release": "release", "declareLost": "declare", "askBooking": "ask", "cancelBooking": "cancel",
-         "decideBooking": "decide", "redeem": "redeem", "sell": "sell", "extend": "extend"}
-COMMANDS = {"draw": {"pence": 1, "seq": 2}, "repay": {"pence": 1, "seq": 2}, "hold": None, "release": None, "declareLost": {"paper": "sworn"}, "decideBooking": {"yes": True},
-            "sell": {"net": 1}, "extend": {"until": "2027-01-01"}}
-BEARERS = {"repayHeld": {"pence": 1, "seq": 2}, "askBooking": {"day": "2024-03-04", "window": 3}, "cancelBooking": None, "redeem": {"paid": 1}}
+NAMED = {
+    "draw": "draw", "repay": "repay", "repayHeld": "repay", "hold": "hold", "release": "release",
+    "declareLost": "declare", "askBooking": "ask", "cancelBooking": "cancel", "decideBooking": "decide",
+    "redeem": "redeem", "sell": "sell", "extend": "extend",
+}
+COMMANDS = {
+    "draw": {"pence": 1, "seq": 2}, "repay": {"pence": 1, "seq": 2}, "hold": None, "release": None,
+    "declareLost": {"paper": "sworn"}, "decideBooking": {"yes": True}, "sell": {"net": 1},
+    "extend": {"until": "2027-01-01"},
+}
+BEARERS = {
+    "repayHeld": {"pence": 1, "seq": 2}, "askBooking": {"day": "2024-03-04", "window": 3}, "cancelBooking": None,
+    "redeem": {"paid": 1},
+}
 
 # In the system's memory, where it has a place for files there, since thousands of commits would wait for a disk.
 ROOM = tempfile.mkdtemp(prefix="pawnd-description-", dir="/dev/shm" if os.access("/dev/shm", os.W_OK) else None)
@@ -43,12 +54,8 @@ def turn_to(name):
     RUN.path = os.path.join(ROOM, name) if name else ":memory:"
 
 
-def row(*columns):
-    return ",".join([*map(str, columns), *[""] * (15 - len(columns))])
-
-
 def text(*rows):
-    return "\n".join([HEADER, *rows, ""]).encode()
+    return "\n".join([COLUMNS, *rows, ""]).encode()
 
 
 def not_tried(what, why):
@@ -60,7 +67,10 @@ def it_is_valid_and_what_its_generator_writes():
         made = subprocess.run([os.path.join(TOP, "tools/describe"), word], capture_output=True, timeout=60)
         expect(f"tools/describe {word}", (made.returncode, made.stderr), (0, b""))
         with open(path, "rb") as it:
-            expect(f"{os.path.relpath(path, TOP)} is what tools/describe writes: run it, where a sentence of web/ was changed", it.read() == made.stdout, True)
+            expect(
+                f"{os.path.relpath(path, TOP)} is what tools/describe writes: run it, if a sentence of web/ changed",
+                it.read() == made.stdout, True,
+            )
     if importlib.util.find_spec("openapi_spec_validator"):
         import openapi_spec_validator
         try:
@@ -74,13 +84,23 @@ def it_is_valid_and_what_its_generator_writes():
 def its_refusals_and_routes_are_those_of_the_rules():
     with open(os.path.join(TOP, "docs/RULES.md"), encoding="utf-8") as it:
         rules = it.read().split("\n## Requests\n")[1].split("\n## The program\n")[0]
-    told = {int(code): name for code, name in re.findall(r"\b([1-7]\d\d) ([A-Z][A-Za-z]+)", rules) if int(code) not in (400, 503) and name not in ("Not", "Forbidden", "Conflict")}
+    told = {
+        int(code): name
+        for code, name in re.findall(r"\b([1-7]\d\d) ([A-Z][A-Za-z]+)", rules)
+        if int(code) not in (400, 503) and name not in ("Not", "Forbidden", "Conflict")
+    }
     for codes, names in re.findall(r"^\| ([1-7]\d\d(?:, [1-7]\d\d)*) \| ([A-Za-z, ]+) \|", rules, re.MULTILINE):
         told.update(zip(map(int, codes.split(", ")), names.split(", "), strict=True))
     expect("codes and names", dict(sorted(told.items())), dict(sorted({**CODES, **UNTOLD}.items())))
-    headings = {re.sub("[^a-z-]", "", line.lstrip("# ").lower().replace(" ", "-")) for line in open(os.path.join(TOP, "docs/RULES.md"), encoding="utf-8") if line.startswith("#")}
+    headings = {
+        re.sub("[^a-z-]", "", line.lstrip("# ").lower().replace(" ", "-"))
+        for line in open(os.path.join(TOP, "docs/RULES.md"), encoding="utf-8") if line.startswith("#")
+    }
     for operation in OPERATIONS.values():
-        expect(f"the section of the rules of {operation.name}", operation.said["externalDocs"]["url"].removeprefix("RULES.md#") in headings, True)
+        expect(
+            f"the section of the rules of {operation.name}",
+            operation.said["externalDocs"]["url"].removeprefix("RULES.md#") in headings, True,
+        )
 
 
 def its_refusals_stand_in_the_order_of_the_rules():
@@ -103,14 +123,28 @@ def its_refusals_stand_in_the_order_of_the_rules():
 def each_part_has_its_words():
     """Each operation, parameter and schema, and each member of a body or a reply."""
     parts = DESCRIPTION["components"]
-    named = {**parts["schemas"], **parts["parameters"], **parts["securitySchemes"], **{it.name: it.said for it in OPERATIONS.values()}}
+    named = {
+        **parts["schemas"], **parts["parameters"], **parts["securitySchemes"],
+        **{it.name: it.said for it in OPERATIONS.values()},
+    }
     expect("without words", [name for name, it in named.items() if len(it.get("description", "")) < 10], [])
-    members = [(name, member, it) for name, schema in parts["schemas"].items() for member, it in schema.get("properties", {}).items()]
-    expect("members without words", [(name, member) for name, member, it in members if "const" not in it and "description" not in {**resolved(it), **it}], [])
+    members = [
+        (name, member, it)
+        for name, schema in parts["schemas"].items() for member, it in schema.get("properties", {}).items()
+    ]
+    expect(
+        "members without words",
+        [
+            (name, member)
+            for name, member, it in members if "const" not in it and "description" not in {**resolved(it), **it}
+        ],
+        [],
+    )
 
 
 def each_part_has_its_form():
-    """Whole numbers say how many bits they take, operations have a tag and one way to be let in, and each says what the proxy may answer in place of the service."""
+    """Whole numbers say how many bits they take, operations have a tag and one way to be let in, and each says what
+    the proxy may answer in place of the service."""
     numbers = []
 
     def walk(value):
@@ -124,7 +158,10 @@ def each_part_has_its_form():
                 walk(it)
     walk(DESCRIPTION)
     expect("numbers without a format", [it for it in numbers if it.get("format") not in ("int32", "int64")], [])
-    expect("numbers that 32 bits don't hold", [it for it in numbers if it["format"] == "int32" and it.get("maximum", 0) >= 2**31], [])
+    expect(
+        "numbers that 32 bits don't hold",
+        [it for it in numbers if it["format"] == "int32" and it.get("maximum", 0) >= 2**31], [],
+    )
     tags, schemes = {it["name"] for it in DESCRIPTION["tags"]}, set(DESCRIPTION["components"]["securitySchemes"])
     for operation in OPERATIONS.values():
         said = operation.said
@@ -132,7 +169,11 @@ def each_part_has_its_form():
         expect(f"who may ask {operation.name}", (len(said["security"]), set(said["security"][0]) <= schemes), (1, True))
         for status in (400, 403, 404, 413, 429, 502, 503, 504):
             response = resolved(said["responses"].get(str(status)) or said["responses"]["default"])
-            expect(f"the proxy's {status} in place of {operation.name}", Schema(response["content"]["application/json"]["schema"]).fault({"proxy": status, "handed_on": False}), None)
+            expect(
+                f"the proxy's {status} in place of {operation.name}",
+                Schema(response["content"]["application/json"]["schema"]).fault({"proxy": status, "handed_on": False}),
+                None,
+            )
 
 
 def its_refusals_are_those_of_the_pages():
@@ -141,7 +182,10 @@ def its_refusals_are_those_of_the_pages():
     from description.sentences import sentences
     told = {code: name for code, (name, _, _) in sentences().items()}
     expect("codes and names", {code: told[code] for code in CODES}, CODES)
-    expect("without a remedy", [name for name in CODES.values() if len(DESCRIPTION["components"]["schemas"][name]["x-remedy"]) < 8], [])
+    expect(
+        "without a remedy",
+        [name for name in CODES.values() if len(DESCRIPTION["components"]["schemas"][name]["x-remedy"]) < 8], [],
+    )
 
 
 def each_operation_stands_once_among_the_retries():
@@ -160,8 +204,14 @@ def repeated(operation, step, body, first):
     RUN.close()
     RUN.path = path
     when = operation.said["x-repeat"]["when"]
-    wanted = {"always": (0, first), "while it stands": (0, first), "told": (305 if operation.name == "sell" else 402, said), "never": (0, said)}[when]
-    expect(f"{operation.name}, which may be sent again: {when}", (code, said, said == first), (*wanted, "always" == when or "while it stands" == when))
+    wanted = {
+        "always": (0, first), "while it stands": (0, first), "told": (305 if operation.name == "sell" else 402, said),
+        "never": (0, said),
+    }[when]
+    expect(
+        f"{operation.name}, which may be sent again: {when}", (code, said, said == first),
+        (*wanted, "always" == when or "while it stands" == when),
+    )
 
 
 def its_story_is_what_the_program_answers():
@@ -178,7 +228,10 @@ def its_story_is_what_the_program_answers():
     for operation in OPERATIONS.values():
         sent = {it.get("sends") for it in DESCRIPTION["x-story"] if it["operation"] == operation.name} - {None}
         expect(f"the bodies of {operation.name} that are sent", sent, set(operation.bodies))
-        done = {it.get("sends") for it in DESCRIPTION["x-story"] if it["operation"] == operation.name and it["status"] == 200} - {None}
+        done = {
+            it.get("sends")
+            for it in DESCRIPTION["x-story"] if it["operation"] == operation.name and it["status"] == 200
+        } - {None}
         expect(f"the bodies of {operation.name} that are done", set(operation.bodies) - set(operation.refused), done)
         for name, body in operation.bodies.items() if operation.body_kind == "application/json" else ():
             expect(f"{name} of {operation.name}", operation.body.fault(body), None)
@@ -186,8 +239,11 @@ def its_story_is_what_the_program_answers():
 
 def bent(body):
     """A body, and the same with one member changed, left out or added."""
-    values = [None, True, "x", "", -1, 0, 1, 1.5, 1001, 10**12 - 1, 10**12, "2024-02-29", "2024-2-9", "1999-12-31", "2200-01-01", "x" * 40, "x" * 81, "\u00e9" * 30, "\u00e9" * 31, "a\tb",
-              "a\u007fb", BROKER.replace("-", ""), f"{{{BROKER}}}", f"urn:uuid:{BROKER}", f"{{{BROKER}", BROKER[1:], [], {}]
+    values = [
+        None, True, "x", "", -1, 0, 1, 1.5, 1001, 10**12 - 1, 10**12, "2024-02-29", "2024-2-9", "1999-12-31",
+        "2200-01-01", "x" * 40, "x" * 81, "\u00e9" * 30, "\u00e9" * 31, "a\tb", "a\u007fb", BROKER.replace("-", ""),
+        f"{{{BROKER}}}", f"urn:uuid:{BROKER}", f"{{{BROKER}", BROKER[1:], [], {},
+    ]
     yield from (body, {**body, "more": [1, {}]}, [], [body], "x", 1, None)
     for name in body:
         yield {other: value for other, value in body.items() if other != name}
@@ -210,7 +266,11 @@ def members_that_are_ignored_are_read():
     """What no reader of JSON can hold is refused in a member that is not named, too."""
     turn_to(None)
     for operation in OPERATIONS.values():
-        for more, is_bad in (('"\\ud800"', True), ("1e999", True), ("-1e999", True), ("1e308", False), ('"\\ud83d\\ude00"', False), ("{}", False)) if operation.body_kind == "application/json" else ():
+        more_members = (
+            ('"\\ud800"', True), ("1e999", True), ("-1e999", True), ("1e308", False), ('"\\ud83d\\ude00"', False),
+            ("{}", False),
+        )
+        for more, is_bad in more_members if operation.body_kind == "application/json" else ():
             body = compact(operation.first_body())[:-1] + f',"more":{more}}}'
             said = RUN.send(operation.name, None, body.encode(), STRANGER if operation.caller != "bearer" else None)
             expect(f"{operation.name} with {more}", said["code"] == 708, is_bad)
@@ -220,12 +280,18 @@ def texts_that_an_import_takes():
     """What is taken is of the schema of a text that is handed in, and goes out as of the schema of an export."""
     turn_to("texts")
     pledge = row("P", 1, "A1", '"=1+1, ""gold"" \u2028"', "fixed", 100, DAY, "", "no", 1, "no", DAY, "open")
-    rows = [HEADER, row("B", 2, 1, 1), row("T", 1, 0, 0, 0), pledge, *secrets(1, 1)]
+    rows = [COLUMNS, row("B", 2, 1, 1), row("T", 1, 0, 0, 0), pledge, *secrets(1, 1)]
     plain = "\n".join([*rows, ""])
     older = plain.replace("B,2", "B,1")
-    quoted = plain.replace(HEADER, ",".join(f'"{it}"' for it in HEADER.split(","))).replace("B,2", '"B","2"')
-    taken = [plain, older, quoted, plain[:-1], plain.replace("\n", "\r\n"), plain.replace("\n", "\r"), plain.replace("\n", "\n\n"), f"\ufeff{plain}"]
-    kept = [plain.replace(",", ";"), plain.replace("B,2", "B, 2"), plain.replace(DAY, "31/01/2024"), plain.encode("utf-16"), plain.replace("gold", "gold\n")]
+    quoted = plain.replace(COLUMNS, ",".join(f'"{it}"' for it in COLUMNS.split(","))).replace("B,2", '"B","2"')
+    taken = [
+        plain, older, quoted, plain[:-1], plain.replace("\n", "\r\n"), plain.replace("\n", "\r"),
+        plain.replace("\n", "\n\n"), f"\ufeff{plain}",
+    ]
+    kept = [
+        plain.replace(",", ";"), plain.replace("B,2", "B, 2"), plain.replace(DAY, "31/01/2024"), plain.encode("utf-16"),
+        plain.replace("gold", "gold\n"),
+    ]
     handed_in, out = OPERATIONS["importBook"].body, OPERATIONS["exportBook"].schemas[200, "text/csv; charset=utf-8"]
     for book, given in enumerate([*taken, *kept], 1):
         RUN.send("makeBook", 0, {"capacity": 1, "key": BROKER, "name": "High Street"}, book=book)
@@ -239,11 +305,15 @@ def texts_that_an_import_takes():
 
 def head_refused(operation, code, fields, head=None, method=None, target=None, body=b""):
     target = target or operation.path.format(book=7, number=1, day=DAY)
-    expect(f"{method} {target} with {fields} {head}", RUN.ask(method or operation.method, target, fields, body, head=head)[0], code)
+    expect(
+        f"{method} {target} with {fields} {head}",
+        RUN.ask(method or operation.method, target, fields, body, head=head)[0], code,
+    )
 
 
 def heads_are_refused():
-    """What is refused at every route by its bytes, its target, its keys or receipts, and its method, and a body that is no JSON."""
+    """What is refused at every route by its bytes, its target, its keys or receipts, and its method, and a body that
+    is no JSON."""
     turn_to(None)
     for operation in OPERATIONS.values():
         head_refused(operation, 701, [("bad name", "x")])
@@ -257,7 +327,9 @@ def heads_are_refused():
             head_refused(operation, 708, operation.fields(), body=b"{")
         if operation.caller == "bearer":
             most = operation.said["x-receipts"]["most"]
-            for code, receipts in ((712, []), (711, [NOBODY] * (most + 1)), (710, ["x"]), (710, [f"{NOBODY},{NOBODY}"])):
+            for code, receipts in (
+                (712, []), (711, [NOBODY] * (most + 1)), (710, ["x"]), (710, [f"{NOBODY},{NOBODY}"]),
+            ):
                 head_refused(operation, code, [("Pledge-Receipt", it) for it in receipts])
         else:
             head_refused(operation, 709, [])
@@ -270,7 +342,12 @@ def open_books():
     for book in (7, 6):
         RUN.send("makeBook", 0, {"capacity": 1, "key": BROKER, "name": "High Street"}, book=book)
     RUN.send("addTerms", 0, {"keep_after": 0, "keep_before": 0, "rate": 0, "version": 1})
-    return [RUN.send("takePledge", 0, opening(ref, pence, kind))["receipt"] for ref, pence, kind in (("A", 10000, "fixed"), ("S", 7500, "fixed"), ("R", 10000, "running"), ("T", 10000, "fixed"))]
+    return [
+        RUN.send("takePledge", 0, opening(ref, pence, kind))["receipt"]
+        for ref, pence, kind in (
+            ("A", 10000, "fixed"), ("S", 7500, "fixed"), ("R", 10000, "running"), ("T", 10000, "fixed"),
+        )
+    ]
 
 
 def opening(ref, pence=10000, kind="fixed"):
@@ -278,9 +355,14 @@ def opening(ref, pence=10000, kind="fixed"):
 
 
 def books_and_terms():
-    for wanted, body, fields in ((404, {"capacity": 2, "key": BROKER, "name": "High Street"}, None), (410, {"capacity": 1, "key": BROKER, "name": "High Street"}, STRANGER)):
+    for wanted, body, fields in (
+        (404, {"capacity": 2, "key": BROKER, "name": "High Street"}, None),
+        (410, {"capacity": 1, "key": BROKER, "name": "High Street"}, STRANGER),
+    ):
         RUN.send("makeBook", wanted, body, fields)
-    for wanted, version, rate, before, after in ((406, 1, 5, 0, 0), (102, 2, 20001, 0, 0), (103, 2, 0, 10000001, 0), (104, 2, 0, 5, 6)):
+    for wanted, version, rate, before, after in (
+        (406, 1, 5, 0, 0), (102, 2, 20001, 0, 0), (103, 2, 0, 10000001, 0), (104, 2, 0, 5, 6),
+    ):
         RUN.send("addTerms", wanted, {"keep_after": after, "keep_before": before, "rate": rate, "version": version})
     RUN.send("takePledge", 405, opening("A"), book=6)
     RUN.send("takePledge", 407, opening("A", 1))
@@ -343,7 +425,10 @@ def days_and_ends(small, clock):
     RUN.send("draw", 0, {"pence": 1, "seq": 2}, number=3)
     each_command(205, 4, clock, "2024-01-30")
     each_command(304, 2, small, LATE)
-    for name, wanted, body in (("draw", 314, {"pence": 1, "seq": 2}), ("extend", 314, {"until": "2027-01-01"}), ("sell", 201, {"net": 100_000_001})):
+    for name, wanted, body in (
+        ("draw", 314, {"pence": 1, "seq": 2}), ("extend", 314, {"until": "2027-01-01"}),
+        ("sell", 201, {"net": 100_000_001}),
+    ):
         RUN.send(name, wanted, body, number=4, day=LATE)
     RUN.send("sell", 306, {"net": 1}, number=4)
     RUN.send("hold", number=4)
@@ -357,25 +442,39 @@ def days_and_ends(small, clock):
 def imports():
     whole = RUN.send("exportBook", day=LATE).encode()
     RUN.send("makeBook", 0, {"capacity": 1, "key": BROKER, "name": "Low Street"}, book=8)
-    for rows, wanted in ((text("B,2"), 601), (b"", 602), (text(row("B", 9)), 603), (text(row("T", 1, 0, 0, 0)), 604), (text(row("B", 2, 1, 0), row("T", 1, 20001, 0, 0)), 605),
-                         (text(row("B", 2, 100, 1)), 606), (whole, 0), (whole, 0)):
+    for rows, wanted in (
+        (text("B,2"), 601), (b"", 602), (text(row("B", 9)), 603), (text(row("T", 1, 0, 0, 0)), 604),
+        (text(row("B", 2, 1, 0), row("T", 1, 20001, 0, 0)), 605), (text(row("B", 2, 100, 1)), 606), (whole, 0),
+        (whole, 0),
+    ):
         RUN.send("importBook", wanted, rows, book=8)
     RUN.send("importBook", 409, whole, [["Pledge-Key", BROKER], ["Import-Key", BROKER]], book=8)
 
 
 def secrets(number, count):
     """The rows of so many secrets of a pledge, the first of them the opening's."""
-    return [row("S", number, place, DAY, "sworn" if place > 1 else "opening", f"00000000-0000-0000-0000-{place:012}") for place in range(1, count + 1)]
+    return [
+        row("S", number, place, DAY, "sworn" if place > 1 else "opening", f"00000000-0000-0000-0000-{place:012}")
+        for place in range(1, count + 1)
+    ]
 
 
 def counts_at_their_limits():
-    """A book with 99 versions of terms, a pledge with 9,999 entries, and one with 100 declarations and 99 extensions."""
+    """A book with 99 versions of terms, a pledge with 9,999 entries, and one with 100 declarations and 99
+    extensions."""
     RUN.send("makeBook", 0, {"capacity": 1, "key": BROKER, "name": "Full Street"}, book=9)
     terms = [row("T", version, version, 0, 0) for version in range(1, 100)]
-    pledges = [row("P", number, f"L{number}", "Ring", "running", 10000, DAY, "", "no", 99, "no", DAY, "open") for number in (1, 2)]
+    pledges = [
+        row("P", number, f"L{number}", "Ring", "running", 10000, DAY, "", "no", 99, "no", DAY, "open")
+        for number in (1, 2)
+    ]
     entered = [row("E", 1, seq, DAY, "draw" if seq % 2 else "repay", 1) for seq in range(1, 10_000)]
-    extended = [row("X", 2, place, DAY, datetime.date(2024, 12, 31) + datetime.timedelta(place)) for place in range(1, 100)]
-    whole = text(row("B", 2, 99, 2), *terms, pledges[0], *secrets(1, 1), *entered, pledges[1], *secrets(2, 101), *extended)
+    extended = [
+        row("X", 2, place, DAY, datetime.date(2024, 12, 31) + datetime.timedelta(place)) for place in range(1, 100)
+    ]
+    whole = text(
+        row("B", 2, 99, 2), *terms, pledges[0], *secrets(1, 1), *entered, pledges[1], *secrets(2, 101), *extended,
+    )
     RUN.send("importBook", 0, whole, book=9)
     RUN.send("addTerms", 411, {"keep_after": 0, "keep_before": 0, "rate": 0, "version": 100}, book=9)
     for name, to in (("draw", {}), ("repay", {}), ("repayHeld", {"receipt": "1-00000000-0000-0000-0000-000000000001"})):
@@ -446,14 +545,25 @@ def two_thousand_requests_at_random():
     chance, day, before = random.Random(31), datetime.date(2024, 1, 31), RUN.asked
     RUN.send("makeBook", 0, {"capacity": 2, "key": BROKER, "name": "High Street"})
     RUN.send("addTerms", 0, {"keep_after": 1000, "keep_before": 5000, "rate": 2667, "version": 1})
-    receipts = [RUN.send("takePledge", 0, {**opening(f"A{n}", chance.randint(100, 20000), chance.choice(["fixed", "running"])), "five_days": n % 2 == 0, "article": f"Ring \u2028\"{n}\""})["receipt"]
-                for n in range(1, 13)]
+    receipts = [
+        RUN.send(
+            "takePledge", 0,
+            {
+                **opening(f"A{n}", chance.randint(100, 20000), chance.choice(["fixed", "running"])),
+                "five_days": n % 2 == 0, "article": f"Ring \u2028\"{n}\"",
+            },
+        )["receipt"]
+        for n in range(1, 13)
+    ]
     seqs = dict.fromkeys(range(1, 13), 1)
     while RUN.asked < before + 2_000:
         if chance.random() < 0.02:
             day += datetime.timedelta(chance.randint(1, 8))
         name, body, number, near = chosen(chance, seqs, day)
-        said = RUN.send(name, None, body, number=number, shown=str(near), receipt=receipts[number - 1] if OPERATIONS[name].caller == "bearer" else None, day=str(day))
+        said = RUN.send(
+            name, None, body, number=number, shown=str(near),
+            receipt=receipts[number - 1] if OPERATIONS[name].caller == "bearer" else None, day=str(day),
+        )
         if "seq" in said and "sort" in said:
             seqs[number] += 1
         elif "receipt" in said and isinstance(said, dict):
@@ -465,17 +575,26 @@ def two_thousand_requests_at_random():
 def each_pair_and_each_example_was_seen():
     for name, operation in OPERATIONS.items():
         wanted = {0, *operation.codes}
-        expect(f"the codes of {name} that were not seen", sorted(wanted - RUN.codes[name]), sorted(code for code in wanted if (name, code) in UNSEEN))
+        expect(
+            f"the codes of {name} that were not seen", sorted(wanted - RUN.codes[name]),
+            sorted(code for code in wanted if (name, code) in UNSEEN),
+        )
         for (status, example), value in operation.examples().items():
             code = value["code"] if isinstance(value, dict) and "code" in value else 0
             if (name, code) not in UNSEEN:
                 expect(f"{example} of {name} was answered", compact(value) in RUN.replies[name, status], True)
-    print(f"        {RUN.asked} requests, {sum(len(it.codes) for it in OPERATIONS.values()) - len(UNSEEN)} pairs of route and refusal", flush=True)
+    pairs = sum(len(it.codes) for it in OPERATIONS.values()) - len(UNSEEN)
+    print(f"        {RUN.asked} requests, {pairs} pairs of route and refusal", flush=True)
     if not VALIDATORS:
         not_tried("replies against their schemas", "python3-jsonschema is not installed")
     RUN.close()
 
 
-main(it_is_valid_and_what_its_generator_writes, each_part_has_its_words, each_part_has_its_form, its_refusals_and_routes_are_those_of_the_rules, its_refusals_stand_in_the_order_of_the_rules,
-     its_refusals_are_those_of_the_pages, each_operation_stands_once_among_the_retries, its_story_is_what_the_program_answers, bodies_are_refused_where_the_description_refuses_them, members_that_are_ignored_are_read, texts_that_an_import_takes,
-     heads_are_refused, each_refusal_is_met, two_thousand_requests_at_random, each_pair_and_each_example_was_seen)
+main(
+    it_is_valid_and_what_its_generator_writes, each_part_has_its_words, each_part_has_its_form,
+    its_refusals_and_routes_are_those_of_the_rules, its_refusals_stand_in_the_order_of_the_rules,
+    its_refusals_are_those_of_the_pages, each_operation_stands_once_among_the_retries,
+    its_story_is_what_the_program_answers, bodies_are_refused_where_the_description_refuses_them,
+    members_that_are_ignored_are_read, texts_that_an_import_takes, heads_are_refused, each_refusal_is_met,
+    two_thousand_requests_at_random, each_pair_and_each_example_was_seen,
+)

@@ -1,7 +1,8 @@
 #!/usr/bin/env python3
-"""A disk that fails: each read, write, sync and cut of a story's files in turn, refused, short or torn, once or from then on, with each error once. Each answer is as the rules
-have it with some requests answered 492, and the next start holds all that was acknowledged, with or without the request in hand. So in a migration. And a disk that is full
-for a while."""
+"""A disk that fails: each read, write, sync and cut of a story's files in turn, refused, short or torn, once or from
+then on, with each error once. Each answer is as the rules have it with some requests answered 492, and the next
+start holds all that was acknowledged, with or without the request in hand. So in a migration. And a disk that is
+full for a while."""
 import errno
 import os
 import subprocess
@@ -46,16 +47,19 @@ def every_call_from_one_on():
 
 
 def calls_of_a_migration():
-    """A call that is refused while a store of an older schema is moved, once or from then on, leaves the store for another try, which moves it to the same books."""
+    """A call that is refused while a store of an older schema is moved, once or from then on, leaves the store for
+    another try, which moves it to the same books."""
     for mode, first in (("once", 1), ("on", 2)):
         for count in each_refused_in_a_migration("rwst", NOT_MOVED, 3, lambda: first, mode=mode):
             told(count)
 
 
 def a_disk_that_is_full_for_a_while():
-    """A file system of 14 MiB is filled while the service writes to it; when there is room again the service goes on, and nothing acknowledged is lost."""
+    """A file system of 14 MiB is filled while the service writes to it; when there is room again the service goes
+    on, and nothing acknowledged is lost."""
     with tempfile.TemporaryDirectory() as room:
-        if os.geteuid() or subprocess.run(["mount", "-t", "tmpfs", "-o", "size=14m", "none", room], stderr=subprocess.DEVNULL).returncode:
+        mount = ["mount", "-t", "tmpfs", "-o", "size=14m", "none", room]
+        if os.geteuid() or subprocess.run(mount, stderr=subprocess.DEVNULL).returncode:
             print("not tried: a disk that is full, which asks for the right to mount one")
             return
         try:
@@ -76,7 +80,10 @@ def fill_and_empty(path, filler):
             except OSError:
                 pass
         for _ in range(200):
-            opening = {"article": "y" * 80, "five_days": False, "kind": "fixed", "pence": 10000, "ref": f"A{len(receipts) + 1}"}
+            opening = {
+                "article": "y" * 80, "five_days": False, "kind": "fixed", "pence": 10000,
+                "ref": f"A{len(receipts) + 1}",
+            }
             status, said = session.broker("POST", "/books/7/pledges", opening)
             seen.add(status)
             if status == 200:
@@ -98,7 +105,8 @@ def fill_and_empty(path, filler):
 
 
 def opens(session, number):
-    """The status of an opening on a connection of its own, and its receipt where it is told; None where nobody listens."""
+    """The status of an opening on a connection of its own, and its receipt where it is told; None where nobody
+    listens."""
     opening = {"article": "Gold ring", "five_days": False, "kind": "fixed", "pence": 10000, "ref": f"A{number}"}
     try:
         status, said = session.broker("POST", "/books/7/pledges", opening)
@@ -109,7 +117,8 @@ def opens(session, number):
 
 
 def meets_a_fault(path, at, calls, error):
-    """Twelve openings over a store one of whose calls is refused, or fewer where the service ends: the receipts that were told, and how it ended, if it did."""
+    """Twelve openings over a store one of whose calls is refused, or fewer where the service ends: the receipts that
+    were told, and how it ended, if it did."""
     during = path + "-during"
     with Server(path, env=refusing.refusing(calls, at=at, error=error, during=during)) as server:
         session, receipts, before = server.session(), [], 200
@@ -138,10 +147,13 @@ def all_is_served(path, receipts):
 
 
 def a_store_that_a_fault_has_shut_ends_the_service():
-    """After a fault that shuts the store the service ends with its line, once the connection at hand has ended, and a second start serves all that was acknowledged. After any
-    other fault it goes on. No two requests in a row are told of a fault."""
+    """After a fault that shuts the store the service ends with its line, once the connection at hand has ended, and
+    a second start serves all that was acknowledged. After any other fault it goes on. No two requests in a row are
+    told of a fault."""
     ended = 0
-    for calls, error, most in (("s", errno.EIO, 18), ("w", errno.ENOSPC, 12), ("w", errno.EIO, 12), ("r", errno.EIO, 6)):
+    for calls, error, most in (
+        ("s", errno.EIO, 18), ("w", errno.ENOSPC, 12), ("w", errno.EIO, 12), ("r", errno.EIO, 6),
+    ):
         for at in range(1, most + 1):
             with tempfile.TemporaryDirectory() as room:
                 path = os.path.join(room, "books")
@@ -155,7 +167,8 @@ def a_store_that_a_fault_has_shut_ends_the_service():
 
 
 def a_conversation_goes_on_to_its_end():
-    """What is asked on the connection at hand is answered by faults until its peer is done; then the service ends, and takes no further one."""
+    """What is asked on the connection at hand is answered by faults until its peer is done; then the service ends,
+    and takes no further one."""
     with tempfile.TemporaryDirectory() as room:
         path, during = os.path.join(room, "books"), os.path.join(room, "during")
         with Server(path, env=refusing.refusing("s", at=1, mode="on", during=during)) as server:
@@ -166,16 +179,25 @@ def a_conversation_goes_on_to_its_end():
                 pass
             expect("a view before the fault", session.bearer(receipt, "GET", "/books/7/held")[0], 200)
             refused = (503, {"code": 492, "name": "Store"})
-            expect("a change", session.broker("POST", "/books/7/terms", {"keep_after": 0, "keep_before": 0, "rate": 1, "version": 2}), refused)
+            expect(
+                "a change",
+                session.broker("POST", "/books/7/terms", {"keep_after": 0, "keep_before": 0, "rate": 1, "version": 2}),
+                refused,
+            )
             expect("a view behind it", session.bearer(receipt, "GET", "/books/7/held"), refused)
             expect("the service meanwhile", server.program.poll(), None)
             session.close()
-            expect("how it ended", (server.program.wait(timeout=10), server.program.stderr.read().decode()), (1, "fault 503 Store\n"))
+            expect(
+                "how it ended", (server.program.wait(timeout=10), server.program.stderr.read().decode()),
+                (1, "fault 503 Store\n"),
+            )
         all_is_served(path, [receipt])
 
 
 if refusing.library() is None:
     print("not tried: a disk that fails, since no C compiler is there\n0 passed, 0 failed")
     sys.exit(0)
-main(each_call_is_refused_once, each_write_is_short_or_torn, each_error, every_call_from_one_on, calls_of_a_migration, a_disk_that_is_full_for_a_while,
-     a_store_that_a_fault_has_shut_ends_the_service, a_conversation_goes_on_to_its_end)
+main(
+    each_call_is_refused_once, each_write_is_short_or_torn, each_error, every_call_from_one_on, calls_of_a_migration,
+    a_disk_that_is_full_for_a_while, a_store_that_a_fault_has_shut_ends_the_service, a_conversation_goes_on_to_its_end,
+)

@@ -1,6 +1,7 @@
 #!/usr/bin/env python3
-"""Standard input and output that fail: each read and each write of a story in turn refused, a write that takes nothing, and both a byte at a time. What was answered before stands,
-no failed read or write is tried again, and slow ends change no reply. Over memory and over a file."""
+"""Standard input and output that fail: each read and each write of a story in turn refused, a write that takes nothing,
+and both a byte at a time. What was answered before stands, no failed read or write is tried again, and slow ends change
+no reply. Over memory and over a file."""
 import errno
 import sys
 

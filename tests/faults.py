@@ -1,12 +1,15 @@
 #!/usr/bin/env python3
-"""What the program says on its standard error, and its exit status: usage, faults in their order, files that are no store of its, and ends that fail."""
+"""What the program says on its standard error, and its exit status: usage, faults in their order, files that are no
+store of its, and ends that fail."""
 import os
 import socket
 import subprocess
 import tempfile
 
-from service import OPERATOR, PROGRAM, SEED, TOP, Server, check, counted, expect, free_port, main, opened, request, tells
-from stores import ends, fault, found, plain, stays, strange, with_its_log
+from service import (
+    OPERATOR, PROGRAM, SEED, TOP, Server, a_sound_check, check, counted, expect, free_port, main, opened, request,
+)
+from stores import database_of, ends, fault, file_of, files_and_log, stays, with_its_log
 
 DAY = "2024-01-31"
 USAGE = (2, "usage: pawnd answer|serve|migrate|check\n")
@@ -14,8 +17,11 @@ IO = (3, "fault io\n")
 
 
 def the_words_are_those_of_no_command():
-    for words in [(), ("reply",), ("answer",), ("answer", ":memory:", DAY, SEED), ("answer", ":memory:", DAY, SEED, OPERATOR, "x"),
-                  ("serve", ":memory:", "8080"), ("serve", ":memory:", "8080", OPERATOR, "x"), ("migrate",), ("check",), ("check", "books", "x")]:
+    for words in [
+        (), ("reply",), ("answer",), ("answer", ":memory:", DAY, SEED),
+        ("answer", ":memory:", DAY, SEED, OPERATOR, "x"), ("serve", ":memory:", "8080"),
+        ("serve", ":memory:", "8080", OPERATOR, "x"), ("migrate",), ("check",), ("check", "books", "x"),
+    ]:
         expect(f"{words}", ends(*words), USAGE)
 
 
@@ -61,7 +67,9 @@ def stored(name):
 
 def told_over(path):
     """The replies to the requests of the stored run over a file."""
-    ran = subprocess.run([PROGRAM, "answer", path, DAY, SEED, OPERATOR], input=stored("stdin"), capture_output=True, timeout=30)
+    ran = subprocess.run(
+        [PROGRAM, "answer", path, DAY, SEED, OPERATOR], input=stored("stdin"), capture_output=True, timeout=30,
+    )
     expect("how it ended", (ran.returncode, ran.stderr), (0, b""))
     return ran.stdout
 
@@ -78,7 +86,7 @@ def a_check_where_nothing_is_makes_an_empty_store():
     with tempfile.TemporaryDirectory() as room:
         path, empty = os.path.join(room, "books"), [0] * 6
         for step, of in [("in memory", ":memory:"), ("where nothing is", path), ("of what that made", path)]:
-            expect(f"a check {step}", check(of), tells(empty))
+            expect(f"a check {step}", check(of), a_sound_check(empty))
         expect("what it made", counted(path), empty)
 
 
@@ -132,23 +140,40 @@ def is_refused_and_stays(path, wanted, step):
 def files_that_are_no_store_of_ours_are_refused_and_stay():
     pledges = "CREATE TABLE pledges (id INTEGER PRIMARY KEY, owner TEXT)"
     for step, make, wanted in [
-            ("a text", plain(b"The books of High Street.\n" * 400), fault(503, "Store")),
-            ("a short text", plain(b"books"), fault(503, "Store")),
-            ("zeros", plain(bytes(8192)), fault(503, "Store")),
-            ("a store cut in half", cut_at(20480), fault(503, "Store")),
-            ("a store cut within a page", cut_at(9000), fault(503, "Store")),
-            ("a store cut within its header", cut_at(60), fault(503, "Store")),
-            ("a NULL where none may be", against_its_own_text("pledges", "article TEXT NOT NULL", "article TEXT", "UPDATE pledges SET article = NULL"), fault(503, "Store")),
-            ("a reference to no row", ours_but("INSERT INTO entries VALUES (7, 2, 1, 19753, 1, 100)"), fault(503, "Store")),
-            ("another program's table of pledges", strange(pledges, "INSERT INTO pledges VALUES (7, 'Ann')"), fault(502, "NotOurs")),
-            ("that table in the log", with_its_log(pledges, "INSERT INTO pledges VALUES (7, 'Ann')"), fault(502, "NotOurs")),
-            ("other tables alone", strange("CREATE TABLE note (id INTEGER PRIMARY KEY, title TEXT)"), fault(502, "NotOurs")),
-            ("a view alone", strange("CREATE VIEW note AS SELECT 1"), fault(502, "NotOurs")),
-            ("a table meta without a schema", strange("CREATE TABLE meta (name TEXT PRIMARY KEY, value INTEGER)"), fault(502, "NotOurs")),
-            ("a newer schema", of_schema(4), fault(502, "NotOurs")),
-            ("the schema 0", of_schema(0), fault(502, "NotOurs")),
-            ("an older schema", of_schema(2), fault(501, "OldSchema")),
-            ("the oldest schema", of_schema(1), fault(501, "OldSchema"))]:
+        ("a text", file_of(b"The books of High Street.\n" * 400), fault(503, "Store")),
+        ("a short text", file_of(b"books"), fault(503, "Store")), ("zeros", file_of(bytes(8192)), fault(503, "Store")),
+        ("a store cut in half", cut_at(20480), fault(503, "Store")),
+        ("a store cut within a page", cut_at(9000), fault(503, "Store")),
+        ("a store cut within its header", cut_at(60), fault(503, "Store")),
+        (
+            "a NULL where none may be",
+            against_its_own_text(
+                "pledges", "article TEXT NOT NULL", "article TEXT", "UPDATE pledges SET article = NULL",
+            ),
+            fault(503, "Store"),
+        ),
+        ("a reference to no row", ours_but("INSERT INTO entries VALUES (7, 2, 1, 19753, 1, 100)"), fault(503, "Store")),
+        (
+            "another program's table of pledges", database_of(pledges, "INSERT INTO pledges VALUES (7, 'Ann')"),
+            fault(502, "NotOurs"),
+        ),
+        (
+            "that table in the log", with_its_log(pledges, "INSERT INTO pledges VALUES (7, 'Ann')"),
+            fault(502, "NotOurs"),
+        ),
+        (
+            "other tables alone", database_of("CREATE TABLE note (id INTEGER PRIMARY KEY, title TEXT)"),
+            fault(502, "NotOurs"),
+        ),
+        ("a view alone", database_of("CREATE VIEW note AS SELECT 1"), fault(502, "NotOurs")),
+        (
+            "a table meta without a schema", database_of("CREATE TABLE meta (name TEXT PRIMARY KEY, value INTEGER)"),
+            fault(502, "NotOurs"),
+        ),
+        ("a newer schema", of_schema(4), fault(502, "NotOurs")), ("the schema 0", of_schema(0), fault(502, "NotOurs")),
+        ("an older schema", of_schema(2), fault(501, "OldSchema")),
+        ("the oldest schema", of_schema(1), fault(501, "OldSchema")),
+    ]:
         with tempfile.TemporaryDirectory() as room:
             path = os.path.join(room, "books")
             make(path)
@@ -164,9 +189,9 @@ def a_file_that_another_program_has_open_is_refused():
             for number in (1, 2):
                 receipt = client.open_pledge(number)
                 client.close()
-                before = found(path)
+                before = files_and_log(path)
                 is_refused(path, fault(503, "Store"), f"{number} pledges are served")
-                expect(f"the files of {number} pledges stay", found(path) == before, True)
+                expect(f"the files of {number} pledges stay", files_and_log(path) == before, True)
                 status, said = client.bearer(receipt, "GET", "/books/7/held")
                 expect(f"the statement of pledge {number}", (status, said.splitlines()[0]), (200, f"Pledge {number}"))
             client.close()
@@ -180,7 +205,7 @@ def paths_that_are_no_file_are_refused():
         is_refused(room, fault(503, "Store"), "a folder")
         is_refused("", fault(503, "Store"), "the empty path")
         expect("the folder", os.listdir(room), [])
-        plain(b"")(path)
+        file_of(b"")(path)
         is_refused(os.path.join(path, "books"), fault(503, "Store"), "a file in the path")
 
 
@@ -209,7 +234,11 @@ def output_that_cannot_be_written_breaks_off():
         expect("serve", ends("serve", ":memory:", str(free_port()), OPERATOR, stdout=full), IO)
 
 
-main(the_words_are_those_of_no_command, the_first_fault_of_answer_is_told, the_first_fault_of_serve_is_told, a_key_may_stand_in_a_file,
-     the_stored_run_over_a_file_is_answered_again_from_it, a_check_where_nothing_is_makes_an_empty_store,
-     files_that_are_no_store_of_ours_are_refused_and_stay, a_file_that_another_program_has_open_is_refused, paths_that_are_no_file_are_refused,
-     a_port_that_is_taken_is_not_listened_on, input_that_cannot_be_read_breaks_off, output_that_cannot_be_written_breaks_off)
+main(
+    the_words_are_those_of_no_command, the_first_fault_of_answer_is_told, the_first_fault_of_serve_is_told,
+    a_key_may_stand_in_a_file, the_stored_run_over_a_file_is_answered_again_from_it,
+    a_check_where_nothing_is_makes_an_empty_store, files_that_are_no_store_of_ours_are_refused_and_stay,
+    a_file_that_another_program_has_open_is_refused, paths_that_are_no_file_are_refused,
+    a_port_that_is_taken_is_not_listened_on, input_that_cannot_be_read_breaks_off,
+    output_that_cannot_be_written_breaks_off,
+)

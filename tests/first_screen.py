@@ -1,9 +1,10 @@
 #!/usr/bin/env python3
-"""The README's first screen: `make demo` on a clean clone tells the story that stands there, within five minutes where there are four processors. `make serve` is started as it says,
-each of its curl lines is run, and what it prints is compared. The service is still there 70 seconds after it said that it listens.
+"""The README's first screen: `make demo` on a clean clone tells the story that stands there, within five minutes where
+there are four processors. `make serve` is started as it says, each of its curl lines is run, and what it prints is
+compared. The service is still there 70 seconds after it said that it listens.
 
-A line that begins with `$ curl`, `$ KEY=` or `$ RECEIPT=` is run, and the lines under it are what it prints. The port, the folder, the day, the end of the period
-and the receipt are those of this run in place of the README's.
+A line that begins with `$ curl` or `$ RECEIPT=` is run, and the lines under it are what it prints. The port, the
+folder, the day, the end of the period and the receipt are those of this run in place of the README's.
 """
 import os
 import re
@@ -38,7 +39,8 @@ def steps():
 
 
 def the_demo_on_a_clean_clone():
-    """It says first that nothing is proved, then how far it is, and then what the README tells, and the run of docs/THEOREM.md."""
+    """It says first that nothing is proved, then how far it is, and then what the README tells, and the run of
+    docs/THEOREM.md."""
     (start, _), *lines = steps()
     expect("what it begins with", start, "make demo")
     if not shutil.which("rt") or not os.path.isdir(os.path.join(TOP, ".git")):
@@ -48,9 +50,13 @@ def the_demo_on_a_clean_clone():
         begun = time.monotonic()
         subprocess.run(["git", "clone", "-q", TOP, room], check=True, timeout=60)
         environment = {name: value for name, value in os.environ.items() if name != "PAWND"}
-        ran = subprocess.run(start.split(), cwd=room, stdin=subprocess.DEVNULL, stdout=subprocess.PIPE, stderr=subprocess.PIPE, text=True, env=environment, timeout=1200)
+        ran = subprocess.run(
+            start.split(), cwd=room, stdin=subprocess.DEVNULL, stdout=subprocess.PIPE, stderr=subprocess.PIPE,
+            text=True, env=environment, timeout=1200,
+        )
         taken = time.monotonic() - begun
-        changed = subprocess.run(["git", "-C", room, "status", "--porcelain"], capture_output=True, text=True, check=True, timeout=60).stdout
+        asks = ["git", "-C", room, "status", "--porcelain"]
+        changed = subprocess.run(asks, capture_output=True, text=True, check=True, timeout=60).stdout
     expect("how it ended", (ran.returncode, ran.stderr, changed), (0, "", ""))
     said = ran.stdout.split("\n")
     expect("its first line", all(word in said[0] for word in ("WITHOUT its proof", "rt try", "make serve")), True)
@@ -61,11 +67,16 @@ def the_demo_on_a_clean_clone():
             shown = "".join(f"    {line}\n" for line in told.split("\n"))
             expect(f"the demo tells this to {command}: {shown}", shown in rest, True)
             rest = rest.split(shown, 1)[1]
-    expect("the requests of docs/THEOREM.md", re.findall(r"(?m)^(\d+)\. ", rest), [str(number) for number in range(1, 16)])
+    expect(
+        "the requests of docs/THEOREM.md", re.findall(r"(?m)^(\d+)\. ", rest), [str(number) for number in range(1, 16)],
+    )
     expect("its end", "23 requests, 23 answered as expected" in said[-3], True)
     print(f"        the demo took {taken:.0f} seconds from git clone on", flush=True)
     # Beside other work it takes as much longer as that is more than the processors can do.
-    expect(f"within {SOON} seconds, where nothing else runs on four processors", taken < SOON * max(1, os.getloadavg()[1] / 4, 4 / len(os.sched_getaffinity(0))), True)
+    expect(
+        f"within {SOON} seconds, where nothing else runs on four processors",
+        taken < SOON * max(1, os.getloadavg()[1] / 4, 4 / len(os.sched_getaffinity(0))), True,
+    )
 
 
 STORY = """\
@@ -87,10 +98,16 @@ def a_story_of_ones_own():
         for story, status in ((STORY, 0), (STORY.replace('{"book":7}', '{"book":8}'), 2), ("x\n", 2), ("", 2)):
             with open(path, "w") as it:
                 it.write(story)
-            ran = subprocess.run(["make", "-s", "demo", f"FILE={path}"], cwd=TOP, stdin=subprocess.DEVNULL, capture_output=True, text=True, env={**os.environ, "PAWND": PROGRAM}, timeout=60)
+            ran = subprocess.run(
+                ["make", "-s", "demo", f"FILE={path}"], cwd=TOP, stdin=subprocess.DEVNULL, capture_output=True,
+                text=True, env={**os.environ, "PAWND": PROGRAM}, timeout=60,
+            )
             expect(f"how make ended with {story[:200]!r}", ran.returncode, status)
             if story.startswith("#"):
-                for line in ("A clock is taken.\n  2024-01-31  POST /books/7   with the operator's key\n", "And shown the next day.\n  2024-02-01  GET /books/7/held   with receipt 1-", "    Article Clock\n"):
+                for line in (
+                    "A clock is taken.\n  2024-01-31  POST /books/7   with the operator's key\n",
+                    "And shown the next day.\n  2024-02-01  GET /books/7/held   with receipt 1-", "    Article Clock\n",
+                ):
                     expect(f"it tells {line!r}", line in ran.stdout, True)
                 expect("what it tells of a reply", "NOT AS EXPECTED" in ran.stdout, story != STORY)
             else:
@@ -99,8 +116,10 @@ def a_story_of_ones_own():
 
 def serve(command, port, data):
     """The service, started by the README's own command, on this port and in this folder."""
-    program = subprocess.Popen([*command.split(), f"PORT={port}", f"DATA={data}"], cwd=TOP, stdin=subprocess.DEVNULL, stdout=subprocess.PIPE, text=True,
-                               env={**os.environ, "PAWND": PROGRAM}, start_new_session=True)
+    program = subprocess.Popen(
+        [*command.split(), f"PORT={port}", f"DATA={data}"], cwd=TOP, stdin=subprocess.DEVNULL, stdout=subprocess.PIPE,
+        text=True, env={**os.environ, "PAWND": PROGRAM}, start_new_session=True,
+    )
     for line in program.stdout:
         if line == f"listening {port}\n":
             return program
@@ -120,13 +139,23 @@ def ask(lines, port, folder, data):
         if not command.startswith("curl "):
             shell += f"{command}\n"
             continue
-        ran = subprocess.run(["bash", "-c", shell + command], cwd=folder, stdin=subprocess.DEVNULL, stdout=subprocess.PIPE, stderr=subprocess.DEVNULL, timeout=30)
+        ran = subprocess.run(
+            ["bash", "-c", shell + command], cwd=folder, stdin=subprocess.DEVNULL, stdout=subprocess.PIPE,
+            stderr=subprocess.DEVNULL, timeout=30,
+        )
         said = ran.stdout.decode().strip("\n")
         receipt = next(iter(RECEIPT.findall(said)), receipt)
         told = told.replace(days[0], str(today())).replace(days[1], str(six_months_after(today())))
         expect(command, said, RECEIPT.sub(str(receipt), told).replace(told_first[2:], str(receipt)[2:]))
     if receipt is None:
         raise Failed("no receipt was given")
+
+
+def the_operators_key_is_on_no_command_line():
+    """Each line that names the key's file hands curl a file to read it from."""
+    naming = [command for command, _ in steps() if "operator.key" in command]
+    expect("that some line names the key's file", len(naming) > 0, True)
+    expect("lines that take the key out of its file", [it for it in naming if "-H @<(" not in it], [])
 
 
 def the_first_screen():
@@ -141,11 +170,14 @@ def the_first_screen():
             time.sleep(max(0, STAYS - (time.monotonic() - begun)))
             expect("the service after a while", program.poll(), None)
             asked = next(command for command, _ in lines if command.startswith("curl ") and "/export" in command)
-            again = subprocess.run(["bash", "-c", asked.replace(PORT, f"127.0.0.1:{port}")], stdout=subprocess.PIPE, stderr=subprocess.DEVNULL, timeout=30)
+            again = subprocess.run(
+                ["bash", "-c", asked.replace(PORT, f"127.0.0.1:{port}")], stdout=subprocess.PIPE,
+                stderr=subprocess.DEVNULL, timeout=30,
+            )
             expect("a request then", again.stdout[:6], b"row,c1")
         finally:
             os.killpg(program.pid, signal.SIGTERM)
             program.communicate(timeout=30)
 
 
-main(the_demo_on_a_clean_clone, a_story_of_ones_own, the_first_screen)
+main(the_demo_on_a_clean_clone, a_story_of_ones_own, the_operators_key_is_on_no_command_line, the_first_screen)

@@ -15,7 +15,7 @@ import threading
 import time
 
 from browser import PATHS, Once, wait_for
-from service import BROKER, OPERATOR, PROGRAM, TOP, WAIT, Failed, expect, request, today
+from service import BROKER, COLUMNS, OPERATOR, PROGRAM, TOP, WAIT, Failed, expect, request, today
 
 NAME = "books.example.org"
 # What each program comes in, as a package of Debian.
@@ -250,7 +250,7 @@ class Hosted:
         for shard in self.shards:
             self.stack.callback(shard.kill)
             shard.start()
-        self.port, self.plain, self.waiting = steady_port(), steady_port(), steady_port()
+        self.port, self.plain, self.waiting, self.workers = (steady_port() for _ in range(4))
         self.configure()
         self.serve()
         return self
@@ -258,7 +258,7 @@ class Hosted:
     def configure(self):
         """The files of deploy/nginx in a folder of this server's own, the operator's files, and the pages beside
         them."""
-        self.conf = os.path.join(self.room, "nginx")
+        self.conf, self.places = os.path.join(self.room, "nginx"), os.path.join(self.room, "pawnd-places")
         shutil.copytree(os.path.join(TOP, "deploy/nginx"), self.conf)
         for name in SETTINGS:
             shutil.copy(os.path.join(TOP, "deploy/examples", name), self.settings)
@@ -304,7 +304,9 @@ class Hosted:
                 + " ".join(f"{it}_temp_path {self.room}/unused;" for it in ("fastcgi", "uwsgi", "scgi")),
             ),
             ("/etc/pawnd/", f"{self.settings}/"),
+            ("/var/lib/pawnd-places/", f"{self.places}/"),
             ("127.0.0.1:8100", f"127.0.0.1:{self.waiting}"),
+            ("127.0.0.1:8099", f"127.0.0.1:{self.workers}"),
         )
         self.edit("pawnd/pause.conf", ("127.0.0.1:8100", f"127.0.0.1:{self.waiting}"))
         self.edit("pawnd/plain.conf", ("/var/lib/acme", f"{self.room}/acme"))
@@ -328,7 +330,19 @@ class Hosted:
         )
         with open(os.path.join(self.settings, "books.map"), "a") as it:
             it.writelines(f"{book} shard{shard};\n" for book, shard in self.books.items())
+        self.lay()
         self.edit("pawnd/http.conf", *self.changes)
+
+    def lay(self):
+        """The places of the map's books, as `shards reload` makes them."""
+        for folder in (self.places, *(os.path.join(self.places, f"shard{n}") for n in range(1, self.many + 1))):
+            os.mkdir(folder)
+            os.chmod(folder, 0o711)
+        for name in ("moving", "none"):
+            with open(os.path.join(self.places, name), "w"):
+                pass
+        for book, shard in self.books.items():
+            os.symlink(f"shard{shard}", os.path.join(self.places, str(book)))
 
     def edit(self, name, *pairs):
         path = os.path.join(self.settings if name in SETTINGS else self.conf, name)
@@ -419,18 +433,24 @@ class Hosted:
 
     def environment(self):
         """What `deploy/shards` is told of this host."""
-        own = {"STORES": "shards", "COPIES": "copies", "ACCESS": "logs/access.log", "CONF": "nginx/nginx.conf"}
+        own = {
+            "STORES": "shards",
+            "COPIES": "copies",
+            "ACCESS": "logs/access.log",
+            "CONF": "nginx/nginx.conf",
+            "PLACES": "pawnd-places",
+        }
         return {"SETTINGS": self.settings, **{name: os.path.join(self.room, path) for name, path in own.items()}}
 
 
-def run_shards(*words, wanted=0, **environment):
+def run_shards(*words, wanted=0, within=120, **environment):
     """What `deploy/shards` prints, or what it complains of where it is to end with another status than 0 (None is
     any)."""
     ran = subprocess.run(
         [os.path.join(TOP, "deploy/shards"), *map(str, words)],
         capture_output=True,
         text=True,
-        timeout=120,
+        timeout=within,
         stdin=subprocess.DEVNULL,
         env={**os.environ, "PATH": PATHS, "PAWND": PROGRAM, **environment},
     )
@@ -559,7 +579,7 @@ def long_book(size):
         seq += 1
         length += row("E", number, seq, day, "repay", 1)
     head = [
-        "row," + ",".join(f"c{n}" for n in range(1, 15)) + "\n",
+        COLUMNS + "\n",
         f"B,2,1,{number}" + "," * 11 + "\n",
         "T,1,0,0,0" + "," * 10 + "\n",
     ]

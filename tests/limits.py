@@ -3,7 +3,9 @@
 import datetime
 import subprocess
 
-from service import BROKER, OPERATOR, PROGRAM, SEED, Server, expect, main, read_all, refusal, request, six_months_after, today
+from service import (
+    BROKER, OPERATOR, PROGRAM, SEED, Server, expect, main, read_all, refusal, request, six_months_after, today,
+)
 
 
 def money(pence):
@@ -27,7 +29,10 @@ def ten_thousand_entries_less_one():
             sort, pence = ("draw", 2) if seq % 2 else ("repay", 1)
             principal += pence if sort == "draw" else -pence
             entered = {"day": day, "pence": pence, "seq": seq, "sort": sort}
-            expect(f"entry {seq}", session.broker("POST", f"/books/7/pledges/1/{sort}", {"pence": pence, "seq": seq}), (200, entered))
+            expect(
+                f"entry {seq}", session.broker("POST", f"/books/7/pledges/1/{sort}", {"pence": pence, "seq": seq}),
+                (200, entered),
+            )
             entries.append(f"Entry {seq} {day} {sort} {money(pence)}")
         wanted = [f"Principal {money(principal)}", *entries]
         for step, reply in (("the bearer's statement", session.bearer(receipt, "GET", "/books/7/held")),
@@ -68,14 +73,23 @@ def ninety_nine_extensions():
         end, extended = six_months_after(taken), []
         for _ in range(99):
             end += datetime.timedelta(days=1)
-            expect(f"until {end}", session.broker("POST", "/books/7/pledges/1/extend", {"until": str(end)}), (200, {"ends": str(end)}))
+            expect(
+                f"until {end}", session.broker("POST", "/books/7/pledges/1/extend", {"until": str(end)}),
+                (200, {"ends": str(end)}),
+            )
             extended.append(f"Extended {taken} to {end}")
         later = end + datetime.timedelta(days=1)
         refused = session.broker("POST", "/books/7/pledges/1/extend", {"until": str(later)})
         expect("one more", refused, (409, {"code": 316, "name": "ExtensionsFull"}))
-        expect("the last again", session.broker("POST", "/books/7/pledges/1/extend", {"until": str(end)}), (200, {"ends": str(end)}))
+        expect(
+            "the last again", session.broker("POST", "/books/7/pledges/1/extend", {"until": str(end)}),
+            (200, {"ends": str(end)}),
+        )
         step = "the statement"
-        expect(step, lines(step, session.bearer(receipt, "GET", "/books/7/held"), "Ends", "Extended"), [f"Ends {end}", *extended])
+        expect(
+            step, lines(step, session.bearer(receipt, "GET", "/books/7/held"), "Ends", "Extended"),
+            [f"Ends {end}", *extended],
+        )
 
 
 def one_to_thirty_two_receipts():
@@ -87,7 +101,9 @@ def one_to_thirty_two_receipts():
         session.close()
         for count in range(1, 34):
             with server.connect() as peer:
-                peer.sendall(request("GET", "/books/7/held", *[f"Pledge-Receipt: {receipt}"] * count, "Connection: close"))
+                peer.sendall(
+                    request("GET", "/books/7/held", *[f"Pledge-Receipt: {receipt}"] * count, "Connection: close")
+                )
                 said = read_all(peer)
             if count > 32:
                 expect(f"{count} receipts", said, refusal(711, "TooManyReceipts", "400 Bad Request"))
@@ -103,7 +119,10 @@ def more_than_a_thousand_pledges():
         for number in (1, 500, 1000, 1001):
             status, said = session.bearer(receipts[number - 1], "GET", "/books/7/held")
             expect(f"pledge {number}", (status, said.splitlines()[0]), (200, f"Pledge {number}"))
-        expect("one that is not there", session.broker("GET", "/books/7/pledges/1002"), (404, {"code": 403, "name": "NoSuchPledge"}))
+        expect(
+            "one that is not there", session.broker("GET", "/books/7/pledges/1002"),
+            (404, {"code": 403, "name": "NoSuchPledge"}),
+        )
         ends = said.splitlines()[4].removeprefix("Ends ")
         sheet = "".join(f"Pledge {number}\n" for number in range(1, 1002))
         expect("the day on which they end", session.broker("GET", f"/books/7/days/{ends}"),
@@ -120,9 +139,12 @@ def every_window_of_a_day():
             asked = session.bearer(receipt, "POST", "/books/7/held/ask", {"day": day, "window": booking["window"]})
             expect(f"pledge {number} asks", asked, (200, booking))
             decided = session.broker("POST", f"/books/7/pledges/{number}/decide", {"yes": True})
-            wanted = (200, {**booking, "booking": "confirmed"}) if number < 17 else (409, {"code": 408, "name": "WindowFull"})
+            full = (409, {"code": 408, "name": "WindowFull"})
+            wanted = (200, {**booking, "booking": "confirmed"}) if number < 17 else full
             expect(f"pledge {number} is confirmed", decided, wanted)
-        windows = "".join(f"Window {window} confirmed 1 of 1\nPledge {(16 - window) % 16 + 1}\n" for window in range(16))
+        windows = "".join(
+            f"Window {window} confirmed 1 of 1\nPledge {(16 - window) % 16 + 1}\n" for window in range(16)
+        )
         expect("the day's sheet", session.broker("GET", f"/books/7/days/{day}"),
                (200, f"Day sheet {day}\n{windows}Asked 1\nPledge 17 window 0\nEnds 0\n"))
 
@@ -145,7 +167,9 @@ def the_largest_numbers():
 
 def answers(stream):
     """What the program answers to a stream."""
-    ran = subprocess.run([PROGRAM, "answer", ":memory:", "2024-01-31", SEED, OPERATOR], input=stream, stdout=subprocess.PIPE, timeout=60)
+    ran = subprocess.run(
+        [PROGRAM, "answer", ":memory:", "2024-01-31", SEED, OPERATOR], input=stream, stdout=subprocess.PIPE, timeout=60,
+    )
     expect("its status", ran.returncode, 0)
     return ran.stdout
 
@@ -177,5 +201,8 @@ def heads_at_their_limits():
         expect(f"{count} fields", answers(request("GET", "/books/7/held", *["Field: x"] * count)), wanted)
 
 
-main(ten_thousand_entries_less_one, a_hundred_declarations, ninety_nine_extensions, one_to_thirty_two_receipts, more_than_a_thousand_pledges,
-     every_window_of_a_day, the_largest_numbers, the_longest_body, a_body_of_too_many_levels, heads_at_their_limits)
+main(
+    ten_thousand_entries_less_one, a_hundred_declarations, ninety_nine_extensions, one_to_thirty_two_receipts,
+    more_than_a_thousand_pledges, every_window_of_a_day, the_largest_numbers, the_longest_body,
+    a_body_of_too_many_levels, heads_at_their_limits,
+)

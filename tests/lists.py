@@ -1,22 +1,18 @@
 #!/usr/bin/env python3
-"""Lists of a page's rows, one fewer and one more, of two pages and of many, in memory and in a file: the same bytes, and the lines that were put in."""
+"""Lists of a page's rows, one fewer and one more, of two pages and of many, in memory and in a file: the same bytes,
+and the lines that were put in."""
 import json
 import os
 import random
 import subprocess
 import tempfile
 
-from service import BROKER, OPERATOR, PROGRAM, SEED, expect, main, request
+from service import BROKER, COLUMNS, OPERATOR, PROGRAM, SEED, expect, main, request, row
 
 # A page has 64 rows.
 SIZES = (0, 1, 63, 64, 65, 128)
 IMPORT = "44444444-4444-4444-4444-444444444444"
-HEADER = "row," + ",".join(f"c{n}" for n in range(1, 15))
 TAKEN, ASKED, SIX = "2024-01-31", "2024-02-01", "2024-07-31"
-
-
-def row(*columns):
-    return ",".join([*map(str, columns), *[""] * (15 - len(columns))])
 
 
 def secret(number, place=1):
@@ -26,7 +22,8 @@ def secret(number, place=1):
 
 def text(pledges):
     """The rows of a book whose terms charge nothing, with these rows of each pledge."""
-    return "\n".join([HEADER, row("B", 2, 1, len(pledges)), row("T", 1, 0, 0, 0), *(line for lines in pledges for line in lines), ""])
+    lines = [line for lines in pledges for line in lines]
+    return "\n".join([COLUMNS, row("B", 2, 1, len(pledges)), row("T", 1, 0, 0, 0), *lines, ""])
 
 
 def pledge(number, agreed="", last=TAKEN, kind="fixed"):
@@ -39,7 +36,9 @@ def first_secret(number):
 
 def told(store, asked):
     """The replies' bodies of a run over a store, and all its bytes."""
-    ran = subprocess.run([PROGRAM, "answer", store, ASKED, SEED, OPERATOR], input=b"".join(asked), stdout=subprocess.PIPE, timeout=120)
+    ran = subprocess.run(
+        [PROGRAM, "answer", store, ASKED, SEED, OPERATOR], input=b"".join(asked), stdout=subprocess.PIPE, timeout=120,
+    )
     expect("the run", ran.returncode, 0)
     bodies, rest = [], ran.stdout
     while rest:
@@ -77,14 +76,27 @@ def lines_of(body, label):
 
 def entries_by_the_page():
     sizes = (*SIZES, 9999)
-    pledges = [[pledge(number, kind="running"), first_secret(number), *(row("E", number, seq, TAKEN, "draw", 1) for seq in range(1, size + 1))]
-               for number, size in enumerate(sizes, 1)]
+    pledges = [
+        [
+            pledge(number, kind="running"), first_secret(number),
+            *(row("E", number, seq, TAKEN, "draw", 1) for seq in range(1, size + 1)),
+        ]
+        for number, size in enumerate(sizes, 1)
+    ]
     rows = text(pledges)
-    _, imported, *statements, exported = in_both([*filling(rows), *(broker(f"pledges/{number}") for number in range(1, len(sizes) + 1)), broker("export")])
+    _, imported, *statements, exported = in_both(
+        [*filling(rows), *(broker(f"pledges/{number}") for number in range(1, len(sizes) + 1)), broker("export")]
+    )
     expect("the import", imported, f'{{"imported":{len(sizes)}}}')
     for size, statement in zip(sizes, statements):
-        expect(f"{size} entries", lines_of(statement, "Entry "), [f"Entry {seq} {TAKEN} draw 0.01" for seq in range(1, size + 1)])
-        expect(f"what is owed after {size}", lines_of(statement, "Principal "), [f"Principal {size // 100}.{size % 100:02}"])
+        expect(
+            f"{size} entries", lines_of(statement, "Entry "),
+            [f"Entry {seq} {TAKEN} draw 0.01" for seq in range(1, size + 1)],
+        )
+        expect(
+            f"what is owed after {size}", lines_of(statement, "Principal "),
+            [f"Principal {size // 100}.{size % 100:02}"],
+        )
     expect("the export", exported, rows)
 
 
@@ -97,7 +109,9 @@ def secrets_and_extensions_by_the_page():
         longer = [row("X", number, place, TAKEN, day) for place, day in enumerate(until, 1)]
         pledges.append([pledge(number), first_secret(number), *later, *longer])
     rows = text(pledges)
-    _, _, *statements, exported = in_both([*filling(rows), *(broker(f"pledges/{number}") for number in range(1, len(counts) + 1)), broker("export")])
+    _, _, *statements, exported = in_both(
+        [*filling(rows), *(broker(f"pledges/{number}") for number in range(1, len(counts) + 1)), broker("export")]
+    )
     for (_, extensions), statement in zip(counts, statements):
         expect(f"{extensions} extensions", len(lines_of(statement, "Extended ")), extensions)
     expect("the export", exported, rows)
@@ -110,7 +124,10 @@ def sheet_of(day, booked, ends, states=("confirmed", "asked")):
         if on == day and state == states[0]:
             comes.setdefault(window, []).append(number)
     for window in sorted(comes):
-        lines += [f"Window {window} confirmed {len(comes[window])} of 2", *(f"Pledge {number}" for number in sorted(comes[window]))]
+        lines += [
+            f"Window {window} confirmed {len(comes[window])} of 2",
+            *(f"Pledge {number}" for number in sorted(comes[window])),
+        ]
     asked = sorted(number for number, (on, _, state) in booked.items() if on == day and state == states[1])
     lines += [f"Asked {len(asked)}", *(f"Pledge {number} window {booked[number][1]}" for number in asked)]
     ending = sorted(number for number, end in ends.items() if end == day)
@@ -121,9 +138,16 @@ def sheet_of(day, booked, ends, states=("confirmed", "asked")):
 def day_sheets_by_the_page():
     seeded = random.Random(64)
     # on one day so many come in each of some windows; on others so many asked to, or so many periods end
-    wanted = [("2024-02-05", window, "confirmed") for window, size in zip((0, 3, 4, 9, 12, 15), (65, 0, 1, 64, 63, 128)) for _ in range(size)]
-    wanted += [(f"2024-02-{10 + at}", seeded.randrange(16), "asked") for at, size in enumerate(SIZES) for _ in range(size)]
-    wanted += [("2024-02-05", seeded.randrange(16), state) for state in ("asked", "refused", "cancelled") for _ in range(20)]
+    wanted = [
+        ("2024-02-05", window, "confirmed")
+        for window, size in zip((0, 3, 4, 9, 12, 15), (65, 0, 1, 64, 63, 128)) for _ in range(size)
+    ]
+    wanted += [
+        (f"2024-02-{10 + at}", seeded.randrange(16), "asked") for at, size in enumerate(SIZES) for _ in range(size)
+    ]
+    wanted += [
+        ("2024-02-05", seeded.randrange(16), state) for state in ("asked", "refused", "cancelled") for _ in range(20)
+    ]
     wanted += [None] * sum(SIZES)
     seeded.shuffle(wanted)
     ends_left = [f"2024-09-{1 + at:02}" for at, size in enumerate(SIZES) for _ in range(size)]
@@ -136,7 +160,10 @@ def day_sheets_by_the_page():
             booked[number] = booking
             rows.append(row("K", number, booking[0], booking[1], booking[2]))
         pledges.append(rows)
-    days = ["2024-02-05", *(f"2024-02-{10 + at}" for at in range(len(SIZES))), *(f"2024-09-{1 + at:02}" for at in range(len(SIZES))), SIX, "2024-02-29"]
+    days = [
+        "2024-02-05", *(f"2024-02-{10 + at}" for at in range(len(SIZES))),
+        *(f"2024-09-{1 + at:02}" for at in range(len(SIZES))), SIX, "2024-02-29",
+    ]
     _, imported, *sheets = in_both([*filling(text(pledges)), *(broker(f"days/{day}") for day in days)])
     expect("the import", imported, f'{{"imported":{len(wanted)}}}')
     for day, sheet in zip(days, sheets):

@@ -1,6 +1,7 @@
 #!/usr/bin/env python3
-"""What becomes of a store whose log is taken away, cut, bent, or changed for another while the program does not run. Much of it can't be seen at the next start, and is told nowhere:
-what is pinned down here is that a front of the changes is served, each of them whole, and when the log is copied into the database, so that nothing hangs on it."""
+"""What becomes of a store whose log is taken away, cut, bent, or changed for another while the program does not run.
+Much of it can't be seen at the next start, and is told nowhere: what is pinned down here is that a front of the
+changes is served, each of them whole, and when the log is copied into the database, so that nothing hangs on it."""
 import os
 import random
 import shutil
@@ -19,7 +20,8 @@ def lengths(path):
 
 
 def killed(path, pledges, first=1):
-    """A service makes a book where there is none, and takes pledges, and is killed. The book's text after each change, of which the first is that it began with."""
+    """A service makes a book where there is none, and takes pledges, and is killed. The book's text after each
+    change, of which the first is that it began with."""
     with Server(path) as server:
         session = server.session()
         texts = []
@@ -58,7 +60,8 @@ class Copied:
 
 
 def a_front(step, texts, path):
-    """A check finds nothing wrong, and the book is as after some of the changes. After how many, and none where there is no such book."""
+    """A check finds nothing wrong, and the book is as after some of the changes. After how many, and none where
+    there is no such book."""
     status, said, complained = check(path)
     expect(f"{step}: a check", (status, complained), (0, ""))
     text = served(path)
@@ -67,7 +70,8 @@ def a_front(step, texts, path):
 
 
 def a_start_copies_the_log_in():
-    """A service that is killed leaves changes in its log alone, be they all of them or a few. The next one copies them in, so what becomes of its log is no matter to them."""
+    """A service that is killed leaves changes in its log alone, be they all of them or a few. The next one copies
+    them in, so what becomes of its log is no matter to them."""
     with tempfile.TemporaryDirectory() as room:
         path = os.path.join(room, "books")
         texts = []
@@ -139,7 +143,8 @@ def a_log_in_which_one_bit_was_bent():
 
 
 def a_log_of_another_store():
-    """It is taken for the store's own: the other store's book is served, also in the place of one that the database holds."""
+    """It is taken for the store's own: the other store's book is served, also in the place of one that the database
+    holds."""
     with tempfile.TemporaryDirectory() as room:
         path, other = os.path.join(room, "books"), os.path.join(room, "other")
         killed(path, 5)
@@ -166,5 +171,7 @@ def an_older_log():
             expect("what is served", a_front("an older log", texts, copy), len(texts) - 1)
 
 
-main(a_start_copies_the_log_in, an_orderly_end_copies_the_log_in, a_log_that_was_taken_away, a_log_that_was_cut, a_log_in_which_one_bit_was_bent,
-     a_log_of_another_store, an_older_log)
+main(
+    a_start_copies_the_log_in, an_orderly_end_copies_the_log_in, a_log_that_was_taken_away, a_log_that_was_cut,
+    a_log_in_which_one_bit_was_bent, a_log_of_another_store, an_older_log,
+)

@@ -1,9 +1,9 @@
 #!/usr/bin/env python3
-"""Memory that is refused: each allocation of each story and of a migration in turn, and in a service that runs. Each answer is as the
-rules have it with some requests answered 491, and the content is that of the others.
+"""Memory that is refused: each allocation of each story and of a migration in turn, and in a service that runs. Each
+answer is as the rules have it with some requests answered 491, and the content is that of the others.
 
-Over a file, and with all allocations that follow refused too, one in so many is tried, from a place that a seed gives. With EVERY=1 in
-the environment, as under `make fuzz`, each is."""
+Over a file, and with all allocations that follow refused too, one in so many is tried, from a place that a seed
+gives. With EVERY=1 in the environment, as under `make fuzz`, each is."""
 import http.client
 import os
 import random
@@ -48,14 +48,18 @@ def all_memory_from_some_allocation_on():
 
 
 def each_allocation_of_a_migration():
-    """An allocation that is refused while a store of an older schema is moved leaves the store for another try, which moves it to the same books."""
+    """An allocation that is refused while a store of an older schema is moved leaves the store for another try,
+    which moves it to the same books."""
     for count in each_refused_in_a_migration("m", NOT_MOVED, books=1):
         told(count)
 
 
 def while_it_serves():
-    """An allocation that is refused in a service that runs costs the request at hand at most: the next is answered, and nothing is done twice or in part."""
-    for mode, places in (("once", sorted(CHANCE.sample(range(1, 601), 600 if EVERY else 40))), ("on", (1, 2, 3, 40, 200))):
+    """An allocation that is refused in a service that runs costs the request at hand at most: the next is answered,
+    and nothing is done twice or in part."""
+    for mode, places in (
+        ("once", sorted(CHANCE.sample(range(1, 601), 600 if EVERY else 40))), ("on", (1, 2, 3, 40, 200)),
+    ):
         for at in places:
             with tempfile.TemporaryDirectory() as room:
                 one_while_it_serves(os.path.join(room, "books"), os.path.join(room, "during"), mode, at)
@@ -73,7 +77,10 @@ def one_while_it_serves(path, during, mode, at):
         for _ in range(3):
             try:
                 status, said = session.broker("POST", "/books/7/pledges", opening)
-                expect(f"an opening, {mode} {at}", status == 200 or (status, said) == (503, {"code": 491, "name": "Memory"}), True)
+                expect(
+                    f"an opening, {mode} {at}",
+                    status == 200 or (status, said) == (503, {"code": 491, "name": "Memory"}), True,
+                )
             except (OSError, http.client.HTTPException):
                 pass
             session.close()
@@ -89,4 +96,7 @@ def one_while_it_serves(path, during, mode, at):
 if refusing.library() is None:
     print("not tried: memory that is refused, since no C compiler is there\n0 passed, 0 failed")
     sys.exit(0)
-main(each_allocation_over_memory, each_allocation_over_a_file, all_memory_from_some_allocation_on, each_allocation_of_a_migration, while_it_serves)
+main(
+    each_allocation_over_memory, each_allocation_over_a_file, all_memory_from_some_allocation_on,
+    each_allocation_of_a_migration, while_it_serves,
+)

@@ -1,6 +1,6 @@
 #!/usr/bin/env python3
-"""`pawnd migrate` of files of older schemas, made of new ones by Python's sqlite3: the same replies before and after, what is refused
-and stays as it was, and what a kill leaves."""
+"""`pawnd migrate` of files of older schemas, made of new ones by Python's sqlite3: the same replies before and
+after, what is refused and stays as it was, and what a kill leaves."""
 import json
 import os
 import random
@@ -10,8 +10,13 @@ import tempfile
 import threading
 import time
 
-from service import BROKER, OPERATOR, PROGRAM, Failed, Server, by_python, check, copied, expect, main, opened, request, tells
-from stores import TO_FIRST, TO_SECOND, answer, bent_back, by, ends, fault, keyed, migrated, moved, opening, plain, shown, statement, stays, strange, with_its_log
+from service import (
+    BROKER, COLUMNS, OPERATOR, PROGRAM, Server, a_sound_check, by_python, check, copied, expect, main, opened, request,
+)
+from stores import (
+    TO_FIRST, TO_SECOND, WITHOUT_INDEXES, answer, bent_back, bent_by, database_of, ends, fault, file_of, keyed,
+    migrated, moved, opening, shown, statement, stays, with_its_log,
+)
 
 DAMAGED = fault(513, "Damaged")
 
@@ -34,7 +39,10 @@ def content(path):
 
 def book(number, rate=2667):
     terms = {"keep_after": 0, "keep_before": 0, "rate": rate, "version": 1}
-    return [keyed("POST", f"/books/{number}", {"capacity": 2, "key": BROKER, "name": "High Street"}, OPERATOR), keyed("POST", f"/books/{number}/terms", terms)]
+    return [
+        keyed("POST", f"/books/{number}", {"capacity": 2, "key": BROKER, "name": "High Street"}, OPERATOR),
+        keyed("POST", f"/books/{number}/terms", terms),
+    ]
 
 
 def all_done(step, replies):
@@ -47,8 +55,8 @@ def bearer(receipt, action, body, number=7):
 
 
 def fill(path):
-    """Two books: fixed sums and running accounts, with entries, declarations, bookings, an agreed end, one redeemed and one sold. The
-    requests that show all of it."""
+    """Two books: fixed sums and running accounts, with entries, declarations, bookings, an agreed end, one redeemed
+    and one sold. The requests that show all of it."""
     made = all_done("what was made", answer(
         path, *book(7),
         keyed("POST", "/books/7/pledges", opening(1)),
@@ -73,23 +81,43 @@ def fill(path):
         bearer(receipts[3], "redeem", {"paid": 10800}), day="2024-01-31", seed="1" * 64))
     receipts += [said["receipt"] for _, said in later if "receipt" in said]
     all_done("what was sold", answer(path, keyed("POST", "/books/7/pledges/5/sell", {"net": 9000}), day="2024-09-01"))
-    return [*(statement(number) for number in range(1, 8)), *(shown(receipt, 7) for receipt in receipts), statement(1, 999999999), shown(receipts[5], 999999999),
-            keyed("GET", "/books/7/export"), keyed("GET", "/books/999999999/export"), keyed("GET", "/books/7/days/2024-03-04"), keyed("GET", "/books/7/days/2025-03-01")]
+    return [
+        *(statement(number) for number in range(1, 8)), *(shown(receipt, 7) for receipt in receipts),
+        statement(1, 999999999), shown(receipts[5], 999999999), keyed("GET", "/books/7/export"),
+        keyed("GET", "/books/999999999/export"), keyed("GET", "/books/7/days/2024-03-04"),
+        keyed("GET", "/books/7/days/2025-03-01"),
+    ]
 
 
 def goes_on(path):
     """Replies to requests that change what a store holds."""
-    return answer(path, keyed("POST", "/books/7/pledges/1/repay", {"pence": 500, "seq": 2}), keyed("POST", "/books/7/pledges/2/draw", {"pence": 100, "seq": 3}),
-                  keyed("POST", "/books/7/pledges/1/extend", {"until": "2024-09-30"}), keyed("POST", "/books/7/pledges", opening(8)), statement(1), statement(2), day="2024-06-01")
+    return answer(
+        path, keyed("POST", "/books/7/pledges/1/repay", {"pence": 500, "seq": 2}),
+        keyed("POST", "/books/7/pledges/2/draw", {"pence": 100, "seq": 3}),
+        keyed("POST", "/books/7/pledges/1/extend", {"until": "2024-09-30"}),
+        keyed("POST", "/books/7/pledges", opening(8)), statement(1), statement(2), day="2024-06-01",
+    )
 
 
 def a_pledge_gets_what_it_owed_on_the_day_of_its_last_entry():
     with tempfile.TemporaryDirectory() as room:
         path = os.path.join(room, "books")
-        all_done("two pledges", answer(path, *book(7), keyed("POST", "/books/7/pledges", opening(1)), keyed("POST", "/books/7/pledges", opening(2)), day="2024-01-01"))
-        all_done("a repayment", answer(path, keyed("POST", "/books/7/pledges/1/repay", {"pence": 1000, "seq": 1}), day="2024-01-31"))
+        all_done(
+            "two pledges",
+            answer(
+                path, *book(7), keyed("POST", "/books/7/pledges", opening(1)),
+                keyed("POST", "/books/7/pledges", opening(2)), day="2024-01-01",
+            ),
+        )
+        all_done(
+            "a repayment",
+            answer(path, keyed("POST", "/books/7/pledges/1/repay", {"pence": 1000, "seq": 1}), day="2024-01-31"),
+        )
         before = answer(path, statement(1), statement(2))
-        expect("the statement of pledge 1", before[0][1].splitlines()[6:9], ["Principal 98.00", "Charges 7.84", "Owing 105.84"])
+        expect(
+            "the statement of pledge 1", before[0][1].splitlines()[6:9],
+            ["Principal 98.00", "Charges 7.84", "Owing 105.84"],
+        )
         old = bent_back(path, os.path.join(room, "old"), *TO_FIRST)
         expect("a migration", migrated(old), moved(1))
         with opened(old) as tables:
@@ -103,14 +131,19 @@ def every_reply_is_as_it_was():
         path, new = os.path.join(room, "books"), os.path.join(room, "new")
         asked = fill(path)
         before, told, tables = answer(path, *asked), check(path), content(path)
-        expect("its counts", told, tells(by_python(path)))
+        expect("its counts", told, a_sound_check(by_python(path)))
         shutil.copyfile(path, new)
         after = goes_on(new)
-        for number, statements in [(1, TO_FIRST), (2, TO_SECOND), (3, ())]:
-            old = bent_back(path, os.path.join(room, f"old{number}"), *statements)
+        for number, statements in [(1, TO_FIRST), (2, TO_SECOND), (3, WITHOUT_INDEXES), (3, ())]:
+            old = bent_back(path, os.path.join(room, f"old{number}-{len(statements)}"), *statements)
             if number < 3:
                 expect(f"a check, schema {number}", check(old), (1, "", "fault 501 OldSchema\n"))
-                stays(old, f"schema {number}", lambda: expect("an answer", ends("answer", old, "2024-03-01", "0" * 64, OPERATOR), fault(501, "OldSchema")))
+                stays(
+                    old, f"schema {number}",
+                    lambda: expect(
+                        "an answer", ends("answer", old, "2024-03-01", "0" * 64, OPERATOR), fault(501, "OldSchema"),
+                    ),
+                )
             expect(f"a migration, schema {number}", migrated(old), moved(number))
             expect(f"again, schema {number}", migrated(old), moved(3))
             expect(f"the tables, schema {number}", content(old), tables)
@@ -120,7 +153,8 @@ def every_reply_is_as_it_was():
 
 
 def text_of(count, entries):
-    """The text of a book of so many pledges, of which every third has so many repayments, and every seventh was declared."""
+    """The text of a book of so many pledges, of which every third has so many repayments, and every seventh was
+    declared."""
     rows = [f"B,2,1,{count}" + "," * 11, "T,1,2667,5,5" + "," * 10]
     for number in range(1, count + 1):
         paid, sworn = entries if number % 3 == 0 else 0, number % 7 == 0
@@ -130,8 +164,7 @@ def text_of(count, entries):
         if sworn:
             rows.append(f"S,{number},2,2024-02-01,sworn,00000000-0000-0000-0001-{number:012x}" + "," * 9)
         rows += [f"E,{number},{seq},2024-03-{min(seq, 10):02},repay,{seq}" + "," * 9 for seq in range(1, paid + 1)]
-    head = "row," + ",".join(f"c{n}" for n in range(1, 15))
-    return "\n".join([head, *rows, ""])
+    return "\n".join([COLUMNS, *rows, ""])
 
 
 def imported(path, books, count, entries):
@@ -140,7 +173,8 @@ def imported(path, books, count, entries):
         key = f"Import-Key: 44444444-4444-4444-4444-{number:012x}"
         text = request("POST", f"/books/{number}/import", f"Pledge-Key: {BROKER}", key, body=text_of(count, entries))
         all_done(f"book {number}", answer(path, book(number)[0], text))
-    return [keyed("GET", f"/books/{number}/export") for number in range(1, books + 1)] + [statement(number, 1) for number in (1, 3, 7, count)]
+    exports = [keyed("GET", f"/books/{number}/export") for number in range(1, books + 1)]
+    return exports + [statement(number, 1) for number in (1, 3, 7, count)]
 
 
 def thousands_of_pledges_are_moved():
@@ -149,7 +183,7 @@ def thousands_of_pledges_are_moved():
         asked = imported(path, 4, 3000, 4) + imported_long(path)
         before, told, tables = answer(path, *asked, day="2024-05-01"), check(path), content(path)
         for number, statements in [(1, TO_FIRST), (2, TO_SECOND)]:
-            old = bent_back(path, os.path.join(room, f"old{number}"), *statements)
+            old = bent_back(path, os.path.join(room, f"old{number}-{len(statements)}"), *statements)
             begun = time.monotonic()
             expect(f"a migration, schema {number}", migrated(old), moved(number))
             print(f"        schema {number}: 12,001 pledges in {time.monotonic() - begun:.1f} s")
@@ -161,40 +195,62 @@ def thousands_of_pledges_are_moved():
 def imported_long(path):
     """A book of one pledge of 999 repayments. What shows it."""
     rows = [f"E,1,{seq},2024-02-{1 + seq // 40:02},repay,1" + "," * 9 for seq in range(1, 1000)]
-    head = "row," + ",".join(f"c{n}" for n in range(1, 15))
-    text = "\n".join([head, "B,2,1,1" + "," * 11, "T,1,2667,5,5" + "," * 10, "P,1,A1,Gold ring,fixed,10000,2024-01-31,,no,1,no,2024-03-01,open,,",
-                      "S,1,1,2024-01-31,opening,00000000-0000-0000-0000-000000000003" + "," * 9, *rows, ""])
-    all_done("the long pledge", answer(path, book(77)[0], request("POST", "/books/77/import", f"Pledge-Key: {BROKER}", "Import-Key: 55555555-5555-5555-5555-555555555555", body=text)))
+    text = "\n".join(
+        [
+            COLUMNS, "B,2,1,1" + "," * 11, "T,1,2667,5,5" + "," * 10,
+            "P,1,A1,Gold ring,fixed,10000,2024-01-31,,no,1,no,2024-03-01,open,,",
+            "S,1,1,2024-01-31,opening,00000000-0000-0000-0000-000000000003" + "," * 9, *rows, "",
+        ]
+    )
+    all_done(
+        "the long pledge",
+        answer(
+            path, book(77)[0],
+            request(
+                "POST", "/books/77/import", f"Pledge-Key: {BROKER}", "Import-Key: 55555555-5555-5555-5555-555555555555",
+                body=text,
+            ),
+        ),
+    )
     return [keyed("GET", "/books/77/export"), statement(1, 77)]
 
 
 # What no pledge can have come to, of book 7 in a store of an older schema: the debt's rules or its terms' refuse it.
 IMPOSSIBLE = [
-    ("an entry of nothing", by("UPDATE entries SET pence = 0 WHERE book = 7 AND number = 1")),
-    ("an entry above all sums", by("UPDATE entries SET pence = 100000001 WHERE book = 7 AND number = 1")),
-    ("a repayment of more than is owing", by("UPDATE entries SET pence = 99999 WHERE book = 7 AND number = 1")),
-    ("a drawing above the limit", by("UPDATE entries SET pence = 10001 WHERE book = 7 AND number = 2 AND seq = 1")),
-    ("a drawing on a fixed sum", by("UPDATE entries SET sort = 0 WHERE book = 7 AND number = 1")),
-    ("an entry of an unknown sort", by("UPDATE entries SET sort = 2 WHERE book = 7 AND number = 2 AND seq = 1")),
-    ("an entry before the pledge was taken", by("UPDATE entries SET day = 19000 WHERE book = 7 AND number = 1")),
-    ("entries whose days fall", by("UPDATE entries SET day = day - 1 WHERE book = 7 AND number = 2 AND seq = 2")),
-    ("an entry of 2300", by("UPDATE entries SET day = 120530 WHERE book = 7 AND number = 1")),
-    ("an entry's number left out", by("UPDATE entries SET seq = 3 WHERE book = 7 AND number = 2 AND seq = 2")),
-    ("a sum of nothing", by("UPDATE pledges SET credit = 0 WHERE book = 7 AND number = 6")),
-    ("a sum above all sums", by("UPDATE pledges SET credit = 100000001 WHERE book = 7 AND number = 6")),
-    ("an unknown kind", by("UPDATE pledges SET kind = 2 WHERE book = 7 AND number = 6")),
-    ("a day taken in 2300", by("UPDATE pledges SET taken = 120530 WHERE book = 7 AND number = 6")),
-    ("an agreed end in 2300", by("UPDATE pledges SET agreed = 120530 WHERE book = 7 AND number = 3")),
-    ("a rate above all rates", by("UPDATE terms SET rate = 20001 WHERE book = 7 AND version = 1")),
-    ("safe keeping that is dearer after the end", by("UPDATE terms SET keep_after = 6 WHERE book = 7 AND version = 2")),
+    ("an entry of nothing", bent_by("UPDATE entries SET pence = 0 WHERE book = 7 AND number = 1")),
+    ("an entry above all sums", bent_by("UPDATE entries SET pence = 100000001 WHERE book = 7 AND number = 1")),
+    ("a repayment of more than is owing", bent_by("UPDATE entries SET pence = 99999 WHERE book = 7 AND number = 1")),
+    (
+        "a drawing above the limit",
+        bent_by("UPDATE entries SET pence = 10001 WHERE book = 7 AND number = 2 AND seq = 1"),
+    ),
+    ("a drawing on a fixed sum", bent_by("UPDATE entries SET sort = 0 WHERE book = 7 AND number = 1")),
+    ("an entry of an unknown sort", bent_by("UPDATE entries SET sort = 2 WHERE book = 7 AND number = 2 AND seq = 1")),
+    ("an entry before the pledge was taken", bent_by("UPDATE entries SET day = 19000 WHERE book = 7 AND number = 1")),
+    ("entries whose days fall", bent_by("UPDATE entries SET day = day - 1 WHERE book = 7 AND number = 2 AND seq = 2")),
+    ("an entry of 2300", bent_by("UPDATE entries SET day = 120530 WHERE book = 7 AND number = 1")),
+    ("an entry's number left out", bent_by("UPDATE entries SET seq = 3 WHERE book = 7 AND number = 2 AND seq = 2")),
+    ("a sum of nothing", bent_by("UPDATE pledges SET credit = 0 WHERE book = 7 AND number = 6")),
+    ("a sum above all sums", bent_by("UPDATE pledges SET credit = 100000001 WHERE book = 7 AND number = 6")),
+    ("an unknown kind", bent_by("UPDATE pledges SET kind = 2 WHERE book = 7 AND number = 6")),
+    ("a day taken in 2300", bent_by("UPDATE pledges SET taken = 120530 WHERE book = 7 AND number = 6")),
+    ("an agreed end in 2300", bent_by("UPDATE pledges SET agreed = 120530 WHERE book = 7 AND number = 3")),
+    ("a rate above all rates", bent_by("UPDATE terms SET rate = 20001 WHERE book = 7 AND version = 1")),
+    (
+        "safe keeping that is dearer after the end",
+        bent_by("UPDATE terms SET keep_after = 6 WHERE book = 7 AND version = 2"),
+    ),
 ]
 
 # What is moved as it stands, and found by a check: no debt follows from it.
 UNSEEN = [
-    ("a secret of 15 bytes", by("UPDATE secrets SET secret = substr(secret, 1, 15) WHERE book = 7 AND number = 2 AND place = 2")),
-    ("a window above 15", by("UPDATE bookings SET slot = 16 WHERE book = 7")),
-    ("another end", by("UPDATE pledges SET ends = ends + 1 WHERE book = 7 AND number = 6")),
-    ("another count of rows", by("UPDATE books SET pledges = pledges + 1 WHERE book = 7")),
+    (
+        "a secret of 15 bytes",
+        bent_by("UPDATE secrets SET secret = substr(secret, 1, 15) WHERE book = 7 AND number = 2 AND place = 2"),
+    ),
+    ("a window above 15", bent_by("UPDATE bookings SET slot = 16 WHERE book = 7")),
+    ("another end", bent_by("UPDATE pledges SET ends = ends + 1 WHERE book = 7 AND number = 6")),
+    ("another count of rows", bent_by("UPDATE books SET pledges = pledges + 1 WHERE book = 7")),
 ]
 
 
@@ -203,7 +259,7 @@ def a_debt_that_cannot_be_is_refused_and_stays():
         path = os.path.join(room, "books")
         fill(path)
         for number, statements in [(1, TO_FIRST), (2, TO_SECOND)]:
-            old = bent_back(path, os.path.join(room, f"old{number}"), *statements)
+            old = bent_back(path, os.path.join(room, f"old{number}-{len(statements)}"), *statements)
             for what, bend in IMPOSSIBLE:
                 step = f"{what}, schema {number}"
                 with tempfile.TemporaryDirectory() as folder:
@@ -227,19 +283,30 @@ def what_is_no_older_store_is_refused_and_stays():
     meta = "CREATE TABLE meta (name TEXT PRIMARY KEY, value INTEGER)"
     noted = "INSERT INTO meta VALUES ('schema', {})"
     for step, make, wanted in [
-            ("an empty file", plain(b""), fault(512, "NotOurs")),
-            ("another program's table of pledges", strange(pledges, "INSERT INTO pledges VALUES (7, 'Ann')"), fault(512, "NotOurs")),
-            ("that table in the log", with_its_log(pledges, "INSERT INTO pledges VALUES (7, 'Ann')"), fault(512, "NotOurs")),
-            ("a view alone", strange("CREATE VIEW note AS SELECT 1"), fault(512, "NotOurs")),
-            ("a table meta without a schema", strange(meta), fault(512, "NotOurs")),
-            ("the schema 0", strange(meta, noted.format(0)), fault(512, "NotOurs")),
-            ("a schema below 0", strange(meta, noted.format(-1)), fault(512, "NotOurs")),
-            ("a schema that is NULL", strange(meta, noted.format("NULL")), fault(512, "NotOurs")),
-            ("a schema that is a text", strange("CREATE TABLE meta (name TEXT PRIMARY KEY, value TEXT)", noted.format("'one'")), fault(512, "NotOurs")),
-            ("the schema 4", strange(meta, noted.format(4)), fault(511, "NewerSchema")),
-            ("the schema 4294967297", strange(meta, noted.format(2**32 + 1)), fault(511, "NewerSchema")),
-            ("a text", plain(b"The books of High Street.\n" * 400), fault(514, "Store")),
-            ("zeros", plain(bytes(8192)), fault(514, "Store"))]:
+        ("an empty file", file_of(b""), fault(512, "NotOurs")),
+        (
+            "another program's table of pledges", database_of(pledges, "INSERT INTO pledges VALUES (7, 'Ann')"),
+            fault(512, "NotOurs"),
+        ),
+        (
+            "that table in the log", with_its_log(pledges, "INSERT INTO pledges VALUES (7, 'Ann')"),
+            fault(512, "NotOurs"),
+        ),
+        ("a view alone", database_of("CREATE VIEW note AS SELECT 1"), fault(512, "NotOurs")),
+        ("a table meta without a schema", database_of(meta), fault(512, "NotOurs")),
+        ("the schema 0", database_of(meta, noted.format(0)), fault(512, "NotOurs")),
+        ("a schema below 0", database_of(meta, noted.format(-1)), fault(512, "NotOurs")),
+        ("a schema that is NULL", database_of(meta, noted.format("NULL")), fault(512, "NotOurs")),
+        (
+            "a schema that is a text",
+            database_of("CREATE TABLE meta (name TEXT PRIMARY KEY, value TEXT)", noted.format("'one'")),
+            fault(512, "NotOurs"),
+        ),
+        ("the schema 4", database_of(meta, noted.format(4)), fault(511, "NewerSchema")),
+        ("the schema 4294967297", database_of(meta, noted.format(2**32 + 1)), fault(511, "NewerSchema")),
+        ("a text", file_of(b"The books of High Street.\n" * 400), fault(514, "Store")),
+        ("zeros", file_of(bytes(8192)), fault(514, "Store")),
+    ]:
         with tempfile.TemporaryDirectory() as room:
             path = os.path.join(room, "books")
             make(path)
@@ -292,7 +359,9 @@ def a_kill_leaves_the_old_tables_or_the_new():
                 break
             with tempfile.TemporaryDirectory() as folder:
                 cut = bent_back(old, os.path.join(folder, "books"))
-                ran = subprocess.Popen([PROGRAM, "migrate", cut], stdin=subprocess.DEVNULL, stdout=subprocess.PIPE, stderr=subprocess.PIPE)
+                ran = subprocess.Popen(
+                    [PROGRAM, "migrate", cut], stdin=subprocess.DEVNULL, stdout=subprocess.PIPE, stderr=subprocess.PIPE,
+                )
                 # every other kill at the end, where the commit and the closing are
                 wait = chance.uniform(0.8, 1.05) if kill % 2 else chance.uniform(0, 1)
                 threading.Timer(wait * span, ran.kill).start()

@@ -1,7 +1,7 @@
 #!/usr/bin/env python3
 """Both pages as anybody uses them: by the keyboard alone, on screens of each width, light and dark, each field named
-and each refusal tied to its field; and what nginx sends and notes. In a real browser, by the real nginx, in front of the
-program. Pictures are left in build/pages/."""
+and each refusal tied to its field; and what nginx sends and notes. In a real browser, by the real nginx, in front of
+the program. Pictures are left in build/pages/."""
 import http.client
 import os
 import subprocess

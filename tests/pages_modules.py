@@ -8,16 +8,16 @@ import subprocess
 import tempfile
 
 from browser import Pages
-from pages_steps import ago, book_text, browser, files, fill_book, in_words, main, no_faults, read, row
-from service import BROKER, OPERATOR, expect, six_months_after, today
+from pages_steps import ago, book_text, browser, files, fill_book, in_words, main, no_faults, read
+from service import BROKER, OPERATOR, expect, row, six_months_after, today
 from square_code import text_of_code
 
 # Texts that broke others' pages: a line that only some call a line, quotes, commas, markup, from right to left, a mark
 # that turns the direction round.
 HOSTILE = (
     "Ring\u2028Kind fixed 1.00", "\u2029", '"Big" clock', '""', 'a,b,"c",', "<img src=x onerror=document.title='ran'>",
-    "خاتم ذهب", "\u202egnir dloG\u202c", "\ufeffring", "Owing 0.00", "Booking none", "Ring \\n", "' OR 1=1 --", "=1+1",
-    "\U0001f48d ring", "é" * 40,
+    "خاتم ذهب", "\u202egnir dloG\u202c", "\ufeffring", "Owing 0.00", "Booking none", "Ring \\n", "' OR 1=1 --",
+    "=1+1", "\U0001f48d ring", "é" * 40,
 )
 
 
@@ -353,7 +353,8 @@ def each_refusal_has_a_sentence():
     for codes, names in re.findall(r"^\| ([\d, ]+) \| ([A-Za-z, ]+) \|", rules, re.M):
         wanted |= set(zip(codes.split(", "), names.split(", ")))
     found = re.findall(
-        r'^  (\d{3}): \{ name: "(\w+)", why: "[^"]+\.", next: "[^"]+\."', read("web", "shared", "refusals.js"), re.M,
+        r'^  (\d{3}): \{\s+name: "(\w+)",\s+why: "[^"]+\.",\s+next: "[^"]+\."',
+        read("web", "shared", "refusals.js"), re.M,
     )
     expect(
         "refusals without a sentence, and sentences of none", (wanted - set(found), set(found) - wanted),

@@ -73,8 +73,8 @@ def a_receipt_is_one_a5():
         says = (
             "High Street Pawnbrokers", "123 Upper High Street", "reference GR-2026/0001", "Lent £100.00",
             in_words(ago(-300)), "Days of grace after it Five", f"Agreed end {in_short(ago(-300))}",
-            "£8.00 in 30 days on £100", "Safe keeping no charge", receipt, "Customer’s name", "For the shop, Till 2",
-            "Received by", "Keep this paper safe",
+            "£8.00 in 30 days on £100", "Safe keeping no charge", receipt, "Customer’s name",
+            "For the shop, Till 2", "Received by", "Keep this paper safe",
         )
         expect("one page", is_printed("receipt", A5, *says, never=("Take the pledge", "The book was read")), 1)
         browser.shoot("broker-receipt-full")

@@ -7,7 +7,7 @@ import time
 
 from browser import Browser, missing, provide
 from service import main as run_tests
-from service import BROKER, OPERATOR, TOP, Failed, expect, today
+from service import BROKER, COLUMNS, OPERATOR, TOP, Failed, expect, row, today
 
 WEB = os.path.join(TOP, "web")
 WRONG_SECRET = "00000000-0000-4000-8000-000000000000"
@@ -133,10 +133,6 @@ def the_book_is_read():
     browser.says("The book was read", "#book-line")
 
 
-def row(*columns):
-    return ",".join([*map(str, columns), *[""] * (15 - len(columns))])
-
-
 def secret_of(number):
     return f"{number:08}-0000-4000-8000-000000000000"
 
@@ -144,9 +140,7 @@ def secret_of(number):
 def book_text(pledges, rates=(2667, 1000000, 500000), version=2):
     """The text of a book of these pledges: article, reference, pence, day taken, agreed end or an empty text, five
     days."""
-    rows = [
-        row("row", *(f"c{place}" for place in range(1, 15))), row("B", version, 1, len(pledges)), row("T", 1, *rates),
-    ]
+    rows = [COLUMNS, row("B", version, 1, len(pledges)), row("T", 1, *rates)]
     for number, (article, reference, pence, taken, agreed, five) in enumerate(pledges, 1):
         quoted = '"' + article.replace('"', '""') + '"' if set(article) & set(',"') else article
         rows.append(row("P", number, reference, quoted, "fixed", pence, taken, agreed, five, 1, "no", taken, "open"))

@@ -1,10 +1,12 @@
-/* Refuses calls of the C library in the program that this is loaded into (LD_PRELOAD), so that a test can see what the program then does.
+/* Refuses calls of the C library in the program that this is loaded into (LD_PRELOAD), so that a test can see what the
+   program then does.
 
-   REFUSE_CALLS   which calls are counted, by letters: m memory, r reads and w writes of a file at a place, s syncs, t cuts, i reads of
-                  standard input, o writes of standard output or of a connection, a accepts
+   REFUSE_CALLS   which calls are counted, by letters: m memory, r reads and w writes of a file at a place, s syncs,
+                  t cuts, i reads of standard input, o writes of standard output or of a connection, a accepts
    REFUSE_AT      the call that is refused, the first being 1; none where it is not said
-   REFUSE_MODE    once: that call alone; on: that one and all after it; short: it moves half of its bytes; torn: it writes half of its bytes and is
-                  refused; none: it moves nothing and is no error; slow: each counted call moves one byte
+   REFUSE_MODE    once: that call alone; on: that one and all after it; short: it moves half of its bytes; torn: it
+                  writes half of its bytes and is refused; none: it moves nothing and is no error; slow: each counted
+                  call moves one byte
    REFUSE_ERROR   the number of the error, 5 where it is not said
    REFUSE_WHILE   a file: calls are counted only while it is there; always where it is not said
    REFUSE_COUNT   a file into which the number of counted calls is written at the end

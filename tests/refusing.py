@@ -1,7 +1,9 @@
-"""What the scripts share that refuse calls of the machine in the program: the library that does it, runs under it, and what the rules say of them.
+"""What the scripts share that refuse calls of the machine in the program: the library that does it, runs under it, and
+what the rules say of them.
 
-A run in which something was refused is judged by a clean run: each request that was answered 491 or 492 is replaced by one that changes nothing and takes
-its stamp, and then each other reply has to be the same, byte for byte, and so the content at the end."""
+A run in which something was refused is judged by a clean run: each request that was answered 491 or 492 is replaced
+by one that changes nothing and takes its stamp, and then each other reply has to be the same, byte for byte, and so
+the content at the end."""
 import atexit
 import concurrent.futures
 import json
@@ -12,7 +14,7 @@ import subprocess
 import tempfile
 
 from service import BROKER, OPERATOR, PROGRAM, SEED, TOP, Failed, check, expect, request
-from stores import TO_FIRST, TO_SECOND, bent_back, fill, migrated, moved
+from stores import TO_FIRST, TO_SECOND, WITHOUT_INDEXES, bent_back, fill, migrated, moved
 
 DAY = "2024-01-31"
 REFUSED = (b'{"code":491,"name":"Memory"}', b'{"code":492,"name":"Store"}')
@@ -29,7 +31,9 @@ def library():
         compiler = shutil.which("cc") or shutil.which("gcc") or shutil.which("clang")
         if not compiler:
             return None
-        subprocess.run([compiler, "-O1", "-fPIC", "-shared", "-o", path, os.path.join(TOP, "tests/refuse.c"), "-ldl"], check=True)
+        subprocess.run(
+            [compiler, "-O1", "-fPIC", "-shared", "-o", path, os.path.join(TOP, "tests/refuse.c"), "-ldl"], check=True,
+        )
     return path
 
 
@@ -49,7 +53,10 @@ class Ran:
     """How a run of the program over a stream ended, and what it said."""
 
     def __init__(self, database, stream, environment=None, day=DAY, timeout=120):
-        ran = subprocess.run([PROGRAM, "answer", database, day, SEED, OPERATOR], input=stream, capture_output=True, timeout=timeout, env=environment)
+        ran = subprocess.run(
+            [PROGRAM, "answer", database, day, SEED, OPERATOR], input=stream, capture_output=True, timeout=timeout,
+            env=environment,
+        )
         self.status, self.said, self.complained = ran.returncode, ran.stdout, ran.stderr.decode()
 
     def replies(self):
@@ -81,7 +88,9 @@ class Story:
 
     def ask(self, *asked):
         """Adds a request, and gives what it is answered in a clean run, as JSON where it is that."""
-        self.requests.append(request(*asked[:-1], body=json.dumps(asked[-1])) if isinstance(asked[-1], dict) else request(*asked))
+        self.requests.append(
+            request(*asked[:-1], body=json.dumps(asked[-1])) if isinstance(asked[-1], dict) else request(*asked)
+        )
         said = body_of(self.run_clean(())[0][-1])
         return json.loads(said) if said.startswith(b"{") else said.decode()
 
@@ -124,8 +133,9 @@ def texts_of(path, books=(1, 8)):
 
 
 def judge(story, ran, path):
-    """Why a run with something refused is not as the rules have it, if it is not: a front of the replies for some marks, and over a file the content for those marks,
-    where that of the last request that was refused may be either."""
+    """Why a run with something refused is not as the rules have it, if it is not: a front of the replies for some
+    marks, and over a file the content for those marks, where that of the last request that was refused may be
+    either."""
     replies, rest = ran.replies()
     marks = tuple(place for place, reply in enumerate(replies) if is_marked(reply))
     unanswered = tuple(range(len(replies), len(story.requests)))
@@ -157,7 +167,8 @@ def counted(story, kind, calls):
 
 
 def each_refused(story, kind, calls, ends, step=1, first=1, **how):
-    """Refuses each of these calls in turn, and judges each run. Gives how many there were. What a run may end with, beside 0, is in ends."""
+    """Refuses each of these calls in turn, and judges each run. Gives how many there were. What a run may end with,
+    beside 0, is in ends."""
     whole = counted(story, kind, calls)
 
     def one(at):
@@ -179,10 +190,11 @@ def each_refused(story, kind, calls, ends, step=1, first=1, **how):
 
 
 def each_refused_in_a_migration(calls, ends, step=1, first=lambda: 1, books=8, **how):
-    """Refuses each of these calls in turn while a store of an older schema is moved. Each run moves it or ends as one of ends, and
-    leaves the store for another try, which moves it to the same books. Gives how many calls there were for each schema."""
+    """Refuses each of these calls in turn while a store of an older schema is moved, or one of the program's gets its
+    indexes. Each run does it or ends as one of ends, and leaves the store for another try, which leads to the same
+    books. Gives how many calls there were for each schema."""
     told = []
-    for number, statements in ((1, TO_FIRST), (2, TO_SECOND)):
+    for number, statements in ((1, TO_FIRST), (2, TO_SECOND), (3, WITHOUT_INDEXES)):
         with tempfile.TemporaryDirectory() as room:
             made, count = os.path.join(room, "made"), os.path.join(room, "count")
             fill(made, books, 1, entries=2, bookings=True)
@@ -196,8 +208,10 @@ def each_refused_in_a_migration(calls, ends, step=1, first=lambda: 1, books=8, *
             def one(at):
                 folder = tempfile.mkdtemp(dir=room)
                 try:
-                    one_of_a_migration(old, os.path.join(folder, "books"), number, ends, wanted, f"call {at} ({calls}, {how})",
-                                       refusing(calls, at=at, **how))
+                    one_of_a_migration(
+                        old, os.path.join(folder, "books"), number, ends, wanted, f"call {at} ({calls}, {how})",
+                        refusing(calls, at=at, **how),
+                    )
                 finally:
                     shutil.rmtree(folder)
 

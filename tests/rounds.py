@@ -1,6 +1,7 @@
 #!/usr/bin/env python3
-"""Books that came about by requests that follow from a seed: taken out as text, put into others, and taken out again as the same bytes, over a file and in memory.
-On each day every pledge is shown, so that each record that came about is read back from its rows."""
+"""Books that came about by requests that follow from a seed: taken out as text, put into others, and taken out again
+as the same bytes, over a file and in memory. On each day every pledge is shown, so that each record that came about
+is read back from its rows."""
 import datetime
 import itertools
 import json
@@ -16,28 +17,40 @@ BOOKS, DAYS, STEPS, SEED = 60, 10, 10, 2024
 REFERENCES = ["A,1", '"', "A 3 ", ' \u00e9,""', "-", "row"]
 ARTICLES = ['Gold ring, "old"', ",,,", '"Uhr" \u2013 18 Karat', "#"]
 # What is to stand in some of the texts: each kind of row, and each word of a column.
-WORDS = ["\nE,", "\nX,", "\nK,", "\nT,3,", "\nP,4,", ",running,", ",redeemed,", ",sold,", ",sworn,", ",written,", ",draw,", ",repay,", ",asked,", ",confirmed,",
-         ",cancelled,", ',"""']
+WORDS = [
+    "\nE,", "\nX,", "\nK,", "\nT,3,", "\nP,4,", ",running,", ",redeemed,", ",sold,", ",sworn,", ",written,", ",draw,",
+    ",repay,", ",asked,", ",confirmed,", ",cancelled,", ',"""',
+]
 
 
 class Book:
-    """What is known of a book from its replies: its versions of terms, and of each pledge the receipt, the entries, and what was owing when it was asked last."""
+    """What is known of a book from its replies: its versions of terms, and of each pledge the receipt, the entries,
+    and what was owing when it was asked last."""
 
     def __init__(self, number):
         self.number, self.versions, self.pledges = number, 0, []
 
     def keyed(self, method, target, body=None):
-        return request(method, f"/books/{self.number}{target}", f"Pledge-Key: {BROKER}", body="" if body is None else json.dumps(body, ensure_ascii=True))
+        return request(
+            method, f"/books/{self.number}{target}", f"Pledge-Key: {BROKER}",
+            body="" if body is None else json.dumps(body, ensure_ascii=True),
+        )
 
     def borne(self, pledge, target, body):
-        return request("POST", f"/books/{self.number}/held/{target}", f"Pledge-Receipt: {pledge['receipt']}", body=json.dumps(body))
+        return request(
+            "POST", f"/books/{self.number}/held/{target}", f"Pledge-Receipt: {pledge['receipt']}",
+            body=json.dumps(body),
+        )
 
     def choose(self, chance, day):
         """A request, which may be refused, and what its reply is told to."""
         way = chance.randrange(10)
         if way == 0 or not self.versions:
-            return self.keyed("POST", "/terms", {"version": chance.choice([self.versions, self.versions + 1]), "rate": chance.randrange(20_001),
-                                                 "keep_before": 5_000_000, "keep_after": chance.randrange(5_000_001)}), self.put
+            terms = {
+                "version": chance.choice([self.versions, self.versions + 1]), "rate": chance.randrange(20_001),
+                "keep_before": 5_000_000, "keep_after": chance.randrange(5_000_001),
+            }
+            return self.keyed("POST", "/terms", terms), self.put
         if way < 3 or not self.pledges:
             return self.keyed("POST", "/pledges", opening(chance, day)), self.taken
         return self.command(chance, chance.choice(self.pledges), day)
@@ -45,13 +58,25 @@ class Book:
     def command(self, chance, pledge, day):
         number, seq = pledge["number"], pledge["entries"] + 1
         later = str(day_after(day, chance.randrange(300)))
-        what = chance.choice(["draw", "draw", "repay", "repay", "hold", "declare", "declare", "ask", "decide", "redeem", "redeem", "redeem", "sell", "extend"])
+        what = chance.choice(
+            [
+                "draw", "draw", "repay", "repay", "hold", "declare", "declare", "ask", "decide", "redeem", "redeem",
+                "redeem", "sell", "extend",
+            ]
+        )
         if what in ("repay", "ask", "redeem"):
-            body = {"repay": {"seq": seq, "pence": chance.randrange(1, 4000)}, "ask": {"day": later, "window": chance.randrange(17)}, "redeem": {"paid": pledge["owing"]}}
+            body = {
+                "repay": {"seq": seq, "pence": chance.randrange(1, 4000)},
+                "ask": {"day": later, "window": chance.randrange(17)}, "redeem": {"paid": pledge["owing"]},
+            }
             return self.borne(pledge, what, body[what]), lambda status, said: self.commanded(pledge, what, status, said)
-        body = {"draw": {"seq": seq, "pence": chance.randrange(1, 4000)}, "declare": {"paper": chance.choice(["sworn", "written"])},
-                "decide": {"yes": chance.random() < 0.5}, "sell": {"net": chance.randrange(4000)}, "extend": {"until": later}}.get(what)
-        return self.keyed("POST", f"/pledges/{number}/{what}", body), lambda status, said: self.commanded(pledge, what, status, said)
+        body = {
+            "draw": {"seq": seq, "pence": chance.randrange(1, 4000)},
+            "declare": {"paper": chance.choice(["sworn", "written"])}, "decide": {"yes": chance.random() < 0.5},
+            "sell": {"net": chance.randrange(4000)}, "extend": {"until": later},
+        }.get(what)
+        asked = self.keyed("POST", f"/pledges/{number}/{what}", body)
+        return asked, lambda status, said: self.commanded(pledge, what, status, said)
 
     def put(self, status, said):
         if status == 200:
@@ -70,8 +95,12 @@ class Book:
 
 
 def opening(chance, day):
-    return {"ref": chance.choice(REFERENCES), "article": chance.choice(ARTICLES), "kind": chance.choice(["fixed", "running"]), "pence": chance.randrange(20_000),
-            "agreed": None if chance.random() < 0.3 else str(day_after(day, chance.randrange(400))), "five_days": chance.random() < 0.5}
+    return {
+        "ref": chance.choice(REFERENCES), "article": chance.choice(ARTICLES),
+        "kind": chance.choice(["fixed", "running"]), "pence": chance.randrange(20_000),
+        "agreed": None if chance.random() < 0.3 else str(day_after(day, chance.randrange(400))),
+        "five_days": chance.random() < 0.5,
+    }
 
 
 def day_after(day, count):
@@ -80,7 +109,10 @@ def day_after(day, count):
 
 def answers(database, day, seed, stream):
     """The statuses and the bodies of the replies to requests over a store."""
-    ran = subprocess.run([PROGRAM, "answer", database, str(day), f"{seed:064x}", OPERATOR], input=b"".join(stream), capture_output=True, timeout=120)
+    ran = subprocess.run(
+        [PROGRAM, "answer", database, str(day), f"{seed:064x}", OPERATOR], input=b"".join(stream), capture_output=True,
+        timeout=120,
+    )
     expect("how it ended", (ran.returncode, ran.stderr), (0, b""))
     replies, rest = [], ran.stdout
     while rest:
@@ -93,7 +125,10 @@ def answers(database, day, seed, stream):
 
 
 def making(number):
-    return request("POST", f"/books/{number}", f"Pledge-Key: {OPERATOR}", body=json.dumps({"capacity": 2, "key": BROKER, "name": "High Street"}))
+    return request(
+        "POST", f"/books/{number}", f"Pledge-Key: {OPERATOR}",
+        body=json.dumps({"capacity": 2, "key": BROKER, "name": "High Street"}),
+    )
 
 
 def export(number):
@@ -117,7 +152,10 @@ def live(path, chance, books):
                 learn(status, json.loads(said))
         shown = [book.keyed("GET", f"/pledges/{pledge['number']}") for book in books for pledge in book.pledges]
         for at in range(0, len(shown), 1000):
-            expect("every pledge is shown", {status for status, _ in answers(path, day, next(seeds), shown[at:at + 1000])}, {200})
+            expect(
+                "every pledge is shown", {status for status, _ in answers(path, day, next(seeds), shown[at:at + 1000])},
+                {200},
+            )
         day = day_after(day, chance.randrange(60))
     expect("its check", check(path)[0], 0)
     return day, next(seeds)

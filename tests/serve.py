@@ -1,6 +1,7 @@
 #!/usr/bin/env python3
-"""`make serve` as an operator uses it: what it makes and for whom, a second start, a port that is taken, a folder that can't be written to, and TERM in the middle of a
-request. And the other commands of the Makefile that need no proof."""
+"""`make serve` as an operator uses it: what it makes and for whom, a second start, a port that is taken, a folder
+that can't be written to, and TERM in the middle of a request. And the other commands of the Makefile that need no
+proof."""
 import http.client
 import json
 import os
@@ -18,8 +19,10 @@ UUID = re.compile(r"[0-9a-f]{8}(-[0-9a-f]{4}){3}-[0-9a-f]{12}\n")
 
 def make(*words, umask=0o022, user=None):
     """`make` with these words over the program of the tests."""
-    return subprocess.Popen(["make", "-s", "-C", TOP, *words], stdin=subprocess.DEVNULL, stdout=subprocess.PIPE, stderr=subprocess.PIPE, text=True, umask=umask, user=user,
-                            env={**os.environ, "PAWND": PROGRAM}, start_new_session=True)
+    return subprocess.Popen(
+        ["make", "-s", "-C", TOP, *words], stdin=subprocess.DEVNULL, stdout=subprocess.PIPE, stderr=subprocess.PIPE,
+        text=True, umask=umask, user=user, env={**os.environ, "PAWND": PROGRAM}, start_new_session=True,
+    )
 
 
 class Service:
@@ -47,14 +50,19 @@ class Service:
 
     def ask(self, method, target, body=None, **fields):
         connection = http.client.HTTPConnection("127.0.0.1", self.port, timeout=30)
-        connection.request(method, target, None if body is None else json.dumps(body), {name.replace("_", "-"): value for name, value in fields.items()})
+        connection.request(
+            method, target, None if body is None else json.dumps(body),
+            {name.replace("_", "-"): value for name, value in fields.items()},
+        )
         reply = connection.getresponse()
         said = reply.read().decode()
         connection.close()
         return reply.status, json.loads(said) if said.startswith("{") else said
 
     def make_book(self, number):
-        return self.ask("POST", f"/books/{number}", {"capacity": 2, "key": BROKER, "name": "High Street"}, Pledge_Key=self.key())
+        return self.ask(
+            "POST", f"/books/{number}", {"capacity": 2, "key": BROKER, "name": "High Street"}, Pledge_Key=self.key(),
+        )
 
 
 def modes(folder):
@@ -67,7 +75,10 @@ def all_is_its_owners_alone():
         data = os.path.join(room, "data")
         with Service(data) as service:
             expect("a book", service.make_book(7), (200, {"book": 7}))
-            expect("modes", modes(data), {".": "0o700", "operator.key": "0o600", "books.db": "0o600", "books.db-wal": "0o600"})
+            expect(
+                "modes", modes(data),
+                {".": "0o700", "operator.key": "0o600", "books.db": "0o600", "books.db-wal": "0o600"},
+            )
             said = "".join(service.said)
             for part in (f"http://localhost:{service.port}", os.path.join(data, "operator.key"), "curl -H"):
                 expect(f"it says {part}", part in said, True)
@@ -95,7 +106,10 @@ def a_second_start_keeps_the_key_and_the_books():
         expect("the key", bool(UUID.fullmatch(keys[0] + "\n")) and len(set(keys)) == 1, True)
         expect("the check", check(os.path.join(data, "books.db")), (0, "books 3 pledges 0 rows 3\n", ""))
         checked = make("check", f"DATA={data}")
-        expect("make check", (checked.communicate(timeout=60), checked.returncode), (("books 3 pledges 0 rows 3\n", ""), 0))
+        expect(
+            "make check", (checked.communicate(timeout=60), checked.returncode),
+            (("books 3 pledges 0 rows 3\n", ""), 0),
+        )
 
 
 def a_port_that_is_taken_leaves_nothing_behind():
@@ -105,11 +119,17 @@ def a_port_that_is_taken_leaves_nothing_behind():
             second = make("serve", f"PORT={service.port}", f"DATA={other}")
             _, complained = second.communicate(timeout=60)
             expect("what it says", f"port {service.port} is taken" in complained, True)
-            expect("its status is another than 0, and nothing is made", (second.returncode != 0, os.path.exists(other)), (True, False))
+            expect(
+                "its status is another than 0, and nothing is made", (second.returncode != 0, os.path.exists(other)),
+                (True, False),
+            )
         for port in ("0", "65536", "x"):
             wrong = make("serve", f"PORT={port}", f"DATA={other}")
             _, complained = wrong.communicate(timeout=60)
-            expect(f"port {port}", (wrong.returncode != 0, "PORT is a number" in complained, os.path.exists(other)), (True, True, False))
+            expect(
+                f"port {port}", (wrong.returncode != 0, "PORT is a number" in complained, os.path.exists(other)),
+                (True, True, False),
+            )
 
 
 def a_folder_that_cannot_be_written_to():
@@ -145,8 +165,18 @@ def other_words_are_told_the_commands():
     for words, status in ((("help",), 0), (("nonsense",), 2)):
         ended = make(*words)
         said, complained = ended.communicate(timeout=60)
-        expect(f"make {words[0]}", (ended.returncode, all(it in said + complained for it in ("make serve", "make check", "make test", "make release"))), (status, True))
+        expect(
+            f"make {words[0]}",
+            (
+                ended.returncode,
+                all(it in said + complained for it in ("make serve", "make check", "make test", "make release")),
+            ),
+            (status, True),
+        )
 
 
-main(all_is_its_owners_alone, the_line_that_it_prints_makes_a_book, a_second_start_keeps_the_key_and_the_books, a_port_that_is_taken_leaves_nothing_behind,
-     a_folder_that_cannot_be_written_to, what_was_acknowledged_stands_after_term, other_words_are_told_the_commands)
+main(
+    all_is_its_owners_alone, the_line_that_it_prints_makes_a_book, a_second_start_keeps_the_key_and_the_books,
+    a_port_that_is_taken_leaves_nothing_behind, a_folder_that_cannot_be_written_to,
+    what_was_acknowledged_stands_after_term, other_words_are_told_the_commands,
+)

@@ -1,10 +1,12 @@
-"""What the scripts of this folder share: the built program, requests by a socket or by HTTP, and checks that say which step failed."""
+"""What the scripts of this folder share: the built program, requests by a socket or by HTTP, and checks that say
+which step failed."""
 import contextlib
 import datetime
 import http.client
 import json
 import os
 import shutil
+import signal
 import socket
 import sqlite3
 import subprocess
@@ -24,8 +26,17 @@ PATIENCE = 5
 MARGIN = 10
 WAIT = 4 * PATIENCE + MARGIN
 
+# Under nohup, or in the background of a shell, a script ignores some signals, and what it starts would inherit that. A
+# signal with a handler has its default in what is started. (Python itself ignores two more, and gives those back.)
+for number in signal.valid_signals() - {signal.SIGPIPE, signal.SIGXFSZ}:
+    if signal.getsignal(number) == signal.SIG_IGN:
+        signal.signal(number, lambda *_: None)
+
 # The tables whose rows a store counts.
 COUNTED = ("books", "terms", "pledges", "entries", "secrets", "bookings")
+
+# The header of a book's text.
+COLUMNS = "row," + ",".join(f"c{n}" for n in range(1, 15))
 
 
 class Failed(Exception):
@@ -37,6 +48,11 @@ def expect(step, found, wanted):
         raise Failed(f"{step}: {found!r:.400} in place of {wanted!r:.400}")
 
 
+def row(*columns):
+    """A row of a book's text; the columns that are not given are empty."""
+    return ",".join([*map(str, columns), *[""] * (15 - len(columns))])
+
+
 def free_port():
     with socket.socket() as it:
         it.bind(("127.0.0.1", 0))
@@ -44,15 +60,18 @@ def free_port():
 
 
 class Server:
-    """`pawnd serve` of a store on a free port, killed when the block is left. How it is started may be said as to Popen."""
+    """`pawnd serve` of a store on a free port, killed when the block is left. How it is started may be said as to
+    Popen."""
 
     def __init__(self, database=":memory:", **how):
         self.database, self.how = database, how
 
     def __enter__(self):
         self.port = free_port()
-        self.program = subprocess.Popen([PROGRAM, "serve", self.database, str(self.port), OPERATOR],
-                                        **{"stdin": subprocess.DEVNULL, "stdout": subprocess.PIPE, "stderr": subprocess.PIPE, **self.how})
+        self.program = subprocess.Popen(
+            [PROGRAM, "serve", self.database, str(self.port), OPERATOR],
+            **{"stdin": subprocess.DEVNULL, "stdout": subprocess.PIPE, "stderr": subprocess.PIPE, **self.how},
+        )
         expect("the first line, by a pipe", self.program.stdout.readline(), f"listening {self.port}\n".encode())
         return self
 
@@ -99,7 +118,9 @@ class Session:
 
     def open_book(self, book=7, capacity=2):
         """A book whose terms charge nothing."""
-        made = self.ask("POST", f"/books/{book}", {"capacity": capacity, "key": BROKER, "name": "High Street"}, Pledge_Key=OPERATOR)
+        made = self.ask(
+            "POST", f"/books/{book}", {"capacity": capacity, "key": BROKER, "name": "High Street"}, Pledge_Key=OPERATOR,
+        )
         expect(f"book {book}", made, (200, {"book": book}))
         terms = {"keep_after": 0, "keep_before": 0, "rate": 0, "version": 1}
         expect("its terms", self.broker("POST", f"/books/{book}/terms", terms), (200, {"version": 1}))
@@ -143,7 +164,7 @@ def check(path):
     return ran.returncode, ran.stdout.decode(), ran.stderr.decode()
 
 
-def tells(rows):
+def a_sound_check(rows):
     """The same of a sound store with so many rows in each counted table."""
     return 0, f"books {rows[0]} pledges {rows[2]} rows {sum(rows)}\n", ""
 
@@ -173,16 +194,24 @@ def by_python(path):
         expect("its integrity", tables.execute("PRAGMA integrity_check").fetchall(), [("ok",)])
         expect("its references", tables.execute("PRAGMA foreign_key_check").fetchall(), [])
         rows = [tables.execute(f"SELECT count(*) FROM {table}").fetchone()[0] for table in COUNTED]
-        expect("the noted rows", tables.execute("SELECT value FROM meta WHERE name = 'rows'").fetchall(), [(sum(rows),)])
+        expect(
+            "the noted rows", tables.execute("SELECT value FROM meta WHERE name = 'rows'").fetchall(), [(sum(rows),)],
+        )
     return rows
 
 
 def by_the_shell(path, rows):
     """The file is sound to the shell sqlite3 too, and holds so many rows there, if the shell is installed."""
     if shutil.which("sqlite3"):
-        asked = ["PRAGMA integrity_check", "PRAGMA foreign_key_check", *(f"SELECT count(*) FROM {table}" for table in COUNTED)]
+        asked = [
+            "PRAGMA integrity_check", "PRAGMA foreign_key_check",
+            *(f"SELECT count(*) FROM {table}" for table in COUNTED),
+        ]
         ran = subprocess.run(["sqlite3", path, "; ".join(asked)], capture_output=True, timeout=60)
-        expect("by the shell", (ran.returncode, ran.stdout.decode().split(), ran.stderr), (0, ["ok", *map(str, rows)], b""))
+        expect(
+            "by the shell", (ran.returncode, ran.stdout.decode().split(), ran.stderr),
+            (0, ["ok", *map(str, rows)], b""),
+        )
 
 
 def counted(path):

@@ -1,7 +1,6 @@
 #!/usr/bin/env python3
 """`deploy/shards`, in front of which the real nginx stands: copies that are made while a shard is served and copies
-that are not, which are put back; one shard that becomes three,
-and a book that moves."""
+that are not, which are put back; one shard that becomes three, and a book that moves."""
 import contextlib
 import json
 import os
@@ -13,7 +12,18 @@ import threading
 import time
 
 from browser import missing, provide
-from hosting import PACKAGES, TOP, Hosted, long_book, open_pledge, open_text, proxys, run_shards, status, writers
+from hosting import (
+    PACKAGES,
+    TOP,
+    Hosted,
+    long_book,
+    open_pledge,
+    open_text,
+    proxys,
+    run_shards,
+    status,
+    writers,
+)
 from service import BROKER, OPERATOR, PROGRAM, Server, check, copied, expect, main
 
 KEY = f"Pledge-Key: {BROKER}"
@@ -200,12 +210,25 @@ def snapshot_of(disk, kept):
     for before, number, after in found:
         stands, _ = stands_in(f"{disk}/{number}/books.db", 7)
         expect(f"snapshot {number}", before <= stands[1] <= after, True)
+    sent_by_btrfs(disk, stands)
     run_shards("backup", f"{disk}/4/books.db", kept)
     with tempfile.TemporaryDirectory() as room:
         path = os.path.join(room, "books.db")
         run_shards("restore", newest(kept), path)
         expect("the last, put where no store was", stands_in(path, 7)[0], stands)
     print(f"        5 snapshots during {len(entered)} repayments", flush=True)
+
+
+def sent_by_btrfs(disk, stands):
+    """The last snapshot as another file system receives it: both files are in it, and a copy of it is put back."""
+    with btrfs() as other, tempfile.TemporaryDirectory() as room:
+        sent = subprocess.run(["btrfs", "-q", "send", f"{disk}/4"], check=True, capture_output=True, timeout=60).stdout
+        subprocess.run(["btrfs", "-q", "receive", other], input=sent, check=True, capture_output=True, timeout=60)
+        copies, path = os.path.join(room, "copies"), os.path.join(room, "1", "books.db")
+        run_shards("backup", f"{other}/4/books.db", copies)
+        os.mkdir(os.path.dirname(path))
+        run_shards("restore", newest(copies), path)
+        expect("what was received", stands_in(path, 7)[0], stands)
 
 
 # ---- one shard becomes three, and a book moves
@@ -322,23 +345,20 @@ def each_is_at_its_own(it, book, number, text, receipts):
 
 
 def an_emptied_map(it, receipts):
-    """The release's map is put over the operator's: `reload` refuses it, and nginx itself hands on nothing by it."""
+    """The release's map is put over the operator's: `reload` refuses it, and the places that were turned last stay."""
     path = os.path.join(it.settings, "books.map")
     kept = open_text(path)
     shutil.copy(os.path.join(TOP, "deploy/examples/books.map"), path)
     expect("a reload", "has no line" in it.run_shards("reload", wanted=1), True)
-    expect(
-        "by the map that stood",
-        status(it.caller().ask("GET", "/books/8/held", f"Pledge-Receipt: {receipts[8][0]}")),
-        200,
-    )
-    os.kill(it.nginx.pid, signal.SIGHUP)
-    time.sleep(1)
-    told = {
-        proxys(it.caller().ask("GET", f"/books/{book}/held", f"Pledge-Receipt: {receipts[book][0]}"))
-        for book in it.books
-    }
-    expect("by the emptied one", told, {(503, False)})
+    for by_hand in (False, True):
+        if by_hand:
+            os.kill(it.nginx.pid, signal.SIGHUP)
+            time.sleep(1)
+        told = {
+            status(it.caller().ask("GET", f"/books/{book}/held", f"Pledge-Receipt: {receipts[book][0]}"))
+            for book in it.books
+        }
+        expect(f"by the places that stand, after a reload by hand: {by_hand}", told, {200})
     with open(path, "w") as file:
         file.write(kept)
     it.run_shards("reload")
@@ -407,7 +427,9 @@ def a_book_moves():
         receipts[7][2] = json.loads(caller.broker("POST", "/books/7/pledges/3/declare", {"paper": "sworn"}).body)[
             "receipt"
         ]
-        expect("an extension", status(caller.broker("POST", "/books/7/pledges/3/extend", {"until": "2028-01-01"})), 200)
+        expect(
+            "an extension", status(caller.broker("POST", "/books/7/pledges/3/extend", {"until": "2028-01-01"})), 200
+        )
         with writers(it, books=(7, 8)) as running:
             time.sleep(0.4)
             watcher = Watcher(it, 7, receipts[7][2])
@@ -454,31 +476,6 @@ def a_book_moves():
         expect("a shard that is away", "refused" in it.run_shards("move", 7, "shard2", wanted=1), True)
         it.shards[1].start()
         what_does_not_move(it, receipts)
-
-
-def a_slow_request_does_not_pass_the_fence():
-    """A request that had begun before its book was fenced, and whose body is slow, is ended with nginx's old worker,
-    and is not handed on behind the fence."""
-    with Hosted() as it:
-        receipts = it.open_books(1)
-        it.edit("nginx.conf", ("worker_shutdown_timeout 60s", "worker_shutdown_timeout 2s"))
-        it.run_shards("reload")
-        slow, body = it.caller(), json.dumps({"pence": 1, "seq": 1})
-        slow.connection = slow.connect()
-        slow.connection.sendall(
-            f"POST /books/7/held/repay HTTP/1.1\r\nHost: x\r\nPledge-Receipt: {receipts[7][0]}\r\n"
-            f"Content-Length: {len(body)}\r\n\r\n{body[:5]}".encode()
-        )
-        time.sleep(0.5)
-        begun = time.monotonic()
-        it.run_shards("move", 7, "shard3")
-        expect("the move waited for it", time.monotonic() - begun >= 1.5, True)
-        with contextlib.suppress(OSError):
-            slow.connection.sendall(body[5:].encode())
-            slow.connection.recv(100)
-        slow.close()
-        time.sleep(0.2)
-        expect("entries at either shard", [it.shards[number].export(7).count("\nE,") for number in (0, 2)], [0, 0])
 
 
 def check_while_served(path):
@@ -574,7 +571,6 @@ TESTS = (
     one_shard_becomes_three,
     the_map_is_compared_with_the_shards,
     a_book_moves,
-    a_slow_request_does_not_pass_the_fence,
 )
 
 if __name__ == "__main__":

@@ -48,6 +48,8 @@ def run_step(line, instance, told):
     """Whether one line of a unit went well; a line with a minus may fail."""
     signs = re.match(r"[-+]*", line)[0]
     words = filled(line[len(signs) :], instance).replace("%n", told["UNIT"]).replace("$$", "$")
+    # Here the mounts of the unit are those of the machine.
+    words = words.removeprefix("/usr/bin/nsenter --target 1 --mount ")
     ran = subprocess.run(
         ["bash", "-c", words if words.startswith("/bin/sh") else "exec " + words], env=told, stdin=subprocess.DEVNULL
     )

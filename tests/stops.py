@@ -1,6 +1,6 @@
 #!/usr/bin/env python3
-"""`pawnd serve` over a file, killed in the middle of requests and started again: what was answered stands, and what was not is
-there whole or not at all."""
+"""`pawnd serve` over a file, killed in the middle of requests and started again: what was answered stands, and what
+was not is there whole or not at all."""
 import copy
 import csv
 import datetime
@@ -13,9 +13,10 @@ import tempfile
 import threading
 import time
 
-from service import OPERATOR, PROGRAM, Failed, Server, check, counted, expect, free_port, main, tells, today
+from service import OPERATOR, PROGRAM, Failed, Server, a_sound_check, check, counted, expect, free_port, main, today
 
-# So many stops at most, and so many at least: fewer than the most where they take more than SPAN seconds, and the least within LIMIT seconds.
+# So many stops at most, and so many at least: fewer than the most where they take more than SPAN seconds, and the least
+# within LIMIT seconds.
 STOPS, FIRST_STOPS, SPAN, LIMIT = (40, 24), (20, 12), 35, 600
 
 
@@ -40,7 +41,8 @@ class FileServer(Server):
 
 
 class Account:
-    """What a client holds of its book: for each pledge its reference, receipts, entries, extensions, booking and state."""
+    """What a client holds of its book: for each pledge its reference, receipts, entries, extensions, booking and
+    state."""
 
     def __init__(self):
         self.pledges = []
@@ -53,7 +55,10 @@ class Account:
         new = copy.deepcopy(self)
         what, number, body = asked
         if what == "pledges":
-            pledge = {"ref": body["ref"], "secrets": [None], "entries": [], "until": [], "booking": None, "held": "no", "closed": "open"}
+            pledge = {
+                "ref": body["ref"], "secrets": [None], "entries": [], "until": [], "booking": None, "held": "no",
+                "closed": "open",
+            }
             new.pledges.append(pledge)
         else:
             pledge = new.pledges[number - 1]
@@ -94,7 +99,12 @@ def pledges_of(text):
     told = []
     for row in csv.reader(io.StringIO(text)):
         if row[0] == "P":
-            told.append({"ref": row[2], "secrets": [], "entries": [], "until": [], "booking": None, "held": row[10], "closed": row[12]})
+            told.append(
+                {
+                    "ref": row[2], "secrets": [], "entries": [], "until": [], "booking": None, "held": row[10],
+                    "closed": row[12],
+                }
+            )
         elif row[0] == "S":
             told[-1]["secrets"].append(row[5])
         elif row[0] == "E":
@@ -112,7 +122,10 @@ def choose(chance, account):
     standing = account.open()
     what = chance.choice(ways) if standing else "pledges"
     if what == "pledges":
-        return what, None, {"article": "Gold ring", "five_days": False, "kind": "fixed", "pence": 10000, "ref": f"A{len(account.pledges) + 1}"}
+        return what, None, {
+            "article": "Gold ring", "five_days": False, "kind": "fixed", "pence": 10000,
+            "ref": f"A{len(account.pledges) + 1}",
+        }
     pledge = chance.choice(standing)
     number = account.pledges.index(pledge) + 1
     later = today() + datetime.timedelta(days=200 + len(pledge["until"]))
@@ -120,10 +133,12 @@ def choose(chance, account):
     if what == "redeem" and pledge["held"] == "yes" or len(pledge["until"]) > 90 or len(pledge["secrets"]) > 90:
         what = "release"
     return what, number, {
-        "repay": {"seq": len(pledge["entries"]) + 1, "pence": chance.randint(1, 5)},
-        "declare": {"paper": "sworn"},
+        "repay": {"seq": len(pledge["entries"]) + 1, "pence": chance.randint(1, 5)}, "declare": {"paper": "sworn"},
         "extend": {"until": later.isoformat()},
-        "ask": {"day": (today() + datetime.timedelta(days=chance.randint(1, 9))).isoformat(), "window": chance.randrange(16)},
+        "ask": {
+            "day": (today() + datetime.timedelta(days=chance.randint(1, 9))).isoformat(),
+            "window": chance.randrange(16),
+        },
         "redeem": {"paid": paid},
     }.get(what)
 
@@ -156,7 +171,7 @@ def live(server, account, chance, span):
 def judge_file(path, counts):
     """The file opens in SQLite as it was left, and holds so much."""
     rows = counted(path)
-    expect("counts", check(path), tells(rows))
+    expect("counts", check(path), a_sound_check(rows))
     expect("rows", sum(rows) in counts, True)
 
 
@@ -173,7 +188,10 @@ def goes_on(server, account, asked):
     elif asked[0] in ("pledges", "repay"):
         status, said = ask(session, held, asked)
         expect(f"{asked} again", status, 200)
-        expect(f"{asked} again, its receipt", said.get("receipt", "-").split("-", 1)[1] in ("", held.pledges[-1]["secrets"][0]), True)
+        expect(
+            f"{asked} again, its receipt",
+            said.get("receipt", "-").split("-", 1)[1] in ("", held.pledges[-1]["secrets"][0]), True,
+        )
     for number, pledge in list(enumerate(held.pledges, 1))[-8:]:
         status, said = session.bearer(f"{number}-{pledge['secrets'][-1]}", "GET", "/books/7/held")
         expect(f"the receipt of {number}", status, 200 if pledge["closed"] == "open" else 404)
@@ -227,7 +245,7 @@ def a_kill_while_a_file_is_made_leaves_it_to_be_made():
                 span = time.monotonic() - first
             threading.Timer(chance.uniform(0, span), server.stop).start()
             server.program.communicate()
-            expect("an empty store", check(path), tells([0] * 6))
+            expect("an empty store", check(path), a_sound_check([0] * 6))
             judge_file(path, (0,))
             with server:
                 server.session().open_book()

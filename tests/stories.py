@@ -9,14 +9,19 @@ IMPORT = "Import-Key: 44444444-4444-4444-4444-444444444444"
 def begun(name, capacity=2):
     """A book with terms that charge nothing."""
     story = Story(name)
-    story.ask("POST", "/books/7", f"Pledge-Key: {OPERATOR}", {"capacity": capacity, "key": BROKER, "name": "High Street"})
+    story.ask(
+        "POST", "/books/7", f"Pledge-Key: {OPERATOR}", {"capacity": capacity, "key": BROKER, "name": "High Street"},
+    )
     story.ask("POST", "/books/7/terms", KEY, {"keep_after": 0, "keep_before": 0, "rate": 0, "version": 1})
     return story
 
 
 def opened(story, number, pence=10_000):
     """The receipt of the story's next pledge."""
-    said = story.ask("POST", "/books/7/pledges", KEY, {"article": "Gold ring", "five_days": False, "kind": "fixed", "pence": pence, "ref": f"A{number}"})
+    said = story.ask(
+        "POST", "/books/7/pledges", KEY,
+        {"article": "Gold ring", "five_days": False, "kind": "fixed", "pence": pence, "ref": f"A{number}"},
+    )
     expect(f"pledge {number} of {story.name}", said.get("number"), number)
     return said["receipt"]
 
@@ -30,7 +35,8 @@ def a_first_pledge():
 
 
 def a_lost_receipt():
-    """A sworn declaration: the old receipt shows nothing, the new one the pledge, and both at once; redeemed by the new one."""
+    """A sworn declaration: the old receipt shows nothing, the new one the pledge, and both at once; redeemed by the
+    new one."""
     story = begun("a lost receipt")
     old = [opened(story, number) for number in (1, 2, 3)][2]
     new = story.ask("POST", "/books/7/pledges/3/declare", KEY, {"paper": "sworn"})["receipt"]

@@ -1,8 +1,9 @@
 #!/usr/bin/env python3
-"""Strangers: streams of requests, bent at random from a seed, by a pipe and over the loopback. The program neither crashes nor hangs, ends with no other status, answers in whole
-replies alone, and what it acknowledged before stands.
+"""Strangers: streams of requests, bent at random from a seed, by a pipe and over the loopback. The program neither
+crashes nor hangs, ends with no other status, answers in whole replies alone, and what it acknowledged before stands.
 
-usage: tests/strangers.py [STREAMS [SEED]]      400 streams by a pipe and a fourth as many over the loopback, from seed 1, where nothing is said
+usage: tests/strangers.py [STREAMS [SEED]]      400 streams by a pipe and a fourth as many over the loopback, from seed
+1, where nothing is said
 """
 import os
 import random
@@ -17,11 +18,18 @@ from stories import STORIES
 
 STREAMS = int(sys.argv[1]) if len(sys.argv) > 1 else 400
 CHANCE = random.Random(int(sys.argv[2]) if len(sys.argv) > 2 else 1)
-PIECES = [b"\r\n", b"\r\n\r\n", b"\n", b"\0", b"\xff", b"%37", b"//", b"..", b"?x=1", b" ", b"\t", b":", b",", b'"', b"{", b"}", b"[" * 300, b"]" * 300, b"9" * 25, b"-1", b"1e5",
-          b"Content-Length: 5\r\n", b"Content-Length: 18446744073709551615\r\n", b"Transfer-Encoding: chunked\r\n", b"Connection: close\r\n", b"Pledge-Receipt: 1-\r\n",
-          b"HTTP/1.0", b"HTTP/2.0", b"GET", b"HEAD", b"POST", b"OPTIONS", b"/held", b"/books/7", b"x" * 9000, b'{"a":' * 200, b"\xef\xbb\xbf", b"\xed\xa0\x80", b"null", b"true"]
-REPLY = re.compile(rb"HTTP/1\.1 (200 OK|400 Bad Request|403 Forbidden|404 Not Found|409 Conflict|503 Service Unavailable)\r\nContent-Length: (\d+)\r\n"
-                   rb"Content-Type: (application/json|text/plain; charset=utf-8|text/csv; charset=utf-8)\r\n\r\n")
+PIECES = [
+    b"\r\n", b"\r\n\r\n", b"\n", b"\0", b"\xff", b"%37", b"//", b"..", b"?x=1", b" ", b"\t", b":", b",", b'"', b"{",
+    b"}", b"[" * 300, b"]" * 300, b"9" * 25, b"-1", b"1e5", b"Content-Length: 5\r\n",
+    b"Content-Length: 18446744073709551615\r\n", b"Transfer-Encoding: chunked\r\n", b"Connection: close\r\n",
+    b"Pledge-Receipt: 1-\r\n", b"HTTP/1.0", b"HTTP/2.0", b"GET", b"HEAD", b"POST", b"OPTIONS", b"/held", b"/books/7",
+    b"x" * 9000, b'{"a":' * 200, b"\xef\xbb\xbf", b"\xed\xa0\x80", b"null", b"true",
+]
+REPLY = re.compile(
+    rb"HTTP/1\.1 (200 OK|400 Bad Request|403 Forbidden|404 Not Found|409 Conflict|503 Service Unavailable)\r\n"
+    rb"Content-Length: (\d+)\r\n"
+    rb"Content-Type: (application/json|text/plain; charset=utf-8|text/csv; charset=utf-8)\r\n\r\n"
+)
 
 
 def bent(stream):
@@ -63,7 +71,10 @@ def by_a_pipe():
     for number in range(STREAMS):
         stream = bent(CHANCE.choice(whole))
         try:
-            ran = subprocess.run([PROGRAM, "answer", ":memory:", "2024-01-31", SEED, OPERATOR], input=stream, capture_output=True, timeout=60)
+            ran = subprocess.run(
+                [PROGRAM, "answer", ":memory:", "2024-01-31", SEED, OPERATOR], input=stream, capture_output=True,
+                timeout=60,
+            )
         except subprocess.TimeoutExpired:
             raise Failed(f"stream {number} hangs: {stream!r}") from None
         expect(f"stream {number}, {stream!r}", (ran.returncode, ran.stderr), (0, b""))
@@ -75,8 +86,9 @@ def send(server, stream):
     said = b""
     try:
         with server.connect() as peer:
-            for piece in [stream[at:at + 700] for at in range(0, len(stream), 700)] if CHANCE.random() < 0.3 else [stream]:
-                peer.sendall(piece)
+            size = 700 if CHANCE.random() < 0.3 else len(stream) or 1
+            for at in range(0, max(len(stream), 1), size):
+                peer.sendall(stream[at:at + size])
             if CHANCE.random() < 0.2:
                 return
             peer.shutdown(socket.SHUT_WR)
@@ -101,23 +113,50 @@ def over_the_loopback():
             for number in range(STREAMS // 4):
                 send(server, bent(CHANCE.choice(whole)))
                 if number % 20 == 0:
-                    expect("the pledges among strangers", [session.bearer(receipt, "GET", "/books/5/held") for receipt in receipts], seen)
+                    expect(
+                        "the pledges among strangers",
+                        [session.bearer(receipt, "GET", "/books/5/held") for receipt in receipts], seen,
+                    )
                     session.close()
             expect("the service after all that", server.program.poll(), None)
         expect("its check", check(path)[0], 0)
 
 
 def a_stranger_who_knows_the_key():
-    """Good requests of random numbers, days and texts by the book's own key, whose replies are whole and never a fault of the store."""
-    stream = [request("POST", "/books/7", f"Pledge-Key: {OPERATOR}", body=f'{{"capacity":1,"key":"{BROKER}","name":"x"}}')]
+    """Good requests of random numbers, days and texts by the book's own key, whose replies are whole and never a
+    fault of the store."""
+    stream = [
+        request("POST", "/books/7", f"Pledge-Key: {OPERATOR}", body=f'{{"capacity":1,"key":"{BROKER}","name":"x"}}')
+    ]
     for _ in range(900):
-        number, day = CHANCE.choice([0, 1, 2, 99, 999999999, 10**12, 10**12 - 1]), CHANCE.choice(["2024-02-30", "2199-12-31", "2000-01-01", "2024-01-31", "1999-12-31", "x"])
-        target = CHANCE.choice(["/terms", "/pledges", "/pledges/1", "/pledges/1/draw", "/pledges/1/repay", "/pledges/1/declare", "/pledges/1/decide", "/pledges/1/sell", "/pledges/1/extend",
-                                f"/pledges/{number}", f"/days/{day}", "/export", "/import", "/held"])
-        body = CHANCE.choice([f'{{"version":{number},"rate":{number},"keep_before":{number},"keep_after":0}}', f'{{"pence":{number},"seq":{number}}}', f'{{"until":"{day}"}}', '{"paper":"sworn"}',
-                              f'{{"ref":"{CHANCE.randrange(9)}","article":"{day}","kind":"running","pence":{number},"five_days":true,"agreed":"{day}"}}', '{"yes":true}', f'{{"net":{number}}}', "", "[]"])
-        stream.append(request(CHANCE.choice(["GET", "POST"]), f"/books/7{target}", f"Pledge-Key: {BROKER}", f"Import-Key: {BROKER}", body=body))
-    ran = subprocess.run([PROGRAM, "answer", ":memory:", "2024-01-31", SEED, OPERATOR], input=b"".join(stream), capture_output=True, timeout=120)
+        number = CHANCE.choice([0, 1, 2, 99, 999999999, 10**12, 10**12 - 1])
+        day = CHANCE.choice(["2024-02-30", "2199-12-31", "2000-01-01", "2024-01-31", "1999-12-31", "x"])
+        target = CHANCE.choice(
+            [
+                "/terms", "/pledges", "/pledges/1", "/pledges/1/draw", "/pledges/1/repay", "/pledges/1/declare",
+                "/pledges/1/decide", "/pledges/1/sell", "/pledges/1/extend", f"/pledges/{number}", f"/days/{day}",
+                "/export", "/import", "/held",
+            ]
+        )
+        body = CHANCE.choice(
+            [
+                f'{{"version":{number},"rate":{number},"keep_before":{number},"keep_after":0}}',
+                f'{{"pence":{number},"seq":{number}}}', f'{{"until":"{day}"}}', '{"paper":"sworn"}',
+                f'{{"ref":"{CHANCE.randrange(9)}","article":"{day}","kind":"running","pence":{number},'
+                f'"five_days":true,"agreed":"{day}"}}',
+                '{"yes":true}', f'{{"net":{number}}}', "", "[]",
+            ]
+        )
+        stream.append(
+            request(
+                CHANCE.choice(["GET", "POST"]), f"/books/7{target}", f"Pledge-Key: {BROKER}", f"Import-Key: {BROKER}",
+                body=body,
+            )
+        )
+    ran = subprocess.run(
+        [PROGRAM, "answer", ":memory:", "2024-01-31", SEED, OPERATOR], input=b"".join(stream), capture_output=True,
+        timeout=120,
+    )
     expect("how it ended", (ran.returncode, ran.stderr, ran.stdout.count(b'"code":492')), (0, b"", 0))
     are_replies(ran.stdout, "the stream")
 

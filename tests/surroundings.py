@@ -1,6 +1,7 @@
 #!/usr/bin/env python3
-"""What the machine around the program does to it: accepts that fail, standard streams that are closed or that nobody reads, signals, limits of the shell, and paths that are no
-plain file of the caller's own. Each with the line that the program says, its exit status, and all that it acknowledged."""
+"""What the machine around the program does to it: accepts that fail, standard streams that are closed or that nobody
+reads, signals, limits of the shell, and paths that are no plain file of the caller's own. Each with the line that
+the program says, its exit status, and all that it acknowledged."""
 import errno
 import fcntl
 import os
@@ -60,7 +61,10 @@ def ending(server, within=60):
 
 
 def one_accept_that_fails_costs_nothing():
-    for error in (errno.EMFILE, errno.ENFILE, errno.ENOBUFS, errno.ENOMEM, errno.ECONNABORTED, errno.EINTR, errno.EPERM, errno.EPROTO):
+    for error in (
+        errno.EMFILE, errno.ENFILE, errno.ENOBUFS, errno.ENOMEM, errno.ECONNABORTED, errno.EINTR, errno.EPERM,
+        errno.EPROTO,
+    ):
         with Server(env=refusing.refusing("a", at=1, error=error)) as server:
             for turn in (1, 2):
                 is_answered(server, f"connection {turn} after {errno.errorcode[error]}")
@@ -88,8 +92,10 @@ def no_descriptor_is_left_for_a_connection():
         with tempfile.TemporaryDirectory() as room:
             path = os.path.join(room, "books")
             port = free_port()
-            program = subprocess.Popen([PROGRAM, "serve", path, str(port), OPERATOR], stdin=subprocess.DEVNULL, stdout=subprocess.PIPE, stderr=subprocess.PIPE,
-                                       preexec_fn=lambda: resource.setrlimit(resource.RLIMIT_NOFILE, (most, most)))
+            program = subprocess.Popen(
+                [PROGRAM, "serve", path, str(port), OPERATOR], stdin=subprocess.DEVNULL, stdout=subprocess.PIPE,
+                stderr=subprocess.PIPE, preexec_fn=lambda: resource.setrlimit(resource.RLIMIT_NOFILE, (most, most)),
+            )
             try:
                 line = program.stdout.readline()
                 if not line:
@@ -117,19 +123,28 @@ def with_closed(*streams):
 
 
 def standard_streams_that_are_closed():
-    """None of them is taken by a file of the store, so no line is written into the books. Without a standard output a service does not start."""
+    """None of them is taken by a file of the store, so no line is written into the books. Without a standard output
+    a service does not start."""
     for streams in ((0,), (1,), (2,), (0, 1), (0, 2), (1, 2), (0, 1, 2)):
         with tempfile.TemporaryDirectory() as room:
             path = os.path.join(room, "books")
             with Server(path) as server:
                 receipts = make_books(server)
             before = check(path)
-            for words in (("check", path), ("answer", path, DAY, SEED, OPERATOR), ("migrate", path), ("check", os.path.join(room, "none", "books")), ("nonsense",)):
-                ran = subprocess.run([PROGRAM, *words], capture_output=True, timeout=30, preexec_fn=with_closed(*streams), input=b"")
+            for words in (
+                ("check", path), ("answer", path, DAY, SEED, OPERATOR), ("migrate", path),
+                ("check", os.path.join(room, "none", "books")), ("nonsense",),
+            ):
+                ran = subprocess.run(
+                    [PROGRAM, *words], capture_output=True, timeout=30, preexec_fn=with_closed(*streams), input=b"",
+                )
                 expect(f"{words[0]} without {streams}: a status", ran.returncode in (0, 1, 2, 3), True)
                 expect(f"{words[0]} without {streams}: the books", check(path), before)
             port = free_port()
-            program = subprocess.Popen([PROGRAM, "serve", path, str(port), OPERATOR], stdout=subprocess.DEVNULL, stderr=subprocess.DEVNULL, preexec_fn=with_closed(*streams))
+            program = subprocess.Popen(
+                [PROGRAM, "serve", path, str(port), OPERATOR], stdout=subprocess.DEVNULL, stderr=subprocess.DEVNULL,
+                preexec_fn=with_closed(*streams),
+            )
             try:
                 time.sleep(0.5)
                 expect(f"serve without {streams}: its status", program.poll(), 3 if 1 in streams else None)
@@ -140,12 +155,16 @@ def standard_streams_that_are_closed():
 
 
 def output_that_nobody_reads():
-    """A pipe that is full holds the program up before it answers anybody; one whose reader is gone ends it; one that is left after the first line is no matter."""
+    """A pipe that is full holds the program up before it answers anybody; one whose reader is gone ends it; one that
+    is left after the first line is no matter."""
     out, into = os.pipe()
     fcntl.fcntl(into, fcntl.F_SETPIPE_SZ, 4096)
     os.write(into, b"x" * 4096)
     port = free_port()
-    program = subprocess.Popen([PROGRAM, "serve", ":memory:", str(port), OPERATOR], stdin=subprocess.DEVNULL, stdout=into, stderr=subprocess.PIPE)
+    program = subprocess.Popen(
+        [PROGRAM, "serve", ":memory:", str(port), OPERATOR], stdin=subprocess.DEVNULL, stdout=into,
+        stderr=subprocess.PIPE,
+    )
     os.close(into)
     try:
         time.sleep(0.5)
@@ -182,8 +201,22 @@ def output_that_nobody_reads():
 # ---- signals
 
 
+def what_tests_start_ignores_no_signal():
+    """A script that ignores signals, as in the background of a shell or under nohup, starts programs that do not."""
+    asks = "import subprocess, service; subprocess.run(['grep', 'SigIgn', '/proc/self/status'])"
+    ignored = (signal.SIGHUP, signal.SIGINT, signal.SIGQUIT)
+    ran = subprocess.run(
+        [sys.executable, "-c", asks], cwd=os.path.dirname(os.path.abspath(__file__)), stdout=subprocess.PIPE,
+        timeout=60, preexec_fn=lambda: [signal.signal(number, signal.SIG_IGN) for number in ignored],
+    )
+    expect("what is ignored", (ran.returncode, ran.stdout.split()), (0, [b"SigIgn:", b"0" * 16]))
+
+
 def signals_that_end_it_lose_nothing():
-    for number in (signal.SIGHUP, signal.SIGINT, signal.SIGQUIT, signal.SIGUSR1, signal.SIGUSR2, signal.SIGALRM, signal.SIGTERM, signal.SIGABRT, signal.SIGSEGV, signal.SIGXCPU):
+    for number in (
+        signal.SIGHUP, signal.SIGINT, signal.SIGQUIT, signal.SIGUSR1, signal.SIGUSR2, signal.SIGALRM, signal.SIGTERM,
+        signal.SIGABRT, signal.SIGSEGV, signal.SIGXCPU,
+    ):
         with tempfile.TemporaryDirectory() as room:
             path = os.path.join(room, "books")
             with Server(path, preexec_fn=lambda: resource.setrlimit(resource.RLIMIT_CORE, (0, 0))) as server:
@@ -257,18 +290,29 @@ def a_connection_that_waited_is_closed():
 
 
 def a_clock_that_jumps():
-    """A pledge that was changed on a day to come refuses earlier days, and no other pledge does. On a day that no request may have nobody is answered, and nothing is lost."""
+    """A pledge that was changed on a day to come refuses earlier days, and no other pledge does. On a day that no
+    request may have nobody is answered, and nothing is lost."""
     with tempfile.TemporaryDirectory() as room:
         clock = os.path.join(room, "clock")
         with Server(os.path.join(room, "books"), env={**refusing.refusing(""), "REFUSE_CLOCK": clock}) as server:
             receipts = make_books(server)
             session = server.session()
             told(clock, time.time() + 40 * 86_400)
-            expect("a repayment on the day ahead", session.bearer(receipts[0], "POST", "/books/7/held/repay", {"pence": 1, "seq": 1})[0], 200)
+            expect(
+                "a repayment on the day ahead",
+                session.bearer(receipts[0], "POST", "/books/7/held/repay", {"pence": 1, "seq": 1})[0], 200,
+            )
             os.remove(clock)
-            expect("one on the day itself", session.bearer(receipts[0], "POST", "/books/7/held/repay", {"pence": 1, "seq": 2}), (409, {"code": 205, "name": "EarlierDay"}))
+            expect(
+                "one on the day itself",
+                session.bearer(receipts[0], "POST", "/books/7/held/repay", {"pence": 1, "seq": 2}),
+                (409, {"code": 205, "name": "EarlierDay"}),
+            )
             expect("its view", session.bearer(receipts[0], "GET", "/books/7/held")[0], 200)
-            expect("another pledge", session.bearer(receipts[1], "POST", "/books/7/held/repay", {"pence": 1, "seq": 1})[0], 200)
+            expect(
+                "another pledge", session.bearer(receipts[1], "POST", "/books/7/held/repay", {"pence": 1, "seq": 1})[0],
+                200,
+            )
             session.close()
             for seconds in (-1, 0, 946_684_799, 7_258_118_400, 2 ** 40):
                 told(clock, seconds)
@@ -289,7 +333,8 @@ def told(clock, seconds):
 
 
 def a_limit_on_the_length_of_files():
-    """By default the system kills a program that writes past it; where that signal is ignored the write is refused, and told as a fault of the store. Nothing acknowledged is lost."""
+    """By default the system kills a program that writes past it; where that signal is ignored the write is refused,
+    and told as a fault of the store. Nothing acknowledged is lost."""
     for ignored in (False, True):
         for most in (8192, 65536, 400_000):
             with tempfile.TemporaryDirectory() as room:
@@ -297,9 +342,15 @@ def a_limit_on_the_length_of_files():
                 with Server(path) as server:
                     receipts = make_books(server)
                 ended, more = under_a_limit(path, most, ignored, len(receipts))
-                expect(f"how {most} bytes end it", ended in ((None, None), (-signal.SIGXFSZ, ""), fault(503, "Store")) and (ignored, ended[0]) != (True, -signal.SIGXFSZ), True)
+                may_end = ended in ((None, None), (-signal.SIGXFSZ, ""), fault(503, "Store"))
+                expect(
+                    f"how {most} bytes end it", may_end and (ignored, ended[0]) != (True, -signal.SIGXFSZ), True,
+                )
                 kept = check(path)[1].split()
-                expect(f"what is left after {most} bytes", len(receipts + more) <= int(kept[3]) <= len(receipts + more) + 1, True)
+                expect(
+                    f"what is left after {most} bytes",
+                    len(receipts + more) <= int(kept[3]) <= len(receipts + more) + 1, True,
+                )
                 with Server(path) as server:
                     session = server.session()
                     for receipt in receipts + more:
@@ -308,7 +359,8 @@ def a_limit_on_the_length_of_files():
 
 
 def under_a_limit(path, most, ignored, count):
-    """Openings over a file whose length is limited, until one is not answered: how the service ended, if it did, and the receipts."""
+    """Openings over a file whose length is limited, until one is not answered: how the service ended, if it did, and
+    the receipts."""
     def limit():
         resource.setrlimit(resource.RLIMIT_FSIZE, (most, most))
         signal.signal(signal.SIGXFSZ, signal.SIG_IGN if ignored else signal.SIG_DFL)
@@ -317,7 +369,10 @@ def under_a_limit(path, most, ignored, count):
         server.__enter__()
         session = server.session()
         for number in range(count + 1, count + 60):
-            status, said = session.broker("POST", "/books/7/pledges", {"article": "x" * 80, "five_days": False, "kind": "fixed", "pence": 10000, "ref": f"A{number}"})
+            status, said = session.broker(
+                "POST", "/books/7/pledges",
+                {"article": "x" * 80, "five_days": False, "kind": "fixed", "pence": 10000, "ref": f"A{number}"},
+            )
             if status == 503:
                 break
             receipts.append(said["receipt"])
@@ -350,10 +405,17 @@ def paths_that_are_no_plain_file():
             for name in ("null", "zero", "full", "tty", "random"):
                 devices.append(os.path.join(room, name))
                 os.symlink(os.path.join("/dev", name), devices[-1])
-            for path in (fifo, waiting, listening, *devices, room, os.path.join(room, "x" * 256), os.path.join(room, "x" * 253)):
-                for words in (("check", path), ("answer", path, DAY, SEED, OPERATOR), ("serve", path, str(free_port()), OPERATOR)):
+            for path in (
+                fifo, waiting, listening, *devices, room, os.path.join(room, "x" * 256), os.path.join(room, "x" * 253),
+            ):
+                for words in (
+                    ("check", path), ("answer", path, DAY, SEED, OPERATOR), ("serve", path, str(free_port()), OPERATOR),
+                ):
                     expect(f"{words[0]} {path[-30:]}", ends(*words), fault(503, "Store"))
-        expect("what lies there", sorted(os.listdir(room)), sorted(["fifo", "full", "null", "random", "socket", "tty", "waiting", "waiting-wal", "x" * 253, "zero"]))
+        expect(
+            "what lies there", sorted(os.listdir(room)),
+            sorted(["fifo", "full", "null", "random", "socket", "tty", "waiting", "waiting-wal", "x" * 253, "zero"]),
+        )
         expect("the fifo", stat.S_ISFIFO(os.stat(fifo).st_mode), True)
 
 
@@ -361,20 +423,26 @@ def a_key_by_a_pipe():
     out, into = os.pipe()
     os.write(into, OPERATOR.encode() + b"\n")
     os.close(into)
-    ran = subprocess.run([PROGRAM, "answer", ":memory:", DAY, SEED, f"/dev/fd/{out}"], input=LAST, capture_output=True, timeout=30, pass_fds=(out,))
+    ran = subprocess.run(
+        [PROGRAM, "answer", ":memory:", DAY, SEED, f"/dev/fd/{out}"], input=LAST, capture_output=True, timeout=30,
+        pass_fds=(out,),
+    )
     os.close(out)
     expect("answer", (ran.returncode, ran.stdout, ran.stderr), (0, NONE, b""))
 
 
 def a_file_with_a_second_name():
-    """A file that has two names, each of which might get a log of its own, is opened by neither; nor is it by a symbolic one while it is served. Nothing is lost by it."""
+    """A file that has two names, each of which might get a log of its own, is opened by neither; nor is it by a
+    symbolic one while it is served. Nothing is lost by it."""
     with tempfile.TemporaryDirectory() as room:
         path = os.path.join(room, "books")
         with Server(path) as server:
             receipts = make_books(server)
             for link in (os.link, os.symlink):
                 link(path, os.path.join(room, link.__name__))
-                expect(f"check by {link.__name__}", check(os.path.join(room, link.__name__)), (1, "", "fault 503 Store\n"))
+                expect(
+                    f"check by {link.__name__}", check(os.path.join(room, link.__name__)), (1, "", "fault 503 Store\n"),
+                )
             is_answered(server, "meanwhile")
         expect("check of a file with two names", check(path), (1, "", "fault 503 Store\n"))
         os.remove(os.path.join(room, "link"))
@@ -396,8 +464,13 @@ def folders_and_files_of_somebody_else():
         for mode in (0o600, 0o644):
             os.chmod(path, mode)
             os.chmod(path + "-wal", mode)
-            for words in (("check", path), ("serve", path, str(free_port()), OPERATOR), ("check", os.path.join(room, "new"))):
-                ran = subprocess.run([PROGRAM, *words], stdin=subprocess.DEVNULL, capture_output=True, timeout=30, user=NOBODY, group=NOBODY, extra_groups=[])
+            for words in (
+                ("check", path), ("serve", path, str(free_port()), OPERATOR), ("check", os.path.join(room, "new")),
+            ):
+                ran = subprocess.run(
+                    [PROGRAM, *words], stdin=subprocess.DEVNULL, capture_output=True, timeout=30, user=NOBODY,
+                    group=NOBODY, extra_groups=[],
+                )
                 expect(f"{words[0]} of mode {mode:o}", (ran.returncode, ran.stderr.decode()), fault(503, "Store"))
         expect("what lies there", sorted(os.listdir(room)), before)
         is_all_there(path, receipts)
@@ -405,7 +478,8 @@ def folders_and_files_of_somebody_else():
 
 def a_disk_that_can_only_be_read():
     with tempfile.TemporaryDirectory() as room:
-        if os.geteuid() or subprocess.run(["mount", "-t", "tmpfs", "-o", "size=8m", "none", room], stderr=subprocess.DEVNULL).returncode:
+        mount = ["mount", "-t", "tmpfs", "-o", "size=8m", "none", room]
+        if os.geteuid() or subprocess.run(mount, stderr=subprocess.DEVNULL).returncode:
             print("not tried: a disk that can only be read, which asks for the right to mount one")
             return
         try:
@@ -424,6 +498,11 @@ def a_disk_that_can_only_be_read():
 if refusing.library() is None:
     print("not tried: what the machine around the program does, since no C compiler is there\n0 passed, 0 failed")
     sys.exit(0)
-main(one_accept_that_fails_costs_nothing, accepts_that_all_fail_end_the_service, no_descriptor_is_left_for_a_connection, standard_streams_that_are_closed, output_that_nobody_reads,
-     signals_that_end_it_lose_nothing, signals_that_it_does_not_mind, a_service_that_is_stopped_goes_on, a_connection_that_waited_is_closed, a_clock_that_jumps, a_limit_on_the_length_of_files, paths_that_are_no_plain_file, a_key_by_a_pipe,
-     a_file_with_a_second_name, folders_and_files_of_somebody_else, a_disk_that_can_only_be_read)
+main(
+    one_accept_that_fails_costs_nothing, accepts_that_all_fail_end_the_service, no_descriptor_is_left_for_a_connection,
+    standard_streams_that_are_closed, output_that_nobody_reads, what_tests_start_ignores_no_signal,
+    signals_that_end_it_lose_nothing, signals_that_it_does_not_mind, a_service_that_is_stopped_goes_on,
+    a_connection_that_waited_is_closed, a_clock_that_jumps, a_limit_on_the_length_of_files,
+    paths_that_are_no_plain_file, a_key_by_a_pipe, a_file_with_a_second_name, folders_and_files_of_somebody_else,
+    a_disk_that_can_only_be_read,
+)

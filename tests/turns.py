@@ -1,25 +1,30 @@
 #!/usr/bin/env python3
-"""Whole requests and their replies, byte for byte, in the files of tests/turns/: over a file that is opened anew for each day, and in memory where a run has
-one day alone. Also a bearer among strangers, whose replies are what they are without them.
+"""Whole requests and their replies, byte for byte, in the files of tests/turns/: over a file that is opened anew for
+each day, and in memory where a run has one day alone. Also a bearer among strangers, whose replies are what they are
+without them.
 
 usage: tests/turns.py [NAME..]     (tests/turns.py ann_and_bo plays tests/turns/ann_and_bo.txt alone)
 
-A turn that fails is told by its file, the line of its request and its number. A turn is two lines. The first is a request: its day, the word of its stamp, who asks, the method and the target, and the body. Who asks is named by its key, or
-by its receipts, each by its pledge and the word that issued it. The second line is the reply: its status and its body. A `|` in a body stands for the end of a line.
-A word is one that the program draws by itself, so its secret is taken from the reply that tells it first.
+A turn that fails is told by its file, the line of its request and its number. A turn is two lines. The first is a
+request: its day, the word of its stamp, who asks, the method and the target, and the body. Who asks is named by its
+key, or by its receipts, each by its pledge and the word that issued it. The second line is the reply: its status and
+its body. A `|` in a body stands for the end of a line. A word is one that the program draws by itself, so its secret is
+taken from the reply that tells it first.
 """
 import glob
 import itertools
 import os
 import re
-import sqlite3
 import subprocess
 import tempfile
 from typing import NamedTuple
 
-from service import OPERATOR, PROGRAM, TOP, Failed, check, expect, main, opened
+from service import OPERATOR, PROGRAM, TOP, check, expect, main, opened
 
-KEYS = {"operator": OPERATOR, "broker": "22222222-2222-2222-2222-222222222222", "stranger": "33333333-3333-3333-3333-333333333333"}
+KEYS = {
+    "operator": OPERATOR, "broker": "22222222-2222-2222-2222-222222222222",
+    "stranger": "33333333-3333-3333-3333-333333333333",
+}
 SECRET = re.compile(r"[0-9a-f]{8}(?:-[0-9a-f]{4}){3}-[0-9a-f]{12}")
 FILES = sorted(os.path.basename(path)[:-len(".txt")] for path in glob.glob(os.path.join(TOP, "tests/turns/*.txt")))
 # The files that are played where a file has room for so many rows. All others have the program's own limit.
@@ -38,7 +43,10 @@ def turns_in(name):
     with open(os.path.join(TOP, "tests/turns", f"{name}.txt"), encoding="utf-8") as it:
         lines = [(number, line.rstrip("\n")) for number, line in enumerate(it, 1) if not line.startswith("#")]
     pairs = zip(lines[::2], lines[1::2], strict=True)
-    return [Turn(f"tests/turns/{name}.txt:{number}, turn {turn}", asked, wanted) for turn, ((number, asked), (_, wanted)) in enumerate(pairs, 1)]
+    return [
+        Turn(f"tests/turns/{name}.txt:{number}, turn {turn}", asked, wanted)
+        for turn, ((number, asked), (_, wanted)) in enumerate(pairs, 1)
+    ]
 
 
 class Words:
@@ -56,12 +64,14 @@ class Words:
 
     def learn(self, word, wanted, told):
         """Takes the secret that a reply tells first, where it is to tell that of this word."""
-        if f'"receipt":"' in wanted and wanted.endswith(f'-00000000-0000-0000-0000-{word:012x}"}}') and word not in self.secrets:
+        tells = '"receipt":"' in wanted and wanted.endswith(f'-00000000-0000-0000-0000-{word:012x}"}}')
+        if tells and word not in self.secrets:
             self.secrets[word] = SECRET.findall(told)[-1]
 
 
 def fields(caller, words):
-    """The fields that make a caller known, and the key of an import, which is named by its first digits after a slash."""
+    """The fields that make a caller known, and the key of an import, which is named by its first digits after a
+    slash."""
     caller, _, digits = caller.partition("/")
     importing = f"Import-Key: {digits}-0000-0000-0000-000000000000\r\n" if digits else ""
     if caller in KEYS:
@@ -74,19 +84,23 @@ def asked(line, words):
     """The day of a request's line, the word of its stamp, and its bytes."""
     day, word, caller, target, body = line.split("|", 4)
     body = words.in_text(body.replace("|", "\n")).encode()
-    return day, int(word), f"{target} HTTP/1.1\r\n{fields(caller, words)}Content-Length: {len(body)}\r\n\r\n".encode() + body
+    head = f"{target} HTTP/1.1\r\n{fields(caller, words)}Content-Length: {len(body)}\r\n\r\n"
+    return day, int(word), head.encode() + body
 
 
 def reply(line, words):
     """The bytes of a reply's line."""
     status, body = line.split("|", 1)
-    kind = "application/json" if body.startswith("{") else "text/csv; charset=utf-8" if body.startswith("row,") else "text/plain; charset=utf-8"
+    text = "text/csv; charset=utf-8" if body.startswith("row,") else "text/plain; charset=utf-8"
+    kind = "application/json" if body.startswith("{") else text
     body = words.in_text(body.replace("|", "\n")).encode()
     return f"HTTP/1.1 {status}\r\nContent-Length: {len(body)}\r\nContent-Type: {kind}\r\n\r\n".encode() + body
 
 
 def answers(database, day, seed, stream, step="a run"):
-    ran = subprocess.run([PROGRAM, "answer", database, day, f"{seed:064x}", OPERATOR], input=stream, capture_output=True, timeout=60)
+    ran = subprocess.run(
+        [PROGRAM, "answer", database, day, f"{seed:064x}", OPERATOR], input=stream, capture_output=True, timeout=60,
+    )
     expect(f"how {step} ended", (ran.returncode, ran.stderr), (0, b""))
     return ran.stdout
 
@@ -108,7 +122,8 @@ def compared(step, turns, replies, wanted):
 
 
 def plays(database, turns):
-    """Plays turns, those of one day that need no secret of their own in one run of the program, and compares each reply."""
+    """Plays turns, those of one day that need no secret of their own in one run of the program, and compares each
+    reply."""
     words, at, seed = Words(), 0, 0
     while at < len(turns):
         end = at + 1
@@ -117,7 +132,9 @@ def plays(database, turns):
             end += 1
         part, seed = turns[at:end], seed + 1
         sent = [asked(turn.asked, words) for turn in part]
-        told = list(split(answers(database, day, seed, b"".join(it[2] for it in sent), f"the run from {part[0].place} on")))
+        told = list(
+            split(answers(database, day, seed, b"".join(it[2] for it in sent), f"the run from {part[0].place} on"))
+        )
         for turn, one, said in zip(part, sent, told):
             words.learn(one[1], turn.wanted, said.decode())
         compared("there are", part, told, [reply(turn.wanted, words) for turn in part])
@@ -145,7 +162,8 @@ def playing(name):
 
 
 def a_day_in_memory_is_as_over_a_file():
-    """Each run of turns of one day, in memory by one stream: the books begin with that day, so the replies are compared with a file's."""
+    """Each run of turns of one day, in memory by one stream: the books begin with that day, so the replies are
+    compared with a file's."""
     for name in ("two_lives", "a_day", "full", "exports", "imports", "lost_twice", "one_of_each"):
         words, turns = Words(), turns_in(name)
         for secret in range(1, 20):
@@ -159,9 +177,11 @@ def a_day_in_memory_is_as_over_a_file():
 
 
 SET_UP = [
-    '2024-01-31|0|operator|POST /books/7|{"capacity":1,"key":"22222222-2222-2222-2222-222222222222","name":"High Street"}',
+    '2024-01-31|0|operator|POST /books/7|'
+    '{"capacity":1,"key":"22222222-2222-2222-2222-222222222222","name":"High Street"}',
     '2024-01-31|0|broker|POST /books/7/terms|{"keep_after":0,"keep_before":0,"rate":100,"version":1}',
-    '2024-01-31|1|broker|POST /books/7/pledges|{"article":"Gold ring","five_days":false,"kind":"fixed","pence":10000,"ref":"A1"}',
+    '2024-01-31|1|broker|POST /books/7/pledges|'
+    '{"article":"Gold ring","five_days":false,"kind":"fixed","pence":10000,"ref":"A1"}',
 ]
 BEARERS = [
     '2024-02-10|0|1-1|POST /books/7/held/ask|{"day":"2024-03-04","window":3}',
@@ -175,9 +195,12 @@ BEARERS = [
 
 
 def stranger(path, number, words, seed):
-    """A stranger's pledge is taken, and its bearer asks for the window of the bearer of pledge 1, which the first of them fills."""
+    """A stranger's pledge is taken, and its bearer asks for the window of the bearer of pledge 1, which the first of
+    them fills."""
     opening = f'{{"article":"Clock","five_days":true,"kind":"running","pence":500,"ref":"B{number}"}}'
-    told = answers(path, "2024-02-10", seed, asked(f"2024-02-10|0|broker|POST /books/7/pledges|{opening}", words)[2]).decode()
+    told = answers(
+        path, "2024-02-10", seed, asked(f"2024-02-10|0|broker|POST /books/7/pledges|{opening}", words)[2],
+    ).decode()
     words.secrets[number] = SECRET.findall(told)[-1]
     lines = [f'2024-02-10|0|{number}-{number}|POST /books/7/held/ask|{{"day":"2024-03-04","window":3}}',
              f'2024-02-10|0|broker|POST /books/7/pledges/{number}/decide|{{"yes":true}}']

@@ -8,7 +8,8 @@ fail() {
     exit "${2:-1}"
 }
 
-# The program to run: the one that PAWND names, the one beside this file, or else that of build/, which is built first where anything changed.
+# The program to run: the one that PAWND names, the one beside this file, or else that of build/, which is built first
+# if anything changed.
 program() {
     if [ -n "${PAWND:-}" ]; then
         [ -x "$PAWND" ] || fail "PAWND names $PAWND, which is no program"

@@ -4,15 +4,16 @@ import os
 import re
 import socket
 import subprocess
+import tempfile
 import time
 
-from .locks import Stop, alone, at_rest, folder_of, not_served, say
+from .locks import Stop, alone, at_rest, ends_with_us, folder_of, not_served, say
 from .stores import (
     check,
     copy_store,
     folder_for,
     in_words,
-    now,
+    name_by_time,
     program,
     put_in_place,
     room_in,
@@ -32,7 +33,9 @@ def copies(folder):
     if not os.path.isdir(folder):
         return []
     return sorted(
-        name for name in os.listdir(folder) if NAME.fullmatch(name) and os.path.exists(os.path.join(folder, name, NOTE))
+        name
+        for name in os.listdir(folder)
+        if NAME.fullmatch(name) and os.path.exists(os.path.join(folder, name, NOTE))
     )
 
 
@@ -50,7 +53,7 @@ def backup(path, folder):
     """Copies a store while it stands still, judges the copy, and writes down beside it what it holds."""
     os.makedirs(folder, 0o700, exist_ok=True)
     with alone(folder_of(path)), alone(folder), room_in(folder, "part") as part:
-        made, before = now(folder), copies(folder)
+        made, before = name_by_time(folder), copies(folder)
         target = os.path.join(part, os.path.basename(path))
         with at_rest(path):
             begun = time.monotonic()
@@ -151,6 +154,7 @@ def drill(folder, port):
             stdin=subprocess.DEVNULL,
             stdout=subprocess.PIPE,
             stderr=subprocess.PIPE,
+            preexec_fn=ends_with_us(),
         )
         try:
             if served.stdout.readline() != f"listening {port}\n".encode():
@@ -163,12 +167,16 @@ def drill(folder, port):
 
 
 def packed(folder, names, target, recipients):
-    """An encrypted archive, which is there as a whole or not at all."""
-    part = target + ".part"
-    with open(part, "wb") as it:
-        tar = subprocess.Popen(["tar", "-C", folder, "-c", *names], stdout=subprocess.PIPE)
-        age = subprocess.run(["age", "-R", recipients], stdin=tar.stdout, stdout=it)
-        if tar.wait() or age.returncode:
+    """An encrypted archive, which is there as a whole or not at all. Each attempt writes a file of its own, since what
+    an earlier one began may not have ended yet."""
+    handle, part = tempfile.mkstemp(prefix=os.path.basename(target) + ".part-", dir=os.path.dirname(target))
+    with open(handle, "wb") as it:
+        tar = subprocess.Popen(["tar", "-C", folder, "-c", *names], stdout=subprocess.PIPE, preexec_fn=ends_with_us())
+        # This process lets go of the end that is read, so that tar ends where age does not read on.
+        with tar.stdout:
+            age = subprocess.Popen(["age", "-R", recipients], stdin=tar.stdout, stdout=it, preexec_fn=ends_with_us())
+        if any([age.wait(), tar.wait()]):
+            os.unlink(part)
             raise Stop(f"{target} was not made")
     sync(part)
     os.rename(part, target)
@@ -192,7 +200,9 @@ def send(folder, target):
         for name in os.listdir(sent):
             if name != "settings.tar.age" and name.removesuffix(".tar.age") not in wanted:
                 os.remove(os.path.join(sent, name))
-        if subprocess.run(["rsync", "-a", "--delete-after", sent + "/", target]).returncode:
+        # One that went on after this command was killed would take away there what the next one sends.
+        words = ["rsync", "-a", "--delete-after", sent + "/", target]
+        if subprocess.run(words, preexec_fn=ends_with_us()).returncode:
             raise Stop(f"{target} was not reached: the copies wait in {sent}")
     say(f"{target}: {len(wanted)} copies, the newest {wanted[-1] if wanted else 'none'}")
 

@@ -8,8 +8,8 @@ import struct
 import sys
 import time
 
-# The bytes of a database that SQLite locks, and the program with it.
-LOCKED = 0x40000000, 512
+# The bytes of a database that SQLite locks, and the program with it: the first, and how many.
+LOCK_BYTES = 0x40000000, 512
 PATIENCE = int(os.environ.get("WAIT", "600"))
 HELD = set()
 
@@ -75,7 +75,7 @@ def locked(path):
     """Whether nobody has the store open; then nobody can open it within the block."""
     with open(path, "rb") as file:
         try:
-            fcntl.fcntl(file, fcntl.F_OFD_SETLK, struct.pack("hhqqi4x", fcntl.F_RDLCK, os.SEEK_SET, *LOCKED, 0))
+            fcntl.fcntl(file, fcntl.F_OFD_SETLK, struct.pack("hhqqi4x", fcntl.F_RDLCK, os.SEEK_SET, *LOCK_BYTES, 0))
         except BlockingIOError:
             yield False
         else:
@@ -98,7 +98,9 @@ def locks_there(pid, handle):
     """Whether this descriptor of a process holds a lock on the bytes that the program locks."""
     with open(f"/proc/{pid}/fdinfo/{handle}") as it:
         words = [line.split() for line in it if line.startswith("lock:")]
-    return any(int(first) < sum(LOCKED) and (last == "EOF" or int(last) >= LOCKED[0]) for *_, first, last in words)
+    return any(
+        int(first) < sum(LOCK_BYTES) and (last == "EOF" or int(last) >= LOCK_BYTES[0]) for *_, first, last in words
+    )
 
 
 def holders(path):
@@ -145,6 +147,26 @@ def settled(pid):
         before = now
         time.sleep(0.001)
     return now
+
+
+# ---- a program that is begun, and ends when this process does
+
+# The order to Linux to send a signal to a process when its parent ends: linux/prctl.h.
+PR_SET_PDEATHSIG = 1
+
+
+def ends_with_us():
+    """What a child does before it becomes another program, so that it ends with this process however that ends."""
+    import ctypes
+
+    parent, prctl = os.getpid(), ctypes.CDLL(None).prctl
+
+    def tie():
+        prctl(PR_SET_PDEATHSIG, signal.SIGKILL)
+        if os.getppid() != parent:
+            os._exit(1)
+
+    return tie
 
 
 # ---- a process that stands still, and goes on whatever becomes of this one

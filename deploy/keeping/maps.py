@@ -1,18 +1,22 @@
 """The proxy's map: which shard has a book. It is the operator's file, and only these commands and an editor change
-it."""
+it. What nginx looks at is made from it: places.py."""
 import contextlib
 import os
 import re
 import signal
+import socket
 import subprocess
 
 from .copies import STORES
 from .locks import Stop, alone, wait_for
-from .stores import books_in, written
+from .places import Places, all_turned, children, drained, worker
+from .stores import books_in, write_whole
 
 SETTINGS = os.environ.get("SETTINGS", "/etc/pawnd")
 CONF = os.environ.get("CONF", "/etc/nginx/nginx.conf")
 PATIENCE = 90
+# Where nginx's workers say who they are.
+WORKERS = re.compile(r"^\s*listen (\S+) reuseport;", re.M)
 LINE = re.compile(
     r"""\s*(?:\#.*|(?P<key>"[^"]*"|[^\s;"]+)\s+(?P<shard>\w+)\s*;\s*(?:\#\s*(?:from\ (?P<old>\w+))?.*)?)?""", re.X
 )
@@ -53,21 +57,20 @@ class Map:
         shard = self.shard(book)
         return self.old.get(book) if shard == "moving" else shard
 
+    def range_lines(self):
+        return [line for line in self.lines if LINE.fullmatch(line)["key"] and "~" in LINE.fullmatch(line)["key"]]
+
     def put(self, turned):
-        """Writes lines of their own for these books: a shard's name, or `moving; # from SHARD`, or None for no line.
-        All other lines stay."""
+        """Writes lines of their own for these books: a shard's name, or `moving; # from SHARD`. All other lines
+        stay."""
 
         def is_of(line):
             found = LINE.fullmatch(line)
             return found["key"] and found["key"].strip('"').isdigit() and int(found["key"].strip('"')) in turned
 
         kept = [line for line in self.lines if not is_of(line)]
-        written(
-            self.path,
-            "".join(
-                line + "\n" for line in [*kept, *(f"{book} {said}" for book, said in sorted(turned.items()) if said)]
-            ),
-        )
+        new = [f"{book} {said}" for book, said in sorted(turned.items())]
+        write_whole(self.path, "".join(line + "\n" for line in [*kept, *new]))
         self.__init__(self.path)
 
 
@@ -82,7 +85,7 @@ class Twins:
 
     def change(self, add=(), remove=()):
         self.all = (self.all | set(add)) - set(remove)
-        written(self.path, "".join(f"{book} {shard}\n" for book, shard in sorted(self.all)))
+        write_whole(self.path, "".join(f"{book} {shard}\n" for book, shard in sorted(self.all)))
 
 
 class Proxy:
@@ -96,6 +99,7 @@ class Proxy:
             self.addresses[name] = address
         self.map = Map(os.path.join(SETTINGS, "books.map"))
         self.twins = Twins(os.path.join(SETTINGS, "twins"))
+        self.places = Places()
 
     def store(self, shard):
         """The file of a shard, if it is on this machine."""
@@ -112,27 +116,68 @@ class Proxy:
         paths = {shard: self.store(shard) for shard in sorted(self.addresses)}
         return {shard: set(books_in(path)) if os.path.exists(path) else set() for shard, path in paths.items() if path}
 
+    def turn(self, book, said):
+        """A line of the map and its link are turned. The text comes first: what is cut off between the two is looked
+        up as it was before, or by nobody."""
+        self.map.put({book: said})
+        self.places.put({book: self.map.own[book]})
+
+    def fence(self, book, old):
+        """Nobody is handed to the book from now on, and nothing that was is under way any more. A book that had its
+        place by a range gets a link of its own first, so that the next look finds the fence."""
+        if not os.path.islink(self.places.path(book)):
+            self.places.put({book: old})
+            all_turned(*self.running())
+        self.turn(book, f"moving; # from {old}")
+        master, workers = self.running()
+        drained(master, workers, self.numbers(old))
+
+    def numbers(self, shard):
+        """The address of a shard as numbers."""
+        host, _, port = self.address(shard).rpartition(":")
+        return f"{socket.gethostbyname(host)}:{port}"
+
+    def running(self):
+        """nginx's first process, and where its workers say who they are."""
+        with open(CONF) as it:
+            text = it.read()
+        with open(re.search(r"^pid (\S+);", text, re.M)[1]) as it:
+            master, found = int(it.read()), WORKERS.search(text)
+        if not found:
+            raise Stop(f"{CONF} is not the file of this release: its workers do not say who they are")
+        return master, found[1]
+
+    def prepared(self, *shards):
+        """nginx looks at the places, and has taken up these shards."""
+        if not all(map(self.places.has, shards)) or worker(self.running()[1]) is None:
+            self.reload()
+
+    def settled(self, book):
+        """The link of a book is what its line says. What was turned and cut off is ended by this."""
+        self.prepared()
+        if book in self.map.own:
+            self.places.put({book: self.map.own[book]})
+
     def reload(self):
         """nginx takes up its files. When this returns no request is under way by the old ones."""
-        with open(CONF) as it:
-            pid_file = re.search(r"^pid (\S+);", it.read(), re.M)[1]
         ran = subprocess.run(["nginx", "-q", "-t", "-c", CONF], capture_output=True, text=True)
         if ran.returncode:
             raise Stop(f"nginx refuses its configuration: {ran.stderr.strip()}")
-        with open(pid_file) as it:
-            master = int(it.read())
+        master, workers = self.running()
+        looks, wanted = worker(workers) is not None, dict(self.map.own)
+        there = self.places.all() if looks else {}
+        # A shard may be new to nginx. It has its place when nginx has taken it up, and books are turned to it then.
+        self.places.prepare(() if looks else self.addresses, self.map.range_lines())
+        self.places.put({book: place for book, place in wanted.items() if book not in there})
         before = set(children(master))
         os.kill(master, signal.SIGHUP)
+        wait_for(lambda: set(children(master)) - before, "nginx begins anew", PATIENCE)
+        wait_for(lambda: worker(workers) not in {None, 0, *before}, "nginx answers by its new files", PATIENCE)
+        self.places.prepare(self.addresses, self.map.range_lines())
+        self.places.put({book: place for book, place in wanted.items() if there.get(book, place) != place})
+        self.places.forget(self.addresses, wanted)
         wait_for(lambda: not before & set(children(master)), "nginx works by the new map alone", PATIENCE)
-
-
-def children(parent):
-    found = []
-    for pid in filter(str.isdigit, os.listdir("/proc")):
-        with contextlib.suppress(OSError), open(f"/proc/{pid}/stat") as it:
-            if it.read().rpartition(")")[2].split()[1] == str(parent):
-                found.append(int(pid))
-    return found
+        all_turned(master, workers)
 
 
 # ---- whether the map and the shards fit
@@ -140,9 +185,13 @@ def children(parent):
 
 def faults(proxy):
     """What is wrong with the map, and what is only worth knowing."""
-    standing, wrong, noted = proxy.standing(), [], []
+    standing, links, wrong, noted = proxy.standing(), proxy.places.all() if proxy.places.has(".") else None, [], []
     for book, shard in sorted(proxy.map.own.items()):
         owner = proxy.map.owner(book)
+        if links is not None and links.get(book) != shard:
+            noted.append(
+                f"book {book} has a line for {shard}, and nginx finds {links.get(book, 'none')}: `shards reload`"
+            )
         if shard == "moving":
             noted.append(
                 f"book {book} is fenced: it was being moved from {owner or 'a shard that its line does not name'}. "

@@ -81,7 +81,8 @@ def make_book(number, shard, source):
         if owner is None:
             proxy.map.put({book: f"{shard};"})
         verified(proxy)
-        proxy.reload()
+        proxy.prepared(shard)
+        proxy.settled(book)
     say(f"book {book} is at {shard}")
 
 
@@ -150,11 +151,12 @@ def move(number, shard, *source):
         addresses = proxy.address(old), proxy.address(shard)
         if old == shard and not fenced:
             verified(proxy)
-            proxy.reload()
+            proxy.settled(book)
             raise Stop(f"book {book} is at {shard} already")
         if old == shard:
             return stay(proxy, book, old)
         verified(proxy)
+        proxy.prepared(old, shard)
         path = source[0] if source else proxy.store(old)
         if not path:
             raise Stop(f"{old} is on another machine: name a file with the JSON that book {book} was made with")
@@ -166,31 +168,28 @@ def move(number, shard, *source):
 
 
 def stay(proxy, book, old):
-    proxy.map.put({book: f"{old};"})
     verified(proxy)
-    proxy.reload()
+    proxy.prepared(old)
+    proxy.turn(book, f"{old};")
     say(f"book {book} stays at {old}")
 
 
 def turn(proxy, book, old, shard, made, addresses):
     """The move itself. The map alone decides: until its line is turned the new shard's is the twin, and from then on
     the old one's."""
-    line = proxy.map.own.get(book)
     begun = time.monotonic()
     proxy.twins.change(add=[(book, shard)])
     try:
-        proxy.map.put({book: f"moving; # from {old}"})
-        proxy.reload()
+        proxy.fence(book, old)
         carry(book, made, *addresses)
         proxy.twins.change(add=[(book, old)])
+        verified(proxy)
     except BaseException:
-        proxy.map.put({book: f"{old};" if line else None})
-        proxy.reload()
+        proxy.turn(book, f"{old};")
         proxy.twins.change(remove=[(book, old)])
         say(f"book {book} stays at {old}")
         raise
-    proxy.map.put({book: f"{shard};"})
-    proxy.reload()
+    proxy.turn(book, f"{shard};")
     proxy.twins.change(remove=[(book, shard)])
     return (
         f"book {book} is at {shard}, and was not served for {time.monotonic() - begun:.1f} s. The key of an "

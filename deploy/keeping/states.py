@@ -18,7 +18,7 @@ ACCESS = os.environ.get("ACCESS", "/var/log/nginx/access.log")
 OLD_COPY, MANY_ROWS, SHORT_CERTIFICATE = 26, 0.8, 14
 
 
-def now():
+def utc_now():
     return datetime.datetime.now(datetime.timezone.utc)
 
 
@@ -35,7 +35,9 @@ def counts_of(path):
     """What a store holds, of how much it may."""
     with looked_into(path) as tables:
         meta = dict(tables.execute("SELECT name, value FROM meta").fetchall())
-        books, pledges = (tables.execute(f"SELECT count(*) FROM {name}").fetchone()[0] for name in ("books", "pledges"))
+        books, pledges = (
+            tables.execute(f"SELECT count(*) FROM {name}").fetchone()[0] for name in ("books", "pledges")
+        )
         return {"books": books, "pledges": pledges, "rows": rows_of(tables), "limit": meta["limit"]}
 
 
@@ -47,7 +49,7 @@ def newest_copy(shard):
     made = datetime.datetime.strptime(names[-1], "%Y%m%dT%H%M%SZ").replace(tzinfo=datetime.timezone.utc)
     return {
         "name": names[-1],
-        "hours": round((now() - made).total_seconds() / 3600, 1),
+        "hours": round((utc_now() - made).total_seconds() / 3600, 1),
         **note_of(os.path.join(folder, names[-1]))["counts"],
     }
 
@@ -98,7 +100,7 @@ def certificate_days():
     ends = datetime.datetime.strptime(ran.stdout.strip().partition("=")[2], "%b %d %H:%M:%S %Y %Z").replace(
         tzinfo=datetime.timezone.utc
     )
-    return (ends - now()).days
+    return (ends - utc_now()).days
 
 
 def complaints(state):

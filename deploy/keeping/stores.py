@@ -19,7 +19,8 @@ TOP = os.path.dirname(os.path.dirname(os.path.dirname(os.path.realpath(__file__)
 LOG = "-wal"
 # A log of at most so many bytes has no page in it.
 NO_PAGE = 41
-FICLONE = 0x40049409
+# The order to the file system to let two files share their bytes: FICLONE of linux/fs.h.
+SHARE_BYTES = 0x40049409
 COUNTED = ("bookings", "secrets", "entries", "pledges", "terms", "books")
 TABLES = ("totals", "extensions", *COUNTED)
 
@@ -61,7 +62,7 @@ def copy_file(source, target, whole=True):
     not be whole, only that cheap copy is."""
     with open_plain(source) as old, open(target, "xb") as new:
         try:
-            fcntl.ioctl(new, FICLONE, old.fileno())
+            fcntl.ioctl(new, SHARE_BYTES, old.fileno())
         except OSError:
             if not whole:
                 return False
@@ -98,9 +99,12 @@ def own_as(folder, *paths):
             os.chown(path, owner.st_uid, owner.st_gid, follow_symlinks=False)
 
 
-def written(path, text):
-    """Puts a whole file in the place of another, or of none."""
+def write_whole(path, text):
+    """Puts a whole file in the place of another, or of none, in a folder that is held."""
     folder = folder_of(path)
+    for name in os.listdir(folder):
+        if name.startswith(os.path.basename(path) + ".new-"):
+            os.unlink(os.path.join(folder, name))
     handle, new = tempfile.mkstemp(prefix=os.path.basename(path) + ".new-", dir=folder)
     try:
         with open(handle, "w") as it:
@@ -114,7 +118,7 @@ def written(path, text):
     sync(folder)
 
 
-def now(folder, before=""):
+def name_by_time(folder, before=""):
     """The time, as a name in the folder that is not taken."""
     while True:
         name = time.strftime("%Y%m%dT%H%M%SZ", time.gmtime())
@@ -172,13 +176,13 @@ def undone(path):
 
 def put_in_place(new, path):
     """A database without a log takes the place of a store, which is kept: the folder that keeps it. While the old
-    database has two names the program does not open
-    it. So there is no moment at which a start finds no store, or a log beside a database that is not its own."""
+    database has two names the program does not open it. So there is no moment at which a start finds no store, or a
+    log beside a database that is not its own."""
     folder = folder_of(path)
     undone(path)
     sync(new)
     own_as(folder, new)
-    kept = os.path.join(folder, "before-" + now(folder, "before-"))
+    kept = os.path.join(folder, "before-" + name_by_time(folder, "before-"))
     if parts(path):
         os.mkdir(kept, 0o700)
         if os.path.exists(path):
@@ -330,11 +334,19 @@ def owner_for(folder):
     return os.geteuid(), os.getegid()
 
 
+def passable(folder):
+    """A folder through which every user comes to their own, also where what is made here is its owner's alone."""
+    if not os.path.isdir(folder):
+        passable(os.path.dirname(folder))
+        os.mkdir(folder)
+        os.chmod(folder, 0o755)
+
+
 def folder_for(path):
     """The folder of a shard's store, which is made where it is not there."""
     folder = os.path.dirname(os.path.abspath(path))
     if not os.path.isdir(folder):
-        os.makedirs(os.path.dirname(folder), 0o755, exist_ok=True)
+        passable(os.path.dirname(folder))
         os.mkdir(folder, 0o700)
         if os.geteuid() == 0:
             os.chown(folder, *owner_for(folder))

@@ -1,4 +1,6 @@
-/** A scanner types as a keyboard does. What it types while no field has the focus is found, if it looks like a receipt. */
+/**
+ * A scanner types as a keyboard does. What it types while no field has the focus is found, if it looks like a receipt.
+ */
 import { byId } from "/shared/dom.js";
 import { isReceiptLike } from "/shared/receipts.js";
 import { current } from "./session.js";

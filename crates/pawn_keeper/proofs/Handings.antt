@@ -1,9 +1,10 @@
 -- Calls that hand over one list after another.
-use Rattle.std.proofs.Common.{◌≡◌, ◌++◌, ℕ, suc, ◌+◌, ◌-◌, ◌<◌, List, [], ◌∷◌, Result, Ok, Err, inl, inr, refl, sym, ap, subst, ◌∙◌, append_assoc, append-nil, arith}
+use Rattle.std.proofs.Common.{◌≡◌, ◌++◌, ℕ, suc, ◌+◌, ◌-◌, ◌<◌, ◌≤◌, List, [], ◌∷◌, length, length-append, Result, Ok, Err, inl, inr, refl, sym, ap, subst, ◌∙◌, append_assoc, append-nil, arith}
 use Rattle.std.specs.Prelude.{IfErr}
 use Rattle.std.specs.List.{flat_map}
 use Rattle.pawn_book.specs.declared.fault.KeepError.{KeepError}
 use Rattle.pawn_book.specs.declared.fault.KeepError.TheVariants as Keeper
+use Rattle.pawn_book.specs.declared.fault.StoreFault.TheVariants.{NoRecord}
 use Rattle.pawn_book.specs.declared.visit.Flow.{Flow}
 use Rattle.pawn_book.specs.declared.visit.Flow.TheVariants.{Go, Stop}
 use Rattle.pawn_book.specs.HostStep.{Host}
@@ -122,25 +123,29 @@ module _ {K V T : Type 0} (k : Keeping K) (step : V → T → Flow → V → Typ
   -- ---- page by page
 
   module _ (listed : Host → List T) (past : ℕ → Host → List T) where
-    -- the items up to one were handed over, and the visitor wants more
-    abbrev pub HandedTo : K → K → V → V → ℕ → Type 0
-    HandedTo old now v u n = (given : List T) × Handed step v given Go u × Reads k old now (λ h. given ++ past n h ≡ listed h)
+    -- the items up to one were handed over, at least one in each of so many turns, and the visitor wants more
+    abbrev pub HandedTo : K → K → V → V → ℕ → ℕ → Type 0
+    HandedTo old now v u n turns = (given : List T) × Handed step v given Go u × Reads k old now (λ h. given ++ past n h ≡ listed h) × (turns ≤ length given)
 
-    pub begins_at : (s : K) (v : V) → ((h : Host) → past 0 h ≡ listed h) → HandedTo s s v v 0
-    begins_at s v whole = ([], (refl, refl), reads_none k s (λ h. past 0 h ≡ listed h) whole)
+    pub begins_at : (s : K) (v : V) → ((h : Host) → past 0 h ≡ listed h) → HandedTo s s v v 0 0
+    begins_at s v whole = ([], (refl, refl), reads_none k s (λ h. past 0 h ≡ listed h) whole, omega arith)
 
     -- a page was read, which begins past one number and ends at another, and was handed over
-    module _ (old now new : K) (v u w : V) (n m : ℕ) (before : HandedTo old now v u n) (xs : List T) {Short : Type 0} (read : Reads k now new (λ h. (past n h ≡ xs ++ past m h) × (Short → past m h ≡ []))) where
+    module _ (old now new : K) (v u w : V) (n m turns : ℕ) (before : HandedTo old now v u n turns) (xs : List T) {Short : Type 0} (read : Reads k now new (λ h. (past n h ≡ xs ++ past m h) × (Short → past m h ≡ []))) where
       all_given : (here : HandsOver step u xs Go w) → here.0 ≡ xs
       all_given here = sym (append-nil here.0) ∙ ap (λ t. here.0 ++ t) (sym (here.2.2 refl refl)) ∙ here.2.1
 
       -- more is left
-      pub goes_by : HandsOver step u xs Go w → HandedTo old new v w m
-      goes_by here = (
-        before.0 ++ here.0,
-        handed-append step v u w before.0 here.0 Go before.1 here.1,
-        reads_then before.2 read (λ h are told. append_assoc before.0 here.0 (past m h) ∙ ap (λ t. before.0 ++ t) (ap (λ t. t ++ past m h) (all_given here) ∙ sym told.0) ∙ are),
-      )
+      pub goes_by : 1 ≤ length xs → HandsOver step u xs Go w → HandedTo old new v w m (turns + 1)
+      goes_by some here =
+          let both = length-append before.0 here.0 in
+          let these : length here.0 ≡ length xs = ap length (all_given here) in
+          let so_far = before.3 in (
+            before.0 ++ here.0,
+            handed-append step v u w before.0 here.0 Go before.1 here.1,
+            reads_then before.2 read (λ h are told. append_assoc before.0 here.0 (past m h) ∙ ap (λ t. before.0 ++ t) (ap (λ t. t ++ past m h) (all_given here) ∙ sym told.0) ∙ are),
+            omega (arith, some, both, these, so_far),
+          )
 
       -- it is the last
       pub ends_by : {IsUnsound : Host → Type 0} → Short → HandsOver step u xs Go w → HandsRows k IsUnsound step old new v w (Ok Go) listed
@@ -165,13 +170,29 @@ module _ {K V T : Type 0} (k : Keeping K) (step : V → T → Flow → V → Typ
       }
 
     -- the call errs
-    pub fails_at : {IsUnsound : Host → Type 0} {A : Type 0} {P : Host → Type 0} (old now new : K) (v u : V) (n : ℕ) (before : HandedTo old now v u n) (r : Result A KeepError) (s : Result Flow KeepError) (e : KeepError) → r ≡ Err e → s ≡ Err e → Reads k now new P → Errs k now new IsUnsound r → HandsRows k IsUnsound step old new v u s listed
-    fails_at {IsUnsound = IsUnsound} old now new v u n before r s e is same read errs = subst (λ t. HandsRows k IsUnsound step old new v u t listed) (sym same) (record {
+    pub fails_at : {IsUnsound : Host → Type 0} {A : Type 0} {P : Host → Type 0} (old now new : K) (v u : V) (n turns : ℕ) (before : HandedTo old now v u n turns) (r : Result A KeepError) (s : Result Flow KeepError) (e : KeepError) → r ≡ Err e → s ≡ Err e → Reads k now new P → Errs k now new IsUnsound r → HandsRows k IsUnsound step old new v u s listed
+    fails_at {IsUnsound = IsUnsound} old now new v u n turns before r s e is same read errs = subst (λ t. HandsRows k IsUnsound step old new v u t listed) (sym same) (record {
       given = before.0;
       handed = before.1;
       reads = reads_then before.2 read (λ h are p. (past n h, are, λ go whole. cc whole));
       errs = errs_after k old now new (Err e) before.2 read (errs_as k now new r (Err e) e is refl errs);
     })
+
+    -- more were handed over than a host that is sound in this way has
+    pub handed_past : {IsUnsound : Host → Type 0} (most : ℕ) → ((h : Host) → most < length (listed h) → IsUnsound h) → (old now : K) (v u : V) (n turns : ℕ) → (k.steady old → ⊥) → HandedTo old now v u n turns → most < turns
+        → HandsRows k IsUnsound step old now v u (Err (Keeper.Store NoRecord)) listed
+    handed_past most unsound old now v u n turns may before above = record {
+      given = before.0;
+      handed = before.1;
+      reads = reads_as before.2 (λ h are. (past n h, are, λ go whole. cc whole));
+      errs = record {
+        never = λ steady. absurd (may steady);
+        no_record = λ bad honest h at.
+            let both = sym (length-append before.0 (past n h)) ∙ ap length (before.2.tells honest h at) in
+            let so_far = before.3 in
+            unsound h (omega (arith, above, both, so_far));
+      };
+    }
 
   -- ---- window by window
 

@@ -1,5 +1,5 @@
 -- Pages that are handed over.
-use Rattle.std.proofs.Common.{◌≡◌, ◌++◌, ℕ, zero, suc, ◌+◌, ◌*◌, ◌<◌, List, [], ◌∷◌, length, map, take, drop, get_or, Ok, refl, sym, ap, subst, ◌∙◌, append-nil, arith}
+use Rattle.std.proofs.Common.{◌≤◌, ◌≡◌, ◌++◌, ℕ, zero, suc, ◌+◌, ◌*◌, ◌<◌, List, [], ◌∷◌, length, map, take, drop, get_or, Ok, refl, sym, ap, subst, ◌∙◌, append-nil, arith}
 use Rattle.std.proofs.lemmas.List.{drop-drop, map-append, take_all, take_more, take-append-drop}
 use Rattle.pawn_book.specs.declared.visit.Flow.{Flow}
 use Rattle.pawn_book.specs.declared.visit.Flow.TheVariants.{Go, Stop}
@@ -55,7 +55,7 @@ module _ {A : Type 0} (n : ℕ) (xs page : List A) (is : page ≡ page_behind n 
 module _ {K V T : Type 0} (k : Keeping K) (step : V → T → Flow → V → Type 0) (listed : Host → List T) where
   -- the pages before one were handed over, and the visitor wants more
   abbrev pub HandedPages : K → K → V → V → ℕ → Type 0
-  HandedPages old now v u turn = HandedTo k step listed (λ n h. drop n (listed h)) old now v u (turn * most_page_rows)
+  HandedPages old now v u turn = HandedTo k step listed (λ n h. drop n (listed h)) old now v u (turn * most_page_rows) turn
 
   module _ (old now new : K) (v u w : V) (turn : ℕ) (before : HandedPages old now v u turn) (page : List T) (read : Reads k now new (λ h. page ≡ page_behind (turn * most_page_rows) (listed h))) where
     abbrev start : ℕ
@@ -68,15 +68,15 @@ module _ {K V T : Type 0} (k : Keeping K) (step : V → T → Flow → V → Typ
     told = reads_as read (λ h is. (page_next start (listed h) page is, page_ends start (listed h) page is))
 
     -- one more is handed over, and more is left
-    pub pages_go : HandsOver step u page Go w → HandedPages old new v w (turn + 1)
-    pages_go here =
+    pub pages_go : 1 ≤ length page → HandsOver step u page Go w → HandedPages old new v w (turn + 1)
+    pages_go some here =
         let next : start + most_page_rows ≡ (turn + 1) * most_page_rows = omega arith in
-        subst (λ n. HandedTo k step listed left old new v w n) next (goes_by k step listed left old now new v u w start (start + most_page_rows) before page told here)
+        subst (λ n. HandedTo k step listed left old new v w n (turn + 1)) next (goes_by k step listed left old now new v u w start (start + most_page_rows) turn before page told some here)
 
     -- .. and it is the last
     pub pages_end : {IsUnsound : Host → Type 0} → length page < most_page_rows → HandsOver step u page Go w → HandsRows k IsUnsound step old new v w (Ok Go) listed
-    pages_end short here = ends_by k step listed left old now new v u w start (start + most_page_rows) before page told short here
+    pages_end short here = ends_by k step listed left old now new v u w start (start + most_page_rows) turn before page told short here
 
     -- .. and the visitor stops in it
     pub pages_stop : {IsUnsound : Host → Type 0} → HandsOver step u page Stop w → HandsRows k IsUnsound step old new v w (Ok Stop) listed
-    pages_stop here = stops_by k step listed left old now new v u w start (start + most_page_rows) before page told here
+    pages_stop here = stops_by k step listed left old now new v u w start (start + most_page_rows) turn before page told here

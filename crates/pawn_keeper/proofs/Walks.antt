@@ -1,5 +1,5 @@
 -- A list that is handed over element by element, each of them read by a call of its own.
-use Rattle.std.proofs.Common.{◌≡◌, ◌++◌, ◌==◌, ℕ, zero, suc, ◌+◌, List, [], ◌∷◌, take, drop, slice_get, true, false, Option, Some, None, Result, Ok, Err, refl, sym, ap, subst, ◌∙◌, arith, append-nil}
+use Rattle.std.proofs.Common.{◌≡◌, ◌≤◌, ◌<◌, ◌++◌, ◌==◌, ℕ, zero, suc, ◌+◌, List, length, length-append, [], ◌∷◌, take, drop, slice_get, true, false, Option, Some, None, Result, Ok, Err, refl, sym, ap, subst, ◌∙◌, arith, append-nil}
 use Rattle.std.specs.Prelude.{IfErr, if◌then◌else◌}
 use Rattle.std.proofs.lemmas.Bool.Decides.{nat_tests}
 use Rattle.std.proofs.lemmas.List.{take-append-drop}
@@ -8,7 +8,7 @@ use Rattle.pawn_book.specs.declared.visit.Flow.{Flow}
 use Rattle.pawn_book.specs.declared.visit.Flow.TheVariants.{Go, Stop}
 use Rattle.pawn_book.specs.declared.fault.KeepError.{KeepError}
 use Rattle.pawn_book.specs.declared.fault.KeepError.TheVariants as Keeper
-use Rattle.pawn_book.specs.declared.fault.StoreFault.TheVariants.{Database}
+use Rattle.pawn_book.specs.declared.fault.StoreFault.TheVariants.{Database, NoRecord}
 use Rattle.pawn_book.specs.BookStep.{BookValue, pledge_from, pledge_in}
 use Rattle.pawn_book.specs.HostStep.{Host}
 use Rattle.pawn_book.specs.Keeping.{Errs, Keeping, Reads, pledges_of}
@@ -30,13 +30,18 @@ take_past [] i none = take_nothing i
 take_past (y ∷ xs) zero none = absurd (let e = none in cc)
 take_past (y ∷ xs) (suc i) none = ap (λ l. y ∷ l) (take_past xs i none)
 
+take_at_most : {A : Type 0} (n : ℕ) (xs : List A) → length (take n xs) ≤ length xs
+take_at_most zero xs = omega arith
+take_at_most (suc n) [] = omega arith
+take_at_most (suc n) (x ∷ xs) = let rest = take_at_most n xs in omega (arith, rest)
+
 module _ {K V T : Type 0} (k : Keeping K) (step : V → T → Flow → V → Type 0) (listed : Host → List T) where
   -- the first elements were handed over, and the visitor wants more
   abbrev pub Walked : K → K → V → V → ℕ → Type 0
-  Walked old now v w i = (given : List T) × Handed step v given Go w × Reads k old now (λ h. given ≡ take i (listed h))
+  Walked old now v w i = (given : List T) × Handed step v given Go w × Reads k old now (λ h. given ≡ take i (listed h)) × (length given ≡ i)
 
   pub begins : (s : K) (v : V) → Walked s s v v 0
-  begins s v = ([], (refl, refl), reads_none k s (λ h. [] ≡ take 0 (listed h)) (λ h. refl))
+  begins s v = ([], (refl, refl), reads_none k s (λ h. [] ≡ take 0 (listed h)) (λ h. refl), refl)
 
   -- all that was handed
   abbrev pub Goes : K → K → V → V → Rattle.pawn_book.specs.Visits.End → Type 0
@@ -49,6 +54,7 @@ module _ {K V T : Type 0} (k : Keeping K) (step : V → T → Flow → V → Typ
           before.0 ++ x ∷ [],
           handed-snoc step v u w before.0 x Go before.1 here,
           reads_then before.2 read (λ h are at. ap (λ l. l ++ x ∷ []) are ∙ sym (take_next (listed h) i x (sym at)) ∙ ap (λ n. take n (listed h)) next),
+          length-append before.0 (x ∷ []) ∙ ap (λ n. n + 1) before.3,
         )
 
     pub stopped : (x : T) → Reads k now new (λ h. Some x ≡ slice_get (listed h) i) → step u x Stop w → Goes old new v w Whole
@@ -68,6 +74,17 @@ module _ {K V T : Type 0} (k : Keeping K) (step : V → T → Flow → V → Typ
 
     pub failed : {P : Host → Type 0} → Reads k now new P → Goes old new v u Front
     failed read = (before.0, Go, before.1, reads_then before.2 read (λ h are p. (drop i (listed h), ap (λ l. l ++ drop i (listed h)) are ∙ take-append-drop i (listed h), λ e f. cc f)))
+
+  -- more were handed over than a host that is sound in this way has
+  pub walked_past : {IsUnsound : Host → Type 0} {A : Type 0} (most : ℕ) → ((h : Host) → most < length (listed h) → IsUnsound h) → (old now : K) (v u : V) (i : ℕ) → (k.steady old → ⊥) → Walked old now v u i → most < i
+      → (r : Result A KeepError) → r ≡ Err (Keeper.Store NoRecord) → Errs k old now IsUnsound r
+  walked_past most unsound old now v u i may walked past r is = record {
+    never = λ steady. absurd (may steady);
+    no_record = λ bad honest h at.
+        let given : length walked.0 ≤ length (listed h) = subst (λ l. length l ≤ length (listed h)) (sym (walked.2.tells honest h at)) (take_at_most i (listed h)) in
+        let all = walked.3 in
+        unsound h (omega (arith, past, all, given));
+  }
 
 -- ---- errors
 

@@ -10,8 +10,8 @@ mod sheets;
 
 use one_table::know_settled;
 use pawn_book::{
-    BookHead, Brief, Change, Day, Entry, Extension, Flow, Issued, Keep, KeepError, Number, Pledge,
-    Reference, SaveError, SheetItem, StoreFault, Terms, Visitor,
+    BookHead, Brief, Change, Day, Entry, Extension, Flow, Issued, Keep, KeepError, MOST_PLEDGES,
+    Number, Pledge, Reference, SaveError, SheetItem, StoreFault, Terms, Visitor,
 };
 use pawn_saving::save;
 use pawn_tables::{
@@ -20,9 +20,10 @@ use pawn_tables::{
 use sqlite::{Alter, Connection, Error, ErrorCode};
 use std::alloc::Global;
 
-// How many numbers there are for pledges, and what comes of a list that has more than can be counted.
-const NUMBERS: u64 = 999_999_999;
+// What comes of a list that has more than that of a sound book.
+const TOO_MANY: KeepError = KeepError::Store(StoreFault::NoRecord);
 
+// What comes of a number that can't be counted.
 const BEYOND: KeepError = KeepError::Store(StoreFault::Database);
 
 /// Books in the tables of a database.
@@ -121,7 +122,7 @@ impl<S: Alter> Keep for TableKeep<S> {
     }
 
     fn walk<V: Visitor<Pledge>>(&mut self, book: Number, visitor: &mut V) -> Result<(), KeepError> {
-        for place in 0..NUMBERS {
+        for place in 0..MOST_PLEDGES + 1 {
             let Some(number) = Number::new(place + 1) else {
                 return Err(BEYOND);
             };
@@ -133,7 +134,7 @@ impl<S: Alter> Keep for TableKeep<S> {
                 Flow::Stop => return Ok(()),
             }
         }
-        Err(BEYOND)
+        Err(TOO_MANY)
     }
 
     fn next_book(&mut self, after: Option<Number>) -> Result<Option<Number>, KeepError> {

@@ -1,5 +1,5 @@
 -- Tables that are added beside others, and the number of the schema that is noted anew.
-use Rattle.std.proofs.Common.{◌≡◌, ℕ, pos, List, [], ◌∷◌, filter, codes, Bool, true, Ok, Err, Result, OnOk, refl}
+use Rattle.std.proofs.Common.{◌≡◌, ℕ, pos, List, [], ◌∷◌, filter, codes, Bool, true, Ok, Err, Result, OnOk, IsTrue, refl}
 use Rattle.std.specs.List.{list_all}
 use Rattle.std.proofs.lemmas.List.Sorted.{IsPermutation-refl}
 use Rattle.sqlite.specs.declared.types.Value.TheVariants.{Int, Text}
@@ -7,20 +7,27 @@ use Rattle.sqlite.specs.Order.{Row, column, value_cmp}
 use Rattle.sqlite.specs.Ops.{binary, is_true}
 use Rattle.sqlite.specs.Collation.TheVariants.{Binary}
 use Rattle.sqlite.specs.Term.{Term, lit, col, op2}
-use Rattle.sqlite.specs.State.{State, Executes}
+use Rattle.sqlite.specs.Effect.{Database as Tables}
+use Rattle.sqlite.specs.State.{State, Executes, HasCleanDisk}
 use Rattle.sqlite.specs.Listing.{understood}
 use Rattle.sqlite_sql.specs.declared.ops.BinaryOp.TheVariants.{Compare}
 use Rattle.sqlite_sql.specs.declared.ops.CompareOp.TheVariants.{Eq}
 use Rattle.sqlite_tied.specs.Compute.{everything}
 use Rattle.pawn_book.specs.HostStep.{Host, rows}
-use Rattle.one_table.proofs.Alteration.{set_one}
 use Rattle.one_table.proofs.OneTable.{over_table}
 use Rattle.one_table.proofs.Rowed.{cast_int, cast_whole}
 use Rattle.one_table.proofs.Texts.{Sets}
+use Rattle.pawn_saving.proofs.OurTables.{row_set_by, with_tables}
 use Rattle.pawn_saving.proofs.Places.{meta_place}
 use Rattle.pawn_tables.specs.Meta.{meta_row}
-use Rattle.pawn_tables.specs.Schema.{keep_schema, meta, meta_tree}
-use Rattle.pawn_move.specs.Moving.{IsMoving, listed_with}
+use Rattle.sqlite_schema.specs.declared.schema.Index.{Index}
+use Rattle.pawn_tables.specs.Ours.{with_indexes}
+use Rattle.pawn_tables.specs.Schema.{meta, meta_tree}
+use Rattle.one_table.specs.Lending.{IsLent}
+use Rattle.one_table.proofs.Lent.{clean_before}
+use Rattle.pawn_opening.specs.Indexing.{AddsIndexes, GainsIndexes}
+use Rattle.pawn_opening.proofs.Gained.{gains_lists}
+use Rattle.pawn_move.specs.Moving.{IsMoving, NotesProgram, listed_with}
 use Rattle.pawn_tables.specs.declared.texts.TheConstants.{SET_SCHEMA}
 
 -- where a statement ran, what it wrote
@@ -36,9 +43,9 @@ note_tests = op2 (Compare Eq Binary) (col 1 1) (lit (Text (codes "schema"))) ∷
 abbrev note_shows : List Term
 note_shows = col 1 0 ∷ col 1 0 ∷ col 1 1 ∷ col 0 0 ∷ []
 
-note_is : Sets keep_schema SET_SCHEMA.now 6 (over_table meta_tree note_tests note_shows [])
+note_is : (more : List Index) → Sets (with_indexes more) SET_SCHEMA.now 6 (over_table meta_tree note_tests note_shows [])
 unfolding understood everything
-note_is = (refl, (refl, refl))
+note_is more = (refl, (refl, refl))
 
 abbrev is_schema : Row → Bool
 is_schema v = list_all (λ (x : Bool). x) (is_true (binary (Compare Eq Binary) (column v 0) (Text (codes "schema"))) ∷ [])
@@ -52,9 +59,24 @@ program_noted old new count n owed h m ran =
     let rest : List Row = meta_row (codes "rows") (rows h) ∷ meta_row (codes "limit") h.limit ∷ [] in
     let after : Row = meta_row (codes "schema") 3 in
     let only = alone n (rows h) h.limit in
-    let l = set_one keep_schema 6 (record meta { tree = meta_tree }) meta_place (λ _. refl) note_tests note_shows is_schema SET_SCHEMA.now note_is.0 note_is.1 old new (Int (pos 3) ∷ []) count (listed_with n owed h) (meta_row (codes "schema") n) after rest m.lists (λ row. refl)
+    let l = row_set_by 6 (record meta { tree = meta_tree }) meta_place (λ _. refl) note_tests note_shows SET_SCHEMA.now note_is old new (Int (pos 3) ∷ []) count (listed_with n owed h) m.lists is_schema (meta_row (codes "schema") n) after rest (λ row. refl)
     (IsPermutation-refl _) only.0 only.1
     (λ id row at cols.
     let name : column row 1 ≡ Text (codes "schema") = (let e = cols in cc) in
     (Int id ∷ after, after, (λ i. at i ∷ at i ∷ name i ∷ Int (pos 3) ∷ []), (λ i. cast_whole id i ∷ Text (codes "schema") ∷ cast_int 3 i ∷ []), refl)) ran in
-    record { lists = record { schema_is = l.schema_is; sound = l.sound; tables = l.tables }; ordered = m.ordered; storable = m.storable; unextended = m.unextended }
+    record { lists = with_tables l l.lists.tables; ordered = m.ordered; storable = m.storable; unextended = m.unextended }
+
+-- ---- and the indexes are made
+
+gains_moving : (n : ℕ) (owed : List Row) (old new : Tables) (h : Host) → GainsIndexes old new → IsMoving n owed old h → IsMoving n owed new h
+gains_moving n owed old new h g m = record { lists = gains_lists old new (listed_with n owed h) g m.lists; ordered = m.ordered; storable = m.storable; unextended = m.unextended }
+
+pub noted_then : {E : Type 0} (a b c : State) (r : Result (Unit {0}) E) (ok : Bool) → IsLent a b true → IsLent b c ok → NotesProgram a b (Ok tt) → AddsIndexes b c r
+    → HasCleanDisk c → IsTrue a.in_transaction → (n : ℕ) (owed : List Row) (h : Host) → IsMoving n owed a.now h → OnOk r (IsMoving 3 owed c.now h)
+noted_then {E} a b c r ok first second notes adds clean within n owed h m =
+    let was = clean_before b c ok second clean in
+    go r (notes was within n owed h m) (adds clean (first.inside was within refl))
+  where
+    go : (x : Result (Unit {0}) E) → IsMoving 3 owed b.now h → OnOk x (GainsIndexes b.now c.now) → OnOk x (IsMoving 3 owed c.now h)
+    go (Ok done) moving g = gains_moving 3 owed b.now c.now h g moving
+    go (Err e) moving g = tt

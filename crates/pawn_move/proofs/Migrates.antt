@@ -2,6 +2,7 @@
 use Rattle.std.proofs.Common.{◌≡◌, ◌==◌, ◌⊎◌, inl, inr, ℕ, Bool, true, false, Option, Some, None, Ok, Err, Result, IsTrue, refl, sym, subst, ◌∙◌, arith}
 use Rattle.std.proofs.lemmas.Bool.Decides.{nat_tests}
 use Rattle.std.specs.FinMap.{get}
+use Rattle.sqlite.specs.Effect.{Database as Tables}
 use Rattle.sqlite.specs.Tree.{Trees}
 use Rattle.sqlite.specs.State.{State, HasCleanDisk, Survives}
 use Rattle.sqlite.proofs.StateLemmas.{survives_then, survives_weaker}
@@ -11,12 +12,15 @@ use Rattle.pawn_book.specs.Sound.{HasUnsoundBook}
 use Rattle.pawn_book.specs.declared.fault.KeepError.{KeepError}
 use Rattle.pawn_book.specs.declared.fault.KeepError.TheVariants as Keeper
 use Rattle.pawn_book.specs.declared.fault.StoreFault.TheVariants.{NoRecord, Database}
-use Rattle.pawn_opening.proofs.Begun.{opens_as}
-use Rattle.pawn_opening.specs.Opened.{IsAsBefore, OpensAs}
+use Rattle.pawn_opening.proofs.Begun.{held, opens_as}
+use Rattle.pawn_opening.proofs.Gained.{gains_stands}
+use Rattle.pawn_opening.specs.declared.fault.OpenFault.{OpenFault}
+use Rattle.pawn_opening.specs.Indexing.{HoldGained}
+use Rattle.pawn_opening.specs.Opened.{IndexesStore, IsAsBefore, OpensAs}
 use Rattle.pawn_opening.specs.Refusing.{NotesSchema}
 use Rattle.pawn_tables.specs.Finding.{Finds}
 use Rattle.pawn_tables.specs.OneHost.{StandForOne}
-use Rattle.pawn_tables.specs.StandsFor.{StandsFor}
+use Rattle.pawn_tables.specs.StandsFor.{StandsFor, HoldHost}
 use Rattle.pawn_move.proofs.Told.{third_is_ours}
 use Rattle.pawn_move.specs.declared.fault.MoveFault.{MoveFault}
 use Rattle.pawn_move.specs.declared.fault.MoveFault.TheVariants.{NotOurs, NewerSchema, Damaged, Store, Memory}
@@ -47,18 +51,25 @@ crashed : (old new : State) → (IsTrue old.is_open → (trees : Trees) → old.
     → HasCleanDisk new → IsTrue old.is_open → (trees : Trees) → new.may_leave trees → (trees ≡ old.committed.trees) ⊎ HoldSameHost old.now trees
 crashed old new last s clean open' trees left = elim (s.crash clean trees left) [ inl before ↦ inl (last open' trees before) | inr made ↦ inr made ]
 
+failing : (s : State) (n : ℕ) (h : Host) (why : MoveFault) → IsFailure why → IsMoved n h s (Err why)
+failing s n h NotOurs none = none
+failing s n h NewerSchema none = none
+failing s n h Damaged none = absurd none
+failing s n h Store it = tt
+failing s n h Memory it = tt
+
+untellable : (db : Tables) (why : MoveFault) → IsFailure why → IsUntellable db why
+untellable db NotOurs none = absurd none
+untellable db NewerSchema none = absurd none
+untellable db Damaged none = none
+untellable db Store it = tt
+untellable db Memory it = tt
+
 module _ (s0 s1 : State) (last : IsTrue s0.is_open → (trees : Trees) → s0.may_leave trees → trees ≡ s0.committed.trees) where
   quiet : Survives s0 s1 (λ _. ⊥) → Survives s0 s1 (HoldSameHost s0.now)
   quiet s = survives_weaker s0 s1 (λ _. ⊥) (HoldSameHost s0.now) (λ clean trees none. absurd none) s
 
   -- ---- a schema that is not told
-
-  failing : (n : ℕ) (h : Host) (why : MoveFault) → IsFailure why → IsMoved n h s1 (Err why)
-  failing n h NotOurs none = none
-  failing n h NewerSchema none = none
-  failing n h Damaged none = absurd none
-  failing n h Store it = tt
-  failing n h Memory it = tt
 
   unmovable : (why : MoveFault) → IsUntellable s0.now why → IsUnmovable s0.now why
   unmovable NotOurs it = it
@@ -77,7 +88,7 @@ module _ (s0 s1 : State) (last : IsTrue s0.is_open → (trees : Trees) → s0.ma
   pub not_told : (why : MoveFault) → TellsNumber s0 s1 (Err why) → Migrates s0 s1 (Err why)
   not_told why it = record {
     found = λ clean. tt;
-    moved = λ clean n h schema none st. failing n h why (it.stands clean n h schema st);
+    moved = λ clean n h schema none st. failing s1 n h why (it.stands clean n h schema st);
     refuses = λ clean. unmovable why (it.refuses clean);
     empty = λ clean none. bare why (it.empty clean none);
     err = it.same;
@@ -86,32 +97,57 @@ module _ (s0 s1 : State) (last : IsTrue s0.is_open → (trees : Trees) → s0.ma
     crash = crashed s0 s1 last (quiet it.survives);
   }
 
-  -- ---- the program's
+  -- ---- the program's, which gets the indexes that it lacks
 
-  pub stays : StandForOne → (IsTrue s0.is_open → s0.now ≡ s0.committed) → (IsTrue s1.is_open → (trees : Trees) → s1.may_leave trees → trees ≡ s1.committed.trees) → (from : ℕ) → from ≡ 3 → TellsNumber s0 s1 (Ok from) → Migrates s0 s1 (Ok (from, 3))
-  stays one settled left from three it = record {
-    found = λ clean. ((it.ok clean).0, it.known, refl);
-    moved = λ clean n h schema none st.
-        let serves = (it.ok clean).1 in
-        let same = it.same clean in
+  module _ (s2 : State) (from : ℕ) (three : from ≡ 3) (it : TellsNumber s0 s1 (Ok from)) (r : Result (Unit {0}) OpenFault) (added : IndexesStore s1 s2 r) where
+    before : HasCleanDisk s2 → HasCleanDisk s1
+    before clean = let up = added.survives.clean in omega (arith, clean, up)
+
+    -- the tables stand for the host still
+    ours : HasCleanDisk s1 → (n : ℕ) (h : Host) → IsSchema n → StandsUnder n s0.now h → (from ≡ n) × StandsFor s1.now h
+    ours clean n h schema st =
         let told : from ≡ n = it.stands clean n h schema st in
-        let stands : StandsFor s0.now h = third_is_ours.third s0.now h (subst (λ k. StandsUnder k s0.now h) (sym told ∙ three) st) in (
-          λ i. (told i, 3),
-          opens_as s1 h one serves it.ended (same.now serves ∙ settled (same.was_open serves) ∙ sym (same.committed serves)) (left serves) (subst (λ d. StandsFor d h) (sym (same.now serves)) stands),
-        );
+        let stands : StandsFor s0.now h = third_is_ours.third s0.now h (subst (λ k. StandsUnder k s0.now h) (sym told ∙ three) st) in
+        (told, subst (λ d. StandsFor d h) (sym ((it.same clean).now (it.ok clean).1)) stands)
+
+    indexed : Survives s0 s2 (HoldSameHost s0.now)
+    indexed =
+        survives_then s0 s1 s2 (λ _. ⊥) (HoldGained s1.now) (HoldSameHost s0.now) (λ clean trees none. absurd none)
+        (λ clean trees gained n h schema none st. subst (λ ts. HoldHost ts h) (sym gained.2) (held gained.0 h (gains_stands s1.now gained.0 h gained.1 (ours (before clean) n h schema st).1))) it.survives added.survives
+
+    -- it is none that is moved
+    pub stays_owed : MigratesOwed s0 s2 (Ok (from, 3))
+    stays_owed clean n h schema less none st =
+        let told : from ≡ n = it.stands (before clean) n h schema st in
+        absurd (omega (arith, told, three, less))
+
+  pub stays : StandForOne → (s2 : State) → (IsTrue s2.is_open → (trees : Trees) → s2.may_leave trees → trees ≡ s2.committed.trees) → (from : ℕ) → from ≡ 3 → TellsNumber s0 s1 (Ok from) → IndexesStore s1 s2 (Ok tt) → Migrates s0 s2 (Ok (from, 3))
+  stays one s2 left from three it added = record {
+    found = λ clean. ((it.ok (before s2 from three it (Ok tt) added clean)).0, it.known, refl);
+    moved = λ clean n h schema none st.
+        let was = before s2 from three it (Ok tt) added clean in
+        let stood = ours s2 from three it (Ok tt) added was n h schema st in
+        let done = added.ok clean (it.ok was).1 in
+        (λ i. (stood.0 i, 3), opens_as s2 h one done.0 added.ended done.2 (left done.0) (gains_stands s1.now s2.now h done.1 stood.1));
     refuses = λ clean. tt;
-    empty = λ clean none. it.empty clean none;
+    empty = λ clean none. it.empty (before s2 from three it (Ok tt) added clean) none;
     err = λ clean. tt;
-    ended = it.ended;
-    survives = quiet it.survives;
-    crash = crashed s0 s1 last (quiet it.survives);
+    ended = added.ended;
+    survives = indexed s2 from three it (Ok tt) added;
+    crash = crashed s0 s2 last (indexed s2 from three it (Ok tt) added);
   }
 
-  -- it is none that is moved
-  pub stays_owed : (from : ℕ) → from ≡ 3 → TellsNumber s0 s1 (Ok from) → MigratesOwed s0 s1 (Ok (from, 3))
-  stays_owed from three it clean n h schema less none st =
-      let told : from ≡ n = it.stands clean n h schema st in
-      absurd (omega (arith, told, three, less))
+  pub not_indexed : (s2 : State) (from : ℕ) → from ≡ 3 → TellsNumber s0 s1 (Ok from) → (cause : OpenFault) → IndexesStore s1 s2 (Err cause) → (why : MoveFault) → IsFailure why → Migrates s0 s2 (Err why)
+  not_indexed s2 from three it cause added why failure = record {
+    found = λ clean. tt;
+    moved = λ clean n h schema none st. failing s2 n h why failure;
+    refuses = λ clean. unmovable why (untellable s0.now why failure);
+    empty = λ clean none. absurd (it.empty (before s2 from three it (Err cause) added clean) none);
+    err = λ clean. then_as_before s0 s1 s2 (λ now. it.same (before s2 from three it (Err cause) added clean)) (added.err clean);
+    ended = added.ended;
+    survives = indexed s2 from three it (Err cause) added;
+    crash = crashed s0 s2 last (indexed s2 from three it (Err cause) added);
+  }
 
   -- ---- an older one
 

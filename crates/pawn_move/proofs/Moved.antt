@@ -62,17 +62,17 @@ no_rows h none = none_of_books (λ b k. flat_map (extensions_listed b) k.pledges
 
 pub stands : (db : Tables) (h : Host) → IsMoving 3 (of_pledges h totals_listed) db h → StandsFor db h
 stands db h m = record {
-  schema = m.lists.schema_is;
-  sound = m.lists.sound;
-  books = m.lists.tables.0;
-  terms = m.lists.tables.1.0;
-  pledges = m.lists.tables.1.1.0;
-  entries = m.lists.tables.1.1.1.0;
-  secrets = m.lists.tables.1.1.1.1.0;
-  bookings = m.lists.tables.1.1.1.1.1.0;
-  meta = m.lists.tables.1.1.1.1.1.1.0;
-  totals = m.lists.tables.1.1.1.1.1.1.1.0;
-  extensions = subst (Holds db.trees extensions_tree (record extensions { tree = extensions_tree })) (sym (no_rows h m.unextended)) m.lists.tables.1.1.1.1.1.1.1.1.0;
+  schema = record { more = m.lists.more; loose = m.lists.loose; is = m.lists.lists.schema_is };
+  sound = m.lists.lists.sound;
+  books = m.lists.lists.tables.0;
+  terms = m.lists.lists.tables.1.0;
+  pledges = m.lists.lists.tables.1.1.0;
+  entries = m.lists.lists.tables.1.1.1.0;
+  secrets = m.lists.lists.tables.1.1.1.1.0;
+  bookings = m.lists.lists.tables.1.1.1.1.1.0;
+  meta = m.lists.lists.tables.1.1.1.1.1.1.0;
+  totals = m.lists.lists.tables.1.1.1.1.1.1.1.0;
+  extensions = subst (Holds db.trees extensions_tree (record extensions { tree = extensions_tree })) (sym (no_rows h m.unextended)) m.lists.lists.tables.1.1.1.1.1.1.1.1.0;
   ordered = m.ordered;
   storable = m.storable;
 }
@@ -93,7 +93,7 @@ module _ (s0 s1 s2 : State) (l1 : IsLent s0 s1 true) (l2 : IsLent s1 s2 true) (m
       let within1 = l1.inside clean1 within refl in
       let a = made1 clean1 within (listed_with 1 [] h) (first_lists s0.now h st) in
       let b = made2 clean within1 (with_rows (listed_with 1 [] h) 15 []) a in
-      (record { lists = record { schema_is = b.schema_is; sound = b.sound; tables = b.tables }; ordered = st.ordered; storable = st.storable; unextended = st.unextended (omega arith) }, l2.inside clean within1 refl)
+      (record { lists = record { more = []; loose = tt; lists = record { schema_is = b.schema_is; sound = b.sound; tables = b.tables } }; ordered = st.ordered; storable = st.storable; unextended = st.unextended (omega arith) }, l2.inside clean within1 refl)
 
   pub first_not_put : (s3 : State) (e : KeepError) → IsCarried s2 s3 false → PutsAll s2 s3 (Err e) → Moves 1 s0 s3 (Err e)
   first_not_put s3 e carried puts clean within h none st =
@@ -123,7 +123,7 @@ module _ (s0 s1 : State) (l1 : IsLent s0 s1 true) (made : AddsTable {E = KeepErr
   made_second : HasCleanDisk s1 → IsTrue s0.in_transaction → (h : Host) → StandsUnder 2 s0.now h → IsMoving 2 (of_pledges h totals_listed) s1.now h × IsTrue s1.in_transaction
   made_second clean within h st =
       let b = made clean within (listed_with 2 (of_pledges h totals_listed) h) (second_lists s0.now h st) in
-      (record { lists = record { schema_is = b.schema_is; sound = b.sound; tables = b.tables }; ordered = st.ordered; storable = st.storable; unextended = st.unextended (omega arith) }, l1.inside clean within refl)
+      (record { lists = record { more = []; loose = tt; lists = record { schema_is = b.schema_is; sound = b.sound; tables = b.tables } }; ordered = st.ordered; storable = st.storable; unextended = st.unextended (omega arith) }, l1.inside clean within refl)
 
   -- the debts that were judged once the table was made
   judged_second : {A : Type 0} (s2 : State) (ok : Bool) (r : Result A KeepError) (P : Host → A → Type 0) → IsCarried s1 s2 ok → FindsOf ListFirstDebts HasUnsoundBook s1 s2 r P → HasCleanDisk s2 → IsTrue s0.in_transaction

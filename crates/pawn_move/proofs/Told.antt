@@ -1,12 +1,12 @@
 -- Tables that stand for a host under a schema note its number, and it is told.
 use Rattle.std.proofs.Common.{◌≡◌, ◌==◌, inl, inr, ℕ, Bool, true, false, Option, Some, None, Ok, Err, Result, IsTrue, refl, sym, ap, subst, ◌∙◌, arith}
-use Rattle.std.specs.Prelude.{if◌then◌else◌, IfErr, IfOk, IfSome}
+use Rattle.std.specs.Prelude.{IfErr, IfOk, IfSome}
 use Rattle.sqlite.specs.Effect.{Database}
 use Rattle.sqlite.specs.Listing.{listing_schema, understood}
 use Rattle.sqlite.specs.State.{State}
 use Rattle.sqlite_tied.specs.Compute.{everything}
 use Rattle.pawn_book.specs.HostStep.{Host, rows}
-use Rattle.one_table.specs.Listing.{Holds, Lists}
+use Rattle.one_table.specs.Listing.{Holds}
 use Rattle.pawn_opening.specs.declared.fault.OpenFault.{OpenFault}
 use Rattle.pawn_opening.specs.Opened.{TellsSchema}
 use Rattle.sqlite_resolve.specs.declared.compiled.Compiled.{Compiled}
@@ -17,23 +17,26 @@ use Rattle.pawn_opening.specs.Refusing.{IsEmptyStore, IsNoted, NotesNoSchema, No
 use Rattle.pawn_opening.proofs.Ours as ours
 use Rattle.pawn_saving.proofs.Hosting.{as_lists, as_stands}
 use Rattle.pawn_tables.specs.Meta.{notes}
-use Rattle.pawn_tables.specs.Schema.{first_schema, second_schema, keep_schema, meta, meta_tree}
+use Rattle.sqlite.specs.Schema.{Schema}
+use Rattle.pawn_saving.proofs.OurTables.{with_tables}
+use Rattle.pawn_tables.specs.Ours.{with_indexes}
+use Rattle.pawn_tables.specs.Schema.{first_schema, second_schema, meta, meta_tree}
 use Rattle.pawn_move.specs.declared.fault.MoveFault.{MoveFault}
 use Rattle.pawn_move.specs.declared.fault.MoveFault.TheVariants.{NotOurs, NewerSchema, Damaged, Store, Memory}
 use Rattle.pawn_move.specs.Migrating.{IsFailure, IsNumberJudged, IsMoveTold, IsNotOurs, IsUntellable, TellsNumber}
-use Rattle.pawn_move.specs.StandsUnder.{IsSchema, StandsUnder, ThirdIsOurs, listed_under, schema_numbered}
+use Rattle.pawn_move.specs.StandsUnder.{IsSchema, ListsBy, StandsUnder, ThirdIsOurs, listed_under}
 
 -- ---- the third schema is the program's
 
 pub third_is_ours : ThirdIsOurs
 third_is_ours = record {
-  ours = λ db h st. record {
-    lists = record { schema_is = st.schema; sound = st.sound; tables = (as_lists db h st).tables };
+  ours = λ db h st. let l = as_lists db h st in record {
+    lists = with_tables l l.lists.tables;
     unextended = λ below. absurd (omega (arith, below));
     ordered = st.ordered;
     storable = st.storable;
   };
-  third = λ db h st. as_stands db h (record { schema_is = st.lists.schema_is; sound = st.lists.sound; tables = st.lists.tables }) st.ordered st.storable;
+  third = λ db h st. as_stands db h (with_tables st.lists st.lists.lists.tables) st.ordered st.storable;
 }
 
 -- ---- the number is noted
@@ -46,22 +49,24 @@ asks_second : ours.AsksMeta second_schema
 unfolding understood everything
 asks_second = (refl, refl, (refl, refl))
 
-asks : (first second : Bool) → ours.AsksMeta (if first then first_schema else if second then second_schema else keep_schema)
-asks true second = asks_first
-asks false true = asks_second
-asks false false = ours.schema_is
+-- the schema under which meta is asked for the number, and what it notes
+abbrev Known : Database → Host → ℕ → Type 0
+Known db h n = (s : Schema) × ours.AsksMeta s × (db.schema ≡ s) × Holds db.trees meta_tree (record meta { tree = meta_tree }) (notes n (rows h) h.limit)
 
-meta_held : (first second : Bool) (n : ℕ) (db : Database) (h : Host) → Lists (if first then first_schema else if second then second_schema else keep_schema) db (listed_under n h) → Holds db.trees meta_tree (record meta { tree = meta_tree }) (notes n (rows h) h.limit)
-meta_held true second n db h l = l.tables.1.1.1.1.1.1.0
-meta_held false true n db h l = l.tables.1.1.1.1.1.1.0
-meta_held false false n db h l = l.tables.1.1.1.1.1.1.0
+known_by : (first second : Bool) (n : ℕ) (db : Database) (h : Host) → ListsBy first second db (listed_under n h) → Known db h n
+known_by true second n db h l = (first_schema, asks_first, l.schema_is, l.tables.1.1.1.1.1.1.0)
+known_by false true n db h l = (second_schema, asks_second, l.schema_is, l.tables.1.1.1.1.1.1.0)
+known_by false false n db h l = (with_indexes l.more, ours.schema_is l.more, l.lists.schema_is, l.lists.tables.1.1.1.1.1.1.0)
 
 module _ (n : ℕ) (db : Database) (h : Host) (st : StandsUnder n db h) where
+  under : Known db h n
+  under = known_by (n == 1) (n == 2) n db h st.lists
+
   pub only_number : (m : ℕ) → NotesSchema db m → m ≡ n
-  only_number = ours.only_number db (schema_numbered n) (asks (n == 1) (n == 2)) n (rows h) h.limit st.lists.schema_is (meta_held (n == 1) (n == 2) n db h st.lists)
+  only_number = ours.only_number db under.0 under.1 n (rows h) h.limit under.2 under.3
 
   pub notes_some : NotesNoSchema db → ⊥
-  notes_some = ours.notes_some db (schema_numbered n) (asks (n == 1) (n == 2)) n (rows h) h.limit st.lists.schema_is (meta_held (n == 1) (n == 2) n db h st.lists)
+  notes_some = ours.notes_some db under.0 under.1 n (rows h) h.limit under.2 under.3
 
 -- ---- an empty store notes none
 

@@ -14,10 +14,11 @@ use Rattle.pawn_book.specs.HostStep.{Host}
 use Rattle.pawn_book.specs.Keeping.{IsNextBook, pledges_of}
 use Rattle.pawn_book.specs.Sound.{HasUnsoundBook}
 use Rattle.pawn_book.specs.declared.fault.KeepError.{KeepError}
-use Rattle.one_table.specs.Listing.{Lists, Listed, with_rows}
+use Rattle.one_table.specs.Listing.{Listed, with_rows}
 use Rattle.pawn_tables.specs.Finding.{Finds}
 use Rattle.pawn_tables.specs.Rows.{totals_listed}
-use Rattle.pawn_tables.specs.Schema.{keep_schema, extensions_tree, totals_tree}
+use Rattle.pawn_tables.specs.Ours.{ListsOurs}
+use Rattle.pawn_tables.specs.Schema.{extensions_tree, totals_tree}
 use Rattle.pawn_tables.specs.Told.{totals_in}
 use Rattle.pawn_tables.specs.StandsFor.{AreBooksOrdered, AreStorable, ListDebts, StandsFor, of_pledges}
 use Rattle.pawn_move.specs.StandsUnder.{HasNoExtension, StandsUnder, listed_under}
@@ -28,7 +29,7 @@ listed_with n owed h = with_rows (with_rows (listed_under n h) totals_tree owed)
 
 -- the program's tables list a host without extensions, but for its totals and the number of the schema
 pub record IsMoving (n : ℕ) (owed : List Row) (db : Tables) (h : Host) : Type 0 where
-  pub lists : Lists keep_schema db (listed_with n owed h)
+  pub lists : ListsOurs db (listed_with n owed h)
   pub ordered : AreBooksOrdered h
   pub storable : AreStorable h
   pub unextended : HasNoExtension h

@@ -1,7 +1,6 @@
 -- When tables of an older schema, or of the program's, stand for a host.
-use Rattle.std.specs.Prelude.{◌≡◌, ◌≤◌, ◌<◌, ◌==◌, if◌then◌else◌, ℕ, [], Some}
+use Rattle.std.specs.Prelude.{◌≡◌, ◌≤◌, ◌<◌, ◌==◌, ℕ, Bool, true, false, [], Some}
 use Rattle.std.specs.FinMap.{get}
-use Rattle.sqlite.specs.Schema.{Schema}
 use Rattle.sqlite.specs.Effect.{Database}
 use Rattle.pawn_pledge.specs.Replayable.{Each}
 use Rattle.pawn_book.specs.BookStep.{BookValue}
@@ -9,19 +8,19 @@ use Rattle.pawn_book.specs.HostStep.{Host, rows}
 use Rattle.one_table.specs.Listing.{Lists, Listed, with_rows}
 use Rattle.pawn_saving.specs.Counted.{listed_as}
 use Rattle.pawn_tables.specs.Meta.{notes}
-use Rattle.pawn_tables.specs.Schema.{first_schema, second_schema, keep_schema, meta_tree}
+use Rattle.pawn_tables.specs.Ours.{ListsOurs}
+use Rattle.pawn_tables.specs.Schema.{first_schema, second_schema, meta_tree}
 use Rattle.pawn_tables.specs.StandsFor.{AreBooksOrdered, AreStorable, StandsFor}
 
 -- the number of a schema; the program's is the third
 abbrev pub IsSchema : ℕ → Type 0
 IsSchema n = (1 ≤ n) × (n ≤ 3)
 
--- the schema of a number
-abbrev pub schema_numbered : ℕ → Schema
-schema_numbered n =
-    if n == 1 then first_schema
-    else if n == 2 then second_schema
-    else keep_schema
+-- the tables of the first schema, of the second, or else the program's, list these rows
+abbrev pub ListsBy : Bool → Bool → Database → Listed → Type 0
+ListsBy true second db listed = Lists first_schema db listed
+ListsBy false true db listed = Lists second_schema db listed
+ListsBy false false db listed = ListsOurs db listed
 
 -- the rows of a host by their tree, where this number of a schema is noted
 abbrev pub listed_under : ℕ → Host → Listed
@@ -33,7 +32,7 @@ HasNoExtension h = (b : ℕ) (k : BookValue) → get h.books b ≡ Some k → Ea
 
 -- The tables of the schema of this number list the host, and note that number, how many rows are counted, and the limit.
 pub record StandsUnder (n : ℕ) (db : Database) (h : Host) : Type 0 where
-  pub lists : Lists (schema_numbered n) db (listed_under n h)
+  pub lists : ListsBy (n == 1) (n == 2) db (listed_under n h)
   -- what the tables of an older schema can't tell of
   pub unextended : n < 3 → HasNoExtension h
   -- what no row tells

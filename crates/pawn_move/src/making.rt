@@ -4,11 +4,12 @@ ghost use Rattle.pawn_book.specs.declared.fault.KeepError.TheVariants as Keeper;
 ghost use Rattle.pawn_book.specs.declared.fault.StoreFault.TheVariants.{NoRecord};
 ghost use Rattle.one_table.specs.Lending.{IsLent};
 ghost use Rattle.pawn_tables.specs.Schema.{first_schema, second_schema, keep_schema, extensions_tree, totals_tree};
+ghost use Rattle.pawn_opening.specs.Indexing.{AddsIndexes};
 ghost use Rattle.pawn_opening.specs.Laying.{AddsTable};
 ghost use Rattle.pawn_move.specs.Moving.{NotesProgram};
 
 use pawn_book::KeepError;
-use pawn_opening::SCHEMA;
+use pawn_opening::{Lacking, SCHEMA};
 use pawn_tables::texts::SET_SCHEMA;
 use pawn_tables::{refused, write};
 use sqlite::{Alter, Transaction, params};
@@ -44,7 +45,7 @@ pub(crate) fn make_extensions<S: Alter>(tx: &mut Transaction<'_, S>) -> Result<(
 }
 
 /// Notes the number of the program's schema.
-pub(crate) fn note_schema<S: Alter>(tx: &mut Transaction<'_, S>) -> Result<(), KeepError>
+fn note_schema<S: Alter>(tx: &mut Transaction<'_, S>) -> Result<(), KeepError>
     ensures same_reference { tx.new.conn.ghost_name ≡ tx.old.conn.ghost_name }
     ensures noted { NotesProgram (state S.Store tx.old.conn.now)
         (state S.Store tx.new.conn.now) result }
@@ -53,4 +54,33 @@ pub(crate) fn note_schema<S: Alter>(tx: &mut Transaction<'_, S>) -> Result<(), K
         (is_ok result) }
 {
     write(tx, SET_SCHEMA, params![SCHEMA])
+}
+
+/// Makes the program's indexes, once its tables are there.
+fn make_indexes<S: Alter>(tx: &mut Transaction<'_, S>) -> Result<(), KeepError>
+    ensures same_reference { tx.new.conn.ghost_name ≡ tx.old.conn.ghost_name }
+    ensures adds { AddsIndexes (state S.Store tx.old.conn.now)
+        (state S.Store tx.new.conn.now) result }
+    ensures no_row { result ≢ Err (Keeper.Store NoRecord) }
+    ensures lent { IsLent (state S.Store tx.old.conn.now) (state S.Store tx.new.conn.now)
+        (is_ok result) }
+{
+    match pawn_opening::make_indexes(tx, Lacking::Both) {
+        Ok(()) => Ok(()),
+        Err(error) => Err(refused(error)),
+    }
+}
+
+/// Notes the number of the program's schema, and makes its indexes.
+#[tactic(auto, using(crate::proofs::Lent::lent_then))]
+pub(crate) fn finish<S: Alter>(tx: &mut Transaction<'_, S>) -> Result<(), KeepError>
+    ensures same_reference { tx.new.conn.ghost_name ≡ tx.old.conn.ghost_name }
+    ensures noted { NotesProgram (state S.Store tx.old.conn.now)
+        (state S.Store tx.new.conn.now) result }
+    ensures no_row { result ≢ Err (Keeper.Store NoRecord) }
+    ensures lent { IsLent (state S.Store tx.old.conn.now) (state S.Store tx.new.conn.now)
+        (is_ok result) }
+{
+    note_schema(tx)?;
+    make_indexes(tx)
 }

@@ -9,7 +9,7 @@ use crate::moving::{move_first, move_second};
 use crate::telling::schema_of;
 use one_table::know_settled;
 use pawn_book::KeepError;
-use pawn_opening::SCHEMA;
+use pawn_opening::{SCHEMA, add_indexes};
 use pawn_tables::refused;
 use sqlite::{Alter, Connection, Transaction};
 use std::alloc::Global;
@@ -57,7 +57,8 @@ fn move_store<S: Alter>(conn: &mut Connection<S>, alloc: Global, from: u32) -> R
 }
 
 /// Moves the store of a connection that is at rest to the program's schema, in one transaction, and tells the number of the schema
-/// that it had and the program's. Nothing is done to a store of the program's schema. A store that is refused stays as it was.
+/// that it had and the program's. A store of the program's schema only gets the indexes that it lacks. A store that is refused stays
+/// as it was.
 ///
 /// # Errors
 /// `NotOurs` for an empty store and for one that notes no schema; `NewerSchema` if it notes a newer one; `Damaged` if it notes an older
@@ -73,6 +74,9 @@ pub fn migrate<S: Alter>(alloc: Global, conn: &mut Connection<S>) -> Result<(u32
         Err(why) => return Err(why),
     };
     if from == SCHEMA {
+        if let Err(why) = add_indexes(conn) {
+            return Err(MoveFault::of_opening(why));
+        }
         return Ok((from, SCHEMA));
     }
     match move_store(conn, alloc, from) {

@@ -49,7 +49,7 @@ rolled_back old begun lent new ok was part clean undone =
     }
 
 pub held : (db : Database) (h : Host) → StandsFor db h → HoldHost db.trees h
-held db h st = subst (λ s. StandsFor (record { schema = s; trees = db.trees }) h) st.schema st
+held db h st = (db.schema, st)
 
 -- an open store at rest whose tables stand for a host
 pub opens_as : (s : State) (h : Host) → StandForOne → IsTrue s.is_open → s.in_transaction ≡ false → s.now ≡ s.committed → ((trees : Trees) → s.may_leave trees → trees ≡ s.committed.trees) → StandsFor s.now h → OpensAs s h

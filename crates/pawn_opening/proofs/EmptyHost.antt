@@ -31,7 +31,7 @@ pub stands_empty : (db : Database) (limit : ℕ) → Lists keep_schema db (noted
 stands_empty db limit l =
     let none = sym no_entries in
     record {
-      schema = l.schema_is;
+      schema = record { more = []; loose = tt; is = l.schema_is };
       sound = l.sound;
       books = subst (λ es. Holds db.trees books_tree (record books { tree = books_tree }) (map (λ (e : ℕ × BookValue). book_row e.0 e.1) es)) none l.tables.0;
       terms = subst (λ es. Holds db.trees terms_tree (record terms { tree = terms_tree }) (flat_map (λ (e : ℕ × BookValue). terms_listed e.0 e.1) es)) none l.tables.1.0;

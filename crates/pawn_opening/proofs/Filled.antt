@@ -1,5 +1,5 @@
--- An empty store, table by table and note by note.
-use Rattle.std.proofs.Common.{ℕ, true, [], ◌∷◌, codes, Result, Ok, Err, refl}
+-- An empty store, table by table, note by note, and then its indexes.
+use Rattle.std.proofs.Common.{ℕ, true, [], ◌∷◌, codes, Result, OnOk, Ok, Err, refl}
 use Rattle.std.specs.Prelude.{is_ok}
 use Rattle.sqlite.specs.declared.error.Error.{Error}
 use Rattle.sqlite.specs.State.{State}
@@ -9,26 +9,32 @@ use Rattle.one_table.specs.Listing.{with_rows}
 use Rattle.one_table.proofs.Lent.{clean_before}
 use Rattle.pawn_tables.specs.Meta.{meta_row}
 use Rattle.pawn_tables.specs.Schema.{keep_schema}
+use Rattle.pawn_tables.specs.StandsFor.{StandsFor}
+use Rattle.pawn_opening.specs.Indexing.{AddsIndexes, GainsIndexes}
 use Rattle.pawn_opening.specs.Laying.{Makes, Notes, no_rows}
-use Rattle.pawn_opening.specs.Opened.{Fills}
-use Rattle.pawn_opening.proofs.EmptyHost.{noted, stands_empty}
+use Rattle.pawn_opening.specs.Opened.{Fills, empty_host}
+use Rattle.pawn_opening.proofs.EmptyHost.{stands_empty}
+use Rattle.pawn_opening.proofs.Gained.{gains_stands}
 
-module _ (a b c d e : State) (limit : ℕ) (r : Result (Unit {0}) Error) where
+module _ (a b c d e f : State) (limit : ℕ) (r : Result (Unit {0}) Error) where
   pub filled : Makes {E = Error} a b (Ok tt) no_schema keep_schema → IsLent a b true → Notes {E = Error} b c (Ok tt) (meta_row (codes "limit") limit) → IsLent b c true
-      → Notes {E = Error} c d (Ok tt) (meta_row (codes "rows") 0) → IsLent c d true → Notes d e r (meta_row (codes "schema") 3) → IsLent d e (is_ok r) → Fills a e limit r
-  filled tables part one first two second three third clean within st =
-      let clean-d = clean_before d e (is_ok r) third clean in
+      → Notes {E = Error} c d (Ok tt) (meta_row (codes "rows") 0) → IsLent c d true → Notes {E = Error} d e (Ok tt) (meta_row (codes "schema") 3) → IsLent d e true
+      → AddsIndexes e f r → IsLent e f (is_ok r) → Fills a f limit r
+  filled tables part one first two second three third adds fourth clean within st =
+      let clean-e = clean_before e f (is_ok r) fourth clean in
+      let clean-d = clean_before d e true third clean-e in
       let clean-c = clean_before c d true second clean-d in
       let clean-b = clean_before b c true first clean-c in
       let made = tables clean-b within st in
       let within-b = part.inside clean-b within refl in
       let within-c = first.inside clean-c within-b refl in
       let within-d = second.inside clean-d within-c refl in
+      let within-e = third.inside clean-e within-d refl in
       let l1 = one clean-c within-b no_rows made in
       let l2 = two clean-d within-c (with_rows no_rows 13 (meta_row (codes "limit") limit ∷ [])) l1 in
-      let l3 = three clean within-d (with_rows (with_rows no_rows 13 (meta_row (codes "limit") limit ∷ [])) 13 (meta_row (codes "rows") 0 ∷ meta_row (codes "limit") limit ∷ [])) l2 in
-      last r l3
+      let l3 = three clean-e within-d (with_rows (with_rows no_rows 13 (meta_row (codes "limit") limit ∷ [])) 13 (meta_row (codes "rows") 0 ∷ meta_row (codes "limit") limit ∷ [])) l2 in
+      last r (stands_empty e.now limit l3) (adds clean within-e)
     where
-      last : (r' : Result (Unit {0}) Error) → Rattle.std.specs.Prelude.OnOk r' (Rattle.one_table.specs.Listing.Lists keep_schema e.now (noted limit)) → Rattle.std.specs.Prelude.OnOk r' (Rattle.pawn_tables.specs.StandsFor.StandsFor e.now (Rattle.pawn_opening.specs.Opened.empty_host limit))
-      last (Ok done) l = stands_empty e.now limit l
-      last (Err fault) l = tt
+      last : (r' : Result (Unit {0}) Error) → StandsFor e.now (empty_host limit) → OnOk r' (GainsIndexes e.now f.now) → OnOk r' (StandsFor f.now (empty_host limit))
+      last (Ok done) st gains = gains_stands e.now f.now (empty_host limit) gains st
+      last (Err fault) st gains = tt

@@ -30,13 +30,13 @@ use Rattle.sqlite.specs.Schema.{Schema}
 use Rattle.sqlite.specs.Tree.{Trees}
 use Rattle.one_table.specs.Columns.{no_schema}
 use Rattle.pawn_book.specs.HostStep.{Host}
-use Rattle.pawn_tables.specs.Schema.{keep_schema}
 use Rattle.pawn_tables.specs.StandsFor.{StandsFor, HoldHost}
 use Rattle.pawn_opening.proofs.Begun.{held}
 use Rattle.pawn_opening.specs.Closed.{AreClosedFor, HasCommitted, IsLeftUnclosed, StandsAlone}
 use Rattle.pawn_opening.specs.FilesStand.{HoldsIn, IsBlank, IsRefusedStore, OpensFound, StandsIn}
 use Rattle.pawn_opening.specs.declared.fault.OpenFault.{OpenFault}
-use Rattle.pawn_opening.specs.Opened.{IsOpenable, Prepares}
+use Rattle.pawn_opening.specs.Indexing.{GainsIndexes}
+use Rattle.pawn_opening.specs.Opened.{AreMadeOf, IsOpenable, Prepares}
 use Rattle.pawn_opening.specs.Refusing.{IsEmptyStore, IsRefusedFor, IsStoreFault, NotesSchema}
 use Rattle.pawn_opening.specs.declared.fault.OpenFault.TheVariants as Fault
 
@@ -46,8 +46,8 @@ schema_once s t db p q = lists_once (db catalog_tree) s t p.lists q.lists
 
 found_again : (now : Database) (db : Trees) (h : Host) → now.trees ≡ db → IsDatabase now → HoldHost db h → StandsFor now h
 found_again now db h is sound left =
-    let same : now.schema ≡ keep_schema = schema_once now.schema keep_schema db (subst (IsSound now.schema) is sound) left.sound in
-    subst (λ (d : Database). StandsFor d h) (λ i. record { schema = sym same i; trees = sym is i }) left
+    let same : now.schema ≡ left.0 = schema_once now.schema left.0 db (subst (IsSound now.schema) is sound) left.1.sound in
+    subst (λ (d : Database). StandsFor d h) (λ i. record { schema = sym same i; trees = sym is i }) left.1
 
 database_again : (now db : Database) → now.trees ≡ db.trees → IsDatabase now → IsDatabase db → now ≡ db
 database_again now db is sound sound' =
@@ -82,7 +82,7 @@ module _ (image : Image) (s : State) (opened : Opens s × IsLive s) (found : Fin
     sound = (opened.1 opened.0.is_open).1;
     opened = elim is [
       | inl empty ↦ inl (subst IsEmptyStore opened.0.clean empty)
-      | inr ours ↦ inr (subst (λ d. NotesSchema d 3) opened.0.clean ours.0, ours.1, ours.2.now ours.1 ∙ opened.0.clean, ours.2.committed ours.1)
+      | inr ours ↦ inr (subst (λ d. NotesSchema d 3) opened.0.clean ours.0, ours.1.0, subst (λ d. GainsIndexes d new.now) opened.0.clean ours.1.1, ours.1.2)
     ];
   }
 
@@ -102,7 +102,7 @@ module _ (image : Image) (s : State) (opened : Opens s × IsLive s) (found : Fin
           holds = found.holds;
           sound = (opened.1 opened.0.is_open).1;
           refused = subst (λ d. IsRefusedFor d why) same (p.refuses fair);
-          crash = λ trees may. elim (p.crash fair opened.0.is_open trees (quiet.outcomes trees may)) [ inl last ↦ inl last | inr made ↦ inr (subst IsEmptyStore same made.0, made.1) ];
+          crash = λ trees may. elim (p.crash fair opened.0.is_open trees (quiet.outcomes trees may)) [ inl last ↦ inl last | inr made ↦ inr (subst (λ d. AreMadeOf d limit trees) same made) ];
         },
       )
 

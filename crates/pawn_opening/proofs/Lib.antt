@@ -3,6 +3,9 @@ pub mod Creating
 pub mod EmptyHost
 pub mod Filled
 pub mod Found
+pub mod Gained
+pub mod IndexedStore
+pub mod IndexTexts
 pub mod LaidOut
 pub mod Lent
 pub mod MetaRows

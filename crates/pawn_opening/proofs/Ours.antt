@@ -22,6 +22,8 @@ use Rattle.one_table.specs.Listing.{Holds, columns_of}
 use Rattle.one_table.proofs.OneTable.{over_table, passes, shows_of, found}
 use Rattle.one_table.proofs.Texts.{Asks}
 use Rattle.pawn_book.specs.HostStep.{Host, rows}
+use Rattle.sqlite_schema.specs.declared.schema.Index.{Index}
+use Rattle.pawn_tables.specs.Ours.{with_indexes}
 use Rattle.pawn_tables.specs.Schema.{keep_schema, meta, meta_tree}
 use Rattle.pawn_tables.specs.Meta.{notes}
 use Rattle.pawn_tables.specs.StandsFor.{StandsFor}
@@ -34,9 +36,9 @@ use Rattle.pawn_tables.specs.declared.texts.TheConstants.{READ_SCHEMA}
 abbrev pub AsksMeta : Schema → Type 0
 AsksMeta s = Asks s READ_SCHEMA.now (over_table meta_tree (op2 (Compare Eq Binary) (col 1 1) (lit (Text (codes "schema"))) ∷ []) (col 1 2 ∷ []) []) (codes "value" ∷ [])
 
-pub schema_is : AsksMeta keep_schema
+pub schema_is : (more : List Index) → AsksMeta (with_indexes more)
 unfolding understood everything
-schema_is = (refl, refl, (refl, refl))
+schema_is more = (refl, refl, (refl, refl))
 
 abbrev is_schema : Row → Bool
 is_schema v = list_all (λ (x : Bool). x) (is_true (binary (Compare Eq Binary) (column v 0) (Text (codes "schema"))) ∷ [])
@@ -85,14 +87,17 @@ module _ (db : Database) (s : Schema) (asks : AsksMeta s) (n counted limit : ℕ
 
 module _ (db : Database) (h : Host) (st : StandsFor db h) where
   pub not_empty : IsEmptyStore db → ⊥
-  not_empty none = absurd (let e : keep_schema.tables ≡ [] = ap (λ (s : Schema). s.tables) (sym st.schema ∙ none) in cc)
+  not_empty none = absurd (let e : keep_schema.tables ≡ [] = ap (λ (s : Schema). s.tables) (sym st.schema.is ∙ none) in cc)
 
   only : (n : ℕ) → NotesSchema db n → n ≡ 3
-  only = only_number db keep_schema schema_is 3 (rows h) h.limit st.schema st.meta
+  only = only_number db (with_indexes st.schema.more) (schema_is st.schema.more) 3 (rows h) h.limit st.schema.is st.meta
+
+  some : NotesNoSchema db → ⊥
+  some = notes_some db (with_indexes st.schema.more) (schema_is st.schema.more) 3 (rows h) h.limit st.schema.is st.meta
 
   -- so a store that stands for a host is refused for a fault alone
   pub only_faults : (why : OpenFault) → IsRefusedFor db why → IsStoreFault why
-  only_faults NotOurs (other, inl none) = notes_some db keep_schema schema_is 3 (rows h) h.limit st.schema st.meta none
+  only_faults NotOurs (other, inl none) = absurd (some none)
   only_faults NotOurs (other, inr (n, noted, far)) = elim far [ inl zero' ↦ absurd (let is = only n noted in omega (arith, is, zero')) | inr above ↦ absurd (let is = only n noted in omega (arith, is, above)) ]
   only_faults (OldSchema n) it = absurd (let is = only n it.0 in let below = it.2 in omega (arith, is, below))
   only_faults Store it = tt

@@ -1,17 +1,19 @@
 -- An empty store is laid out, any other recognised.
-use Rattle.std.proofs.Common.{◌≡◌, ◌⊎◌, inl, inr, ℕ, Ok, Err, Result, OnOk, OnErr, IsTrue, sym, subst, ◌∙◌}
+use Rattle.std.proofs.Common.{◌≡◌, ◌⊎◌, inl, inr, ℕ, Ok, Err, Result, OnOk, OnErr, IsTrue, sym, subst, ◌∙◌, arith}
 use Rattle.std.specs.Prelude.{IfErr}
 use Rattle.sqlite.specs.Tree.{Trees}
 use Rattle.sqlite.specs.State.{State, HasCleanDisk, Survives}
-use Rattle.sqlite.proofs.StateLemmas.{survives_weaker}
+use Rattle.sqlite.proofs.StateLemmas.{survives_then, survives_weaker}
 use Rattle.pawn_book.specs.HostStep.{Host}
 use Rattle.pawn_tables.specs.OneHost.{StandForOne}
-use Rattle.pawn_tables.specs.StandsFor.{StandsFor, HoldHost}
+use Rattle.pawn_tables.specs.StandsFor.{StandsFor}
 use Rattle.pawn_opening.specs.declared.fault.OpenFault.{OpenFault}
 use Rattle.pawn_opening.specs.declared.fault.OpenFault.TheVariants.{NotOurs, OldSchema, Store, Memory}
-use Rattle.pawn_opening.specs.Opened.{IsOpenable, LaysOut, OpensAs, Prepares, Recognises, empty_host}
-use Rattle.pawn_opening.specs.Refusing.{IsEmptyStore, IsRefusedFor, IsStoreFault, NotesSchema}
+use Rattle.pawn_opening.specs.Indexing.{GainsIndexes, HoldGained}
+use Rattle.pawn_opening.specs.Opened.{AreMadeOf, IndexesStore, IsAsBefore, IsIndexed, IsOpenable, LaysOut, OpensAs, Prepares, Recognises}
+use Rattle.pawn_opening.specs.Refusing.{IsEmptyStore, IsRefusedFor, IsStoreFault}
 use Rattle.pawn_opening.proofs.Begun.{opens_as}
+use Rattle.pawn_opening.proofs.Gained.{gains_stands}
 use Rattle.pawn_opening.proofs.Ours.{not_empty, only_faults}
 
 module _ (old new : State) (limit : ℕ) (r : Result (Unit {0}) OpenFault) (last : IsTrue old.is_open → (trees : Trees) → old.may_leave trees → trees ≡ old.committed.trees) where
@@ -26,7 +28,7 @@ module _ (old new : State) (limit : ℕ) (r : Result (Unit {0}) OpenFault) (last
   faults (Err why) it = fault_alone why it
 
   abbrev New : Trees → Type 0
-  New trees = IsEmptyStore old.now × HoldHost trees (empty_host limit)
+  New = AreMadeOf old.now limit
 
   crashed : Survives old new New → HasCleanDisk new → IsTrue old.is_open → (trees : Trees) → new.may_leave trees → (trees ≡ old.committed.trees) ⊎ New trees
   crashed s clean open' trees left = elim (s.crash clean trees left) [ inl before ↦ inl (last open' trees before) | inr made ↦ inr made ]
@@ -50,41 +52,83 @@ module _ (old new : State) (limit : ℕ) (r : Result (Unit {0}) OpenFault) (last
       openable (Err why) = tt
 
       laid : Survives old new New
-      laid = survives_weaker old new _ New (λ clean trees holds. (empty, holds empty)) it.survives
+      laid = survives_weaker old new _ New (λ clean trees holds. inl (empty, holds empty)) it.survives
 
   alone : (h : Host) → StandsFor old.now h → (r' : Result (Unit {0}) OpenFault) → IfErr r' (IsRefusedFor old.now) → IfErr r' IsStoreFault
   alone h st (Ok done) it = tt
   alone h st (Err why) it = only_faults old.now h st why it
 
-  pub when_other : StandForOne → (IsEmptyStore old.now → ⊥) → (IsTrue old.is_open → old.now ≡ old.committed) → (IsTrue new.is_open → (trees : Trees) → new.may_leave trees → trees ≡ new.committed.trees)
-      → Recognises old new r → Prepares old new limit r
-  when_other one other settled left it = record {
-    opens = λ clean. openable clean r (it.ok clean);
+  -- it is not ours, or fails
+  pub when_other : (IsEmptyStore old.now → ⊥) → (why : OpenFault) → r ≡ Err why → Recognises old new r → Prepares old new limit r
+  when_other other why is it = record {
+    opens = λ clean. subst (λ x. OnOk x (IsOpenable old new)) (sym is) tt;
     new_store = λ clean empty. absurd (other empty);
-    stands = λ clean h st. accepted clean h st r (it.ok clean);
+    stands = λ clean h st. subst (λ x. OnOk x (OpensAs new h)) (sym is) tt;
     bare = λ clean empty. absurd (other empty);
     ours = λ clean h st. alone h st r (it.err clean other);
     refuses = λ clean. it.err clean other;
-    err = λ clean. kept clean r;
+    err = λ clean. subst (λ x. OnErr x (IsAsBefore old new)) (sym is) (it.same clean);
     ended = it.ended;
     survives = same_store;
     crash = crashed same_store;
   }
     where
+      alone : (h : Host) → StandsFor old.now h → (r' : Result (Unit {0}) OpenFault) → IfErr r' (IsRefusedFor old.now) → IfErr r' IsStoreFault
+      alone h st (Ok done) it = tt
+      alone h st (Err why) it = only_faults old.now h st why it
+
       same_store : Survives old new New
       same_store = survives_weaker old new (λ _. ⊥) New (λ clean trees none. absurd none) it.survives
 
-      openable : HasCleanDisk new → (r' : Result (Unit {0}) OpenFault) → OnOk r' (IsTrue new.is_open × NotesSchema old.now 3) → OnOk r' (IsOpenable old new)
-      openable clean (Ok done) ok = inr (ok.1, ok.0, it.same clean)
-      openable clean (Err why) ok = tt
+  -- it is ours, and gets the indexes that it lacks
+  module _ (mid : State) (other : IsEmptyStore old.now → ⊥) (known : Recognises old mid (Ok tt)) (it : IndexesStore mid new r) where
+    clean_mid : HasCleanDisk new → HasCleanDisk mid
+    clean_mid clean = let up = it.survives.clean in omega (arith, clean, up)
 
-      accepted : HasCleanDisk new → (h : Host) → StandsFor old.now h → (r' : Result (Unit {0}) OpenFault) → OnOk r' (IsTrue new.is_open × NotesSchema old.now 3) → OnOk r' (OpensAs new h)
-      accepted clean h st (Err why) ok = tt
-      accepted clean h st (Ok done) ok =
-          let same = it.same clean in
-          let serves = ok.0 in
-          opens_as new h one serves it.ended (same.now serves ∙ settled (same.was_open serves) ∙ sym (same.committed serves)) (left serves) (subst (λ d. StandsFor d h) (sym (same.now serves)) st)
+    serves : HasCleanDisk mid → IsTrue mid.is_open
+    serves clean = (known.ok clean).0
 
-      kept : HasCleanDisk new → (r' : Result (Unit {0}) OpenFault) → OnErr r' (Rattle.pawn_opening.specs.Opened.IsAsBefore old new)
-      kept clean (Ok done) = tt
-      kept clean (Err why) = it.same clean
+    same : (clean : HasCleanDisk mid) → mid.now ≡ old.now
+    same clean = (known.same clean).now (serves clean)
+
+    from_old : HasCleanDisk mid → IsIndexed mid new → IsIndexed old new
+    from_old clean done = (done.0, subst (λ d. GainsIndexes d new.now) (same clean) done.1, done.2)
+
+    survived : Survives old new New
+    survived =
+        survives_then old mid new (λ _. ⊥) (HoldGained mid.now) New (λ clean trees none. absurd none)
+        (λ clean trees held. let before = clean_mid clean in inr ((known.ok before).1, subst (λ d. HoldGained d trees) (same before) held)) known.survives it.survives
+
+    pub when_ours : StandForOne → (IsTrue new.is_open → (trees : Trees) → new.may_leave trees → trees ≡ new.committed.trees) → Prepares old new limit r
+    when_ours one left = record {
+      opens = λ clean. openable clean r (it.ok clean (serves (clean_mid clean)));
+      new_store = λ clean empty. absurd (other empty);
+      stands = λ clean h st. accepted clean h st r (it.ok clean (serves (clean_mid clean)));
+      bare = λ clean empty. absurd (other empty);
+      ours = λ clean h st. it.why;
+      refuses = λ clean. faults r it.why;
+      err = λ clean. kept clean r (it.err clean);
+      ended = it.ended;
+      survives = survived;
+      crash = crashed survived;
+    }
+      where
+        openable : HasCleanDisk new → (r' : Result (Unit {0}) OpenFault) → OnOk r' (IsIndexed mid new) → OnOk r' (IsOpenable old new)
+        openable clean (Ok done) ok = let before = clean_mid clean in inr ((known.ok before).1, from_old before ok)
+        openable clean (Err why) ok = tt
+
+        accepted : HasCleanDisk new → (h : Host) → StandsFor old.now h → (r' : Result (Unit {0}) OpenFault) → OnOk r' (IsIndexed mid new) → OnOk r' (OpensAs new h)
+        accepted clean h st (Err why) ok = tt
+        accepted clean h st (Ok done) ok =
+            let after = from_old (clean_mid clean) ok in
+            opens_as new h one after.0 it.ended after.2 (left after.0) (gains_stands old.now new.now h after.1 st)
+
+        kept : HasCleanDisk new → (r' : Result (Unit {0}) OpenFault) → OnErr r' (IsAsBefore mid new) → OnErr r' (IsAsBefore old new)
+        kept clean (Ok done) err = tt
+        kept clean (Err why) err =
+            let first = known.same (clean_mid clean) in
+            record {
+              was_open = λ now. first.was_open (err.was_open now);
+              now = λ now. err.now now ∙ first.now (err.was_open now);
+              committed = λ now. err.committed now ∙ first.committed (err.was_open now);
+            }

@@ -15,7 +15,8 @@ use Rattle.sqlite.specs.Files.{AreFoundIn, HoldsDatabase, LeavesFiles, image_of}
 use Rattle.pawn_book.specs.HostStep.{Host}
 use Rattle.pawn_tables.specs.StandsFor.{HoldHost}
 use Rattle.pawn_opening.specs.declared.fault.OpenFault.{OpenFault}
-use Rattle.pawn_opening.specs.Opened.{empty_host}
+use Rattle.pawn_opening.specs.Indexing.{GainsIndexes}
+use Rattle.pawn_opening.specs.Opened.{AreMadeOf}
 use Rattle.pawn_opening.specs.Refusing.{IsEmptyStore, IsRefusedFor, IsStoreFault, NotesSchema}
 
 -- the bytes of the files hold a database that stands for the host
@@ -32,22 +33,23 @@ HoldsIn image db = ∥ HoldsDatabase image db.trees ∥₁ × IsDatabase db
 abbrev pub IsBlank : Image → Type 0
 IsBlank image = (found : Trees) → AreFoundIn image found → found catalog_tree ≡ []
 
--- The bytes held a database that is refused. A crash leaves it or, if it was empty, the tables of the empty host.
+-- The bytes held a database that is refused. A crash leaves it, or what the opening made of it.
 pub record RefusesFound {D : Type 0} {g : Ghosts D} (image : Image) (limit : ℕ) (why : OpenFault) (it : FileStore D g) : Type 0 where
   pub found : Database
   pub reads : AreFoundIn image found.trees
   pub holds : (db : Trees) → HoldsDatabase image db → found.trees ≡ db
   pub sound : IsDatabase found
   pub refused : IsRefusedFor found why
-  pub crash : (trees : Trees) → recovers it trees → (trees ≡ found.trees) ⊎ (IsEmptyStore found × HoldHost trees (empty_host limit))
+  pub crash : (trees : Trees) → recovers it trees → (trees ≡ found.trees) ⊎ AreMadeOf found limit trees
 
--- The bytes held a database that is opened: an empty one, or one that notes the program's schema, which the store holds as it was.
+-- The bytes held a database that is opened: an empty one, or one that notes the program's schema, which the store holds with the indexes
+-- that it lacked.
 pub record OpensFound (image : Image) (s : State) : Type 0 where
   pub found : Database
   pub reads : AreFoundIn image found.trees
   pub holds : (db : Trees) → HoldsDatabase image db → found.trees ≡ db
   pub sound : IsDatabase found
-  pub opened : IsEmptyStore found ⊎ (NotesSchema found 3 × IsTrue s.is_open × (s.now ≡ found) × (s.committed ≡ found))
+  pub opened : IsEmptyStore found ⊎ (NotesSchema found 3 × IsTrue s.is_open × GainsIndexes found s.now × (s.now ≡ s.committed))
 
 -- a store over the files is left, whose database is refused
 abbrev pub IsRefusedStore : {D : Type 0} {g : Ghosts D} → Image → ℕ → OpenFault → Leftover D g → Type 0

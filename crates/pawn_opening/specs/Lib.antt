@@ -1,5 +1,6 @@
 pub mod Closed
 pub mod FilesStand
+pub mod Indexing
 pub mod Laying
 pub mod Opened
 pub mod Refusing

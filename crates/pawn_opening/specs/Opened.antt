@@ -1,6 +1,7 @@
 -- Stores that are opened.
 use Rattle.std.specs.Prelude.{◌≡◌, ◌⊎◌, false, ℕ, IsTrue, Option, IfSome, Result, IfErr, IfOk, OnErr, OnOk}
 use Rattle.std.specs.FinMap.{empty}
+use Rattle.sqlite.specs.Effect.{Database}
 use Rattle.sqlite.specs.Tree.{Trees}
 use Rattle.sqlite.specs.State.{State, HasCleanDisk, Survives}
 use Rattle.one_table.specs.Columns.{no_schema}
@@ -8,6 +9,7 @@ use Rattle.pawn_book.specs.HostStep.{Host}
 use Rattle.pawn_tables.specs.StandsFor.{StandsFor, HoldHost}
 use Rattle.pawn_tables.specs.Keeps.{Keeps, Leaves}
 use Rattle.pawn_opening.specs.declared.fault.OpenFault.{OpenFault}
+use Rattle.pawn_opening.specs.Indexing.{GainsIndexes, HoldGained}
 use Rattle.pawn_opening.specs.Laying.{AreEmpty}
 use Rattle.pawn_opening.specs.Refusing.{IsEmptyStore, IsNoted, IsRefusedFor, IsStoreFault, NotesSchema}
 
@@ -58,13 +60,29 @@ pub record Recognises (old new : State) (result : Result (Unit {0}) OpenFault) :
   pub ended : new.in_transaction ≡ false
   pub survives : Survives old new (λ _. ⊥)
 
--- only an empty store is opened, or one that notes the program's schema: that one is open, as it was
-abbrev pub IsOpenable : State → State → Type 0
-IsOpenable old new = IsEmptyStore old.now ⊎ (NotesSchema old.now 3 × IsTrue new.is_open × IsAsBefore old new)
+-- an open store stays open, and has committed the indexes that it gained
+abbrev pub IsIndexed : State → State → Type 0
+IsIndexed old new = IsTrue new.is_open × GainsIndexes old.now new.now × (new.now ≡ new.committed)
 
--- A store is opened. An empty one is laid out for the empty host with this limit; one that notes the program's schema is opened as
--- it was, for the host that it stands for, if it stands for one; any other is refused, and left as it was. A crash on the way leaves
--- the store as it was or, if it was empty, laid out.
+-- A store gets the indexes that it lacks, or is left as it was. A crash leaves it as it was, or with them.
+pub record IndexesStore (old new : State) (result : Result (Unit {0}) OpenFault) : Type 0 where
+  pub ok : HasCleanDisk new → IsTrue old.is_open → OnOk result (IsIndexed old new)
+  pub err : HasCleanDisk new → OnErr result (IsAsBefore old new)
+  pub why : IfErr result IsStoreFault
+  pub ended : new.in_transaction ≡ false
+  pub survives : Survives old new (HoldGained old.now)
+
+-- only an empty store is opened, or one that notes the program's schema: that one is open, with the indexes that it lacked
+abbrev pub IsOpenable : State → State → Type 0
+IsOpenable old new = IsEmptyStore old.now ⊎ (NotesSchema old.now 3 × IsIndexed old new)
+
+-- what an opening makes of the trees: the tables of the empty host where nothing stood, or further indexes of what notes the program's schema
+abbrev pub AreMadeOf : Database → ℕ → Trees → Type 0
+AreMadeOf db limit trees = (IsEmptyStore db × HoldHost trees (empty_host limit)) ⊎ (NotesSchema db 3 × HoldGained db trees)
+
+-- A store is opened. An empty one is laid out for the empty host with this limit; one that notes the program's schema is opened with
+-- the indexes that it lacked, for the host that it stands for, if it stands for one; any other is refused, and left as it was. A crash
+-- on the way leaves the store as it was, or what the opening made of it.
 pub record Prepares (old new : State) (limit : ℕ) (result : Result (Unit {0}) OpenFault) : Type 0 where
   pub opens : HasCleanDisk new → OnOk result (IsOpenable old new)
   pub new_store : HasCleanDisk new → IsEmptyStore old.now → OnOk result (OpensAs new (empty_host limit))
@@ -75,6 +93,6 @@ pub record Prepares (old new : State) (limit : ℕ) (result : Result (Unit {0}) 
   pub refuses : HasCleanDisk new → IfErr result (IsRefusedFor old.now)
   pub err : HasCleanDisk new → OnErr result (IsAsBefore old new)
   pub ended : new.in_transaction ≡ false
-  pub survives : Survives old new (λ trees. IsEmptyStore old.now × HoldHost trees (empty_host limit))
-  -- a crash leaves the last commit or, if the store was empty, the new tables
-  pub crash : HasCleanDisk new → IsTrue old.is_open → (trees : Trees) → new.may_leave trees → (trees ≡ old.committed.trees) ⊎ (IsEmptyStore old.now × HoldHost trees (empty_host limit))
+  pub survives : Survives old new (AreMadeOf old.now limit)
+  -- a crash leaves the last commit, or what the opening made of it
+  pub crash : HasCleanDisk new → IsTrue old.is_open → (trees : Trees) → new.may_leave trees → (trees ≡ old.committed.trees) ⊎ AreMadeOf old.now limit trees

@@ -6,6 +6,7 @@ ghost use Rattle.pawn_tables.specs.Schema.{keep_schema};
 ghost use Rattle.pawn_opening.specs.Laying.{Makes};
 ghost use Rattle.pawn_opening.specs.Opened.{Fills};
 
+use crate::indexing::{Lacking, make_indexes};
 use crate::laying::{make_books, make_lists, make_notes};
 use crate::noting::note;
 use crate::recognising::SCHEMA;
@@ -25,7 +26,7 @@ fn make_tables<S: Alter>(tx: &mut Transaction<'_, S>) -> Result<(), Error>
     make_notes(tx)
 }
 
-/// Makes the tables of the empty host, and notes the schema, the count of rows and the limit.
+/// Makes the tables of the empty host and their indexes, and notes the schema, the count of rows and the limit.
 #[tactic(auto, using(crate::proofs::Lent::lent_then))]
 pub(crate) fn fill<S: Alter>(tx: &mut Transaction<'_, S>, limit: u32) -> Result<(), Error>
     ensures same_reference { tx.new.conn.ghost_name ≡ tx.old.conn.ghost_name }
@@ -37,5 +38,6 @@ pub(crate) fn fill<S: Alter>(tx: &mut Transaction<'_, S>, limit: u32) -> Result<
     make_tables(tx)?;
     note(tx, "limit", limit)?;
     note(tx, "rows", 0)?;
-    note(tx, "schema", SCHEMA)
+    note(tx, "schema", SCHEMA)?;
+    make_indexes(tx, Lacking::Both)
 }

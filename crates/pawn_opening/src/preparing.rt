@@ -6,6 +6,7 @@ ghost use Rattle.pawn_opening.specs.Refusing.{IsEmptyStore};
 
 use crate::fault::{OpenFault, refused};
 use crate::filling::fill;
+use crate::indexing::add_indexes;
 use crate::recognising::recognise;
 use one_table::know_settled;
 use sqlite::{Alter, Connection};
@@ -37,8 +38,8 @@ fn is_empty<S: Alter>(conn: &Connection<S>) -> bool
 }
 
 /// Opens the store of a connection that is at rest. An empty store is laid out for the empty host with this limit, in one
-/// transaction. One that notes the program's schema is opened as it is, with the stored limit, and nothing is written; whether it
-/// stands for a host is not judged. The limit on rows is 1 to 10,000,000.
+/// transaction. One that notes the program's schema is opened as it is, with the stored limit; the indexes that it lacks are made, in
+/// one transaction that changes no row. Whether it stands for a host is not judged. The limit on rows is 1 to 10,000,000.
 ///
 /// # Errors
 /// `OldSchema` with its number if the store notes an older schema; `NotOurs` if it is not empty and notes no schema, or a newer one;
@@ -53,6 +54,7 @@ pub fn prepare<S: Alter>(conn: &mut Connection<S>, limit: u32) -> Result<(), Ope
     if is_empty(conn) {
         lay_out(conn, limit)
     } else {
-        recognise(conn)
+        recognise(conn)?;
+        add_indexes(conn)
     }
 }

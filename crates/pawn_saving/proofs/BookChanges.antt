@@ -13,8 +13,8 @@ use Rattle.pawn_book.specs.BookStep.{BookValue, changed_book, made_book}
 use Rattle.pawn_book.specs.Changes.{with_change}
 use Rattle.pawn_book.specs.HostStep.{Host, book_rows, rows, with_book}
 use Rattle.pawn_book.proofs.RowSums.{part, rows-with_book}
-use Rattle.one_table.specs.Listing.{Lists, with_rows}
-use Rattle.pawn_tables.specs.Schema.{keep_schema}
+use Rattle.one_table.specs.Listing.{with_rows}
+use Rattle.pawn_tables.specs.Ours.{ListsOurs}
 use Rattle.pawn_tables.specs.At.{at_book}
 use Rattle.pawn_tables.specs.Rows.{number, placed_from, book_row, terms_cells, terms_listed, pledge_listed, entries_listed, secrets_listed, booking_listed, totals_listed, extensions_listed}
 use Rattle.pawn_tables.specs.StandsFor.{of_books}
@@ -49,7 +49,7 @@ module _ (h : Host) (b : ℕ) (new : NewBook) (none : get h.books b ≡ None) (c
     extensions = beside (λ c k. flat_map (extensions_listed c) k.pledges);
   }
 
-  pub made_written : (db : Database) → counted ≡ rows h → Lists keep_schema db (with_rows (listed_as h counted) 0 (book_row b made ∷ listed_as h counted 0)) → IsWrittenPart h grown db 1
+  pub made_written : (db : Database) → counted ≡ rows h → ListsOurs db (with_rows (listed_as h counted) 0 (book_row b made ∷ listed_as h counted 0)) → IsWrittenPart h grown db 1
   made_written db is l = record {
     lists = subst (ListsHost db grown) is (relisted db _ _ made_same l);
     grown = let sums = rows-with_book h b made in let before : part book_rows (get h.books b) ≡ 0 = ap (part book_rows) none in omega (arith, sums, before);
@@ -158,7 +158,7 @@ module _ (h : Host) (b version : ℕ) (t : Rates) (k : BookValue) (is : get h.bo
     extensions = stays (λ c x. flat_map (extensions_listed c) x.pledges) refl;
   }
 
-  pub longer_written : (db : Database) → counted ≡ rows h → Lists keep_schema db (with_rows (with_rows (listed_as h counted) 1 (row ∷ listed_as h counted 1)) 0 (book_row b next ∷ others))
+  pub longer_written : (db : Database) → counted ≡ rows h → ListsOurs db (with_rows (with_rows (listed_as h counted) 1 (row ∷ listed_as h counted 1)) 0 (book_row b next ∷ others))
       → IsWrittenPart h (with_change h (AddTerms b version t)) db 1
   longer_written db same l = subst (λ g. IsWrittenPart h g db 1) (sym is_longer) (record {
     lists = subst (ListsHost db longer) same (relisted db _ _ longer_same l);

@@ -23,14 +23,17 @@ use Rattle.sqlite.specs.State.{State, mode_of, QueriesRow, Shown}
 use Rattle.sqlite.proofs.Callers.{statement_of, one_permutation}
 use Rattle.one_table.proofs.Found.{shown_listed}
 use Rattle.sqlite_schema.specs.declared.schema.Keys.TheVariants.{Enforced}
+use Rattle.sqlite_schema.specs.declared.schema.Index.{Index}
+use Rattle.pawn_tables.specs.Ours.{ListsOurs, with_indexes}
 use Rattle.pawn_tables.specs.Schema.{meta, keep_schema, meta_tree}
-use Rattle.one_table.specs.Listing.{Holds, Lists, Listed, with_rows}
+use Rattle.one_table.specs.Listing.{Holds, Listed, with_rows}
 use Rattle.pawn_tables.specs.Meta.{meta_row, meta_rows, other_rows}
 use Rattle.one_table.proofs.OneTable.{over_table, shows_of}
 use Rattle.one_table.proofs.Rowed.{swapped, cast_int, cast_whole, at_place}
 use Rattle.one_table.proofs.Insertion.{went, same_value}
 use Rattle.one_table.proofs.Alteration as alter
 use Rattle.one_table.proofs.Returning.{row_returned}
+use Rattle.pawn_saving.proofs.OurTables.{under_same}
 use Rattle.pawn_saving.proofs.WriteTexts.{ADD_ROWS, count_tests, count_shows, count_returns, count_is, READ_LIMIT, limit_tests, limit_shows, limit_is}
 use Rattle.pawn_saving.proofs.Places.{meta_place}
 
@@ -59,40 +62,42 @@ concluded task mode what w tally next h =
     let shown : tally.shown ≡ showing.0 = ap (λ (p : Tally × Database). p.0.shown) ended ∙ same_value (went showing.2).2 in
     (subst (λ rows. ShowsEach task what w.trees w.rows (Ok rows)) (sym shown) showing.1, ap (λ (p : Tally × Database). p.1) ended)
 
-abbrev counting : Option ℕ → ℕ → Task
-counting limit by = record { limit = limit; keys = Enforced; schema = keep_schema; table = record meta { tree = meta_tree }; params = Int (pos by) ∷ [] }
+abbrev counting : List Index → Option ℕ → ℕ → Task
+counting more limit by = record { limit = limit; keys = Enforced; schema = with_indexes more; table = record meta { tree = meta_tree }; params = Int (pos by) ∷ [] }
 
 -- of the row of the counter the number is shown
-shown_once : (limit : Option ℕ) (by n : ℕ) (m : ℤ) (now : Trees) (rows : List Row)
-    → ShowsEach (counting limit by) count_returns now ((Int m ∷ meta_row (codes "rows") n) ∷ []) (Ok rows) → rows ≡ (Int (pos n) ∷ []) ∷ []
-shown_once limit by n m now rows h =
+shown_once : (more : List Index) (limit : Option ℕ) (by n : ℕ) (m : ℤ) (now : Trees) (rows : List Row)
+    → ShowsEach (counting more limit by) count_returns now ((Int m ∷ meta_row (codes "rows") n) ∷ []) (Ok rows) → rows ≡ (Int (pos n) ∷ []) ∷ []
+shown_once more limit by n m now rows h =
     let first = went h in
     let last = went first.2 in
     same_value last.2 ∙ ap₂ ◌++◌ first.1.1 (same_value last.1)
 
-pub counts : (by : ℕ) (old new : State) (row : Row) (listed : Listed) (counted limit : ℕ) → Lists keep_schema old.now listed → listed meta_tree ≡ meta_rows counted limit → counted + by < 2 ^ 63
+pub counts : (by : ℕ) (old new : State) (row : Row) (listed : Listed) (counted limit : ℕ) → ListsOurs old.now listed → listed meta_tree ≡ meta_rows counted limit → counted + by < 2 ^ 63
     → QueriesRow ADD_ROWS.now (Int (pos by) ∷ []) old new (Ok row)
-    → (row ≡ Int (pos (counted + by)) ∷ []) × Lists keep_schema new.now (with_rows listed meta_tree (meta_row (codes "rows") (counted + by) ∷ other_rows limit))
+    → (row ≡ Int (pos (counted + by)) ∷ []) × ListsOurs new.now (with_rows listed meta_tree (meta_row (codes "rows") (counted + by) ∷ other_rows limit))
 counts by old new row listed counted limit st noted fits h =
+    let more = st.more in
+    let ours = with_indexes more in
     let params : Row = Int (pos by) ∷ [] in
     let db = old.now.trees in
     let t : Table = record meta { tree = meta_tree } in
     let query = over_table meta_tree count_tests count_shows [] in
-    let told = row_returned ADD_ROWS.now params old new keep_schema st.schema_is (Update 6 (record { lets = []; body = query })) count_returns count_is.0 count_is.1 count_is.2 row h in
+    let told = row_returned ADD_ROWS.now params old new ours st.lists.schema_is (Update 6 (record { lets = []; body = query })) count_returns (count_is more).0 (count_is more).1 (count_is more).2 row h in
     let w = told.1.1 in
-    let whole = statement_of ADD_ROWS.now (understood keep_schema ADD_ROWS.now) in
-    let does = subst (λ s. Does old.step_limit (mode_of old) params (record old.now { schema = s }) whole (Some count_returns) (Update 6 (record { lets = []; body = query })) (Ok (w.tally, new.now))) st.schema_is w.changed in
+    let whole = statement_of ADD_ROWS.now (understood ours ADD_ROWS.now) in
+    let does = subst (λ s. Does old.step_limit (mode_of old) params (record old.now { schema = s }) whole (Some count_returns) (Update 6 (record { lets = []; body = query })) (Ok (w.tally, new.now))) st.lists.schema_is w.changed in
     let done = went does in
-    let end = concluded (counting old.step_limit by) (mode_of old) count_returns done.0 w.tally new.now done.2 in
+    let end = concluded (counting more old.step_limit by) (mode_of old) count_returns done.0 w.tally new.now done.2 in
     let now = end.1 in
-    let wrote = alter.updated_part keep_schema 6 t meta_place (λ _. refl) count_tests count_shows old.step_limit params params db done.0 done.1 in
-    let holds : Holds db meta_tree t (listed meta_tree) = at_place (λ (u : Table). Holds db u.tree u (listed u.tree)) keep_schema.tables 6 t refl st.tables in
+    let wrote = alter.updated_part ours 6 t (meta_place more) (λ _. refl) count_tests count_shows old.step_limit params params db done.0 done.1 in
+    let holds : Holds db meta_tree t (listed meta_tree) = at_place (λ (u : Table). Holds db u.tree u (listed u.tree)) keep_schema.tables 6 t refl st.lists.tables in
     let before = meta_row (codes "rows") counted in
     let after = meta_row (codes "rows") (counted + by) in
     let rest = other_rows limit in
     let alone = counted_alone counted limit in
     let split : IsPermutation (listed meta_tree) (before ∷ rest) = subst (λ xs. IsPermutation xs (before ∷ rest)) (sym noted) (swapped (meta_row (codes "schema") 3) before (meta_row (codes "limit") limit ∷ [])) in
-    let it = alter.stands keep_schema 6 t meta_place (λ _. refl) count_tests count_shows is_rows db (listed meta_tree) before rest holds split alone.0 alone.1 in
+    let it = alter.stands ours 6 t (meta_place more) (λ _. refl) count_tests count_shows is_rows db (listed meta_tree) before rest holds split alone.0 alone.1 in
     let m = it.id in
     let name : column it.row 1 ≡ Text (codes "rows") = let e = it.columns in cc in
     let value : column it.row 2 ≡ Int (pos counted) = let e = it.columns in cc in
@@ -100,24 +105,24 @@ counts by old new row listed counted limit st noted fits h =
     let source : Row = Int m ∷ Text (codes "rows") ∷ Int (pos (counted + by)) ∷ [] in
     let shown : shows_of count_shows params it.row ≡ Int m ∷ source = λ i. it.numbered i ∷ it.numbered i ∷ name i ∷ sum i ∷ [] in
     let cast : cast_row t source ≡ Int m ∷ after = λ i. cast_whole m i ∷ Text (codes "rows") ∷ cast_int (counted + by) i ∷ [] in
-    let rep = alter.one_changed keep_schema 6 t meta_place (λ _. refl) count_tests count_shows db params done.0 wrote it.row source after m it.one shown cast in
-    let tables = alter.lists_after keep_schema 6 t meta_place (λ _. refl) count_tests count_shows is_rows db listed before after rest done.0 after it holds.numbered st.tables refl rep in
-    let news = subst (λ rs. ShowsEach (counting old.step_limit by) count_returns done.0.trees rs (Ok w.tally.shown)) rep.news end.0 in
-    let seen : told.0 ≡ (Int (pos (counted + by)) ∷ []) ∷ [] = told.1.2 ∙ shown_once old.step_limit by (counted + by) m done.0.trees w.tally.shown news in (
+    let rep = alter.one_changed ours 6 t (meta_place more) (λ _. refl) count_tests count_shows db params done.0 wrote it.row source after m it.one shown cast in
+    let tables = alter.lists_after ours 6 t (meta_place more) (λ _. refl) count_tests count_shows is_rows db listed before after rest done.0 after it holds.numbered st.lists.tables refl rep in
+    let news = subst (λ rs. ShowsEach (counting more old.step_limit by) count_returns done.0.trees rs (Ok w.tally.shown)) rep.news end.0 in
+    let seen : told.0 ≡ (Int (pos (counted + by)) ∷ []) ∷ [] = told.1.2 ∙ shown_once more old.step_limit by (counted + by) m done.0.trees w.tally.shown news in (
       the_first told.0 _ row seen told.2,
-      record {
+      under_same st (record {
         schema_is = ap (λ (d : Database). d.schema) now;
         sound = w.sound;
         tables = subst (λ (d : Database). AllByRecursion (λ (u : Table). Holds d.trees u.tree u (with_rows listed meta_tree (after ∷ rest) u.tree)) keep_schema.tables) (sym now) tables;
-      },
+      }),
     )
 
 -- the number that is read of the row
 pub count_told : (x n : ℕ) (row : Row) (db : Database) (listed : Listed) (limit : ℕ) → column row 0 ≡ Int (pos x) → row ≡ Int (pos n) ∷ []
-    → Lists keep_schema db (with_rows listed meta_tree (meta_row (codes "rows") n ∷ other_rows limit)) → (x ≡ n) × Lists keep_schema db (with_rows listed meta_tree (meta_row (codes "rows") x ∷ other_rows limit))
+    → ListsOurs db (with_rows listed meta_tree (meta_row (codes "rows") n ∷ other_rows limit)) → (x ≡ n) × ListsOurs db (with_rows listed meta_tree (meta_row (codes "rows") x ∷ other_rows limit))
 count_told x n row db listed limit read is st =
     let same : x ≡ n = let e : Int (pos x) ≡ Int (pos n) = sym read ∙ ap (λ r. column r 0) is in cc in
-    (same, subst (λ k. Lists keep_schema db (with_rows listed meta_tree (meta_row (codes "rows") k ∷ other_rows limit))) (sym same) st)
+    (same, subst (λ k. ListsOurs db (with_rows listed meta_tree (meta_row (codes "rows") k ∷ other_rows limit))) (sym same) st)
 
 -- ---- the limit
 
@@ -131,12 +136,12 @@ limit_alone counted limit = refl
 abbrev pub value_cells : Row → Row
 value_cells v = column v 1 ∷ []
 
-pub limit_shown : (old new : State) (rows : List Row) (listed : Listed) (counted limit : ℕ) → listed meta_tree ≡ meta_rows counted limit → Lists keep_schema old.now listed → Shown READ_LIMIT.now [] old new rows
+pub limit_shown : (old new : State) (rows : List Row) (listed : Listed) (counted limit : ℕ) → listed meta_tree ≡ meta_rows counted limit → ListsOurs old.now listed → Shown READ_LIMIT.now [] old new rows
     → rows ≡ (Int (pos limit) ∷ []) ∷ []
 limit_shown old new rows listed counted limit noted st shown =
     let t : Table = record meta { tree = meta_tree } in
-    let holds : Holds old.now.trees meta_tree t (listed meta_tree) = at_place (λ (u : Table). Holds old.now.trees u.tree u (listed u.tree)) keep_schema.tables 6 t refl st.tables in
-    let same = shown_listed keep_schema meta_tree (λ _. refl) t limit_tests limit_shows [] is_limit value_cells (λ r. refl) (λ r. refl) READ_LIMIT.now (codes "value" ∷ []) [] limit_is old new (listed meta_tree) rows st.schema_is holds shown in
+    let holds : Holds old.now.trees meta_tree t (listed meta_tree) = at_place (λ (u : Table). Holds old.now.trees u.tree u (listed u.tree)) keep_schema.tables 6 t refl st.lists.tables in
+    let same = shown_listed (with_indexes st.more) meta_tree (λ _. refl) t limit_tests limit_shows [] is_limit value_cells (λ r. refl) (λ r. refl) READ_LIMIT.now (codes "value" ∷ []) [] (limit_is st.more) old new (listed meta_tree) rows st.lists.schema_is holds shown in
     let one : map value_cells (filter is_limit (listed meta_tree)) ≡ (Int (pos limit) ∷ []) ∷ [] = ap (λ rs. map value_cells (filter is_limit rs)) noted ∙ ap (map value_cells) (limit_alone counted limit) in
     one_permutation _ _ (subst (λ xs. IsPermutation xs rows) one same)
 

@@ -10,36 +10,42 @@ use Rattle.pawn_pledge.specs.Replayable.{Each, IsStanding}
 use Rattle.pawn_book.specs.HostStep.{Host, rows}
 use Rattle.pawn_book.specs.Sound.{AreSound, HasTextsAndWords}
 use Rattle.pawn_book.specs.Written.{AreWords}
-use Rattle.one_table.specs.Listing.{Holds, Lists, Listed, with_rows}
+use Rattle.one_table.specs.Listing.{Holds, Listed, with_rows}
 use Rattle.one_table.proofs.Rowed.{swapped}
 use Rattle.pawn_tables.specs.Entries.{RiseFrom}
 use Rattle.pawn_tables.specs.Meta.{meta_row, other_rows}
-use Rattle.pawn_tables.specs.Schema.{keep_schema, bookings_tree, books_tree, entries_tree, extensions_tree, meta_tree, pledges_tree, secrets_tree, terms_tree, totals_tree}
+use Rattle.pawn_tables.specs.Ours.{ListsOurs}
+use Rattle.pawn_tables.specs.Schema.{bookings_tree, books_tree, entries_tree, extensions_tree, meta_tree, pledges_tree, secrets_tree, terms_tree, totals_tree}
 use Rattle.pawn_tables.specs.StandsFor.{StandsFor, HoldHost, AreBooksOrdered, AreStorable}
 use Rattle.pawn_tables.proofs.NextEntries.{numbered_rise}
+use Rattle.pawn_saving.proofs.OurTables.{with_tables}
 use Rattle.pawn_saving.specs.Counted.{listed_as, ListsHost}
 
 -- the tables that stand for a host list its rows, and count them
 pub as_lists : (db : Database) (h : Host) → StandsFor db h → ListsHost db h (rows h)
 as_lists db h st = record {
-  schema_is = st.schema;
-  sound = st.sound;
-  tables = (st.books, (st.terms, (st.pledges, (st.entries, (st.secrets, (st.bookings, (st.meta, (st.totals, (st.extensions, tt)))))))));
+  more = st.schema.more;
+  loose = st.schema.loose;
+  lists = record {
+    schema_is = st.schema.is;
+    sound = st.sound;
+    tables = (st.books, (st.terms, (st.pledges, (st.entries, (st.secrets, (st.bookings, (st.meta, (st.totals, (st.extensions, tt)))))))));
+  };
 }
 
 pub as_stands : (db : Database) (h : Host) → ListsHost db h (rows h) → AreBooksOrdered h → AreStorable h → StandsFor db h
 as_stands db h l ordered storable = record {
-  schema = l.schema_is;
-  sound = l.sound;
-  books = l.tables.0;
-  terms = l.tables.1.0;
-  pledges = l.tables.1.1.0;
-  entries = l.tables.1.1.1.0;
-  secrets = l.tables.1.1.1.1.0;
-  bookings = l.tables.1.1.1.1.1.0;
-  meta = l.tables.1.1.1.1.1.1.0;
-  totals = l.tables.1.1.1.1.1.1.1.0;
-  extensions = l.tables.1.1.1.1.1.1.1.1.0;
+  schema = record { more = l.more; loose = l.loose; is = l.lists.schema_is };
+  sound = l.lists.sound;
+  books = l.lists.tables.0;
+  terms = l.lists.tables.1.0;
+  pledges = l.lists.tables.1.1.0;
+  entries = l.lists.tables.1.1.1.0;
+  secrets = l.lists.tables.1.1.1.1.0;
+  bookings = l.lists.tables.1.1.1.1.1.0;
+  meta = l.lists.tables.1.1.1.1.1.1.0;
+  totals = l.lists.tables.1.1.1.1.1.1.1.0;
+  extensions = l.lists.tables.1.1.1.1.1.1.1.1.0;
   ordered = ordered;
   storable = storable;
 }
@@ -60,40 +66,37 @@ pub record AreSame (a b : Listed) : Type 0 where
   pub totals : IsPermutation (a totals_tree) (b totals_tree)
   pub extensions : IsPermutation (a extensions_tree) (b extensions_tree)
 
-pub relisted : (db : Database) (a b : Listed) → AreSame a b → Lists keep_schema db b → Lists keep_schema db a
-relisted db a b same l = record {
-  schema_is = l.schema_is;
-  sound = l.sound;
-  tables = (
-    other db.trees books_tree _ (b 0) (a 0) same.books l.tables.0,
-    (
-      other db.trees terms_tree _ (b 1) (a 1) same.terms l.tables.1.0,
+pub relisted : (db : Database) (a b : Listed) → AreSame a b → ListsOurs db b → ListsOurs db a
+relisted db a b same l =
+    with_tables l (
+      other db.trees books_tree _ (b 0) (a 0) same.books l.lists.tables.0,
       (
-        other db.trees pledges_tree _ (b 3) (a 3) same.pledges l.tables.1.1.0,
+        other db.trees terms_tree _ (b 1) (a 1) same.terms l.lists.tables.1.0,
         (
-          other db.trees entries_tree _ (b 6) (a 6) same.entries l.tables.1.1.1.0,
+          other db.trees pledges_tree _ (b 3) (a 3) same.pledges l.lists.tables.1.1.0,
           (
-            other db.trees secrets_tree _ (b 8) (a 8) same.secrets l.tables.1.1.1.1.0,
+            other db.trees entries_tree _ (b 6) (a 6) same.entries l.lists.tables.1.1.1.0,
             (
-              other db.trees bookings_tree _ (b 11) (a 11) same.bookings l.tables.1.1.1.1.1.0,
+              other db.trees secrets_tree _ (b 8) (a 8) same.secrets l.lists.tables.1.1.1.1.0,
               (
-                other db.trees meta_tree _ (b 13) (a 13) same.meta l.tables.1.1.1.1.1.1.0,
+                other db.trees bookings_tree _ (b 11) (a 11) same.bookings l.lists.tables.1.1.1.1.1.0,
                 (
-                  other db.trees totals_tree _ (b 15) (a 15) same.totals l.tables.1.1.1.1.1.1.1.0,
-                  (other db.trees extensions_tree _ (b 17) (a 17) same.extensions l.tables.1.1.1.1.1.1.1.1.0, tt),
+                  other db.trees meta_tree _ (b 13) (a 13) same.meta l.lists.tables.1.1.1.1.1.1.0,
+                  (
+                    other db.trees totals_tree _ (b 15) (a 15) same.totals l.lists.tables.1.1.1.1.1.1.1.0,
+                    (other db.trees extensions_tree _ (b 17) (a 17) same.extensions l.lists.tables.1.1.1.1.1.1.1.1.0, tt),
+                  ),
                 ),
               ),
             ),
           ),
         ),
       ),
-    ),
-  );
-}
+    )
 
 -- trees of tables that stand for a host
 pub held : (db : Database) (h : Host) → StandsFor db h → HoldHost db.trees h
-held db h st = subst (λ s. StandsFor (record { schema = s; trees = db.trees }) h) st.schema st
+held db h st = (db.schema, st)
 
 -- ---- what rows cannot tell, of a host whose books are sound
 
@@ -118,7 +121,7 @@ are_storable h sound b k is = let s = (sound b k is).1 in record {
 }
 
 -- the same rows with another count of them
-pub recounted : (db : Database) (h : Host) (counted more told : ℕ) → told ≡ more → Lists keep_schema db (with_rows (listed_as h counted) 13 (meta_row (codes "rows") told ∷ other_rows h.limit)) → ListsHost db h more
+pub recounted : (db : Database) (h : Host) (counted more told : ℕ) → told ≡ more → ListsOurs db (with_rows (listed_as h counted) 13 (meta_row (codes "rows") told ∷ other_rows h.limit)) → ListsHost db h more
 recounted db h counted more told is l = subst (ListsHost db h) is (relisted db _ _ (record {
   books = IsPermutation-refl _;
   terms = IsPermutation-refl _;

@@ -23,9 +23,10 @@ use Rattle.pawn_book.specs.Sound.{AreSound}
 use Rattle.pawn_book.proofs.RowSums.{part, rows-with_book}
 use Rattle.pawn_book.proofs.Sounds.{get-with_book}
 use Rattle.one_table.specs.Lending.{IsLent}
-use Rattle.one_table.specs.Listing.{Lists, Listed, with_rows}
+use Rattle.one_table.specs.Listing.{Listed, with_rows}
 use Rattle.one_table.proofs.Lent.{clean_before}
-use Rattle.pawn_tables.specs.Schema.{keep_schema, bookings_tree}
+use Rattle.pawn_tables.specs.Ours.{ListsOurs}
+use Rattle.pawn_tables.specs.Schema.{bookings_tree}
 use Rattle.pawn_tables.specs.At.{at_book, at_pledge}
 use Rattle.pawn_tables.specs.Rows.{at_most_one, book_row, booking_cells, booking_listed, entries_listed, extensions_listed, number, number_in_book, placed_from, pledge_listed, secrets_listed, terms_cells, terms_listed, totals_listed, under}
 use Rattle.pawn_tables.specs.StandsFor.{of_books, of_pledges, AreBooksOrdered}
@@ -95,7 +96,7 @@ module _ (b : ℕ) (ps : List PledgeValue) (i : ℕ) (p : PledgeValue) (lt : i <
   more_at : (t : ℕ) → IsPermutation (beside (whole_pledges b (take (i + 1) ps)) listed t) (beside (whole_pledge b (number_in_book p) p) (beside (whole_pledges b (take i ps)) listed) t)
   more_at t = one_more (λ q. whole_pledge b (number_in_book q) q t) ps i p (listed t) lt is
 
-  one_beside : (db : Database) → Lists keep_schema db (beside (whole_pledge b (number_in_book p) p) (beside (whole_pledges b (take i ps)) listed)) → Lists keep_schema db (beside (whole_pledges b (take (i + 1) ps)) listed)
+  one_beside : (db : Database) → ListsOurs db (beside (whole_pledge b (number_in_book p) p) (beside (whole_pledges b (take i ps)) listed)) → ListsOurs db (beside (whole_pledges b (take (i + 1) ps)) listed)
   one_beside db l = relisted db (beside (whole_pledges b (take (i + 1) ps)) listed) (beside (whole_pledge b (number_in_book p) p) (beside (whole_pledges b (take i ps)) listed)) (record {
     books = more_at 0;
     terms = more_at 1;
@@ -111,15 +112,15 @@ module _ (b : ℕ) (ps : List PledgeValue) (i : ℕ) (p : PledgeValue) (lt : i <
 -- the first so many of the pledges were put, with so many rows that are counted
 pub record ArePledgesPut (old new : State) (b : ℕ) (ps : List PledgeValue) (i counted : ℕ) : Type 0 where
   pub carried : IsCarried old new true
-  pub wrote : HasCleanDisk new → IsTrue old.in_transaction → (listed : Listed) → ((n : ℕ) → filter (at_pledge b n) (listed bookings_tree) ≡ []) → AreNumberedFrom 1 ps → Lists keep_schema old.now listed
-      → (counted ≡ sum_by pledge_rows (take i ps)) × Lists keep_schema new.now (beside (whole_pledges b (take i ps)) listed)
+  pub wrote : HasCleanDisk new → IsTrue old.in_transaction → (listed : Listed) → ((n : ℕ) → filter (at_pledge b n) (listed bookings_tree) ≡ []) → AreNumberedFrom 1 ps → ListsOurs old.now listed
+      → (counted ≡ sum_by pledge_rows (take i ps)) × ListsOurs new.now (beside (whole_pledges b (take i ps)) listed)
 
 pub no_pledge_put : (s : State) (b : ℕ) (ps : List PledgeValue) → ArePledgesPut s s b ps 0 0
 no_pledge_put s b ps = record { carried = carried_none s; wrote = λ clean within listed none numbered l. (refl, l) }
 
 pub one_pledge_put : (old mid new : State) (b i counted added sum : ℕ) (ps : List PledgeValue) (p : PledgeValue) → i < length ps → p ≡ get_or ps i p → sum ≡ counted + added → ArePledgesPut old mid b ps i counted → IsLent mid new true
-    → (HasCleanDisk new → IsTrue mid.in_transaction → (listed : Listed) → filter (at_pledge b (number_in_book p)) (listed bookings_tree) ≡ [] → Lists keep_schema mid.now listed
-    → (added ≡ pledge_rows p) × Lists keep_schema new.now (beside (whole_pledge b (number_in_book p) p) listed))
+    → (HasCleanDisk new → IsTrue mid.in_transaction → (listed : Listed) → filter (at_pledge b (number_in_book p)) (listed bookings_tree) ≡ [] → ListsOurs mid.now listed
+    → (added ≡ pledge_rows p) × ListsOurs new.now (beside (whole_pledge b (number_in_book p) p) listed))
     → ArePledgesPut old new b ps (i + 1) sum
 one_pledge_put old mid new b i counted added sum ps p lt is sums put lent wrote = record {
   carried = carried_then old mid new true put.carried lent;
@@ -134,10 +135,10 @@ one_pledge_put old mid new b i counted added sum ps p lt is sums put lent wrote 
 }
 
 pub all_pledges_put : (old new : State) (b : ℕ) (ps : List PledgeValue) (i counted : ℕ) → length ps ≤ i → ArePledgesPut old new b ps i counted
-    → HasCleanDisk new → IsTrue old.in_transaction → (listed : Listed) → ((n : ℕ) → filter (at_pledge b n) (listed bookings_tree) ≡ []) → AreNumberedFrom 1 ps → Lists keep_schema old.now listed
-    → (counted ≡ sum_by pledge_rows ps) × Lists keep_schema new.now (beside (whole_pledges b ps) listed)
+    → HasCleanDisk new → IsTrue old.in_transaction → (listed : Listed) → ((n : ℕ) → filter (at_pledge b n) (listed bookings_tree) ≡ []) → AreNumberedFrom 1 ps → ListsOurs old.now listed
+    → (counted ≡ sum_by pledge_rows ps) × ListsOurs new.now (beside (whole_pledges b ps) listed)
 all_pledges_put old new b ps i counted end put clean within listed none numbered l =
-    subst (λ qs. (counted ≡ sum_by pledge_rows qs) × Lists keep_schema new.now (beside (whole_pledges b qs) listed)) (take_all ps i end) (put.wrote clean within listed none numbered l)
+    subst (λ qs. (counted ≡ sum_by pledge_rows qs) × ListsOurs new.now (beside (whole_pledges b qs) listed)) (take_all ps i end) (put.wrote clean within listed none numbered l)
 
 -- ---- a book without terms and pledges
 
@@ -205,7 +206,7 @@ module _ (h : Host) (b key : ℕ) (k : BookValue) (brought : BookRows) (is : get
       extensions = joined_pledges extensions_listed;
     }
 
-    pub filled_written : (db : Database) (added : ℕ) → counted ≡ rows h → added ≡ length brought.terms + sum_by pledge_rows brought.pledges → Lists keep_schema db (beside (whole_pledges b brought.pledges) with_terms)
+    pub filled_written : (db : Database) (added : ℕ) → counted ≡ rows h → added ≡ length brought.terms + sum_by pledge_rows brought.pledges → ListsOurs db (beside (whole_pledges b brought.pledges) with_terms)
         → IsWrittenPart h (with_change h (ImportBook b key brought)) db added
     filled_written db added same many l = subst (λ g. IsWrittenPart h g db added) (sym is_changed) (record {
       lists = subst (ListsHost db changed) same (relisted db (listed_as changed counted) (beside (whole_pledges b brought.pledges) with_terms) filled_same l);
@@ -216,6 +217,6 @@ module _ (h : Host) (b key : ℕ) (k : BookValue) (brought : BookRows) (is : get
     })
 
     pub filled_counted : {E : Type 0} (db : Database) (versions added : ℕ) (result : Result ℕ E) → counted ≡ rows h → versions ≡ length brought.terms → added ≡ sum_by pledge_rows brought.pledges → IfOk result (λ n. n ≡ versions + added)
-        → Lists keep_schema db (beside (whole_pledges b brought.pledges) with_terms) → IfOk result (IsWrittenPart h (with_change h (ImportBook b key brought)) db)
+        → ListsOurs db (beside (whole_pledges b brought.pledges) with_terms) → IfOk result (IsWrittenPart h (with_change h (ImportBook b key brought)) db)
     filled_counted db versions added (Ok n) same terms pledges sum l = filled_written db n same (omega (arith, sum, terms, pledges)) l
     filled_counted db versions added (Err e) same terms pledges sum l = tt

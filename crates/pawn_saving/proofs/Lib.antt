@@ -7,6 +7,7 @@ pub mod Hosting
 pub mod ImportWrites
 pub mod Judging
 pub mod Lent
+pub mod OurTables
 pub mod Places
 pub mod PledgeChanges
 pub mod PledgeWrites

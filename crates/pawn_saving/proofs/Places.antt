@@ -3,37 +3,39 @@ use Rattle.std.proofs.Common.{◌≡◌, inl, inr, ℕ, ◌==◌, List, [], ◌�
 use Rattle.sqlite.specs.Order.{Row}
 use Rattle.sqlite_schema.specs.declared.schema.Keys.TheVariants.{Enforced}
 use Rattle.sqlite_rules.specs.Action.{works}
-use Rattle.pawn_tables.specs.Schema.{books, terms, pledges, entries, secrets, bookings, meta, totals, extensions, keep_schema, bookings_tree, books_tree, entries_tree, extensions_tree, meta_tree, pledges_tree, secrets_tree, terms_tree, totals_tree}
+use Rattle.pawn_tables.specs.Schema.{books, terms, pledges, entries, secrets, bookings, meta, totals, extensions, bookings_tree, books_tree, entries_tree, extensions_tree, meta_tree, pledges_tree, secrets_tree, terms_tree, totals_tree}
 use Rattle.one_table.proofs.Insertion.{IsPlace}
+use Rattle.sqlite_schema.specs.declared.schema.Index.{Index}
+use Rattle.pawn_tables.specs.Ours.{with_indexes}
 
 -- no foreign key of the schema acts on its own
-idle : (tree : ℕ) (olds news : List Row) → works keep_schema Enforced 0 tree olds news ≡ []
-idle tree olds [] = refl
-idle tree olds (row ∷ news) = let e : (length (row ∷ news) == 0) ≡ false = grind arith in rw e refl
+idle : (more : List Index) (tree : ℕ) (olds news : List Row) → works (with_indexes more) Enforced 0 tree olds news ≡ []
+idle more tree olds [] = refl
+idle more tree olds (row ∷ news) = let e : (length (row ∷ news) == 0) ≡ false = grind arith in rw e refl
 
-pub books_place : IsPlace keep_schema 0 (record books { tree = books_tree })
-books_place = record { listed = refl; alone = (inl refl, (inr (λ e. absurd (omega (arith, e))), (inr (λ e. absurd (omega (arith, e))), (inr (λ e. absurd (omega (arith, e))), (inr (λ e. absurd (omega (arith, e))), (inr (λ e. absurd (omega (arith, e))), (inr (λ e. absurd (omega (arith, e))), (inr (λ e. absurd (omega (arith, e))), (inr (λ e. absurd (omega (arith, e))), tt))))))))); idle = idle 0 }
+pub books_place : (more : List Index) → IsPlace (with_indexes more) 0 (record books { tree = books_tree })
+books_place more = record { listed = refl; alone = (inl refl, (inr (λ e. absurd (omega (arith, e))), (inr (λ e. absurd (omega (arith, e))), (inr (λ e. absurd (omega (arith, e))), (inr (λ e. absurd (omega (arith, e))), (inr (λ e. absurd (omega (arith, e))), (inr (λ e. absurd (omega (arith, e))), (inr (λ e. absurd (omega (arith, e))), (inr (λ e. absurd (omega (arith, e))), tt))))))))); idle = idle more 0 }
 
-pub terms_place : IsPlace keep_schema 1 (record terms { tree = terms_tree })
-terms_place = record { listed = refl; alone = (inr (λ e. absurd (omega (arith, e))), (inl refl, (inr (λ e. absurd (omega (arith, e))), (inr (λ e. absurd (omega (arith, e))), (inr (λ e. absurd (omega (arith, e))), (inr (λ e. absurd (omega (arith, e))), (inr (λ e. absurd (omega (arith, e))), (inr (λ e. absurd (omega (arith, e))), (inr (λ e. absurd (omega (arith, e))), tt))))))))); idle = idle 1 }
+pub terms_place : (more : List Index) → IsPlace (with_indexes more) 1 (record terms { tree = terms_tree })
+terms_place more = record { listed = refl; alone = (inr (λ e. absurd (omega (arith, e))), (inl refl, (inr (λ e. absurd (omega (arith, e))), (inr (λ e. absurd (omega (arith, e))), (inr (λ e. absurd (omega (arith, e))), (inr (λ e. absurd (omega (arith, e))), (inr (λ e. absurd (omega (arith, e))), (inr (λ e. absurd (omega (arith, e))), (inr (λ e. absurd (omega (arith, e))), tt))))))))); idle = idle more 1 }
 
-pub pledges_place : IsPlace keep_schema 2 (record pledges { tree = pledges_tree })
-pledges_place = record { listed = refl; alone = (inr (λ e. absurd (omega (arith, e))), (inr (λ e. absurd (omega (arith, e))), (inl refl, (inr (λ e. absurd (omega (arith, e))), (inr (λ e. absurd (omega (arith, e))), (inr (λ e. absurd (omega (arith, e))), (inr (λ e. absurd (omega (arith, e))), (inr (λ e. absurd (omega (arith, e))), (inr (λ e. absurd (omega (arith, e))), tt))))))))); idle = idle 3 }
+pub pledges_place : (more : List Index) → IsPlace (with_indexes more) 2 (record pledges { tree = pledges_tree })
+pledges_place more = record { listed = refl; alone = (inr (λ e. absurd (omega (arith, e))), (inr (λ e. absurd (omega (arith, e))), (inl refl, (inr (λ e. absurd (omega (arith, e))), (inr (λ e. absurd (omega (arith, e))), (inr (λ e. absurd (omega (arith, e))), (inr (λ e. absurd (omega (arith, e))), (inr (λ e. absurd (omega (arith, e))), (inr (λ e. absurd (omega (arith, e))), tt))))))))); idle = idle more 3 }
 
-pub entries_place : IsPlace keep_schema 3 (record entries { tree = entries_tree })
-entries_place = record { listed = refl; alone = (inr (λ e. absurd (omega (arith, e))), (inr (λ e. absurd (omega (arith, e))), (inr (λ e. absurd (omega (arith, e))), (inl refl, (inr (λ e. absurd (omega (arith, e))), (inr (λ e. absurd (omega (arith, e))), (inr (λ e. absurd (omega (arith, e))), (inr (λ e. absurd (omega (arith, e))), (inr (λ e. absurd (omega (arith, e))), tt))))))))); idle = idle 6 }
+pub entries_place : (more : List Index) → IsPlace (with_indexes more) 3 (record entries { tree = entries_tree })
+entries_place more = record { listed = refl; alone = (inr (λ e. absurd (omega (arith, e))), (inr (λ e. absurd (omega (arith, e))), (inr (λ e. absurd (omega (arith, e))), (inl refl, (inr (λ e. absurd (omega (arith, e))), (inr (λ e. absurd (omega (arith, e))), (inr (λ e. absurd (omega (arith, e))), (inr (λ e. absurd (omega (arith, e))), (inr (λ e. absurd (omega (arith, e))), tt))))))))); idle = idle more 6 }
 
-pub secrets_place : IsPlace keep_schema 4 (record secrets { tree = secrets_tree })
-secrets_place = record { listed = refl; alone = (inr (λ e. absurd (omega (arith, e))), (inr (λ e. absurd (omega (arith, e))), (inr (λ e. absurd (omega (arith, e))), (inr (λ e. absurd (omega (arith, e))), (inl refl, (inr (λ e. absurd (omega (arith, e))), (inr (λ e. absurd (omega (arith, e))), (inr (λ e. absurd (omega (arith, e))), (inr (λ e. absurd (omega (arith, e))), tt))))))))); idle = idle 8 }
+pub secrets_place : (more : List Index) → IsPlace (with_indexes more) 4 (record secrets { tree = secrets_tree })
+secrets_place more = record { listed = refl; alone = (inr (λ e. absurd (omega (arith, e))), (inr (λ e. absurd (omega (arith, e))), (inr (λ e. absurd (omega (arith, e))), (inr (λ e. absurd (omega (arith, e))), (inl refl, (inr (λ e. absurd (omega (arith, e))), (inr (λ e. absurd (omega (arith, e))), (inr (λ e. absurd (omega (arith, e))), (inr (λ e. absurd (omega (arith, e))), tt))))))))); idle = idle more 8 }
 
-pub bookings_place : IsPlace keep_schema 5 (record bookings { tree = bookings_tree })
-bookings_place = record { listed = refl; alone = (inr (λ e. absurd (omega (arith, e))), (inr (λ e. absurd (omega (arith, e))), (inr (λ e. absurd (omega (arith, e))), (inr (λ e. absurd (omega (arith, e))), (inr (λ e. absurd (omega (arith, e))), (inl refl, (inr (λ e. absurd (omega (arith, e))), (inr (λ e. absurd (omega (arith, e))), (inr (λ e. absurd (omega (arith, e))), tt))))))))); idle = idle 11 }
+pub bookings_place : (more : List Index) → IsPlace (with_indexes more) 5 (record bookings { tree = bookings_tree })
+bookings_place more = record { listed = refl; alone = (inr (λ e. absurd (omega (arith, e))), (inr (λ e. absurd (omega (arith, e))), (inr (λ e. absurd (omega (arith, e))), (inr (λ e. absurd (omega (arith, e))), (inr (λ e. absurd (omega (arith, e))), (inl refl, (inr (λ e. absurd (omega (arith, e))), (inr (λ e. absurd (omega (arith, e))), (inr (λ e. absurd (omega (arith, e))), tt))))))))); idle = idle more 11 }
 
-pub meta_place : IsPlace keep_schema 6 (record meta { tree = meta_tree })
-meta_place = record { listed = refl; alone = (inr (λ e. absurd (omega (arith, e))), (inr (λ e. absurd (omega (arith, e))), (inr (λ e. absurd (omega (arith, e))), (inr (λ e. absurd (omega (arith, e))), (inr (λ e. absurd (omega (arith, e))), (inr (λ e. absurd (omega (arith, e))), (inl refl, (inr (λ e. absurd (omega (arith, e))), (inr (λ e. absurd (omega (arith, e))), tt))))))))); idle = idle 13 }
+pub meta_place : (more : List Index) → IsPlace (with_indexes more) 6 (record meta { tree = meta_tree })
+meta_place more = record { listed = refl; alone = (inr (λ e. absurd (omega (arith, e))), (inr (λ e. absurd (omega (arith, e))), (inr (λ e. absurd (omega (arith, e))), (inr (λ e. absurd (omega (arith, e))), (inr (λ e. absurd (omega (arith, e))), (inr (λ e. absurd (omega (arith, e))), (inl refl, (inr (λ e. absurd (omega (arith, e))), (inr (λ e. absurd (omega (arith, e))), tt))))))))); idle = idle more 13 }
 
-pub totals_place : IsPlace keep_schema 7 (record totals { tree = totals_tree })
-totals_place = record { listed = refl; alone = (inr (λ e. absurd (omega (arith, e))), (inr (λ e. absurd (omega (arith, e))), (inr (λ e. absurd (omega (arith, e))), (inr (λ e. absurd (omega (arith, e))), (inr (λ e. absurd (omega (arith, e))), (inr (λ e. absurd (omega (arith, e))), (inr (λ e. absurd (omega (arith, e))), (inl refl, (inr (λ e. absurd (omega (arith, e))), tt))))))))); idle = idle 15 }
+pub totals_place : (more : List Index) → IsPlace (with_indexes more) 7 (record totals { tree = totals_tree })
+totals_place more = record { listed = refl; alone = (inr (λ e. absurd (omega (arith, e))), (inr (λ e. absurd (omega (arith, e))), (inr (λ e. absurd (omega (arith, e))), (inr (λ e. absurd (omega (arith, e))), (inr (λ e. absurd (omega (arith, e))), (inr (λ e. absurd (omega (arith, e))), (inr (λ e. absurd (omega (arith, e))), (inl refl, (inr (λ e. absurd (omega (arith, e))), tt))))))))); idle = idle more 15 }
 
-pub extensions_place : IsPlace keep_schema 8 (record extensions { tree = extensions_tree })
-extensions_place = record { listed = refl; alone = (inr (λ e. absurd (omega (arith, e))), (inr (λ e. absurd (omega (arith, e))), (inr (λ e. absurd (omega (arith, e))), (inr (λ e. absurd (omega (arith, e))), (inr (λ e. absurd (omega (arith, e))), (inr (λ e. absurd (omega (arith, e))), (inr (λ e. absurd (omega (arith, e))), (inr (λ e. absurd (omega (arith, e))), (inl refl, tt))))))))); idle = idle 17 }
+pub extensions_place : (more : List Index) → IsPlace (with_indexes more) 8 (record extensions { tree = extensions_tree })
+extensions_place more = record { listed = refl; alone = (inr (λ e. absurd (omega (arith, e))), (inr (λ e. absurd (omega (arith, e))), (inr (λ e. absurd (omega (arith, e))), (inr (λ e. absurd (omega (arith, e))), (inr (λ e. absurd (omega (arith, e))), (inr (λ e. absurd (omega (arith, e))), (inr (λ e. absurd (omega (arith, e))), (inr (λ e. absurd (omega (arith, e))), (inl refl, tt))))))))); idle = idle more 17 }

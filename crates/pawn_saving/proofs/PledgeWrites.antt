@@ -19,8 +19,9 @@ use Rattle.pawn_book.specs.HostStep.{Host, pledge_rows, rows}
 use Rattle.pawn_book.specs.Sound.{AreSound}
 use Rattle.pawn_book.proofs.Places.{pledge_within}
 use Rattle.pawn_book.proofs.RowSums.{part}
-use Rattle.one_table.specs.Listing.{Lists, Listed, with_rows}
-use Rattle.pawn_tables.specs.Schema.{keep_schema, bookings_tree, pledges_tree}
+use Rattle.one_table.specs.Listing.{Listed, with_rows}
+use Rattle.pawn_tables.specs.Ours.{ListsOurs}
+use Rattle.pawn_tables.specs.Schema.{bookings_tree, pledges_tree}
 use Rattle.pawn_tables.specs.At.{at_pledge}
 use Rattle.pawn_tables.specs.Rows.{book_row, booking_listed, entries_listed, entry_cells, extension_cells, extensions_listed, placed_from, pledge_listed, secret_cells, secrets_listed, totals_listed, under}
 use Rattle.pawn_tables.specs.StandsFor.{of_pledges, AreBooksOrdered}
@@ -53,12 +54,12 @@ module _ (h : Host) (b n : ℕ) (k : BookValue) (p : PledgeValue) (is : get h.bo
     }
 
     pub next_written : (db : Database) → counted ≡ rows h → AreSound (with_change h (PutPledge b n p)) → n ≤ 1 + length k.pledges → 1 ≤ n
-        → Lists keep_schema db (with_rows (beside (whole_pledge b n p) (listed_as h counted)) 0 (book_row b (next h b n k p is) ∷ other_books h b n k p is)) → IsWrittenPart h (with_change h (PutPledge b n p)) db (pledge_rows p)
+        → ListsOurs db (with_rows (beside (whole_pledge b n p) (listed_as h counted)) 0 (book_row b (next h b n k p is) ∷ other_books h b n k p is)) → IsWrittenPart h (with_change h (PutPledge b n p)) db (pledge_rows p)
     next_written db same sound high low l =
         let g = changed h b n k p is in
         let sounds : AreSound g = subst AreSound (is_changed h b n k p is) sound in
         let named = put_named h b n k p is sounds high low in
-        let lists = subst (λ m. Lists keep_schema db (with_rows (beside (whole_pledge b m p) (listed_as h counted)) 0 (book_row b (next h b n k p is) ∷ other_books h b n k p is))) (sym named) l in
+        let lists = subst (λ m. ListsOurs db (with_rows (beside (whole_pledge b m p) (listed_as h counted)) 0 (book_row b (next h b n k p is) ∷ other_books h b n k p is))) (sym named) l in
         subst (λ x. IsWrittenPart h x db (pledge_rows p)) (sym (is_changed h b n k p is)) (record {
           lists = subst (ListsHost db g) same (relisted db _ _ (joined_same named) lists);
           grown = let sums = rows_put h b n k p is in let before : part pledge_rows (stood h b n k p is) ≡ 0 = ap (part pledge_rows) none in omega (arith, sums, before);
@@ -155,11 +156,11 @@ module _ (h : Host) (b n : ℕ) (k : BookValue) (old p : PledgeValue) (is : get 
       }
 
       pub renewed_written : (db : Database) (added : ℕ) → counted ≡ rows h → pledge_rows p ≡ pledge_rows old + added
-          → Lists keep_schema db (beside (lists_past l b n p) (with_sides b n p others (listed_as h counted))) → IsWrittenPart h (with_change h (PutPledge b n p)) db added
+          → ListsOurs db (beside (lists_past l b n p) (with_sides b n p others (listed_as h counted))) → IsWrittenPart h (with_change h (PutPledge b n p)) db added
       renewed_written db added same more lists =
           let g = changed h b n k p is in
           let named : p.agreement.number ≡ n = as_before ∙ old_named in
-          let own = subst (λ m. Lists keep_schema db (beside (lists_past l b m p) (with_sides b m p others (listed_as h counted)))) (sym named) lists in
+          let own = subst (λ m. ListsOurs db (beside (lists_past l b m p) (with_sides b m p others (listed_as h counted)))) (sym named) lists in
           subst (λ x. IsWrittenPart h x db added) (sym (is_changed h b n k p is)) (record {
             lists = subst (ListsHost db g) same (relisted db _ _ renewed_same own);
             grown = let sums = rows_put h b n k p is in let before : part pledge_rows (stood h b n k p is) ≡ pledge_rows old = ap (part pledge_rows) some in omega (arith, sums, before, more);

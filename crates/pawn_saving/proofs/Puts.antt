@@ -7,6 +7,7 @@ use Rattle.sqlite.specs.declared.types.Value.{Value}
 use Rattle.sqlite.specs.declared.types.Value.TheVariants.{Null, Int, Blob}
 use Rattle.sqlite.specs.Order.{Row, column}
 use Rattle.sqlite.specs.State.{State, Executes}
+use Rattle.sqlite.specs.Table.{Table}
 use Rattle.sqlite_value.specs.Keys.{first_key}
 use Rattle.sqlite_rules.specs.Keys.{conflicts}
 use Rattle.pawn_terms.specs.declared.terms.Rates.{Rates}
@@ -15,16 +16,18 @@ use Rattle.pawn_debt.specs.declared.owing.Totals.{Totals}
 use Rattle.pawn_pledge.specs.declared.record.Booking.{Booking}
 use Rattle.pawn_pledge.specs.declared.record.Extension.{Extension}
 use Rattle.pawn_pledge.specs.declared.record.Issued.{Issued}
-use Rattle.one_table.specs.Listing.{Lists, Listed, with_rows, columns_of}
+use Rattle.one_table.specs.Listing.{Listed, with_rows, columns_of}
 use Rattle.one_table.proofs.Rowed.{plainly, cast_null, cast_int, cast_whole}
-use Rattle.one_table.proofs.Insertion.{inserted}
 use Rattle.one_table.proofs.Upsertion.{upserted, Splits}
-use Rattle.pawn_tables.specs.Schema.{terms, entries, secrets, bookings, totals, extensions, keep_schema, bookings_tree, entries_tree, extensions_tree, secrets_tree, terms_tree, totals_tree}
+use Rattle.sqlite_schema.specs.declared.schema.Index.{Index}
+use Rattle.pawn_tables.specs.Ours.{AreLoose, ListsOurs, with_indexes}
+use Rattle.pawn_tables.specs.Schema.{terms, entries, secrets, bookings, totals, extensions, bookings_tree, entries_tree, extensions_tree, secrets_tree, terms_tree, totals_tree}
 use Rattle.pawn_tables.specs.Rows.{number, word, under, at_most_one, sort_number, issue_number, state_number, terms_cells, entry_cells, secret_cells, extension_cells, booking_cells, totals_cells}
 use Rattle.pawn_tables.specs.At.{at_pledge, is_at}
 use Rattle.pawn_tables.proofs.Sought.{equals}
 use Rattle.pawn_saving.specs.Writing.{IsOnly}
-use Rattle.pawn_saving.proofs.Differing.{set_where, differ, AreEqual, all_equal, same_number}
+use Rattle.pawn_saving.proofs.Differing.{differ, AreEqual, all_equal, same_number}
+use Rattle.pawn_saving.proofs.OurTables.{meets_same, row_joins, row_set_where, under_same}
 use Rattle.pawn_saving.proofs.WriteTexts as text
 use Rattle.pawn_saving.proofs.Places.{terms_place, entries_place, secrets_place, bookings_place, totals_place, extensions_place}
 
@@ -58,69 +61,69 @@ others_in d p c v = differ (column v 2, number d) (beside p c v)
 
 -- ---- rows that join
 
-module _ (old new : State) (listed : Listed) (st : Lists keep_schema old.now listed) (count : ℕ) where
+module _ (old new : State) (listed : Listed) (st : ListsOurs old.now listed) (count : ℕ) where
   entry_put : (b n s d t p : ℕ) → Executes text.PUT_ENTRY.now (number b ∷ number n ∷ number s ∷ number d ∷ number t ∷ number p ∷ []) old new (Ok count)
-      → Lists keep_schema new.now (with_rows listed entries_tree ((number b ∷ number n ∷ number s ∷ number d ∷ number t ∷ number p ∷ []) ∷ listed entries_tree))
+      → ListsOurs new.now (with_rows listed entries_tree ((number b ∷ number n ∷ number s ∷ number d ∷ number t ∷ number p ∷ []) ∷ listed entries_tree))
   entry_put b n s d t p h =
       let vals : Row = number b ∷ number n ∷ number s ∷ number d ∷ number t ∷ number p ∷ [] in
-      inserted keep_schema 3 (record entries { tree = entries_tree }) text.six_values 7 text.PUT_ENTRY.now entries_place text.entry_is.0 text.entry_is.1 old new vals (Null ∷ vals) (Null ∷ vals) vals count listed st refl
+      row_joins 3 (record entries { tree = entries_tree }) text.six_values 7 text.PUT_ENTRY.now entries_place text.entry_is old new vals (Null ∷ vals) (Null ∷ vals) vals count listed st refl
       (λ i. cast_null i ∷ cast_int b i ∷ cast_int n i ∷ cast_int s i ∷ cast_int d i ∷ cast_int t i ∷ cast_int p i ∷ []) (λ rows. refl) h
 
   pub entry_wrote : (b n s d t p : ℕ) (e : Entry) → s ≡ e.seq → d ≡ e.day → t ≡ sort_number e.sort → p ≡ e.pence
       → Executes text.PUT_ENTRY.now (number b ∷ number n ∷ number s ∷ number d ∷ number t ∷ number p ∷ []) old new (Ok count)
-      → Lists keep_schema new.now (with_rows listed entries_tree (under b n (entry_cells e) ∷ listed entries_tree))
+      → ListsOurs new.now (with_rows listed entries_tree (under b n (entry_cells e) ∷ listed entries_tree))
   entry_wrote b n s d t p e seq day sort pence h =
-      subst (λ cells. Lists keep_schema new.now (with_rows listed entries_tree (under b n cells ∷ listed entries_tree))) (λ i. number (seq i) ∷ number (day i) ∷ number (sort i) ∷ number (pence i) ∷ []) (entry_put b n s d t p h)
+      subst (λ cells. ListsOurs new.now (with_rows listed entries_tree (under b n cells ∷ listed entries_tree))) (λ i. number (seq i) ∷ number (day i) ∷ number (sort i) ∷ number (pence i) ∷ []) (entry_put b n s d t p h)
 
   secret_put : (b n s d t : ℕ) (w : List ℕ) → Executes text.PUT_SECRET.now (number b ∷ number n ∷ number s ∷ number d ∷ number t ∷ Blob w ∷ []) old new (Ok count)
-      → Lists keep_schema new.now (with_rows listed secrets_tree ((number b ∷ number n ∷ number s ∷ number d ∷ number t ∷ Blob w ∷ []) ∷ listed secrets_tree))
+      → ListsOurs new.now (with_rows listed secrets_tree ((number b ∷ number n ∷ number s ∷ number d ∷ number t ∷ Blob w ∷ []) ∷ listed secrets_tree))
   secret_put b n s d t w h =
       let vals : Row = number b ∷ number n ∷ number s ∷ number d ∷ number t ∷ Blob w ∷ [] in
-      inserted keep_schema 4 (record secrets { tree = secrets_tree }) text.six_values 7 text.PUT_SECRET.now secrets_place text.secret_is.0 text.secret_is.1 old new vals (Null ∷ vals) (Null ∷ vals) vals count listed st refl
+      row_joins 4 (record secrets { tree = secrets_tree }) text.six_values 7 text.PUT_SECRET.now secrets_place text.secret_is old new vals (Null ∷ vals) (Null ∷ vals) vals count listed st refl
       (λ i. cast_null i ∷ cast_int b i ∷ cast_int n i ∷ cast_int s i ∷ cast_int d i ∷ cast_int t i ∷ Blob w ∷ []) (λ rows. refl) h
 
   pub secret_wrote : (b n s d t : ℕ) (w : List ℕ) (e : Issued) → d ≡ e.day → t ≡ issue_number e.sort → Blob w ≡ word e.secret
       → Executes text.PUT_SECRET.now (number b ∷ number n ∷ number s ∷ number d ∷ number t ∷ Blob w ∷ []) old new (Ok count)
-      → Lists keep_schema new.now (with_rows listed secrets_tree (under b n (secret_cells s e) ∷ listed secrets_tree))
+      → ListsOurs new.now (with_rows listed secrets_tree (under b n (secret_cells s e) ∷ listed secrets_tree))
   secret_wrote b n s d t w e day sort secret h =
-      subst (λ cells. Lists keep_schema new.now (with_rows listed secrets_tree (under b n cells ∷ listed secrets_tree))) (λ i. number s ∷ number (day i) ∷ number (sort i) ∷ secret i ∷ []) (secret_put b n s d t w h)
+      subst (λ cells. ListsOurs new.now (with_rows listed secrets_tree (under b n cells ∷ listed secrets_tree))) (λ i. number s ∷ number (day i) ∷ number (sort i) ∷ secret i ∷ []) (secret_put b n s d t w h)
 
   five_put : (b n s d t : ℕ) → Executes text.PUT_EXTENSION.now (number b ∷ number n ∷ number s ∷ number d ∷ number t ∷ []) old new (Ok count)
-      → Lists keep_schema new.now (with_rows listed extensions_tree ((number b ∷ number n ∷ number s ∷ number d ∷ number t ∷ []) ∷ listed extensions_tree))
+      → ListsOurs new.now (with_rows listed extensions_tree ((number b ∷ number n ∷ number s ∷ number d ∷ number t ∷ []) ∷ listed extensions_tree))
   five_put b n s d t h =
       let vals : Row = number b ∷ number n ∷ number s ∷ number d ∷ number t ∷ [] in
-      inserted keep_schema 8 (record extensions { tree = extensions_tree }) text.five_values 6 text.PUT_EXTENSION.now extensions_place text.extension_is.0 text.extension_is.1 old new vals (Null ∷ vals) (Null ∷ vals) vals count listed st refl
+      row_joins 8 (record extensions { tree = extensions_tree }) text.five_values 6 text.PUT_EXTENSION.now extensions_place text.extension_is old new vals (Null ∷ vals) (Null ∷ vals) vals count listed st refl
       (λ i. cast_null i ∷ cast_int b i ∷ cast_int n i ∷ cast_int s i ∷ cast_int d i ∷ cast_int t i ∷ []) (λ rows. refl) h
 
   pub extension_wrote : (b n s d u : ℕ) (e : Extension) → d ≡ e.day → u ≡ e.until → Executes text.PUT_EXTENSION.now (number b ∷ number n ∷ number s ∷ number d ∷ number u ∷ []) old new (Ok count)
-      → Lists keep_schema new.now (with_rows listed extensions_tree (under b n (extension_cells s e) ∷ listed extensions_tree))
+      → ListsOurs new.now (with_rows listed extensions_tree (under b n (extension_cells s e) ∷ listed extensions_tree))
   extension_wrote b n s d u e day until h =
-      subst (λ cells. Lists keep_schema new.now (with_rows listed extensions_tree (under b n cells ∷ listed extensions_tree))) (λ i. number s ∷ number (day i) ∷ number (until i) ∷ []) (five_put b n s d u h)
+      subst (λ cells. ListsOurs new.now (with_rows listed extensions_tree (under b n cells ∷ listed extensions_tree))) (λ i. number s ∷ number (day i) ∷ number (until i) ∷ []) (five_put b n s d u h)
 
   pub terms_wrote : (b v r k l : ℕ) (t : Rates) → r ≡ t.rate → k ≡ t.keep_before → l ≡ t.keep_after → Executes text.PUT_TERMS.now (number b ∷ number v ∷ number r ∷ number k ∷ number l ∷ []) old new (Ok count)
-      → Lists keep_schema new.now (with_rows listed terms_tree ((number b ∷ number v ∷ terms_cells t) ∷ listed terms_tree))
+      → ListsOurs new.now (with_rows listed terms_tree ((number b ∷ number v ∷ terms_cells t) ∷ listed terms_tree))
   terms_wrote b v r k l t rate before after h =
       let vals : Row = number b ∷ number v ∷ number r ∷ number k ∷ number l ∷ [] in
-      subst (λ cells. Lists keep_schema new.now (with_rows listed terms_tree ((number b ∷ number v ∷ cells) ∷ listed terms_tree))) (λ i. number (rate i) ∷ number (before i) ∷ number (after i) ∷ [])
-      (inserted keep_schema 1 (record terms { tree = terms_tree }) text.five_values 6 text.PUT_TERMS.now terms_place text.terms_is.0 text.terms_is.1 old new vals (Null ∷ vals) (Null ∷ vals) vals count listed st refl
+      subst (λ cells. ListsOurs new.now (with_rows listed terms_tree ((number b ∷ number v ∷ cells) ∷ listed terms_tree))) (λ i. number (rate i) ∷ number (before i) ∷ number (after i) ∷ [])
+      (row_joins 1 (record terms { tree = terms_tree }) text.five_values 6 text.PUT_TERMS.now terms_place text.terms_is old new vals (Null ∷ vals) (Null ∷ vals) vals count listed st refl
       (λ i. cast_null i ∷ cast_int b i ∷ cast_int v i ∷ cast_int r i ∷ cast_int k i ∷ cast_int l i ∷ []) (λ rows. refl) h)
 
   pub new_totals_wrote : (b n d p : ℕ) (c : ℤ) (t : Totals) → d ≡ t.day → p ≡ t.principal → c ≡ pos t.millionths → Executes text.PUT_TOTALS.now (number b ∷ number n ∷ number d ∷ number p ∷ Int c ∷ []) old new (Ok count)
-      → Lists keep_schema new.now (with_rows listed totals_tree (under b n (totals_cells t) ∷ listed totals_tree))
+      → ListsOurs new.now (with_rows listed totals_tree (under b n (totals_cells t) ∷ listed totals_tree))
   new_totals_wrote b n d p c t day principal charges h =
       let vals : Row = number b ∷ number n ∷ number d ∷ number p ∷ Int c ∷ [] in
-      subst (λ cells. Lists keep_schema new.now (with_rows listed totals_tree (under b n cells ∷ listed totals_tree))) (λ i. number (day i) ∷ number (principal i) ∷ Int (charges i) ∷ [])
-      (inserted keep_schema 7 (record totals { tree = totals_tree }) text.five_values 6 text.PUT_TOTALS.now totals_place text.new_totals_is.0 text.new_totals_is.1 old new vals (Null ∷ vals) (Null ∷ vals) vals count listed st refl
+      subst (λ cells. ListsOurs new.now (with_rows listed totals_tree (under b n cells ∷ listed totals_tree))) (λ i. number (day i) ∷ number (principal i) ∷ Int (charges i) ∷ [])
+      (row_joins 7 (record totals { tree = totals_tree }) text.five_values 6 text.PUT_TOTALS.now totals_place text.new_totals_is old new vals (Null ∷ vals) (Null ∷ vals) vals count listed st refl
       (λ i. cast_null i ∷ cast_int b i ∷ cast_int n i ∷ cast_int d i ∷ cast_int p i ∷ cast_whole c i ∷ []) (λ rows. refl) h)
 
   -- ---- rows that take the place of others
 
   pub totals_wrote : (b n d p : ℕ) (c : ℤ) (t before : Totals) (rest : List Row) → d ≡ t.day → p ≡ t.principal → c ≡ pos t.millionths → IsOnly (at_pledge b n) (listed totals_tree) (under b n (totals_cells before)) rest
-      → Executes text.SET_TOTALS.now (number b ∷ number n ∷ number d ∷ number p ∷ Int c ∷ []) old new (Ok count) → Lists keep_schema new.now (with_rows listed totals_tree (under b n (totals_cells t) ∷ rest))
+      → Executes text.SET_TOTALS.now (number b ∷ number n ∷ number d ∷ number p ∷ Int c ∷ []) old new (Ok count) → ListsOurs new.now (with_rows listed totals_tree (under b n (totals_cells t) ∷ rest))
   totals_wrote b n d p c t before rest day principal charges only h =
       let after : Row = number b ∷ number n ∷ number d ∷ number p ∷ Int c ∷ [] in
-      subst (λ cells. Lists keep_schema new.now (with_rows listed totals_tree (under b n cells ∷ rest))) (λ i. number (day i) ∷ number (principal i) ∷ Int (charges i) ∷ [])
-      (set_where keep_schema 7 (record totals { tree = totals_tree }) totals_place (λ _. refl) text.totals_tests text.totals_shows text.SET_TOTALS.now text.totals_is.0 text.totals_is.1
+      subst (λ cells. ListsOurs new.now (with_rows listed totals_tree (under b n cells ∷ rest))) (λ i. number (day i) ∷ number (principal i) ∷ Int (charges i) ∷ [])
+      (row_set_where 7 (record totals { tree = totals_tree }) totals_place (λ _. refl) text.totals_tests text.totals_shows text.SET_TOTALS.now text.totals_is
       old new after count listed st (at_pledge b n) (others_in d p c) (λ r. let v = columns_of (plainly (record totals { tree = totals_tree })) r in own_where b n v (others_in d p c v)) (under b n (totals_cells before)) after rest
       only.split (own_row b n (totals_cells before)) only.none
       (λ none.
@@ -146,38 +149,41 @@ or_no true = refl
 or_no false = refl
 
 -- the rows that a booking meets are those of its pledge
-meets : (b n d w s : ℕ) (id : ℤ) (r : Row) → conflicts (Some (1 ∷ 2 ∷ [])) keep_schema.indexes (plainly (record bookings { tree = bookings_tree })) (Int id ∷ number b ∷ number n ∷ number d ∷ number w ∷ number s ∷ []) r
+meets : (more : List Index) → AreLoose more → (b n d w s : ℕ) (id : ℤ) (r : Row) → conflicts (Some (1 ∷ 2 ∷ [])) (with_indexes more).indexes (plainly (record bookings { tree = bookings_tree })) (Int id ∷ number b ∷ number n ∷ number d ∷ number w ∷ number s ∷ []) r
     ≡ at_pledge b n (columns_of (plainly (record bookings { tree = bookings_tree })) r)
 unfolding first_key
-meets b n d w s id r = or_no (at_pledge b n (columns_of (plainly (record bookings { tree = bookings_tree })) r))
+meets more loose b n d w s id r =
+    let t : Table = plainly (record bookings { tree = bookings_tree }) in
+    meets_same more loose (Some (1 ∷ 2 ∷ [])) t (Int id ∷ number b ∷ number n ∷ number d ∷ number w ∷ number s ∷ []) r ∙ or_no (at_pledge b n (columns_of t r))
 
-booking_put : (b n d w s : ℕ) (before : Option Booking) (old new : State) (count : ℕ) (listed : Listed) (rest : List Row) → Lists keep_schema old.now listed
+booking_put : (b n d w s : ℕ) (before : Option Booking) (old new : State) (count : ℕ) (listed : Listed) (rest : List Row) → ListsOurs old.now listed
     → IsPermutation (listed bookings_tree) (at_most_one (λ r. r) (option_map (λ k. under b n (booking_cells k)) before) ++ rest) → filter (at_pledge b n) rest ≡ []
     → Executes text.PUT_BOOKING.now (number b ∷ number n ∷ number d ∷ number w ∷ number s ∷ []) old new (Ok count)
-    → Lists keep_schema new.now (with_rows listed bookings_tree ((number b ∷ number n ∷ number d ∷ number w ∷ number s ∷ []) ∷ rest))
+    → ListsOurs new.now (with_rows listed bookings_tree ((number b ∷ number n ∷ number d ∷ number w ∷ number s ∷ []) ∷ rest))
 booking_put b n d w s before old new count listed rest st splits none h =
     let vals : Row = number b ∷ number n ∷ number d ∷ number w ∷ number s ∷ [] in
-    upserted keep_schema 5 (record bookings { tree = bookings_tree }) bookings_place (λ _. refl) text.five_values 6 (1 ∷ 2 ∷ []) text.booking_tests text.booking_shows (at_pledge b n)
-    text.PUT_BOOKING.now text.booking_is.0 text.booking_is.1 old new vals vals vals count listed rest st
+    let more = st.more in
+    under_same st (upserted (with_indexes more) 5 (record bookings { tree = bookings_tree }) (bookings_place more) (λ _. refl) text.five_values 6 (1 ∷ 2 ∷ []) text.booking_tests text.booking_shows (at_pledge b n)
+    text.PUT_BOOKING.now (text.booking_is more).0 (text.booking_is more).1 old new vals vals vals count listed rest st.lists
     (record {
       source = refl;
       unnumbered = λ i. cast_null i ∷ cast_int b i ∷ cast_int n i ∷ cast_int d i ∷ cast_int w i ∷ cast_int s i ∷ [];
       stored = λ id. (λ i. cast_whole id i ∷ cast_int b i ∷ cast_int n i ∷ cast_int d i ∷ cast_int w i ∷ cast_int s i ∷ []);
       columns = λ id. refl;
-      meets = meets b n d w s;
+      meets = meets more st.loose b n d w s;
       passes_is = λ id k r. one _;
     })
-    none (split before splits) h
+    none (split more before splits) h)
   where
     one : (x : Bool) → (x && true) ≡ x
     one true = refl
     one false = refl
 
-    split : (before : Option Booking) → IsPermutation (listed bookings_tree) (at_most_one (λ r. r) (option_map (λ k. under b n (booking_cells k)) before) ++ rest)
-        → Splits keep_schema 5 (record bookings { tree = bookings_tree }) bookings_place (λ _. refl) text.five_values 6 (1 ∷ 2 ∷ []) text.booking_tests text.booking_shows (at_pledge b n)
+    split : (more : List Index) (before : Option Booking) → IsPermutation (listed bookings_tree) (at_most_one (λ r. r) (option_map (λ k. under b n (booking_cells k)) before) ++ rest)
+        → Splits (with_indexes more) 5 (record bookings { tree = bookings_tree }) (bookings_place more) (λ _. refl) text.five_values 6 (1 ∷ 2 ∷ []) text.booking_tests text.booking_shows (at_pledge b n)
         (number b ∷ number n ∷ number d ∷ number w ∷ number s ∷ []) (number b ∷ number n ∷ number d ∷ number w ∷ number s ∷ []) (number b ∷ number n ∷ number d ∷ number w ∷ number s ∷ []) (listed bookings_tree) rest
-    split None same = inl same
-    split (Some k) same = inr (
+    split more None same = inl same
+    split more (Some k) same = inr (
       under b n (booking_cells k),
       same,
       own_row b n (booking_cells k),
@@ -192,9 +198,9 @@ booking_put b n d w s before old new count listed rest st splits none h =
           ),
     )
 
-pub booking_wrote : (b n d w s : ℕ) (k : Booking) (before : Option Booking) (old new : State) (listed : Listed) (rest : List Row) → d ≡ k.day → w ≡ k.window → s ≡ state_number k.state → Lists keep_schema old.now listed
+pub booking_wrote : (b n d w s : ℕ) (k : Booking) (before : Option Booking) (old new : State) (listed : Listed) (rest : List Row) → d ≡ k.day → w ≡ k.window → s ≡ state_number k.state → ListsOurs old.now listed
     → IsPermutation (listed bookings_tree) (at_most_one (λ r. r) (option_map (λ k. under b n (booking_cells k)) before) ++ rest) → filter (at_pledge b n) rest ≡ [] → (count : ℕ)
     → Executes text.PUT_BOOKING.now (number b ∷ number n ∷ number d ∷ number w ∷ number s ∷ []) old new (Ok count)
-    → Lists keep_schema new.now (with_rows listed bookings_tree (under b n (booking_cells k) ∷ rest))
+    → ListsOurs new.now (with_rows listed bookings_tree (under b n (booking_cells k) ∷ rest))
 booking_wrote b n d w s k before old new listed rest day window state st splits none count h =
-    subst (λ cells. Lists keep_schema new.now (with_rows listed bookings_tree (under b n cells ∷ rest))) (λ i. number (day i) ∷ number (window i) ∷ number (state i) ∷ []) (booking_put b n d w s before old new count listed rest st splits none h)
+    subst (λ cells. ListsOurs new.now (with_rows listed bookings_tree (under b n cells ∷ rest))) (λ i. number (day i) ∷ number (window i) ∷ number (state i) ∷ []) (booking_put b n d w s before old new count listed rest st splits none h)

@@ -9,17 +9,18 @@ use Rattle.sqlite.specs.State.{State, Executes}
 use Rattle.pawn_debt.specs.Due.{credit_of}
 use Rattle.pawn_pledge.specs.declared.record.Agreement.{Agreement}
 use Rattle.pawn_pledge.specs.Pledge.{PledgeValue, end_of}
-use Rattle.one_table.specs.Listing.{Lists, Listed, with_rows, columns_of}
+use Rattle.one_table.specs.Listing.{Listed, with_rows, columns_of}
 use Rattle.one_table.proofs.Rowed.{plainly, cast_null, cast_int, cast_whole}
-use Rattle.one_table.proofs.Insertion.{inserted}
-use Rattle.pawn_tables.specs.Schema.{pledges, keep_schema, pledges_tree}
+use Rattle.pawn_tables.specs.Ours.{ListsOurs}
+use Rattle.pawn_tables.specs.Schema.{pledges, pledges_tree}
 use Rattle.pawn_tables.specs.Rows.{number, or_null, flag, flag_number, under, kind_number, pledge_cells, closed_number, closed_day, closed_amount}
 use Rattle.pawn_tables.specs.At.{at_pledge}
 use Rattle.pawn_saving.specs.Writing.{IsOnly}
+use Rattle.pawn_saving.proofs.OurTables.{row_joins, row_set_where}
 use Rattle.pawn_saving.proofs.WriteTexts as text
 use Rattle.pawn_saving.proofs.Places.{pledges_place}
 use Rattle.pawn_saving.proofs.Puts.{own_row, own_where}
-use Rattle.pawn_saving.proofs.Differing.{set_where, differ, all_equal, same_number, same_optional}
+use Rattle.pawn_saving.proofs.Differing.{differ, all_equal, same_number, same_optional}
 
 cast_optional : (o : Option ℕ) → cast Integer (or_null number o) ≡ or_null number o
 cast_optional None = cast_null
@@ -32,13 +33,13 @@ beside h l x y z v = (column v 11, number h) ∷ (column v 12, number l) ∷ (co
 abbrev others_in : (e h l x : ℕ) (y z : Option ℕ) → Row → Bool
 others_in e h l x y z v = differ (column v 10, number e) (beside h l x y z v)
 
-module _ (old new : State) (listed : Listed) (st : Lists keep_schema old.now listed) (count : ℕ) where
+module _ (old new : State) (listed : Listed) (st : ListsOurs old.now listed) (count : ℕ) where
   row_put : (b n : ℕ) (r a : List ℕ) (k c t : ℕ) (go : Option ℕ) (f v e h l x : ℕ) (yo zo : Option ℕ)
       → Executes text.PUT_PLEDGE.now (number b ∷ number n ∷ Text r ∷ Text a ∷ number k ∷ number c ∷ number t ∷ or_null number go ∷ number f ∷ number v ∷ number e ∷ number h ∷ number l ∷ number x ∷ or_null number yo ∷ or_null number zo ∷ []) old new (Ok count)
-      → Lists keep_schema new.now (with_rows listed pledges_tree ((number b ∷ number n ∷ Text r ∷ Text a ∷ number k ∷ number c ∷ number t ∷ or_null number go ∷ number f ∷ number v ∷ number e ∷ number h ∷ number l ∷ number x ∷ or_null number yo ∷ or_null number zo ∷ []) ∷ listed pledges_tree))
+      → ListsOurs new.now (with_rows listed pledges_tree ((number b ∷ number n ∷ Text r ∷ Text a ∷ number k ∷ number c ∷ number t ∷ or_null number go ∷ number f ∷ number v ∷ number e ∷ number h ∷ number l ∷ number x ∷ or_null number yo ∷ or_null number zo ∷ []) ∷ listed pledges_tree))
   row_put b n r a k c t go f v e h l x yo zo ran =
       let vals : Row = number b ∷ number n ∷ Text r ∷ Text a ∷ number k ∷ number c ∷ number t ∷ or_null number go ∷ number f ∷ number v ∷ number e ∷ number h ∷ number l ∷ number x ∷ or_null number yo ∷ or_null number zo ∷ [] in
-      inserted keep_schema 2 (record pledges { tree = pledges_tree }) text.sixteen_values 17 text.PUT_PLEDGE.now pledges_place text.pledge_is.0 text.pledge_is.1 old new vals (Null ∷ vals) (Null ∷ vals) vals count listed st refl
+      row_joins 2 (record pledges { tree = pledges_tree }) text.sixteen_values 17 text.PUT_PLEDGE.now pledges_place text.pledge_is old new vals (Null ∷ vals) (Null ∷ vals) vals count listed st refl
       (λ i. cast_null i ∷ cast_int b i ∷ cast_int n i ∷ Text r ∷ Text a ∷ cast_int k i ∷ cast_int c i ∷ cast_int t i ∷ cast_optional go i ∷ cast_int f i ∷ cast_int v i ∷ cast_int e i ∷ cast_int h i ∷ cast_int l i ∷ cast_int x i ∷ cast_optional yo i ∷ cast_optional zo i ∷ [])
       (λ rows. refl) ran
 
@@ -46,24 +47,24 @@ module _ (old new : State) (listed : Listed) (st : Lists keep_schema old.now lis
       → c ≡ credit_of p.agreement.opening.kind → t ≡ p.agreement.taken → g ≡ or_null number p.agreement.opening.agreed → f ≡ flag_number p.agreement.opening.five_days → v ≡ p.agreement.version → e ≡ end_of p → h ≡ flag_number p.standing.held
       → l ≡ p.standing.last → x ≡ closed_number p.standing.closing → y ≡ or_null number (closed_day p.standing.closing) → z ≡ or_null number (closed_amount p.standing.closing)
       → Executes text.PUT_PLEDGE.now (number b ∷ number n ∷ Text r ∷ Text a ∷ number k ∷ number c ∷ number t ∷ g ∷ number f ∷ number v ∷ number e ∷ number h ∷ number l ∷ number x ∷ y ∷ z ∷ []) old new (Ok count)
-      → Lists keep_schema new.now (with_rows listed pledges_tree (under b n (pledge_cells p) ∷ listed pledges_tree))
+      → ListsOurs new.now (with_rows listed pledges_tree (under b n (pledge_cells p) ∷ listed pledges_tree))
   row_wrote b n r a k c t g f v e h l x y z p rs as' ks cs ts gs fs vs es hs ls xs ys zs ran =
-      subst (λ cells. Lists keep_schema new.now (with_rows listed pledges_tree (under b n cells ∷ listed pledges_tree)))
+      subst (λ cells. ListsOurs new.now (with_rows listed pledges_tree (under b n cells ∷ listed pledges_tree)))
       (λ i. Text (rs i) ∷ Text (as' i) ∷ number (ks i) ∷ number (cs i) ∷ number (ts i) ∷ or_null number p.agreement.opening.agreed ∷ number (fs i) ∷ number (vs i) ∷ number (es i) ∷ number (hs i) ∷ number (ls i) ∷ number (xs i) ∷ or_null number (closed_day p.standing.closing) ∷ or_null number (closed_amount p.standing.closing) ∷ [])
       (row_put b n r a k c t p.agreement.opening.agreed f v e h l x (closed_day p.standing.closing) (closed_amount p.standing.closing) (rw (gs, ys, zs) at ran))
 
   pub row_set : (b n e h l x : ℕ) (y z : Value) (before p : PledgeValue) (rest : List Row) → before.agreement ≡ p.agreement → e ≡ end_of p → h ≡ flag_number p.standing.held → l ≡ p.standing.last
       → x ≡ closed_number p.standing.closing → y ≡ or_null number (closed_day p.standing.closing) → z ≡ or_null number (closed_amount p.standing.closing) → IsOnly (at_pledge b n) (listed pledges_tree) (under b n (pledge_cells before)) rest
-      → Executes text.SET_PLEDGE.now (number b ∷ number n ∷ number e ∷ number h ∷ number l ∷ number x ∷ y ∷ z ∷ []) old new (Ok count) → Lists keep_schema new.now (with_rows listed pledges_tree (under b n (pledge_cells p) ∷ rest))
+      → Executes text.SET_PLEDGE.now (number b ∷ number n ∷ number e ∷ number h ∷ number l ∷ number x ∷ y ∷ z ∷ []) old new (Ok count) → ListsOurs new.now (with_rows listed pledges_tree (under b n (pledge_cells p) ∷ rest))
   row_set b n e h l x y z before p rest agreed es hs ls xs ys zs only ran =
       let o = p.agreement.opening in
       let q = before.agreement.opening in
       let after : Row = number b ∷ number n ∷ Text o.reference ∷ Text o.article ∷ number (kind_number o.kind) ∷ number (credit_of o.kind) ∷ number p.agreement.taken ∷ or_null number o.agreed
       ∷ flag o.five_days ∷ number p.agreement.version ∷ number e ∷ number h ∷ number l ∷ number x ∷ or_null number (closed_day p.standing.closing) ∷ or_null number (closed_amount p.standing.closing) ∷ [] in
-      subst (λ row. Lists keep_schema new.now (with_rows listed pledges_tree (row ∷ rest)))
+      subst (λ row. ListsOurs new.now (with_rows listed pledges_tree (row ∷ rest)))
       (λ i. number b ∷ number n ∷ Text o.reference ∷ Text o.article ∷ number (kind_number o.kind) ∷ number (credit_of o.kind) ∷ number p.agreement.taken ∷ or_null number o.agreed
       ∷ flag o.five_days ∷ number p.agreement.version ∷ number (es i) ∷ number (hs i) ∷ number (ls i) ∷ number (xs i) ∷ or_null number (closed_day p.standing.closing) ∷ or_null number (closed_amount p.standing.closing) ∷ [])
-      (set_where keep_schema 2 (record pledges { tree = pledges_tree }) pledges_place (λ _. refl) text.change_tests text.change_shows text.SET_PLEDGE.now text.change_is.0 text.change_is.1
+      (row_set_where 2 (record pledges { tree = pledges_tree }) pledges_place (λ _. refl) text.change_tests text.change_shows text.SET_PLEDGE.now text.change_is
       old new (number b ∷ number n ∷ number e ∷ number h ∷ number l ∷ number x ∷ or_null number (closed_day p.standing.closing) ∷ or_null number (closed_amount p.standing.closing) ∷ []) count listed st
       (at_pledge b n) (others_in e h l x (closed_day p.standing.closing) (closed_amount p.standing.closing)) (λ row. let v = columns_of (plainly (record pledges { tree = pledges_tree })) row in own_where b n v (others_in e h l x (closed_day p.standing.closing) (closed_amount p.standing.closing) v)) (under b n (pledge_cells before)) after rest only.split (own_row b n (pledge_cells before)) only.none
       (λ none.

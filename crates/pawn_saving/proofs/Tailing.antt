@@ -8,10 +8,11 @@ use Rattle.sqlite.specs.Effect.{Database}
 use Rattle.sqlite.specs.State.{State, HasCleanDisk}
 use Rattle.sqlite.proofs.StateLemmas.{survives_then}
 use Rattle.one_table.specs.Lending.{IsLent}
-use Rattle.one_table.specs.Listing.{Lists, Listed, with_rows}
+use Rattle.one_table.specs.Listing.{Listed, with_rows}
 use Rattle.one_table.proofs.Lent.{clean_before}
 use Rattle.one_table.proofs.Parts.{kept_then}
-use Rattle.pawn_tables.specs.Schema.{keep_schema, bookings_tree, books_tree, entries_tree, extensions_tree, meta_tree, pledges_tree, secrets_tree, terms_tree, totals_tree}
+use Rattle.pawn_tables.specs.Ours.{ListsOurs}
+use Rattle.pawn_tables.specs.Schema.{bookings_tree, books_tree, entries_tree, extensions_tree, meta_tree, pledges_tree, secrets_tree, terms_tree, totals_tree}
 use Rattle.pawn_tables.specs.Rows.{placed_from}
 use Rattle.pawn_saving.specs.Writing.{IsCarried}
 use Rattle.pawn_saving.proofs.Hosting.{relisted}
@@ -65,7 +66,7 @@ lent_anyway a b f ok = record { kept = f.kept; opened = λ clean within is_ok. f
 -- the rows that were put so far have joined the others of their table
 pub record ArePut (tree : ℕ) (old new : State) (rows : List Row) : Type 0 where
   pub carried : IsCarried old new true
-  pub lists : HasCleanDisk new → IsTrue old.in_transaction → (listed : Listed) → Lists keep_schema old.now listed → Lists keep_schema new.now (with_rows listed tree (rows ++ listed tree))
+  pub lists : HasCleanDisk new → IsTrue old.in_transaction → (listed : Listed) → ListsOurs old.now listed → ListsOurs new.now (with_rows listed tree (rows ++ listed tree))
 
 same_tree : (t : ℕ) → (t == t) ≡ true
 same_tree t = grind (arith, nat_tests)
@@ -75,7 +76,7 @@ again : (b : Bool) (xs ys rest : List Row) → IsPermutation xs ys → IsPermuta
 again true xs ys rest same = same
 again false xs ys rest same = IsPermutation-refl rest
 
-pub reordered : (db : Database) (listed : Listed) (tree : ℕ) (xs ys : List Row) → IsPermutation xs ys → Lists keep_schema db (with_rows listed tree ys) → Lists keep_schema db (with_rows listed tree xs)
+pub reordered : (db : Database) (listed : Listed) (tree : ℕ) (xs ys : List Row) → IsPermutation xs ys → ListsOurs db (with_rows listed tree ys) → ListsOurs db (with_rows listed tree xs)
 reordered db listed tree xs ys same l = relisted db _ _ (record {
   books = again (books_tree == tree) xs ys (listed books_tree) same;
   terms = again (terms_tree == tree) xs ys (listed terms_tree) same;
@@ -93,7 +94,7 @@ over : (b : Bool) (xs ys rest : List Row) → IsPermutation (if b then xs else r
 over true xs ys rest = IsPermutation-refl xs
 over false xs ys rest = IsPermutation-refl rest
 
-pub put_over : (db : Database) (listed : Listed) (tree : ℕ) (xs ys : List Row) → Lists keep_schema db (with_rows (with_rows listed tree ys) tree xs) → Lists keep_schema db (with_rows listed tree xs)
+pub put_over : (db : Database) (listed : Listed) (tree : ℕ) (xs ys : List Row) → ListsOurs db (with_rows (with_rows listed tree ys) tree xs) → ListsOurs db (with_rows listed tree xs)
 put_over db listed tree xs ys l = relisted db _ _ (record {
   books = over (books_tree == tree) xs ys (listed books_tree);
   terms = over (terms_tree == tree) xs ys (listed terms_tree);
@@ -111,7 +112,7 @@ as_is : (b : Bool) (t tree : ℕ) (listed : Listed) → (t == tree) ≡ b → Is
 as_is true t tree listed is = let same : t ≡ tree = grind (arith, nat_tests, is) in subst (λ n. IsPermutation (listed n) (listed t)) same (IsPermutation-refl _)
 as_is false t tree listed is = IsPermutation-refl _
 
-pub nothing_put : (db : Database) (listed : Listed) (tree : ℕ) → Lists keep_schema db listed → Lists keep_schema db (with_rows listed tree (listed tree))
+pub nothing_put : (db : Database) (listed : Listed) (tree : ℕ) → ListsOurs db listed → ListsOurs db (with_rows listed tree (listed tree))
 nothing_put db listed tree l = relisted db _ _ (record {
   books = as_is (books_tree == tree) books_tree tree listed refl;
   terms = as_is (terms_tree == tree) terms_tree tree listed refl;
@@ -135,14 +136,14 @@ here_put : (tree : ℕ) (listed : Listed) (rows : List Row) → with_rows listed
 here_put tree listed rows = ap (λ b. if b then rows else listed tree) (same_tree tree)
 
 pub one_put : (tree : ℕ) (old mid new : State) (rows next : List Row) (row : Row) → next ≡ rows ++ row ∷ [] → ArePut tree old mid rows → IsLent mid new true
-    → (HasCleanDisk new → IsTrue mid.in_transaction → (listed : Listed) → Lists keep_schema mid.now listed → Lists keep_schema new.now (with_rows listed tree (row ∷ listed tree))) → ArePut tree old new next
+    → (HasCleanDisk new → IsTrue mid.in_transaction → (listed : Listed) → ListsOurs mid.now listed → ListsOurs new.now (with_rows listed tree (row ∷ listed tree))) → ArePut tree old new next
 one_put tree old mid new rows next row is put lent wrote = subst (ArePut tree old new) (sym is) (record {
   carried = carried_then old mid new true put.carried lent;
   lists = λ clean within listed l.
       let was = clean_before mid new true lent clean in
       let so_far = with_rows listed tree (rows ++ listed tree) in
       let one = wrote clean (put.carried.inside was within refl) so_far (put.lists was within listed l) in
-      let shown = subst (λ rs. Lists keep_schema new.now (with_rows so_far tree (row ∷ rs))) (here_put tree listed (rows ++ listed tree)) one in
+      let shown = subst (λ rs. ListsOurs new.now (with_rows so_far tree (row ∷ rs))) (here_put tree listed (rows ++ listed tree)) one in
       reordered new.now listed tree _ _ (at_end rows (listed tree) row) (put_over new.now listed tree _ _ shown);
 })
 

@@ -10,8 +10,9 @@ use Rattle.pawn_book.specs.declared.fault.SaveError.{SaveError}
 use Rattle.pawn_book.specs.declared.fault.SaveError.TheVariants as Save
 use Rattle.pawn_book.specs.HostStep.{Host, rows}
 use Rattle.pawn_book.specs.Sound.{IsSound}
-use Rattle.one_table.specs.Listing.{Lists, Listed}
-use Rattle.pawn_tables.specs.Schema.{keep_schema, bookings_tree, books_tree, entries_tree, extensions_tree, meta_tree, pledges_tree, secrets_tree, terms_tree, totals_tree}
+use Rattle.one_table.specs.Listing.{Listed}
+use Rattle.pawn_tables.specs.Ours.{ListsOurs}
+use Rattle.pawn_tables.specs.Schema.{bookings_tree, books_tree, entries_tree, extensions_tree, meta_tree, pledges_tree, secrets_tree, terms_tree, totals_tree}
 use Rattle.pawn_tables.specs.Meta.{meta_rows}
 use Rattle.pawn_tables.specs.Rows.{book_row, terms_listed, pledge_listed, entries_listed, secrets_listed, booking_listed, totals_listed, extensions_listed}
 use Rattle.pawn_tables.specs.StandsFor.{StandsFor, of_books, of_pledges}
@@ -32,7 +33,7 @@ listed_as h counted t =
 
 -- the tables list the host, and note this count of its rows
 abbrev pub ListsHost : Database → Host → ℕ → Type 0
-ListsHost db h counted = Lists keep_schema db (listed_as h counted)
+ListsHost db h counted = ListsOurs db (listed_as h counted)
 
 -- the tables list host g, which has so many rows more than h, and still note the count of the rows of h
 pub record IsWrittenPart (h g : Host) (db : Database) (added : ℕ) : Type 0 where

@@ -4,8 +4,9 @@ use Rattle.sqlite.specs.State.{State, HasCleanDisk}
 use Rattle.pawn_pledge.specs.Pledge.{PledgeValue}
 use Rattle.pawn_book.specs.HostStep.{pledge_rows}
 use Rattle.pawn_book.specs.Rows.{AreNumberedFrom}
-use Rattle.one_table.specs.Listing.{Lists, Listed}
-use Rattle.pawn_tables.specs.Schema.{keep_schema, bookings_tree}
+use Rattle.one_table.specs.Listing.{Listed}
+use Rattle.pawn_tables.specs.Ours.{ListsOurs}
+use Rattle.pawn_tables.specs.Schema.{bookings_tree}
 use Rattle.pawn_tables.specs.At.{at_pledge}
 use Rattle.pawn_tables.specs.Rows.{number_in_book}
 use Rattle.pawn_saving.specs.Putting.{beside, whole_pledge}
@@ -17,5 +18,5 @@ whole_pledges b pledges t = flat_map (λ p. whole_pledge b (number_in_book p) p 
 -- all rows of pledges numbered 1, 2, .. join those of their tables, where no booking of the book stands, and it is told how many of them are counted
 abbrev pub AddsPledges : {E : Type 0} → State → State → Result ℕ E → ℕ → List PledgeValue → Type 0
 AddsPledges old new result b pledges =
-    HasCleanDisk new → IsTrue old.in_transaction → (listed : Listed) → ((n : ℕ) → filter (at_pledge b n) (listed bookings_tree) ≡ []) → AreNumberedFrom 1 pledges → Lists keep_schema old.now listed
-    → IfOk result (λ added. (added ≡ sum_by pledge_rows pledges) × Lists keep_schema new.now (beside (whole_pledges b pledges) listed))
+    HasCleanDisk new → IsTrue old.in_transaction → (listed : Listed) → ((n : ℕ) → filter (at_pledge b n) (listed bookings_tree) ≡ []) → AreNumberedFrom 1 pledges → ListsOurs old.now listed
+    → IfOk result (λ added. (added ≡ sum_by pledge_rows pledges) × ListsOurs new.now (beside (whole_pledges b pledges) listed))

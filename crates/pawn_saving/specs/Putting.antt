@@ -5,8 +5,9 @@ use Rattle.sqlite.specs.State.{State, HasCleanDisk}
 use Rattle.pawn_debt.specs.Kept.{totals_of}
 use Rattle.pawn_pledge.specs.Pledge.{PledgeValue, debt_of}
 use Rattle.pawn_book.specs.HostStep.{pledge_rows}
-use Rattle.one_table.specs.Listing.{Lists, Listed, with_rows}
-use Rattle.pawn_tables.specs.Schema.{keep_schema, bookings_tree, entries_tree, extensions_tree, pledges_tree, secrets_tree, totals_tree}
+use Rattle.one_table.specs.Listing.{Listed, with_rows}
+use Rattle.pawn_tables.specs.Ours.{ListsOurs}
+use Rattle.pawn_tables.specs.Schema.{bookings_tree, entries_tree, extensions_tree, pledges_tree, secrets_tree, totals_tree}
 use Rattle.pawn_tables.specs.At.{at_pledge}
 use Rattle.pawn_tables.specs.Rows.{at_most_one, booking_cells, entry_cells, extension_cells, placed_from, pledge_cells, secret_cells, totals_cells, under}
 use Rattle.pawn_saving.specs.declared.lengths.Lengths.{Lengths}
@@ -84,28 +85,28 @@ beside more listed t = more t ++ listed t
 -- the rows join those of their tables
 abbrev pub AddRows : {T E : Type 0} → State → State → Result T E → Listed → Type 0
 AddRows old new result more =
-    HasCleanDisk new → IsTrue old.in_transaction → (listed : Listed) → Lists keep_schema old.now listed → OnOk result (Lists keep_schema new.now (beside more listed))
+    HasCleanDisk new → IsTrue old.in_transaction → (listed : Listed) → ListsOurs old.now listed → OnOk result (ListsOurs new.now (beside more listed))
 
 -- the rows join those of their tables, where no booking of the pledge stands
 abbrev pub AddSides : {T E : Type 0} → State → State → Result T E → ℕ → ℕ → PledgeValue → Type 0
 AddSides old new result b n p =
-    HasCleanDisk new → IsTrue old.in_transaction → (listed : Listed) → filter (at_pledge b n) (listed bookings_tree) ≡ [] → Lists keep_schema old.now listed
-    → OnOk result (Lists keep_schema new.now (beside (sides_of b n p) listed))
+    HasCleanDisk new → IsTrue old.in_transaction → (listed : Listed) → filter (at_pledge b n) (listed bookings_tree) ≡ [] → ListsOurs old.now listed
+    → OnOk result (ListsOurs new.now (beside (sides_of b n p) listed))
 
 -- the rows of which a pledge has one at most take the place of those of the pledge as it was
 abbrev pub RenewSides : {T E : Type 0} → State → State → Result T E → ℕ → ℕ → PledgeValue → PledgeValue → Type 0
 RenewSides old new result b n before p =
-    HasCleanDisk new → IsTrue old.in_transaction → (listed others : Listed) → AreSidesPut b n before listed others → Lists keep_schema old.now listed
-    → OnOk result (Lists keep_schema new.now (with_sides b n p others listed))
+    HasCleanDisk new → IsTrue old.in_transaction → (listed others : Listed) → AreSidesPut b n before listed others → ListsOurs old.now listed
+    → OnOk result (ListsOurs new.now (with_sides b n p others listed))
 
 -- all rows of the pledge join those of their tables, where no booking of it stands, and it is told how many of them are counted
 abbrev pub AddsPledge : {E : Type 0} → State → State → Result ℕ E → ℕ → ℕ → PledgeValue → Type 0
 AddsPledge old new result b n p =
-    HasCleanDisk new → IsTrue old.in_transaction → (listed : Listed) → filter (at_pledge b n) (listed bookings_tree) ≡ [] → Lists keep_schema old.now listed
-    → IfOk result (λ added. (added ≡ pledge_rows p) × Lists keep_schema new.now (beside (whole_pledge b n p) listed))
+    HasCleanDisk new → IsTrue old.in_transaction → (listed : Listed) → filter (at_pledge b n) (listed bookings_tree) ≡ [] → ListsOurs old.now listed
+    → IfOk result (λ added. (added ≡ pledge_rows p) × ListsOurs new.now (beside (whole_pledge b n p) listed))
 
 -- the rows of a table are put in place of those that pass the test
 abbrev pub PutsFor : {T E : Type 0} → State → State → Result T E → ℕ → (Row → Bool) → List Row → List Row → Type 0
 PutsFor old new result tree test before after =
-    HasCleanDisk new → IsTrue old.in_transaction → (listed : Listed) (others : List Row) → IsPermutation (listed tree) (before ++ others) → filter test others ≡ [] → Lists keep_schema old.now listed
-    → OnOk result (Lists keep_schema new.now (with_rows listed tree (after ++ others)))
+    HasCleanDisk new → IsTrue old.in_transaction → (listed : Listed) (others : List Row) → IsPermutation (listed tree) (before ++ others) → filter test others ≡ [] → ListsOurs old.now listed
+    → OnOk result (ListsOurs new.now (with_rows listed tree (after ++ others)))

@@ -2,8 +2,9 @@ ghost use Rattle.std.specs.Prelude.{◌≡◌, ◌∷◌, ◌+◌, ◌<◌, ◌^
 ghost use Rattle.sqlite.specs.Held.{state};
 ghost use Rattle.sqlite.specs.State.{HasCleanDisk};
 ghost use Rattle.one_table.specs.Lending.{IsLent, Rests};
-ghost use Rattle.one_table.specs.Listing.{Listed, Lists, with_rows};
-ghost use Rattle.pawn_tables.specs.Schema.{keep_schema, meta_tree};
+ghost use Rattle.one_table.specs.Listing.{Listed, with_rows};
+ghost use Rattle.pawn_tables.specs.Ours.{ListsOurs};
+ghost use Rattle.pawn_tables.specs.Schema.{meta_tree};
 ghost use Rattle.pawn_saving.specs.Counted.{Counts};
 ghost use Rattle.pawn_tables.specs.Meta.{meta_row, meta_rows, other_rows};
 
@@ -19,7 +20,7 @@ fn limit_in<S: Alter>(tx: &mut Transaction<'_, S>) -> Result<u32, KeepError>
     ensures found { HasCleanDisk (state S.Store tx.new.conn.now) → IsTrue
         (state S.Store tx.old.conn.now).in_transaction
         → (listed : Listed) (counted limit : ℕ) → listed meta_tree ≡ meta_rows counted limit
-        → Lists keep_schema (state S.Store tx.old.conn.now).now listed
+        → ListsOurs (state S.Store tx.old.conn.now).now listed
         → IfOk result
         (λ n. (n ≡ limit) × Rests (state S.Store tx.old.conn.now) (state S.Store tx.new.conn.now)) }
     ensures in_range { IfOk result (λ n. n < 2 ^ 32) }
@@ -45,8 +46,8 @@ fn count_up<S: Alter>(tx: &mut Transaction<'_, S>, by: u32) -> Result<u64, KeepE
     ensures wrote { HasCleanDisk (state S.Store tx.new.conn.now) → IsTrue
         (state S.Store tx.old.conn.now).in_transaction
         → (listed : Listed) (counted limit : ℕ) → listed meta_tree ≡ meta_rows counted limit
-        → counted + by < 2 ^ 63 → Lists keep_schema (state S.Store tx.old.conn.now).now listed
-        → IfOk result (λ now. (now ≡ counted + by) × Lists keep_schema
+        → counted + by < 2 ^ 63 → ListsOurs (state S.Store tx.old.conn.now).now listed
+        → IfOk result (λ now. (now ≡ counted + by) × ListsOurs
         (state S.Store tx.new.conn.now).now
         (with_rows listed meta_tree (meta_row (codes "rows") now ∷ other_rows limit))) }
     ensures lent { IsLent (state S.Store tx.old.conn.now) (state S.Store tx.new.conn.now)

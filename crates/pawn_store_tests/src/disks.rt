@@ -71,6 +71,27 @@ pub fn store_on(alloc: Global, disks: Disks) -> Result<Connection<FileStore<Fuse
     }
 }
 
+/// A store that these statements made of a new one, closed and opened again: whether it is opened, and the disks that are left. None if
+/// the disks stop before that.
+pub fn bare_store_opened(alloc: Global, disks: Disks, statements: &str) -> Option<(bool, Disks)> {
+    let mut conn = store_on(alloc, disks).ok()?;
+    let made = conn.execute_batch(statements).is_ok();
+    let mut left = conn.into_store().close();
+    if !made || !go_on(&mut left) {
+        return None;
+    }
+    if !left.log.may_be_used() {
+        return None;
+    }
+    if !left.db.may_be_used() {
+        return None;
+    }
+    match open_files(alloc, left, SMALL, 100) {
+        Ok(conn) => Some((true, conn.into_store().close())),
+        Err((_, left)) => Some((false, left.into_files())),
+    }
+}
+
 /// A connection to the database on the disks, whatever it holds.
 pub fn connected(alloc: Global, disks: Disks) -> Option<Connection<FileStore<Fuse<Memory>>>> {
     if !disks.log.may_be_used() {

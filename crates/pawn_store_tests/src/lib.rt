@@ -8,6 +8,8 @@ mod disks;
 #[cfg(test)]
 mod host_tests;
 #[cfg(test)]
+mod index_tests;
+#[cfg(test)]
 mod move_tests;
 #[cfg(test)]
 mod program_tests;

@@ -1,6 +1,6 @@
-//! A store of an older schema of which a file stops at some call while it is moved: what is there when it is opened again. Each call
-//! of either file is such a stop, until a migration meets none. The script `tests/migration.py` shows it by kills over files, and each
-//! total by value.
+//! A store of an older schema, or of the program's without its indexes, of which a file stops at some call while it is moved: what is
+//! there when it is opened again. Each call of either file is such a stop, until a migration meets none. The script
+//! `tests/migration.py` shows it by kills over files, and each total by value.
 use crate::disks::{Disks, Failing, connected, crashed, disks, go_on, store_on};
 use pawn_check::{CheckFault, Counts, check};
 use pawn_keeper::TableKeep;
@@ -12,20 +12,24 @@ use std::test::Fail;
 
 // Of an empty store of the program's schema, one of the first, with a book whose one pledge has an entry.
 const FIRST: &str =
-    "INSERT INTO books VALUES (7, X'00000000000000000000000000000001', 'High Street', 2, 1, 1, NULL, NULL); INSERT INTO terms VALUES (7, 1, 2667, 0, 0); INSERT INTO pledges VALUES (7, 1, 'A1', 'Gold ring', 0, 10000, 19723, NULL, 0, 1, 19905, 0, 19753, 0, NULL, NULL); INSERT INTO entries VALUES (7, 1, 1, 19753, 1, 1000); INSERT INTO secrets VALUES (7, 1, 1, 19723, 0, X'00000000000000000000000000000003'); UPDATE meta SET value = 5 WHERE name = 'rows'; DROP TABLE extensions; DROP TABLE totals; UPDATE meta SET value = 1 WHERE name = 'schema'";
+    "INSERT INTO books VALUES (7, X'00000000000000000000000000000001', 'High Street', 2, 1, 1, NULL, NULL); INSERT INTO terms VALUES (7, 1, 2667, 0, 0); INSERT INTO pledges VALUES (7, 1, 'A1', 'Gold ring', 0, 10000, 19723, NULL, 0, 1, 19905, 0, 19753, 0, NULL, NULL); INSERT INTO entries VALUES (7, 1, 1, 19753, 1, 1000); INSERT INTO secrets VALUES (7, 1, 1, 19723, 0, X'00000000000000000000000000000003'); UPDATE meta SET value = 5 WHERE name = 'rows'; DROP INDEX bookings_by_time; DROP INDEX pledges_by_end; DROP TABLE extensions; DROP TABLE totals; UPDATE meta SET value = 1 WHERE name = 'schema'";
 
 // The same of the second, which has the totals of the pledge on the day of its entry.
 const SECOND: &str =
-    "INSERT INTO books VALUES (7, X'00000000000000000000000000000001', 'High Street', 2, 1, 1, NULL, NULL); INSERT INTO terms VALUES (7, 1, 2667, 0, 0); INSERT INTO pledges VALUES (7, 1, 'A1', 'Gold ring', 0, 10000, 19723, NULL, 0, 1, 19905, 0, 19753, 0, NULL, NULL); INSERT INTO entries VALUES (7, 1, 1, 19753, 1, 1000); INSERT INTO secrets VALUES (7, 1, 1, 19723, 0, X'00000000000000000000000000000003'); INSERT INTO totals VALUES (7, 1, 19753, 9800, 100000); UPDATE meta SET value = 5 WHERE name = 'rows'; DROP TABLE extensions; UPDATE meta SET value = 2 WHERE name = 'schema'";
+    "INSERT INTO books VALUES (7, X'00000000000000000000000000000001', 'High Street', 2, 1, 1, NULL, NULL); INSERT INTO terms VALUES (7, 1, 2667, 0, 0); INSERT INTO pledges VALUES (7, 1, 'A1', 'Gold ring', 0, 10000, 19723, NULL, 0, 1, 19905, 0, 19753, 0, NULL, NULL); INSERT INTO entries VALUES (7, 1, 1, 19753, 1, 1000); INSERT INTO secrets VALUES (7, 1, 1, 19723, 0, X'00000000000000000000000000000003'); INSERT INTO totals VALUES (7, 1, 19753, 9800, 100000); UPDATE meta SET value = 5 WHERE name = 'rows'; DROP INDEX bookings_by_time; DROP INDEX pledges_by_end; DROP TABLE extensions; UPDATE meta SET value = 2 WHERE name = 'schema'";
 
-// A schema from which a store is moved: its number, and what makes such a store.
+// The same of the program's, without its indexes, as releases before them made it.
+pub const BARE: &str =
+    "INSERT INTO books VALUES (7, X'00000000000000000000000000000001', 'High Street', 2, 1, 1, NULL, NULL); INSERT INTO terms VALUES (7, 1, 2667, 0, 0); INSERT INTO pledges VALUES (7, 1, 'A1', 'Gold ring', 0, 10000, 19723, NULL, 0, 1, 19905, 0, 19753, 0, NULL, NULL); INSERT INTO entries VALUES (7, 1, 1, 19753, 1, 1000); INSERT INTO secrets VALUES (7, 1, 1, 19723, 0, X'00000000000000000000000000000003'); INSERT INTO totals VALUES (7, 1, 19753, 9800, 100000); UPDATE meta SET value = 5 WHERE name = 'rows'; DROP INDEX bookings_by_time; DROP INDEX pledges_by_end";
+
+// A store that is moved: the number of its schema, and what makes such a store.
 #[derive(Clone, Copy)]
 struct Older {
     number: u32,
     made: &'static str,
 }
 
-const OLDER: [Older; 2] = [
+const OLDER: [Older; 3] = [
     Older {
         number: 1,
         made: FIRST,
@@ -34,7 +38,18 @@ const OLDER: [Older; 2] = [
         number: 2,
         made: SECOND,
     },
+    Older {
+        number: 3,
+        made: BARE,
+    },
 ];
+
+/// What each of them holds.
+pub const COUNTS: Counts = Counts {
+    books: 1,
+    pledges: 1,
+    rows: 5,
+};
 
 // The numbers of the schemas from which and to which a store is moved.
 type Moved = Result<(u32, u32), MoveFault>;
@@ -82,8 +97,8 @@ fn moved_again<S: Alter>(alloc: Global, conn: &mut Connection<S>) -> Option<(u32
     Some((number, migrate(alloc, conn)))
 }
 
-// The counts of a store, as it is judged.
-fn counts_in<S: Alter + Drop>(
+/// The counts of a store, as it is judged.
+pub fn counts_in<S: Alter + Drop>(
     alloc: Global,
     conn: Connection<S>,
 ) -> Option<Result<Counts, CheckFault>> {
@@ -91,13 +106,30 @@ fn counts_in<S: Alter + Drop>(
     Some(check(&mut keep))
 }
 
-// The number of the schema on the disks, how they are moved then, and how they are judged.
-fn found(alloc: Global, disks: Disks) -> Option<(u32, Moved, Result<Counts, CheckFault>)> {
+// How many indexes a store of the program has: ten of keys, and two by which a day is read.
+pub const INDEXES: usize = 12;
+
+// What is found on the disks: the number of the schema, how they are moved then, how many indexes they have, and how they are judged.
+#[derive(Drop)]
+struct Found {
+    number: u32,
+    again: Moved,
+    indexes: usize,
+    judged: Result<Counts, CheckFault>,
+}
+
+fn found_on(alloc: Global, disks: Disks) -> Option<Found> {
     let mut conn = connected(alloc, disks)?;
     let moved = moved_again(alloc, &mut conn);
-    let counts = counts_in(alloc, conn)?;
-    let (number, end) = moved?;
-    Some((number, end, counts))
+    let indexes = conn.schema().indexes.as_slice().len();
+    let judged = counts_in(alloc, conn)?;
+    let (number, again) = moved?;
+    Some(Found {
+        number,
+        again,
+        indexes,
+        judged,
+    })
 }
 
 // Lets a file stop at that call. The old tables are there then, or the new ones, and they are moved and judged. Tells whether no call
@@ -112,12 +144,8 @@ fn stops(
     let Some(run) = run_on(alloc, disks(alloc, failing, calls), older) else {
         return Ok(false);
     };
-    let (number, again, judged) = found(alloc, run.left).ok_or("opened again")?;
-    let counts = Counts {
-        books: 1,
-        pledges: 1,
-        rows: 5,
-    };
+    let found = found_on(alloc, run.left).ok_or("opened again")?;
+    let number = found.number;
     match run.end {
         Ok(numbers) => {
             assert_eq!(rt; numbers, (older.number, 3));
@@ -131,8 +159,13 @@ fn stops(
             );
         }
     }
-    assert_eq!(rt; again, Ok((number, 3)), "{calls} calls of {failing:?}");
-    assert_eq!(rt; judged, Ok(counts), "{calls} calls of {failing:?}");
+    assert_eq!(rt;
+        found.again,
+        Ok((number, 3)),
+        "{calls} calls of {failing:?}"
+    );
+    assert_eq!(rt; found.indexes, INDEXES, "{calls} calls of {failing:?}");
+    assert_eq!(rt; found.judged, Ok(COUNTS), "{calls} calls of {failing:?}");
     Ok(run.is_whole)
 }
 

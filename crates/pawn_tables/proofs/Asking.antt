@@ -5,6 +5,7 @@ use Rattle.sqlite.specs.Listing.{understood}
 use Rattle.sqlite.specs.Order.{Row}
 use Rattle.sqlite.specs.Schema.{Schema}
 use Rattle.sqlite.specs.State.{State, HasCleanDisk, Shown}
+use Rattle.sqlite_schema.specs.declared.schema.Index.{Index}
 use Rattle.sqlite.proofs.Callers.{IsPlain}
 use Rattle.pawn_book.specs.HostStep.{Host}
 use Rattle.pawn_book.specs.declared.fault.KeepError.{KeepError}
@@ -13,7 +14,7 @@ use Rattle.pawn_book.specs.declared.fault.StoreFault.TheVariants.{NoRecord, Data
 use Rattle.one_table.specs.Lending.{IsLent, Rests}
 use Rattle.one_table.proofs.Parts.{plain_rests}
 use Rattle.pawn_tables.specs.Finding.{Finds, FindsIn, FindsOf, IsRead}
-use Rattle.pawn_tables.specs.Schema.{keep_schema}
+use Rattle.pawn_tables.specs.Ours.{HasOurTables, with_indexes}
 use Rattle.pawn_tables.specs.StandsFor.{StandsFor, ListDebts}
 
 -- what was read has what holds of what stands, and what can't be kept is of a host that is not sound
@@ -42,26 +43,27 @@ with_rests (Err Keeper.Memory) P R U f rests = tt
 with_rests (Err (Keeper.Store NoRecord)) P R U f rests = f
 with_rests (Err (Keeper.Store Database)) P R U f rests = tt
 
--- of tables that tell of a host under this schema: what the rows of a query tell, while the tables rest
-found_of : {A : Type 0} (Tell : Tables → Host → Type 0) → ((db : Tables) (h : Host) → Tell db h → db.schema ≡ keep_schema)
+-- of the program's tables, which tell of a host: what the rows of a query tell, while the tables rest
+found_of : {A : Type 0} (Tell : Tables → Host → Type 0) → ((db : Tables) (h : Host) → Tell db h → HasOurTables db.schema)
     → (IsUnsound : Host → Type 0) (old new : State) (params : Row) (rows : List Row) (r : Result A KeepError) (P : Host → A → Type 0) (text : List ℕ)
-    → IsPlain (understood keep_schema text) → IsLent old new true → (HasCleanDisk new → Shown text params old new rows)
+    → ((more : List Index) → IsPlain (understood (with_indexes more) text)) → IsLent old new true → (HasCleanDisk new → Shown text params old new rows)
     → ((h : Host) → Tell old.now h → Shown text params old new rows → Finds r (P h) (IsUnsound h)) → FindsOf Tell IsUnsound old new r P
 found_of Tell schema IsUnsound old new params rows r P text plain lent shows find clean within h stood =
     let st = stood (lent.opened clean within refl) in
     let shown = shows clean in
-    let is_plain = subst (λ (s : Schema). IsPlain (understood s text)) (sym (schema old.now h st)) plain in
+    let ours = schema old.now h st in
+    let is_plain = subst (λ (s : Schema). IsPlain (understood s text)) (sym ours.is) (plain ours.more) in
     with_rests r (P h) (Rests old new) (IsUnsound h) (find h st shown) (plain_rests text params old new rows within is_plain shown)
 
 -- of tables that stand for a host
 pub found : {A : Type 0} (IsUnsound : Host → Type 0) (old new : State) (params : Row) (rows : List Row) (r : Result A KeepError) (P : Host → A → Type 0) (text : List ℕ)
-    → IsPlain (understood keep_schema text) → IsLent old new true → (HasCleanDisk new → Shown text params old new rows)
+    → ((more : List Index) → IsPlain (understood (with_indexes more) text)) → IsLent old new true → (HasCleanDisk new → Shown text params old new rows)
     → ((h : Host) → StandsFor old.now h → Shown text params old new rows → Finds r (P h) (IsUnsound h)) → FindsIn IsUnsound old new r P
 found = found_of StandsFor (λ db h st. st.schema)
 
 -- of tables that list the debts of a host
 pub found_debts : {A : Type 0} (IsUnsound : Host → Type 0) (old new : State) (params : Row) (rows : List Row) (r : Result A KeepError) (P : Host → A → Type 0) (text : List ℕ)
-    → IsPlain (understood keep_schema text) → IsLent old new true → (HasCleanDisk new → Shown text params old new rows)
+    → ((more : List Index) → IsPlain (understood (with_indexes more) text)) → IsLent old new true → (HasCleanDisk new → Shown text params old new rows)
     → ((h : Host) → ListDebts old.now h → Shown text params old new rows → Finds r (P h) (IsUnsound h)) → FindsOf ListDebts IsUnsound old new r P
 found_debts = found_of ListDebts (λ db h st. st.schema)
 

@@ -21,7 +21,8 @@ use Rattle.pawn_book.specs.BookStep.{BookValue}
 use Rattle.pawn_book.specs.HostStep.{Host, rows}
 use Rattle.pawn_book.specs.Keeping.{IsNextBook}
 use Rattle.pawn_book.specs.Rows.{is_same_text}
-use Rattle.pawn_tables.specs.Schema.{keep_schema, books, meta, books_tree, meta_tree}
+use Rattle.pawn_tables.specs.Ours.{with_indexes}
+use Rattle.pawn_tables.specs.Schema.{books, meta, books_tree, meta_tree}
 use Rattle.pawn_tables.specs.Rows.{number, book_row, head_cells, at_most_one}
 use Rattle.pawn_tables.specs.Meta.{meta_row, meta_rows}
 use Rattle.pawn_tables.specs.Heads.{number_cells}
@@ -92,7 +93,7 @@ head_shown old new h b rows st shown =
     let t : Table = record books { tree = books_tree } in
     let cells : Row → Row = λ v. column v 1 ∷ column v 2 ∷ column v 3 ∷ column v 4 ∷ column v 5 ∷ column v 6 ∷ column v 7 ∷ [] in
     short rows _ (few head_cells (get h.books b)) (subst (λ xs. IsPermutation xs rows) (one_book h b)
-    (shown_listed keep_schema books_tree (λ _. refl) t text.of_book text.head_shows (number b ∷ []) (at_book b) cells (λ _. refl) (λ _. refl) text.READ_HEAD.now _ [] text.head_is old new _ rows st.schema st.books shown))
+    (shown_listed (with_indexes st.schema.more) books_tree (λ _. refl) t text.of_book text.head_shows (number b ∷ []) (at_book b) cells (λ _. refl) (λ _. refl) text.READ_HEAD.now _ [] (text.head_is st.schema.more) old new _ rows st.schema.is st.books shown))
 
 -- ---- the count of rows
 
@@ -108,7 +109,7 @@ rows_shown old new h found st shown =
     let t : Table = record meta { tree = meta_tree } in
     let cells : Row → Row = λ v. column v 1 ∷ [] in
     short found _ (omega arith) (subst (λ xs. IsPermutation xs found) (ap (map cells) (counted_alone (rows h) h.limit))
-    (shown_listed keep_schema meta_tree (λ _. refl) t text.rows_tests text.rows_shows [] is_rows cells (λ _. refl) (λ _. refl) text.READ_ROWS.now _ [] text.rows_is old new _ found st.schema st.meta shown))
+    (shown_listed (with_indexes st.schema.more) meta_tree (λ _. refl) t text.rows_tests text.rows_shows [] is_rows cells (λ _. refl) (λ _. refl) text.READ_ROWS.now _ [] (text.rows_is st.schema.more) old new _ found st.schema.is st.meta shown))
 
 -- ---- the next book
 
@@ -157,7 +158,7 @@ next_shown old new h n rows st shown =
     let cells : Row → Row = λ v. column v 0 ∷ [] in
     let row : Entry → Row = λ e. book_row e.0 e.1 in
     let up = ascending-filter (λ a b. value_cmp (column a 0) (column b 0) ≡ Less) (is_later n) _ (books_rise row (λ e. refl) (entries h.books) (entries_sorted h.books)) in
-    shown_first keep_schema books_tree (λ _. refl) t text.next_tests text.next_shows (number n ∷ []) (is_later n) cells (λ _. refl) (λ _. refl) 0 (λ v. column v 0) (λ _. refl) text.FIND_NEXT_BOOK.now _ text.next_is old new (book_rows_of h) rows st.schema st.books up shown
+    shown_first (with_indexes st.schema.more) books_tree (λ _. refl) t text.next_tests text.next_shows (number n ∷ []) (is_later n) cells (λ _. refl) (λ _. refl) 0 (λ v. column v 0) (λ _. refl) text.FIND_NEXT_BOOK.now _ (text.next_is st.schema.more) old new (book_rows_of h) rows st.schema.is st.books up shown
     ∙ ap (λ xs. take 1 (map cells xs)) (filter-map (is_later n) row (entries h.books) ∙ ap (map row) (filter_agree _ _ (λ e. one_test _ ∙ above e.0 n) (entries h.books)))
     ∙ ap (take 1) (map-map cells row _) ∙ first_one (λ (e : Entry). nat_lt n e.0) (λ (e : Entry). number_cells e.0) (entries h.books) ∙ mapped_one (λ (e : Entry). e.0) _
 

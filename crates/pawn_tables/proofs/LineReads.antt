@@ -22,7 +22,8 @@ use Rattle.pawn_book.specs.Sheet.{part_item, part_items}
 use Rattle.pawn_book.specs.Bookings.{confirmed_count, is_asked, is_confirmed, is_confirmed_for}
 use Rattle.pawn_book.specs.HostStep.{Host}
 use Rattle.pawn_book.specs.Keeping.{pledges_of}
-use Rattle.pawn_tables.specs.Schema.{keep_schema, pledges, bookings, bookings_tree, pledges_tree}
+use Rattle.pawn_tables.specs.Ours.{with_indexes}
+use Rattle.pawn_tables.specs.Schema.{pledges, bookings, bookings_tree, pledges_tree}
 use Rattle.pawn_tables.specs.Rows.{number, number_in_book, under, pledge_cells, pledge_listed, booking_cells, booking_listed, state_number, closed_number}
 use Rattle.pawn_tables.specs.Heads.{number_cells}
 use Rattle.pawn_tables.specs.Lines.{asked_cells, asked_line, confirmed_line, ends_line, item_of, line_cells}
@@ -141,7 +142,7 @@ asked_shown b day old new h rows st shown =
     let t : Table = record bookings { tree = bookings_tree } in
     let ps = pledges_of (get h.books b) in
     let cells : Row → Row = λ v. column v 1 ∷ [] in
-    shown_count keep_schema bookings_tree (λ _. refl) t text.asked_tests (number b ∷ number day ∷ []) (at_asked b day) (λ _. refl) text.COUNT_ASKED.now _ text.asked_is old new (of_pledges h booking_listed) rows st.schema st.bookings shown
+    shown_count (with_indexes st.schema.more) bookings_tree (λ _. refl) t text.asked_tests (number b ∷ number day ∷ []) (at_asked b day) (λ _. refl) text.COUNT_ASKED.now _ (text.asked_is st.schema.more) old new (of_pledges h booking_listed) rows st.schema.is st.bookings shown
     ∙ ap (λ n. count_of n ∷ []) (sym (length-map _ cells) ∙ ap length (shown_each b booking_in booking_cells (at_asked b day) (λ n. true) (is_asked_at day) (λ n (k : Booking). (n, k.window)) (λ v. column v 1 ∷ []) (λ (a : ℕ × ℕ). number_cells a.0) (asked_passes b day) (λ m n k. refl) h)
     ∙ length-map _ _ ∙ ap (λ qs. length (filter_map (asked_told day) qs)) (all_kept ps)
     ∙ sym (ap length (items_are part_of.Asked day (asked_told day) asked_line (asked_says day) (asked_numbers day) ps) ∙ length-map _ _))
@@ -157,7 +158,7 @@ ends_shown b day old new h rows st shown =
     let t : Table = record pledges { tree = pledges_tree } in
     let ps = pledges_of (get h.books b) in
     let cells : Row → Row = λ v. column v 1 ∷ [] in
-    shown_count keep_schema pledges_tree (λ _. refl) t text.ends_tests (number b ∷ number day ∷ []) (at_end b day) (λ _. refl) text.COUNT_ENDS.now _ text.ends_is old new (of_pledges h pledge_listed) rows st.schema st.pledges shown
+    shown_count (with_indexes st.schema.more) pledges_tree (λ _. refl) t text.ends_tests (number b ∷ number day ∷ []) (at_end b day) (λ _. refl) text.COUNT_ENDS.now _ (text.ends_is st.schema.more) old new (of_pledges h pledge_listed) rows st.schema.is st.pledges shown
     ∙ ap (λ n. count_of n ∷ []) (sym (length-map _ cells) ∙ ap length (shown_each b (λ (p : PledgeValue). Some p) pledge_cells (at_end b day) (λ n. true) (is_ending day) (λ n (x : PledgeValue). n) (λ v. column v 1 ∷ []) number_cells (ends_passes b day) (λ m n k. refl) h)
     ∙ length-map _ _ ∙ ap (λ qs. length (filter_map (ends_told day) qs)) (all_kept ps)
     ∙ sym (ap length (items_are part_of.Ends day (ends_told day) ends_line (ends_says day) (ends_numbers day) ps) ∙ length-map _ _))
@@ -184,7 +185,7 @@ confirmed_page_shown b above day window old new h rows st shown =
     let cells : Row → Row = λ v. column v 1 ∷ [] in
     let says = is_confirmed_at day window in
     let passes = confirmed_page_passes b above day window in
-    shown_few keep_schema bookings_tree (λ _. refl) t text.confirmed_page_tests text.confirmed_shows (number b ∷ number above ∷ number day ∷ number window ∷ []) test cells (λ _. refl) (λ _. refl) 2 (λ v. column v 1) (λ _. refl) most_page_rows text.READ_CONFIRMED_PAGE.now _ text.confirmed_page_is old new (of_pledges h booking_listed) rows st.schema st.bookings
+    shown_few (with_indexes st.schema.more) bookings_tree (λ _. refl) t text.confirmed_page_tests text.confirmed_shows (number b ∷ number above ∷ number day ∷ number window ∷ []) test cells (λ _. refl) (λ _. refl) 2 (λ v. column v 1) (λ _. refl) most_page_rows text.READ_CONFIRMED_PAGE.now _ (text.confirmed_page_is st.schema.more) old new (of_pledges h booking_listed) rows st.schema.is st.bookings
     (rise_each b booking_in booking_cells test (nat_lt above) says (λ n (k : Booking). n) cells number_cells passes (λ m n k. refl) h st.ordered) shown
     ∙ ap (take most_page_rows) (shown_each b booking_in booking_cells test (nat_lt above) says (λ n (k : Booking). n) cells number_cells passes (λ m n k. refl) h)
     ∙ lines_told (part_of.Confirmed window) (confirmed_line window) (told_above (confirmed_told day window) above (pledges_of (get h.books b)))
@@ -203,7 +204,7 @@ asked_page_shown b above day old new h rows st shown =
     let cells : Row → Row = λ v. column v 1 ∷ column v 3 ∷ [] in
     let says = is_asked_at day in
     let passes = asked_page_passes b above day in
-    shown_few keep_schema bookings_tree (λ _. refl) t text.asked_page_tests text.asked_page_shows (number b ∷ number above ∷ number day ∷ []) test cells (λ _. refl) (λ _. refl) 2 (λ v. column v 1) (λ _. refl) most_page_rows text.READ_ASKED_PAGE.now _ text.asked_page_is old new (of_pledges h booking_listed) rows st.schema st.bookings
+    shown_few (with_indexes st.schema.more) bookings_tree (λ _. refl) t text.asked_page_tests text.asked_page_shows (number b ∷ number above ∷ number day ∷ []) test cells (λ _. refl) (λ _. refl) 2 (λ v. column v 1) (λ _. refl) most_page_rows text.READ_ASKED_PAGE.now _ (text.asked_page_is st.schema.more) old new (of_pledges h booking_listed) rows st.schema.is st.bookings
     (rise_each b booking_in booking_cells test (nat_lt above) says (λ n (k : Booking). (n, k.window)) cells asked_cells passes (λ m n k. refl) h st.ordered) shown
     ∙ ap (take most_page_rows) (shown_each b booking_in booking_cells test (nat_lt above) says (λ n (k : Booking). (n, k.window)) cells asked_cells passes (λ m n k. refl) h)
     ∙ lines_told part_of.Asked asked_line (told_above (asked_told day) above (pledges_of (get h.books b)))
@@ -222,7 +223,7 @@ ends_page_shown b above day old new h rows st shown =
     let cells : Row → Row = λ v. column v 1 ∷ [] in
     let says = is_ending day in
     let passes = ends_page_passes b above day in
-    shown_few keep_schema pledges_tree (λ _. refl) t text.ends_page_tests text.ref_shows (number b ∷ number above ∷ number day ∷ []) test cells (λ _. refl) (λ _. refl) 2 (λ v. column v 1) (λ _. refl) most_page_rows text.READ_ENDS_PAGE.now _ text.ends_page_is old new (of_pledges h pledge_listed) rows st.schema st.pledges
+    shown_few (with_indexes st.schema.more) pledges_tree (λ _. refl) t text.ends_page_tests text.ref_shows (number b ∷ number above ∷ number day ∷ []) test cells (λ _. refl) (λ _. refl) 2 (λ v. column v 1) (λ _. refl) most_page_rows text.READ_ENDS_PAGE.now _ (text.ends_page_is st.schema.more) old new (of_pledges h pledge_listed) rows st.schema.is st.pledges
     (rise_each b (λ (p : PledgeValue). Some p) pledge_cells test (nat_lt above) says (λ n (x : PledgeValue). n) cells number_cells passes (λ m n k. refl) h st.ordered) shown
     ∙ ap (take most_page_rows) (shown_each b (λ (p : PledgeValue). Some p) pledge_cells test (nat_lt above) says (λ n (x : PledgeValue). n) cells number_cells passes (λ m n k. refl) h)
     ∙ lines_told part_of.Ends ends_line (told_above (ends_told day) above (pledges_of (get h.books b)))

@@ -11,6 +11,9 @@ use Rattle.sqlite.specs.declared.types.Value.TheVariants.{Text}
 use Rattle.sqlite.specs.Ops.{binary}
 use Rattle.sqlite.specs.Order.{Row, column, value_cmp}
 use Rattle.sqlite.specs.Effect.{Database}
+use Rattle.sqlite.specs.Tree.{Trees}
+use Rattle.sqlite_trees.specs.Objects.{catalog_tree}
+use Rattle.sqlite_catalog.proofs.ReadLemmas.{lists_once}
 use Rattle.sqlite.specs.State.{State}
 use Rattle.sqlite.proofs.Callers.{one_permutation}
 use Rattle.pawn_terms.specs.declared.terms.Rates.{Rates}
@@ -28,7 +31,7 @@ use Rattle.pawn_tables.specs.Entries.{RiseFrom}
 use Rattle.pawn_tables.specs.Meta.{meta_row, meta_rows}
 use Rattle.pawn_tables.specs.Told.{booking_of}
 use Rattle.pawn_tables.specs.At.{is_at, at_book, at_pledge}
-use Rattle.pawn_tables.specs.StandsFor.{StandsFor, of_pledges, AreBooksOrdered}
+use Rattle.pawn_tables.specs.StandsFor.{StandsFor, HoldHost, of_pledges, AreBooksOrdered}
 use Rattle.pawn_tables.proofs.Placed.{mapped, each_any}
 use Rattle.pawn_tables.proofs.PledgeReads.{short, few, holds_in, number_in, under_in, rises_at, under_map, under_placed, under_booked, placed_cells, one_version}
 use Rattle.pawn_tables.proofs.BookReads.{one_book}
@@ -232,11 +235,17 @@ module _ (db : Database) (h g : Host) (a : StandsFor db h) (c : StandsFor db g) 
       let row : meta_row (codes "limit") g.limit ∷ [] ≡ meta_row (codes "limit") h.limit ∷ [] = one_permutation _ _ one in
       SameRows.same_number h.limit g.limit (sym (SameRows.second_of_first g.limit h.limit (codes "limit") row))
 
-pub tables_stand_for_one_host : (db : Database) (h g : Host) → StandsFor db h → StandsFor db g → h ≡ g
-tables_stand_for_one_host db h g a c =
+one_of_database : (db : Database) (h g : Host) → StandsFor db h → StandsFor db g → h ≡ g
+one_of_database db h g a c =
     let books = same_map nat_cmp_total nat_cmp-IsAntisymmetric h.books g.books (book_same db h g a c) in
     let limit = limit_same db h g a c in
     λ i. record { books = books i; limit = limit i }
+
+-- trees list the schema of which they are
+pub tables_stand_for_one_host : (trees : Trees) (h g : Host) → HoldHost trees h → HoldHost trees g → h ≡ g
+tables_stand_for_one_host trees h g a c =
+    let same : c.0 ≡ a.0 = lists_once (trees catalog_tree) c.0 a.0 c.1.sound.lists a.1.sound.lists in
+    one_of_database (record { schema = a.0; trees = trees }) h g a.1 (subst (λ s. StandsFor (record { schema = s; trees = trees }) g) same c.1)
 
 -- ---- a keeper over a connection that is whole
 

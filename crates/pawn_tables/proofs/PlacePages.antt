@@ -23,7 +23,8 @@ use Rattle.pawn_tables.specs.At.{is_at, is_above, at_pledge}
 use Rattle.pawn_tables.specs.Pages.{most_page_rows}
 use Rattle.pawn_tables.specs.Places.{page_behind}
 use Rattle.pawn_tables.specs.Rows.{number, under, placed_from, secret_cells, secrets_listed, extension_cells, extensions_listed}
-use Rattle.pawn_tables.specs.Schema.{keep_schema, secrets, extensions, extensions_tree, secrets_tree}
+use Rattle.pawn_tables.specs.Ours.{with_indexes}
+use Rattle.pawn_tables.specs.Schema.{secrets, extensions, extensions_tree, secrets_tree}
 use Rattle.pawn_tables.specs.StandsFor.{StandsFor, of_pledges, AreStorable}
 use Rattle.pawn_tables.proofs.BookReads.{above}
 use Rattle.pawn_tables.proofs.PageLemmas.{take_each}
@@ -96,7 +97,7 @@ module _ (old new : State) (h : Host) (b n s : ℕ) (rows : List Row) (st : Stan
       let one = behind_in secrets_listed (λ m p. under_placed m p.agreement.number secret_cells 1 p.secrets) in
       let up = rises_at found (secrets_listed b) (λ v. column v 2) (λ p is. placed_rise (λ place i. under b p.agreement.number (secret_cells place i)) (λ v. column v 2) (λ place i. refl) 1 p.secrets) in
       let rises = subst (IsAscending (λ v w. value_cmp (column v 2) (column w 2) ≡ Less)) (sym one) (ascending-filter (λ v w. value_cmp (column v 2) (column w 2) ≡ Less) (has_behind s) _ up) in
-      shown_few keep_schema secrets_tree (λ _. refl) t text.behind_tests text.secrets_shows params (at_behind b n s) (λ v. column v 2 ∷ column v 3 ∷ column v 4 ∷ column v 5 ∷ []) (λ _. refl) (λ _. refl) 3 (λ v. column v 2) (λ _. refl) most_page_rows text.READ_SECRETS_PAGE.now _ text.secrets_page_is old new (of_pledges h secrets_listed) rows st.schema st.secrets rises shown
+      shown_few (with_indexes st.schema.more) secrets_tree (λ _. refl) t text.behind_tests text.secrets_shows params (at_behind b n s) (λ v. column v 2 ∷ column v 3 ∷ column v 4 ∷ column v 5 ∷ []) (λ _. refl) (λ _. refl) 3 (λ v. column v 2) (λ _. refl) most_page_rows text.READ_SECRETS_PAGE.now _ (text.secrets_page_is st.schema.more) old new (of_pledges h secrets_listed) rows st.schema.is st.secrets rises shown
       ∙ ap (take most_page_rows) (ap (map (λ v. column v 2 ∷ column v 3 ∷ column v 4 ∷ column v 5 ∷ [])) one ∙ cells found) ∙ take_placed secret_cells most_page_rows (s + 1) (drop s (secrets_of found))
     where
       cells : (o : Option PledgeValue) → map (λ v. column v 2 ∷ column v 3 ∷ column v 4 ∷ column v 5 ∷ []) (filter (has_behind s) (rows_at o (secrets_listed b))) ≡ placed_from secret_cells (s + 1) (drop s (secrets_of o))
@@ -111,7 +112,7 @@ module _ (old new : State) (h : Host) (b n s : ℕ) (rows : List Row) (st : Stan
       let one = behind_in extensions_listed (λ m p. under_placed m p.agreement.number extension_cells 1 p.extensions) in
       let up = rises_at found (extensions_listed b) (λ v. column v 2) (λ p is. placed_rise (λ place e. under b p.agreement.number (extension_cells place e)) (λ v. column v 2) (λ place e. refl) 1 p.extensions) in
       let rises = subst (IsAscending (λ v w. value_cmp (column v 2) (column w 2) ≡ Less)) (sym one) (ascending-filter (λ v w. value_cmp (column v 2) (column w 2) ≡ Less) (has_behind s) _ up) in
-      shown_few keep_schema extensions_tree (λ _. refl) t text.behind_tests text.extensions_shows params (at_behind b n s) (λ v. column v 2 ∷ column v 3 ∷ column v 4 ∷ []) (λ _. refl) (λ _. refl) 3 (λ v. column v 2) (λ _. refl) most_page_rows text.READ_EXTENSIONS_PAGE.now _ text.extensions_page_is old new (of_pledges h extensions_listed) rows st.schema st.extensions rises shown
+      shown_few (with_indexes st.schema.more) extensions_tree (λ _. refl) t text.behind_tests text.extensions_shows params (at_behind b n s) (λ v. column v 2 ∷ column v 3 ∷ column v 4 ∷ []) (λ _. refl) (λ _. refl) 3 (λ v. column v 2) (λ _. refl) most_page_rows text.READ_EXTENSIONS_PAGE.now _ (text.extensions_page_is st.schema.more) old new (of_pledges h extensions_listed) rows st.schema.is st.extensions rises shown
       ∙ ap (take most_page_rows) (ap (map (λ v. column v 2 ∷ column v 3 ∷ column v 4 ∷ [])) one ∙ cells found) ∙ take_placed extension_cells most_page_rows (s + 1) (drop s (extensions_of found))
     where
       cells : (o : Option PledgeValue) → map (λ v. column v 2 ∷ column v 3 ∷ column v 4 ∷ []) (filter (has_behind s) (rows_at o (extensions_listed b))) ≡ placed_from extension_cells (s + 1) (drop s (extensions_of o))

@@ -19,7 +19,8 @@ use Rattle.pawn_book.specs.BookStep.{pledge_in}
 use Rattle.pawn_book.specs.HostStep.{Host}
 use Rattle.pawn_book.specs.Keeping.{entries_of, extensions_of, secrets_of}
 use Rattle.pawn_book.specs.Sound.{IsUnsoundAt}
-use Rattle.pawn_tables.specs.Schema.{keep_schema, entries, secrets, extensions, entries_tree, extensions_tree, secrets_tree}
+use Rattle.pawn_tables.specs.Ours.{with_indexes}
+use Rattle.pawn_tables.specs.Schema.{entries, secrets, extensions, entries_tree, extensions_tree, secrets_tree}
 use Rattle.pawn_tables.specs.Rows.{number, under, at_most_one, placed_from, entry_cells, entries_listed, secret_cells, secrets_listed, extension_cells, extensions_listed}
 use Rattle.pawn_tables.specs.At.{is_at, is_from, at_pledge}
 use Rattle.pawn_tables.specs.Entries.{IsEntryTold, RiseFrom, with_seq, entries_from}
@@ -158,7 +159,7 @@ module _ (old new : State) (h : Host) (b n s : ℕ) (rows : List Row) (st : Stan
       ∙ passing (has_place s) entries_listed (λ m p. under_map m p.agreement.number entry_cells p.entries) in
       let shows = ap (map entry_shows) one ∙ entries_passing (has_place s) (λ q. q == s) (λ m e. equals e.seq s) found ∙ one_with entry_cells s 0 (entries_of found) entries_rising in
       short rows _ (few entry_cells (with_seq (entries_of found) s)) (subst (λ xs. IsPermutation xs rows) shows
-      (shown_listed keep_schema entries_tree (λ _. refl) t text.of_place text.entries_shows params (at_third b n s) entry_shows (λ _. refl) (λ _. refl) text.READ_ENTRY.now _ [] text.entry_is old new (of_pledges h entries_listed) rows st.schema st.entries shown))
+      (shown_listed (with_indexes st.schema.more) entries_tree (λ _. refl) t text.of_place text.entries_shows params (at_third b n s) entry_shows (λ _. refl) (λ _. refl) text.READ_ENTRY.now _ [] (text.entry_is st.schema.more) old new (of_pledges h entries_listed) rows st.schema.is st.entries shown))
 
   pub entries_page_shown : Shown text.READ_ENTRIES_PAGE.now params old new rows → rows ≡ map entry_cells (take most_page_rows (entries_from s (entries_of found)))
   entries_page_shown shown =
@@ -169,7 +170,7 @@ module _ (old new : State) (h : Host) (b n s : ℕ) (rows : List Row) (st : Stan
       let up = rises_at found (entries_listed b) (λ v. column v 2) (λ p is. entries_rise (λ e. under b p.agreement.number (entry_cells e)) (λ v. column v 2) (λ e. refl) 0 p.entries (holds_in h (λ (q : PledgeValue). RiseFrom 0 q.entries) (λ c k at. (st.ordered c k at).entries) b n p is)) in
       let rises = subst (IsAscending (λ v w. value_cmp (column v 2) (column w 2) ≡ Less)) (sym one) (ascending-filter (λ v w. value_cmp (column v 2) (column w 2) ≡ Less) (has_from s) _ up) in
       let shows = ap (map entry_shows) one ∙ entries_passing (has_from s) (λ q. nat_le s q) (λ m e. at_least e.seq s) found in
-      shown_few keep_schema entries_tree (λ _. refl) t text.from_tests text.entries_shows params (at_from b n s) entry_shows (λ _. refl) (λ _. refl) 3 (λ v. column v 2) (λ _. refl) most_page_rows text.READ_ENTRIES_PAGE.now _ text.from_is old new (of_pledges h entries_listed) rows st.schema st.entries rises shown
+      shown_few (with_indexes st.schema.more) entries_tree (λ _. refl) t text.from_tests text.entries_shows params (at_from b n s) entry_shows (λ _. refl) (λ _. refl) 3 (λ v. column v 2) (λ _. refl) most_page_rows text.READ_ENTRIES_PAGE.now _ (text.from_is st.schema.more) old new (of_pledges h entries_listed) rows st.schema.is st.entries rises shown
       ∙ ap (take most_page_rows) shows ∙ sym (take_map entry_cells most_page_rows (entries_from s (entries_of found)))
 
   pub secret_shown : Shown text.READ_SECRET.now params old new rows → rows ≡ at_most_one (secret_cells s) (at_place (secrets_of found) s)
@@ -178,7 +179,7 @@ module _ (old new : State) (h : Host) (b n s : ℕ) (rows : List Row) (st : Stan
       let cells : Row → Row = λ v. column v 2 ∷ column v 3 ∷ column v 4 ∷ column v 5 ∷ [] in
       let one = one_row secrets_listed (λ m p. under_placed m p.agreement.number secret_cells 1 p.secrets) (counts found) in
       short rows _ (few (secret_cells s) (at_place (secrets_of found) s)) (subst (λ xs. IsPermutation xs rows) (ap (map cells) one ∙ shows found)
-      (shown_listed keep_schema secrets_tree (λ _. refl) t text.of_place text.secrets_shows params (at_third b n s) cells (λ _. refl) (λ _. refl) text.READ_SECRET.now _ [] text.secret_is old new (of_pledges h secrets_listed) rows st.schema st.secrets shown))
+      (shown_listed (with_indexes st.schema.more) secrets_tree (λ _. refl) t text.of_place text.secrets_shows params (at_third b n s) cells (λ _. refl) (λ _. refl) text.READ_SECRET.now _ [] (text.secret_is st.schema.more) old new (of_pledges h secrets_listed) rows st.schema.is st.secrets shown))
     where
       counts : (o : Option PledgeValue) → CountFrom 1 (rows_at o (secrets_listed b))
       counts None = tt
@@ -194,7 +195,7 @@ module _ (old new : State) (h : Host) (b n s : ℕ) (rows : List Row) (st : Stan
       let cells : Row → Row = λ v. column v 2 ∷ column v 3 ∷ column v 4 ∷ [] in
       let one = one_row extensions_listed (λ m p. under_placed m p.agreement.number extension_cells 1 p.extensions) (counts found) in
       short rows _ (few (extension_cells s) (at_place (extensions_of found) s)) (subst (λ xs. IsPermutation xs rows) (ap (map cells) one ∙ shows found)
-      (shown_listed keep_schema extensions_tree (λ _. refl) t text.of_place text.extensions_shows params (at_third b n s) cells (λ _. refl) (λ _. refl) text.READ_EXTENSION.now _ [] text.extension_is old new (of_pledges h extensions_listed) rows st.schema st.extensions shown))
+      (shown_listed (with_indexes st.schema.more) extensions_tree (λ _. refl) t text.of_place text.extensions_shows params (at_third b n s) cells (λ _. refl) (λ _. refl) text.READ_EXTENSION.now _ [] (text.extension_is st.schema.more) old new (of_pledges h extensions_listed) rows st.schema.is st.extensions shown))
     where
       counts : (o : Option PledgeValue) → CountFrom 1 (rows_at o (extensions_listed b))
       counts None = tt

@@ -21,7 +21,8 @@ use Rattle.pawn_book.specs.HostStep.{Host}
 use Rattle.pawn_book.specs.Rows.{AreNumberedFrom, IsUnder, terms_at}
 use Rattle.pawn_book.specs.Keeping.{entries_of, extensions_of, secrets_of, terms_of}
 use Rattle.pawn_tables.specs.Entries.{RiseFrom}
-use Rattle.pawn_tables.specs.Schema.{keep_schema, terms, pledges, entries, secrets, bookings, totals, extensions, bookings_tree, entries_tree, extensions_tree, pledges_tree, secrets_tree, terms_tree, totals_tree}
+use Rattle.pawn_tables.specs.Ours.{with_indexes}
+use Rattle.pawn_tables.specs.Schema.{terms, pledges, entries, secrets, bookings, totals, extensions, bookings_tree, entries_tree, extensions_tree, pledges_tree, secrets_tree, terms_tree, totals_tree}
 use Rattle.pawn_tables.specs.Rows.{number, under, placed_from, pledge_listed, pledge_cells, credit_cells, entries_listed, entry_cells, secrets_listed, secret_cells, extensions_listed, extension_cells, booking_listed, at_most_one, booking_cells, totals_listed, totals_cells, terms_listed, terms_cells}
 use Rattle.pawn_tables.specs.Told.{booking_of, totals_in}
 use Rattle.pawn_tables.specs.StandsFor.{StandsFor, ListDebts, of_books, of_pledges, AreBooksOrdered}
@@ -118,8 +119,8 @@ module _ (old new : State) (h : Host) (b n : ℕ) (rows : List Row) (st : ListDe
       let t : Table = record entries { tree = entries_tree } in
       let one = of_one_pledge h b n entries_listed st.ordered (λ m p. under_map m p.agreement.number entry_cells p.entries) in
       let up = rises_at its (entries_listed b) (λ v. column v 2) (λ p is. entries_rise (λ e. under b p.agreement.number (entry_cells e)) (λ v. column v 2) (λ e. refl) 0 p.entries (holds_in h (λ (q : PledgeValue). RiseFrom 0 q.entries) (λ c k at. (st.ordered c k at).entries) b n p is)) in
-      shown_in_order keep_schema entries_tree (λ _. refl) t text.of_pledge text.entries_shows (number b ∷ number n ∷ []) (at_pledge b n) (λ v. column v 2 ∷ column v 3 ∷ column v 4 ∷ column v 5 ∷ []) (λ _. refl) (λ _. refl) 3 (λ v. column v 2) (λ _. refl)
-      text.READ_ENTRIES.now _ text.entries_is old new (of_pledges h entries_listed) rows st.schema st.entries (subst (IsAscending (λ a c. value_cmp (column a 2) (column c 2) ≡ Less)) (sym one) up) shown
+      shown_in_order (with_indexes st.schema.more) entries_tree (λ _. refl) t text.of_pledge text.entries_shows (number b ∷ number n ∷ []) (at_pledge b n) (λ v. column v 2 ∷ column v 3 ∷ column v 4 ∷ column v 5 ∷ []) (λ _. refl) (λ _. refl) 3 (λ v. column v 2) (λ _. refl)
+      text.READ_ENTRIES.now _ (text.entries_is st.schema.more) old new (of_pledges h entries_listed) rows st.schema.is st.entries (subst (IsAscending (λ a c. value_cmp (column a 2) (column c 2) ≡ Less)) (sym one) up) shown
       ∙ ap (map (λ v. column v 2 ∷ column v 3 ∷ column v 4 ∷ column v 5 ∷ [])) one ∙ cells its
     where
       cells : (o : Option PledgeValue) → map (λ v. column v 2 ∷ column v 3 ∷ column v 4 ∷ column v 5 ∷ []) (rows_at o (entries_listed b)) ≡ map entry_cells (entries_of o)
@@ -131,7 +132,7 @@ module _ (old new : State) (h : Host) (b n : ℕ) (rows : List Row) (st : ListDe
       let t : Table = record pledges { tree = pledges_tree } in
       let one = of_one_pledge h b n pledge_listed st.ordered (λ m p. ((refl, refl), tt)) in
       short rows _ (few credit_cells its) (subst (λ xs. IsPermutation xs rows) (ap (map cells) one ∙ shows its)
-      (shown_listed keep_schema pledges_tree (λ _. refl) t text.of_pledge text.credit_shows (number b ∷ number n ∷ []) (at_pledge b n) cells (λ _. refl) (λ _. refl) text.READ_CREDIT.now _ [] text.credit_is old new (of_pledges h pledge_listed) rows st.schema st.pledges shown))
+      (shown_listed (with_indexes st.schema.more) pledges_tree (λ _. refl) t text.of_pledge text.credit_shows (number b ∷ number n ∷ []) (at_pledge b n) cells (λ _. refl) (λ _. refl) text.READ_CREDIT.now _ [] (text.credit_is st.schema.more) old new (of_pledges h pledge_listed) rows st.schema.is st.pledges shown))
     where
       cells : Row → Row
       cells v = column v 4 ∷ column v 5 ∷ column v 6 ∷ column v 7 ∷ column v 9 ∷ []
@@ -152,8 +153,8 @@ module _ (old new : State) (h : Host) (b n : ℕ) (rows : List Row) (st : Stands
       let t : Table = record secrets { tree = secrets_tree } in
       let one = of_one_pledge h b n secrets_listed st.ordered (λ m p. under_placed m p.agreement.number secret_cells 1 p.secrets) in
       let up = rises_at found (secrets_listed b) (λ v. column v 2) (λ p is. placed_rise (λ place i. under b p.agreement.number (secret_cells place i)) (λ v. column v 2) (λ place i. refl) 1 p.secrets) in
-      shown_in_order keep_schema secrets_tree (λ _. refl) t text.of_pledge text.secrets_shows params (at_pledge b n) (λ v. column v 2 ∷ column v 3 ∷ column v 4 ∷ column v 5 ∷ []) (λ _. refl) (λ _. refl) 3 (λ v. column v 2) (λ _. refl)
-      text.READ_SECRETS.now _ text.secrets_is old new (of_pledges h secrets_listed) rows st.schema st.secrets (subst (IsAscending (λ a c. value_cmp (column a 2) (column c 2) ≡ Less)) (sym one) up) shown
+      shown_in_order (with_indexes st.schema.more) secrets_tree (λ _. refl) t text.of_pledge text.secrets_shows params (at_pledge b n) (λ v. column v 2 ∷ column v 3 ∷ column v 4 ∷ column v 5 ∷ []) (λ _. refl) (λ _. refl) 3 (λ v. column v 2) (λ _. refl)
+      text.READ_SECRETS.now _ (text.secrets_is st.schema.more) old new (of_pledges h secrets_listed) rows st.schema.is st.secrets (subst (IsAscending (λ a c. value_cmp (column a 2) (column c 2) ≡ Less)) (sym one) up) shown
       ∙ ap (map (λ v. column v 2 ∷ column v 3 ∷ column v 4 ∷ column v 5 ∷ [])) one ∙ cells found
     where
       cells : (o : Option PledgeValue) → map (λ v. column v 2 ∷ column v 3 ∷ column v 4 ∷ column v 5 ∷ []) (rows_at o (secrets_listed b)) ≡ placed_from secret_cells 1 (secrets_of o)
@@ -165,8 +166,8 @@ module _ (old new : State) (h : Host) (b n : ℕ) (rows : List Row) (st : Stands
       let t : Table = record extensions { tree = extensions_tree } in
       let one = of_one_pledge h b n extensions_listed st.ordered (λ m p. under_placed m p.agreement.number extension_cells 1 p.extensions) in
       let up = rises_at found (extensions_listed b) (λ v. column v 2) (λ p is. placed_rise (λ place i. under b p.agreement.number (extension_cells place i)) (λ v. column v 2) (λ place i. refl) 1 p.extensions) in
-      shown_in_order keep_schema extensions_tree (λ _. refl) t text.of_pledge text.extensions_shows params (at_pledge b n) (λ v. column v 2 ∷ column v 3 ∷ column v 4 ∷ []) (λ _. refl) (λ _. refl) 3 (λ v. column v 2) (λ _. refl)
-      text.READ_EXTENSIONS.now _ text.extensions_is old new (of_pledges h extensions_listed) rows st.schema st.extensions (subst (IsAscending (λ a c. value_cmp (column a 2) (column c 2) ≡ Less)) (sym one) up) shown
+      shown_in_order (with_indexes st.schema.more) extensions_tree (λ _. refl) t text.of_pledge text.extensions_shows params (at_pledge b n) (λ v. column v 2 ∷ column v 3 ∷ column v 4 ∷ []) (λ _. refl) (λ _. refl) 3 (λ v. column v 2) (λ _. refl)
+      text.READ_EXTENSIONS.now _ (text.extensions_is st.schema.more) old new (of_pledges h extensions_listed) rows st.schema.is st.extensions (subst (IsAscending (λ a c. value_cmp (column a 2) (column c 2) ≡ Less)) (sym one) up) shown
       ∙ ap (map (λ v. column v 2 ∷ column v 3 ∷ column v 4 ∷ [])) one ∙ cells found
     where
       cells : (o : Option PledgeValue) → map (λ v. column v 2 ∷ column v 3 ∷ column v 4 ∷ []) (rows_at o (extensions_listed b)) ≡ placed_from extension_cells 1 (extensions_of o)
@@ -178,7 +179,7 @@ module _ (old new : State) (h : Host) (b n : ℕ) (rows : List Row) (st : Stands
       let t : Table = record bookings { tree = bookings_tree } in
       let one = of_one_pledge h b n booking_listed st.ordered (λ m p. under_booked m p.agreement.number p.standing.booking) in
       short rows _ (few booking_cells (booking_of found)) (subst (λ xs. IsPermutation xs rows) (ap (map (λ v. column v 2 ∷ column v 3 ∷ column v 4 ∷ [])) one ∙ cells found)
-      (shown_listed keep_schema bookings_tree (λ _. refl) t text.of_pledge text.booking_shows params (at_pledge b n) (λ v. column v 2 ∷ column v 3 ∷ column v 4 ∷ []) (λ _. refl) (λ _. refl) text.READ_BOOKING.now _ [] text.booking_is old new (of_pledges h booking_listed) rows st.schema st.bookings shown))
+      (shown_listed (with_indexes st.schema.more) bookings_tree (λ _. refl) t text.of_pledge text.booking_shows params (at_pledge b n) (λ v. column v 2 ∷ column v 3 ∷ column v 4 ∷ []) (λ _. refl) (λ _. refl) text.READ_BOOKING.now _ [] (text.booking_is st.schema.more) old new (of_pledges h booking_listed) rows st.schema.is st.bookings shown))
     where
       in_book : (m : ℕ) (k : Option Booking) → map (λ v. column v 2 ∷ column v 3 ∷ column v 4 ∷ []) (at_most_one (λ k. under b m (booking_cells k)) k) ≡ at_most_one booking_cells k
       in_book m None = refl
@@ -193,7 +194,7 @@ module _ (old new : State) (h : Host) (b n : ℕ) (rows : List Row) (st : Stands
       let t : Table = record totals { tree = totals_tree } in
       let one = of_one_pledge h b n totals_listed st.ordered (λ m p. ((refl, refl), tt)) in
       short rows _ (few totals_cells (totals_in found)) (subst (λ xs. IsPermutation xs rows) (ap (map (λ v. column v 2 ∷ column v 3 ∷ column v 4 ∷ [])) one ∙ cells found)
-      (shown_listed keep_schema totals_tree (λ _. refl) t text.of_pledge text.totals_shows params (at_pledge b n) (λ v. column v 2 ∷ column v 3 ∷ column v 4 ∷ []) (λ _. refl) (λ _. refl) text.READ_TOTALS.now _ [] text.totals_is old new (of_pledges h totals_listed) rows st.schema st.totals shown))
+      (shown_listed (with_indexes st.schema.more) totals_tree (λ _. refl) t text.of_pledge text.totals_shows params (at_pledge b n) (λ v. column v 2 ∷ column v 3 ∷ column v 4 ∷ []) (λ _. refl) (λ _. refl) text.READ_TOTALS.now _ [] (text.totals_is st.schema.more) old new (of_pledges h totals_listed) rows st.schema.is st.totals shown))
     where
       cells : (o : Option PledgeValue) → map (λ v. column v 2 ∷ column v 3 ∷ column v 4 ∷ []) (rows_at o (totals_listed b)) ≡ at_most_one totals_cells (totals_in o)
       cells None = refl
@@ -204,7 +205,7 @@ module _ (old new : State) (h : Host) (b n : ℕ) (rows : List Row) (st : Stands
       let t : Table = record pledges { tree = pledges_tree } in
       let one = of_one_pledge h b n pledge_listed st.ordered (λ m p. ((refl, refl), tt)) in
       short rows _ (few pledge_cells found) (subst (λ xs. IsPermutation xs rows) (ap (map cells) one ∙ shows found)
-      (shown_listed keep_schema pledges_tree (λ _. refl) t text.of_pledge text.pledge_shows params (at_pledge b n) cells (λ _. refl) (λ _. refl) text.READ_PLEDGE.now _ [] text.pledge_is old new (of_pledges h pledge_listed) rows st.schema st.pledges shown))
+      (shown_listed (with_indexes st.schema.more) pledges_tree (λ _. refl) t text.of_pledge text.pledge_shows params (at_pledge b n) cells (λ _. refl) (λ _. refl) text.READ_PLEDGE.now _ [] (text.pledge_is st.schema.more) old new (of_pledges h pledge_listed) rows st.schema.is st.pledges shown))
     where
       cells : Row → Row
       cells v = column v 2 ∷ column v 3 ∷ column v 4 ∷ column v 5 ∷ column v 6 ∷ column v 7 ∷ column v 8 ∷ column v 9 ∷ column v 10 ∷ column v 11 ∷ column v 12 ∷ column v 13 ∷ column v 14 ∷ column v 15 ∷ []
@@ -279,4 +280,4 @@ terms_shown old new h b v rows st shown =
     let t : Table = record terms { tree = terms_tree } in
     let cells : Row → Row = λ r. column r 2 ∷ column r 3 ∷ column r 4 ∷ [] in
     short rows _ (few terms_cells (terms_at (terms_of (get h.books b)) v)) (subst (λ xs. IsPermutation xs rows) (one_version h b v)
-    (shown_listed keep_schema terms_tree (λ _. refl) t text.of_pledge text.terms_shows (number b ∷ number v ∷ []) (at_pledge b v) cells (λ _. refl) (λ _. refl) text.READ_TERMS.now _ [] text.terms_is old new (of_books h terms_listed) rows st.schema st.terms shown))
+    (shown_listed (with_indexes st.schema.more) terms_tree (λ _. refl) t text.of_pledge text.terms_shows (number b ∷ number v ∷ []) (at_pledge b v) cells (λ _. refl) (λ _. refl) text.READ_TERMS.now _ [] (text.terms_is st.schema.more) old new (of_books h terms_listed) rows st.schema.is st.terms shown))

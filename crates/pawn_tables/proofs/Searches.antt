@@ -21,7 +21,8 @@ use Rattle.pawn_book.specs.Bookings.{confirmed_count, is_confirmed, is_confirmed
 use Rattle.pawn_book.specs.HostStep.{Host}
 use Rattle.pawn_book.specs.Keeping.{number_of, pledges_of}
 use Rattle.pawn_book.specs.Rows.{AreNumberedFrom, is_same_text}
-use Rattle.pawn_tables.specs.Schema.{keep_schema, pledges, bookings, bookings_tree, pledges_tree}
+use Rattle.pawn_tables.specs.Ours.{with_indexes}
+use Rattle.pawn_tables.specs.Schema.{pledges, bookings, bookings_tree, pledges_tree}
 use Rattle.pawn_tables.specs.Rows.{number, under, pledge_cells, pledge_listed, booking_cells, booking_listed, state_number, at_most_one}
 use Rattle.pawn_tables.specs.Heads.{number_cells}
 use Rattle.pawn_tables.specs.At.{is_at}
@@ -84,7 +85,7 @@ module _ (h : Host) (b : ℕ) (s : List ℕ) where
   ref_shown old new rows st shown =
       let t : Table = record pledges { tree = pledges_tree } in
       let one = of_one_book h b (at_ref b s) (λ m k. flat_map (pledge_listed m) k.pledges) no_ref in
-      shown_first keep_schema pledges_tree (λ _. refl) t text.ref_tests text.ref_shows (number b ∷ Text s ∷ []) (at_ref b s) (λ v. column v 1 ∷ []) (λ _. refl) (λ _. refl) 2 (λ v. column v 1) (λ _. refl) text.FIND_REFERENCE.now _ text.ref_is old new (of_pledges h pledge_listed) rows st.schema st.pledges
+      shown_first (with_indexes st.schema.more) pledges_tree (λ _. refl) t text.ref_tests text.ref_shows (number b ∷ Text s ∷ []) (at_ref b s) (λ v. column v 1 ∷ []) (λ _. refl) (λ _. refl) 2 (λ v. column v 1) (λ _. refl) text.FIND_REFERENCE.now _ (text.ref_is st.schema.more) old new (of_pledges h pledge_listed) rows st.schema.is st.pledges
       (subst (IsAscending (λ v w. value_cmp (column v 1) (column w 1) ≡ Less)) (sym one) (found_rise st.ordered (get h.books b) refl)) shown
       ∙ ap (λ xs. take 1 (map (λ v. column v 1 ∷ []) xs)) one ∙ shows_ref (get h.books b)
 
@@ -142,5 +143,5 @@ module _ (b day window : ℕ) where
   confirmed_shown old new h rows st shown =
       let t : Table = record bookings { tree = bookings_tree } in
       let one = of_one_book h b (at_slot b day window) (λ m k. flat_map (booking_listed m) k.pledges) no_slot in
-      shown_count keep_schema bookings_tree (λ _. refl) t text.confirmed_tests (number b ∷ number day ∷ number window ∷ []) (at_slot b day window) (λ _. refl) text.COUNT_CONFIRMED.now _ text.confirmed_is old new (of_pledges h booking_listed) rows st.schema st.bookings shown
+      shown_count (with_indexes st.schema.more) bookings_tree (λ _. refl) t text.confirmed_tests (number b ∷ number day ∷ number window ∷ []) (at_slot b day window) (λ _. refl) text.COUNT_CONFIRMED.now _ (text.confirmed_is st.schema.more) old new (of_pledges h booking_listed) rows st.schema.is st.bookings shown
       ∙ ap (λ n. count_of n ∷ []) (ap length one ∙ slots_in (get h.books b))

@@ -21,7 +21,8 @@ use Rattle.pawn_book.specs.Written.{AreWords, IsWord}
 use Rattle.one_table.proofs.Found.{last_of, shown_last}
 use Rattle.pawn_tables.specs.Heads.{number_cells}
 use Rattle.pawn_tables.specs.Rows.{number, under, at_most_one, placed_from, entry_cells, entries_listed, secret_cells, secrets_listed, extension_cells, extensions_listed}
-use Rattle.pawn_tables.specs.Schema.{keep_schema, entries, secrets, extensions, entries_tree, extensions_tree, secrets_tree}
+use Rattle.pawn_tables.specs.Ours.{with_indexes}
+use Rattle.pawn_tables.specs.Schema.{entries, secrets, extensions, entries_tree, extensions_tree, secrets_tree}
 use Rattle.pawn_tables.specs.StandsFor.{AreStorable, StandsFor, of_pledges}
 use Rattle.pawn_tables.specs.Tails.{AreTails, last_cells, last_issued}
 use Rattle.pawn_tables.specs.declared.joining.LastSecret.{LastSecret}
@@ -90,7 +91,7 @@ module _ (old new : State) (h : Host) (b n : ℕ) (rows : List Row) (st : Stands
   count_shown shown =
       let t : Table = record entries { tree = entries_tree } in
       let one = of_one_pledge h b n entries_listed st.ordered (λ m p. under_map m p.agreement.number entry_cells p.entries) in
-      shown_count keep_schema entries_tree (λ _. refl) t text.of_pledge params (at_pledge b n) (λ _. refl) text.COUNT_ENTRIES.now _ text.entry_count_is old new (of_pledges h entries_listed) rows st.schema st.entries shown
+      shown_count (with_indexes st.schema.more) entries_tree (λ _. refl) t text.of_pledge params (at_pledge b n) (λ _. refl) text.COUNT_ENTRIES.now _ (text.entry_count_is st.schema.more) old new (of_pledges h entries_listed) rows st.schema.is st.entries shown
       ∙ ap (λ k. count_of k ∷ []) (ap length one ∙ many found)
     where
       many : (o : Option PledgeValue) → length (rows_at o (entries_listed b)) ≡ length (entries_of o)
@@ -102,8 +103,8 @@ module _ (old new : State) (h : Host) (b n : ℕ) (rows : List Row) (st : Stands
       let t : Table = record secrets { tree = secrets_tree } in
       let one = of_one_pledge h b n secrets_listed st.ordered (λ m p. under_placed m p.agreement.number secret_cells 1 p.secrets) in
       let up = rises_at found (secrets_listed b) (λ v. column v 2) (λ p is. placed_rise (λ place i. under b p.agreement.number (secret_cells place i)) (λ v. column v 2) (λ place i. refl) 1 p.secrets) in
-      shown_last keep_schema secrets_tree (λ _. refl) t text.of_pledge text.secrets_shows params (at_pledge b n) (λ v. column v 2 ∷ column v 3 ∷ column v 4 ∷ column v 5 ∷ []) (λ _. refl) (λ _. refl) 3 (λ v. column v 2) (λ _. refl)
-      text.READ_LAST_SECRET.now _ text.last_secret_is old new (of_pledges h secrets_listed) rows st.schema st.secrets (subst (IsAscending (λ a c. value_cmp (column a 2) (column c 2) ≡ Less)) (sym one) up) shown
+      shown_last (with_indexes st.schema.more) secrets_tree (λ _. refl) t text.of_pledge text.secrets_shows params (at_pledge b n) (λ v. column v 2 ∷ column v 3 ∷ column v 4 ∷ column v 5 ∷ []) (λ _. refl) (λ _. refl) 3 (λ v. column v 2) (λ _. refl)
+      text.READ_LAST_SECRET.now _ (text.last_secret_is st.schema.more) old new (of_pledges h secrets_listed) rows st.schema.is st.secrets (subst (IsAscending (λ a c. value_cmp (column a 2) (column c 2) ≡ Less)) (sym one) up) shown
       ∙ ap (λ xs. map (λ v. column v 2 ∷ column v 3 ∷ column v 4 ∷ column v 5 ∷ []) (last_of xs)) one ∙ cells found
     where
       cells : (o : Option PledgeValue) → map (λ v. column v 2 ∷ column v 3 ∷ column v 4 ∷ column v 5 ∷ []) (last_of (rows_at o (secrets_listed b))) ≡ at_most_one last_cells (last_issued (secrets_of o))
@@ -117,8 +118,8 @@ module _ (old new : State) (h : Host) (b n : ℕ) (rows : List Row) (st : Stands
       let t : Table = record extensions { tree = extensions_tree } in
       let one = of_one_pledge h b n extensions_listed st.ordered (λ m p. under_placed m p.agreement.number extension_cells 1 p.extensions) in
       let up = rises_at found (extensions_listed b) (λ v. column v 2) (λ p is. placed_rise (λ place e. under b p.agreement.number (extension_cells place e)) (λ v. column v 2) (λ place e. refl) 1 p.extensions) in
-      shown_last keep_schema extensions_tree (λ _. refl) t text.of_pledge text.last_place_shows params (at_pledge b n) (λ v. column v 2 ∷ []) (λ _. refl) (λ _. refl) 3 (λ v. column v 2) (λ _. refl)
-      text.READ_LAST_PLACE.now _ text.last_place_is old new (of_pledges h extensions_listed) rows st.schema st.extensions (subst (IsAscending (λ a c. value_cmp (column a 2) (column c 2) ≡ Less)) (sym one) up) shown
+      shown_last (with_indexes st.schema.more) extensions_tree (λ _. refl) t text.of_pledge text.last_place_shows params (at_pledge b n) (λ v. column v 2 ∷ []) (λ _. refl) (λ _. refl) 3 (λ v. column v 2) (λ _. refl)
+      text.READ_LAST_PLACE.now _ (text.last_place_is st.schema.more) old new (of_pledges h extensions_listed) rows st.schema.is st.extensions (subst (IsAscending (λ a c. value_cmp (column a 2) (column c 2) ≡ Less)) (sym one) up) shown
       ∙ ap (λ xs. map (λ v. column v 2 ∷ []) (last_of xs)) one ∙ cells found
     where
       cells : (o : Option PledgeValue) → map (λ v. column v 2 ∷ []) (last_of (rows_at o (extensions_listed b))) ≡ at_most_one number_cells (option_map (λ (e : Extension). length (extensions_of o)) (last_element (extensions_of o)))

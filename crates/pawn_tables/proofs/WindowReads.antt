@@ -14,7 +14,7 @@ use Rattle.sqlite.specs.State.{State, Shown}
 use Rattle.sqlite_value.specs.Keys.{collated_cmp}
 use Rattle.sqlite_value.proofs.KeyLemmas.{collated_cmp_total}
 use Rattle.sqlite_value.proofs.OrderLemmas.{value_cmp-Int}
-use Rattle.sqlite_trees.proofs.ListLemmas.{all_from_map, all_of, all-map, all_weaker}
+use Rattle.sqlite_trees.proofs.ListLemmas.{all_from_map, all-map, all_weaker}
 use Rattle.pawn_pledge.specs.declared.record.Booking.{Booking}
 use Rattle.pawn_pledge.specs.Pledge.{PledgeValue}
 use Rattle.pawn_book.specs.declared.sheet.Part.TheVariants as part_of
@@ -27,7 +27,8 @@ use Rattle.pawn_tables.specs.At.{is_at, is_below}
 use Rattle.pawn_tables.specs.Heads.{number_cells}
 use Rattle.pawn_tables.specs.Lines.{NamesWindows}
 use Rattle.pawn_tables.specs.Rows.{number, number_in_book, under, booking_cells, booking_listed, state_number}
-use Rattle.pawn_tables.specs.Schema.{keep_schema, bookings, bookings_tree}
+use Rattle.pawn_tables.specs.Ours.{with_indexes}
+use Rattle.pawn_tables.specs.Schema.{bookings, bookings_tree}
 use Rattle.pawn_tables.specs.StandsFor.{StandsFor, of_pledges}
 use Rattle.one_table.proofs.Distinct.{each_shown_once, shown_apart, shown_once_each}
 use Rattle.pawn_tables.proofs.ReadTexts as text
@@ -174,10 +175,10 @@ module _ (b day : ℕ) (old new : State) (h : Host) (rows : List Row) (st : Stan
   pub windows_shown : (ns : List ℕ) × (rows ≡ map number_cells ns) × NamesWindows day ps ns
   windows_shown =
       let told_come = all-map IsComing number_cells _ (all_weaker _ (λ n. IsComing (number_cells n)) (λ n it. (n, refl, it.0, it.1)) _ (some_comes day ps)) in
-      let shown_come = shown_once_each keep_schema bookings_tree (λ _. refl) table text.windows_tests text.windows_shows (Binary ∷ []) (number b ∷ number day ∷ []) (at_windows b day) cells (λ _. refl) (λ _. refl) text.READ_WINDOWS.now _ text.windows_is old new (of_pledges h booking_listed) rows st.schema st.bookings shown
+      let shown_come = shown_once_each (with_indexes st.schema.more) bookings_tree (λ _. refl) table text.windows_tests text.windows_shows (Binary ∷ []) (number b ∷ number day ∷ []) (at_windows b day) cells (λ _. refl) (λ _. refl) text.READ_WINDOWS.now _ (text.windows_is st.schema.more) old new (of_pledges h booking_listed) rows st.schema.is st.bookings shown
       IsComing (subst (AllByRecursion IsComing) (sym told) told_come) in
       let ns = numbers_in rows (all_weaker IsComing (λ r. (n : ℕ) × (r ≡ number_cells n)) (λ r it. (it.0, it.1)) rows shown_come) in
-      let apart = shown_apart keep_schema bookings_tree (λ _. refl) table text.windows_tests text.windows_shows (Binary ∷ []) (number b ∷ number day ∷ []) (at_windows b day) cells (λ _. refl) (λ _. refl) text.READ_WINDOWS.now _ text.windows_is old new (of_pledges h booking_listed) rows st.schema st.bookings shown in (
+      let apart = shown_apart (with_indexes st.schema.more) bookings_tree (λ _. refl) table text.windows_tests text.windows_shows (Binary ∷ []) (number b ∷ number day ∷ []) (at_windows b day) cells (λ _. refl) (λ _. refl) text.READ_WINDOWS.now _ (text.windows_is st.schema.more) old new (of_pledges h booking_listed) rows st.schema.is st.bookings shown in (
         ns.0,
         ns.1,
         record {
@@ -194,6 +195,6 @@ module _ (b day : ℕ) (old new : State) (h : Host) (rows : List Row) (st : Stan
       names w ns are none =
           let P : Row → Type 0 = λ r. collated_cmp (Binary ∷ []) (number_cells w) r ≡ Equal → ⊥ in
           let rows_apart = subst (AllByRecursion P) (sym are) (all-map P number_cells ns (all_weaker _ (λ n. P (number_cells n)) (apart w) ns (others w ns none))) in
-          let all = each_shown_once keep_schema bookings_tree (λ _. refl) table text.windows_tests text.windows_shows (Binary ∷ []) (number b ∷ number day ∷ []) (at_windows b day) cells (λ _. refl) (λ _. refl) text.READ_WINDOWS.now _ text.windows_is old new (of_pledges h booking_listed) rows st.schema st.bookings shown
+          let all = each_shown_once (with_indexes st.schema.more) bookings_tree (λ _. refl) table text.windows_tests text.windows_shows (Binary ∷ []) (number b ∷ number day ∷ []) (at_windows b day) cells (λ _. refl) (λ _. refl) text.READ_WINDOWS.now _ (text.windows_is st.schema.more) old new (of_pledges h booking_listed) rows st.schema.is st.bookings shown
           P (λ x y same not e. not (alike_right (collated_cmp_total (Binary ∷ [])) x y (number_cells w) same ∙ e)) rows_apart in
           all_weaker _ (λ (n : ℕ). n ≢ w) (λ n not same. not (ap (λ m. collated_cmp (Binary ∷ []) (number_cells w) (number_cells m)) same ∙ tied_itself (collated_cmp_total (Binary ∷ [])) (number_cells w))) _ (all_from_map P number_cells _ (subst (AllByRecursion P) told all))

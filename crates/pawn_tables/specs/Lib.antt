@@ -6,6 +6,7 @@ pub mod Keeps
 pub mod Lines
 pub mod Meta
 pub mod OneHost
+pub mod Ours
 pub mod Pages
 pub mod Places
 pub mod Rows

@@ -2,6 +2,7 @@
 use Rattle.std.specs.Prelude.{ℕ, ◌≡◌, ◌≤◌, ◌<◌, ◌^◌, List, length, map, flat_map, Some, IfSome}
 use Rattle.std.specs.FinMap.{entries, get}
 use Rattle.sqlite.specs.Order.{Row}
+use Rattle.sqlite.specs.Schema.{Schema}
 use Rattle.sqlite.specs.Tree.{Trees}
 use Rattle.sqlite.specs.Effect.{Database, IsDatabase}
 use Rattle.pawn_terms.specs.Limits.{first_day}
@@ -12,8 +13,9 @@ use Rattle.pawn_book.specs.Written.{IsWord, AreWords}
 use Rattle.pawn_book.specs.BookStep.{BookValue}
 use Rattle.pawn_book.specs.HostStep.{Host, rows}
 use Rattle.one_table.specs.Listing.{Holds}
-use Rattle.pawn_tables.specs.Schema.{books, terms, pledges, entries as entries_table, secrets, bookings, meta, totals, extensions, keep_schema, bookings_tree, books_tree, entries_tree, extensions_tree, meta_tree, pledges_tree, secrets_tree, terms_tree, totals_tree}
+use Rattle.pawn_tables.specs.Schema.{books, terms, pledges, entries as entries_table, secrets, bookings, meta, totals, extensions, bookings_tree, books_tree, entries_tree, extensions_tree, meta_tree, pledges_tree, secrets_tree, terms_tree, totals_tree}
 use Rattle.pawn_tables.specs.Entries.{RiseFrom}
+use Rattle.pawn_tables.specs.Ours.{HasOurTables}
 use Rattle.pawn_tables.specs.Meta.{meta_rows}
 use Rattle.pawn_tables.specs.Rows.{book_row, terms_listed, pledge_listed, entries_listed, secrets_listed, booking_listed, totals_listed, extensions_listed}
 
@@ -47,7 +49,7 @@ AreStorable h = (b : ℕ) (k : BookValue) → get h.books b ≡ Some k → IsSto
 
 -- The tables of books, of terms, of pledges and of entries list the host, whatever the others hold.
 pub record ListDebts (db : Database) (h : Host) : Type 0 where
-  pub schema : db.schema ≡ keep_schema
+  pub schema : HasOurTables db.schema
   pub books : Holds db.trees books_tree (record books { tree = books_tree }) (map (λ (e : ℕ × BookValue). book_row e.0 e.1) (entries h.books))
   pub terms : Holds db.trees terms_tree (record terms { tree = terms_tree }) (of_books h terms_listed)
   pub pledges : Holds db.trees pledges_tree (record pledges { tree = pledges_tree }) (of_pledges h pledge_listed)
@@ -57,7 +59,7 @@ pub record ListDebts (db : Database) (h : Host) : Type 0 where
 
 -- The tables list the host, and note the number of their schema, how many rows are counted, and the limit.
 pub record StandsFor (db : Database) (h : Host) : Type 0 where
-  pub schema : db.schema ≡ keep_schema
+  pub schema : HasOurTables db.schema
   -- the rows obey it
   pub sound : IsDatabase db
   pub books : Holds db.trees books_tree (record books { tree = books_tree }) (map (λ (e : ℕ × BookValue). book_row e.0 e.1) (entries h.books))
@@ -73,6 +75,6 @@ pub record StandsFor (db : Database) (h : Host) : Type 0 where
   pub ordered : AreBooksOrdered h
   pub storable : AreStorable h
 
--- the trees of a database of these tables stand for the host
+-- the trees of a database stand for the host
 abbrev pub HoldHost : Trees → Host → Type 0
-HoldHost trees h = StandsFor (record { schema = keep_schema; trees = trees }) h
+HoldHost trees h = (schema : Schema) × StandsFor (record { schema = schema; trees = trees }) h

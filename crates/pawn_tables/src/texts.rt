@@ -83,6 +83,10 @@ pub const MAKE_PLEDGES: &str = "\
     UNIQUE (book, ref), \
     FOREIGN KEY (book, version) REFERENCES terms) STRICT";
 
+/// Makes the index by which the periods that end on a day are found.
+pub const MAKE_PLEDGES_BY_END: &str =
+    "CREATE INDEX pledges_by_end ON pledges (book, closed, ends, number)";
+
 /// The row of a pledge.
 pub const READ_PLEDGE: &str = "\
     SELECT ref, article, kind, credit, taken, agreed, five, version, ends, held, last_day, \
@@ -200,6 +204,11 @@ pub const MAKE_BOOKINGS: &str = "\
     state INTEGER NOT NULL, \
     PRIMARY KEY (book, number), \
     FOREIGN KEY (book, number) REFERENCES pledges) STRICT";
+
+/// Makes the index by which the bookings of a day are found. The number stands before the window, so that each page of a day comes in
+/// its order.
+pub const MAKE_BOOKINGS_BY_TIME: &str =
+    "CREATE INDEX bookings_by_time ON bookings (book, day, state, number, slot)";
 
 /// The booking of a pledge.
 pub const READ_BOOKING: &str =

@@ -13,18 +13,16 @@ ghost use Rattle.pawn_tables.specs.Places.{page_behind};
 ghost use Rattle.pawn_keeper.specs.Handing.{HandsRows};
 
 use super::handing::hand_all;
-use super::{BEYOND, TableKeep};
+use super::{BEYOND, TOO_MANY, TableKeep};
 use one_table::know_settled;
 use pawn_book::{Entry, Extension, Flow, Issued, KeepError, Number, Visitor};
-use pawn_debt::Entries;
-use pawn_pledge::{Extensions, Secrets};
+use pawn_debt::{Entries, MOST_ENTRIES};
+use pawn_pledge::{Extensions, MOST_EXTENSIONS, MOST_SECRETS, Secrets};
 use pawn_tables::{PAGE_ROWS, entries_page, extensions_page, secrets_page};
 use sqlite::Alter;
 
-// How many places a page has, and how many pages there are of places that 32 bits can hold.
+// How many places a page has.
 const PLACES: u32 = PAGE_ROWS as u32;
-
-const PAGES: u32 = u32::MAX / PLACES;
 
 impl<S: Alter> TableKeep<S> {
     // A page of the entries of a pledge, from a number on.
@@ -60,7 +58,7 @@ impl<S: Alter> TableKeep<S> {
             (λ h. entries_of (pledge_in (get h.books book) number)) }
     {
         let mut from = 0;
-        for _ in 0..u32::MAX {
+        for turn in 0..MOST_ENTRIES + 1 {
             let page = self.entries_from(book, number, from)?;
             match hand_all(page.as_slice(), visitor) {
                 Flow::Go => {}
@@ -71,7 +69,7 @@ impl<S: Alter> TableKeep<S> {
             }
             from = behind_entries(from, page.as_slice())?;
         }
-        Err(BEYOND)
+        Err(TOO_MANY)
     }
 
     // A page of the secrets of a pledge, behind a place.
@@ -106,7 +104,7 @@ impl<S: Alter> TableKeep<S> {
             (IsUnsoundAt book) V.step self.old self.new visitor.old visitor.new result
             (λ h. secrets_of (pledge_in (get h.books book) number)) }
     {
-        for turn in 0..PAGES {
+        for turn in 0..MOST_SECRETS as u32 + 1 {
             let page = self.secrets_behind(book, number, turn * PLACES)?;
             match hand_all(page.as_slice(), visitor) {
                 Flow::Go => {}
@@ -116,7 +114,7 @@ impl<S: Alter> TableKeep<S> {
                 return Ok(Flow::Go);
             }
         }
-        Err(BEYOND)
+        Err(TOO_MANY)
     }
 
     // A page of the extensions of a pledge, behind a place.
@@ -151,7 +149,7 @@ impl<S: Alter> TableKeep<S> {
             (IsUnsoundAt book) V.step self.old self.new visitor.old visitor.new result
             (λ h. extensions_of (pledge_in (get h.books book) number)) }
     {
-        for turn in 0..PAGES {
+        for turn in 0..MOST_EXTENSIONS as u32 + 1 {
             let page = self.extensions_behind(book, number, turn * PLACES)?;
             match hand_all(page.as_slice(), visitor) {
                 Flow::Go => {}
@@ -161,7 +159,7 @@ impl<S: Alter> TableKeep<S> {
                 return Ok(Flow::Go);
             }
         }
-        Err(BEYOND)
+        Err(TOO_MANY)
     }
 }
 

@@ -11,9 +11,9 @@ ghost use Rattle.pawn_keeper.specs.Handing.{HandsRows};
 ghost use Rattle.pawn_keeper.specs.Windows.{named_sheet, named_sheets};
 
 use super::handing::{hand_lines, hand_whole};
-use super::{BEYOND, NUMBERS, TableKeep};
+use super::{TOO_MANY, TableKeep};
 use one_table::know_settled;
-use pawn_book::{Day, Flow, KeepError, Number, Part, SheetItem, Visitor};
+use pawn_book::{Day, Flow, KeepError, MOST_PLEDGES, Number, Part, SheetItem, Visitor};
 use pawn_debt::Rows;
 use pawn_pledge::LAST_WINDOW;
 use pawn_tables::{Line, PAGE_ROWS, count_in, lines_page, windows_in};
@@ -69,7 +69,7 @@ impl<S: Alter> TableKeep<S> {
             (λ h. part_items part day (pledges_of (get h.books book))) }
     {
         let mut above = 0;
-        for _ in 0..NUMBERS {
+        for turn in 0..MOST_PLEDGES + 1 {
             let page = self.lines_above(book, day, part, above)?;
             match hand_lines(part, page.as_slice(), visitor) {
                 Flow::Go => {}
@@ -80,7 +80,7 @@ impl<S: Alter> TableKeep<S> {
             }
             above = behind_lines(above, page.as_slice());
         }
-        Err(BEYOND)
+        Err(TOO_MANY)
     }
 
     // The same, with so many above them.

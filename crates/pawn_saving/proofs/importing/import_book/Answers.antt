@@ -1,8 +1,9 @@
 use Rattle.std.proofs.Common.{◌∷◌, ◌++◌, refl, subst, sym, true}
 use Rattle.sqlite.specs.Held.{state}
 use Rattle.pawn_book.specs.HostStep.{rows}
-use Rattle.one_table.specs.Listing.{Lists, with_rows}
-use Rattle.pawn_tables.specs.Schema.{keep_schema, terms_tree}
+use Rattle.one_table.specs.Listing.{with_rows}
+use Rattle.pawn_tables.specs.Ours.{ListsOurs}
+use Rattle.pawn_tables.specs.Schema.{terms_tree}
 use Rattle.pawn_tables.specs.Rows.{number, placed_from, terms_cells}
 use Rattle.pawn_saving.specs.Counted.{listed_as}
 use Rattle.pawn_saving.proofs.Hosting.{as_lists}
@@ -31,8 +32,8 @@ returns-clause-wrote g c clean within h sound can st =
     let noted = rw c.get.ensures.value at (c.in_ok-set_import.ensures.wrote k brought) in
     let first = noted (sym versions) (sym so_many) clean1 within (listed_as h n) (other_books h b key k brought is empty) (only_book h b key k brought is empty n) (as_lists _ h st) in
     let own = with_own_row h b key k brought is empty n in
-    let put = subst (λ m. Lists keep_schema two.now (with_rows own terms_tree (placed_from (λ version t. number m ∷ number version ∷ terms_cells t) 1 c.as_slice-terms.result.now ++ own terms_tree))) c.get-2.ensures.value (c.in_ok-put_versions.ensures.wrote clean2 within1 own first) in
-    let second = subst (λ ts. Lists keep_schema two.now (with_rows own terms_tree (placed_from (λ version t. number b ∷ number version ∷ terms_cells t) 1 ts ++ own terms_tree))) c.as_slice-terms.ensures.value put in
+    let put = subst (λ m. ListsOurs two.now (with_rows own terms_tree (placed_from (λ version t. number m ∷ number version ∷ terms_cells t) 1 c.as_slice-terms.result.now ++ own terms_tree))) c.get-2.ensures.value (c.in_ok-put_versions.ensures.wrote clean2 within1 own first) in
+    let second = subst (λ ts. ListsOurs two.now (with_rows own terms_tree (placed_from (λ version t. number b ∷ number version ∷ terms_cells t) 1 ts ++ own terms_tree))) c.as_slice-terms.ensures.value put in
     let third = rw (c.get-3.ensures.value, c.as_slice-pledges.ensures.value) at (c.in_ok-added.ensures.wrote clean within2 (with_terms h b key k brought is empty n)) in
     let all = third (unbooked h b key k brought is empty st.ordered) (brought_numbered h b key k brought is empty can.sound) second in
     filled_counted h b key k brought is empty n new.now c.in_ok-versions.versions c.in_ok-added.added c.together.result refl versions all.0 c.together.ensures.value all.1

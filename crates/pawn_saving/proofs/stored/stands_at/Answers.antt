@@ -1,4 +1,4 @@
-use Rattle.std.proofs.Common.{◌≡◌, ◌∙◌, ◌↔◌, ◌≤◌, IsTrue, length, ap, subst, sym}
+use Rattle.std.proofs.Common.{◌∙◌, ◌↔◌, ◌≤◌, IsTrue, subst, sym}
 use Rattle.std.specs.FinMap.{get}
 use Rattle.pawn_book.specs.BookStep.{pledge_in}
 use Rattle.pawn_book.specs.Keeping.{entries_of, extensions_of, secrets_of}

@@ -12,7 +12,7 @@ use Rattle.pawn_tables.proofs.pages.entries_page.Goals as goal
 
 pub returns-clause-finds : goal.returns-clause-finds
 returns-clause-finds g c =
-    found _ _ _ _ _ c.read_entries.result _ text.READ_ENTRIES_PAGE.now text.from_is.2 c.in_ok-rows.ensures.lent
+    found _ _ _ _ _ c.read_entries.result _ text.READ_ENTRIES_PAGE.now (λ more. (text.from_is more).2) c.in_ok-rows.ensures.lent
     (λ clean. rw (c.params-to_sql.ensures, c.params-to_sql-2.ensures, c.params-to_sql-3.ensures) at (c.in_ok-rows.ensures.shown clean))
     (λ h st shown.
     let are = c.deref.ensures.value ∙ reads.entries_page_shown _ _ h c.args.book c.args.number c.args.from _ st shown in

@@ -9,7 +9,7 @@ use Rattle.pawn_tables.proofs.tails.extension_count.Goals as goal
 
 pub returns-clause-finds : goal.returns-clause-finds
 returns-clause-finds g c =
-    found _ _ _ _ _ c.first_place.result _ text.READ_LAST_PLACE.now text.last_place_is.2 c.in_ok-rows.ensures.lent
+    found _ _ _ _ _ c.first_place.result _ text.READ_LAST_PLACE.now (λ more. (text.last_place_is more).2) c.in_ok-rows.ensures.lent
     (λ clean. rw (c.params-to_sql.ensures, c.params-to_sql-2.ensures) at (c.in_ok-rows.ensures.shown clean))
     (λ h st shown.
     let are = c.deref.ensures.value ∙ reads.place_shown _ _ h c.args.book c.args.number _ st shown in

@@ -7,7 +7,7 @@ use Rattle.pawn_tables.specs.Entries.{entries_from}
 use Rattle.pawn_keeper.proofs.Handings.{HandedTo}
 use Rattle.pawn_keeper.proofs.keeper.TableKeep.hand_entries.Given as goal
 
-abbrev pub invariant-loop : goal.invariant-loop
-invariant-loop g l =
+abbrev pub invariant-loop-turn : goal.invariant-loop-turn
+invariant-loop-turn g l =
     HandedTo (keeping_by (λ k. state g.S.Store k.conn)) g.V.Visitor.step (λ h. entries_of (pledge_in (get h.books l.book) l.number)) (λ n h. entries_from n (entries_of (pledge_in (get h.books l.book) l.number)))
-    l.fn.self l.self l.fn.visitor l.visitor l.from
+    l.fn.self l.self l.fn.visitor l.visitor l.from l.turn

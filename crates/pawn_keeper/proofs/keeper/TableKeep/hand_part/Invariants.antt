@@ -7,7 +7,7 @@ use Rattle.pawn_tables.specs.Lines.{items_past}
 use Rattle.pawn_keeper.proofs.Handings.{HandedTo}
 use Rattle.pawn_keeper.proofs.keeper.TableKeep.hand_part.Given as goal
 
-abbrev pub invariant-loop : goal.invariant-loop
-invariant-loop g l =
+abbrev pub invariant-loop-turn : goal.invariant-loop-turn
+invariant-loop-turn g l =
     HandedTo (keeping_by (λ k. state g.S.Store k.conn)) g.V.Visitor.step (λ h. part_items l.part l.day (pledges_of (get h.books l.book))) (λ n h. items_past l.part l.day n (pledges_of (get h.books l.book)))
-    l.fn.self l.self l.fn.visitor l.visitor l.above
+    l.fn.self l.self l.fn.visitor l.visitor l.above l.turn

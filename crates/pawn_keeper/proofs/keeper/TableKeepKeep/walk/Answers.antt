@@ -1,12 +1,15 @@
-use Rattle.std.proofs.Common.{rules, ◌≡◌, ◌+◌, ℕ, slice_get, Option, Some, None, Err, sym, ◌∙◌}
+use Rattle.std.proofs.Common.{rules, ◌≡◌, ◌+◌, ◌<◌, ℕ, slice_get, Option, Some, None, Err, refl, sym, ◌∙◌, arith}
+use Rattle.std.proofs.lemmas.Bool.Decides.{nat_tests}
 use Rattle.std.specs.FinMap.{get}
 use Rattle.sqlite.specs.Held.{state}
 use Rattle.pawn_pledge.specs.Pledge.{PledgeValue}
 use Rattle.pawn_book.specs.BookStep.{pledge_in}
 use Rattle.pawn_book.specs.Keeping.{Keeping, Reads, pledges_of}
 use Rattle.pawn_book.proofs.Reading.{reads_as, reads_none}
+use Rattle.pawn_book.specs.Limits.{most_pledges}
 use Rattle.pawn_tables.specs.Keeps.{keeping_by}
-use Rattle.pawn_keeper.proofs.Walks.{ended, failed, more, pledge_at, stopped}
+use Rattle.pawn_keeper.proofs.TooMany.{too_many_pledges}
+use Rattle.pawn_keeper.proofs.Walks.{ended, failed, more, pledge_at, stopped, walked_past}
 use Rattle.pawn_keeper.proofs.keeper.TableKeepKeep.walk.Goals as goal
 
 -- the pledge that was read stands at the place
@@ -35,3 +38,8 @@ pub returns-clause-reads : goal.returns-clause-reads
 returns-clause-reads g c =
     failed (keeping_by (λ k. state g.S.Store k.conn)) g.V.Visitor.step (λ h. pledges_of (get h.books c.args.book)) _ _ _ _ _ c.loop-place.visitor c.loop-place.place c.loop-place.invariant
     (reads_none (keeping_by (λ k. state g.S.Store k.conn)) c.loop-place.self (λ h. Unit {0}) (λ h. tt))
+
+pub returns-clause-errs : goal.returns-clause-errs
+returns-clause-errs g c =
+    let past : most_pledges < c.loop-place.place = grind (arith, nat_tests, c.loop-place-test.false) in
+    walked_past (keeping_by (λ k. state g.S.Store k.conn)) g.V.Visitor.step (λ h. pledges_of (get h.books c.args.book)) most_pledges (λ h. too_many_pledges h c.args.book) _ _ _ c.loop-place.visitor c.loop-place.place (λ steady. steady) c.loop-place.invariant past _ refl

@@ -1,0 +1,76 @@
+-- A store gets the indexes that it lacks: a transaction that makes them, and a commit.
+use Rattle.std.proofs.Common.{◌≡◌, inl, inr, true, false, Ok, Err, IsTrue, refl, sym, subst, ◌∙◌, arith}
+use Rattle.sqlite.specs.Tree.{Trees}
+use Rattle.sqlite.specs.State.{State, HasCleanDisk, IsLive, IsRolledBack, Shows, Survives}
+use Rattle.sqlite.specs.Steps.{FailsToCommit}
+use Rattle.sqlite.specs.declared.error.Error.{Error}
+use Rattle.sqlite.proofs.StateLemmas.{survives_then}
+use Rattle.one_table.specs.Lending.{IsLent}
+use Rattle.pawn_opening.specs.declared.fault.OpenFault.{OpenFault}
+use Rattle.pawn_opening.specs.Indexing.{AddsIndexes, GainsIndexes, HoldGained}
+use Rattle.pawn_opening.specs.Opened.{IndexesStore}
+use Rattle.pawn_opening.specs.Refusing.{IsStoreFault}
+use Rattle.pawn_opening.proofs.Begun.{IsBegun, rolled_back}
+use Rattle.pawn_opening.proofs.Gained.{gains_none}
+
+-- it lacks none
+pub not_lacking : (s : State) → s.in_transaction ≡ false → (IsTrue s.is_open → s.now ≡ s.committed) → IsLive s → IndexesStore s s (Ok tt)
+not_lacking s ended settled live = record {
+  ok = λ clean open'. (open', gains_none s.now (live open').0, settled open');
+  err = λ clean. tt;
+  why = tt;
+  ended = ended;
+  survives = record { clean = omega arith; shield = λ h. h; counts = omega arith; limit = refl; closes = λ clean now. inl now; crash = λ clean db left. inl left };
+}
+
+module _ (old new begun lent : State) (was : IsBegun old begun) (ended : new.in_transaction ≡ false) where
+  abbrev Gained : Trees → Type 0
+  Gained = HoldGained old.now
+
+  -- the transaction failed, and is rolled back
+  pub not_indexed : (why : OpenFault) → IsStoreFault why → IsLent begun lent false → (HasCleanDisk new → IsRolledBack lent new) → Survives lent new (λ _. ⊥) → IndexesStore old new (Err why)
+  not_indexed why store part undone after = record {
+    ok = λ clean open'. tt;
+    err = λ clean. rolled_back old begun lent new false was part (let up = after.clean in omega (arith, clean, up)) (undone clean);
+    why = store;
+    ended = ended;
+    survives = survives_then old begun new (λ _. ⊥) (λ _. ⊥) Gained (λ clean db none. absurd none) (λ clean db none. absurd none) was.survives
+        (survives_then begun lent new (λ _. ⊥) (λ _. ⊥) (λ _. ⊥) (λ clean db none. none) (λ clean db none. none) part.survives after);
+  }
+
+  module _ (part : IsLent begun lent true) (adds : AddsIndexes {E = Error} begun lent (Ok tt)) (after : Survives lent new (λ db. db ≡ lent.now.trees)) where
+    clean_past : HasCleanDisk new → HasCleanDisk lent
+    clean_past clean = let up = after.clean in omega (arith, clean, up)
+
+    gained : HasCleanDisk lent → GainsIndexes old.now lent.now
+    gained clean = subst (λ d. GainsIndexes d lent.now) was.now (adds clean was.within)
+
+    survived : Survives old new Gained
+    survived =
+        survives_then old begun new (λ _. ⊥) Gained Gained (λ clean db none. absurd none) (λ clean db held. held) was.survives
+        (survives_then begun lent new (λ _. ⊥) (λ db. db ≡ lent.now.trees) Gained (λ clean db none. absurd none) (λ clean db is. (lent.now, gained (clean_past clean), is)) part.survives after)
+
+    pub indexed : (HasCleanDisk new → Shows lent new lent.now lent.now false) → IndexesStore old new (Ok tt)
+    indexed shows = record {
+      ok = λ clean open'. let s = shows clean in (s.is_open, subst (GainsIndexes old.now) (sym s.now_is) (gained (clean_past clean)), s.now_is ∙ sym s.committed_is);
+      err = λ clean. tt;
+      why = tt;
+      ended = ended;
+      survives = survived;
+    }
+
+    pub not_committed : (why : OpenFault) → IsStoreFault why → (error : Error) → (HasCleanDisk new → FailsToCommit lent new error) → IndexesStore old new (Err why)
+    not_committed why store error failed = record {
+      ok = λ clean open'. tt;
+      err = λ clean. rolled_back old begun lent new true was part (clean_past clean) (rolled clean);
+      why = store;
+      ended = ended;
+      survives = survived;
+    }
+      where
+        rolled : HasCleanDisk new → IsRolledBack lent new
+        rolled clean = go (failed clean)
+          where
+            go : FailsToCommit lent new error → IsRolledBack lent new
+            go (inl f) = f.3
+            go (inr f) = absurd (let yes' = part.inside (clean_past clean) was.within refl in let no' = f.1 in cc)

@@ -1,0 +1,25 @@
+-- Indexes that a store gains.
+use Rattle.std.specs.Prelude.{◌≡◌, ◌++◌, List, OnOk, IsTrue, Result}
+use Rattle.sqlite.specs.Effect.{Database, IsDatabase}
+use Rattle.sqlite.specs.State.{State, HasCleanDisk}
+use Rattle.sqlite.specs.Tree.{Trees}
+use Rattle.sqlite_catalog.specs.Change.{KeepsRows}
+use Rattle.sqlite_schema.specs.declared.schema.Index.{Index}
+use Rattle.pawn_tables.specs.Ours.{AreLoose}
+
+-- The database has gained these indexes, of which none asks that rows differ. Its tables and views stand as they did, and each table
+-- holds the rows that it held.
+pub record GainsIndexes (old new : Database) : Type 0 where
+  pub more : List Index
+  pub loose : AreLoose more
+  pub is : new.schema ≡ record old.schema { indexes = old.schema.indexes ++ more }
+  pub rows : KeepsRows old.schema.tables old.trees new.trees
+  pub sound : IsDatabase new
+
+-- the trees are those of the database, with indexes that it has gained
+abbrev pub HoldGained : Database → Trees → Type 0
+HoldGained db trees = (after : Database) × GainsIndexes db after × (trees ≡ after.trees)
+
+-- a part of a transaction adds indexes alone
+abbrev pub AddsIndexes : {E : Type 0} → State → State → Result (Unit {0}) E → Type 0
+AddsIndexes old new result = HasCleanDisk new → IsTrue old.in_transaction → OnOk result (GainsIndexes old.now new.now)

@@ -1,0 +1,88 @@
+ghost use Rattle.std.specs.Prelude.{◌≡◌, false, is_ok};
+ghost use Rattle.sqlite.specs.Held.{state};
+ghost use Rattle.one_table.specs.Lending.{IsLent};
+ghost use Rattle.pawn_opening.specs.Indexing.{AddsIndexes};
+ghost use Rattle.pawn_opening.specs.Opened.{IndexesStore};
+
+use crate::fault::{OpenFault, refused};
+use one_table::{know_settled, run};
+use pawn_tables::texts::{MAKE_BOOKINGS_BY_TIME, MAKE_PLEDGES_BY_END};
+use sqlite::{Alter, Connection, Error, Transaction};
+
+/// Which of the program's two indexes a store lacks.
+#[derive(Clone, Copy)]
+pub enum Lacking {
+    /// The one by which the periods that end on a day are found.
+    PledgesByEnd,
+    /// The one by which the bookings of a day are found.
+    BookingsByTime,
+    /// Both of them.
+    Both,
+}
+
+/// Makes the indexes that are lacking, whatever tables there are. Each table holds the rows that it held.
+///
+/// # Errors
+/// What the database says of an index that it doesn't make: its name is taken, a table or a column is missing, the store failed, or
+/// memory was wanting.
+#[tactic(auto, using(crate::proofs::Lent::lent_then))]
+pub fn make_indexes<S: Alter>(tx: &mut Transaction<'_, S>, lacking: Lacking) -> Result<(), Error>
+    ensures same_reference { tx.new.conn.ghost_name ≡ tx.old.conn.ghost_name }
+    ensures adds { AddsIndexes (state S.Store tx.old.conn.now)
+        (state S.Store tx.new.conn.now) result }
+    ensures lent { IsLent (state S.Store tx.old.conn.now) (state S.Store tx.new.conn.now)
+        (is_ok result) }
+{
+    match lacking {
+        Lacking::PledgesByEnd => run(tx, MAKE_PLEDGES_BY_END, &[]),
+        Lacking::BookingsByTime => run(tx, MAKE_BOOKINGS_BY_TIME, &[]),
+        Lacking::Both => {
+            run(tx, MAKE_PLEDGES_BY_END, &[])?;
+            run(tx, MAKE_BOOKINGS_BY_TIME, &[])
+        }
+    }
+}
+
+// Whether an index has this name, by which letters' cases are all one to SQL.
+fn has_index<S: Alter>(conn: &Connection<S>, name: &[u8]) -> bool {
+    let indexes = conn.schema().indexes.as_slice();
+    indexes
+        .iter()
+        .any(|it| it.name.as_slice().eq_ignore_ascii_case(name))
+}
+
+// What the store lacks. An index of the name is taken for the program's, whatever it is an index of.
+fn indexes_lacking<S: Alter>(conn: &Connection<S>) -> Option<Lacking> {
+    let by_end = has_index(conn, b"pledges_by_end");
+    let by_time = has_index(conn, b"bookings_by_time");
+    match (by_end, by_time) {
+        (true, true) => None,
+        (false, true) => Some(Lacking::PledgesByEnd),
+        (true, false) => Some(Lacking::BookingsByTime),
+        (false, false) => Some(Lacking::Both),
+    }
+}
+
+/// Gives a store the indexes that it lacks, in one transaction that changes no row. A store that has them is not written.
+///
+/// # Errors
+/// `Store` and `Memory` if the store failed, or memory was wanting; the store is left as it was.
+pub fn add_indexes<S: Alter>(conn: &mut Connection<S>) -> Result<(), OpenFault>
+    requires rests { conn.old.in_transaction ≡ false }
+    ensures indexed { IndexesStore (state S.Store conn.old) (state S.Store conn.new) result }
+{
+    know_settled(conn);
+    let _ = conn.schema();
+    let Some(lacking) = indexes_lacking(conn) else {
+        return Ok(());
+    };
+    let mut tx = conn.transaction();
+    if let Err(error) = make_indexes(&mut tx, lacking) {
+        tx.rollback();
+        return Err(refused(error));
+    }
+    match tx.commit() {
+        Ok(()) => Ok(()),
+        Err(error) => Err(refused(error)),
+    }
+}
