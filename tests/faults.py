@@ -162,6 +162,10 @@ def files_that_are_no_store_of_ours_are_refused_and_stay():
             fault(502, "NotOurs"),
         ),
         (
+            "that table in a log whose salt begins with a zero",
+            with_its_log(pledges, "INSERT INTO pledges VALUES (7, 'Ann')", salt=0), fault(502, "NotOurs"),
+        ),
+        (
             "other tables alone", database_of("CREATE TABLE note (id INTEGER PRIMARY KEY, title TEXT)"),
             fault(502, "NotOurs"),
         ),

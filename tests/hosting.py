@@ -476,25 +476,17 @@ def open_pledge(caller, book, number, **changed):
 
 
 class Writer(threading.Thread):
-    """Repays a pledge penny by penny through the proxy, until it is ended, and keeps account of what was
-    acknowledged. Where no reply of the service comes it looks
-    how the pledge stands: what was not handed on was not done, and what was may have been. A connection that the proxy
-    ends under it is `cut`.
+    """Repays a pledge penny by penny through the proxy, until it is ended, and keeps account of what was acknowledged.
+    If no reply of the service comes it looks how the pledge stands: what was not handed on was not done, and what was
+    may have been. A connection that the proxy ends under it is `cut`. `told` has what it was told by the proxy.
     """
 
     def __init__(self, hosted, book, number, pause=0.012):
         super().__init__(daemon=True)
         self.caller, self.book, self.number, self.pause = hosted.caller(), book, number, pause
-        self.ended, self.acknowledged, self.sent, self.not_done, self.unknown, self.cut, self.longest, self.wrong = (
-            threading.Event(),
-            0,
-            0,
-            0,
-            0,
-            0,
-            0.0,
-            [],
-        )
+        self.ended, self.acknowledged, self.sent, self.longest = threading.Event(), 0, 0, 0.0
+        self.not_done = self.unknown = self.cut = 0
+        self.told, self.wrong = [], []
         self.start()
 
     def run(self):
@@ -521,6 +513,7 @@ class Writer(threading.Thread):
         elif told is None:
             self.wrong.append(reply.body)
         elif told[0] != 429:
+            self.told.append((self.sent, *told))
             self.not_done += not told[1]
             self.unknown += told[1]
             self.settle(told[1])

@@ -292,6 +292,10 @@ def what_is_no_older_store_is_refused_and_stays():
             "that table in the log", with_its_log(pledges, "INSERT INTO pledges VALUES (7, 'Ann')"),
             fault(512, "NotOurs"),
         ),
+        (
+            "that table in a log whose salt begins with a zero",
+            with_its_log(pledges, "INSERT INTO pledges VALUES (7, 'Ann')", salt=0), fault(512, "NotOurs"),
+        ),
         ("a view alone", database_of("CREATE VIEW note AS SELECT 1"), fault(512, "NotOurs")),
         ("a table meta without a schema", database_of(meta), fault(512, "NotOurs")),
         ("the schema 0", database_of(meta, noted.format(0)), fault(512, "NotOurs")),

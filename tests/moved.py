@@ -7,6 +7,7 @@ import os
 import random
 import shutil
 import signal
+import socket
 import subprocess
 import sys
 import tempfile
@@ -409,10 +410,40 @@ def kept_connections_outlast_a_hundred_moves():
                     told = caller.ask("GET", "/books/8/held", f"Pledge-Receipt: {receipt}")
                     expect(f"over a kept connection after move {moves}", status(told), 200)
         expect("connections that were ended", [kept[n] is not idle[n].connection for n in range(20)], [False] * 20)
-        # Once in some runs one reply of the proxy leaves it open whether the repayment was made, and the writer asks.
-        expect("what a writer noticed", [(one.cut, one.unknown <= 1, one.not_done) for one in running], [(0, True, 0)])
+        noticed = [(one.cut, one.unknown, one.not_done, one.told) for one in running]
+        expect(f"what a writer noticed ({it.log('error')[-900:]})", noticed, [(0, 0, 0, [])])
         expect("where the books are", {mapped(it)[book] for book in books}, {"shard3"})
         print(f"        {moves} moves during {running[0].acknowledged} repayments: 0 connections ended", flush=True)
+
+
+def half_asked(shard, receipt):
+    """A connection to a shard that has sent half a request, so that the service reads from it."""
+    caller = socket.create_connection(("127.0.0.1", shard.port), timeout=20)
+    whole = request("GET", "/books/7/held", "Host: x", "Connection: close", f"Pledge-Receipt: {receipt}")
+    caller.sendall(whole[:40])
+    time.sleep(0.3)
+    return caller, whole[40:]
+
+
+def what_is_looked_at_goes_on():
+    """A service that is asked just now is not stopped by a look at its books, and a copy lets it end first."""
+    with Hosted() as it:
+        receipt, shard = it.open_books(1)[7][0], it.shards[0]
+        for words in (("verify",), ("status",), ("reload",), ("move", 8, "shard3")):
+            caller, rest = half_asked(shard, receipt)
+            it.run_shards(*words, wanted=None)
+            with caller:
+                caller.sendall(rest)
+                expect(f"a request during {words[0]}", status(read_reply(caller)), 200)
+        caller, rest = half_asked(shard, receipt)
+        copying = threading.Thread(target=it.run_shards, args=("backup", shard.path, os.path.join(it.room, "copies/1")))
+        copying.start()
+        time.sleep(0.5)
+        with caller:
+            caller.sendall(rest)
+            expect("a request during a copy", status(read_reply(caller)), 200)
+        copying.join(60)
+        expect("the copies", len(os.listdir(os.path.join(it.room, "copies/1"))), 1)
 
 
 def places_that_are_lost():
@@ -454,6 +485,7 @@ TESTS = (
     slow_requests_do_not_pass_the_fence,
     a_move_waits_for_what_was_handed_on,
     kept_connections_outlast_a_hundred_moves,
+    what_is_looked_at_goes_on,
     places_that_are_lost,
 )
 

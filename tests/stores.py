@@ -9,9 +9,9 @@ from service import BROKER, OPERATOR, PROGRAM, SEED, Failed, expect, opened, req
 
 DAY = "2024-03-01"
 
-# What an opening writes behind all that a log holds, and the length of a log that is a head and this mark alone.
-MARK = bytes(9)
-NO_PAGE = 32 + len(MARK)
+# Where the salt begins in a log's head, and the length of a log that is a head and the mark of its end alone.
+SALT = 16
+NO_PAGE = 32 + 9
 
 
 # What is done to a store for one without the indexes by which a day is read, as older programs made it; and, once no period of it was
@@ -176,18 +176,32 @@ def database_of(*statements):
     return make
 
 
-def with_its_log(*statements):
-    """A store whose last commits stand in its log, as a program leaves it that is killed."""
+def with_its_log(*statements, salt=None):
+    """A store whose last commits stand in its log, as a program leaves it that is killed. The log's salt, which is
+    drawn at random, begins with the byte `salt`, if one is wanted."""
 
     def make(path):
-        with opened(path + "-open") as tables:
-            for statement in ("PRAGMA journal_mode = WAL", *statements):
-                tables.execute(statement)
-            tables.commit()
-            for end in ("", "-wal"):
-                shutil.copyfile(path + "-open" + end, path + end)
+        made = path + "-open"
+        for _ in range(10_000):
+            with opened(made) as tables:
+                for statement in ("PRAGMA journal_mode = WAL", *statements):
+                    tables.execute(statement)
+                tables.commit()
+                for end in ("", "-wal"):
+                    shutil.copyfile(made + end, path + end)
+            os.remove(made)
+            with open(path + "-wal", "rb") as log:
+                if salt in (None, log.read()[SALT]):
+                    return
+        raise Failed(f"no salt of 10,000 began with {salt}")
 
     return make
+
+
+def end_mark(log):
+    """What an opening writes behind all that a log holds. Its last byte is a zero, or a one in a log whose salt begins
+    with a zero, so that no frame of this log can begin so."""
+    return bytes(8) + (b"\1" if log[SALT:].startswith(b"\0") else b"\0")
 
 
 def file_of(said):
@@ -210,13 +224,13 @@ def files_and_log(path):
 
 
 def stays(path, step, do):
-    """What this does keeps the bytes of each file. A log that holds pages keeps its own, with the mark behind them; one
-    that holds none may be made, or begun anew."""
+    """What this does keeps the bytes of each file. A log that holds pages keeps its own, with the mark of their end
+    behind them; one that holds none may be made, or begun anew."""
     files, log = files_and_log(path)
     do()
     after, log_after = files_and_log(path)
     expect(
         f"the files that changed, {step}", [name for name in files | after if files.get(name) != after.get(name)], []
     )
-    kept = log_after in (log, log + MARK) or max(len(log), len(log_after)) <= NO_PAGE
+    kept = log_after in (log, log + end_mark(log)) or max(len(log), len(log_after)) <= NO_PAGE
     expect(f"the log stays, of {len(log)} bytes and now of {len(log_after)}, {step}", kept, True)

@@ -140,6 +140,26 @@ def turns(pid):
     return told
 
 
+# The calls of Linux by which a service waits for a connection: accept and accept4, on x86-64.
+ACCEPTING = ("43", "288")
+
+
+def between_connections(pid):
+    """Whether a service waits for the next connection. If it is stopped while it reads from one, it closes that one
+    without a reply when it goes on."""
+    try:
+        with open(f"/proc/{pid}/syscall") as it:
+            return it.read().split()[0] in ACCEPTING
+    except OSError:
+        return True
+
+
+def await_a_pause(pids):
+    """Waits until no service is at a connection, but no longer than a caller would notice."""
+    with contextlib.suppress(Stop):
+        wait_for(lambda: all(map(between_connections, pids)), "a pause", 1)
+
+
 def settled(pid):
     """The turns of a process that is stopped, once the last of them is counted."""
     before = None
@@ -205,6 +225,7 @@ def frozen(pids):
     handles = [os.pidfd_open(pid) for pid in pids]
     child, writes = guard(handles)
     try:
+        await_a_pause(pids)
         for handle in handles:
             signal.pidfd_send_signal(handle, signal.SIGSTOP)
         for pid in pids:

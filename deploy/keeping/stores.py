@@ -13,12 +13,15 @@ import subprocess
 import tempfile
 import time
 
-from .locks import Stop, alone, at_rest, folder_of, not_served, say
+from .locks import Stop, alone, folder_of, not_served, say
 
 TOP = os.path.dirname(os.path.dirname(os.path.dirname(os.path.realpath(__file__))))
 LOG = "-wal"
-# A log of at most so many bytes has no page in it.
+# A log of at most so many bytes has no page in it. Its first bytes are its head.
 NO_PAGE = 41
+HEAD = 32
+# How often a store is looked into whose log is begun anew meanwhile.
+TRIES = 20
 # The order to the file system to let two files share their bytes: FICLONE of linux/fs.h.
 SHARE_BYTES = 0x40049409
 COUNTED = ("bookings", "secrets", "entries", "pledges", "terms", "books")
@@ -217,15 +220,35 @@ def whole(path):
 # ---- looking into one
 
 
+def head_of_log(path):
+    """The first bytes of a store's log, which are others each time that the log is begun anew."""
+    with contextlib.suppress(FileNotFoundError), open_plain(path + LOG) as it:
+        return it.read(HEAD)
+    return b""
+
+
+def copied_as_served(path, copy):
+    """Copies a store while it may be written, and says if the copy is of one moment. The database is written only with
+    pages that the log holds, and then the log is begun anew. So a log that has the head that it had before the
+    database was read goes with that database. What is written behind it meanwhile is taken up to the last whole
+    commit, as after a stop."""
+    head = head_of_log(path)
+    for part in parts(copy):
+        os.remove(part)
+    copy_store(path, copy)
+    return head_of_log(copy) == head
+
+
 @contextlib.contextmanager
 def looked_into(path):
-    """The tables of a store as they are at this moment, served or not: those of a copy, which is gone afterwards."""
+    """The tables of a store as they are at this moment, served or not: those of a copy, which is gone afterwards. A
+    service goes on meanwhile, since one that is stopped closes the connection on which it waits."""
     folder = folder_of(path)
     beside = os.access(folder, os.W_OK)
     with alone(folder), room_in(folder, "looking") if beside else tempfile.TemporaryDirectory() as room:
         copy = os.path.join(room, "books.db")
-        with at_rest(path):
-            copy_store(path, copy)
+        if not any(copied_as_served(path, copy) for _ in range(TRIES)):
+            raise Stop(f"the log of {path} was begun anew during each of {TRIES} looks: try again")
         with contextlib.closing(sqlite3.connect(copy, isolation_level=None)) as tables:
             yield tables
 
