@@ -8,6 +8,6 @@ pub use Rattle.pawn_terms.specs.Limits.{most_rate, most_keep}
 abbrev pub rates_of : ℕ → ℕ → ℕ → Rates
 rates_of rate before after = record { rate = rate; keep_before = before; keep_after = after }
 
--- safe keeping is not dearer after the end than before it
+-- the three numbers keep their limits, and safe keeping is not dearer after the end than before it
 abbrev pub IsChecked : Rates → Type 0
 IsChecked t = (t.rate ≤ most_rate) × (t.keep_before ≤ most_keep) × (t.keep_after ≤ t.keep_before)

@@ -6,10 +6,10 @@ use std::error::Error;
 use std::fmt;
 use std::marker::Model;
 
-/// Why three numbers are no terms.
+/// Why three numbers are refused as terms.
 #[derive(Clone, Copy, Debug, PartialEq, Eq)]
 pub enum TermsFault {
-    /// Above 20,000 millionths per day.
+    /// A rate of interest above 20,000 millionths per day.
     RateTooHigh,
     /// A charge for safe keeping above 10,000,000 millionths of a penny per day.
     KeepTooHigh,
@@ -126,7 +126,7 @@ impl Terms {
         rates.check()
     }
 
-    /// The three numbers.
+    /// The rate of interest and the two charges for safe keeping.
     pub fn rates(self) -> Rates
         ensures value { result ≡ self }
         ensures checked { IsChecked self }
