@@ -165,7 +165,7 @@ EarlierAreSpent =
     (p next : PledgeValue) (stamp : Stamp) (command : Command) (done : Done) (secret : ℕ)
     → IsReplacing command → pledge_step p stamp command ≡ Changed next done → list_any (λ i. i.secret == secret) p.secrets ≡ true → IsSpent next secret
 
--- a brief tells what its pledge owes
+-- a brief shows what its pledge owes
 abbrev pub BriefOwes : Type 0
 BriefOwes =
     (p : PledgeValue) (x : ℕ)

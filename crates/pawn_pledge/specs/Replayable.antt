@@ -24,7 +24,7 @@ use Rattle.pawn_pledge.specs.Text.{IsText}
 use Rattle.pawn_pledge.specs.Pledge.{PledgeValue, end_with, end_of, total_on, debt_of, open_status, is_passed}
 use Rattle.pawn_pledge.specs.Limits.{small_credit, most_secrets, most_extensions, last_window, most_article_bytes, most_reference_bytes}
 
--- each element of a list
+-- P holds of each element of a list
 abbrev pub Each : {A : Type 0} → (A → Type 0) → List A → Type 0
 Each P [] = Unit {0}
 Each P (x ∷ xs) = P x × Each P xs
@@ -45,7 +45,7 @@ AreIssued taken credit [] = ⊥
 AreIssued taken credit (i ∷ is) =
     (i.sort ≡ Issue.Opening) × (i.day ≡ taken) × Each (λ j. IsLaterIssue credit j.sort) is
 
--- no secret stands twice
+-- no two secrets are the same
 abbrev pub AreDistinctSecrets : List Issued → Type 0
 AreDistinctSecrets [] = Unit {0}
 AreDistinctSecrets (i ∷ is) = (list_any (λ j. j.secret == i.secret) is ≡ false) × AreDistinctSecrets is

@@ -69,7 +69,7 @@ told p day command = reply_of (pledge_step p (on day) command)
 abbrev pub after_telling : PledgeValue → ℕ → Command → PledgeValue
 after_telling p day command = pledge_after p (pledge_step p (on day) command)
 
--- an entry is told
+-- the answer to a drawing or a repayment
 abbrev pub entry_answer : ℕ → ℕ → Sort → ℕ → Done
 entry_answer seq day sort pence = Done.Entered (record { seq = seq; day = day; sort = sort; pence = pence })
 
@@ -148,7 +148,7 @@ WorkedDeclarations =
     × (told many (date 2024 3 2) (Command.Declare Paper.Sworn) ≡ Err Refusal.DeclarationsFull)
     × (told (after_telling (after_telling (ring 7500) (date 2024 2 1) Command.Hold) (date 2024 2 1) (Command.Declare Paper.Sworn)) (date 2024 2 1) (Command.Redeem 7500) ≡ Err Refusal.Held)
 
--- a booking is told
+-- the answer to a command on a booking
 abbrev pub booking_answer : ℕ → ℕ → BookingState → Done
 booking_answer day window state = Done.Booked (record { day = day; window = window; state = state })
 
