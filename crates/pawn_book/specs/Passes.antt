@@ -1,4 +1,4 @@
--- The laws of slots pass by pass: first of slots of one receipt, and of runs that have some requests alone.
+-- The laws of slots pass by pass: first of slots of one receipt, and of runs that have only some sorts of requests.
 use Rattle.std.specs.Prelude.{◌≡◌, ℕ, List, [], ◌∷◌, true, Ok}
 use Rattle.std.specs.FinMap.{get}
 use Rattle.pawn_pledge.specs.declared.command.Stamp.{Stamp}

@@ -20,7 +20,7 @@ use Rattle.pawn_book.specs.Sound.{IsSound}
 use Rattle.pawn_book.specs.Changes.{CanSave, book_number, with_change}
 use Rattle.pawn_book.specs.Keeping.{IsFitting}
 
--- want of memory, or a fault of the store
+-- memory was refused, or the store failed
 abbrev pub IsUnwell : Refusal → Type 0
 IsUnwell why = (why ≡ No.Memory) ⊎ (why ≡ No.Store)
 
@@ -28,7 +28,7 @@ IsUnwell why = (why ≡ No.Memory) ⊎ (why ≡ No.Store)
 abbrev pub IsRefused : Outcome → Refusal → Type 0
 IsRefused outcome why = IsUnwell why ⊎ (outcome ≡ Refuses why)
 
--- what a plan says of a request's step
+-- the outcome that a plan stands for: its reply, with its change if it has one
 abbrev pub outcome_of : Option Change → Reply → Outcome
 outcome_of None reply = Says (Told reply)
 outcome_of (Some change) reply = Makes change reply
@@ -80,7 +80,7 @@ IsLeftByStep h b (Refuses why) before left = before left
 IsLeftByStep h b (Says out) before left = before left
 IsLeftByStep h b (Makes change reply) before left = left ≡ host_after h b (Makes change reply)
 
--- .. after a request: one that the keeper did not answer may be done all the same
+-- a host that a crash may leave after a request: one that the keeper did not answer may be done all the same
 abbrev pub IsLeftByAct : Host → ℕ → Stamp → Request → (Host → Type 0) → Result Reply Refusal → Host → Type 0
 IsLeftByAct h operator stamp request before (Ok reply) left = IsLeftByStep h request.book (host_step h operator stamp request) before left
 IsLeftByAct h operator stamp request before (Err why) left = before left ⊎ (IsUnwell why × (left ≡ next_host h operator stamp request))

@@ -27,7 +27,7 @@ part_item part.Ends day p = if is_open p.standing.closing && (end_of p == day) t
 abbrev pub part_items : Part → ℕ → List PledgeValue → List SheetItem
 part_items part day pledges = filter_map (part_item part day) pledges
 
--- above them, how many they are
+-- the item that heads a part, with how many items follow
 abbrev pub part_head : Part → ℕ → SheetItem
 part_head (part.Confirmed window) count = Window window count
 part_head part.Asked count = AskedHead count

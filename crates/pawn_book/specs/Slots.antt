@@ -140,7 +140,8 @@ abbrev pub PresentsSpent : Option BookValue → BearerRequest → Type 0
 PresentsSpent book (Present receipts) = Each (IsSpentReceipt book) receipts
 PresentsSpent book (OnReceipt r command) = IsSpentReceipt book r
 
--- such a bearer is told what the bearer of a receipt never issued is told; among others a spent receipt shows the unknown line
+-- such a bearer is answered as the bearer of a receipt that was never issued; among others a spent receipt shows the
+-- unknown line
 pub record SpentIsUnknown : Type 0 where
   pub alone : (book : Option BookValue) (b : ℕ) (stamp : Stamp) (asked : BearerRequest)
       → PresentsSpent book asked → bearer_step (pledge_in book) b stamp asked ≡ Refuses NoSuchReceipt
