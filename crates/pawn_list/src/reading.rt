@@ -184,7 +184,7 @@ pub(crate) fn next_number(books: &[Kept], after: u32) -> Option<Number>
     next
 }
 
-// `number`, if it is above `after` and nearer to it than `next` is; otherwise `next`.
+// `number`, if it is above `after`, and below `next` if there is one; otherwise `next`.
 fn nearer_number(number: Number, after: u32, next: Option<Number>) -> Option<Number>
     ensures value { result ≡ (if nat_lt after number && nat_lt number
         (unwrap_or next (number + 1)) then Some number else next) }

@@ -6,6 +6,6 @@ abbrev pub at_place : {A : Type 0} → List A → ℕ → Option A
 at_place xs zero = None
 at_place xs (suc n) = slice_get xs n
 
--- a page of a list, behind a place: what comes next, as many as a page may have
+-- a page of a list, after a place: what comes next, as many as a page may have
 abbrev pub page_behind : {A : Type 0} → ℕ → List A → List A
 page_behind place xs = take most_page_rows (drop place xs)
