@@ -25,7 +25,7 @@ pub record Keeping (K : Type 0) : Type 1 where
   pub stands : K → Host → Type 0
   -- its store has returned what was written
   pub honest : K → Type 0
-  -- its store still answers: no fault has shut it. Of a shut store it is not said that it stands for no further host
+  -- its store still answers: no fault has shut it. A keeper whose store is shut may stand for further hosts
   pub serves : K → Type 0
   -- its store never fails
   pub steady : K → Type 0
@@ -84,8 +84,9 @@ IsSteadyError Save.Full = Unit {0}
 IsSteadyError Save.Memory = Unit {0}
 IsSteadyError (Save.Store fault) = ⊥
 
--- a host that a crash may leave after a save, where it might have left these before: the changed host alone, once it was saved;
--- these, where the rows were full; else these, or the changed host, if its rows are within the limit
+-- A host that a crash may leave after a save, where `before` are those that it might have left until then. Once the
+-- change is saved it is the changed host alone. If the rows were full it is one of those before. After another error it
+-- is one of those before, or the changed host, if its rows are within the limit.
 abbrev pub IsLeftBy : {T : Type 0} → Host → Change → (Host → Type 0) → Result T SaveError → Host → Type 0
 IsLeftBy h change before (Ok done) left = left ≡ with_change h change
 IsLeftBy h change before (Err Save.Full) left = before left

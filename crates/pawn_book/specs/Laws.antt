@@ -129,15 +129,15 @@ EntriesActOnceForAll =
     → Passes (book_run (changed_book (Some before) change) operator b later) other
     → book_step (book_run (changed_book (Some before) change) operator b later) operator b again other ≡ Says (Told reply)
 
--- an extension to the present end is answered with that end, and changes nothing
+-- an extension to the present end, where nothing bars it, is answered with that end and changes nothing
 abbrev pub StandingEndIsTold : Type 0
 StandingEndIsTold =
     (book : BookValue) (operator b n : ℕ) (stamp : Stamp) (p : PledgeValue)
     → pledge_from 1 book.pledges n ≡ Some p → MayExtend p stamp.day
     → book_step (Some book) operator b stamp (Broker book.key (asked.OnPledge n (Command.Extend (end_of p)))) ≡ Says (Told (Commanded n (Done.Extended (end_of p))))
 
--- so an extension that was made is answered the same again and makes none, whatever was asked in between, as long as
--- its end stands
+-- So an extension that was made is answered the same again and makes none, whatever was asked in between. It is so
+-- while its end is the present one, and nothing bars an extension.
 abbrev pub BookExtensionsActOnce : Type 0
 BookExtensionsActOnce =
     (before : BookValue) (operator b key n until : ℕ) (stamp again : Stamp) (change : Change) (reply : Reply) (later : List (Stamp × Caller)) (p : PledgeValue)

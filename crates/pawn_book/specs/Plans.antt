@@ -57,8 +57,9 @@ Commits h (Some change) (Ok done) stands = stands (with_change h change) × (row
 Commits h (Some change) (Err why) stands =
     stands h × (IsUnwell why ⊎ ((why ≡ No.Full) × (h.limit < rows (with_change h change))))
 
--- a host that a crash may leave after a plan's change, where it might have left these before: the changed host alone, once it
--- was made; else these, or the changed host where the keeper did not answer
+-- A host that a crash may leave after a plan, where `before` are those that it might have left until then. Once a
+-- change is made it is the changed host alone. Otherwise it is one of those before, or the changed host if the keeper
+-- did not answer.
 abbrev pub IsLeftByCommit : Host → Option Change → (Host → Type 0) → Result (Unit {0}) Refusal → Host → Type 0
 IsLeftByCommit h None before result left = before left
 IsLeftByCommit h (Some change) before (Ok done) left = left ≡ with_change h change

@@ -16,8 +16,8 @@ abbrev pub asked_item : ℕ → ℕ → Option Booking → Option SheetItem
 asked_item number day None = None
 asked_item number day (Some booking) = if (booking.day == day) && is_asked booking.state then Some (Asked number booking.window) else None
 
--- what a part says of a pledge, if anything: its booking for the day and window is confirmed, one is asked for the day, or
--- its period ends on the day and it is neither redeemed nor sold
+-- The item that a part has for a pledge, if it has one. The pledge has a confirmed booking for the day and window, or
+-- one that is asked for the day. Or its period ends on the day, and it is neither redeemed nor sold.
 abbrev pub part_item : Part → ℕ → PledgeValue → Option SheetItem
 part_item (part.Confirmed window) day p = if is_confirmed_for day window p.standing.booking then Some (Confirmed p.agreement.number) else None
 part_item part.Asked day p = asked_item p.agreement.number day p.standing.booking

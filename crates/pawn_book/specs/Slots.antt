@@ -37,8 +37,8 @@ BooksAnswerAlone F =
     → reply_after h operator before stamp request
     ≡ reply_alone (get h.books request.book) operator request.book (book_trace request.book h operator before) stamp request.caller
 
--- so where two runs under one operator's key began with the same book, or none, of a number and left it one trace, its next
--- request is answered alike
+-- so where two runs under one operator's key began with the same book, or none, of a number and left it one trace, its
+-- next request is answered alike
 abbrev pub EqualBookTracesAnswerAlike : Type 0 → Type 0
 EqualBookTracesAnswerAlike F =
     (h g : Host) (operator : ℕ) (before others : List (Event F)) (stamp : Stamp) (request : Request)

@@ -16,7 +16,8 @@ asked_of b operator m = if (m.request.book == b) && is_settled (out_of (outcome_
 abbrev pub book_trace : {F : Type 0} → ℕ → Host → ℕ → List (Event F) → List (Stamp × Caller)
 book_trace b h operator events = flat_map (asked_of b operator) (moments h operator events)
 
--- what happens to a slot: a pledge comes in, as it is when a receipt of the slot becomes its live one; a command changes one that is in
+-- what happens to a slot: a pledge comes in, as it is when a receipt of the slot becomes its live one; a command
+-- changes one that is in
 pub data SlotEvent : Type 0 where
   Entered : (number : ℕ) (pledge : PledgeValue) → SlotEvent
   Did : (number : ℕ) (stamp : Stamp) (command : Command) → SlotEvent

@@ -1,4 +1,4 @@
-//! Plans of commands on a pledge that stands.
+//! Plans of commands on a pledge that the book has.
 ghost use Rattle.std.specs.Prelude.{◌≡◌, Err, IfOk};
 ghost use Rattle.std.specs.FinMap.{get};
 ghost use Rattle.pawn_terms.specs.Calendar.{IsStampDay};

@@ -54,7 +54,8 @@ pub trait Keep {
             (λ count. count ≡ confirmed_count (pledges_of (get h.books book)) day window)) }
         ensures errs { Errs keeping self.old self.new (IsUnsoundAt book) result };
 
-    /// Hands the visitor the pledges of a book in order of their numbers, until it wants no more.
+    /// Hands the visitor the pledges of a book in order of their numbers, until it wants no more. If the call fails, it
+    /// may have been handed only the first of them.
     fn walk<V: Visitor<Pledge>>(&mut self, book: Number, visitor: &mut V) -> Result<(), KeepError>
         ensures reads { Visits V.step visitor.old visitor.new (λ given flow.
             Reads keeping self.old self.new
@@ -75,7 +76,8 @@ pub trait Keep {
             (λ brief. brief ≡ option_map brief_of (pledge_in (get h.books book) number))) }
         ensures errs { Errs keeping self.old self.new (IsUnsoundAt book) result };
 
-    /// Hands the visitor the entries of a pledge in order, until it wants no more.
+    /// Hands the visitor the entries of a pledge in order, until it wants no more. If the call fails, it may have been
+    /// handed only the first of them.
     fn entries<V: Visitor<Entry>>(
         &mut self,
         book: Number,
@@ -88,7 +90,8 @@ pub trait Keep {
             (entries_of (pledge_in (get h.books book) number)))) }
         ensures errs { Errs keeping self.old self.new (IsUnsoundAt book) result };
 
-    /// Hands the visitor the secrets of a pledge in order, until it wants no more.
+    /// Hands the visitor the secrets of a pledge in order, until it wants no more. If the call fails, it may have been
+    /// handed only the first of them.
     fn secrets<V: Visitor<Issued>>(
         &mut self,
         book: Number,
@@ -101,7 +104,8 @@ pub trait Keep {
             (secrets_of (pledge_in (get h.books book) number)))) }
         ensures errs { Errs keeping self.old self.new (IsUnsoundAt book) result };
 
-    /// Hands the visitor the extensions of a pledge in order, until it wants no more.
+    /// Hands the visitor the extensions of a pledge in order, until it wants no more. If the call fails, it may have
+    /// been handed only the first of them.
     fn extensions<V: Visitor<Extension>>(
         &mut self,
         book: Number,
@@ -114,7 +118,8 @@ pub trait Keep {
             (extensions_of (pledge_in (get h.books book) number)))) }
         ensures errs { Errs keeping self.old self.new (IsUnsoundAt book) result };
 
-    /// Hands the visitor the items of a day's sheet in order, until it wants no more.
+    /// Hands the visitor the items of a day's sheet in order, until it wants no more. If the call fails, it may have
+    /// been handed only the first of them.
     fn sheet_each<V: Visitor<SheetItem>>(
         &mut self,
         book: Number,

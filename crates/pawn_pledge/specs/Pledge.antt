@@ -15,7 +15,7 @@ use Rattle.pawn_pledge.specs.declared.parts.Parts.{Parts}
 abbrev pub last_element : {A : Type 0} → List A → Option A
 last_element xs = slice_get xs (length xs - 1)
 
--- a pledge is seen as its record: what was agreed when it was taken, its lists, and how it stands
+-- a pledge is seen as its record: what was agreed when it was taken, its lists, and its standing
 abbrev pub PledgeValue : Type 0
 PledgeValue = Parts
 

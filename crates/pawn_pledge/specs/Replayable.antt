@@ -78,7 +78,7 @@ IsBookingOver BookingState.Asked = ⊥
 IsBookingOver BookingState.Confirmed = ⊥
 IsBookingOver other = Unit {0}
 
--- on a closed pledge no booking stands
+-- on a closed pledge no booking is asked for or confirmed
 abbrev pub IsOverUnder : Closing → BookingState → Type 0
 IsOverUnder Closing.Open state = Unit {0}
 IsOverUnder closed state = IsBookingOver state

@@ -85,14 +85,15 @@ entry_step p x Draw pence =
     unless (period_bars p x) (under_debt p x Draw pence (draw_answer (debt_of p) x pence))
 entry_step p x Repay pence = under_debt p x Repay pence (repay_answer (debt_of p) x pence)
 
--- an entry whose number stands is answered as the first time, whatever the day and the pledge's state
+-- an entry whose number is taken is answered as the first time, or refused if it differs, whatever the day and the
+-- pledge's state
 abbrev pub numbered_step : PledgeValue → ℕ → ℕ → Sort → ℕ → Option Entry → Judged
 numbered_step p x seq sort pence (Some e) =
     unless ((not (is_repeat e sort pence), Refusal.SeqTaken) ∷ []) (Answered (Done.Entered e))
 numbered_step p x seq sort pence None =
     unless ((is_ahead p seq, Refusal.SeqAhead) ∷ []) (unless (bars p x) (entry_step p x sort pence))
 
--- the entry of a number, if it stands
+-- the entry with this number, if there is one
 abbrev pub entry_of : PledgeValue → ℕ → Option Entry
 entry_of p seq = find (λ e. e.seq == seq) p.entries
 
@@ -123,7 +124,8 @@ declare_step p stamp paper =
 abbrev pub makes_booking : PledgeValue → ℕ → Booking → Judged
 makes_booking p x booking = Changed (with_standing p (with_booking p.standing booking x)) (Done.Booked booking)
 
--- a booking takes the place of any other; one that stands is answered again
+-- a booking takes the place of any other; one that is asked for or confirmed already, for this day and window, is
+-- answered again
 abbrev pub ask_once : PledgeValue → ℕ → ℕ → ℕ → Option Booking → Judged
 ask_once p x day window None = makes_booking p x (record { day = day; window = window; state = BookingState.Asked })
 ask_once p x day window (Some booking) =
@@ -201,7 +203,7 @@ extend_bars p until =
     ∷ (nat_le most_extensions (length p.extensions), Refusal.ExtensionsFull)
     ∷ []
 
--- a longer period; an extension to the end that stands is answered again
+-- a longer period; an extension to the present end is answered again
 abbrev pub extend_step : PledgeValue → ℕ → ℕ → Judged
 extend_step p x until =
     unless (period_bars p x)

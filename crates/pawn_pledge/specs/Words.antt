@@ -25,7 +25,7 @@ with_hold s flag x = record s { held = flag; last = x }
 abbrev pub with_booking : Standing → Booking → ℕ → Standing
 with_booking s booking x = record s { booking = Some booking; last = x }
 
--- the pledge that stands so, with its lists as they are
+-- the pledge with this standing, and its lists as they are
 abbrev pub with_standing : PledgeValue → Standing → PledgeValue
 with_standing p standing = record p { standing = standing }
 
@@ -85,7 +85,7 @@ is_standing other = false
 abbrev pub stands_for : Booking → ℕ → ℕ → Bool
 stands_for booking day window = (booking.day == day) && (booking.window == window) && is_standing booking.state
 
--- a closing cancels a booking that stands
+-- a closing cancels a booking that is asked for or confirmed
 abbrev pub after_closing : BookingState → BookingState
 after_closing BookingState.Refused = BookingState.Refused
 after_closing other = BookingState.Cancelled

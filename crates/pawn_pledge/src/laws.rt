@@ -19,8 +19,8 @@ pub fn laws_of_lists()
     ensures all { ListsGrow }
 {}
 
-/// An entry that is sent again is answered as the first time and changes nothing. So is an extension, while its end
-/// stands and the pledge may still be extended.
+/// An entry that is sent again is answered as the first time and changes nothing. So is an extension, while its end is
+/// the present one and the pledge may still be extended.
 pub fn laws_of_repeats()
     ensures entries { EntriesActOnce }
     ensures standing_end { StandingEndIsAnswered }

@@ -1,4 +1,4 @@
--- What stands at a place of a list, where the first place is 1.
+-- What is at a place of a list, where the first place is 1.
 use Rattle.std.specs.Prelude.{ℕ, zero, suc, List, Option, None, drop, slice_get, take}
 use Rattle.pawn_tables.specs.Pages.{most_page_rows}
 

@@ -34,7 +34,8 @@ pub record IsOrdered (k : BookValue) : Type 0 where
   pub entries : Each (λ p. RiseFrom 0 p.entries) k.pledges
   pub under : Each (IsUnder k.terms) k.pledges
 
--- What rows can hold: keys and secrets of 128 bits, no pledge taken before the first day that there is, and versions of 32 bits.
+-- What rows can hold: keys and secrets of 128 bits, no pledge taken before the first day that there is, and versions of
+-- 32 bits.
 pub record IsStorable (k : BookValue) : Type 0 where
   pub key : IsWord k.key
   pub imported : IfSome k.imported (λ i. IsWord i.key)

@@ -1,8 +1,8 @@
 //! The texts of the statements, table by table: how a table is made, what is read of it, and what is put into it.
 //!
-//! No other source of the program names a column; `specs/Schema` says what the tables are. Each text stands once, and
-//! the proofs of what it means cite it by its name. How a value stands in a cell is written in `encoding.rt`, and read
-//! in `cells.rt`.
+//! No other source of the program names a column; `specs/Schema` says what the tables are. Each text is written once,
+//! and the proofs of what it means cite it by its name. How a value is written into a cell is said in `encoding.rt`,
+//! and how it is read in `cells.rt`.
 
 // ---- books
 

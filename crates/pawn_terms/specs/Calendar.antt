@@ -74,7 +74,8 @@ abbrev pub later_of : ℕ → Option ℕ → ℕ
 later_of day None = day
 later_of day (Some other) = max day other
 
--- the end of a period: the latest of six months after the day taken, the agreed end, and the end that an extension agreed last
+-- the end of a period: the latest of six months after the day taken, the agreed end, and the end that an extension
+-- agreed last
 abbrev pub period_end : ℕ → Option ℕ → Option ℕ → ℕ
 period_end taken agreed extended = later_of (later_of (six_months taken) agreed) extended
 

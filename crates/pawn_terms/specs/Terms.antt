@@ -3,8 +3,8 @@ use Rattle.std.specs.Prelude.{ℕ, ◌≤◌}
 use Rattle.pawn_terms.specs.declared.terms.Rates.{Rates}
 pub use Rattle.pawn_terms.specs.Limits.{most_rate, most_keep}
 
--- the rate of interest in millionths per day, and the charges for safe keeping up to the end of the period and after it,
--- in millionths of a penny per day
+-- the rate of interest in millionths per day, and the charges for safe keeping up to the end of the period and after
+-- it, in millionths of a penny per day
 abbrev pub rates_of : ℕ → ℕ → ℕ → Rates
 rates_of rate before after = record { rate = rate; keep_before = before; keep_after = after }
 

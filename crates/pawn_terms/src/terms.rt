@@ -87,9 +87,9 @@ impl Rates {
     }
 }
 
-/// Checked terms of an agreement: a rate of at most 20,000 millionths per day, and charges for safe
-/// keeping of at most 10,000,000 millionths of a penny per day, not higher after the end of the
-/// period than before it. A clause sees their three numbers.
+/// Checked terms of an agreement. The rate is at most 20,000 millionths per day, and each charge for safe keeping at
+/// most 10,000,000 millionths of a penny per day. Safe keeping is not dearer after the end of the period than before
+/// it. A clause sees their three numbers.
 #[derive(Clone, Copy, Debug, PartialEq, Eq)]
 pub struct Terms {
     rates: Rates,

@@ -244,7 +244,8 @@ impl Pledge {
         self.ask_once(day, wanted, window)
     }
 
-    // Asks for a booking that nothing bars. One that stands for this day and window is answered again.
+    // Asks for a booking that nothing bars. One that is asked for or confirmed already, for this day and window, is
+    // answered again.
     fn ask_once(&mut self, day: Day, wanted: Day, window: u64) -> Result<Applied, Refusal>
         requires later { self.old.standing.last ≤ day }
         ensures step { IsApplied (ask_once self.old day wanted window self.old.standing.booking)
