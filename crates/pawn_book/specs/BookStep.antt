@@ -145,7 +145,7 @@ abbrev pub make_book : Option BookValue → ℕ → NewBook → Outcome
 make_book None b new = Makes (MakeBook b new) (BookMade b)
 make_book (Some book) b new = if is_same_book (book_head book) new then Says (Told (BookMade b)) else Refuses BookTaken
 
--- by the operator's key
+-- refused unless the key is the operator's
 abbrev pub operator_step : ℕ → ℕ → Outcome → Outcome
 operator_step operator key step = if key == operator then step else Refuses NotOperator
 
@@ -307,7 +307,7 @@ broker_step book b stamp (Show n) = show_pledge stamp (pledge_from 1 book.pledge
 broker_step book b stamp (SheetOf day) = show_sheet book day
 broker_step book b stamp Export = export_rows book
 
--- for a caller with the book's key
+-- refused unless there is such a book, and the key is its own
 abbrev pub gate_step : Option BookValue → ℕ → (BookValue → Outcome) → Outcome
 gate_step None key step = Refuses NoSuchBook
 gate_step (Some book) key step = if book.key == key then step book else Refuses NoSuchBook

@@ -1,4 +1,4 @@
--- What a change makes of a host, and which may be saved.
+-- What a change makes of a host, and which changes may be saved.
 use Rattle.std.specs.Prelude.{◌≡◌, ◌⊎◌, ℕ, ◌+◌, [], None, Some, length, List, ◌∷◌}
 use Rattle.std.specs.FinMap.{get}
 use Rattle.pawn_pledge.specs.Pledge.{PledgeValue}

@@ -34,7 +34,8 @@ pub record Keeping (K : Type 0) : Type 1 where
   -- it stands for a sound host, and so does whatever a crash now may leave
   pub whole : K → Type 0
 
--- a keeper goes on after a call: one that is honest, or serves, was so before, and a steady or a whole one stays so
+-- a keeper goes on after a call: if it is honest now, or serves, it was so before, and if it was steady or whole, it
+-- still is
 pub record GoesOn {K : Type 0} (k : Keeping K) (old new : K) : Type 0 where
   pub past : k.honest new → k.honest old
   pub served : k.honest new → k.serves new → k.serves old
@@ -70,7 +71,7 @@ IsSteady k old result = k.steady old → IfErr result (λ e. e ≡ Keeper.Memory
 abbrev pub IsQuiet : {K T : Type 0} → Keeping K → K → Result T Refusal → Type 0
 IsQuiet k old result = k.steady old → result ≡ Err No.Store → ⊥
 
--- P of each sound host that the keeper stood for, if it is honest now
+-- P holds of each sound host that the keeper stood for, if it is honest now
 abbrev pub Of : {K : Type 0} → Keeping K → K → K → (Host → Type 0) → Type 0
 Of k old new P = k.honest new → (h : Host) → IsSound h → k.stands old h → P h
 

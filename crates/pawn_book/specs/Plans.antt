@@ -49,7 +49,7 @@ abbrev pub Gates : Option BookValue → ℕ → Result BookHead Refusal → Type
 Gates book key (Ok head) = (at : BookValue) × (book ≡ Some at) × (head ≡ book_head at) × (at.key ≡ key)
 Gates book key (Err why) = (step : BookValue → Outcome) → IsRefused (gate_step book key step) why
 
--- what came of a plan's change: there was room for it, or nothing changed
+-- what came of a plan: its change is made, within the limit, or nothing is changed
 abbrev pub Commits : Host → Option Change → Result (Unit {0}) Refusal → (Host → Type 0) → Type 0
 Commits h None (Ok done) stands = stands h
 Commits h None (Err why) stands = ⊥

@@ -23,7 +23,7 @@ part_item (part.Confirmed window) day p = if is_confirmed_for day window p.stand
 part_item part.Asked day p = asked_item p.agreement.number day p.standing.booking
 part_item part.Ends day p = if is_open p.standing.closing && (end_of p == day) then Some (Ends p.agreement.number) else None
 
--- what it says of a book's pledges, in order
+-- the items that a part has for a book's pledges, in order
 abbrev pub part_items : Part → ℕ → List PledgeValue → List SheetItem
 part_items part day pledges = filter_map (part_item part day) pledges
 
@@ -36,7 +36,7 @@ part_head part.Ends count = EndsHead count
 abbrev pub with_head : Part → List SheetItem → List SheetItem
 with_head part items = part_head part (length items) ∷ items
 
--- a window is named where somebody comes
+-- a window is headed only if it has items
 abbrev pub window_items : Part → List SheetItem → List SheetItem
 window_items part [] = []
 window_items part items = with_head part items

@@ -129,7 +129,7 @@ EarlierReceiptsAreSpent =
     → host_step h operator stamp request ≡ Makes change reply
     → IsSpentReceipt (get (next_host h operator stamp request).books request.book) r
 
--- it stays spent, whatever is done
+-- a spent receipt stays spent, whatever is asked
 abbrev pub SpentReceiptsStaySpent : Type 0 → Type 0
 SpentReceiptsStaySpent F =
     (h : Host) (operator b : ℕ) (events : List (Event F)) (r : Receipt)

@@ -35,13 +35,13 @@ pub trait Keep {
             (λ h. IfOk result (λ terms. terms ≡ terms_at (terms_of (get h.books book)) version)) }
         ensures errs { Errs keeping self.old self.new (IsUnsoundAt book) result };
 
-    /// The pledge of a book that has this number, if there is one.
+    /// The pledge with this number in a book, if there is one.
     fn pledge(&mut self, book: Number, number: Number) -> Result<Option<Pledge>, KeepError>
         ensures reads { Reads keeping self.old self.new
             (λ h. IfOk result (λ pledge. pledge ≡ pledge_in (get h.books book) number)) }
         ensures errs { Errs keeping self.old self.new (IsUnsoundAt book) result };
 
-    /// The number of the pledge of a book that has this reference, if there is one.
+    /// The number of the pledge with this reference in a book, if there is one.
     fn find_ref(&mut self, book: Number, reference: &Reference) -> Result<Option<Number>, KeepError>
         ensures reads { Reads keeping self.old self.new
             (λ h. IfOk result (λ number. number ≡ number_of (get h.books book) reference.now)) }
@@ -69,7 +69,7 @@ pub trait Keep {
             (λ h. IfOk result (λ next. IsNextBook h (unwrap_or after 0) next)) }
         ensures errs { Errs keeping self.old self.new HasUnsoundBook result };
 
-    /// The pledge of a book that has this number, without its lists, if there is one.
+    /// The pledge with this number in a book, without its lists, if there is one.
     fn brief(&mut self, book: Number, number: Number) -> Result<Option<Brief>, KeepError>
         ensures reads { Reads keeping self.old self.new
             (λ h. IfOk result

@@ -83,7 +83,7 @@ fn know_given(opening: &Opening, stamp: &Stamp)
     know_word(stamp);
 }
 
-// The pledge of a book that has this reference, if there is one.
+// The pledge with this reference in a book, if there is one.
 fn find_reference<K: Keep>(
     keep: &mut K,
     book: Number,

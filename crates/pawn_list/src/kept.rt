@@ -53,7 +53,7 @@ fn pledge_at(pledges: &[Pledge], number: Number) -> Option<&Pledge>
     }
 }
 
-// The pledge of a book that has this number, if there is one.
+// The pledge with this number in a book, if there is one.
 pub(crate) fn standing_pledge(books: &[Kept], book: Number, number: Number) -> Option<&Pledge>
     ensures found { MatchOption result
         (pledge_in (book_at (map listed_book books.now) book) number ≡ None)

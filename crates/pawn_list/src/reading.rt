@@ -77,7 +77,7 @@ pub(crate) fn number_in(books: &[Kept], book: Number, reference: &Reference) -> 
     number_with(&kept.pledges, reference)
 }
 
-// A copy of the pledge of a book that has this number, if there is one. The only error is that memory is refused.
+// A copy of the pledge with this number in a book, if there is one. The only error is that memory is refused.
 pub(crate) fn pledge_copy(
     books: &[Kept],
     book: Number,
@@ -93,7 +93,7 @@ pub(crate) fn pledge_copy(
     Ok(Some(copy))
 }
 
-// The pledge of a book that has this number, without its lists, if there is one. The only error is that memory is
+// The pledge with this number in a book, without its lists, if there is one. The only error is that memory is
 // refused.
 pub(crate) fn brief_in(
     books: &[Kept],

@@ -83,7 +83,7 @@ abbrev pub IsOverUnder : Closing → BookingState → Type 0
 IsOverUnder Closing.Open state = Unit {0}
 IsOverUnder closed state = IsBookingOver state
 
--- a booking for a day in the pledge's time
+-- a booking for a window of a day that is not before the day taken, and on which the property has not passed
 abbrev pub IsBooked : PledgeValue → Option Booking → Type 0
 IsBooked p None = Unit {0}
 IsBooked p (Some b) = (p.agreement.taken ≤ b.day) × IsNotPassed p b.day × (b.window ≤ last_window) × IsOverUnder p.standing.closing b.state
@@ -105,7 +105,7 @@ pub record IsEntered (p : PledgeValue) : Type 0 where
   pub not_passed : Each (λ e. IsNotPassed p e.day) p.entries
   pub drawn : Each (λ e. IsDrawnBy (end_of p) e.sort e.day) p.entries
 
--- the extensions
+-- the extensions: each was agreed in the period as it then was, and none after the last change
 pub record IsExtended (p : PledgeValue) : Type 0 where
   pub each : AreExtended p.agreement.taken (end_with p.agreement None) p.extensions
   pub before : last_by (λ e. e.day) p.agreement.taken p.extensions ≤ p.standing.last

@@ -212,7 +212,7 @@ pub enum Status {
     Inside,
     /// In the five days of grace after its period, if it was agreed with them.
     Grace,
-    /// Past its period and any days of grace. The broker may sell it, and it may be redeemed until then.
+    /// Past its period and any days of grace. The broker may sell it, and until it is sold it may be redeemed.
     Realisable,
     /// The property has passed to the pawnbroker.
     Passed,

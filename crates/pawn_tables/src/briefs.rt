@@ -14,7 +14,7 @@ use pawn_book::{Brief, KeepError, Number};
 use sqlite::{Alter, Transaction};
 use std::alloc::Global;
 
-/// The pledge of a book that has this number, without its lists, if there is one. No list is read: the totals and the
+/// The pledge with this number in a book, without its lists, if there is one. No list is read: the totals and the
 /// end of the period are those that are stored.
 #[tactic(auto, using(crate::proofs::Lent::lent_then))]
 pub fn brief_in<S: Alter>(

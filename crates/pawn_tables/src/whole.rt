@@ -115,8 +115,8 @@ pub(crate) fn told_in<S: Alter>(
     Ok(Some(Told { row, sides }))
 }
 
-/// The pledge of a book that has this number, if there is one. `NoRecord` if its stored totals or end are not those
-/// that follow from its record.
+/// The pledge with this number in a book, if there is one. Its stored totals and end are compared with those that
+/// follow from its record, and `NoRecord` is answered if they differ.
 #[tactic(auto, using(crate::proofs::Lent::lent_then))]
 pub fn pledge_of<S: Alter>(
     tx: &mut Transaction<'_, S>,

@@ -53,7 +53,8 @@ impl Pledge {
         }
     }
 
-    // The refusals that all commands share: a day before the last change, a closed pledge, and one that has passed.
+    // The refusals that all commands share: a day before the last change, a closed pledge, and one that has passed. An
+    // entry that is sent again is answered before it meets them.
     fn gate(&self, day: Day) -> Result<(), Refusal>
         ensures answer { result ≡ first_of (bars self.now day) (Ok tt) }
         ensures later { OnOk result (self.now.standing.last ≤ day) }
