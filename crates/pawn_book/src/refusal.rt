@@ -7,9 +7,9 @@ use pawn_terms::TermsFault;
 /// Why a request is refused.
 #[derive(Clone, Copy, Debug, PartialEq, Eq)]
 pub enum Refusal {
-    /// By the rules of a pledge.
+    /// A refusal by the rules of a pledge.
     Pledge(PledgeRefusal),
-    /// By the limits of terms.
+    /// A refusal by the limits of terms.
     Terms(TermsFault),
     /// There is no such book, or the key is not the book's.
     NoSuchBook,

@@ -27,7 +27,7 @@ pub struct Totals {
     pub millionths: u64,
 }
 
-// What is owed on a later day, from what was owed on an earlier one, where no entries come in between.
+// What is owed on a day, from what was owed on that day or an earlier one. There must be no entries in between.
 pub(crate) fn after_days(totals: &Totals, terms: Terms, ends: Day, day: Day) -> Totals
     requires later { totals.now.day ≤ day }
     requires principal_in { totals.now.principal ≤ most_pence }

@@ -163,7 +163,7 @@ pub(crate) fn confirmed_count(pledges: &[Pledge], day: Day, window: u64) -> usiz
         .count()
 }
 
-// The number itself, or 0 where there is none.
+// The number itself, or 0 if there is none.
 pub(crate) fn bound(after: Option<Number>) -> u32
     ensures value { result ≡ unwrap_or after 0 }
 {

@@ -119,7 +119,7 @@ fn hand_headed<V: Visitor<SheetItem>>(
     }
 }
 
-// Hands a window's items to the visitor until it wants no more; none where nobody comes.
+// Hands a window's items to the visitor until it wants no more; none if the window has no confirmed booking.
 fn hand_window<V: Visitor<SheetItem>>(
     window: u64,
     day: Day,

@@ -91,7 +91,7 @@ impl Brief {
         &self.fields
     }
 
-    /// The status on a day.
+    /// The status of the pledge on a day.
     pub fn status(&self, day: Day) -> Status
         ensures value { result ≡ brief_status self.now day }
     {

@@ -37,7 +37,7 @@ pub enum Command {
     Repay { seq: u64, pence: u64 },
     /// Bars redemption.
     Hold,
-    /// Bars it no longer.
+    /// Bars redemption no longer.
     Release,
     Declare(Paper),
     AskBooking { day: RequestDay, window: u64 },

@@ -123,7 +123,7 @@ impl Pledge {
         })
     }
 
-    /// The status on a day.
+    /// The status of the pledge on a day.
     pub fn status(&self, day: Day) -> Status
         ensures value { result ≡ status_of self.now day }
     {

@@ -7,7 +7,7 @@ use std::fmt;
 /// Why a command on a pledge is refused.
 #[derive(Clone, Copy, Debug, PartialEq, Eq)]
 pub enum Refusal {
-    /// The debt's own refusals.
+    /// A refusal of the debt, by its own rules.
     Debt(DebtFault),
     /// The pledge has an entry of this number, of another sort or sum.
     SeqTaken,

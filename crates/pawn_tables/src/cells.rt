@@ -62,7 +62,7 @@ pub(crate) fn number_at(row: &Row, at: usize) -> Result<u64, KeepError>
     }
 }
 
-/// The number in a column, or nothing where it is NULL.
+/// The number in a column, or none if it is NULL.
 pub(crate) fn optional_at(row: &Row, at: usize) -> Result<Option<u64>, KeepError>
     ensures read { (n : Option ℕ) → at < length row.now → column row.now at ≡ or_null number n
         → IsRead result n ⊤ }
@@ -151,7 +151,7 @@ fn key_of(bytes: &[u8]) -> Result<Secret, KeepError>
     }
 }
 
-/// The key in a column, or nothing where it is NULL.
+/// The key in a column, or none if it is NULL.
 pub(crate) fn optional_word_at(row: &Row, at: usize) -> Result<Option<Secret>, KeepError>
     ensures read { (w : Option ℕ) → at < length row.now → IfSome w IsWord
         → column row.now at ≡ or_null word w → IsRead result w ⊤ }

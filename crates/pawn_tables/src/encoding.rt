@@ -5,7 +5,7 @@ ghost use Rattle.pawn_tables.specs.Rows as spec;
 use pawn_book::{BookingState, Closing, Issue, KeepError, Kind, RequestDay, Sort, StoreFault};
 use sqlite_value::value::Value;
 
-/// The error where the database refused, or a value does not fit in a cell.
+/// The error if the database refused, or if a value does not fit in a cell.
 pub const REFUSED: KeepError = KeepError::Store(StoreFault::Database);
 
 /// The number in 32 bits, as a statement takes it. `REFUSED` if it does not fit.

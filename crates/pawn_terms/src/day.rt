@@ -159,7 +159,7 @@ impl Day {
         date_text(self.date())
     }
 
-    /// The same day six calendar months later, or that month's last day where it is shorter.
+    /// The same day six calendar months later, or the last day of that month if it is shorter.
     pub fn six_months_after(self) -> Day
         requires within { self ≤ last_stamp_day }
         ensures value { result ≡ six_months self }
@@ -167,7 +167,7 @@ impl Day {
         Day::of_date(six_months_on(self.date()))
     }
 
-    // The later of this day and another, where there is one.
+    // The later of this day and another, if there is another.
     fn later_of(self, other: Option<Day>) -> Day
         ensures value { result ≡ later_of self other }
     {

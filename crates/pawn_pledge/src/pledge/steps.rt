@@ -217,7 +217,7 @@ impl Pledge {
         }
     }
 
-    // Keeps a booking.
+    // Puts a booking in place of any other.
     fn book(&mut self, day: Day, booking: &Booking) -> Result<Applied, Refusal>
         requires later { self.old.standing.last ≤ day }
         ensures step { IsApplied (makes_booking self.old day booking.now) self.old result self.new }
