@@ -26,7 +26,7 @@ no_stamps = record { places = []; terms = []; formats = [] }
 abbrev pub refers : List ℕ → List ℕ → Reference
 refers columns parent = record { columns = columns; parent = parent; parent_columns = []; on_delete = NoAction; on_update = NoAction; is_deferred = false }
 
--- a table with a key, other lists of columns that differ from row to row, and references; its columns count from 1
+-- a table with a primary key, lists of columns that must be unique, and references; its columns count from 1
 abbrev pub keyed : List ℕ → List Column → List ℕ → List (List ℕ) → List Reference → Table
 keyed name columns primary uniques references = record {
   name = name;

@@ -1,8 +1,8 @@
--- What a part that is lent a transaction leaves of it.
+-- What a call leaves of a transaction that it was lent.
 use Rattle.std.specs.Prelude.{◌≡◌, Bool, true, IsTrue}
 use Rattle.sqlite.specs.State.{State, HasCleanDisk, KeepsCommit, Survives}
 
--- the last commit is kept, the transaction goes on unless the part failed, and a crash leaves what it left before
+-- the last commit is kept, the transaction goes on unless the call failed, and a crash leaves what it left before
 pub record IsLent (old new : State) (ok : Bool) : Type 0 where
   pub kept : HasCleanDisk new → IsTrue old.in_transaction → KeepsCommit old new
   -- only an open store answers

@@ -7,7 +7,8 @@ ghost use Rattle.one_table.specs.Lending.{IsLent};
 use sqlite::{Alter, Connection, Error, Row, Transaction};
 use sqlite_value::value::ValueRef;
 
-/// The rows of a query. The transaction that it is lent goes on, unless it errs.
+/// Runs a query in a transaction that it is lent, and gives the rows. If the query fails, the transaction may be over;
+/// otherwise it goes on.
 pub fn ask<S: Alter>(
     tx: &mut Transaction<'_, S>,
     sql: &str,
@@ -26,7 +27,8 @@ pub fn ask<S: Alter>(
     }
 }
 
-/// Runs a statement that shows no rows. The transaction that it is lent goes on, unless it errs.
+/// Runs a statement that shows no rows, in a transaction that it is lent. If the statement fails, the transaction may
+/// be over; otherwise it goes on.
 pub fn run<S: Alter>(
     tx: &mut Transaction<'_, S>,
     sql: &str,
@@ -46,8 +48,8 @@ pub fn run<S: Alter>(
     }
 }
 
-/// Says of a connection that what it shows outside a transaction is what it has committed. The library's contract tells
-/// this of its answer alone, so it is asked, and the answer is dropped.
+/// Gives a proof that an open connection shows, outside a transaction, what it has committed. The library promises this
+/// only along with the answer of `is_autocommit`, so that is asked, and the answer is dropped.
 pub fn know_settled<S: Alter>(conn: &Connection<S>)
     ensures settled { (state S.Store conn.now).in_transaction ≡ false → IsTrue
         (state S.Store conn.now).is_open

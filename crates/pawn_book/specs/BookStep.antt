@@ -39,7 +39,7 @@ use Rattle.pawn_book.specs.Limits.{most_terms, most_pledges}
 use Rattle.pawn_book.specs.Rows.{is_same_text, terms_at}
 use Rattle.pawn_book.specs.Sheet.{day_sheet}
 
--- a book
+-- a book: its key, name and capacity, and what was put into it
 pub record BookValue : Type 0 where
   pub key : ℕ
   pub name : List ℕ
@@ -51,7 +51,7 @@ pub record BookValue : Type 0 where
   -- the import key, with the number of pledges that came with it
   pub imported : Option Imported
 
--- what is told, before it is text
+-- what is answered, before it is written as text
 pub data Out : Type 0 where
   Told : (reply : Reply) → Out
   Denied : (why : Refusal) → Out
@@ -78,7 +78,7 @@ out_of (Makes change reply) = Told reply
 abbrev pub newest : List Rates → Option Rates
 newest terms = terms_at terms (length terms)
 
--- the pledge that stands at a number, where the list's first has the number k
+-- the pledge of number n, in a list whose first pledge has the number k
 abbrev pub pledge_from : ℕ → List PledgeValue → ℕ → Option PledgeValue
 pledge_from k [] n = None
 pledge_from k (p ∷ ps) n = if n == k then Some p else pledge_from (k + 1) ps n
@@ -87,7 +87,7 @@ abbrev pub pledge_in : Option BookValue → ℕ → Option PledgeValue
 pledge_in None n = None
 pledge_in (Some book) n = pledge_from 1 book.pledges n
 
--- the list with this pledge at a number that stands or is the next
+-- the list with pledge p at number n: in place of the one there, or else at the end
 abbrev pub put_from : ℕ → List PledgeValue → ℕ → PledgeValue → List PledgeValue
 put_from k [] n p = p ∷ []
 put_from k (q ∷ ps) n p = if n == k then p ∷ ps else q ∷ put_from (k + 1) ps n p
@@ -120,7 +120,7 @@ book_after before (Refuses why) = before
 book_after before (Says out) = before
 book_after before (Makes change reply) = changed_book before change
 
--- a change that stands unless it was refused
+-- the outcome for an accepted value, or its refusal
 abbrev pub make_or_refuse : {V : Type 0} → Result V Refusal → (V → Outcome) → Outcome
 make_or_refuse (Ok v) makes = makes v
 make_or_refuse (Err why) makes = Refuses why
@@ -140,12 +140,12 @@ book_head book = record {
 abbrev pub is_same_book : BookHead → NewBook → Bool
 is_same_book head new = (head.key == new.key) && is_same_text head.name new.name && (head.capacity == new.capacity)
 
--- Create: an equal book is told again
+-- to make a book: if there is an equal one, the same is answered again
 abbrev pub make_book : Option BookValue → ℕ → NewBook → Outcome
 make_book None b new = Makes (MakeBook b new) (BookMade b)
 make_book (Some book) b new = if is_same_book (book_head book) new then Says (Told (BookMade b)) else Refuses BookTaken
 
--- by the operator's key
+-- refused unless the key is the operator's
 abbrev pub operator_step : ℕ → ℕ → Outcome → Outcome
 operator_step operator key step = if key == operator then step else Refuses NotOperator
 
@@ -157,7 +157,7 @@ abbrev pub under_terms : Result Rates TermsFault → Result Rates Refusal
 under_terms (Ok terms) = Ok terms
 under_terms (Err fault) = Err (Terms fault)
 
--- the terms of a version that doesn't stand, where so many do
+-- the terms of a version that a book of so many versions does not have yet
 abbrev pub next_terms : ℕ → NewTerms → Result Rates Refusal
 next_terms standing new =
     first_of
@@ -167,12 +167,12 @@ next_terms standing new =
     ∷ [])
     (under_terms (terms_answer new.rates))
 
--- PutTerms: equal terms that stand are told again
+-- PutTerms: equal terms that the book has are answered again
 abbrev pub put_terms : BookValue → ℕ → NewTerms → Option Rates → Outcome
 put_terms book b new (Some terms) = if are_same_rates terms new.rates then Says (Told (TermsPut new.version)) else Refuses TermsSeq
 put_terms book b new None = make_or_refuse (next_terms (length book.terms) new) (λ terms. Makes (AddTerms b new.version terms) (TermsPut new.version))
 
--- the secret that came with the opening
+-- the secret with which a pledge was taken
 abbrev pub first_secret : List Issued → ℕ
 first_secret [] = 0
 first_secret (i ∷ is) = i.secret
@@ -205,7 +205,7 @@ abbrev pub under_pledge : Result PledgeValue PledgeRefusal → Result PledgeValu
 under_pledge (Ok p) = Ok p
 under_pledge (Err refusal) = Err (Pledge refusal)
 
--- a pledge for which a book of so many has room
+-- a pledge, if a book of so many pledges has room for it
 abbrev pub with_room : ℕ → Result PledgeValue Refusal → Result PledgeValue Refusal
 with_room standing (Ok p) = first_of ((nat_le most_pledges standing, PledgesFull) ∷ []) (Ok p)
 with_room standing (Err why) = Err why
@@ -234,7 +234,7 @@ confirmed_by (Done.Redeemed day paid) = None
 confirmed_by (Done.Sold net surplus shortfall) = None
 confirmed_by (Done.Extended until) = None
 
--- the booking that is told to be confirmed
+-- the booking that a reply reports as confirmed
 abbrev pub confirmed_booking : Reply → Option Booking
 confirmed_booking (BookMade b) = None
 confirmed_booking (TermsPut version) = None
@@ -242,7 +242,7 @@ confirmed_booking (BookFilled pledges) = None
 confirmed_booking (Opened receipt) = None
 confirmed_booking (Commanded n done) = confirmed_by done
 
--- as many of its window are confirmed as the book confirms
+-- the book has confirmed as many bookings of the window as its capacity allows
 abbrev pub is_window_full : BookValue → Option Booking → Bool
 is_window_full book None = false
 is_window_full book (Some booking) = nat_le book.capacity (confirmed_count book.pledges booking.day booking.window)
@@ -276,11 +276,11 @@ abbrev pub show_pledge : Stamp → Option PledgeValue → Outcome
 show_pledge stamp None = Refuses NoSuchPledge
 show_pledge stamp (Some p) = Says (Shown stamp.day (Some p ∷ []))
 
--- neither terms nor pledges stand
+-- the book has neither terms nor pledges
 abbrev pub is_empty : BookHead → Bool
 is_empty head = (head.terms == 0) && (head.pledges == 0)
 
--- Import: the rows become an empty book's, once; the book's own import is told again, whatever rows come
+-- Import: the rows become an empty book's, once; the book's own import is answered again, whatever rows come
 abbrev pub import_rows : BookHead → ℕ → ℕ → BookRows → Option Imported → Outcome
 import_rows head b key rows None = if is_empty head then Makes (ImportBook b key rows) (BookFilled (length rows.pledges)) else Refuses BookNotEmpty
 import_rows head b key rows (Some imported) = if imported.key == key then Says (Told (BookFilled imported.pledges)) else Refuses BookNotEmpty
@@ -307,7 +307,7 @@ broker_step book b stamp (Show n) = show_pledge stamp (pledge_from 1 book.pledge
 broker_step book b stamp (SheetOf day) = show_sheet book day
 broker_step book b stamp Export = export_rows book
 
--- for a caller with the book's key
+-- refused unless there is such a book, and the key is its own
 abbrev pub gate_step : Option BookValue → ℕ → (BookValue → Outcome) → Outcome
 gate_step None key step = Refuses NoSuchBook
 gate_step (Some book) key step = if book.key == key then step book else Refuses NoSuchBook

@@ -21,6 +21,6 @@ abbrev pub is_confirmed_for : ℕ → ℕ → Option Booking → Bool
 is_confirmed_for day window None = false
 is_confirmed_for day window (Some booking) = (booking.day == day) && (booking.window == window) && is_confirmed booking.state
 
--- how many pledges have one
+-- how many pledges have a confirmed booking for a day and a window
 abbrev pub confirmed_count : List PledgeValue → ℕ → ℕ → ℕ
 confirmed_count pledges day window = count_by (λ p. is_confirmed_for day window p.standing.booking) pledges

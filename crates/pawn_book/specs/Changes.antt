@@ -1,4 +1,4 @@
--- What a change makes of a host, and which may be saved.
+-- What a change makes of a host, and which changes may be saved.
 use Rattle.std.specs.Prelude.{◌≡◌, ◌⊎◌, ℕ, ◌+◌, [], None, Some, length, List, ◌∷◌}
 use Rattle.std.specs.FinMap.{get}
 use Rattle.pawn_pledge.specs.Pledge.{PledgeValue}
@@ -9,7 +9,7 @@ use Rattle.pawn_book.specs.BookStep.{BookValue, changed_book, pledge_from}
 use Rattle.pawn_book.specs.HostStep.{Host, with_book}
 use Rattle.pawn_book.specs.Sound.{AreSound}
 
--- the book of a change
+-- the number of the book that a change is of
 abbrev pub book_number : Change → ℕ
 book_number (MakeBook book new) = book
 book_number (AddTerms book version terms) = book
@@ -20,7 +20,7 @@ book_number (ImportBook book key rows) = book
 abbrev pub with_change : Host → Change → Host
 with_change h change = with_book h (book_number change) (changed_book (get h.books (book_number change)) change)
 
--- what was agreed on a pledge that stands stays, and its lists grow at their ends alone
+-- the new pledge continues the old one: what was agreed stays, and the lists only grow at their ends
 pub record Continues (old new : PledgeValue) : Type 0 where
   pub agreement : new.agreement ≡ old.agreement
   pub lists : Grows old new
@@ -31,7 +31,8 @@ pub record IsUnfilled (book : BookValue) : Type 0 where
   pub pledges : book.pledges ≡ []
   pub imported : book.imported ≡ None
 
--- a new book; the next version of terms; the next pledge, or one that stands and continues; the rows of a book that has none
+-- A change that can come next: a new book; the next version of terms; the next pledge, or one that continues the one in
+-- its place. An import can come next in a book that has no rows.
 abbrev pub Follows : Host → Change → Type 0
 Follows h (MakeBook book new) = get h.books book ≡ None
 Follows h (AddTerms book version terms) = (at : BookValue) × (get h.books book ≡ Some at) × (version ≡ length at.terms + 1)

@@ -1,4 +1,4 @@
--- The words in which the theorem of slots is said, from one place.
+-- The names with which the theorem of slots is stated, gathered in one place.
 pub use Rattle.std.specs.List.{list_any, list_all, flat_map}
 pub use Rattle.std.specs.FinMap.{get}
 pub use Rattle.pawn_pledge.specs.declared.command.Stamp.{Stamp}

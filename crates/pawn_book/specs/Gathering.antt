@@ -1,4 +1,4 @@
--- What is gathered of what is handed out.
+-- How a `Gathering` changes by an item that it is handed.
 use Rattle.std.specs.Prelude.{◌≡◌, ◌++◌, ◌∷◌, [], true}
 use Rattle.pawn_book.specs.declared.gather.Gathering.{Gathering}
 use Rattle.pawn_book.specs.declared.visit.Flow.{Flow}

@@ -18,11 +18,11 @@ abbrev pub booking_rows : Option Booking → ℕ
 booking_rows None = 0
 booking_rows (Some booking) = 1
 
--- one for the pledge, and one for each entry and secret
+-- the rows of a pledge: one for itself, one for each entry and secret, and one for its booking
 abbrev pub pledge_rows : PledgeValue → ℕ
 pledge_rows p = 1 + length p.entries + length p.secrets + booking_rows p.standing.booking
 
--- one for the book, and one for each version of its terms
+-- the rows of a book: one for itself, one for each version of its terms, and those of its pledges
 abbrev pub book_rows : BookValue → ℕ
 book_rows book = 1 + length book.terms + sum_by pledge_rows book.pledges
 

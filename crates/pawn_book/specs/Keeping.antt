@@ -19,13 +19,13 @@ use Rattle.pawn_book.specs.HostStep.{Host, rows}
 use Rattle.pawn_book.specs.Sound.{IsSound}
 use Rattle.pawn_book.specs.Changes.{with_change}
 
--- what is known of keepers of a kind, however they keep
+-- what a proof knows of keepers of a kind, however they keep
 pub record Keeping (K : Type 0) : Type 1 where
   -- the hosts that one stands for
   pub stands : K → Host → Type 0
   -- its store has returned what was written
   pub honest : K → Type 0
-  -- its store still answers: no fault has shut it. Of a shut store it is not said that it stands for no further host
+  -- its store still answers: no fault has shut it. A keeper whose store is shut may stand for further hosts
   pub serves : K → Type 0
   -- its store never fails
   pub steady : K → Type 0
@@ -34,7 +34,8 @@ pub record Keeping (K : Type 0) : Type 1 where
   -- it stands for a sound host, and so does whatever a crash now may leave
   pub whole : K → Type 0
 
--- a keeper goes on after a call: one that is honest, or serves, was so before, and a steady or a whole one stays so
+-- a keeper goes on after a call: if it is honest now, or serves, it was so before, and if it was steady or whole, it
+-- still is
 pub record GoesOn {K : Type 0} (k : Keeping K) (old new : K) : Type 0 where
   pub past : k.honest new → k.honest old
   pub served : k.honest new → k.serves new → k.serves old
@@ -46,7 +47,8 @@ pub record WholeIsSound {K : Type 0} (k : Keeping K) : Type 0 where
   pub stands : (x : K) → k.whole x → (h : Host) × IsSound h × k.stands x h
   pub left : (x : K) → k.whole x → (h : Host) → k.leaves x h → IsSound h
 
--- a call that changes nothing tells P of each host that the keeper stands for, and it stands for no further host after it
+-- a call that changes nothing: P holds of each host that the keeper stood for, and after the call it stands for no
+-- further host
 pub record Reads {K : Type 0} (k : Keeping K) (old new : K) (P : Host → Type 0) : Type 0 where
   pub on : GoesOn k old new
   pub same : k.honest new → (h : Host) → k.stands old h → k.stands new h
@@ -55,13 +57,13 @@ pub record Reads {K : Type 0} (k : Keeping K) (old new : K) (P : Host → Type 0
   -- a crash leaves no further host
   pub crash : k.honest new → (left : Host) → k.leaves new left → k.leaves old left
 
--- why a keeper does not answer: a steady one for want of memory alone, and any one tells that a stored row is no record
--- only of a host that is unsound in this way
+-- why a keeper does not answer: a steady one only if memory is refused, and any one answers `NoRecord` only if the host
+-- is unsound in this way
 pub record Errs {K T : Type 0} (k : Keeping K) (old new : K) (IsUnsound : Host → Type 0) (result : Result T KeepError) : Type 0 where
   pub never : k.steady old → IfErr result (λ e. e ≡ Keeper.Memory)
   pub no_record : result ≡ Err (Keeper.Store NoRecord) → k.honest new → (h : Host) → k.stands old h → IsUnsound h
 
--- over a steady keeper the only error is want of memory
+-- over a steady keeper the only error is refused memory
 abbrev pub IsSteady : {K T : Type 0} → Keeping K → K → Result T KeepError → Type 0
 IsSteady k old result = k.steady old → IfErr result (λ e. e ≡ Keeper.Memory)
 
@@ -69,7 +71,7 @@ IsSteady k old result = k.steady old → IfErr result (λ e. e ≡ Keeper.Memory
 abbrev pub IsQuiet : {K T : Type 0} → Keeping K → K → Result T Refusal → Type 0
 IsQuiet k old result = k.steady old → result ≡ Err No.Store → ⊥
 
--- P of each sound host that the keeper stood for, if it is honest now
+-- P holds of each sound host that the keeper stood for, if it is honest now
 abbrev pub Of : {K : Type 0} → Keeping K → K → K → (Host → Type 0) → Type 0
 Of k old new P = k.honest new → (h : Host) → IsSound h → k.stands old h → P h
 
@@ -77,22 +79,23 @@ Of k old new P = k.honest new → (h : Host) → IsSound h → k.stands old h �
 abbrev pub IsFitting : Host → Change → Host → Type 0
 IsFitting h change left = (left ≡ with_change h change) × (rows (with_change h change) ≤ h.limit)
 
--- want of rows or of memory
+-- the rows are full, or memory is refused
 abbrev pub IsSteadyError : SaveError → Type 0
 IsSteadyError Save.Full = Unit {0}
 IsSteadyError Save.Memory = Unit {0}
 IsSteadyError (Save.Store fault) = ⊥
 
--- a host that a crash may leave after a save, where it might have left these before: the changed host alone, once it was saved;
--- these, where the rows were full; else these, or the changed host, if its rows are within the limit
+-- A host that a crash may leave after a save, where `before` are those that it might have left until then. Once the
+-- change is saved it is the changed host alone. If the rows were full it is one of those before. After another error it
+-- is one of those before, or the changed host, if its rows are within the limit.
 abbrev pub IsLeftBy : {T : Type 0} → Host → Change → (Host → Type 0) → Result T SaveError → Host → Type 0
 IsLeftBy h change before (Ok done) left = left ≡ with_change h change
 IsLeftBy h change before (Err Save.Full) left = before left
 IsLeftBy h change before (Err Save.Memory) left = before left ⊎ IsFitting h change left
 IsLeftBy h change before (Err (Save.Store fault)) left = before left ⊎ IsFitting h change left
 
--- a change is saved where the rows stay within the limit, and nothing is where it is not; a steady keeper does not save one
--- for want of rows or of memory alone
+-- a change that is accepted is saved, with its rows within the limit; after an error the host is as it was; a steady
+-- keeper refuses only for rows or for memory
 pub record Saves {K T : Type 0} (k : Keeping K) (old new : K) (change : Change) (result : Result T SaveError) : Type 0 where
   pub on : GoesOn k old new
   pub ok : OnOk result (Of k old new (λ h. k.stands new (with_change h change) × (rows (with_change h change) ≤ h.limit)))
@@ -125,7 +128,7 @@ abbrev pub extensions_of : Option PledgeValue → List Extension
 extensions_of None = []
 extensions_of (Some p) = p.extensions
 
--- the least number of a book above one, or that there is none
+-- the next book number above `after`, or that there is none
 abbrev pub IsNextBook : Host → ℕ → Option ℕ → Type 0
 IsNextBook h after None = (b : ℕ) (book : BookValue) → get h.books b ≡ Some book → b ≤ after
 IsNextBook h after (Some next) =

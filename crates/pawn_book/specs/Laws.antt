@@ -45,7 +45,8 @@ IsMaking (Operator key new) = Unit {0}
 IsMaking (Broker key request) = IsSetUp request
 IsMaking (Bearer request) = ⊥
 
--- a request for one of them that made a change is told the same again and makes none, whatever was asked in between, on any day and with any word
+-- a request for one of them that made a change is answered the same again and makes none, whatever was asked in
+-- between, on any day and with any word
 abbrev pub RepeatsActOnce : Type 0
 RepeatsActOnce =
     (before : Option BookValue) (operator b : ℕ) (stamp again : Stamp) (caller : Caller) (change : Change) (reply : Reply) (later : List (Stamp × Caller))
@@ -101,8 +102,8 @@ StillPasses book (Operator key new) = Unit {0}
 StillPasses book (Broker key request) = Unit {0}
 StillPasses book (Bearer request) = IsStillLive book request
 
--- a drawing or repayment that was entered is told the same again and enters nothing, whatever became of the pledge in between,
--- on any day: to the broker, and to a bearer whose receipt is still live
+-- A drawing or repayment that was entered is answered the same again and enters nothing, on any day, whatever became of
+-- the pledge in between. It is so for the broker, and for a bearer whose receipt is still live.
 abbrev pub BookEntriesActOnce : Type 0
 BookEntriesActOnce =
     (before : BookValue) (operator b : ℕ) (stamp again : Stamp) (caller : Caller) (n : ℕ) (sort : Sort) (seq pence : ℕ)
@@ -117,8 +118,8 @@ Passes book (Operator key new) = Unit {0}
 Passes book (Broker key request) = (at : BookValue) × (book ≡ Some at) × (at.key ≡ key)
 Passes book (Bearer request) = IsStillLive book request
 
--- and so it is told to any caller that passes: what a bearer entered to the broker and to the bearer of a later receipt, and
--- what the broker entered to a bearer
+-- And so it is for any caller that passes. What a bearer entered is answered to the broker and to the bearer of a later
+-- receipt, and what the broker entered to a bearer.
 abbrev pub EntriesActOnceForAll : Type 0
 EntriesActOnceForAll =
     (before : BookValue) (operator b : ℕ) (stamp again : Stamp) (caller other : Caller) (n : ℕ) (sort : Sort) (seq pence : ℕ)
@@ -128,14 +129,15 @@ EntriesActOnceForAll =
     → Passes (book_run (changed_book (Some before) change) operator b later) other
     → book_step (book_run (changed_book (Some before) change) operator b later) operator b again other ≡ Says (Told reply)
 
--- an extension to the end that stands is told with that end, and changes nothing
+-- an extension to the present end, where nothing bars it, is answered with that end and changes nothing
 abbrev pub StandingEndIsTold : Type 0
 StandingEndIsTold =
     (book : BookValue) (operator b n : ℕ) (stamp : Stamp) (p : PledgeValue)
     → pledge_from 1 book.pledges n ≡ Some p → MayExtend p stamp.day
     → book_step (Some book) operator b stamp (Broker book.key (asked.OnPledge n (Command.Extend (end_of p)))) ≡ Says (Told (Commanded n (Done.Extended (end_of p))))
 
--- so an extension that was made is told the same again and makes none, whatever was asked in between, as long as its end stands
+-- So an extension that was made is answered the same again and makes none, whatever was asked in between. It is so
+-- while its end is the present one, and nothing bars an extension.
 abbrev pub BookExtensionsActOnce : Type 0
 BookExtensionsActOnce =
     (before : BookValue) (operator b key n until : ℕ) (stamp again : Stamp) (change : Change) (reply : Reply) (later : List (Stamp × Caller)) (p : PledgeValue)

@@ -1,4 +1,4 @@
--- The laws of slots pass by pass: first of slots of one receipt, and of runs that have some requests alone.
+-- The laws of slots pass by pass: first of slots of one receipt, and of runs that have only some sorts of requests.
 use Rattle.std.specs.Prelude.{◌≡◌, ℕ, List, [], ◌∷◌, true, Ok}
 use Rattle.std.specs.FinMap.{get}
 use Rattle.pawn_pledge.specs.declared.command.Stamp.{Stamp}
@@ -39,8 +39,8 @@ AreAll Is (event ∷ events) = ((request : Request) → event.mark ≡ read_as (
 abbrev pub IsOne : List Receipt → Type 0
 IsOne slot = (r : Receipt) × (slot ≡ r ∷ [])
 
--- of slots of a sort, and runs whose requests are of a sort: a slot's machine holds the pledges of the book that are in the
--- slot, and each settled reply to a slot's request is that of the slot alone
+-- Of slots of a sort, and runs whose requests are of a sort. A slot's machine holds the pledges of the book that are in
+-- the slot. Each settled reply to a slot's request is that of the slot alone.
 pub record Pass (F : Type 0) (Of : Caller → Type 0) (Is : List Receipt → Type 0) : Type 0 where
   pub held : (h : Host) (operator b : ℕ) (slot : List Receipt) (events : List (Event F)) (n : ℕ) → Is slot → AreAll Of events
       → solo slot (slot_trace b slot h operator events) n ≡ slot_of slot (get (run_host h operator events).books b) n

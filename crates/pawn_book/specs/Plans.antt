@@ -20,7 +20,7 @@ use Rattle.pawn_book.specs.Sound.{IsSound}
 use Rattle.pawn_book.specs.Changes.{CanSave, book_number, with_change}
 use Rattle.pawn_book.specs.Keeping.{IsFitting}
 
--- want of memory, or a fault of the store
+-- memory was refused, or the store failed
 abbrev pub IsUnwell : Refusal → Type 0
 IsUnwell why = (why ≡ No.Memory) ⊎ (why ≡ No.Store)
 
@@ -28,7 +28,7 @@ IsUnwell why = (why ≡ No.Memory) ⊎ (why ≡ No.Store)
 abbrev pub IsRefused : Outcome → Refusal → Type 0
 IsRefused outcome why = IsUnwell why ⊎ (outcome ≡ Refuses why)
 
--- what a plan says of a request's step
+-- the outcome that a plan stands for: its reply, with its change if it has one
 abbrev pub outcome_of : Option Change → Reply → Outcome
 outcome_of None reply = Says (Told reply)
 outcome_of (Some change) reply = Makes change reply
@@ -49,7 +49,7 @@ abbrev pub Gates : Option BookValue → ℕ → Result BookHead Refusal → Type
 Gates book key (Ok head) = (at : BookValue) × (book ≡ Some at) × (head ≡ book_head at) × (at.key ≡ key)
 Gates book key (Err why) = (step : BookValue → Outcome) → IsRefused (gate_step book key step) why
 
--- what came of a plan's change: there was room for it, or nothing changed
+-- what came of a plan: its change is made, within the limit, or nothing is changed
 abbrev pub Commits : Host → Option Change → Result (Unit {0}) Refusal → (Host → Type 0) → Type 0
 Commits h None (Ok done) stands = stands h
 Commits h None (Err why) stands = ⊥
@@ -57,8 +57,9 @@ Commits h (Some change) (Ok done) stands = stands (with_change h change) × (row
 Commits h (Some change) (Err why) stands =
     stands h × (IsUnwell why ⊎ ((why ≡ No.Full) × (h.limit < rows (with_change h change))))
 
--- a host that a crash may leave after a plan's change, where it might have left these before: the changed host alone, once it
--- was made; else these, or the changed host where the keeper did not answer
+-- A host that a crash may leave after a plan, where `before` are those that it might have left until then. Once a
+-- change is made it is the changed host alone. Otherwise it is one of those before, or the changed host if the keeper
+-- did not answer.
 abbrev pub IsLeftByCommit : Host → Option Change → (Host → Type 0) → Result (Unit {0}) Refusal → Host → Type 0
 IsLeftByCommit h None before result left = before left
 IsLeftByCommit h (Some change) before (Ok done) left = left ≡ with_change h change
@@ -80,7 +81,7 @@ IsLeftByStep h b (Refuses why) before left = before left
 IsLeftByStep h b (Says out) before left = before left
 IsLeftByStep h b (Makes change reply) before left = left ≡ host_after h b (Makes change reply)
 
--- .. after a request: one that the keeper did not answer may be done all the same
+-- a host that a crash may leave after a request: one that the keeper did not answer may be done all the same
 abbrev pub IsLeftByAct : Host → ℕ → Stamp → Request → (Host → Type 0) → Result Reply Refusal → Host → Type 0
 IsLeftByAct h operator stamp request before (Ok reply) left = IsLeftByStep h request.book (host_step h operator stamp request) before left
 IsLeftByAct h operator stamp request before (Err why) left = before left ⊎ (IsUnwell why × (left ≡ next_host h operator stamp request))

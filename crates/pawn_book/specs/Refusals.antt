@@ -45,7 +45,7 @@ book_refusal_name Full = codes "Full"
 book_refusal_name Memory = codes "Memory"
 book_refusal_name Store = codes "Store"
 
--- the total owing, where it tells it
+-- what is owing, where the refusal reports it
 abbrev pub total_told : Refusal → Option ℕ
 total_told (Pledge refusal) = pledge.refusal_total refusal
 total_told (Terms fault) = None

@@ -9,11 +9,11 @@ use Rattle.pawn_pledge.specs.Pledge.{PledgeValue}
 use Rattle.pawn_pledge.specs.Replayable.{Each, IsStanding}
 use Rattle.pawn_book.specs.Limits.{most_pledges, most_terms}
 
--- a text is the same
+-- two texts are the same
 abbrev pub is_same_text : List ℕ → List ℕ → Bool
 is_same_text a b = pointwise nat_eq a b
 
--- the terms that stand under a version; none under 0
+-- the terms of a version; there are none under 0
 abbrev pub terms_at : List Rates → ℕ → Option Rates
 terms_at terms zero = None
 terms_at terms (suc n) = slice_get terms n
@@ -23,7 +23,7 @@ abbrev pub AreNumberedFrom : ℕ → List PledgeValue → Type 0
 AreNumberedFrom k [] = Unit {0}
 AreNumberedFrom k (p ∷ ps) = (p.agreement.number ≡ k) × AreNumberedFrom (k + 1) ps
 
--- no text stands twice
+-- no two texts are the same
 abbrev pub AreDistinct : List (List ℕ) → Type 0
 AreDistinct [] = Unit {0}
 AreDistinct (t ∷ ts) = (list_any (is_same_text t) ts ≡ false) × AreDistinct ts
@@ -31,15 +31,16 @@ AreDistinct (t ∷ ts) = (list_any (is_same_text t) ts ≡ false) × AreDistinct
 abbrev pub references_of : List PledgeValue → List (List ℕ)
 references_of pledges = map (λ p. p.agreement.opening.reference) pledges
 
--- the terms of a pledge stand under its version
+-- the terms of a pledge are those of its version
 abbrev pub IsUnder : List Rates → PledgeValue → Type 0
 IsUnder terms p = terms_at terms p.agreement.version ≡ Some p.agreement.terms
 
 abbrev pub version_of : PledgeValue → ℕ
 version_of p = p.agreement.version
 
--- the rows of a book that can have come about: its pledges numbered from 1, each of which can have come about, with references
--- that differ, under terms that stand, the later ones under no earlier terms; no more of them than a book may have
+-- The rows of a book that can have come about. Its pledges are numbered from 1, each can have come about, and their
+-- references differ. Each is under terms of the book, and a later one under no earlier terms. There are no more of them
+-- than a book may have.
 pub record AreReplayable (terms : List Rates) (pledges : List PledgeValue) : Type 0 where
   pub numbered : AreNumberedFrom 1 pledges
   pub standing : Each IsStanding pledges

@@ -7,7 +7,8 @@ use Rattle.pawn_book.specs.declared.refusal.Refusal.TheVariants.{Full, Memory, S
 use Rattle.pawn_book.specs.BookStep.{Out, Told, Denied, Shown, Listed, Exported, out_of}
 use Rattle.pawn_book.specs.HostStep.{Host, host_step, host_after}
 
--- how an item was answered: as what its bytes read as, a request or a fault; or by want of memory, or a fault of the store
+-- how an item was answered: as the request or the fault that its bytes read as, or as refused for memory or by the
+-- store
 pub data Mark (F : Type 0) : Type 0 where
   read_as : (said : Result Request F) → Mark F
   no_memory : Mark F
@@ -18,7 +19,7 @@ pub record Event (F : Type 0) : Type 0 where
   pub stamp : Stamp
   pub mark : Mark F
 
--- what is told of an item: by the host, or of bytes that are no request
+-- what is answered to an item: by the host, or to bytes that are no request
 pub data Said (F : Type 0) : Type 0 where
   Answered : (out : Out) → Said F
   Faulted : (fault : F) → Said F
@@ -37,7 +38,7 @@ host_after_mark h operator stamp (read_as (Err fault)) = h
 host_after_mark h operator stamp no_memory = h
 host_after_mark h operator stamp no_store = h
 
--- what it is told
+-- what an item is answered
 abbrev pub mark_reply : {F : Type 0} → Host → ℕ → Stamp → Mark F → Said F
 mark_reply h operator stamp (read_as (Ok request)) = Answered (out_of (host_step h operator stamp request))
 mark_reply h operator stamp (read_as (Err fault)) = Faulted fault
@@ -55,7 +56,7 @@ abbrev pub run_host : {F : Type 0} → Host → ℕ → List (Event F) → Host
 run_host h operator [] = h
 run_host h operator (event ∷ events) = run_host (host_after_event h operator event) operator events
 
--- what is told in a run, in order
+-- what is answered in a run, in order
 abbrev pub run_replies : {F : Type 0} → Host → ℕ → List (Event F) → List (Said F)
 run_replies h operator [] = []
 run_replies h operator (event ∷ events) = event_reply h operator event ∷ run_replies (host_after_event h operator event) operator events
@@ -78,7 +79,7 @@ moments h operator (event ∷ events) =
 
 -- settled replies
 
--- what the rules refuse; the rest is want of rows, of memory or of a store
+-- what the rules refuse; the other refusals are for want of rows, for refused memory, or by the store
 abbrev pub is_by_rules : Refusal → Bool
 is_by_rules Full = false
 is_by_rules Memory = false

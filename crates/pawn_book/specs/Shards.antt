@@ -1,4 +1,5 @@
--- Shards: each book's requests are handed to one of several hosts. Each settled reply is that of one host that was asked everything.
+-- Shards: each book's requests are handed to one of several hosts. Each settled reply is that of one host that was
+-- asked everything.
 use Rattle.std.specs.Prelude.{◌≡◌, ◌≢◌, ℕ, List, [], ◌∷◌, ◌==◌, true, Ok, if◌then◌else◌, map}
 use Rattle.std.specs.List.{filter, flat_map}
 use Rattle.std.specs.FinMap.{get}
@@ -31,8 +32,9 @@ pub record IsAskedAlike {F : Type 0} (b operator : ℕ) (h g : Host) (before oth
   pub begins : get h.books b ≡ get g.books b
   pub settled : book_trace b h operator before ≡ book_trace b g operator others
 
--- The shard of a book answers about it as one host that was asked everything, and holds the book as that host does. Each
--- shard has rows and refusals of its own: what it was asked, and what of it was settled, is said of this book alone.
+-- The shard of a book answers about it as one host that was asked everything, and holds the book as that host does.
+-- Each shard has rows and refusals of its own: what it was asked, and what of it was settled, is said of this book
+-- alone.
 pub record ShardsAnswerAsOne (F : Type 0) : Type 0 where
   pub replies : (shard : ℕ → ℕ) (shards : ℕ → Host) (runs : ℕ → List (Event F)) (one : Host) (all : List (Event F)) (operator k : ℕ) (stamp : Stamp) (request : Request)
       → shard request.book ≡ k → IsAskedAlike request.book operator (shards k) one (runs k) all
@@ -43,7 +45,7 @@ pub record ShardsAnswerAsOne (F : Type 0) : Type 0 where
       → shard b ≡ k → IsAskedAlike b operator (shards k) one (runs k) all
       → get (run_host (shards k) operator (runs k)).books b ≡ get (run_host one operator all).books b
 
--- a run of these requests, none of which is refused for want of memory or by the store
+-- a run of these requests, none of which is refused for memory or by the store
 abbrev pub taken : {F : Type 0} → List (Stamp × Request) → List (Event F)
 taken {F = F} asked = map (λ a. let event : Event F = record { stamp = a.0; mark = read_as (Ok a.1) } in event) asked
 
@@ -51,8 +53,8 @@ taken {F = F} asked = map (λ a. let event : Event F = record { stamp = a.0; mar
 abbrev pub AreAllSettled : Type 0 → ℕ → ℕ → Host → List (Stamp × Request) → Type 0
 AreAllSettled F b operator h asked = book_trace b h operator (taken {F = F} asked) ≡ on_book b asked
 
--- So where requests are handed out by books, a settled reply is that of one host that was asked everything: whichever way
--- the books are given out, where the book began alike and all its earlier requests were settled in both.
+-- So a settled reply is that of one host that was asked everything, whichever way the books are given out to shards.
+-- The book must have begun alike in both, and all its earlier requests must have been settled in both.
 abbrev pub HandedOutAnswersAsOne : Type 0 → Type 0
 HandedOutAnswersAsOne F =
     (shard : ℕ → ℕ) (shards : ℕ → Host) (one : Host) (asked : List (Stamp × Request)) (operator k : ℕ) (stamp : Stamp) (request : Request)

@@ -16,18 +16,18 @@ abbrev pub asked_item : ℕ → ℕ → Option Booking → Option SheetItem
 asked_item number day None = None
 asked_item number day (Some booking) = if (booking.day == day) && is_asked booking.state then Some (Asked number booking.window) else None
 
--- what a part says of a pledge, if anything: its booking for the day and window is confirmed, one is asked for the day, or
--- its period ends on the day and it is neither redeemed nor sold
+-- The item that a part has for a pledge, if it has one. The pledge has a confirmed booking for the day and window, or
+-- one that is asked for the day. Or its period ends on the day, and it is neither redeemed nor sold.
 abbrev pub part_item : Part → ℕ → PledgeValue → Option SheetItem
 part_item (part.Confirmed window) day p = if is_confirmed_for day window p.standing.booking then Some (Confirmed p.agreement.number) else None
 part_item part.Asked day p = asked_item p.agreement.number day p.standing.booking
 part_item part.Ends day p = if is_open p.standing.closing && (end_of p == day) then Some (Ends p.agreement.number) else None
 
--- what it says of a book's pledges, in order
+-- the items that a part has for a book's pledges, in order
 abbrev pub part_items : Part → ℕ → List PledgeValue → List SheetItem
 part_items part day pledges = filter_map (part_item part day) pledges
 
--- above them, how many they are
+-- the item that heads a part, with how many items follow
 abbrev pub part_head : Part → ℕ → SheetItem
 part_head (part.Confirmed window) count = Window window count
 part_head part.Asked count = AskedHead count
@@ -36,7 +36,7 @@ part_head part.Ends count = EndsHead count
 abbrev pub with_head : Part → List SheetItem → List SheetItem
 with_head part items = part_head part (length items) ∷ items
 
--- a window is named where somebody comes
+-- a window is headed only if it has items
 abbrev pub window_items : Part → List SheetItem → List SheetItem
 window_items part [] = []
 window_items part items = with_head part items

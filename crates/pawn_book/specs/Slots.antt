@@ -37,8 +37,8 @@ BooksAnswerAlone F =
     → reply_after h operator before stamp request
     ≡ reply_alone (get h.books request.book) operator request.book (book_trace request.book h operator before) stamp request.caller
 
--- so where two runs under one operator's key began with the same book, or none, of a number and left it one trace, its next
--- request is answered alike
+-- so where two runs under one operator's key began with the same book, or none, of a number and left it one trace, its
+-- next request is answered alike
 abbrev pub EqualBookTracesAnswerAlike : Type 0 → Type 0
 EqualBookTracesAnswerAlike F =
     (h g : Host) (operator : ℕ) (before others : List (Event F)) (stamp : Stamp) (request : Request)
@@ -129,7 +129,7 @@ EarlierReceiptsAreSpent =
     → host_step h operator stamp request ≡ Makes change reply
     → IsSpentReceipt (get (next_host h operator stamp request).books request.book) r
 
--- it stays spent, whatever is done
+-- a spent receipt stays spent, whatever is asked
 abbrev pub SpentReceiptsStaySpent : Type 0 → Type 0
 SpentReceiptsStaySpent F =
     (h : Host) (operator b : ℕ) (events : List (Event F)) (r : Receipt)
@@ -140,7 +140,8 @@ abbrev pub PresentsSpent : Option BookValue → BearerRequest → Type 0
 PresentsSpent book (Present receipts) = Each (IsSpentReceipt book) receipts
 PresentsSpent book (OnReceipt r command) = IsSpentReceipt book r
 
--- such a bearer is told what the bearer of a receipt never issued is told; among others a spent receipt shows the unknown line
+-- such a bearer is answered as the bearer of a receipt that was never issued; among others a spent receipt shows the
+-- unknown line
 pub record SpentIsUnknown : Type 0 where
   pub alone : (book : Option BookValue) (b : ℕ) (stamp : Stamp) (asked : BearerRequest)
       → PresentsSpent book asked → bearer_step (pledge_in book) b stamp asked ≡ Refuses NoSuchReceipt

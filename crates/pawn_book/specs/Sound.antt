@@ -21,15 +21,15 @@ pub record IsSoundBook (book : BookValue) : Type 0 where
   pub rows : AreReplayable book.terms book.pledges
   pub written : Each HasTextsAndWords book.pledges
 
--- a book that stands under a number
+-- a sound book under a number that a book may have
 abbrev pub IsSoundAt : ℕ → BookValue → Type 0
 IsSoundAt b book = IsNumber b × IsSoundBook book
 
--- each book of a host
+-- each book of the host is sound
 abbrev pub AreSound : Host → Type 0
 AreSound h = (b : ℕ) (book : BookValue) → get h.books b ≡ Some book → IsSoundAt b book
 
--- the book of this number stands in the host, and is not sound
+-- the host has a book of this number that is not sound
 abbrev pub IsUnsoundAt : ℕ → Host → Type 0
 IsUnsoundAt b h = (book : BookValue) × (get h.books b ≡ Some book) × (IsSoundAt b book → ⊥)
 
@@ -37,7 +37,7 @@ IsUnsoundAt b h = (book : BookValue) × (get h.books b ≡ Some book) × (IsSoun
 abbrev pub HasUnsoundBook : Host → Type 0
 HasUnsoundBook h = (b : ℕ) × IsUnsoundAt b h
 
--- each book, and the rows within the limit
+-- each book of the host is sound, and its rows are within the limit
 pub record IsSound (h : Host) : Type 0 where
   pub books : AreSound h
   pub fits : rows h ≤ h.limit

@@ -4,7 +4,7 @@ use Rattle.pawn_book.specs.Common.{list_any, flat_map, get, Stamp, Command, Rece
 use Rattle.pawn_book.specs.Common.{is_live, pledge_in, Host, host_step, numbered_pledges, touched_pledges, pledges_of, command_of, Event}
 use Rattle.pawn_book.specs.Common.{Moment, is_settled, moments}
 
--- what comes of a request on its own host
+-- what comes of a request on the host that it met
 abbrev pub outcome_alone : ℕ → Moment → Outcome
 outcome_alone operator m = host_step m.host operator m.stamp m.request
 
@@ -16,7 +16,8 @@ asked_of b operator m = if (m.request.book == b) && is_settled (out_of (outcome_
 abbrev pub book_trace : {F : Type 0} → ℕ → Host → ℕ → List (Event F) → List (Stamp × Caller)
 book_trace b h operator events = flat_map (asked_of b operator) (moments h operator events)
 
--- what happens to a slot: a pledge comes in, as it is when a receipt of the slot becomes its live one; a command changes one that is in
+-- what happens to a slot: a pledge comes in, as it is when a receipt of the slot becomes its live one; a command
+-- changes one that is in
 pub data SlotEvent : Type 0 where
   Entered : (number : ℕ) (pledge : PledgeValue) → SlotEvent
   Did : (number : ℕ) (stamp : Stamp) (command : Command) → SlotEvent
@@ -48,12 +49,12 @@ abbrev pub touches : List Receipt → Option BookValue → Stamp → Caller → 
 touches slot before stamp caller pledge =
     if is_some (slot_of slot before pledge.0) then did pledge.0 stamp (command_of caller) else enters slot pledge
 
--- what an outcome is to the slot
+-- what happens to the slot by an outcome
 abbrev pub slot_events : List Receipt → Option BookValue → Stamp → Caller → Outcome → List SlotEvent
 slot_events slot before stamp caller (Makes change reply) = flat_map (touches slot before stamp caller) (touched_pledges change)
 slot_events slot before stamp caller other = []
 
--- what a request on book b is to the slot
+-- what happens to the slot by a request, if it is on book b
 abbrev pub seen_by : ℕ → List Receipt → ℕ → Moment → List SlotEvent
 seen_by b slot operator m = if m.request.book == b then slot_events slot (get m.host.books b) m.stamp m.request.caller (outcome_alone operator m) else []
 

@@ -9,7 +9,7 @@ Handed step v [] flow w = (flow ≡ Go) × (v ≡ w)
 Handed {V = V} step v (x ∷ xs) flow w =
     ((u : V) × step v x Go u × Handed step u xs flow w) ⊎ ((flow ≡ Stop) × (xs ≡ []) × step v x Stop w)
 
--- how much is handed out, or goes out: all, or a front
+-- how much of a list is handed out: all of it, or a front
 pub data End : Type 0 where
   Whole : End
   Front : End
@@ -27,6 +27,6 @@ IsShare {T = T} given flow end items = (left : List T) × (given ++ left ≡ ite
 abbrev pub HandsOver : {V T : Type 0} → (V → T → Flow → V → Type 0) → V → List T → Flow → V → Type 0
 HandsOver {T = T} step old items flow new = (given : List T) × Handed step old given flow new × IsShare given flow Whole items
 
--- the visitor was handed some items, of which a fact holds
+-- the visitor was handed some items, and P holds of them and of how the visitor answered
 abbrev pub Visits : {V T : Type 0} → (V → T → Flow → V → Type 0) → V → V → (List T → Flow → Type 0) → Type 0
 Visits {T = T} step old new P = (given : List T) × (flow : Flow) × Handed step old given flow new × P given flow

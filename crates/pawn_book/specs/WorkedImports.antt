@@ -33,7 +33,7 @@ pub record WorkedImports : Type 0 where
   -- the rows become the book's, and their key its import's
   pub first : importing 6 ring_rows empty_book ≡ Makes (ImportBook 7 6 ring_rows) (BookFilled 1)
   pub fills : book_filled ≡ Some (record { key = 5; name = codes "High Street"; capacity = 1; terms = free ∷ []; pledges = ring 10000 ∷ []; imported = Some (record { key = 6; pledges = 1 }) })
-  -- again under its key it is told as the first time, whatever rows come
+  -- again under its key it is answered as the first time, whatever rows come
   pub again : importing 6 ring_rows book_filled ≡ Says (Told (BookFilled 1))
   pub again_without : importing 6 no_book_rows book_filled ≡ Says (Told (BookFilled 1))
   -- under another key, and into a book with terms, it is refused

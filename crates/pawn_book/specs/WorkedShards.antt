@@ -57,7 +57,7 @@ release = OnPledge 1 Command.Release
 abbrev pub asked : List (Stamp × Request)
 asked = of_seven 1 a_ring ∷ of_eight 2 a_ring ∷ of_seven 9 hold ∷ of_eight 9 release ∷ []
 
--- what a host tells of a run
+-- what a host answers in a run
 abbrev pub told_of_run : Host → List (Stamp × Request) → List (Said ⊥)
 told_of_run h run = run_replies h 9 (taken run)
 
@@ -69,7 +69,7 @@ pub record WorkedShards : Type 0 where
   pub handed_first : handed shard 0 asked ≡ of_seven 1 a_ring ∷ of_seven 9 hold ∷ []
   pub handed_second : handed shard 1 asked ≡ of_eight 2 a_ring ∷ of_eight 9 release ∷ []
   pub handed_third : handed shard 2 asked ≡ []
-  -- one host tells all four, and each shard its own two, as that host does
+  -- one host answers all four, and each shard its own two, as that host does
   pub together : told_of_run one_host asked
       ≡ opened 1 ∷ opened 2 ∷ Answered (Told (Commanded 1 (Done.Held true))) ∷ Answered (Told (Commanded 1 (Done.Held false))) ∷ []
   pub first : told_of_run (first_shard 1000) (handed shard 0 asked) ≡ opened 1 ∷ Answered (Told (Commanded 1 (Done.Held true))) ∷ []

@@ -68,7 +68,8 @@ held_ring = record (ring 10000) {
   standing = record (ring 10000).standing { held = true };
 }
 
--- a slot has what is done while its receipt is live: the pledge as it comes in, and the commands to the one that takes it out
+-- a slot has what is done while its receipt is live: the pledge as it comes in, and the commands to the one that takes
+-- it out
 pub record WorkedSlots : Type 0 where
   pub first : trace_of (receipt 1 ∷ []) ≡ Entered 1 (ring 10000) ∷ Did 1 (at 2) declare ∷ []
   pub second : trace_of (receipt 2 ∷ []) ≡ Entered 1 declared_ring ∷ Did 1 (at 9) Command.Hold ∷ Did 1 (at 3) declare ∷ []

@@ -1,4 +1,4 @@
--- What the types of a record's texts, secrets and days keep.
+-- The limits that the types of a record's texts, secrets and days keep.
 use Rattle.std.specs.Prelude.{ℕ, ◌^◌, ◌<◌, List}
 use Rattle.std.specs.Str.{IsUtf8}
 use Rattle.pawn_terms.specs.Calendar.{IsDayNumber}

@@ -14,7 +14,8 @@ use crate::request::Request;
 use pawn_pledge::{Secret, Stamp};
 use std::alloc::Global;
 
-/// Makes what was planned. Refused as `Full` where the rows would be above the limit.
+/// Makes the change of a plan, if it has one. Refused as `Full` if the rows would be above the limit, and as `Memory`
+/// or `Store` if the keeper does not save it.
 pub fn commit<K: Keep>(keep: &mut K, planned: &Planned) -> Result<(), Refusal>
     requires saves { K.keeping.serves keep.old → Of K.keeping keep.old keep.old
         (λ h. IfSome planned.now.change (CanSave h)) }
@@ -37,7 +38,7 @@ pub fn commit<K: Keep>(keep: &mut K, planned: &Planned) -> Result<(), Refusal>
     }
 }
 
-/// One step of the host: what `plan` says, made.
+/// Plans a request and makes its change: one step of the host. The request is one that may change its book.
 pub fn act<K: Keep>(
     alloc: Global,
     keep: &mut K,

@@ -4,7 +4,7 @@ ghost use Rattle.pawn_book.specs.Limits.{IsCapacity};
 use crate::limits::MOST_BOOKINGS;
 use std::marker::Model;
 
-/// How many bookings of one window a book confirms: 1 to 1,000. A contract sees the number.
+/// The most bookings of one window that a book confirms: 1 to 1,000. A contract sees the number.
 #[derive(Clone, Copy, PartialEq, Eq)]
 pub struct Capacity {
     bookings: u32,
@@ -32,7 +32,7 @@ impl Capacity {
         }
     }
 
-    /// How many bookings.
+    /// The number of bookings.
     pub fn get(self) -> u32
         ensures value { result ≡ self }
         ensures in_range { IsCapacity self }

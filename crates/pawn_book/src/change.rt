@@ -36,13 +36,13 @@ pub enum Change {
         version: u64,
         terms: Terms,
     },
-    /// The pledge of a number, the next or one that stands, as it is now.
+    /// The pledge of this number as it is after the change. It is new, with the next number, or one that the book has.
     PutPledge {
         book: Number,
         number: Number,
         pledge: Pledge,
     },
-    /// The rows of a book without terms and pledges, under the key of their import.
+    /// The rows that fill a book without terms and pledges, with the key of their import.
     ImportBook {
         book: Number,
         key: Secret,
@@ -50,7 +50,7 @@ pub enum Change {
     },
 }
 
-/// What a request would do, and what is then replied; no change where nothing changes.
+/// What a request would do, and the reply to it. Without a change, nothing is to be done.
 #[derive(Drop)]
 pub struct Planned {
     pub change: Option<Change>,

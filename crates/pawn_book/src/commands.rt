@@ -1,4 +1,4 @@
-//! Plans of commands on a pledge that stands.
+//! Plans of commands on a pledge that the book has.
 ghost use Rattle.std.specs.Prelude.{◌≡◌, Err, IfOk};
 ghost use Rattle.std.specs.FinMap.{get};
 ghost use Rattle.pawn_terms.specs.Calendar.{IsStampDay};
@@ -81,7 +81,7 @@ fn plan_command(
     ensures word { IsWord stamp.now.word }
     ensures store { result ≡ Err Refusal.Store → ⊥ }
 {
-    // Whoever reads the day knows that it is one that a stamp may have.
+    // Reading the day gives a proof that a stamp may have it.
     let _ = stamp.day.day();
     know_word(stamp);
     match pledge.apply_telling(stamp, command) {
@@ -141,7 +141,7 @@ fn find_room<K: Keep>(
     }
 }
 
-// The booking that is told to be confirmed.
+// The booking that a reply reports as confirmed, if it reports one.
 fn confirmed_booking(reply: Reply) -> Option<Booking>
     ensures value { result ≡ confirmed_booking reply }
 {

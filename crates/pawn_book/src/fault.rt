@@ -1,9 +1,9 @@
 /// Why a store failed.
 #[derive(Clone, Copy, Debug)]
 pub enum StoreFault {
-    /// A stored row is no record.
+    /// A stored row does not read as a record.
     NoRecord,
-    /// The database refused.
+    /// The database refused or failed.
     Database,
 }
 

@@ -12,8 +12,8 @@ use crate::keep::Keep;
 use crate::refusal::Refusal;
 use pawn_pledge::{Number, Pledge, Receipt, Secret, Stamp};
 
-/// The head of a book, for the holder of its key. Refused as `NoSuchBook` where the book does not
-/// stand or the key is another's.
+/// The head of a book, for the holder of its key. Refused as `NoSuchBook` if there is no such book, or the key is not
+/// the book's.
 pub fn gate<K: Keep>(keep: &mut K, book: Number, key: Secret) -> Result<BookHead, Refusal>
     ensures reads { Reads K.keeping keep.old keep.new (λ h. Gates (get h.books book) key result) }
     ensures steady { IsQuiet K.keeping keep.old result }
@@ -59,7 +59,7 @@ pub(crate) fn unwell_refusal(error: KeepError) -> Refusal
     }
 }
 
-// The word of a stamp is one of 128 bits.
+// Gives a proof that the word of a stamp has 128 bits.
 pub(crate) fn know_word(stamp: &Stamp)
     ensures word { IsWord stamp.now.word }
 {

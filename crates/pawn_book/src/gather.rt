@@ -1,4 +1,4 @@
-//! What a keeper hands out one at a time, gathered.
+//! Gathers in a list what a keeper hands out one at a time.
 ghost use Rattle.std.specs.Prelude.{◌≡◌, IfOk};
 ghost use Rattle.std.specs.FinMap.{get};
 ghost use Rattle.pawn_book.specs.Gathering.{Gathers};
@@ -13,7 +13,7 @@ use crate::visit::{Flow, Visitor};
 use pawn_pledge::{Day, Number};
 use std::alloc::Global;
 
-/// Gathers what it is handed, and wants no more once memory was wanting.
+/// A visitor that gathers the items that it is handed. Once memory is refused, it notes that it is full and stops.
 #[derive(Drop)]
 pub struct Gathering<T> {
     items: Vec<T>,
@@ -34,7 +34,7 @@ impl<T: Copy> Visitor<T> for Gathering<T> {
     }
 }
 
-/// The items of a day's sheet in a book, in order; none where the book does not stand.
+/// The items of a day's sheet in a book, in order; none if there is no such book.
 pub fn day_sheet<K: Keep>(
     alloc: Global,
     keep: &mut K,

@@ -16,7 +16,7 @@ use crate::rows::BookRows;
 use pawn_pledge::{Number, Secret};
 use std::marker::Model;
 
-/// Rows of which a book can be made, as `replayable` tells. A contract sees the rows.
+/// Rows that can fill a book: `replayable` was true of them. A contract sees the rows.
 #[derive(Drop)]
 pub struct ReplayableRows {
     rows: BookRows,
@@ -34,7 +34,7 @@ impl Model for ReplayableRows {
 }
 
 impl ReplayableRows {
-    /// The rows, if they are replayable; else they are handed back.
+    /// The rows, if `replayable` is true of them; otherwise they are handed back.
     pub fn of_rows(rows: BookRows) -> Result<ReplayableRows, BookRows>
         ensures same { IfOk result (λ replayable. replayable ≡ rows) }
         ensures back { IfErr result (λ back. back ≡ rows) }
@@ -56,14 +56,14 @@ impl ReplayableRows {
     }
 }
 
-// Whether neither terms nor pledges stand.
+// Whether the book has neither terms nor pledges.
 fn is_empty(head: &BookHead) -> bool
     ensures value { result ≡ is_empty head.now }
 {
     head.terms == 0 && head.pledges == 0
 }
 
-// Rows that are to fill a book, or filled it.
+// Plans an import. A book is filled once; the import that filled it is answered again, and any other is refused.
 pub(crate) fn plan_import(
     book: Number,
     head: &BookHead,
@@ -94,7 +94,7 @@ pub(crate) fn plan_import(
     }
 }
 
-// The rows are to fill a book that has none.
+// The plan that fills an empty book with these rows.
 fn fill_book(book: Number, key: Secret, rows: &ReplayableRows) -> Result<Planned, Refusal>
     ensures planned { IfOk result (λ planned. planned ≡ record {
       change = Some (Change.ImportBook book key rows.now);
@@ -106,7 +106,7 @@ fn fill_book(book: Number, key: Secret, rows: &ReplayableRows) -> Result<Planned
     ensures replayable { AreReplayable rows.now.terms rows.now.pledges }
     ensures written { Each HasTextsAndWords rows.now.pledges }
 {
-    // Whoever reads the key knows that it is a word.
+    // Reading the key gives a proof that it has 128 bits.
     let _word = key.word();
     let rows = rows.rows();
     let reply = Reply::BookFilled(rows.pledges.as_slice().len() as u64);

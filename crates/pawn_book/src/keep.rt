@@ -17,65 +17,67 @@ use crate::sheet::SheetItem;
 use crate::visit::Visitor;
 use pawn_pledge::{Brief, Day, Entry, Extension, Issued, Number, Pledge, Reference, Terms};
 
-/// What keeps a host, however it is kept. Only `save` changes the host.
+/// A keeper: whatever keeps a host, in a list or in tables. Only `save` changes the host.
 pub trait Keep {
-    /// What is known of it: the hosts that it stands for; whether its store has returned what was
-    /// written, still answers, and never fails; the hosts that a crash now may leave, and whether it stands for a
-    /// sound host and so does whatever a crash may leave.
+    /// What a proof knows of a keeper, field by field as `Keeping` has it: the hosts that it stands for, and whether
+    /// its store is honest, serves and is steady. Then the hosts that a crash now may leave, and whether it is whole.
     ghost keeping: { Keeping Self };
 
-    /// The head of a book, if the book stands.
+    /// The head of a book, if there is such a book.
     fn book_head(&mut self, book: Number) -> Result<Option<BookHead>, KeepError>
         ensures reads { Reads keeping self.old self.new
             (λ h. IfOk result (λ head. head ≡ option_map book_head (get h.books book))) }
         ensures errs { Errs keeping self.old self.new (IsUnsoundAt book) result };
 
-    /// The terms of a version.
+    /// The terms that a book has under a version, if it has any.
     fn terms(&mut self, book: Number, version: u64) -> Result<Option<Terms>, KeepError>
         ensures reads { Reads keeping self.old self.new
             (λ h. IfOk result (λ terms. terms ≡ terms_at (terms_of (get h.books book)) version)) }
         ensures errs { Errs keeping self.old self.new (IsUnsoundAt book) result };
 
-    /// The pledge of a number.
+    /// The pledge with this number in a book, if there is one.
     fn pledge(&mut self, book: Number, number: Number) -> Result<Option<Pledge>, KeepError>
         ensures reads { Reads keeping self.old self.new
             (λ h. IfOk result (λ pledge. pledge ≡ pledge_in (get h.books book) number)) }
         ensures errs { Errs keeping self.old self.new (IsUnsoundAt book) result };
 
-    /// The number of the pledge with a reference.
+    /// The number of the pledge with this reference in a book, if there is one.
     fn find_ref(&mut self, book: Number, reference: &Reference) -> Result<Option<Number>, KeepError>
         ensures reads { Reads keeping self.old self.new
             (λ h. IfOk result (λ number. number ≡ number_of (get h.books book) reference.now)) }
         ensures errs { Errs keeping self.old self.new (IsUnsoundAt book) result };
 
-    /// How many pledges have a confirmed booking for a day and a window.
+    /// How many pledges of a book have a confirmed booking for a day and a window.
     fn confirmed_count(&mut self, book: Number, day: Day, window: u64) -> Result<u64, KeepError>
         ensures reads { Reads keeping self.old self.new
             (λ h. IfOk result
             (λ count. count ≡ confirmed_count (pledges_of (get h.books book)) day window)) }
         ensures errs { Errs keeping self.old self.new (IsUnsoundAt book) result };
 
-    /// Hands the visitor the pledges of a book in order of their numbers, until it wants no more.
+    /// Hands the visitor the pledges of a book in order of their numbers, until it wants no more. If the call fails, it
+    /// may have been handed only the first of them.
     fn walk<V: Visitor<Pledge>>(&mut self, book: Number, visitor: &mut V) -> Result<(), KeepError>
         ensures reads { Visits V.step visitor.old visitor.new (λ given flow.
             Reads keeping self.old self.new
             (λ h. IsShare given flow (call_end result) (pledges_of (get h.books book)))) }
         ensures errs { Errs keeping self.old self.new (IsUnsoundAt book) result };
 
-    /// The least number of a book above one, or above none at all.
+    /// The next book number above `after`, or the first if `after` is none. The result is none if there is no such
+    /// book.
     fn next_book(&mut self, after: Option<Number>) -> Result<Option<Number>, KeepError>
         ensures reads { Reads keeping self.old self.new
             (λ h. IfOk result (λ next. IsNextBook h (unwrap_or after 0) next)) }
         ensures errs { Errs keeping self.old self.new HasUnsoundBook result };
 
-    /// The pledge of a number without its lists.
+    /// The pledge with this number in a book, without its lists, if there is one.
     fn brief(&mut self, book: Number, number: Number) -> Result<Option<Brief>, KeepError>
         ensures reads { Reads keeping self.old self.new
             (λ h. IfOk result
             (λ brief. brief ≡ option_map brief_of (pledge_in (get h.books book) number))) }
         ensures errs { Errs keeping self.old self.new (IsUnsoundAt book) result };
 
-    /// Hands the visitor the entries of a pledge in order, until it wants no more.
+    /// Hands the visitor the entries of a pledge in order, until it wants no more. If the call fails, it may have been
+    /// handed only the first of them.
     fn entries<V: Visitor<Entry>>(
         &mut self,
         book: Number,
@@ -88,7 +90,8 @@ pub trait Keep {
             (entries_of (pledge_in (get h.books book) number)))) }
         ensures errs { Errs keeping self.old self.new (IsUnsoundAt book) result };
 
-    /// Hands the visitor the secrets of a pledge in order, until it wants no more.
+    /// Hands the visitor the secrets of a pledge in order, until it wants no more. If the call fails, it may have been
+    /// handed only the first of them.
     fn secrets<V: Visitor<Issued>>(
         &mut self,
         book: Number,
@@ -101,7 +104,8 @@ pub trait Keep {
             (secrets_of (pledge_in (get h.books book) number)))) }
         ensures errs { Errs keeping self.old self.new (IsUnsoundAt book) result };
 
-    /// Hands the visitor the extensions of a pledge in order, until it wants no more.
+    /// Hands the visitor the extensions of a pledge in order, until it wants no more. If the call fails, it may have
+    /// been handed only the first of them.
     fn extensions<V: Visitor<Extension>>(
         &mut self,
         book: Number,
@@ -114,7 +118,8 @@ pub trait Keep {
             (extensions_of (pledge_in (get h.books book) number)))) }
         ensures errs { Errs keeping self.old self.new (IsUnsoundAt book) result };
 
-    /// Hands the visitor the items of a day's sheet in order, until it wants no more.
+    /// Hands the visitor the items of a day's sheet in order, until it wants no more. If the call fails, it may have
+    /// been handed only the first of them.
     fn sheet_each<V: Visitor<SheetItem>>(
         &mut self,
         book: Number,
@@ -127,18 +132,19 @@ pub trait Keep {
             (day_sheet (pledges_of (get h.books book)) day))) }
         ensures errs { Errs keeping self.old self.new (IsUnsoundAt book) result };
 
-    /// The rows of all books.
+    /// How many rows all books have together.
     fn rows(&mut self) -> Result<u64, KeepError>
         ensures reads { Reads keeping self.old self.new
             (λ h. IfOk result (λ count. count ≡ rows h)) }
         ensures errs { Errs keeping self.old self.new HasUnsoundBook result };
 
-    /// Makes a change, unless the rows would be above the limit.
+    /// Makes a change, or answers `Full` if the rows would be above the limit. After any error the books are as before,
+    /// though a crash may then leave the change made, unless the error is `Full`.
     fn save(&mut self, change: &Change) -> Result<(), SaveError>
         requires can_save { keeping.serves self.old → Of keeping self.old self.old
             (λ h. CanSave h change.now) }
         ensures saves { Saves keeping self.old self.new change.now result };
 
-    // What is called whole is so.
+    // A whole keeper stands for a sound host, and a crash may leave only sound ones.
     ghost whole_is_sound: { WholeIsSound keeping };
 }

@@ -22,7 +22,8 @@ use pawn_pledge::{
 };
 use std::alloc::Global;
 
-// A pledge that is to be taken, or stands under the reference.
+// Plans a new pledge. If a pledge has the reference already, an equal opening is answered with its first receipt, and
+// any other is refused.
 pub(crate) fn plan_pledge<K: Keep>(
     alloc: Global,
     keep: &mut K,
@@ -67,21 +68,22 @@ pub(crate) fn plan_pledge<K: Keep>(
     }
 }
 
-// What a request gives for a new pledge: texts that are UTF-8, a word of 128 bits, and a day of the calendar.
+// Gives a proof of what a request gives for a new pledge: texts that are UTF-8, a word of 128 bits, and a day of the
+// calendar.
 fn know_given(opening: &Opening, stamp: &Stamp)
     ensures reference { IsUtf8 opening.now.reference }
     ensures article { IsUtf8 opening.now.article }
     ensures word { IsWord stamp.now.word }
     ensures day { IsDayNumber stamp.now.day }
 {
-    // Whoever reads these knows what they are.
+    // Reading these gives a proof of what they are.
     let _ = stamp.day.day();
     let _ = opening.reference.as_str();
     let _ = opening.article.as_str();
     know_word(stamp);
 }
 
-// The pledge with a reference.
+// The pledge with this reference in a book, if there is one.
 fn find_reference<K: Keep>(
     keep: &mut K,
     book: Number,
@@ -163,7 +165,7 @@ fn is_same_opening(a: &Opening, b: &Opening) -> bool
         && a.five_days == b.five_days
 }
 
-// The receipt that came with the opening.
+// The receipt that was issued when the pledge was taken.
 fn first_receipt(pledge: &Pledge) -> Receipt
     ensures value { result ≡ first_receipt pledge.now }
 {

@@ -17,8 +17,8 @@ use crate::set_up::{plan_book, plan_terms};
 use pawn_pledge::{Secret, Stamp};
 use std::alloc::Global;
 
-/// What a request would do, and its reply; no change exactly where nothing changes. It changes
-/// nothing itself. The request is one that may change its book.
+/// What a request would do, and the reply to it; planning changes nothing itself. There is no change in the plan
+/// exactly if nothing would change. The request is one that may change its book.
 pub fn plan<K: Keep>(
     alloc: Global,
     keep: &mut K,

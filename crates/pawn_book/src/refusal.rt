@@ -7,25 +7,25 @@ use pawn_terms::TermsFault;
 /// Why a request is refused.
 #[derive(Clone, Copy, Debug, PartialEq, Eq)]
 pub enum Refusal {
-    /// By the rules of a pledge.
+    /// A refusal by the rules of a pledge.
     Pledge(PledgeRefusal),
-    /// By the limits of terms.
+    /// A refusal by the limits of terms.
     Terms(TermsFault),
-    /// There is no such book, or the key is another's.
+    /// There is no such book, or the key is not the book's.
     NoSuchBook,
     /// No receipt that was presented is live.
     NoSuchReceipt,
     /// The book has no pledge of this number.
     NoSuchPledge,
-    /// The book stands with another key, name or capacity.
+    /// There is such a book already, with another key, name or capacity.
     BookTaken,
     /// The book has no terms yet.
     NoTerms,
     /// The version is neither the next nor one with these terms.
     TermsSeq,
-    /// The reference stands for another opening.
+    /// A pledge of the book has this reference already, with another opening.
     RefTaken,
-    /// As many bookings of the window are confirmed as the book confirms.
+    /// The book has confirmed as many bookings of the window as its capacity allows.
     WindowFull,
     /// The book has terms, pledges, or another import's key.
     BookNotEmpty,
@@ -35,16 +35,16 @@ pub enum Refusal {
     TermsFull,
     /// The book has 1,000,000 pledges.
     PledgesFull,
-    /// There is no row left.
+    /// The rows would be above the limit.
     Full,
-    /// Memory was wanted.
+    /// Memory was refused.
     Memory,
     /// The store failed.
     Store,
 }
 
 impl Refusal {
-    /// The refusal's number.
+    /// The number of the refusal, as replies carry it.
     pub fn code(self) -> u16
         ensures code { result ≡ book_refusal_code self }
     {
@@ -69,7 +69,7 @@ impl Refusal {
         }
     }
 
-    /// The refusal's name.
+    /// The name of the refusal, as replies carry it.
     pub fn name(self) -> &'static str
         ensures name { result.now ≡ book_refusal_name self }
     {
@@ -94,7 +94,7 @@ impl Refusal {
         }
     }
 
-    /// The total owing in pence, where the refusal tells it.
+    /// What is owing, in pence, if the refusal reports it.
     pub fn total(self) -> Option<u64>
         ensures total { result ≡ total_told self }
     {

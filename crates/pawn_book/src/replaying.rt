@@ -13,9 +13,8 @@ use crate::limits::{MOST_PLEDGES, MOST_TERMS};
 use crate::rows::BookRows;
 use pawn_pledge::{Parts, Rates, Reference};
 
-/// Whether rows are those of a book that can have come about: whether a sound book that is filled
-/// with them is sound. References are compared pairwise, so the time grows with the square of the
-/// number of pledges.
+/// Whether rows are those of a book that can have come about, so that a sound book that is filled with them is sound.
+/// References are compared pairwise, so the time grows with the square of the number of pledges.
 pub fn replayable(rows: &BookRows) -> bool
     ensures answer { IsTrue result ↔ AreReplayable rows.now.terms rows.now.pledges }
     ensures sound { (book : BookValue) (key : ℕ) → IsSoundBook book → IsWord key
@@ -36,7 +35,7 @@ fn are_replayable(terms: &[Rates], pledges: &[Parts]) -> bool
         && are_distinct(pledges)
 }
 
-// Whether a book may have as many.
+// Whether a book may have as many terms and pledges.
 fn are_few(terms: &[Rates], pledges: &[Parts]) -> bool
     ensures answer { IsTrue result ↔
         ((length terms.now ≤ most_terms) × (length pledges.now ≤ most_pledges)) }
@@ -82,7 +81,7 @@ fn do_not_fall(pledges: &[Parts]) -> bool
     true
 }
 
-// Whether the terms of a pledge stand under its version.
+// Whether the terms of a pledge are those of its version.
 fn is_under(terms: &[Rates], parts: &Parts) -> bool
     ensures answer { IsTrue result ↔ IsUnder terms.now parts.now }
 {
@@ -128,7 +127,7 @@ fn has_reference(pledges: &[Parts], reference: &Reference) -> bool
     false
 }
 
-// Whether no reference stands twice.
+// Whether no two pledges have the same reference.
 fn are_distinct(pledges: &[Parts]) -> bool
     ensures answer { IsTrue result ↔ AreDistinct (references_of pledges.now) }
 {

@@ -36,7 +36,7 @@ pub enum Caller {
 }
 
 impl Caller {
-    /// Whether the request may change its book: whatever is not asked for a text.
+    /// Whether the request may change its book. One that only asks to see something may not.
     pub fn writes(&self) -> bool
         ensures writes { IsTrue result ↔ IsWritten self.now }
     {
@@ -58,7 +58,7 @@ pub struct NewBook {
 }
 
 impl NewBook {
-    /// The same again.
+    /// A copy of the new book. The only error is that memory is refused.
     pub fn copy(&self) -> Result<NewBook, AllocError>
         ensures same { IfOk result (λ new_book. new_book ≡ self.now) }
         ensures name { IsText MOST_NAME_BYTES self.now.name }
@@ -66,7 +66,7 @@ impl NewBook {
         ensures utf8 { IsUtf8 self.now.name }
         ensures key { IsWord self.now.key }
     {
-        // Whoever reads these knows that they are within their limits.
+        // Reading these gives a proof that they are within their limits.
         let _ = self.name.as_str();
         let _ = self.capacity.get();
         let _ = self.key.word();

@@ -7,8 +7,7 @@ use pawn_pledge::{Parts, Rates, Rows};
 use std::alloc::AllocError;
 use std::marker::Model;
 
-/// The records of a book's pledges, by number, be they ones that pledges can have or not. A clause
-/// sees their list.
+/// The records of a book's pledges, in order. Whether pledges can have them is not checked. A clause sees their list.
 #[derive(Drop)]
 pub struct PledgeRows {
     items: Vec<Parts>,
@@ -28,7 +27,7 @@ impl Model for PledgeRows {
 }
 
 impl PledgeRows {
-    /// The records of a list.
+    /// The records that a vector holds, in its order.
     pub fn from_vec(items: Vec<Parts>) -> PledgeRows
         ensures value { result ≡ items.items }
     {
@@ -44,7 +43,7 @@ impl PledgeRows {
         self.items.as_slice()
     }
 
-    /// The same records again.
+    /// A copy of the records. The only error is that memory is refused.
     pub fn copy(&self) -> Result<PledgeRows, AllocError>
         ensures same { IfOk result (λ rows. rows ≡ self.now) }
     {
@@ -57,7 +56,8 @@ impl PledgeRows {
     }
 }
 
-// The texts of records are UTF-8, their secrets words, and their days such: whoever reads them knows.
+// Gives a proof that the texts of records are UTF-8, their secrets have 128 bits, and the days on which they were taken
+// are days of the calendar.
 fn know_records(records: &[Parts])
     ensures written { Each HasTextsAndWords records.now }
 {
@@ -77,8 +77,8 @@ fn know_record(parts: &Parts)
     }
 }
 
-/// The rows of a book, be they ones that a book can have or not: the three numbers of each version
-/// of its terms, version 1 first, and its pledges.
+/// The rows of a book: the three numbers of each version of its terms, version 1 first, and its pledges. Whether a book
+/// can have them is not checked.
 #[derive(Drop)]
 pub struct BookRows {
     pub terms: Rows<Rates>,
@@ -86,7 +86,7 @@ pub struct BookRows {
 }
 
 impl BookRows {
-    /// The same rows again.
+    /// A copy of the rows. The only error is that memory is refused.
     pub fn copy(&self) -> Result<BookRows, AllocError>
         ensures same { IfOk result (λ rows. rows ≡ self.now) }
     {

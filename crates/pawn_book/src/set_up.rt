@@ -17,7 +17,8 @@ use crate::reply::Reply;
 use crate::request::{NewBook, NewTerms};
 use pawn_pledge::{Number, Rates, Terms};
 
-// A book that is to be made, or stands with the same key, name and capacity.
+// Plans a new book. If there is one of this number, it is answered again if it has the same key, name and capacity, and
+// refused otherwise.
 pub(crate) fn plan_book<K: Keep>(
     keep: &mut K,
     book: Number,
@@ -27,7 +28,7 @@ pub(crate) fn plan_book<K: Keep>(
         (λ h. IsSound h → Plans h book (make_book (get h.books book) book new_book.now) result) }
     ensures steady { IsQuiet K.keeping keep.old result }
 {
-    // Whoever reads the number knows that it is one that a book may have.
+    // Reading the number gives a proof that a book may have it.
     let _ = book.get();
     let reply = Reply::BookMade(book);
     match keep.book_head(book) {
@@ -62,7 +63,7 @@ fn is_same_book(head: &BookHead, new_book: &NewBook) -> bool
         && head.capacity == new_book.capacity
 }
 
-// Terms that are to be put under a version, or stand under it.
+// Plans terms under a version. If the book has terms there, the same ones are answered again, and others are refused.
 pub(crate) fn plan_terms<K: Keep>(
     keep: &mut K,
     book: Number,
@@ -109,7 +110,7 @@ fn are_same_rates(a: Rates, b: Rates) -> bool
     a.rate == b.rate && a.keep_before == b.keep_before && a.keep_after == b.keep_after
 }
 
-// The terms of the next version, where so many stand.
+// The terms, if they may be the next version of a book that has so many.
 fn next_terms(standing: u64, new_terms: &NewTerms) -> Result<Terms, Refusal>
     ensures value { result ≡ next_terms standing new_terms.now }
     ensures checked { IfOk result IsChecked }

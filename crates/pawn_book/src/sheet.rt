@@ -17,7 +17,7 @@ pub enum SheetItem {
     Asked { number: Number, window: u64 },
     /// How many pledges have the end of their period on the day, the redeemed and the sold aside. Each of them follows.
     EndsHead(u64),
-    /// One of these pledges.
+    /// A pledge whose period ends on the day.
     Ends(Number),
 }
 
@@ -30,7 +30,7 @@ pub enum Part {
 }
 
 impl Part {
-    /// The item above the others, which are so many.
+    /// The item that heads the part, and says how many items follow.
     pub fn heading(self, count: u64) -> SheetItem
         ensures value { result ≡ part_head self count }
     {

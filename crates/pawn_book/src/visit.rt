@@ -5,8 +5,8 @@ pub enum Flow {
     Stop,
 }
 
-/// What is handed the items of a list, one by one: a book's pledges, or a pledge's entries or
-/// extensions.
+/// A visitor is handed the items of a list one by one, until it answers `Stop`. The list may be pledges of a book,
+/// lists of a pledge, or a day's sheet.
 pub trait Visitor<T> {
     ghost use Rattle.pawn_book.specs.declared.visit.Flow.{Flow};
 

@@ -7,7 +7,7 @@ pub fn worked_slots()
     ensures slots { WorkedSlots }
 {}
 
-/// A book that is filled by an import, and what is told to further ones.
+/// A book that is filled by an import, and what further imports are answered.
 pub fn worked_imports()
     ensures imports { WorkedImports }
 {}

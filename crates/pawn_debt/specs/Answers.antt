@@ -12,7 +12,7 @@ use Rattle.pawn_debt.specs.Due.{DebtValue, due, last_of, credit_of}
 use Rattle.pawn_debt.specs.Owing.{total_of}
 use Rattle.pawn_debt.specs.Limits.{most_pence, most_entries}
 
--- a sum is at least a penny
+-- a sum that is refused: nothing, or more than a million pounds
 abbrev pub is_bad_amount : ℕ → Bool
 is_bad_amount pence = (pence == 0) || nat_lt most_pence pence
 
@@ -57,7 +57,7 @@ repay_rows p day pence =
 abbrev pub repay_answer : DebtValue → ℕ → ℕ → Result DebtValue DebtFault
 repay_answer p day pence = first_of (repay_rows p day pence) (Ok (with_entry p day Repay pence))
 
--- a call answers as the rules say, or memory was wanting; what refuses changes nothing
+-- a call answers as the rules say, or memory was refused; a call that is refused changes nothing
 abbrev pub IsAnswer : {V U E : Type 0} → E → Result V E → V → Result U E → V → Type 0
 IsAnswer memory answer old (Ok done) new = answer ≡ Ok new
 IsAnswer memory answer old (Err fault) new = (new ≡ old) × IsSaid (IsWant memory answer) answer (Err fault)

@@ -23,7 +23,7 @@ debt_fault_name EarlierDay = codes "EarlierDay"
 debt_fault_name EntriesFull = codes "EntriesFull"
 debt_fault_name Memory = codes "Memory"
 
--- what was owing, where more was paid
+-- what is owing, where a repayment is of more
 abbrev pub fault_total : DebtFault → Option ℕ
 fault_total (OverOwing total) = Some total
 fault_total other = None

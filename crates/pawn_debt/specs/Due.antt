@@ -1,4 +1,4 @@
--- What is owed on a day, told day by day.
+-- What is owed on a day, worked out day by day.
 use Rattle.std.specs.Prelude.{ℕ, zero, suc, ◌+◌, ◌-◌, ◌*◌, ◌/◌, ◌==◌, nat_le, min, if◌then◌else◌, List, [], ◌∷◌, filter}
 use Rattle.pawn_terms.specs.declared.terms.Rates.{Rates}
 use Rattle.pawn_terms.specs.Order.{DoNotFall, last_by}
@@ -70,7 +70,7 @@ due_after p zero =
 due_after p (suc n) =
     after_entries (after_charges p.terms p.ends (p.taken + suc n) (due_after p n)) (entries_on p.entries (p.taken + suc n))
 
--- what is owed on the day x
+-- what is owed on the day x, once its entries are in
 abbrev pub due : DebtValue → ℕ → Due
 due p x = due_after p (x - p.taken)
 

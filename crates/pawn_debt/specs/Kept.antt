@@ -5,11 +5,11 @@ use Rattle.pawn_debt.specs.declared.owing.Totals.{Totals}
 use Rattle.pawn_debt.specs.Due.{Due, DebtValue, due, last_of, AreOrdered, credit_of}
 use Rattle.pawn_debt.specs.Limits.{most_pence, most_entries, most_a_day}
 
--- the two numbers of totals
+-- the principal and the charges of totals
 abbrev pub sums_of : Totals → Due
 sums_of t = record { principal = t.principal; millionths = t.millionths }
 
--- what is owed on the day of the last entry
+-- what is owed on the day of the last entry, or else on the day taken
 abbrev pub totals_of : DebtValue → Totals
 totals_of p = record {
   day = last_of p.taken p.entries;

@@ -12,6 +12,6 @@ whole_pence millionths = millionths / penny
 abbrev pub total_of : Due → ℕ
 total_of owed = owed.principal + whole_pence owed.millionths
 
--- what is owed, as a caller is told
+-- what is owed in whole pence, as callers see it
 abbrev pub owing_of : Due → Owing
 owing_of owed = record { principal = owed.principal; charges = whole_pence owed.millionths; total = total_of owed }

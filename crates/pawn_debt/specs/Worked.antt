@@ -27,7 +27,7 @@ six_month_debt kind terms taken = record { kind = kind; terms = terms; taken = t
 abbrev pub pence_and_millionths : ℕ → ℕ → Due
 pence_and_millionths principal charges = record { principal = principal; millionths = charges }
 
--- what is owed as a caller is told it
+-- what is owed in whole pence, as callers see it
 abbrev pub owed : ℕ → ℕ → ℕ → Owing
 owed principal charges total = record { principal = principal; charges = charges; total = total }
 
@@ -35,7 +35,7 @@ owed principal charges total = record { principal = principal; charges = charges
 abbrev pub at_interest : DebtValue
 at_interest = six_month_debt (Fixed 10000) (rates_of 2667 0 0) (date 2024 1 1)
 
--- interest from the day after the day taken on, rounded down to whole pence once, where it is told
+-- interest runs from the day after the day taken, and is rounded down to whole pence once, when it is shown
 abbrev pub WorkedInterest : Type 0
 WorkedInterest =
     (due at_interest (date 2024 1 1) ≡ pence_and_millionths 10000 0)
@@ -93,7 +93,7 @@ drawn_in_part = with_entry account (date 2024 1 31) Draw 3000
 abbrev pub full_account : DebtValue
 full_account = record account { entries = repeat 9999 (record { seq = 1; day = date 2024 1 31; sort = Draw; pence = 1 } ∷ []) }
 
--- with them neither a drawing nor a repayment is entered any more
+-- a full account takes neither a drawing nor a repayment
 abbrev pub WorkedFullness : Type 0
 WorkedFullness =
     (draw_answer full_account (date 2024 1 31) 1 ≡ Err EntriesFull)

@@ -16,7 +16,7 @@ use pawn_terms::{Day, Terms};
 use std::alloc::{AllocError, Global};
 use std::marker::Model;
 
-/// What is owed on a pledge, by its entries.
+/// The debt on a pledge: its credit, terms, period and entries, and what was owed after the last entry.
 #[derive(Drop)]
 pub struct Debt {
     kind: Kind,
@@ -47,7 +47,7 @@ impl Model for Debt {
 }
 
 impl Debt {
-    /// A debt with no entries.
+    /// A new debt with no entries. `BadAmount` if its sum or limit is 0, or above `MOST_PENCE`.
     pub fn start(
         alloc: Global,
         kind: Kind,
@@ -75,7 +75,8 @@ impl Debt {
         })
     }
 
-    /// A debt of its entries and what is owed after them.
+    /// The debt with these entries, given what is owed after them. The contract asks that the entries and the totals
+    /// agree.
     pub fn with_totals(
         kind: Kind,
         terms: Terms,
@@ -99,7 +100,8 @@ impl Debt {
         }
     }
 
-    /// A debt of its entries, or they are handed back where the rules don't accept them in turn.
+    /// The debt with these entries. They are handed back if the rules do not accept each in turn, or if the sum or
+    /// limit is out of range.
     pub fn of_entries(
         kind: Kind,
         terms: Terms,
@@ -148,7 +150,7 @@ impl Debt {
         after_days(&self.totals, self.terms, self.ends, day)
     }
 
-    /// What is owed on a day that is not before the last entry or the day taken.
+    /// What is owed in whole pence on a day that is not before the last entry, nor before the day taken.
     pub fn owing(&self, day: Day) -> Owing
         requires later { last_of self.now.taken self.now.entries ≤ day }
         ensures value { result ≡ owing_of (due self.now day) }
@@ -156,7 +158,8 @@ impl Debt {
         owing_after(&self.owed_on(day))
     }
 
-    /// The two numbers on the later of the day taken and the last entry's day.
+    /// What is owed on the day of the last entry, or else on the day taken: principal in pence, charges in millionths
+    /// of a penny.
     pub fn totals(&self) -> Totals
         ensures value { result ≡ totals_of self.now }
         ensures principal_in { result.principal ≤ most_pence }
@@ -165,7 +168,8 @@ impl Debt {
         self.totals
     }
 
-    /// A drawing on a running account.
+    /// Enters a drawing on a running account, or refuses it and leaves the debt unchanged. The first of these that
+    /// applies refuses it: `EarlierDay`, `FixedSum`, `BadAmount`, `EntriesFull`, `OverLimit`. `Memory` comes last.
     pub fn draw(&mut self, day: Day, pence: u64) -> Result<(), DebtFault>
         ensures answer { IsAnswer DebtFault.Memory
             (draw_answer self.old day pence) self.old result self.new }
@@ -192,7 +196,9 @@ impl Debt {
         self.enter(Sort::Draw, pence, after)
     }
 
-    /// A repayment: whole pence of charges first, then principal.
+    /// Enters a repayment, which pays whole pence of charges first, then principal; or refuses it and leaves the debt
+    /// unchanged. The first of these that applies refuses it: `EarlierDay`, `BadAmount`, `EntriesFull`, `OverOwing`.
+    /// `Memory` comes last.
     pub fn repay(&mut self, day: Day, pence: u64) -> Result<(), DebtFault>
         ensures answer { IsAnswer DebtFault.Memory
             (repay_answer self.old day pence) self.old result self.new }
@@ -217,7 +223,7 @@ impl Debt {
         self.enter(Sort::Repay, pence, after)
     }
 
-    /// The same debt again.
+    /// A copy of the debt. The only error is that memory is refused.
     pub fn copy(&self) -> Result<Debt, AllocError>
         ensures ok { IfOk result (λ d. d ≡ self.now) }
     {
@@ -232,7 +238,8 @@ impl Debt {
         })
     }
 
-    /// A longer period, agreed before the old one has ended or an entry came after it.
+    /// Sets the end of the period to a day that is not before the present end. No entry may be dated past the present
+    /// end.
     pub fn extend(&mut self, ends: Day)
         requires later { self.old.ends ≤ ends }
         requires inside { last_of self.old.taken self.old.entries ≤ self.old.ends }
@@ -248,7 +255,7 @@ impl Debt {
         self.totals.day
     }
 
-    /// The credit.
+    /// The kind of the credit, with its sum or limit in pence.
     pub fn kind(&self) -> Kind
         ensures value { result ≡ self.now.kind }
         ensures small { credit_of result ≤ most_pence }
@@ -270,14 +277,14 @@ impl Debt {
         self.entries.as_slice()
     }
 
-    /// The entries again, in order.
+    /// A copy of the entries, in order. The only error is that memory is refused.
     pub fn copy_entries(&self) -> Result<Entries, AllocError>
         ensures ok { IfOk result (λ e. e ≡ self.now.entries) }
     {
         self.entries.copy()
     }
 
-    /// The entry of a number.
+    /// The first entry with this number, if there is one.
     pub fn entry(&self, seq: u64) -> Option<Entry>
         ensures value { result ≡ find (λ e. e.seq == seq) self.now.entries }
     {
@@ -299,7 +306,7 @@ impl Debt {
         self.entries.len()
     }
 
-    // One more entry, with what is owed after it.
+    // Adds an entry at the end, and keeps `after` as what is owed after it.
     fn enter(&mut self, sort: Sort, pence: u64, after: Totals) -> Result<(), DebtFault>
         requires later { last_of self.old.taken self.old.entries ≤ after.day }
         requires few { length self.old.entries < most_entries }

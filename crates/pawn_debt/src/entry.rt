@@ -5,7 +5,7 @@ ghost use Rattle.pawn_debt.specs.Words.{sort_text};
 use crate::rows::Rows;
 use pawn_terms::Day;
 
-/// The credit, in pence.
+/// The kind of a credit, with its sum or limit in pence.
 #[derive(Clone, Copy, Debug, PartialEq, Eq)]
 pub enum Kind {
     /// A fixed sum, lent on the day taken.
@@ -15,7 +15,7 @@ pub enum Kind {
 }
 
 impl Kind {
-    /// The sum, or the limit.
+    /// The fixed sum, or the limit of the running account, in pence.
     pub fn credit(self) -> u64
         ensures value { result ≡ credit_of self }
     {
@@ -25,7 +25,7 @@ impl Kind {
         }
     }
 
-    // The principal of the day taken.
+    // The principal on the day taken: the fixed sum, or 0 on a running account.
     pub(crate) fn first_principal(self) -> u64
         ensures value { result ≡ first_principal self }
         ensures small { result ≤ credit_of self }
@@ -37,7 +37,7 @@ impl Kind {
     }
 }
 
-/// What an entry is.
+/// Whether an entry is a drawing or a repayment.
 #[derive(Clone, Copy, Debug, PartialEq, Eq)]
 pub enum Sort {
     Draw,
@@ -68,7 +68,7 @@ pub struct Entry {
 /// The entries of a debt, in order.
 pub type Entries = Rows<Entry>;
 
-// The first entry of a number, if there is one.
+// The first entry with this number, if there is one.
 pub(crate) fn find_entry(entries: &[Entry], seq: u64) -> Option<Entry>
     ensures value { result ≡ find (λ e. e.seq == seq) entries.now }
 {

@@ -12,13 +12,13 @@ pub enum DebtFault {
     FixedSum,
     /// A drawing that takes the principal above the limit.
     OverLimit,
-    /// A repayment of more than is owing, with what is owing.
+    /// A repayment of more than is owing; `total` is what is owing, in pence.
     OverOwing { total: u64 },
     /// A day before the last entry's, or before the day taken.
     EarlierDay,
-    /// As many entries stand as a debt may have.
+    /// The debt has as many entries as it may have.
     EntriesFull,
-    /// A growth was refused.
+    /// Memory for a new entry was refused.
     Memory,
 }
 
@@ -55,7 +55,7 @@ impl DebtFault {
         }
     }
 
-    /// What was owing, in pence, where more was paid.
+    /// What is owing, in pence, if the fault is `OverOwing`.
     pub fn total(self) -> Option<u64>
         ensures value { result ≡ fault_total self }
     {

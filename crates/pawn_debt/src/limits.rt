@@ -1,9 +1,9 @@
 //! The limits of debts.
 
-/// The largest sum, in pence.
+/// The largest sum that may be lent, drawn or repaid, in pence: a million pounds.
 pub const MOST_PENCE: u64 = 100_000_000;
 
-/// As many entries a debt has at most.
+/// The most entries that a debt may have.
 pub const MOST_ENTRIES: usize = 9_999;
 
 // A penny, in millionths of it.

@@ -9,7 +9,7 @@ ghost use Rattle.pawn_debt.specs.Limits.{most_pence, most_a_day, most_millionths
 use crate::limits::PENNY;
 use pawn_terms::{Day, Terms};
 
-/// What is owed, in whole pence.
+/// What is owed, in whole pence. Charges are rounded down, and the total is principal and charges together.
 #[derive(Clone, Copy)]
 pub struct Owing {
     pub principal: u64,
@@ -17,7 +17,7 @@ pub struct Owing {
     pub total: u64,
 }
 
-/// What is owed on a day.
+/// What is owed on a day, with the charges not rounded, so that they can be carried on to later days.
 #[derive(Clone, Copy, Debug, PartialEq, Eq)]
 pub struct Totals {
     pub day: Day,
@@ -27,7 +27,7 @@ pub struct Totals {
     pub millionths: u64,
 }
 
-// What is owed on a later day, from what was owed on an earlier one, where no entries come in between.
+// What is owed on a day, from what was owed on that day or an earlier one. There must be no entries in between.
 pub(crate) fn after_days(totals: &Totals, terms: Terms, ends: Day, day: Day) -> Totals
     requires later { totals.now.day ≤ day }
     requires principal_in { totals.now.principal ≤ most_pence }
@@ -53,7 +53,8 @@ pub(crate) fn after_days(totals: &Totals, terms: Terms, ends: Day, day: Day) -> 
     }
 }
 
-/// What is owed on a day, from what was owed on an earlier one, where no entries come in between.
+/// What is owed on a day in whole pence, from what was owed on that day or an earlier one. There must be no entries in
+/// between; `ends` is the end of the period.
 pub fn owing_from(totals: &Totals, terms: &Terms, ends: Day, day: Day) -> Owing
     requires later { totals.now.day ≤ day }
     requires principal_in { totals.now.principal ≤ most_pence }
@@ -64,7 +65,7 @@ pub fn owing_from(totals: &Totals, terms: &Terms, ends: Day, day: Day) -> Owing
     owing_after(&after_days(totals, *terms, ends, day))
 }
 
-// The pence that are owed.
+// What is owed in whole pence, from the totals of the same day.
 pub(crate) fn owing_after(totals: &Totals) -> Owing
     requires within { totals.now.principal ≤ most_pence }
     ensures value { result ≡ owing_of (sums_of totals.now) }

@@ -152,7 +152,8 @@ pub fn replay_entries(
     Some(totals)
 }
 
-/// What is owed on a day, from what is owed after the entries.
+/// What is owed in whole pence on a day, given as `totals` what is owed after the entries. The day must not be before
+/// that of `totals`.
 pub fn owing_at(
     kind: Kind,
     terms: Terms,

@@ -18,7 +18,7 @@ impl<T> Model for Rows<T> {
 }
 
 impl<T: Copy> Rows<T> {
-    /// No rows.
+    /// An empty list of rows.
     pub fn new(alloc: Global) -> Rows<T>
         ensures value { result ≡ [] }
     {
@@ -27,7 +27,7 @@ impl<T: Copy> Rows<T> {
         }
     }
 
-    /// The rows of a list.
+    /// The rows that a vector holds, in its order.
     pub fn from_vec(items: Vec<T>) -> Rows<T>
         ensures value { result ≡ items.items }
     {
@@ -55,7 +55,7 @@ impl<T: Copy> Rows<T> {
         self.items.is_empty()
     }
 
-    /// One more row at the end. Where memory is wanting, the rows are unchanged.
+    /// Adds a row at the end. If memory is refused, the rows are unchanged.
     pub fn push(&mut self, row: T) -> Result<(), AllocError>
         ensures ok { OnOk result (self.new ≡ self.old ++ row ∷ []) }
         ensures err { OnErr result (self.new ≡ self.old) }
@@ -64,7 +64,7 @@ impl<T: Copy> Rows<T> {
         Ok(())
     }
 
-    /// The same rows again.
+    /// A copy of the rows. The only error is that memory is refused.
     pub fn copy(&self) -> Result<Rows<T>, AllocError>
         ensures ok { IfOk result (λ rows. rows ≡ self.now) }
     {

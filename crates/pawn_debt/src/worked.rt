@@ -7,7 +7,7 @@ pub fn worked_debts()
     ensures totals { WorkedTotals }
 {}
 
-/// Starts, drawings and repayments, and the refusals of others.
+/// New debts, drawings and repayments, and which of them are refused.
 pub fn worked_entries()
     ensures starts { WorkedStarts }
     ensures drawings { WorkedDrawings }

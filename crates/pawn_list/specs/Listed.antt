@@ -41,14 +41,14 @@ IsPlace [] b i = ⊥
 IsPlace (e ∷ es) b zero = b ≡ e.0
 IsPlace (e ∷ es) b (suc i) = (b ≢ e.0) × IsPlace es b i
 
--- the least number of a book in the list above one, or that there is none
+-- the next book number of the list above `after`, or that there is none
 abbrev pub IsLeastAbove : List (ℕ × BookValue) → ℕ → Option ℕ → Type 0
 IsLeastAbove books after None = (b : ℕ) (book : BookValue) → book_at books b ≡ Some book → b ≤ after
 IsLeastAbove books after (Some next) =
     (after < next) × ((book : BookValue) × (book_at books next ≡ Some book))
     × ((b : ℕ) (book : BookValue) → book_at books b ≡ Some book → after < b → next ≤ b)
 
--- the rows of the pledge that stands
+-- the rows of a pledge, or 0 where there is none
 abbrev pub standing_rows : Option PledgeValue → ℕ
 standing_rows None = 0
 standing_rows (Some p) = pledge_rows p
@@ -66,8 +66,8 @@ replaced_rows books (AddTerms b version terms) = 0
 replaced_rows books (PutPledge b n p) = standing_rows (pledge_in (book_at books b) n)
 replaced_rows books (ImportBook b key rows) = 0
 
--- the books of the list have a change's place: none yet of a new book's number, else the book, and a place for the pledge;
--- imported rows are ones that a book can have
+-- The books of the list have a place for a change: no book yet of a new book's number, else the book, and a place for
+-- the pledge. Imported rows are ones that a book can have.
 abbrev pub Fits : List (ℕ × BookValue) → Change → Type 0
 Fits books (MakeBook b new) = book_at books b ≡ None
 Fits books (AddTerms b version terms) = (at : BookValue) × (book_at books b ≡ Some at)
@@ -89,7 +89,7 @@ pub record IsListed (k : Books) (count : ℕ) : Type 0 where
   pub counted : count ≡ rows (host_of k)
   pub limit : k.limit ≤ most_rows
 
--- the change is made, or nothing is, and then for want of rows or of memory
+-- the change is made; or nothing is, where the rows are full or memory is refused
 abbrev pub SavesListed : Books → Change → Result (Unit {0}) SaveError → Books → Type 0
 SavesListed old change (Ok done) new = (host_of new ≡ with_change (host_of old) change) × (rows (with_change (host_of old) change) ≤ old.limit)
 SavesListed old change (Err Full) new = (new ≡ old) × (old.limit < rows (with_change (host_of old) change))

@@ -11,7 +11,7 @@ use crate::kept::{Kept, place_of};
 use pawn_book::{BookRows, Change, Imported, Number, Parts, Pledge, Rates, Secret, Terms};
 use std::alloc::{AllocError, Global};
 
-// The rows of a pledge of an import.
+// How many rows a record counts for: one for itself, for each entry and secret, and for a booking.
 fn rows_of(parts: &Parts) -> u64
     requires standing { IsStanding parts.now }
     ensures value { result ≡ pledge_rows parts.now }
@@ -23,7 +23,7 @@ fn rows_of(parts: &Parts) -> u64
     1 + parts.entries.len() as u64 + parts.secrets.len() as u64 + booking
 }
 
-// How many rows an import brings.
+// How many rows an import adds.
 pub(crate) fn count_rows(rows: &BookRows) -> u64
     requires replayable { AreReplayable rows.now.terms rows.now.pledges }
     ensures value { result ≡ length rows.now.terms + sum_by pledge_rows rows.now.pledges }
@@ -35,7 +35,7 @@ pub(crate) fn count_rows(rows: &BookRows) -> u64
     count
 }
 
-// The terms of three numbers each.
+// The checked terms of these rates.
 fn terms_of(alloc: Global, rates: &[Rates]) -> Result<Vec<Terms>, AllocError>
     requires checked { Each IsChecked rates.now }
     ensures same { IfOk result (λ terms. terms.items ≡ rates.now) }
@@ -50,7 +50,7 @@ fn terms_of(alloc: Global, rates: &[Rates]) -> Result<Vec<Terms>, AllocError>
     Ok(terms)
 }
 
-// The pledges of their parts.
+// The pledges with these records.
 fn pledges_of(alloc: Global, records: &[Parts]) -> Result<Vec<Pledge>, AllocError>
     requires standing { Each IsStanding records.now }
     ensures same { IfOk result (λ pledges. pledges.items ≡ records.now) }

@@ -1,4 +1,4 @@
-//! Books in a list, and where one of them and its pledges stand.
+//! Books in a list, and how one of them or one of its pledges is found.
 ghost use Rattle.std.specs.Prelude.{◌≡◌, ◌<◌, IfNone, IfSome, MatchOption, None, Some, length, map};
 ghost use Rattle.pawn_book.specs.BookStep.{pledge_from, pledge_in};
 ghost use Rattle.pawn_list.specs.Listed.{IsPlace, book_at, listed_book};
@@ -15,7 +15,7 @@ pub struct Kept {
     pub(crate) imported: Option<Imported>,
 }
 
-// Where the book of a number stands.
+// The place of the first book with this number, from 0, if there is one.
 pub(crate) fn place_of(books: &[Kept], book: Number) -> Option<usize>
     ensures within { IfSome result (λ place. place < length books.now) }
     ensures some { IfSome result (IsPlace (map listed_book books.now) book) }
@@ -29,7 +29,7 @@ pub(crate) fn place_of(books: &[Kept], book: Number) -> Option<usize>
     None
 }
 
-// The book of a number.
+// The first book with this number, if there is one.
 pub(crate) fn kept_at(books: &[Kept], book: Number) -> Option<&Kept>
     ensures found { MatchOption result (book_at (map listed_book books.now) book ≡ None)
         (λ kept. book_at (map listed_book books.now) book ≡ Some (listed_book kept.now).1) }
@@ -40,7 +40,7 @@ pub(crate) fn kept_at(books: &[Kept], book: Number) -> Option<&Kept>
     }
 }
 
-// The pledge of a number.
+// The pledge with this number, if there is one. Pledges are numbered from 1 in order.
 fn pledge_at(pledges: &[Pledge], number: Number) -> Option<&Pledge>
     ensures found { MatchOption result (pledge_from 1 pledges.now number ≡ None)
         (λ pledge. pledge_from 1 pledges.now number ≡ Some pledge.now) }
@@ -53,7 +53,7 @@ fn pledge_at(pledges: &[Pledge], number: Number) -> Option<&Pledge>
     }
 }
 
-// The pledge of a number in a book.
+// The pledge with this number in a book, if there is one.
 pub(crate) fn standing_pledge(books: &[Kept], book: Number, number: Number) -> Option<&Pledge>
     ensures found { MatchOption result
         (pledge_in (book_at (map listed_book books.now) book) number ≡ None)

@@ -17,8 +17,8 @@ use pawn_book::{
 use std::alloc::Global;
 use std::marker::Model;
 
-/// Books in a list, in the order in which they were made: the plain keeper, which never fails but
-/// for want of memory. A contract sees the books by number, and the limit on their rows.
+/// Books in a list, in the order in which they were made: the plain keeper, which fails only if memory is refused. A
+/// contract sees the books by number, and the limit on their rows.
 #[derive(Drop)]
 pub struct ListKeep {
     alloc: Global,
@@ -42,7 +42,7 @@ impl Model for ListKeep {
 }
 
 impl ListKeep {
-    /// A keeper of no books. The limit on rows is 1 to 10,000,000.
+    /// A keeper of no books. The limit on rows is at most 10,000,000.
     pub fn new(alloc: Global, limit: u64) -> ListKeep
         requires few { limit ≤ MOST_ROWS }
         ensures empty { result ≡ record { books = []; limit = limit } }
@@ -55,7 +55,7 @@ impl ListKeep {
         }
     }
 
-    // Makes a change, unless the rows would be above the limit.
+    // Makes a change, or answers `Full` if the rows would be above the limit. After an error the books are as before.
     fn make(&mut self, change: &Change) -> Result<(), SaveError>
         requires can_save { CanSave (host_of self.old) change.now }
         ensures saves { SavesListed self.old change.now result self.new }
@@ -175,7 +175,7 @@ impl Keep for ListKeep {
     }
 
     fn save(&mut self, change: &Change) -> Result<(), SaveError> {
-        // Whoever holds a list knows that its host is sound.
+        // Reading the list gives a proof that its host is sound.
         let _ = &self.rows;
         self.make(change)
     }

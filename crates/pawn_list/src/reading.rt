@@ -15,7 +15,7 @@ use pawn_book::{
 };
 use std::alloc::AllocError;
 
-// What a book has beside its terms and pledges.
+// The head of a book, if there is such a book. The only error is that memory is refused.
 pub(crate) fn head_in(books: &[Kept], book: Number) -> Result<Option<BookHead>, AllocError>
     ensures value { IfOk result (λ head. head ≡ option_map book_head
         (book_at (map listed_book books.now) book)) }
@@ -34,7 +34,7 @@ pub(crate) fn head_in(books: &[Kept], book: Number) -> Result<Option<BookHead>, 
     }))
 }
 
-// The terms of a version.
+// The terms under a version, counted from 1, if there are any.
 fn standing_terms(terms: &[Terms], version: u64) -> Option<Terms>
     ensures value { result ≡ terms_at terms.now version }
 {
@@ -44,7 +44,7 @@ fn standing_terms(terms: &[Terms], version: u64) -> Option<Terms>
     Some(terms[version as usize - 1])
 }
 
-// The terms of a version of a book.
+// The terms that a book has under a version, if it has any.
 pub(crate) fn terms_in(books: &[Kept], book: Number, version: u64) -> Option<Terms>
     ensures value { result ≡ terms_at (terms_of (book_at (map listed_book books.now) book)) version }
 {
@@ -54,7 +54,7 @@ pub(crate) fn terms_in(books: &[Kept], book: Number, version: u64) -> Option<Ter
     standing_terms(&kept.terms, version)
 }
 
-// The number of the pledge with a reference.
+// The number of the first pledge with this reference, if there is one.
 fn number_with(pledges: &[Pledge], reference: &Reference) -> Option<Number>
     ensures value { result ≡ option_map (λ p. p.agreement.number)
         (with_reference pledges.now reference.now) }
@@ -67,7 +67,7 @@ fn number_with(pledges: &[Pledge], reference: &Reference) -> Option<Number>
     None
 }
 
-// The number of the pledge with a reference in a book.
+// The number of the first pledge of a book with this reference, if there is one.
 pub(crate) fn number_in(books: &[Kept], book: Number, reference: &Reference) -> Option<Number>
     ensures value { result ≡ number_of (book_at (map listed_book books.now) book) reference.now }
 {
@@ -77,7 +77,7 @@ pub(crate) fn number_in(books: &[Kept], book: Number, reference: &Reference) -> 
     number_with(&kept.pledges, reference)
 }
 
-// The pledge of a number in a book, as a value of its own.
+// A copy of the pledge with this number in a book, if there is one. The only error is that memory is refused.
 pub(crate) fn pledge_copy(
     books: &[Kept],
     book: Number,
@@ -93,7 +93,8 @@ pub(crate) fn pledge_copy(
     Ok(Some(copy))
 }
 
-// The pledge of a number in a book, without its lists.
+// The pledge with this number in a book, without its lists, if there is one. The only error is that memory is
+// refused.
 pub(crate) fn brief_in(
     books: &[Kept],
     book: Number,
@@ -109,7 +110,7 @@ pub(crate) fn brief_in(
     Ok(Some(brief))
 }
 
-// The pledges of a book.
+// The pledges of a book; none if there is no such book.
 pub(crate) fn pledges_in(books: &[Kept], book: Number) -> &[Pledge]
     ensures value { result.now ≡ pledges_of (book_at (map listed_book books.now) book) }
 {
@@ -162,7 +163,7 @@ pub(crate) fn confirmed_count(pledges: &[Pledge], day: Day, window: u64) -> usiz
         .count()
 }
 
-// The number itself, or 0 where there is none.
+// The number itself, or 0 if there is none.
 pub(crate) fn bound(after: Option<Number>) -> u32
     ensures value { result ≡ unwrap_or after 0 }
 {
@@ -172,7 +173,7 @@ pub(crate) fn bound(after: Option<Number>) -> u32
     }
 }
 
-// The least number of a book above one.
+// The next book number above `after`, if there is one.
 pub(crate) fn next_number(books: &[Kept], after: u32) -> Option<Number>
     ensures least { IsLeastAbove (map listed_book books.now) after result }
 {
@@ -183,7 +184,7 @@ pub(crate) fn next_number(books: &[Kept], after: u32) -> Option<Number>
     next
 }
 
-// A number in place of another, if it is less and above a third.
+// `number`, if it is above `after`, and below `next` if there is one; otherwise `next`.
 fn nearer_number(number: Number, after: u32, next: Option<Number>) -> Option<Number>
     ensures value { result ≡ (if nat_lt after number && nat_lt number
         (unwrap_or next (number + 1)) then Some number else next) }

@@ -9,7 +9,7 @@ use crate::kept::{Kept, place_of, standing_pledge};
 use pawn_book::{Change, NewBook, Number, Pledge, Terms};
 use std::alloc::{AllocError, Global};
 
-// The rows of a pledge.
+// How many rows a pledge counts for: one for itself, for each entry and secret, and for a booking.
 fn rows_of(pledge: &Pledge) -> u64
     ensures value { result ≡ pledge_rows pledge.now }
 {
@@ -20,7 +20,7 @@ fn rows_of(pledge: &Pledge) -> u64
     1 + pledge.entries().len() as u64 + pledge.secrets().len() as u64 + booking
 }
 
-// The rows once a change is made, where so many are counted.
+// How many rows there are once a change is made, if there are `rows` before it.
 pub(crate) fn rows_with(books: &[Kept], rows: u64, change: &Change) -> u128
     requires counted { replaced_rows
         (map listed_book books.now) change.now ≤ rows + added_rows change.now }
@@ -48,7 +48,7 @@ pub(crate) fn rows_with(books: &[Kept], rows: u64, change: &Change) -> u128
     }
 }
 
-// Makes a change of the books.
+// Makes a change of the books. If memory is refused, the books are as before.
 pub(crate) fn make_change(
     alloc: Global,
     books: &mut Vec<Kept>,
@@ -124,7 +124,7 @@ fn push_terms(
     }
 }
 
-// Puts the next pledge of a book, or one that stands.
+// Puts a pledge into a book at its number: as the next, or in place of the one that has it.
 fn put_pledge(
     books: &mut Vec<Kept>,
     book: Number,
@@ -148,7 +148,7 @@ fn put_pledge(
     put(&mut kept.pledges, number, pledge)
 }
 
-// Puts a pledge at its number, the next or one that stands.
+// Puts a pledge at its number: as the next, or in place of the one that has it.
 fn put(pledges: &mut Vec<Pledge>, number: Number, pledge: Pledge) -> Result<(), AllocError>
     requires within { number ≤ 1 + length pledges.old.items }
     ensures ok { OnOk result (pledges.new.items ≡ put_from 1 pledges.old.items number pledge) }

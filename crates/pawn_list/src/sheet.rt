@@ -38,7 +38,7 @@ fn asked_item(number: Number, day: Day, booking: Option<Booking>) -> Option<Shee
     None
 }
 
-// Neither redeemed nor sold.
+// Whether a pledge is neither redeemed nor sold.
 fn is_open(closing: Closing) -> bool
     ensures value { result ≡ is_open closing }
 {
@@ -48,7 +48,7 @@ fn is_open(closing: Closing) -> bool
     }
 }
 
-// What a part says of a pledge, if anything.
+// The item that a part has for a pledge, if it has one.
 fn item_of(part: Part, day: Day, pledge: &Pledge) -> Option<SheetItem>
     ensures value { result ≡ part_item part day pledge.now }
 {
@@ -71,7 +71,7 @@ fn item_of(part: Part, day: Day, pledge: &Pledge) -> Option<SheetItem>
     }
 }
 
-// How many pledges a part says something of.
+// How many pledges a part has an item for.
 fn count_of(part: Part, day: Day, pledges: &[Pledge]) -> u64
     ensures value { result ≡ count_by (λ p. is_some (part_item part day p)) pledges.now }
 {
@@ -102,7 +102,7 @@ fn hand_part<V: Visitor<SheetItem>>(
     Flow::Go
 }
 
-// The same, with their number above them.
+// Hands the part's heading, with the number of its items, and then the items, until the visitor wants no more.
 fn hand_headed<V: Visitor<SheetItem>>(
     part: Part,
     day: Day,
@@ -119,7 +119,7 @@ fn hand_headed<V: Visitor<SheetItem>>(
     }
 }
 
-// Hands a window's items to the visitor until it wants no more; none where nobody comes.
+// Hands a window's items to the visitor until it wants no more; none if the window has no confirmed booking.
 fn hand_window<V: Visitor<SheetItem>>(
     window: u64,
     day: Day,

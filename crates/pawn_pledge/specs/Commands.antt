@@ -21,7 +21,7 @@ is_brokers (Command.Sell net) = true
 is_brokers (Command.Extend until) = true
 is_brokers other = false
 
--- the bearer of a live receipt may
+-- the bearer of a live receipt may send it
 abbrev pub is_bearers : Command → Bool
 is_bearers (Command.Repay seq pence) = true
 is_bearers (Command.AskBooking day window) = true

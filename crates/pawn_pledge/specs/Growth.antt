@@ -9,7 +9,7 @@ use Rattle.pawn_pledge.specs.Pledge.{PledgeValue}
 abbrev pub StaysOrGrows : {A : Type 0} → (A → Type 0) → List A → List A → Type 0
 StaysOrGrows {A} P old new = (new ≡ old) ⊎ ((x : A) × (new ≡ old ++ x ∷ []) × P x)
 
--- whatever stood in a list still stands where it stood; new ones follow
+-- what was in a list keeps its place; new elements follow
 pub record Grows (old new : PledgeValue) : Type 0 where
   pub entries : (more : List Entry) × (new.entries ≡ old.entries ++ more)
   pub secrets : (more : List Issued) × (new.secrets ≡ old.secrets ++ more)

@@ -1,4 +1,4 @@
--- What the fields of a pledge keep.
+-- What always holds of the fields of a pledge.
 use Rattle.std.specs.Prelude.{◌≡◌, ◌≤◌, length}
 use Rattle.pawn_terms.specs.Limits.{last_stamp_day}
 use Rattle.pawn_debt.specs.Due.{DebtValue, last_of}

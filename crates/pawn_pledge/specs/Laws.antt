@@ -44,7 +44,7 @@ StaysWithin =
     (p next : PledgeValue) (stamp : Stamp) (command : Command) (done : Done)
     → IsStampDay stamp.day → IsCommand command → IsWithinLimits p → pledge_step p stamp command ≡ Changed next done → IsWithinLimits next
 
--- so a pledge stays one that can stand
+-- so a pledge keeps a record that a pledge can have
 abbrev pub StaysStanding : Type 0
 StaysStanding =
     (p next : PledgeValue) (stamp : Stamp) (command : Command) (done : Done)
@@ -103,8 +103,8 @@ abbrev pub entry_command : Sort → ℕ → ℕ → Command
 entry_command Draw seq pence = Command.Draw seq pence
 entry_command Repay seq pence = Command.Repay seq pence
 
--- a drawing or a repayment that was entered is answered again as the first time and enters nothing, whatever became of the
--- pledge in between, on any day and with any word
+-- a drawing or a repayment that was entered is answered again as the first time and enters nothing, whatever became of
+-- the pledge in between, on any day and with any word
 abbrev pub EntriesActOnce : Type 0
 EntriesActOnce =
     (p next : PledgeValue) (stamp again : Stamp) (sort : Sort) (seq pence : ℕ) (done : Done) (later : List (Stamp × Command))
@@ -115,14 +115,14 @@ EntriesActOnce =
 abbrev pub MayExtend : PledgeValue → ℕ → Type 0
 MayExtend p x = NoneApplies (bars p x) × (x ≤ end_of p)
 
--- an extension to the end that stands is answered with that end, and changes nothing
+-- an extension to the present end, where nothing bars it, is answered with that end and changes nothing
 abbrev pub StandingEndIsAnswered : Type 0
 StandingEndIsAnswered =
     (p : PledgeValue) (stamp : Stamp)
     → MayExtend p stamp.day → pledge_step p stamp (Command.Extend (end_of p)) ≡ Answered (Done.Extended (end_of p))
 
--- so an extension that was agreed is answered again as the first time and agrees on nothing, whatever was sent in between, as
--- long as its end stands
+-- So an extension that was agreed is answered again as the first time and changes nothing, whatever was sent in
+-- between. It is so while its end is the present one, and nothing bars an extension.
 abbrev pub ExtensionsActOnce : Type 0
 ExtensionsActOnce =
     (p next : PledgeValue) (stamp again : Stamp) (until : ℕ) (done : Done) (later : List (Stamp × Command))
@@ -165,7 +165,7 @@ EarlierAreSpent =
     (p next : PledgeValue) (stamp : Stamp) (command : Command) (done : Done) (secret : ℕ)
     → IsReplacing command → pledge_step p stamp command ≡ Changed next done → list_any (λ i. i.secret == secret) p.secrets ≡ true → IsSpent next secret
 
--- a brief tells what its pledge owes
+-- a brief shows what its pledge owes
 abbrev pub BriefOwes : Type 0
 BriefOwes =
     (p : PledgeValue) (x : ℕ)
@@ -175,7 +175,7 @@ BriefOwes =
 abbrev pub BriefHasStatus : Type 0
 BriefHasStatus = (p : PledgeValue) (x : ℕ) → brief_status (brief_of p) x ≡ status_of p x
 
--- and it is within the limits, where its pledge can stand
+-- and it is within the limits, if a pledge can have the record
 abbrev pub BriefIsWithin : Type 0
 BriefIsWithin = (p : PledgeValue) → IsStanding p → IsBriefWithin (brief_of p)
 

@@ -5,19 +5,19 @@ use Rattle.std.specs.Prelude.{ℕ}
 abbrev pub most_number : ℕ
 most_number = 999999999
 
--- the bytes of a broker's reference
+-- the most bytes of a broker's reference
 abbrev pub most_reference_bytes : ℕ
 most_reference_bytes = 40
 
--- the bytes of an article
+-- the most bytes of the text of an article
 abbrev pub most_article_bytes : ℕ
 most_article_bytes = 80
 
--- up to 75 pounds
+-- the largest credit that is small, in pence: 75 pounds
 abbrev pub small_credit : ℕ
 small_credit = 7500
 
--- the opening's secret, and as many as may be declared
+-- the secret that a pledge is taken with, and 100 that may be declared
 abbrev pub most_secrets : ℕ
 most_secrets = 101
 

@@ -1,4 +1,4 @@
--- What is found of a record before a pledge is made.
+-- What is checked of a record before a pledge is made of it.
 use Rattle.std.specs.Prelude.{◌≤◌, length, IfSome}
 use Rattle.pawn_terms.specs.Limits.{last_stamp_day}
 use Rattle.pawn_terms.specs.Order.{DoNotFall, last_by}
@@ -9,7 +9,7 @@ use Rattle.pawn_pledge.specs.Pledge.{PledgeValue}
 use Rattle.pawn_pledge.specs.Replayable.{Each, IsOpening, AreIssued, AreDistinctSecrets}
 use Rattle.pawn_pledge.specs.Limits.{most_secrets, most_extensions}
 
--- what the types of parts keep
+-- the limits that the types of the fields keep
 pub record IsTyped (p : PledgeValue) : Type 0 where
   pub number : IsNumber p.agreement.number
   pub opening : IsOpening p.agreement.opening

@@ -1,4 +1,4 @@
--- A pledge is a record, and what follows from it.
+-- A pledge as its record, and what follows from the record.
 use Rattle.std.specs.Prelude.{ℕ, ◌+◌, ◌-◌, nat_le, ◌&&◌, ◌==◌, Bool, true, false, if◌then◌else◌, List, length, slice_get, Option, None, option_map}
 use Rattle.pawn_terms.specs.Calendar.{period_end, six_months}
 use Rattle.pawn_debt.specs.Due.{DebtValue, due, credit_of}
@@ -15,11 +15,11 @@ use Rattle.pawn_pledge.specs.declared.parts.Parts.{Parts}
 abbrev pub last_element : {A : Type 0} → List A → Option A
 last_element xs = slice_get xs (length xs - 1)
 
--- a pledge is seen as its record: what was agreed when it was taken, its lists, and how it stands
+-- a pledge is seen as its record: what was agreed when it was taken, its lists, and its standing
 abbrev pub PledgeValue : Type 0
 PledgeValue = Parts
 
--- the end of the period, where an extension agreed last on that end
+-- the end of the period, given the end that was agreed by the last extension, if there is one
 abbrev pub end_with : Agreement → Option ℕ → ℕ
 end_with a extended = period_end a.taken a.opening.agreed extended
 
@@ -79,7 +79,7 @@ status_of p x = status_under p.standing.closing (open_status p x)
 abbrev pub last_secret : List Issued → Option ℕ
 last_secret secrets = option_map (λ issued. issued.secret) (last_element secrets)
 
--- a redemption takes the receipt
+-- no secret is live once the pledge is redeemed
 abbrev pub live_under : Closing → Option ℕ → Option ℕ
 live_under Closing.Open secret = secret
 live_under (Closing.Redeemed day paid) secret = None

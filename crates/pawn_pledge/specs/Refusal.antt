@@ -53,7 +53,7 @@ refusal_total (Debt fault) = debt.fault_total fault
 refusal_total (WrongAmount total) = Some total
 refusal_total other = None
 
--- a debt's refusal is the pledge's; for want of memory there is one word
+-- a debt's refusal as the pledge's own; refused memory is one refusal for both
 abbrev pub refusal_of : DebtFault → Refusal
 refusal_of DebtFault.Memory = Refusal.Memory
 refusal_of fault = Debt fault

@@ -24,7 +24,7 @@ use Rattle.pawn_pledge.specs.Text.{IsText}
 use Rattle.pawn_pledge.specs.Pledge.{PledgeValue, end_with, end_of, total_on, debt_of, open_status, is_passed}
 use Rattle.pawn_pledge.specs.Limits.{small_credit, most_secrets, most_extensions, last_window, most_article_bytes, most_reference_bytes}
 
--- each element of a list
+-- P holds of each element of a list
 abbrev pub Each : {A : Type 0} → (A → Type 0) → List A → Type 0
 Each P [] = Unit {0}
 Each P (x ∷ xs) = P x × Each P xs
@@ -45,7 +45,7 @@ AreIssued taken credit [] = ⊥
 AreIssued taken credit (i ∷ is) =
     (i.sort ≡ Issue.Opening) × (i.day ≡ taken) × Each (λ j. IsLaterIssue credit j.sort) is
 
--- no secret stands twice
+-- no two secrets are the same
 abbrev pub AreDistinctSecrets : List Issued → Type 0
 AreDistinctSecrets [] = Unit {0}
 AreDistinctSecrets (i ∷ is) = (list_any (λ j. j.secret == i.secret) is ≡ false) × AreDistinctSecrets is
@@ -78,12 +78,12 @@ IsBookingOver BookingState.Asked = ⊥
 IsBookingOver BookingState.Confirmed = ⊥
 IsBookingOver other = Unit {0}
 
--- on a closed pledge no booking stands
+-- on a closed pledge no booking is asked for or confirmed
 abbrev pub IsOverUnder : Closing → BookingState → Type 0
 IsOverUnder Closing.Open state = Unit {0}
 IsOverUnder closed state = IsBookingOver state
 
--- a booking for a day in the pledge's time
+-- a booking for a window of a day that is not before the day taken, and on which the property has not passed
 abbrev pub IsBooked : PledgeValue → Option Booking → Type 0
 IsBooked p None = Unit {0}
 IsBooked p (Some b) = (p.agreement.taken ≤ b.day) × IsNotPassed p b.day × (b.window ≤ last_window) × IsOverUnder p.standing.closing b.state
@@ -105,7 +105,7 @@ pub record IsEntered (p : PledgeValue) : Type 0 where
   pub not_passed : Each (λ e. IsNotPassed p e.day) p.entries
   pub drawn : Each (λ e. IsDrawnBy (end_of p) e.sort e.day) p.entries
 
--- the extensions
+-- the extensions: each was agreed in the period as it then was, and none after the last change
 pub record IsExtended (p : PledgeValue) : Type 0 where
   pub each : AreExtended p.agreement.taken (end_with p.agreement None) p.extensions
   pub before : last_by (λ e. e.day) p.agreement.taken p.extensions ≤ p.standing.last

@@ -73,7 +73,7 @@ period_bars p x = (nat_lt (end_of p) x, Refusal.PeriodOver) ∷ []
 
 -- drawings and repayments
 
--- what the debt answers
+-- what comes of an entry, by the debt's answer
 abbrev pub under_debt : PledgeValue → ℕ → Sort → ℕ → Result DebtValue DebtFault → Judged
 under_debt p x sort pence (Ok debt) =
     Changed (record p { entries = debt.entries; standing = with_last p.standing x }) (Done.Entered (new_entry p x sort pence))
@@ -85,18 +85,19 @@ entry_step p x Draw pence =
     unless (period_bars p x) (under_debt p x Draw pence (draw_answer (debt_of p) x pence))
 entry_step p x Repay pence = under_debt p x Repay pence (repay_answer (debt_of p) x pence)
 
--- an entry whose number stands is answered as the first time, whatever the day and the pledge's state
+-- an entry whose number is taken is answered as the first time, or refused if it differs, whatever the day and the
+-- pledge's state
 abbrev pub numbered_step : PledgeValue → ℕ → ℕ → Sort → ℕ → Option Entry → Judged
 numbered_step p x seq sort pence (Some e) =
     unless ((not (is_repeat e sort pence), Refusal.SeqTaken) ∷ []) (Answered (Done.Entered e))
 numbered_step p x seq sort pence None =
     unless ((is_ahead p seq, Refusal.SeqAhead) ∷ []) (unless (bars p x) (entry_step p x sort pence))
 
--- the entry of a number, if it stands
+-- the entry with this number, if there is one
 abbrev pub entry_of : PledgeValue → ℕ → Option Entry
 entry_of p seq = find (λ e. e.seq == seq) p.entries
 
--- the flag that bars redemption
+-- sets or clears the flag that bars redemption; if it is so already, nothing changes
 abbrev pub hold_step : PledgeValue → ℕ → Bool → Judged
 hold_step p x flag =
     if same_flag p.standing.held flag then Answered (Done.Held flag)
@@ -123,7 +124,8 @@ declare_step p stamp paper =
 abbrev pub makes_booking : PledgeValue → ℕ → Booking → Judged
 makes_booking p x booking = Changed (with_standing p (with_booking p.standing booking x)) (Done.Booked booking)
 
--- a booking takes the place of any other; one that stands is answered again
+-- a booking takes the place of any other; one that is asked for or confirmed already, for this day and window, is
+-- answered again
 abbrev pub ask_once : PledgeValue → ℕ → ℕ → ℕ → Option Booking → Judged
 ask_once p x day window None = makes_booking p x (record { day = day; window = window; state = BookingState.Asked })
 ask_once p x day window (Some booking) =
@@ -201,7 +203,7 @@ extend_bars p until =
     ∷ (nat_le most_extensions (length p.extensions), Refusal.ExtensionsFull)
     ∷ []
 
--- a longer period; an extension to the end that stands is answered again
+-- a longer period; an extension to the present end is answered again
 abbrev pub extend_step : PledgeValue → ℕ → ℕ → Judged
 extend_step p x until =
     unless (period_bars p x)
@@ -224,7 +226,7 @@ pledge_step p stamp (Command.Redeem paid) = unless (bars p stamp.day) (redeem_st
 pledge_step p stamp (Command.Sell net) = unless (bars p stamp.day) (sell_step p stamp.day net)
 pledge_step p stamp (Command.Extend until) = unless (bars p stamp.day) (extend_step p stamp.day until)
 
--- what the caller is told
+-- what the caller is answered
 abbrev pub reply_of : Judged → Result Done Refusal
 reply_of (Refused why) = Err why
 reply_of (Answered done) = Ok done
@@ -247,20 +249,20 @@ abbrev pub IsGrowth : Judged → Type 0
 IsGrowth (Changed pledge done) = IsAddition done
 IsGrowth other = ⊥
 
--- the call does what the step says, or wants memory for a list that is to grow and changes nothing
+-- the call does what the step says, or was refused memory for a list that is to grow, and changed nothing
 abbrev pub IsStep : Judged → PledgeValue → Result Done Refusal → PledgeValue → Type 0
 IsStep judged old (Ok done) new = (reply_of judged ≡ Ok done) × (new ≡ pledge_after old judged)
 IsStep judged old (Err fault) new = (new ≡ old) × ((judged ≡ Refused fault) ⊎ ((fault ≡ Refusal.Memory) × IsGrowth judged))
 
--- what a call told, as a step
+-- what a call reported, as a step
 abbrev pub judgement_of : Applied → PledgeValue → Judged
 judgement_of applied new = if applied.changed then Changed new applied.done else Answered applied.done
 
--- the same, where the call also tells whether there was a change
+-- as `IsStep`, where the call also reports whether there was a change
 abbrev pub IsApplied : Judged → PledgeValue → Result Applied Refusal → PledgeValue → Type 0
 IsApplied judged old (Ok applied) new = (judged ≡ judgement_of applied new) × (new ≡ pledge_after old judged)
 IsApplied judged old (Err fault) new = (new ≡ old) × ((judged ≡ Refused fault) ⊎ ((fault ≡ Refusal.Memory) × IsGrowth judged))
 
--- a new pledge is what the rules say, or memory was wanted
+-- a new pledge is what the rules say, or memory was refused
 abbrev pub IsStarted : Result PledgeValue Refusal → Result PledgeValue Refusal → Type 0
 IsStarted answer result = IsSaid (IsWant Refusal.Memory answer) answer result

@@ -1,4 +1,4 @@
--- The words of the rules for commands: what is told of a pledge, and what a command makes of it.
+-- The words of the rules for commands: questions about a pledge, and a pledge with one thing changed.
 use Rattle.std.specs.Prelude.{ℕ, ◌+◌, nat_lt, ◌==◌, ◌&&◌, ◌||◌, not, Bool, true, false, [], ◌∷◌, ◌++◌, length, Option, Some, None, List, codes}
 use Rattle.pawn_debt.specs.declared.entry.Entry.{Entry}
 use Rattle.pawn_debt.specs.declared.entry.Sort.{Sort}
@@ -13,7 +13,7 @@ use Rattle.pawn_pledge.specs.declared.record.Standing.{Standing}
 use Rattle.pawn_pledge.specs.declared.command.Paper.{Paper}
 use Rattle.pawn_pledge.specs.Pledge.{PledgeValue}
 
--- how a pledge stands after a change on the day x: as it stood
+-- the standing of a pledge after a change on the day x, otherwise as it was
 abbrev pub with_last : Standing → ℕ → Standing
 with_last s x = record s { last = x }
 
@@ -25,11 +25,11 @@ with_hold s flag x = record s { held = flag; last = x }
 abbrev pub with_booking : Standing → Booking → ℕ → Standing
 with_booking s booking x = record s { booking = Some booking; last = x }
 
--- the pledge that stands so, with its lists as they are
+-- the pledge with this standing, and its lists as they are
 abbrev pub with_standing : PledgeValue → Standing → PledgeValue
 with_standing p standing = record p { standing = standing }
 
--- the word for where a booking stands
+-- the word for the state of a booking
 abbrev pub state_text : BookingState → List ℕ
 state_text BookingState.Asked = codes "asked"
 state_text BookingState.Confirmed = codes "confirmed"
@@ -45,7 +45,7 @@ same_sort Draw Draw = true
 same_sort Repay Repay = true
 same_sort one other = false
 
--- an entry is asked for again
+-- an entry has this sort and sum, so that asking for it is a repeat
 abbrev pub is_repeat : Entry → Sort → ℕ → Bool
 is_repeat e sort pence = same_sort e.sort sort && (e.pence == pence)
 
@@ -85,7 +85,7 @@ is_standing other = false
 abbrev pub stands_for : Booking → ℕ → ℕ → Bool
 stands_for booking day window = (booking.day == day) && (booking.window == window) && is_standing booking.state
 
--- a closing cancels a booking that stands
+-- a closing cancels a booking that is asked for or confirmed
 abbrev pub after_closing : BookingState → BookingState
 after_closing BookingState.Refused = BookingState.Refused
 after_closing other = BookingState.Cancelled

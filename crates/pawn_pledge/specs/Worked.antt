@@ -69,7 +69,7 @@ told p day command = reply_of (pledge_step p (on day) command)
 abbrev pub after_telling : PledgeValue → ℕ → Command → PledgeValue
 after_telling p day command = pledge_after p (pledge_step p (on day) command)
 
--- an entry is told
+-- the answer to a drawing or a repayment
 abbrev pub entry_answer : ℕ → ℕ → Sort → ℕ → Done
 entry_answer seq day sort pence = Done.Entered (record { seq = seq; day = day; sort = sort; pence = pence })
 
@@ -105,7 +105,7 @@ WorkedPledgeDrawings =
     × (told (ring 10000) (date 2024 1 31) (Command.Draw 1 1) ≡ Err (Refusal.Debt FixedSum))
     × (told (ring 10000) (date 2024 8 1) (Command.Draw 1 1) ≡ Err Refusal.PeriodOver)
 
--- a repayment, and its number on any day once it stands
+-- a repayment, and the same number sent again on any day
 abbrev pub WorkedPledgeRepayments : Type 0
 WorkedPledgeRepayments =
     let repaid = after_telling (ring 10000) (date 2024 2 29) (Command.Repay 1 1000) in
@@ -148,7 +148,7 @@ WorkedDeclarations =
     × (told many (date 2024 3 2) (Command.Declare Paper.Sworn) ≡ Err Refusal.DeclarationsFull)
     × (told (after_telling (after_telling (ring 7500) (date 2024 2 1) Command.Hold) (date 2024 2 1) (Command.Declare Paper.Sworn)) (date 2024 2 1) (Command.Redeem 7500) ≡ Err Refusal.Held)
 
--- a booking is told
+-- the answer to a command on a booking
 abbrev pub booking_answer : ℕ → ℕ → BookingState → Done
 booking_answer day window state = Done.Booked (record { day = day; window = window; state = state })
 
@@ -173,7 +173,7 @@ WorkedAskings =
     × (told ring_confirmed (date 2024 3 2) (Command.AskBooking (date 2024 3 4) 4) ≡ Ok (booking_answer (date 2024 3 4) 4 Asked))
     × (told ring_asked_for (date 2024 3 5) (Command.AskBooking (date 2024 3 4) 3) ≡ Err Refusal.BookingDay)
 
--- a booking that stands is given up
+-- a booking that is asked for or confirmed is cancelled
 abbrev pub WorkedCancellings : Type 0
 WorkedCancellings =
     let cancelled = after_telling ring_confirmed (date 2024 3 5) Command.CancelBooking in
@@ -240,7 +240,7 @@ ring_in_safe_keeping = ring_pledge (Fixed 7500) false None (rates_of 0 1000000 0
 abbrev pub ring_extended : PledgeValue
 ring_extended = after_telling ring_in_safe_keeping (date 2024 7 31) (Command.Extend (date 2024 9 30))
 
--- a longer period is agreed while the one that stands is not over
+-- a longer period is agreed while the present one is not over
 abbrev pub WorkedExtensions : Type 0
 WorkedExtensions =
     let often = record (ring 10000) { extensions = repeat 99 (record { day = date 2024 7 31; until = date 2024 9 30 } ∷ []) } in

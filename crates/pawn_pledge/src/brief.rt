@@ -23,8 +23,8 @@ pub struct Counts {
     pub extensions: usize,
 }
 
-/// The fields of a brief, be they within the limits or not: a pledge's record with the numbers of
-/// its entries, secrets and extensions in the place of these lists.
+/// A pledge's record with the numbers of its entries, secrets and extensions in the place of these lists. Whether the
+/// fields are within the limits is not checked.
 #[derive(Drop)]
 pub struct BriefFields {
     pub agreement: Agreement,
@@ -61,7 +61,7 @@ impl Model for Brief {
 }
 
 impl Brief {
-    /// The brief of its fields. They are handed back exactly where one of them breaks a limit.
+    /// The brief with these fields. They are handed back exactly if one of them breaks a limit.
     pub fn of_fields(fields: BriefFields) -> Result<Brief, BriefFields>
         ensures ok { IfOk result (λ b. (b ≡ fields) × IsBriefWithin fields) }
         ensures err { IfErr result (λ back. back ≡ fields) }
@@ -73,7 +73,7 @@ impl Brief {
         }
     }
 
-    // A brief of fields whose terms and days are a pledge's.
+    // The brief with fields that come from a pledge, and so need no check.
     pub(crate) fn of_pledge(fields: BriefFields, terms: Terms) -> Brief
         requires terms { terms ≡ fields.agreement.terms }
         requires taken { fields.agreement.taken ≤ last_stamp_day }
@@ -91,7 +91,7 @@ impl Brief {
         &self.fields
     }
 
-    /// The status on a day.
+    /// The status of the pledge on a day.
     pub fn status(&self, day: Day) -> Status
         ensures value { result ≡ brief_status self.now day }
     {
@@ -99,7 +99,7 @@ impl Brief {
         status_under(&fields.agreement, fields.standing.closing, fields.ends, day)
     }
 
-    /// What is owed on a day that is not before the last entry's, nor before the day taken.
+    /// What is owed in whole pence on a day that is not before the last entry, nor before the day taken.
     pub fn owing(&self, day: Day) -> Owing
         requires later { self.now.totals.day ≤ day }
         ensures value { result ≡ brief_owing self.now day }
@@ -108,7 +108,7 @@ impl Brief {
     }
 }
 
-// The terms of fields, where these are within the limits.
+// The checked terms of the fields, if all fields are within the limits.
 fn terms_within(fields: &BriefFields) -> Option<Terms>
     ensures terms { IfSome result (λ terms. terms ≡ fields.now.agreement.terms) }
     ensures within { IfSome result (λ terms. IsBriefWithin fields.now) }

@@ -7,7 +7,7 @@ use pawn_debt::{Day, Entry};
 use pawn_terms::RequestDay;
 use std::marker::Model;
 
-/// The day and the 128-bit word that come with a request.
+/// The day and the 128-bit word that come with a request. The word is the secret of a receipt that the request issues.
 #[derive(Clone, Copy, PartialEq, Eq)]
 pub struct Stamp {
     pub day: RequestDay,
@@ -23,7 +23,7 @@ pub enum Paper {
     Written,
 }
 
-/// What a broker makes of a booking.
+/// A broker's decision on a booking.
 #[derive(Clone, Copy, Debug, PartialEq, Eq)]
 pub enum Decision {
     Confirm,
@@ -37,7 +37,7 @@ pub enum Command {
     Repay { seq: u64, pence: u64 },
     /// Bars redemption.
     Hold,
-    /// Bars it no longer.
+    /// Bars redemption no longer.
     Release,
     Declare(Paper),
     AskBooking { day: RequestDay, window: u64 },
@@ -79,7 +79,7 @@ impl Command {
         }
     }
 
-    // Whoever reads its days knows that a request can give them.
+    // Reads the days of the command, which gives a proof that a request can give them.
     fn know_days(&self)
         ensures within { IsCommand self.now }
     {
@@ -123,7 +123,7 @@ impl TryFrom<Command> for BrokerCommand {
     ghost try_from_gives = { λ command result. result
         ≡ (if is_brokers command then Ok command else Err command) };
 
-    /// The command, where a broker may send it, or it is handed back.
+    /// The command, if a broker may send it; otherwise it is handed back.
     fn try_from(command: Command) -> Result<BrokerCommand, Command> {
         command.know_days();
         if command.is_brokers() {
@@ -173,7 +173,7 @@ impl TryFrom<Command> for BearerCommand {
     ghost try_from_gives = { λ command result. result
         ≡ (if is_bearers command then Ok command else Err command) };
 
-    /// The command, where a bearer may send it, or it is handed back.
+    /// The command, if a bearer may send it; otherwise it is handed back.
     fn try_from(command: Command) -> Result<BearerCommand, Command> {
         command.know_days();
         if command.is_bearers() {

@@ -1,6 +1,7 @@
 ghost use Rattle.pawn_pledge.specs.Laws.{StartsStanding, StaysReplayable, StaysWithin, StaysStanding, AgreementStays, ChangesDiffer, ClosedStays, SecretsGrow, EntriesGrow, ExtensionsGrow, ListsGrow, EntriesActOnce, StandingEndIsAnswered, ExtensionsActOnce, OneIsLive, NeverLiveAgain, EarlierAreSpent, BriefOwes, BriefHasStatus, BriefIsWithin, SecretTextsReadBack, ReceiptTextsReadBack, ReceiptTextsAreOne};
 
-/// Whatever is sent, a pledge stays one that can have come about, and a change changes something.
+/// Whatever is sent, a pledge stays one that can have come about, and what was agreed when it was taken stays. A change
+/// always changes something, and a pledge that is redeemed or sold changes no more.
 pub fn laws_of_steps()
     ensures starts { StartsStanding }
     ensures replayable { StaysReplayable }
@@ -11,21 +12,22 @@ pub fn laws_of_steps()
     ensures closed { ClosedStays }
 {}
 
-/// What stands in a list of a pledge stays in its place, whatever is sent.
+/// Whatever is sent, the entries, secrets and extensions of a pledge only grow at their ends.
 pub fn laws_of_lists()
     ensures entries { EntriesGrow }
     ensures extensions { ExtensionsGrow }
     ensures all { ListsGrow }
 {}
 
-/// What was entered or agreed is answered again as the first time, and changes nothing more.
+/// An entry that is sent again is answered as the first time and changes nothing. So is an extension, while its end is
+/// the present one and the pledge may still be extended.
 pub fn laws_of_repeats()
     ensures entries { EntriesActOnce }
     ensures standing_end { StandingEndIsAnswered }
     ensures extensions { ExtensionsActOnce }
 {}
 
-/// At most one receipt of a pledge is live, and none that was replaced or surrendered ever again.
+/// At most one receipt of a pledge is live, and one that was replaced or surrendered is never live again.
 pub fn laws_of_receipts()
     ensures grow { SecretsGrow }
     ensures one { OneIsLive }
@@ -33,14 +35,14 @@ pub fn laws_of_receipts()
     ensures never_again { NeverLiveAgain }
 {}
 
-/// A brief owes what its pledge owes, has its status, and can be made of its fields.
+/// A brief shows what its pledge owes and what its status is, and keeps the limits that `Brief::of_fields` asks.
 pub fn laws_of_briefs()
     ensures owes { BriefOwes }
     ensures status { BriefHasStatus }
     ensures within { BriefIsWithin }
 {}
 
-/// The texts of secrets and receipts are read back, and no text is of two receipts.
+/// The text of a secret or of a receipt reads back as the same, and no text reads as two receipts.
 pub fn laws_of_texts()
     ensures secrets { SecretTextsReadBack }
     ensures receipts { ReceiptTextsReadBack }

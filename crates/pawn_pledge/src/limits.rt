@@ -3,19 +3,19 @@
 // The highest number of a book or a pledge.
 pub(crate) const MOST_NUMBER: u64 = 999_999_999;
 
-/// The bytes of a broker's reference at most.
+/// The most bytes that a broker's reference may have.
 pub const MOST_REFERENCE_BYTES: usize = 40;
 
-/// The bytes of an article at most.
+/// The most bytes that the text of an article may have.
 pub const MOST_ARTICLE_BYTES: usize = 80;
 
-// A credit up to this is small, in pence.
+// The largest credit that is small, in pence: 75 pounds.
 pub(crate) const SMALL_CREDIT: u64 = 7_500;
 
-/// As many secrets a pledge has at most: the opening's, and those that may be declared.
+/// The most secrets that a pledge may have: the one that it is taken with, and 100 that may be declared.
 pub const MOST_SECRETS: usize = 101;
 
-/// As many extensions a pledge has at most.
+/// The most extensions that a pledge may have.
 pub const MOST_EXTENSIONS: usize = 99;
 
 /// The last of a day's windows, from 0.

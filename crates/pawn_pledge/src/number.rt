@@ -22,7 +22,7 @@ impl Model for Number {
 }
 
 impl Number {
-    /// The number, where it is in the range.
+    /// The number, if it is from 1 to 999,999,999.
     pub fn new(number: u64) -> Option<Number>
         ensures some { IfSome result (λ n. n ≡ number) }
         ensures succeeds { IsSome result ↔ IsNumber number }
@@ -35,7 +35,7 @@ impl Number {
         })
     }
 
-    /// The number of a text of decimal digits without a leading zero.
+    /// The number that a text of decimal digits without a leading zero names, if it is from 1 to 999,999,999.
     pub fn of_text(text: &[u8]) -> Option<Number>
         ensures some { IfSome result (λ n. IsNumber n × (text.now ≡ decimal n)) }
         ensures none { IfNone result ((n : ℕ) → IsNumber n → text.now ≡ decimal n → ⊥) }
@@ -57,7 +57,7 @@ impl Number {
         }
     }
 
-    /// The plain number.
+    /// The number as an integer.
     pub fn get(self) -> u32
         ensures value { result ≡ self }
         ensures in_range { IsNumber self }

@@ -16,7 +16,7 @@ use pawn_debt::{Day, Entries, Entry, MOST_PENCE, Sort, Terms, Totals, owing_at, 
 use pawn_terms::LAST_STAMP_DAY;
 use std::alloc::AllocError;
 
-/// The record of a pledge as plain fields, be it one that a pledge can have or not.
+/// The record of a pledge as plain fields. Whether a pledge can have it is not checked: `can_stand` does that.
 #[derive(Drop)]
 pub struct Parts {
     pub agreement: Agreement,
@@ -35,7 +35,7 @@ impl Parts {
         judge(self).is_some()
     }
 
-    /// The same again.
+    /// A copy of the record. The only error is that memory is refused.
     pub fn copy(&self) -> Result<Parts, AllocError>
         ensures same { IfOk result (λ parts. parts ≡ self.now) }
     {
@@ -92,7 +92,7 @@ fn are_drawn(ends: Day, entries: &[Entry]) -> bool
     true
 }
 
-// Whether an issue after the first is of its sort.
+// Whether a secret after the first may be issued in this way: sworn, or written if the credit is small.
 fn is_later_issue(credit: u64, sort: Issue) -> bool
     ensures answer { IsTrue result ↔ IsLaterIssue credit sort }
 {
@@ -114,7 +114,7 @@ fn are_later_issues(credit: u64, issued: &[Issued]) -> bool
     true
 }
 
-// Whether no secret stands twice.
+// Whether no two secrets are the same.
 fn are_distinct(issued: &[Issued]) -> bool
     ensures answer { IsTrue result ↔ AreDistinctSecrets issued.now }
 {
@@ -126,7 +126,7 @@ fn are_distinct(issued: &[Issued]) -> bool
     true
 }
 
-// Whether days don't fall, from the day taken to the last.
+// Whether the days of the secrets never fall, from the day taken on, and none is past the day of the last change.
 fn do_not_fall(taken: Day, last: Day, issued: &[Issued]) -> bool
     ensures answer { IsTrue result ↔
         (DoNotFall (λ i. i.day) taken issued.now × (last_by (λ i. i.day) taken issued.now ≤ last)) }
@@ -187,7 +187,7 @@ fn is_booked(parts: &Parts, ends: Day) -> bool
     is_over_under(parts.standing.closing, b.state)
 }
 
-// Whether the pledge was closed as it can be.
+// Whether the pledge is open, or a command can have closed it in this way.
 fn is_closed(parts: &Parts, terms: Terms, ends: Day, totals: &Totals) -> bool
     requires terms { terms ≡ parts.now.agreement.terms }
     requires ends { ends ≡ end_of parts.now }
@@ -245,7 +245,7 @@ fn are_issued(taken: Day, credit: u64, issued: &[Issued]) -> bool
     are_later_issues(credit, rest)
 }
 
-// The same of parts.
+// Whether each drawing of the record is in the period.
 fn are_drawn_in(parts: &Parts, ends: Day) -> bool
     requires ends { ends ≡ end_of parts.now }
     ensures answer { IsTrue result ↔ Each
@@ -276,7 +276,8 @@ fn is_named(booking: Option<Booking>) -> bool
     }
 }
 
-// What a pledge of the parts holds besides them.
+// What follows from a record that a pledge can have: its checked terms, the end of its period, and what is owed on the
+// day of the last entry.
 #[derive(Clone, Copy)]
 pub(crate) struct Found {
     pub terms: Terms,
@@ -284,7 +285,7 @@ pub(crate) struct Found {
     pub totals: Totals,
 }
 
-// What a pledge of the parts holds besides them, if there can be one.
+// What follows from a record, if a pledge can have it.
 pub(crate) fn judge(parts: &Parts) -> Option<Found>
     ensures standing { IfSome result (λ f. IsStanding parts.now) }
     ensures terms { IfSome result (λ f. f.terms ≡ parts.now.agreement.terms) }

@@ -60,8 +60,8 @@ impl Model for Pledge {
 }
 
 impl Pledge {
-    /// A pledge as it is taken on the stamp's day, whose first secret is the stamp's word; or the
-    /// refusal of its sum or limit. `version` is the version of `terms` in the book.
+    /// A new pledge, taken on the stamp's day, whose first secret is the stamp's word. `BadAmount` if its sum or limit
+    /// is 0 or above `MOST_PENCE`, and `Memory` if memory is refused. `version` is the version of `terms` in the book.
     pub fn start(
         alloc: Global,
         number: Number,
@@ -73,13 +73,13 @@ impl Pledge {
         ensures started { IsStarted (pledge_start number opening version terms stamp.now) result }
         ensures standing { IfOk result IsStanding }
     {
-        // Whoever reads these knows that they are within their limits.
+        // Reading these gives a proof that they are within their limits.
         let _ = (number.get(), terms.rates(), stamp.day.day());
         opening.know_limits();
         Pledge::of_opening(alloc, number, opening, version, terms, stamp)
     }
 
-    // The same, whatever the limits of its parts.
+    // Does what `start` does, and promises nothing of limits.
     fn of_opening(
         alloc: Global,
         number: Number,
@@ -123,7 +123,7 @@ impl Pledge {
         })
     }
 
-    /// The status on a day.
+    /// The status of the pledge on a day.
     pub fn status(&self, day: Day) -> Status
         ensures value { result ≡ status_of self.now day }
     {
@@ -135,7 +135,7 @@ impl Pledge {
         )
     }
 
-    // The status on a day, the closing aside.
+    // The status on a day, as if the pledge were not closed.
     fn open_status(&self, day: Day) -> Status
         ensures value { result ≡ open_status self.now day }
     {
@@ -170,14 +170,14 @@ impl Pledge {
         issued[issued.len() - 1].secret
     }
 
-    /// What was agreed when it was taken.
+    /// What was agreed when the pledge was taken, with its number, its day and its terms.
     pub fn agreement(&self) -> &Agreement
         ensures value { result.now ≡ self.now.agreement }
     {
         &self.agreement
     }
 
-    /// How it stands.
+    /// The pledge's hold, its booking, the day of its last change, and its closing.
     pub fn standing(&self) -> &Standing
         ensures value { result.now ≡ self.now.standing }
         ensures after { last_of self.now.agreement.taken self.now.entries ≤ result.now.last }
@@ -214,7 +214,7 @@ impl Pledge {
         self.debt.ends()
     }
 
-    /// What is owed on a day that is not before the last entry's, nor before the day taken.
+    /// What is owed in whole pence on a day that is not before the last entry, nor before the day taken.
     pub fn owing(&self, day: Day) -> Owing
         requires later { last_of self.now.agreement.taken self.now.entries ≤ day }
         ensures value { result ≡ owing_of (due (debt_of self.now) day) }
@@ -222,7 +222,8 @@ impl Pledge {
         self.debt.owing(day)
     }
 
-    /// What is owed on the day of the last entry, or else on the day taken.
+    /// What is owed on the day of the last entry, or else on the day taken: principal in pence, charges in millionths
+    /// of a penny.
     pub fn totals(&self) -> Totals
         ensures value { result ≡ totals_of (debt_of self.now) }
         ensures principal_in { result.principal ≤ most_pence }
@@ -231,7 +232,7 @@ impl Pledge {
         self.debt.totals()
     }
 
-    /// The same pledge again.
+    /// A copy of the pledge. The only error is that memory is refused.
     pub fn copy(&self) -> Result<Pledge, AllocError>
         ensures ok { IfOk result (λ p. p ≡ self.now) }
     {
@@ -248,7 +249,7 @@ impl Pledge {
         })
     }
 
-    /// The record of the pledge as plain fields.
+    /// A copy of the pledge's record as plain fields. The only error is that memory is refused.
     pub fn parts(&self) -> Result<Parts, AllocError>
         ensures ok { IfOk result (λ parts. parts ≡ self.now) }
     {
@@ -265,8 +266,8 @@ impl Pledge {
         })
     }
 
-    /// The pledge of its parts. They are handed back exactly where no pledge within the limits can
-    /// have them: where they could not have come about by commands, or break a limit.
+    /// The pledge with this record. It is handed back exactly if no pledge can have it: if it could not have come about
+    /// by commands, or breaks a limit.
     pub fn of_parts(parts: Parts) -> Result<Pledge, Parts>
         ensures ok { IfOk result (λ p. (p ≡ parts) × IsStanding parts) }
         ensures err { IfErr result (λ back. back ≡ parts) }
@@ -278,7 +279,7 @@ impl Pledge {
         }
     }
 
-    // A pledge of parts that were found to stand.
+    // The pledge with a record that `judge` accepts.
     fn of_checked(parts: Parts, terms: Terms, ends: Day, totals: Totals) -> Pledge
         requires standing { IsStanding parts }
         requires terms { terms ≡ parts.agreement.terms }
@@ -304,7 +305,7 @@ impl Pledge {
         }
     }
 
-    /// The pledge without its lists.
+    /// The pledge without its lists. The only error is that memory is refused.
     pub fn brief(&self) -> Result<Brief, AllocError>
         ensures ok { IfOk result (λ b. b ≡ brief_of self.now) }
     {

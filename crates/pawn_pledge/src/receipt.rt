@@ -14,7 +14,7 @@ pub struct Receipt {
     pub secret: Secret,
 }
 
-/// No text of a receipt.
+/// A text that is not the text of a receipt.
 #[derive(Clone, Copy, Debug, PartialEq, Eq)]
 pub struct BadReceipt;
 
@@ -49,8 +49,8 @@ impl Error for BadReceipt {}
 impl Receipt {
     ghost use Rattle.pawn_pledge.specs.Receipt.{IsReceiptText, receipt_text};
 
-    /// The receipt of a text: a number without a leading zero, a hyphen, and a secret in any form
-    /// that `Secret::of_text` reads.
+    /// The receipt that a text names: a number without a leading zero, a hyphen, and a secret in any form that
+    /// `Secret::of_text` reads. `BadReceipt` for any other text.
     pub fn of_text(text: &[u8]) -> Result<Receipt, BadReceipt>
         ensures ok { IfOk result (λ r. IsReceiptText text.now r) }
         ensures err { IfErr result (λ e. (r : Receipt) → IsReceiptText text.now r → ⊥) }

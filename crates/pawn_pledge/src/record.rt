@@ -9,19 +9,19 @@ use pawn_debt::{Day, Kind, Rates, Rows};
 use pawn_terms::{RequestDay, last_day};
 use std::alloc::AllocError;
 
-/// The broker's reference of a pledge, of 1 to 40 bytes.
+/// The broker's own reference for a pledge, in 1 to 40 bytes.
 pub type Reference = Text<MOST_REFERENCE_BYTES>;
 
 /// What was pawned, in 1 to 80 bytes.
 pub type Article = Text<MOST_ARTICLE_BYTES>;
 
-/// What is agreed when a pledge is taken.
+/// What a request gives for a new pledge: what was pawned, for what credit, and what is agreed on its period.
 #[derive(Debug, Drop)]
 pub struct Opening {
     pub reference: Reference,
     pub article: Article,
     pub kind: Kind,
-    /// The agreed end of the period, which has an effect where it is past the six months.
+    /// The agreed end of the period. It counts only if it is past the six months.
     pub agreed: Option<RequestDay>,
     /// Whether five days of grace follow the end of the period.
     pub five_days: bool,
@@ -32,7 +32,7 @@ impl Opening {
     ghost use Rattle.pawn_terms.specs.Calendar.{IsStampDay};
     ghost use Rattle.pawn_pledge.specs.Replayable.{IsOpening};
 
-    /// The same again.
+    /// A copy of the opening. The only error is that memory is refused.
     pub fn copy(&self) -> Result<Opening, AllocError>
         ensures same { IfOk result (λ opening. opening ≡ self.now) }
     {
@@ -47,7 +47,7 @@ impl Opening {
         })
     }
 
-    // The agreed end among all days.
+    // The agreed end, if there is one, as a `Day`.
     fn agreed_end(&self) -> Option<Day>
         ensures value { result ≡ self.now.agreed }
         ensures in_range { IfSome self.now.agreed IsStampDay }
@@ -58,7 +58,7 @@ impl Opening {
         }
     }
 
-    // Whoever reads its fields knows that they are within their limits.
+    // Reads the fields, which gives a proof that they are within their limits.
     pub(crate) fn know_limits(&self)
         ensures within { IsOpening self.now }
     {
@@ -68,7 +68,7 @@ impl Opening {
     }
 }
 
-/// What was agreed when a pledge was taken.
+/// What is fixed once a pledge is taken: what the request gave, with the number, the day and the terms that it got.
 #[derive(Debug, Drop)]
 pub struct Agreement {
     /// The pledge's number in its book.
@@ -86,7 +86,7 @@ impl Agreement {
     ghost use Rattle.pawn_terms.specs.Limits.{last_stamp_day};
     ghost use Rattle.pawn_pledge.specs.Pledge.{end_with};
 
-    /// The same again.
+    /// A copy of the agreement. The only error is that memory is refused.
     pub fn copy(&self) -> Result<Agreement, AllocError>
         ensures same { IfOk result (λ agreement. agreement ≡ self.now) }
     {
@@ -100,7 +100,7 @@ impl Agreement {
         })
     }
 
-    // The end of the period, where an extension agreed last on that end.
+    // The end of the period, given the end that was agreed by the last extension, if there is one.
     pub(crate) fn end_with(&self, extended: Option<Day>) -> Day
         requires taken { self.now.taken ≤ last_stamp_day }
         ensures value { result ≡ end_with self.now extended }
@@ -144,7 +144,7 @@ impl Issued {
 /// The issued secrets, in order.
 pub type Secrets = Rows<Issued>;
 
-/// Where a booking stands.
+/// The state of a booking.
 #[derive(Clone, Copy, Debug, PartialEq, Eq)]
 pub enum BookingState {
     Asked,
@@ -154,7 +154,7 @@ pub enum BookingState {
 }
 
 impl BookingState {
-    /// The word for it in replies, statements and CSV: `asked`, `confirmed`, `refused` or `cancelled`.
+    /// The word for the state in replies, statements and CSV: `asked`, `confirmed`, `refused` or `cancelled`.
     pub fn word(self) -> &'static str
         ensures word { result.now ≡ state_text self }
     {
@@ -193,7 +193,8 @@ pub enum Closing {
     Sold { day: Day, net: u64 },
 }
 
-/// How a pledge stands.
+/// The part of a pledge's record that later commands replace: the hold, the booking, the day of the last change, and
+/// the closing.
 #[derive(Clone, Copy, Debug, PartialEq, Eq)]
 pub struct Standing {
     /// Whether redemption is barred.
@@ -209,9 +210,9 @@ pub struct Standing {
 pub enum Status {
     /// In its period.
     Inside,
-    /// In the five days after it.
+    /// In the five days of grace after its period, if it was agreed with them.
     Grace,
-    /// Past them; it may be redeemed until it is sold.
+    /// Past its period and any days of grace. The broker may sell it, and until it is sold it may be redeemed.
     Realisable,
     /// The property has passed to the pawnbroker.
     Passed,

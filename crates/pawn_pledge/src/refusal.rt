@@ -7,9 +7,9 @@ use std::fmt;
 /// Why a command on a pledge is refused.
 #[derive(Clone, Copy, Debug, PartialEq, Eq)]
 pub enum Refusal {
-    /// The debt's own refusals.
+    /// A refusal of the debt, by its own rules.
     Debt(DebtFault),
-    /// An entry of this number stands, of another sort or sum.
+    /// The pledge has an entry of this number, of another sort or sum.
     SeqTaken,
     /// An entry's number that is 0, or past the next.
     SeqAhead,
@@ -25,11 +25,11 @@ pub enum Refusal {
     NotSmall,
     /// The new secret is one of the pledge's already.
     SecretUsed,
-    /// As many secrets stand as a pledge may have.
+    /// The pledge has as many secrets as it may have.
     DeclarationsFull,
-    /// Another sum than what is owing, with what is owing.
+    /// A redemption that pays another sum than what is owing; `total` is what is owing, in pence.
     WrongAmount { total: u64 },
-    /// No booking that the command could be on.
+    /// There is no booking, or none in a state that the command can change.
     NoBooking,
     /// A booking's day that is over, or on which the property will have passed.
     BookingDay,
@@ -39,9 +39,9 @@ pub enum Refusal {
     PeriodOver,
     /// An extension to an earlier end.
     NotLater,
-    /// As many extensions stand as a pledge may have.
+    /// The pledge has as many extensions as it may have.
     ExtensionsFull,
-    /// A growth was refused.
+    /// Memory for a new entry, secret or extension was refused.
     Memory,
 }
 
@@ -100,7 +100,7 @@ impl Refusal {
         }
     }
 
-    /// What is owing, in pence, where another sum was paid.
+    /// What is owing, in pence, if the refusal is `WrongAmount`, or the debt's `OverOwing`.
     pub fn total(self) -> Option<u64>
         ensures value { result ≡ refusal_total self }
     {

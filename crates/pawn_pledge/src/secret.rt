@@ -20,21 +20,21 @@ impl Model for Secret {
 }
 
 impl Secret {
-    /// The secret of a word.
+    /// The secret that is this 128-bit word.
     pub fn of_word(word: u128) -> Secret
         ensures value { result ≡ word }
     {
         Secret { word }
     }
 
-    /// The word of the secret.
+    /// The secret as a 128-bit word.
     pub fn word(self) -> u128
         ensures value { result ≡ self }
     {
         self.word
     }
 
-    /// The secret of a text in any of the four forms of a UUID.
+    /// The secret that a text in any of the four forms of a UUID names; none for any other text.
     pub fn of_text(text: &[u8]) -> Option<Secret>
         ensures value { result ≡ secret_of_text text.now }
     {

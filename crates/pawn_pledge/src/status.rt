@@ -13,7 +13,7 @@ pub(crate) fn is_small(credit: u64) -> bool
     credit <= SMALL_CREDIT
 }
 
-// What an agreement is on a day, its closing aside, by the end of its period.
+// The status on a day of a pledge with this agreement, as if it were not closed. `ends` is the end of its period.
 pub(crate) fn status_by(agreement: &Agreement, ends: Day, day: Day) -> Status
     requires taken { agreement.now.taken ≤ last_stamp_day }
     ensures value { result ≡ status_by agreement.now ends day }
@@ -30,7 +30,7 @@ pub(crate) fn status_by(agreement: &Agreement, ends: Day, day: Day) -> Status
     }
 }
 
-// The same under a closing.
+// The status on a day of a pledge with this agreement and this closing.
 pub(crate) fn status_under(agreement: &Agreement, closing: Closing, ends: Day, day: Day) -> Status
     requires taken { agreement.now.taken ≤ last_stamp_day }
     ensures value { result ≡ status_under closing (status_by agreement.now ends day) }

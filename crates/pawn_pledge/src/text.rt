@@ -21,7 +21,7 @@ impl<const MOST: usize> Model for Text<MOST> {
 }
 
 impl<const MOST: usize> Text<MOST> {
-    /// The same text, where it keeps the limits.
+    /// The text, or none if it breaks the limits. The only error is that memory is refused.
     pub fn of_str(alloc: Global, text: &str) -> Result<Option<Text<MOST>>, AllocError>
         ensures some { IfOk result (λ t. IfSome t (λ bytes. bytes ≡ text.now)) }
         ensures succeeds { IfOk result (λ t. IsSome t ↔ IsText MOST text.now) }
@@ -41,7 +41,7 @@ impl<const MOST: usize> Text<MOST> {
         self.string.as_str()
     }
 
-    /// The same text again.
+    /// A copy of the text. The only error is that memory is refused.
     pub fn copy(&self) -> Result<Text<MOST>, AllocError>
         ensures ok { IfOk result (λ t. t ≡ self.now) }
     {

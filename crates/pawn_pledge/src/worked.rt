@@ -7,7 +7,7 @@ pub fn worked_pledges()
     ensures statuses { WorkedStatuses }
 {}
 
-/// Drawings and repayments, and the refusals of others.
+/// Drawings and repayments, and which of them are refused.
 pub fn worked_entries()
     ensures drawings { WorkedPledgeDrawings }
     ensures repayments { WorkedPledgeRepayments }
@@ -32,7 +32,7 @@ pub fn worked_closings()
     ensures sales { WorkedSales }
 {}
 
-/// Longer periods.
+/// Extensions of a period, and which of them are refused.
 pub fn worked_extensions()
     ensures extensions { WorkedExtensions }
 {}

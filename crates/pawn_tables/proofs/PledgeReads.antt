@@ -61,7 +61,7 @@ number_in h b n p ordered is = inside (get h.books b) refl is
     inside None e is = absurd (let x = is in cc)
     inside (Some k) e is = from 1 k.pledges (ordered b k e).pledges is
 
--- the terms of a pledge stand under its version
+-- the terms of a pledge are those of its version
 pub under_in : (h : Host) (b n : ℕ) (p : PledgeValue) → AreBooksOrdered h → pledge_in (get h.books b) n ≡ Some p → terms_at (terms_of (get h.books b)) p.agreement.version ≡ Some p.agreement.terms
 under_in h b n p ordered is = inside (get h.books b) refl is
   where

@@ -178,7 +178,7 @@ module _ (h : Host) (storable : AreStorable h) (b n : ℕ) where
   pub row_unsound : (IfSome found IsRowTold → ⊥) → IsUnsoundAt b h
   row_unsound bad = unsound_pledge h b n (λ o. IfSome o IsRowTold) tt row_told bad
 
--- what the row of a pledge tells of its debt
+-- what the row of a pledge holds that its debt depends on
 pub credit_unsound : (h : Host) → AreStorable h → (b n : ℕ) → (IfSome (pledge_in (get h.books b) n) IsCreditTold → ⊥) → IsUnsoundAt b h
 credit_unsound h storable b n bad = unsound_pledge h b n (λ o. IfSome o IsCreditTold) tt
     (λ k p is sound at.

@@ -25,10 +25,10 @@ is_from v w = is_true (binary (Compare Ge Binary) v w)
 abbrev pub is_below : Value → Value → Bool
 is_below v w = is_true (binary (Compare Lt Binary) v w)
 
--- a row of a book
+-- whether a row is one of book b, by its first column
 abbrev pub at_book : ℕ → Row → Bool
 at_book b v = list_all (λ (x : Bool). x) (is_at (column v 0) (number b) ∷ [])
 
--- a row of a pledge
+-- whether a row is one of pledge n of book b, by its first two columns
 abbrev pub at_pledge : ℕ → ℕ → Row → Bool
 at_pledge b n v = list_all (λ (x : Bool). x) (is_at (column v 0) (number b) ∷ is_at (column v 1) (number n) ∷ [])

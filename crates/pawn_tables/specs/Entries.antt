@@ -10,7 +10,7 @@ abbrev pub RiseFrom : ℕ → List Entry → Type 0
 RiseFrom n [] = Unit {0}
 RiseFrom n (e ∷ es) = (n ≤ e.seq) × RiseFrom (e.seq + 1) es
 
--- the entry of a number
+-- the entry with this number
 abbrev pub with_seq : List Entry → ℕ → Option Entry
 with_seq es n = find (λ (e : Entry). e.seq == n) es
 
@@ -18,7 +18,7 @@ with_seq es n = find (λ (e : Entry). e.seq == n) es
 abbrev pub entries_from : ℕ → List Entry → List Entry
 entries_from n es = filter (λ (e : Entry). nat_le n e.seq) es
 
--- the number behind an entry
+-- the number after an entry
 abbrev pub behind : Entry → ℕ
 behind e = e.seq + 1
 
@@ -30,6 +30,6 @@ IsEntriesPage n es page = IsPage (λ m. entries_from m es) (λ (e : Entry). e) b
 abbrev pub IsAmount : ℕ → Type 0
 IsAmount pence = (1 ≤ pence) × (pence ≤ most_pence)
 
--- the day and the sum of an entry are such
+-- the entry has a day of the calendar, and a sum that an entry may have
 abbrev pub IsEntryTold : Entry → Type 0
 IsEntryTold e = IsDayNumber e.day × IsAmount e.pence

@@ -1,4 +1,4 @@
--- What the row of a book tells.
+-- What the row of a book holds.
 use Rattle.std.specs.Prelude.{ℕ, [], ◌∷◌, IfSome}
 use Rattle.std.specs.Str.{IsUtf8}
 use Rattle.sqlite.specs.Order.{Row}
@@ -22,6 +22,6 @@ pub record IsHeadTold (k : BookValue) : Type 0 where
 abbrev pub number_cells : ℕ → Row
 number_cells n = number n ∷ []
 
--- SQL counts no further
+-- the highest number that SQL counts to
 abbrev pub most_counted : ℕ
 most_counted = 9223372036854775807

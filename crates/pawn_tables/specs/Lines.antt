@@ -50,13 +50,13 @@ IsLineOf part.Ends line = line.window ≡ 0
 abbrev pub asked_cells : ℕ × ℕ → Row
 asked_cells a = number a.0 ∷ number a.1 ∷ []
 
--- the row that tells of a line
+-- the row that a query shows for a line
 abbrev pub line_cells : Part → Line → Row
 line_cells (part.Confirmed window) line = number_cells line.number
 line_cells part.Asked line = asked_cells (line.number, line.window)
 line_cells part.Ends line = number_cells line.number
 
--- the windows of a day in which somebody comes, each once
+-- the windows of a day that have a confirmed booking, each once
 pub record NamesWindows (day : ℕ) (pledges : List PledgeValue) (windows : List ℕ) : Type 0 where
   -- whoever comes on the day comes in one of them
   pub whole : (w : ℕ) → w ≤ last_window → list_any (λ n. n == w) windows ≡ false → part_items (part.Confirmed w) day pledges ≡ []

@@ -1,4 +1,4 @@
--- What the tables tell, they tell of one host.
+-- Tables stand for one host at most.
 use Rattle.std.specs.Prelude.{◌≡◌}
 use Rattle.sqlite.specs.Tree.{Trees}
 use Rattle.pawn_book.specs.HostStep.{Host}

@@ -6,12 +6,12 @@ use Rattle.pawn_pledge.specs.Pledge.{last_element}
 abbrev pub most_page_rows : ℕ
 most_page_rows = 64
 
--- where a page ends: behind its last element, or where it began if it has none
+-- where a page ends: after its last element, or where it began if it has none
 abbrev pub page_end : {A : Type 0} → (A → ℕ) → ℕ → List A → ℕ
 page_end behind n page = unwrap_or (option_map behind (last_element page)) n
 
--- a page of a list of which this is left past each place: it shows what comes next, the next page begins where it ends, and a page
--- with room for more is the last
+-- A page of a list, where `left` gives what is left of the list past each place. It shows what comes next, and the next
+-- page begins where it ends. A page with room for more is the last.
 pub record IsPage {A B : Type 0} (left : ℕ → List B) (shows : A → B) (behind : A → ℕ) (n : ℕ) (page : List A) : Type 0 where
   pub few : length page ≤ most_page_rows
   pub goes_on : left n ≡ map shows page ++ left (page_end behind n page)

@@ -1,4 +1,4 @@
--- What stands at a place of a list, where the first place is 1.
+-- What is at a place of a list, where the first place is 1.
 use Rattle.std.specs.Prelude.{ℕ, zero, suc, List, Option, None, drop, slice_get, take}
 use Rattle.pawn_tables.specs.Pages.{most_page_rows}
 
@@ -6,6 +6,6 @@ abbrev pub at_place : {A : Type 0} → List A → ℕ → Option A
 at_place xs zero = None
 at_place xs (suc n) = slice_get xs n
 
--- a page of a list, behind a place: what comes next, as many as a page may have
+-- a page of a list, after a place: what comes next, as many as a page may have
 abbrev pub page_behind : {A : Type 0} → ℕ → List A → List A
 page_behind place xs = take most_page_rows (drop place xs)

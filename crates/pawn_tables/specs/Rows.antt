@@ -1,4 +1,4 @@
--- The rows that tell of books and pledges.
+-- The rows that hold books and pledges.
 use Rattle.std.specs.Prelude.{ℕ, ◌+◌, Bool, if◌then◌else◌, List, [], ◌∷◌, length, map, pos, Option, Some, None, option_map}
 use Rattle.std.specs.Int.{to_be_bytes, w128}
 use Rattle.sqlite.specs.declared.types.Value.{Value}
@@ -63,7 +63,7 @@ state_number BookingState.Confirmed = 1
 state_number BookingState.Refused = 2
 state_number BookingState.Cancelled = 3
 
--- whether a pledge is closed and how
+-- the number that stands for a closing
 abbrev pub closed_number : Closing → ℕ
 closed_number Closing.Open = 0
 closed_number (Closing.Redeemed day paid) = 1
@@ -75,7 +75,7 @@ closed_day Closing.Open = None
 closed_day (Closing.Redeemed day paid) = Some day
 closed_day (Closing.Sold day net) = Some day
 
--- what it brought
+-- the sum that was paid, or that the sale brought
 abbrev pub closed_amount : Closing → Option ℕ
 closed_amount Closing.Open = None
 closed_amount (Closing.Redeemed day paid) = Some paid
@@ -105,7 +105,7 @@ pledge_cells p =
     ∷ flag o.five_days ∷ number p.agreement.version ∷ number (end_of p) ∷ flag p.standing.held ∷ number p.standing.last
     ∷ number (closed_number p.standing.closing) ∷ or_null number (closed_day p.standing.closing) ∷ or_null number (closed_amount p.standing.closing) ∷ []
 
--- those of them that its debt begins with
+-- those cells of its row that its debt depends on
 abbrev pub credit_cells : PledgeValue → Row
 credit_cells p =
     let o = p.agreement.opening in

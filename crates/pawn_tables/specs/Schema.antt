@@ -7,7 +7,8 @@ use Rattle.sqlite.specs.Kind.TheVariants.{Integer, Text, Blob}
 use Rattle.sqlite_value.specs.Keys.{plain}
 use Rattle.one_table.specs.Columns.{filled, blank, refers, keyed, no_schema}
 
--- a book, by its number; the counts of its terms and pledges; the key of the import that filled it, and how many pledges came with it
+-- a book, by its number; the counts of its terms and pledges; the key of the import that filled it, and how many
+-- pledges came with it
 abbrev pub books : Table
 books = record (keyed (codes "books")
     (blank (codes "book") Integer ∷ filled (codes "book_key") Blob ∷ filled (codes "title") Text ∷ filled (codes "capacity") Integer
@@ -20,7 +21,7 @@ terms = record (keyed (codes "terms")
     (filled (codes "book") Integer ∷ filled (codes "version") Integer ∷ filled (codes "rate") Integer ∷ filled (codes "keep_before") Integer ∷ filled (codes "keep_after") Integer ∷ [])
     (1 ∷ 2 ∷ []) ((1 ∷ 2 ∷ []) ∷ []) (refers (1 ∷ []) (codes "books") ∷ [])) { orders = plain ∷ [] }
 
--- what was agreed on a pledge, its end, and how it stands
+-- what was agreed on a pledge, the end of its period, and its standing
 abbrev pub pledges : Table
 pledges = record (keyed (codes "pledges")
     (filled (codes "book") Integer ∷ filled (codes "number") Integer ∷ filled (codes "ref") Text ∷ filled (codes "article") Text

@@ -27,13 +27,15 @@ of_books h rows_of = flat_map (λ (e : ℕ × BookValue). rows_of e.0 e.1) (entr
 abbrev pub of_pledges : Host → (ℕ → PledgeValue → List Row) → List Row
 of_pledges h rows_of = of_books h (λ b k. flat_map (rows_of b) k.pledges)
 
--- What the order of rows tells of a book: its pledges are numbered 1, 2, .., the numbers of each pledge's entries rise, and the terms of each stand under its version.
+-- What the order of rows keeps of a book. Its pledges are numbered 1, 2, .., and the numbers of each pledge's entries
+-- rise. The terms of each pledge are those of its version.
 pub record IsOrdered (k : BookValue) : Type 0 where
   pub pledges : AreNumberedFrom 1 k.pledges
   pub entries : Each (λ p. RiseFrom 0 p.entries) k.pledges
   pub under : Each (IsUnder k.terms) k.pledges
 
--- What rows can hold: keys and secrets of 128 bits, no pledge taken before the first day that there is, and versions of 32 bits.
+-- What rows can hold: keys and secrets of 128 bits, no pledge taken before the first day that there is, and versions of
+-- 32 bits.
 pub record IsStorable (k : BookValue) : Type 0 where
   pub key : IsWord k.key
   pub imported : IfSome k.imported (λ i. IsWord i.key)
@@ -71,7 +73,7 @@ pub record StandsFor (db : Database) (h : Host) : Type 0 where
   pub meta : Holds db.trees meta_tree (record meta { tree = meta_tree }) (meta_rows (rows h) h.limit)
   pub totals : Holds db.trees totals_tree (record totals { tree = totals_tree }) (of_pledges h totals_listed)
   pub extensions : Holds db.trees extensions_tree (record extensions { tree = extensions_tree }) (of_pledges h extensions_listed)
-  -- what no row tells
+  -- what no row shows
   pub ordered : AreBooksOrdered h
   pub storable : AreStorable h
 

@@ -1,4 +1,4 @@
--- What the ends of a pledge's lists tell.
+-- What the ends of a pledge's lists show: how long the lists are, and the last secret.
 use Rattle.std.specs.Prelude.{◌≡◌, List, length, Option, option_map}
 use Rattle.sqlite.specs.Order.{Row}
 use Rattle.pawn_pledge.specs.declared.record.Issued.{Issued}
@@ -7,7 +7,7 @@ use Rattle.pawn_tables.specs.Rows.{secret_cells}
 use Rattle.pawn_tables.specs.declared.joining.LastSecret.{LastSecret}
 use Rattle.pawn_tables.specs.declared.joining.Tails.{Tails}
 
--- the last of secrets; its place tells how many they are
+-- the last of the secrets; its place is how many there are
 abbrev pub last_issued : List Issued → Option LastSecret
 last_issued secrets = option_map (λ (i : Issued). record { place = length secrets; issued = i }) (last_element secrets)
 

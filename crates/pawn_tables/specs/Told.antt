@@ -1,4 +1,4 @@
--- What the row of a pledge tells, and what the tables beside it tell.
+-- What the row of a pledge holds, and what the tables beside it hold.
 use Rattle.std.specs.Prelude.{◌≡◌, Option, Some, None, IfSome, IsTrue, is_some}
 use Rattle.std.specs.Str.{IsUtf8}
 use Rattle.pawn_terms.specs.Calendar.{IsDayNumber, IsStampDay}
@@ -23,7 +23,7 @@ pub record IsTold (o : Opening) : Type 0 where
   pub article : IsText most_article_bytes o.article × IsUtf8 o.article
   pub agreed : IfSome o.agreed IsStampDay
 
--- what the row of a pledge tells of it
+-- what the row of a pledge holds of it
 abbrev pub row_of : PledgeValue → PledgeRow
 row_of p = record {
   opening = p.agreement.opening;
@@ -35,18 +35,18 @@ row_of p = record {
   closing = p.standing.closing;
 }
 
--- its texts and days are such
+-- the texts of its opening keep their limits, and its days are days of the calendar
 pub record IsRowTold (p : PledgeValue) : Type 0 where
   pub opening : IsTold p.agreement.opening
   pub taken : IsDayNumber p.agreement.taken
   pub last : IsDayNumber p.standing.last
   pub closed : IfSome (closed_day p.standing.closing) IsDayNumber
 
--- what the row of a pledge tells of its debt
+-- what the row of a pledge holds that its debt depends on
 abbrev pub credit_told : PledgeValue → Credit
 credit_told p = record { kind = p.agreement.opening.kind; taken = p.agreement.taken; agreed = p.agreement.opening.agreed; version = p.agreement.version }
 
--- its days are such that a request may name them
+-- its days are ones that a request may name
 pub record IsCreditTold (p : PledgeValue) : Type 0 where
   pub taken : IsStampDay p.agreement.taken
   pub agreed : IfSome p.agreement.opening.agreed IsStampDay
@@ -56,7 +56,7 @@ abbrev pub booking_of : Option PledgeValue → Option Booking
 booking_of None = None
 booking_of (Some p) = p.standing.booking
 
--- what was owed on the day of its last entry
+-- what was owed on the day of its last entry, or else on the day taken
 abbrev pub totals_in : Option PledgeValue → Option Totals
 totals_in None = None
 totals_in (Some p) = Some (totals_of (debt_of p))
@@ -67,13 +67,13 @@ pub record AreLists (l : Lists) (p : PledgeValue) : Type 0 where
   pub secrets : l.secrets ≡ p.secrets
   pub extensions : l.extensions ≡ p.extensions
 
--- what the tables beside its row tell of a pledge
+-- what the tables beside its row hold of a pledge
 pub record AreSides (s : Sides) (p : PledgeValue) : Type 0 where
   pub terms : s.terms ≡ Some p.agreement.terms
   pub booking : s.booking ≡ p.standing.booking
   pub totals : s.totals ≡ Some (totals_of (debt_of p))
 
--- what its row and the tables beside it tell of a pledge, where it stands
+-- what its row and the tables beside it hold of a pledge, if there is such a pledge
 abbrev pub AreTold : Option Told → Option PledgeValue → Type 0
 AreTold None None = Unit {0}
 AreTold None (Some p) = ⊥

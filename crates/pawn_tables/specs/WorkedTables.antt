@@ -27,8 +27,9 @@ use Rattle.pawn_tables.specs.StandsFor.{of_books, of_pledges}
 abbrev pub sworn : Issued
 sworn = record { day = date 2024 1 31; sort = Issue.Sworn; secret = 4 }
 
--- A ring, pawned for 100 pounds on 2024-01-01 (day 19723) at 2,667 millionths a day. On 2024-01-31 (day 19753) ten pounds are
--- repaid, the receipt is declared lost, window 2 of 2024-02-07 (day 19760) is confirmed, and 2024-09-30 (day 19996) is agreed.
+-- A ring, pawned for 100 pounds on 2024-01-01 (day 19723) at 2,667 millionths a day. On 2024-01-31 (day 19753) ten
+-- pounds are repaid, the receipt is declared lost, window 2 of 2024-02-07 (day 19760) is confirmed, and 2024-09-30 (day
+-- 19996) is agreed.
 abbrev pub used_ring : PledgeValue
 used_ring = record {
   agreement = record { number = 1; opening = ring_opening (Fixed 10000) false None; taken = date 2024 1 1; version = 1; terms = rates_of 2667 0 0 };
@@ -75,11 +76,11 @@ pub record WorkedTables : Type 0 where
   pub no_entry : entries_listed 7 (ring 10000) ≡ []
   pub no_booking : booking_listed 7 (ring 10000) ≡ []
   pub no_extension : extensions_listed 7 (ring 10000) ≡ []
-  -- entries 1 and 3 are in order, though 2 is left out: rows with a gap still tell of a ring, and of one that can't be sound
+  -- entries 1 and 3 are in order, though 2 is left out: rows with a gap still hold a ring, but one that can't be sound
   pub gap : RiseFrom 0 (entry 1 ∷ entry 3 ∷ []) × (AreNumbered 1 (entry 1 ∷ entry 3 ∷ []) → ⊥)
   -- the page from 2 on shows entry 3, and is the last
   pub over_gap : IsEntriesPage 2 (entry 1 ∷ entry 3 ∷ []) (entry 3 ∷ [])
-  -- of 65 secrets the first page shows 64, and the page behind place 64 the last alone
+  -- of 65 secrets the first page shows 64, and the page after place 64 the last alone
   pub full_page : length (page_behind 0 (replicate 65 sworn)) ≡ 64
   pub last_page : page_behind 64 (replicate 65 sworn) ≡ sworn ∷ []
   -- 90 pounds are paid

@@ -19,7 +19,7 @@ use pawn_book::{BookHead, Day, KeepError, Number, StoreFault};
 use sqlite::{Alter, Transaction, params};
 use std::alloc::Global;
 
-/// The head of a book, if the book stands. Of a book that is not sound a row may be no record.
+/// The head of a book, if there is such a book. `NoRecord` is answered only if the book is not sound.
 pub fn head_in<S: Alter>(
     tx: &mut Transaction<'_, S>,
     alloc: Global,
@@ -53,8 +53,8 @@ pub fn ref_in<S: Alter>(
     first_number(&rows)
 }
 
-/// How many pledges of a book have a confirmed booking for a day and a window. A window that 32
-/// bits can't hold is a fault; a day has sixteen.
+/// How many pledges of a book have a confirmed booking for a day and a window. `Database` is answered for a window that
+/// 32 bits cannot hold; a day has sixteen.
 pub fn confirmed_in<S: Alter>(
     tx: &mut Transaction<'_, S>,
     book: u32,
@@ -76,7 +76,7 @@ pub fn confirmed_in<S: Alter>(
     only_count(&rows)
 }
 
-/// The least number of a book above one.
+/// The next book number above `above`, if there is one.
 pub fn next_in<S: Alter>(
     tx: &mut Transaction<'_, S>,
     above: u32,
@@ -93,7 +93,7 @@ pub fn next_in<S: Alter>(
     first_number(&rows)
 }
 
-/// The rows of all books that are counted.
+/// How many rows all books have together, as the store counts them.
 pub fn rows_in<S: Alter>(tx: &mut Transaction<'_, S>) -> Result<u64, KeepError>
     ensures same_reference { tx.new.conn.ghost_name ≡ tx.old.conn.ghost_name }
     ensures finds { FindsIn HasUnsoundBook (state S.Store tx.old.conn.now)

@@ -14,8 +14,8 @@ use pawn_book::{Brief, KeepError, Number};
 use sqlite::{Alter, Transaction};
 use std::alloc::Global;
 
-/// The pledge of a number without its lists. None of them is read: its totals and the end of its period are those that
-/// are stored.
+/// The pledge with this number in a book, without its lists, if there is one. No list is read: the totals and the
+/// end of the period are those that are stored.
 #[tactic(auto, using(crate::proofs::Lent::lent_then))]
 pub fn brief_in<S: Alter>(
     tx: &mut Transaction<'_, S>,

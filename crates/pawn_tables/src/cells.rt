@@ -24,10 +24,10 @@ use sqlite::{Error, ErrorCode, Row};
 use std::alloc::Global;
 use uuid::Uuid;
 
-/// A stored row is no record.
+/// The error for a stored row that does not read as a record.
 pub(crate) const NO_RECORD: KeepError = KeepError::Store(StoreFault::NoRecord);
 
-/// Why a statement was not run: for want of memory, or since the database refused it.
+/// The error for a statement that was not run: `Memory` if memory was refused, otherwise `Database`.
 pub fn refused(error: Error) -> KeepError
     ensures no_row { result ≢ Keeper.Store NoRecord }
     ensures memory { result ≡ Keeper.Memory → error ≡ SqlError.SqliteFailure OutOfMemory }
@@ -39,7 +39,7 @@ pub fn refused(error: Error) -> KeepError
     }
 }
 
-// Why a value of a row was not read.
+// The error for a value of a row that was not read: `Memory` if memory was refused, otherwise `NoRecord`.
 fn unread(error: Error) -> KeepError
     ensures memory { error ≡ SqlError.SqliteFailure OutOfMemory → result ≡ Keeper.Memory }
     ensures told { result ≡ Keeper.Memory → error ≡ SqlError.SqliteFailure OutOfMemory }
@@ -62,7 +62,7 @@ pub(crate) fn number_at(row: &Row, at: usize) -> Result<u64, KeepError>
     }
 }
 
-/// The number in a column, or nothing where it is NULL.
+/// The number in a column, or none if it is NULL.
 pub(crate) fn optional_at(row: &Row, at: usize) -> Result<Option<u64>, KeepError>
     ensures read { (n : Option ℕ) → at < length row.now → column row.now at ≡ or_null number n
         → IsRead result n ⊤ }
@@ -73,7 +73,7 @@ pub(crate) fn optional_at(row: &Row, at: usize) -> Result<Option<u64>, KeepError
     }
 }
 
-// The flag of a number.
+// The flag that a number stands for: 0 for false, 1 for true.
 fn flag_of(number: u64) -> Result<bool, KeepError>
     ensures read { (b : Bool) → number ≡ flag_number b → IsRead result b ⊤ }
 {
@@ -92,7 +92,7 @@ pub(crate) fn flag_at(row: &Row, at: usize) -> Result<bool, KeepError>
     flag_of(number_at(row, at)?)
 }
 
-/// The day of a number.
+/// The day with this number, if it is from 2000-01-01 to 2299-12-31.
 pub(crate) fn day_of(number: u64) -> Result<Day, KeepError>
     ensures read { IsRead result number (IsDayNumber number) }
 {
@@ -113,7 +113,7 @@ pub(crate) fn day_at(row: &Row, at: usize) -> Result<Day, KeepError>
     day_of(number_at(row, at)?)
 }
 
-/// The day of a number that a request may name, if there is a number.
+/// The day with this number, if there is a number; it must be a day that a request may name.
 pub(crate) fn request_day(number: Option<u64>) -> Result<Option<RequestDay>, KeepError>
     ensures read { IsRead result number (IfSome number IsStampDay) }
 {
@@ -141,7 +141,7 @@ pub(crate) fn word_at(row: &Row, at: usize) -> Result<Secret, KeepError>
     }
 }
 
-// The key of sixteen bytes.
+// The key that sixteen bytes are, the highest first.
 fn key_of(bytes: &[u8]) -> Result<Secret, KeepError>
     ensures read { (w : ℕ) → IsWord w → bytes.now ≡ to_be_bytes w128 w → IsRead result w ⊤ }
 {
@@ -151,7 +151,7 @@ fn key_of(bytes: &[u8]) -> Result<Secret, KeepError>
     }
 }
 
-/// The key in a column, or nothing where it is NULL.
+/// The key in a column, or none if it is NULL.
 pub(crate) fn optional_word_at(row: &Row, at: usize) -> Result<Option<Secret>, KeepError>
     ensures read { (w : Option ℕ) → at < length row.now → IfSome w IsWord
         → column row.now at ≡ or_null word w → IsRead result w ⊤ }
@@ -163,7 +163,7 @@ pub(crate) fn optional_word_at(row: &Row, at: usize) -> Result<Option<Secret>, K
     }
 }
 
-/// The text in a column.
+/// The text in a column, if it keeps the limits of `Text`.
 pub(crate) fn text_at<const MOST: usize>(
     alloc: Global,
     row: &Row,
@@ -183,7 +183,7 @@ pub(crate) fn text_at<const MOST: usize>(
     }
 }
 
-/// The sum of an entry, in pence.
+/// The sum of an entry in pence, if it is at least a penny and no larger than the largest.
 pub(crate) fn amount_of(pence: u64) -> Result<u64, KeepError>
     ensures read { IsRead result pence (IsAmount pence) }
 {
@@ -217,7 +217,7 @@ pub(crate) fn issue_of(number: u64) -> Result<Issue, KeepError>
     }
 }
 
-/// Where a booking stands, by its number.
+/// The state of a booking, by its number.
 pub(crate) fn state_of(number: u64) -> Result<BookingState, KeepError>
     ensures read { (s : BookingState) → number ≡ state_number s → IsRead result s ⊤ }
 {

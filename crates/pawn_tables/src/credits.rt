@@ -18,7 +18,7 @@ use crate::texts::READ_CREDIT;
 use pawn_book::{KeepError, Kind, RequestDay};
 use sqlite::{Alter, Row, Transaction, params};
 
-/// What was agreed on a pledge, as far as its debt goes.
+/// The part of what was agreed on a pledge that its debt depends on.
 #[derive(Clone, Copy)]
 pub struct Credit {
     pub kind: Kind,
@@ -27,7 +27,7 @@ pub struct Credit {
     pub version: u64,
 }
 
-// The day of a number that a request may name.
+// The day with this number, if a request may name it.
 fn named_day(number: u64) -> Result<RequestDay, KeepError>
     ensures read { IsRead result number (IsStampDay number) }
 {
@@ -37,7 +37,7 @@ fn named_day(number: u64) -> Result<RequestDay, KeepError>
     }
 }
 
-// What a row tells of its pledge's debt.
+// What a row holds of its pledge's credit.
 fn credit_of(row: &Row) -> Result<Credit, KeepError>
     ensures read { (p : PledgeValue) → row.now ≡ credit_cells p → IsRead result (credit_told p)
         (IsCreditTold p) }
@@ -57,7 +57,7 @@ fn credit_of(row: &Row) -> Result<Credit, KeepError>
     })
 }
 
-// What the first row tells of its pledge's debt, if there is a row.
+// What the first row holds of its pledge's credit, if there is a row.
 fn first_credit(rows: &[Row]) -> Result<Option<Credit>, KeepError>
     ensures read { (p : Option PledgeValue) → rows.now ≡ at_most_one credit_cells p → IsRead result
         (option_map credit_told p) (IfSome p IsCreditTold) }
@@ -68,7 +68,7 @@ fn first_credit(rows: &[Row]) -> Result<Option<Credit>, KeepError>
     Ok(Some(credit_of(row)?))
 }
 
-/// What was agreed on a pledge, as far as its debt goes.
+/// The part of what was agreed on a pledge that its debt depends on, if there is such a pledge.
 pub fn credit_in<S: Alter>(
     tx: &mut Transaction<'_, S>,
     book: u32,

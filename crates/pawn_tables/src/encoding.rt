@@ -1,14 +1,14 @@
-//! How values are written into cells: the other way about of what `cells` reads.
+//! How values are written into cells. `cells` reads them back.
 ghost use Rattle.std.specs.Prelude.{◌≡◌, ◌<◌, ◌^◌, IfOk};
 ghost use Rattle.pawn_tables.specs.Rows as spec;
 
 use pawn_book::{BookingState, Closing, Issue, KeepError, Kind, RequestDay, Sort, StoreFault};
 use sqlite_value::value::Value;
 
-/// The database refused.
+/// The error if the database refused, or if a value does not fit in a cell.
 pub const REFUSED: KeepError = KeepError::Store(StoreFault::Database);
 
-/// A number as a statement takes it.
+/// The number in 32 bits, as a statement takes it. `REFUSED` if it does not fit.
 pub fn small(number: u64) -> Result<u32, KeepError>
     ensures value { IfOk result (λ n. n ≡ number) }
     ensures in_range { IfOk result (λ n. n < 2 ^ 32) }
@@ -19,14 +19,14 @@ pub fn small(number: u64) -> Result<u32, KeepError>
     }
 }
 
-/// The number of a flag.
+/// The number that stands for a flag in the tables: 0 for false, 1 for true.
 pub fn flag_number(flag: bool) -> u32
     ensures value { result ≡ spec.flag_number flag }
 {
     if flag { 1 } else { 0 }
 }
 
-/// The number of a kind of credit.
+/// The number that stands for a kind of credit in the tables: 0 for a fixed sum, 1 for a running account.
 pub fn kind_number(kind: Kind) -> u32
     ensures value { result ≡ spec.kind_number kind }
 {
@@ -36,7 +36,7 @@ pub fn kind_number(kind: Kind) -> u32
     }
 }
 
-/// The number of a sort of entry.
+/// The number that stands for a sort of entry in the tables: 0 for a drawing, 1 for a repayment.
 pub fn sort_number(sort: Sort) -> u32
     ensures value { result ≡ spec.sort_number sort }
 {
@@ -46,7 +46,8 @@ pub fn sort_number(sort: Sort) -> u32
     }
 }
 
-/// The number of the way in which a secret was issued.
+/// The number that stands in the tables for how a secret was issued: 0 with the pledge, 1 on a sworn declaration, 2 on
+/// a written statement.
 pub fn issue_number(issue: Issue) -> u32
     ensures value { result ≡ spec.issue_number issue }
 {
@@ -57,7 +58,7 @@ pub fn issue_number(issue: Issue) -> u32
     }
 }
 
-/// The number of where a booking stands.
+/// The number that stands for a booking's state in the tables, from 0 for asked to 3 for cancelled.
 pub fn state_number(state: BookingState) -> u32
     ensures value { result ≡ spec.state_number state }
 {
@@ -79,7 +80,7 @@ fn optional(number: Option<u32>) -> Value
     }
 }
 
-/// The agreed end of a period.
+/// The cell for the agreed end of a period: its day number, or NULL if none was agreed.
 pub fn agreed_value(agreed: Option<RequestDay>) -> Value
     ensures value { result ≡ spec.or_null spec.number agreed }
 {
@@ -89,7 +90,7 @@ pub fn agreed_value(agreed: Option<RequestDay>) -> Value
     }
 }
 
-/// The number of the way in which a pledge is closed.
+/// The number that stands for a closing in the tables: 0 for open, 1 for redeemed, 2 for sold.
 pub fn closed_number(closing: Closing) -> u32
     ensures value { result ≡ spec.closed_number closing }
 {
@@ -100,7 +101,7 @@ pub fn closed_number(closing: Closing) -> u32
     }
 }
 
-/// The day of a closing.
+/// The cell for the day of a closing: its day number, or NULL while the pledge is open.
 pub fn closed_day(closing: Closing) -> Value
     ensures value { result ≡ spec.or_null spec.number (spec.closed_day closing) }
 {
@@ -121,7 +122,8 @@ fn sum_value(pence: u64) -> Result<Value, KeepError>
     }
 }
 
-/// The sum of a closing.
+/// The cell for the sum that was paid or that a sale brought, in pence, or NULL while the pledge is open. `REFUSED` if
+/// 63 bits cannot hold it.
 pub fn closed_amount(closing: Closing) -> Result<Value, KeepError>
     ensures value { IfOk result (λ amount. amount ≡ spec.or_null spec.number
         (spec.closed_amount closing)) }

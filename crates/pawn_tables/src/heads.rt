@@ -24,7 +24,7 @@ fn imported_of(key: Option<Secret>, pledges: Option<u64>) -> Result<Option<Impor
     }
 }
 
-// The capacity of a number.
+// The capacity of this many bookings, if a book may have it.
 fn capacity_of(number: u64) -> Result<Capacity, KeepError>
     ensures read { IsRead result number (IsCapacity number) }
 {
@@ -34,7 +34,7 @@ fn capacity_of(number: u64) -> Result<Capacity, KeepError>
     }
 }
 
-// What the row of a book tells.
+// The head that the row of a book holds.
 fn head_of(alloc: Global, row: &Row) -> Result<BookHead, KeepError>
     ensures read { (k : BookValue) → HasKeys k → row.now ≡ head_cells k → IsRead result
         (book_head k) (IsHeadTold k) }
@@ -55,7 +55,7 @@ fn head_of(alloc: Global, row: &Row) -> Result<BookHead, KeepError>
     })
 }
 
-/// What the first row tells of its book, if there is a row.
+/// The head that the first row holds, if there is a row.
 pub(crate) fn first_head(alloc: Global, rows: &[Row]) -> Result<Option<BookHead>, KeepError>
     ensures read { (k : Option BookValue) → IfSome k HasKeys → rows.now ≡ at_most_one head_cells k
         → IsRead result (option_map book_head k) (IfSome k IsHeadTold) }
@@ -66,7 +66,7 @@ pub(crate) fn first_head(alloc: Global, rows: &[Row]) -> Result<Option<BookHead>
     Ok(Some(head_of(alloc, row)?))
 }
 
-/// The number of a book or a pledge.
+/// The number of a book or a pledge, if it is in the range of one.
 pub(crate) fn number_of(number: u64) -> Result<Number, KeepError>
     ensures read { IsRead result number (IsNumber number) }
 {
@@ -97,8 +97,8 @@ pub(crate) fn only_number(rows: &[Row]) -> Result<u64, KeepError>
     number_at(row, 0)
 }
 
-/// How many rows SQL counted, by the first row. There is a row. So many that it counts no further
-/// are a fault.
+/// How many rows SQL counted, as the first row has it. There is a row. The highest number that SQL counts to is a
+/// fault, since there may be more.
 pub(crate) fn only_count(rows: &[Row]) -> Result<u64, KeepError>
     ensures read { (n : ℕ) → rows.now ≡ number_cells (min n most_counted) ∷ [] → IsRead result n ⊤ }
 {

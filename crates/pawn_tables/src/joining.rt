@@ -29,7 +29,7 @@ pub(crate) struct Tails {
     pub extensions: u64,
 }
 
-/// What the tables beside its row tell of a pledge.
+/// What the tables beside its row hold of a pledge.
 #[derive(Clone, Copy)]
 pub(crate) struct Sides {
     pub terms: Option<Terms>,
@@ -37,7 +37,7 @@ pub(crate) struct Sides {
     pub totals: Option<Totals>,
 }
 
-/// What the row of a pledge tells, and what the tables beside it tell.
+/// What the row of a pledge holds, and what the tables beside it hold.
 #[derive(Drop)]
 pub(crate) struct Told {
     pub row: PledgeRow,

@@ -3,7 +3,8 @@ ghost use Rattle.pawn_tables.specs.Lines.{item_of};
 
 use pawn_book::{Number, Part, SheetItem};
 
-/// A line of a part of a day's sheet: the number of the pledge that it tells of, and the window of its booking, or 0.
+/// A line of a part of a day's sheet: the number of its pledge, and the window of the booking, or 0 for a period that
+/// ends.
 #[derive(Clone, Copy)]
 pub struct Line {
     pub number: Number,
@@ -11,7 +12,7 @@ pub struct Line {
 }
 
 impl Line {
-    /// The item of the line, in its part.
+    /// The item of the sheet that the line is in its part.
     pub fn item(self, part: Part) -> SheetItem
         ensures value { result ≡ item_of part self }
     {

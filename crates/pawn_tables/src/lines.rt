@@ -45,7 +45,7 @@ pub(crate) fn read_lines(alloc: Global, part: Part, rows: &[Row]) -> Result<Rows
     Ok(lines)
 }
 
-/// The numbers of rows.
+/// The number in the first column of each row.
 pub(crate) fn read_numbers(alloc: Global, rows: &[Row]) -> Result<Rows<u64>, KeepError>
     ensures read { (ns : List ℕ) → rows.now ≡ map number_cells ns → IsRead result ns ⊤ }
 {

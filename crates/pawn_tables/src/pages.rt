@@ -21,10 +21,10 @@ use pawn_pledge::{Extensions, Secrets};
 use sqlite::{Alter, Transaction, params};
 use std::alloc::Global;
 
-/// How many rows a page has at most. A page with fewer is the last of its list.
+/// The most rows of a page. A page with fewer is the last of its list.
 pub const PAGE_ROWS: usize = 64;
 
-/// A page of the entries of a pledge, from a number on.
+/// A page of the entries of a pledge, from the number `from` on.
 pub fn entries_page<S: Alter>(
     tx: &mut Transaction<'_, S>,
     alloc: Global,
@@ -43,7 +43,7 @@ pub fn entries_page<S: Alter>(
     read_entries(alloc, &rows)
 }
 
-/// A page of the secrets of a pledge, behind a place. The first place is 1.
+/// A page of the secrets of a pledge, after the place `behind`. The first place is 1.
 pub fn secrets_page<S: Alter>(
     tx: &mut Transaction<'_, S>,
     alloc: Global,
@@ -62,7 +62,7 @@ pub fn secrets_page<S: Alter>(
     read_secrets(alloc, &rows)
 }
 
-/// A page of the extensions of a pledge, behind a place. The first place is 1.
+/// A page of the extensions of a pledge, after the place `behind`. The first place is 1.
 pub fn extensions_page<S: Alter>(
     tx: &mut Transaction<'_, S>,
     alloc: Global,

@@ -17,7 +17,7 @@ use crate::texts::{READ_ENTRY, READ_EXTENSION, READ_SECRET};
 use pawn_book::{Entry, Extension, Issued, KeepError};
 use sqlite::{Alter, Transaction, params};
 
-/// The entry of a pledge that has a number.
+/// The entry of a pledge with the number `seq`, if there is one.
 pub fn entry_in<S: Alter>(
     tx: &mut Transaction<'_, S>,
     book: u32,
@@ -35,7 +35,7 @@ pub fn entry_in<S: Alter>(
     first_entry(&rows)
 }
 
-/// The secret of a pledge at a place, and how it was issued. The first place is 1.
+/// The secret of a pledge at a place, and how it was issued, if there is one. The first place is 1.
 pub fn secret_in<S: Alter>(
     tx: &mut Transaction<'_, S>,
     book: u32,
@@ -53,7 +53,7 @@ pub fn secret_in<S: Alter>(
     first_issued(&rows)
 }
 
-/// The extension of a pledge at a place. The first place is 1.
+/// The extension of a pledge at a place, if there is one. The first place is 1.
 pub fn extension_in<S: Alter>(
     tx: &mut Transaction<'_, S>,
     book: u32,

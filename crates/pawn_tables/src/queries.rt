@@ -31,7 +31,7 @@ use sqlite::{Alter, Row, Transaction, params};
 use sqlite_value::value::ValueRef;
 use std::alloc::Global;
 
-/// The rows of a query. None of them is told to be no record, since none is read yet.
+/// Runs a query and gives its rows. It never answers `NoRecord`, since no row is read yet.
 pub(crate) fn rows_of<S: Alter>(
     tx: &mut Transaction<'_, S>,
     sql: &str,
@@ -51,7 +51,7 @@ pub(crate) fn rows_of<S: Alter>(
     }
 }
 
-/// The entries of a pledge.
+/// The entries of a pledge in order; none if there is no such pledge.
 pub fn entries_in<S: Alter>(
     tx: &mut Transaction<'_, S>,
     alloc: Global,
@@ -72,7 +72,7 @@ pub fn entries_in<S: Alter>(
     read_entries(alloc, &rows)
 }
 
-/// The secrets of a pledge.
+/// The secrets of a pledge in order; none if there is no such pledge.
 pub(crate) fn secrets_in<S: Alter>(
     tx: &mut Transaction<'_, S>,
     alloc: Global,
@@ -90,7 +90,7 @@ pub(crate) fn secrets_in<S: Alter>(
     read_secrets(alloc, &rows)
 }
 
-/// The extensions of a pledge.
+/// The extensions of a pledge in order; none if there is no such pledge.
 pub(crate) fn extensions_in<S: Alter>(
     tx: &mut Transaction<'_, S>,
     alloc: Global,
@@ -108,7 +108,7 @@ pub(crate) fn extensions_in<S: Alter>(
     read_extensions(alloc, &rows)
 }
 
-/// The booking of a pledge.
+/// The booking of a pledge, if it has one.
 pub fn booking_in<S: Alter>(
     tx: &mut Transaction<'_, S>,
     book: u32,
@@ -125,7 +125,7 @@ pub fn booking_in<S: Alter>(
     first_booking(&rows)
 }
 
-/// The totals of a pledge.
+/// The stored totals of a pledge, if there is such a pledge.
 pub(crate) fn totals_in<S: Alter>(
     tx: &mut Transaction<'_, S>,
     book: u32,
@@ -142,7 +142,7 @@ pub(crate) fn totals_in<S: Alter>(
     first_totals(&rows)
 }
 
-/// The terms of a version.
+/// The terms that a book has under a version, if it has any.
 pub fn terms_in<S: Alter>(
     tx: &mut Transaction<'_, S>,
     book: u32,
@@ -162,7 +162,7 @@ pub fn terms_in<S: Alter>(
     first_terms(&rows)
 }
 
-/// What the row of a pledge tells.
+/// What the row of a pledge holds, if there is such a pledge.
 pub(crate) fn row_in<S: Alter>(
     tx: &mut Transaction<'_, S>,
     alloc: Global,

@@ -15,7 +15,7 @@ use pawn_book::{Booking, Closing, Day, KeepError, Kind, Opening, Rates, Terms};
 use pawn_debt::Totals;
 use sqlite::Row;
 
-/// What the row of a pledge tells.
+/// What the row of a pledge holds.
 #[derive(Drop)]
 pub(crate) struct PledgeRow {
     pub opening: Opening,
@@ -39,7 +39,7 @@ pub(crate) fn kind_of(number: u64, credit: u64) -> Result<Kind, KeepError>
     }
 }
 
-/// The day of a number, if there is a number.
+/// The day with this number, if there is a number.
 pub(crate) fn optional_day(number: Option<u64>) -> Result<Option<Day>, KeepError>
     ensures read { IsRead result number (IfSome number IsDayNumber) }
 {

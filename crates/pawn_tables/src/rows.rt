@@ -11,7 +11,7 @@ use pawn_book::{Closing, KeepError, Opening};
 use sqlite::Row;
 use std::alloc::Global;
 
-// What was agreed on the pledge of a row.
+// The opening that the row of a pledge holds.
 fn opening_at(alloc: Global, row: &Row) -> Result<Opening, KeepError>
     ensures read { (p : PledgeValue) → row.now ≡ pledge_cells p → IsRead result p.agreement.opening
         (IsTold p.agreement.opening) }
@@ -43,7 +43,7 @@ fn closing_at(row: &Row) -> Result<Closing, KeepError>
     closing_of(closed, day, amount)
 }
 
-// What the row of a pledge tells.
+// What the row of a pledge holds.
 fn pledge_row(alloc: Global, row: &Row) -> Result<PledgeRow, KeepError>
     ensures read { (p : PledgeValue) → row.now ≡ pledge_cells p → IsRead result (row_of p)
         (IsRowTold p) }
@@ -66,7 +66,7 @@ fn pledge_row(alloc: Global, row: &Row) -> Result<PledgeRow, KeepError>
     })
 }
 
-/// What the first row tells of its pledge, if there is a row.
+/// What the first row holds of its pledge, if there is a row.
 pub(crate) fn first_pledge(alloc: Global, rows: &[Row]) -> Result<Option<PledgeRow>, KeepError>
     ensures read { (p : Option PledgeValue) → rows.now ≡ at_most_one pledge_cells p → IsRead result
         (option_map row_of p) (IfSome p IsRowTold) }

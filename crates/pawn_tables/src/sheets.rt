@@ -52,7 +52,8 @@ fn ends_in<S: Alter>(tx: &mut Transaction<'_, S>, book: u32, day: Day) -> Result
     only_count(&rows)
 }
 
-/// How many items a part of a day's sheet has. A window that 32 bits can't hold is a fault.
+/// How many items a part of a day's sheet has, its heading aside. `Database` is answered for a window that 32 bits
+/// cannot hold.
 pub fn count_in<S: Alter>(
     tx: &mut Transaction<'_, S>,
     book: u32,
@@ -73,7 +74,7 @@ pub fn count_in<S: Alter>(
     }
 }
 
-/// The windows in which somebody comes on a day, each once.
+/// The windows of a day that have a confirmed booking, each once. No order is promised.
 pub fn windows_in<S: Alter>(
     tx: &mut Transaction<'_, S>,
     alloc: Global,
@@ -157,8 +158,8 @@ fn ends_page<S: Alter>(
     read_lines(alloc, Part::Ends, &rows)
 }
 
-/// A page of the lines of a part of a day's sheet, of the pledges above a number. A window that 32 bits
-/// can't hold is a fault.
+/// A page of the lines of a part of a day's sheet, of the pledges above the number `above`. `Database` is answered for
+/// a window that 32 bits cannot hold.
 pub fn lines_page<S: Alter>(
     tx: &mut Transaction<'_, S>,
     alloc: Global,

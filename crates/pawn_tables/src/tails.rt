@@ -47,7 +47,7 @@ fn first_last(rows: &[Row]) -> Result<Option<LastSecret>, KeepError>
     Ok(Some(last_of(row)?))
 }
 
-// How many elements there are, by the first row, which tells the place of the last; none where there is no row.
+// How many elements there are: the first row has the place of the last, and without a row there are none.
 fn first_place(rows: &[Row]) -> Result<u64, KeepError>
     ensures read { (n : Option ℕ) → rows.now ≡ at_most_one number_cells n → IsRead result
         (unwrap_or n 0) ⊤ }
@@ -58,7 +58,7 @@ fn first_place(rows: &[Row]) -> Result<u64, KeepError>
     number_at(row, 0)
 }
 
-// How many entries a pledge has. They are counted, since the number of the last does not tell of one that is left out.
+// How many entries a pledge has. They are counted, since the number of the last does not show whether one is left out.
 fn entry_count<S: Alter>(
     tx: &mut Transaction<'_, S>,
     book: u32,
@@ -75,7 +75,7 @@ fn entry_count<S: Alter>(
     only_count(&rows)
 }
 
-// The last secret of a pledge, and its place.
+// The last secret of a pledge, and its place, if there is one.
 fn last_secret<S: Alter>(
     tx: &mut Transaction<'_, S>,
     book: u32,

@@ -1,8 +1,8 @@
 //! The texts of the statements, table by table: how a table is made, what is read of it, and what is put into it.
 //!
-//! No other source of the program names a column; `specs/Schema` says what the tables are. Each text stands once, and
-//! the proofs of what it means cite it by its name. How a value stands in a cell is written in `encoding.rt`, and read
-//! in `cells.rt`.
+//! No other source of the program names a column; `specs/Schema` says what the tables are. Each text is written once,
+//! and the proofs of what it means cite it by its name. How a value is written into a cell is said in `encoding.rt`,
+//! and how it is read in `cells.rt`.
 
 // ---- books
 
@@ -23,7 +23,7 @@ pub const READ_HEAD: &str = "\
     SELECT book_key, title, capacity, terms, pledges, import_key, imported \
     FROM books WHERE book = ?1";
 
-/// The least number of a book above one.
+/// The next book number above another.
 pub const FIND_NEXT_BOOK: &str = "SELECT book FROM books WHERE book > ?1 ORDER BY book LIMIT 1";
 
 /// Puts a new book.
@@ -35,7 +35,7 @@ pub const SET_TERMS_COUNT: &str = "UPDATE books SET terms = ?2 WHERE book = ?1";
 /// Sets how many pledges a book has.
 pub const SET_PLEDGES_COUNT: &str = "UPDATE books SET pledges = ?2 WHERE book = ?1";
 
-/// Notes an import in its book.
+/// Notes an import in its book: its key, and how many terms and pledges it brought.
 pub const SET_IMPORT: &str =
     "UPDATE books SET terms = ?2, pledges = ?3, import_key = ?4, imported = ?3 WHERE book = ?1";
 
@@ -93,7 +93,7 @@ pub const READ_PLEDGE: &str = "\
     closed, closed_day, amount \
     FROM pledges WHERE book = ?1 AND number = ?2";
 
-/// What was agreed on a pledge, as far as its debt goes.
+/// The part of what was agreed on a pledge that its debt depends on.
 pub const READ_CREDIT: &str =
     "SELECT kind, credit, taken, agreed, version FROM pledges WHERE book = ?1 AND number = ?2";
 
@@ -105,7 +105,7 @@ pub const FIND_REFERENCE: &str =
 pub const COUNT_ENDS: &str =
     "SELECT count(*) FROM pledges WHERE book = ?1 AND closed = 0 AND ends = ?2";
 
-/// A page of those periods, of the pledges above a number.
+/// A page of the pledges above a number whose period ends on a day, the redeemed and the sold aside.
 pub const READ_ENDS_PAGE: &str = "\
     SELECT number FROM pledges WHERE book = ?1 AND number > ?2 AND closed = 0 AND ends = ?3 \
     ORDER BY number LIMIT 64";
@@ -115,7 +115,7 @@ pub const PUT_PLEDGE: &str = "\
     INSERT INTO pledges VALUES \
     (?1, ?2, ?3, ?4, ?5, ?6, ?7, ?8, ?9, ?10, ?11, ?12, ?13, ?14, ?15, ?16)";
 
-/// Sets what changes in the row of a pledge, if any of it is another.
+/// Sets what can change in the row of a pledge, if any of it differs from what is stored.
 pub const SET_PLEDGE: &str = "\
     UPDATE pledges SET ends = ?3, held = ?4, last_day = ?5, closed = ?6, closed_day = ?7, \
     amount = ?8 \
@@ -175,7 +175,7 @@ pub const MAKE_SECRETS: &str = "\
 pub const READ_SECRETS: &str =
     "SELECT place, day, sort, secret FROM secrets WHERE book = ?1 AND number = ?2 ORDER BY place";
 
-/// A page of the secrets of a pledge, behind a place.
+/// A page of the secrets of a pledge, after a place.
 pub const READ_SECRETS_PAGE: &str = "\
     SELECT place, day, sort, secret FROM secrets WHERE book = ?1 AND number = ?2 AND place > ?3 \
     ORDER BY place LIMIT 64";
@@ -205,8 +205,8 @@ pub const MAKE_BOOKINGS: &str = "\
     PRIMARY KEY (book, number), \
     FOREIGN KEY (book, number) REFERENCES pledges) STRICT";
 
-/// Makes the index by which the bookings of a day are found. The number stands before the window, so that each page of a day comes in
-/// its order.
+/// Makes the index by which the bookings of a day are found. The number comes before the window in it, so that each
+/// page of a day comes in its order.
 pub const MAKE_BOOKINGS_BY_TIME: &str =
     "CREATE INDEX bookings_by_time ON bookings (book, day, state, number, slot)";
 
@@ -234,11 +234,11 @@ pub const READ_ASKED_PAGE: &str = "\
     AND state = 0 \
     ORDER BY number LIMIT 64";
 
-/// The windows of a day in which somebody comes, each once.
+/// The windows of a day that have a confirmed booking, each once.
 pub const READ_WINDOWS: &str =
     "SELECT DISTINCT slot FROM bookings WHERE book = ?1 AND day = ?2 AND state = 1 AND slot < 16";
 
-/// Puts the booking of a pledge, in place of the one that stands, if one does.
+/// Puts the booking of a pledge, in place of the one that it has, if it has one.
 pub const PUT_BOOKING: &str = "\
     INSERT INTO bookings VALUES (?1, ?2, ?3, ?4, ?5) \
     ON CONFLICT (book, number) DO UPDATE SET day = excluded.day, slot = excluded.slot, \
@@ -264,7 +264,7 @@ pub const READ_TOTALS: &str =
 /// Puts the totals of a new pledge.
 pub const PUT_TOTALS: &str = "INSERT INTO totals VALUES (?1, ?2, ?3, ?4, ?5)";
 
-/// Sets the totals of a pledge, if any of them is another.
+/// Sets the totals of a pledge, if any of them differs from what is stored.
 pub const SET_TOTALS: &str = "\
     UPDATE totals SET day = ?3, principal = ?4, charges = ?5 \
     WHERE book = ?1 AND number = ?2 AND (day IS NOT ?3 OR principal IS NOT ?4 \
@@ -287,7 +287,7 @@ pub const MAKE_EXTENSIONS: &str = "\
 pub const READ_EXTENSIONS: &str =
     "SELECT place, day, until_day FROM extensions WHERE book = ?1 AND number = ?2 ORDER BY place";
 
-/// A page of the extensions of a pledge, behind a place.
+/// A page of the extensions of a pledge, after a place.
 pub const READ_EXTENSIONS_PAGE: &str = "\
     SELECT place, day, until_day FROM extensions WHERE book = ?1 AND number = ?2 AND place > ?3 \
     ORDER BY place LIMIT 64";
@@ -309,7 +309,7 @@ pub const PUT_EXTENSION: &str = "INSERT INTO extensions VALUES (?1, ?2, ?3, ?4, 
 pub const MAKE_META: &str =
     "CREATE TABLE meta (name TEXT PRIMARY KEY NOT NULL, value INTEGER NOT NULL) STRICT";
 
-/// The number of the schema.
+/// The number of the store's schema.
 pub const READ_SCHEMA: &str = "SELECT value FROM meta WHERE name = 'schema'";
 
 /// The limit on the rows.
@@ -324,5 +324,5 @@ pub const PUT_NOTE: &str = "INSERT INTO meta VALUES (?1, ?2)";
 /// Notes another number of the schema.
 pub const SET_SCHEMA: &str = "UPDATE meta SET value = ?1 WHERE name = 'schema'";
 
-/// Counts so many rows more, and tells how many are counted then.
+/// Adds to the count of rows, and returns the new count.
 pub const ADD_ROWS: &str = "UPDATE meta SET value = value + ?1 WHERE name = 'rows' RETURNING value";

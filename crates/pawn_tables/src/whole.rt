@@ -19,7 +19,8 @@ use pawn_book::{KeepError, Number, Pledge, Terms};
 use sqlite::{Alter, Transaction};
 use std::alloc::Global;
 
-/// The terms of a version. None stand under 0, nor under a version that 32 bits can't hold.
+/// The terms that a book has under a version, if it has any. There are none under 0, nor under a version that 32 bits
+/// cannot hold.
 pub fn terms_under<S: Alter>(
     tx: &mut Transaction<'_, S>,
     book: u32,
@@ -63,7 +64,7 @@ pub(crate) fn lists_in<S: Alter>(
     })
 }
 
-/// What the tables beside its row tell of a pledge.
+/// What the tables beside its row hold of a pledge.
 #[tactic(auto, using(crate::proofs::Lent::lent_then))]
 pub(crate) fn sides_in<S: Alter>(
     tx: &mut Transaction<'_, S>,
@@ -89,7 +90,7 @@ pub(crate) fn sides_in<S: Alter>(
     })
 }
 
-/// What the row of a pledge tells, and what the tables beside it tell, if the pledge stands.
+/// What the row of a pledge and the tables beside it hold, if there is such a pledge.
 #[tactic(auto, using(crate::proofs::Lent::lent_then))]
 pub(crate) fn told_in<S: Alter>(
     tx: &mut Transaction<'_, S>,
@@ -114,7 +115,8 @@ pub(crate) fn told_in<S: Alter>(
     Ok(Some(Told { row, sides }))
 }
 
-/// The pledge of a number. Its stored totals and its end are compared with those that follow from its record.
+/// The pledge with this number in a book, if there is one. Its stored totals and end are compared with those that
+/// follow from its record, and `NoRecord` is answered if they differ.
 #[tactic(auto, using(crate::proofs::Lent::lent_then))]
 pub fn pledge_of<S: Alter>(
     tx: &mut Transaction<'_, S>,

@@ -12,7 +12,7 @@ use pawn_book::KeepError;
 use sqlite::{Alter, Transaction};
 use sqlite_value::value::ValueRef;
 
-/// Runs a statement that shows no rows.
+/// Runs a statement that shows no rows. It never answers `NoRecord`.
 pub fn write<S: Alter>(
     tx: &mut Transaction<'_, S>,
     sql: &str,

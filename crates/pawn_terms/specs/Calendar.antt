@@ -36,7 +36,7 @@ unfoldable pub civil_after : ℕ → Civil
 civil_after zero = record { year = 2000; month = 1; day = 1 }
 civil_after (suc n) = next_day (civil_after n)
 
--- a number that is a day's
+-- the number of a day from 2000-01-01 to 2299-12-31
 abbrev pub IsDayNumber : ℕ → Type 0
 IsDayNumber n = (first_day ≤ n) × (n ≤ final_day)
 
@@ -74,7 +74,8 @@ abbrev pub later_of : ℕ → Option ℕ → ℕ
 later_of day None = day
 later_of day (Some other) = max day other
 
--- the end of a period: the latest of six months after the day taken, the agreed end, and the end that an extension agreed last
+-- the end of a period: the latest of six months after the day taken, the agreed end, and the end that an extension
+-- agreed last
 abbrev pub period_end : ℕ → Option ℕ → Option ℕ → ℕ
 period_end taken agreed extended = later_of (later_of (six_months taken) agreed) extended
 
@@ -83,7 +84,7 @@ abbrev pub IsStampCivil : Civil → Type 0
 IsStampCivil c =
     IsInRange 2000 2199 c.year × IsInRange 1 12 c.month × IsInRange 1 (month_length c.year c.month) c.day
 
--- a day's number that a request may name
+-- the number of a day that a request may name
 abbrev pub IsStampDay : ℕ → Type 0
 IsStampDay n = (first_day ≤ n) × (n ≤ last_stamp_day)
 

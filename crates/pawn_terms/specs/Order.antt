@@ -1,12 +1,12 @@
 -- Lists along which a number does not fall.
 use Rattle.std.specs.Prelude.{ℕ, ◌≤◌, List, [], ◌∷◌}
 
--- f is nowhere less than at the one before it, nor than a number at the first
+-- f does not fall from one element to the next, and is at least n at the first
 abbrev pub DoNotFall : {A : Type 0} → (A → ℕ) → ℕ → List A → Type 0
 DoNotFall f n [] = Unit {0}
 DoNotFall f n (x ∷ xs) = (n ≤ f x) × DoNotFall f (f x) xs
 
--- f of the last, or the number before them all
+-- f of the last element, or n where the list is empty
 abbrev pub last_by : {A : Type 0} → (A → ℕ) → ℕ → List A → ℕ
 last_by f n [] = n
 last_by f n (x ∷ xs) = last_by f (f x) xs

@@ -1,4 +1,4 @@
--- Refusals in order.
+-- Refusals in order: the first condition that holds decides.
 use Rattle.std.specs.Prelude.{◌≡◌, ◌⊎◌, Bool, false, if◌then◌else◌, List, [], ◌∷◌, Result, Ok, Err, IsOk}
 
 -- the first refusal whose condition holds, or else the answer
@@ -11,11 +11,11 @@ abbrev pub NoneApplies : {E : Type 0} → List (Bool × E) → Type 0
 NoneApplies [] = Unit {0}
 NoneApplies (row ∷ rows) = (row.0 ≡ false) × NoneApplies rows
 
--- the answer is what the rules say, or it has an excuse: memory was wanting, or what was asked did not answer
+-- the answer is what the rules say, or an error that has an excuse: memory was refused, or a keeper did not answer
 abbrev pub IsSaid : {V E : Type 0} → (E → Type 0) → Result V E → Result V E → Type 0
 IsSaid excuse said (Ok value) = said ≡ Ok value
 IsSaid excuse said (Err why) = excuse why ⊎ (said ≡ Err why)
 
--- memory was wanting in place of an acceptance
+-- memory was refused where the rules would have accepted
 abbrev pub IsWant : {V E : Type 0} → E → Result V E → E → Type 0
 IsWant memory said why = (why ≡ memory) × IsOk said

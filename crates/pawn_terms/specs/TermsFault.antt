@@ -1,4 +1,4 @@
--- Why three numbers are no terms.
+-- Why three numbers are refused as terms.
 use Rattle.std.specs.Prelude.{ℕ, List, [], ◌∷◌, nat_lt, ◌||◌, Result, Ok, codes}
 use Rattle.pawn_terms.specs.Refusals.{first_of}
 use Rattle.pawn_terms.specs.declared.terms.Rates.{Rates}

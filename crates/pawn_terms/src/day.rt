@@ -13,7 +13,7 @@ use std::error::Error;
 use std::fmt;
 use std::marker::Model;
 
-/// No day, or a day out of range.
+/// What was given names no day, or a day out of range.
 #[derive(Clone, Copy, Debug, PartialEq, Eq)]
 pub struct BadDay;
 
@@ -78,7 +78,7 @@ impl Day {
         self.number
     }
 
-    /// The day of a number, counted from 1970-01-01.
+    /// The day with this number, counted from 1970-01-01. `BadDay` if it is not from 2000-01-01 to 2299-12-31.
     pub fn of_number(number: i32) -> Result<Day, BadDay>
         ensures ok { IfOk result (λ d. pos d ≡ number) }
         ensures succeeds { IsOk result ↔ ((n : ℕ) × (number ≡ pos n) × IsDayNumber n) }
@@ -91,7 +91,7 @@ impl Day {
         })
     }
 
-    /// The day so many days later.
+    /// The day this many days later, which must not be past 2299-12-31.
     pub fn plus_days(self, days: u32) -> Day
         requires within { self + days ≤ final_day }
         ensures value { result ≡ self + days }
@@ -120,7 +120,8 @@ impl Day {
         civil::Date::from_unix_epoch_day(self.number as i64).unwrap()
     }
 
-    /// The day of a year, a month and a day of the month, up to 2199-12-31.
+    /// The day of a year, a month and a day of the month. `BadDay` if the calendar has no such day, or it is not from
+    /// 2000-01-01 to 2199-12-31.
     pub fn from_ymd(year: u16, month: u8, day: u8) -> Result<Day, BadDay>
         ensures succeeds { IsOk result ↔ IsStampCivil
             (record { year = year; month = month; day = day }) }
@@ -139,7 +140,8 @@ impl Day {
         }
     }
 
-    /// The day of a text `2024-01-31`, of exactly this form, up to 2199-12-31.
+    /// The day that a text such as `2024-01-31` names, in exactly this form. `BadDay` for any other text, and for a day
+    /// that is not from 2000-01-01 to 2199-12-31.
     pub fn of_text(text: &[u8]) -> Result<Day, BadDay>
         ensures ok { IfOk result (λ d. (text.now ≡ day_text d) × IsStampDay d) }
         ensures succeeds { IsOk result ↔ ((n : ℕ) × IsStampDay n × (text.now ≡ day_text n)) }
@@ -150,14 +152,14 @@ impl Day {
         }
     }
 
-    /// The text `2024-01-31`.
+    /// The text of the day, such as `2024-01-31`.
     pub fn text(self) -> [u8; 10]
         ensures value { result ≡ day_text self }
     {
         date_text(self.date())
     }
 
-    /// The same day six calendar months later, or that month's last day where it is shorter.
+    /// The same day six calendar months later, or the last day of that month if it is shorter.
     pub fn six_months_after(self) -> Day
         requires within { self ≤ last_stamp_day }
         ensures value { result ≡ six_months self }
@@ -165,7 +167,7 @@ impl Day {
         Day::of_date(six_months_on(self.date()))
     }
 
-    // The later of this day and another, where there is one.
+    // The later of this day and another, if there is another.
     fn later_of(self, other: Option<Day>) -> Day
         ensures value { result ≡ later_of self other }
     {

@@ -23,7 +23,7 @@ impl Model for RequestDay {
 }
 
 impl RequestDay {
-    /// The same day, where it is not past 2199-12-31.
+    /// This day as one that a request may name. `BadDay` if it is past 2199-12-31.
     pub fn of_day(day: Day) -> Result<RequestDay, BadDay>
         ensures ok { IfOk result (λ d. d ≡ day) }
         ensures succeeds { IsOk result ↔ IsStampDay day }
@@ -34,7 +34,8 @@ impl RequestDay {
         Ok(RequestDay { day })
     }
 
-    /// The day of a text `2024-01-31`, of exactly this form.
+    /// The day that a text such as `2024-01-31` names, in exactly this form. `BadDay` for any other text, and for a day
+    /// that is not from 2000-01-01 to 2199-12-31.
     pub fn of_text(text: &[u8]) -> Result<RequestDay, BadDay>
         ensures ok { IfOk result (λ d. text.now ≡ day_text d) }
         ensures succeeds { IsOk result ↔ ((n : ℕ) × IsStampDay n × (text.now ≡ day_text n)) }
@@ -43,7 +44,7 @@ impl RequestDay {
         Ok(RequestDay { day })
     }
 
-    /// The same day among all days.
+    /// The same day as a `Day`.
     pub fn day(self) -> Day
         ensures value { result ≡ self }
         ensures in_range { IsStampDay self }

@@ -6,10 +6,10 @@ use std::error::Error;
 use std::fmt;
 use std::marker::Model;
 
-/// Why three numbers are no terms.
+/// Why three numbers are refused as terms.
 #[derive(Clone, Copy, Debug, PartialEq, Eq)]
 pub enum TermsFault {
-    /// Above 20,000 millionths per day.
+    /// A rate of interest above 20,000 millionths per day.
     RateTooHigh,
     /// A charge for safe keeping above 10,000,000 millionths of a penny per day.
     KeepTooHigh,
@@ -87,9 +87,9 @@ impl Rates {
     }
 }
 
-/// Checked terms of an agreement: a rate of at most 20,000 millionths per day, and charges for safe
-/// keeping of at most 10,000,000 millionths of a penny per day, not higher after the end of the
-/// period than before it. A clause sees their three numbers.
+/// Checked terms of an agreement. The rate is at most 20,000 millionths per day, and each charge for safe keeping at
+/// most 10,000,000 millionths of a penny per day. Safe keeping is not dearer after the end of the period than before
+/// it. A clause sees their three numbers.
 #[derive(Clone, Copy, Debug, PartialEq, Eq)]
 pub struct Terms {
     rates: Rates,
@@ -126,7 +126,7 @@ impl Terms {
         rates.check()
     }
 
-    /// The three numbers.
+    /// The rate of interest and the two charges for safe keeping.
     pub fn rates(self) -> Rates
         ensures value { result ≡ self }
         ensures checked { IsChecked self }

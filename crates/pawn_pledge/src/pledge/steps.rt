@@ -16,8 +16,8 @@ use crate::status::is_small;
 use pawn_debt::{Day, DebtFault, Entry, MOST_PENCE, Sort};
 
 impl Pledge {
-    /// One command: what it answers, or the first refusal that applies. Where it is refused, the
-    /// pledge is unchanged. Memory is wanted for an entry, a secret or an extension alone.
+    /// Carries out one command, and gives its answer or the first refusal that applies. If it is refused, the pledge is
+    /// unchanged. `Memory` refuses only a command that adds an entry, a secret or an extension.
     pub fn apply(&mut self, stamp: &Stamp, command: &Command) -> Result<Done, Refusal>
         ensures step { IsStep (pledge_step self.old stamp.now command.now) self.old result
             self.new }
@@ -28,8 +28,8 @@ impl Pledge {
         }
     }
 
-    /// The same, and whether the command changed the pledge: one that was made already is answered
-    /// again and changes nothing.
+    /// Carries out one command as `apply` does, and also reports whether it changed the pledge. Some commands that ask
+    /// for what is so already, such as an entry sent again, are answered and change nothing.
     pub fn apply_telling(&mut self, stamp: &Stamp, command: &Command) -> Result<Applied, Refusal>
         ensures step { IsApplied (pledge_step self.old stamp.now command.now) self.old result
             self.new }
@@ -53,7 +53,8 @@ impl Pledge {
         }
     }
 
-    // What bars every command.
+    // The refusals that all commands share: a day before the last change, a closed pledge, and one that has passed. An
+    // entry that is sent again is answered before it meets them.
     fn gate(&self, day: Day) -> Result<(), Refusal>
         ensures answer { result ≡ first_of (bars self.now day) (Ok tt) }
         ensures later { OnOk result (self.now.standing.last ≤ day) }
@@ -70,7 +71,7 @@ impl Pledge {
         Ok(())
     }
 
-    // A drawing or a repayment. One whose number stands already is answered as the first time.
+    // A drawing or a repayment. One whose number is taken is answered as the first time, or refused if it differs.
     fn enter(&mut self, day: Day, seq: u64, sort: Sort, pence: u64) -> Result<Applied, Refusal>
         ensures step { IsApplied (numbered_step self.old day seq sort pence (entry_of self.old seq))
             self.old result self.new }
@@ -79,7 +80,7 @@ impl Pledge {
         self.enter_once(standing, day, seq, sort, pence)
     }
 
-    // The same, with the entry of that number, if there is one.
+    // Does what `enter` does, given the entry that has this number already, if there is one.
     fn enter_once(
         &mut self,
         standing: Option<Entry>,
@@ -151,7 +152,7 @@ impl Pledge {
         Ok(Applied::of_change(Done::Entered(entry)))
     }
 
-    // Sets the flag that bars redemption.
+    // Sets or clears the flag that bars redemption. If it is so already, nothing changes.
     fn hold(&mut self, day: Day, flag: bool) -> Result<Applied, Refusal>
         ensures step { IsApplied (unless (bars self.old day) (hold_step self.old day flag)) self.old
             result self.new }
@@ -181,7 +182,7 @@ impl Pledge {
         self.issue(issued)
     }
 
-    // What is refused for a declaration alone.
+    // The refusals that only a declaration can meet.
     fn may_declare(&self, paper: Paper, issued: &Issued) -> Result<(), Refusal>
         ensures answer { result ≡ first_of (declare_bars self.now paper issued.now.secret) (Ok tt) }
         ensures few { OnOk result (length self.now.secrets < most_secrets) }
@@ -198,7 +199,7 @@ impl Pledge {
         Ok(())
     }
 
-    // Issues a secret.
+    // Adds a secret to the pledge, as its new live one.
     fn issue(&mut self, issued: Issued) -> Result<Applied, Refusal>
         requires few { length self.old.secrets < most_secrets }
         requires later { self.old.standing.last ≤ issued.day }
@@ -216,7 +217,7 @@ impl Pledge {
         }
     }
 
-    // Keeps a booking.
+    // Puts a booking in place of any other.
     fn book(&mut self, day: Day, booking: &Booking) -> Result<Applied, Refusal>
         requires later { self.old.standing.last ≤ day }
         ensures step { IsApplied (makes_booking self.old day booking.now) self.old result self.new }
@@ -244,7 +245,8 @@ impl Pledge {
         self.ask_once(day, wanted, window)
     }
 
-    // The same, where nothing is to be refused any more.
+    // Asks for a booking that nothing bars. One that is asked for or confirmed already, for this day and window, is
+    // answered again.
     fn ask_once(&mut self, day: Day, wanted: Day, window: u64) -> Result<Applied, Refusal>
         requires later { self.old.standing.last ≤ day }
         ensures step { IsApplied (ask_once self.old day wanted window self.old.standing.booking)
@@ -263,7 +265,7 @@ impl Pledge {
         self.book(day, &asked)
     }
 
-    // Gives a booking up.
+    // Cancels the booking. One that is cancelled already is answered again.
     fn cancel(&mut self, day: Day) -> Result<Applied, Refusal>
         ensures step { IsApplied (unless (bars self.old day)
             (cancel_step self.old day self.old.standing.booking)) self.old result self.new }
@@ -392,7 +394,7 @@ impl Pledge {
         self.extend_once(Extension { day, until })
     }
 
-    // The same, where nothing is to be refused any more.
+    // Agrees on a later end that nothing bars but refused memory.
     fn extend_once(&mut self, extension: Extension) -> Result<Applied, Refusal>
         requires later { self.old.standing.last ≤ extension.day }
         requires inside { extension.day ≤ end_of self.old }
@@ -471,7 +473,7 @@ fn booking_after(booking: Option<Booking>) -> Option<Booking>
     }
 }
 
-// Whether an entry that stands is asked for again.
+// Whether an entry has this sort and sum, so that asking for it is a repeat.
 fn is_repeat(entry: &Entry, sort: Sort, pence: u64) -> bool
     ensures value { result ≡ is_repeat entry.now sort pence }
 {

@@ -57,7 +57,8 @@ fn counts_of(tails: Tails) -> Counts
     }
 }
 
-// The fields of the brief of what was read of a pledge, where it has a secret, and the end of its period is a day.
+// The fields of the brief of what was read of a pledge. The pledge must have terms, totals and a secret, and the end of
+// its period must be a day.
 fn fields_of(
     number: Number,
     row: PledgeRow,
@@ -95,7 +96,7 @@ fn fields_of(
     })
 }
 
-/// The brief of what was read of a pledge, where it is within the limits.
+/// The brief of what was read of a pledge, if it is within the limits; otherwise `NoRecord`.
 pub(crate) fn join(
     number: Number,
     row: PledgeRow,

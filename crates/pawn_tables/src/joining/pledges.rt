@@ -11,7 +11,7 @@ use crate::records::PledgeRow;
 use pawn_book::{Agreement, Booking, KeepError, Number, Parts, Pledge, Standing, Terms};
 use pawn_debt::Totals;
 
-// Whether the end of the period and the totals are the pledge's.
+// Whether the stored end of the period and totals are those that follow from the pledge's record.
 fn agrees(pledge: &Pledge, ends: u64, totals: Totals) -> bool
     ensures answer { IsTrue result ↔
         ((ends ≡ end_of pledge.now) × (totals ≡ totals_of (debt_of pledge.now))) }
@@ -28,7 +28,7 @@ pub(super) fn ends_of(row: &PledgeRow) -> u64
     row.ends
 }
 
-// What was agreed on a pledge, and how it stands, of what was read.
+// The agreement and the standing of a pledge, put together from what was read.
 pub(super) fn record_of(
     number: Number,
     row: PledgeRow,
@@ -64,7 +64,7 @@ pub(super) fn record_of(
     (agreement, standing)
 }
 
-// The record of what was read.
+// The record of a pledge, put together from what was read.
 fn parts_of(
     number: Number,
     row: PledgeRow,
@@ -90,7 +90,8 @@ fn parts_of(
     }
 }
 
-/// The pledge of what was read of it, where its end and its totals are those that were stored.
+/// The pledge of what was read of it. `NoRecord` if no pledge can have this record, or if the stored end or totals are
+/// not those that follow from it.
 pub(crate) fn join(
     number: Number,
     row: PledgeRow,
