@@ -16,7 +16,8 @@ use crate::rows::BookRows;
 use pawn_pledge::{Number, Secret};
 use std::marker::Model;
 
-/// Rows that can fill a book: `replayable` was true of them. A contract sees the rows.
+/// Rows that can fill a book: `replayable` was true of them, so `plan` need not judge them again. A contract sees the
+/// rows.
 #[derive(Drop)]
 pub struct ReplayableRows {
     rows: BookRows,

@@ -13,7 +13,8 @@ pub fn repeats_act_once()
     ensures law { RepeatsActOnce }
 {}
 
-/// A drawing or a repayment is entered once under its number, however often it is asked for, and by whomever.
+/// A drawing or a repayment is entered once under its number, however often it is asked for, and by whomever. The law
+/// speaks of sound books, whose entries have no gap.
 pub fn entries_act_once()
     ensures law { BookEntriesActOnce }
     ensures for_all { EntriesActOnceForAll }

@@ -23,7 +23,8 @@ pub enum Refusal {
     NotRealisable,
     /// A written statement on a credit that is not small.
     NotSmall,
-    /// The new secret is one of the pledge's already.
+    /// The new secret is one of the pledge's already. Another pledge's is not refused, since that would reveal that it
+    /// is one.
     SecretUsed,
     /// The pledge has as many secrets as it may have.
     DeclarationsFull,

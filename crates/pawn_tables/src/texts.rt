@@ -19,12 +19,12 @@ pub const MAKE_BOOKS: &str = "\
     imported INTEGER) STRICT";
 
 /// The head of a book.
-pub const READ_HEAD: &str = "\
+pub(crate) const READ_HEAD: &str = "\
     SELECT book_key, title, capacity, terms, pledges, import_key, imported \
     FROM books WHERE book = ?1";
 
 /// The next book number above another.
-pub const FIND_NEXT_BOOK: &str = "SELECT book FROM books WHERE book > ?1 ORDER BY book LIMIT 1";
+pub(crate) const FIND_NEXT_BOOK: &str = "SELECT book FROM books WHERE book > ?1 ORDER BY book LIMIT 1";
 
 /// Puts a new book.
 pub const PUT_BOOK: &str = "INSERT INTO books VALUES (?1, ?2, ?3, ?4, 0, 0, NULL, NULL)";
@@ -52,7 +52,7 @@ pub const MAKE_TERMS: &str = "\
     PRIMARY KEY (book, version)) STRICT";
 
 /// The terms of a version.
-pub const READ_TERMS: &str =
+pub(crate) const READ_TERMS: &str =
     "SELECT rate, keep_before, keep_after FROM terms WHERE book = ?1 AND version = ?2";
 
 /// Puts the terms of a version.
@@ -88,25 +88,25 @@ pub const MAKE_PLEDGES_BY_END: &str =
     "CREATE INDEX pledges_by_end ON pledges (book, closed, ends, number)";
 
 /// The row of a pledge.
-pub const READ_PLEDGE: &str = "\
+pub(crate) const READ_PLEDGE: &str = "\
     SELECT ref, article, kind, credit, taken, agreed, five, version, ends, held, last_day, \
     closed, closed_day, amount \
     FROM pledges WHERE book = ?1 AND number = ?2";
 
 /// The part of what was agreed on a pledge that its debt depends on.
-pub const READ_CREDIT: &str =
+pub(crate) const READ_CREDIT: &str =
     "SELECT kind, credit, taken, agreed, version FROM pledges WHERE book = ?1 AND number = ?2";
 
 /// The number of the first pledge of a book with a reference.
-pub const FIND_REFERENCE: &str =
+pub(crate) const FIND_REFERENCE: &str =
     "SELECT number FROM pledges WHERE book = ?1 AND ref = ?2 ORDER BY number LIMIT 1";
 
 /// How many periods end on a day, those of the redeemed and the sold aside.
-pub const COUNT_ENDS: &str =
+pub(crate) const COUNT_ENDS: &str =
     "SELECT count(*) FROM pledges WHERE book = ?1 AND closed = 0 AND ends = ?2";
 
 /// A page of the pledges above a number whose period ends on a day, the redeemed and the sold aside.
-pub const READ_ENDS_PAGE: &str = "\
+pub(crate) const READ_ENDS_PAGE: &str = "\
     SELECT number FROM pledges WHERE book = ?1 AND number > ?2 AND closed = 0 AND ends = ?3 \
     ORDER BY number LIMIT 64";
 
@@ -138,20 +138,20 @@ pub const MAKE_ENTRIES: &str = "\
     FOREIGN KEY (book, number) REFERENCES pledges) STRICT";
 
 /// The entries of a pledge.
-pub const READ_ENTRIES: &str =
+pub(crate) const READ_ENTRIES: &str =
     "SELECT seq, day, sort, pence FROM entries WHERE book = ?1 AND number = ?2 ORDER BY seq";
 
 /// A page of the entries of a pledge, from a number on.
-pub const READ_ENTRIES_PAGE: &str = "\
+pub(crate) const READ_ENTRIES_PAGE: &str = "\
     SELECT seq, day, sort, pence FROM entries WHERE book = ?1 AND number = ?2 AND seq >= ?3 \
     ORDER BY seq LIMIT 64";
 
 /// The entry of a pledge that has a number.
-pub const READ_ENTRY: &str =
+pub(crate) const READ_ENTRY: &str =
     "SELECT seq, day, sort, pence FROM entries WHERE book = ?1 AND number = ?2 AND seq = ?3";
 
 /// How many entries a pledge has.
-pub const COUNT_ENTRIES: &str = "SELECT count(*) FROM entries WHERE book = ?1 AND number = ?2";
+pub(crate) const COUNT_ENTRIES: &str = "SELECT count(*) FROM entries WHERE book = ?1 AND number = ?2";
 
 /// Puts an entry of a pledge.
 pub const PUT_ENTRY: &str = "INSERT INTO entries VALUES (?1, ?2, ?3, ?4, ?5, ?6)";
@@ -172,20 +172,20 @@ pub const MAKE_SECRETS: &str = "\
     FOREIGN KEY (book, number) REFERENCES pledges) STRICT";
 
 /// The secrets of a pledge.
-pub const READ_SECRETS: &str =
+pub(crate) const READ_SECRETS: &str =
     "SELECT place, day, sort, secret FROM secrets WHERE book = ?1 AND number = ?2 ORDER BY place";
 
 /// A page of the secrets of a pledge, after a place.
-pub const READ_SECRETS_PAGE: &str = "\
+pub(crate) const READ_SECRETS_PAGE: &str = "\
     SELECT place, day, sort, secret FROM secrets WHERE book = ?1 AND number = ?2 AND place > ?3 \
     ORDER BY place LIMIT 64";
 
 /// The secret of a pledge at a place.
-pub const READ_SECRET: &str =
+pub(crate) const READ_SECRET: &str =
     "SELECT place, day, sort, secret FROM secrets WHERE book = ?1 AND number = ?2 AND place = ?3";
 
 /// The last secret of a pledge.
-pub const READ_LAST_SECRET: &str = "\
+pub(crate) const READ_LAST_SECRET: &str = "\
     SELECT place, day, sort, secret FROM secrets WHERE book = ?1 AND number = ?2 \
     ORDER BY place DESC LIMIT 1";
 
@@ -211,31 +211,31 @@ pub const MAKE_BOOKINGS_BY_TIME: &str =
     "CREATE INDEX bookings_by_time ON bookings (book, day, state, number, slot)";
 
 /// The booking of a pledge.
-pub const READ_BOOKING: &str =
+pub(crate) const READ_BOOKING: &str =
     "SELECT day, slot, state FROM bookings WHERE book = ?1 AND number = ?2";
 
 /// How many bookings are confirmed for a window of a day.
-pub const COUNT_CONFIRMED: &str =
+pub(crate) const COUNT_CONFIRMED: &str =
     "SELECT count(*) FROM bookings WHERE book = ?1 AND day = ?2 AND slot = ?3 AND state = 1";
 
 /// A page of those bookings, of the pledges above a number.
-pub const READ_CONFIRMED_PAGE: &str = "\
+pub(crate) const READ_CONFIRMED_PAGE: &str = "\
     SELECT number FROM bookings WHERE book = ?1 AND number > ?2 AND day = ?3 \
     AND slot = ?4 AND state = 1 \
     ORDER BY number LIMIT 64";
 
 /// How many bookings are asked for a day.
-pub const COUNT_ASKED: &str =
+pub(crate) const COUNT_ASKED: &str =
     "SELECT count(*) FROM bookings WHERE book = ?1 AND day = ?2 AND state = 0";
 
 /// A page of those bookings, of the pledges above a number.
-pub const READ_ASKED_PAGE: &str = "\
+pub(crate) const READ_ASKED_PAGE: &str = "\
     SELECT number, slot FROM bookings WHERE book = ?1 AND number > ?2 AND day = ?3 \
     AND state = 0 \
     ORDER BY number LIMIT 64";
 
 /// The windows of a day that have a confirmed booking, each once.
-pub const READ_WINDOWS: &str =
+pub(crate) const READ_WINDOWS: &str =
     "SELECT DISTINCT slot FROM bookings WHERE book = ?1 AND day = ?2 AND state = 1 AND slot < 16";
 
 /// Puts the booking of a pledge, in place of the one that it has, if it has one.
@@ -258,7 +258,7 @@ pub const MAKE_TOTALS: &str = "\
     FOREIGN KEY (book, number) REFERENCES pledges) STRICT";
 
 /// The totals of a pledge.
-pub const READ_TOTALS: &str =
+pub(crate) const READ_TOTALS: &str =
     "SELECT day, principal, charges FROM totals WHERE book = ?1 AND number = ?2";
 
 /// Puts the totals of a new pledge.
@@ -284,20 +284,20 @@ pub const MAKE_EXTENSIONS: &str = "\
     FOREIGN KEY (book, number) REFERENCES pledges) STRICT";
 
 /// The extensions of a pledge.
-pub const READ_EXTENSIONS: &str =
+pub(crate) const READ_EXTENSIONS: &str =
     "SELECT place, day, until_day FROM extensions WHERE book = ?1 AND number = ?2 ORDER BY place";
 
 /// A page of the extensions of a pledge, after a place.
-pub const READ_EXTENSIONS_PAGE: &str = "\
+pub(crate) const READ_EXTENSIONS_PAGE: &str = "\
     SELECT place, day, until_day FROM extensions WHERE book = ?1 AND number = ?2 AND place > ?3 \
     ORDER BY place LIMIT 64";
 
 /// The extension of a pledge at a place.
-pub const READ_EXTENSION: &str =
+pub(crate) const READ_EXTENSION: &str =
     "SELECT place, day, until_day FROM extensions WHERE book = ?1 AND number = ?2 AND place = ?3";
 
 /// The place of the last extension of a pledge.
-pub const READ_LAST_PLACE: &str =
+pub(crate) const READ_LAST_PLACE: &str =
     "SELECT place FROM extensions WHERE book = ?1 AND number = ?2 ORDER BY place DESC LIMIT 1";
 
 /// Puts an extension of a pledge at its place.
@@ -316,7 +316,7 @@ pub const READ_SCHEMA: &str = "SELECT value FROM meta WHERE name = 'schema'";
 pub const READ_LIMIT: &str = "SELECT value FROM meta WHERE name = 'limit'";
 
 /// How many rows are counted.
-pub const READ_ROWS: &str = "SELECT value FROM meta WHERE name = 'rows'";
+pub(crate) const READ_ROWS: &str = "SELECT value FROM meta WHERE name = 'rows'";
 
 /// Notes a number under a name.
 pub const PUT_NOTE: &str = "INSERT INTO meta VALUES (?1, ?2)";

@@ -1,7 +1,8 @@
 -- Lists along which a number does not fall.
 use Rattle.std.specs.Prelude.{ℕ, ◌≤◌, List, [], ◌∷◌}
 
--- f does not fall from one element to the next, and is at least n at the first
+-- f does not fall from one element to the next, and is at least n at the first; by recursion, so that it computes
+-- along a list that is given
 abbrev pub DoNotFall : {A : Type 0} → (A → ℕ) → ℕ → List A → Type 0
 DoNotFall f n [] = Unit {0}
 DoNotFall f n (x ∷ xs) = (n ≤ f x) × DoNotFall f (f x) xs

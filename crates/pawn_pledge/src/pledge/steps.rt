@@ -330,7 +330,7 @@ impl Pledge {
         }
     }
 
-    // Closes the pledge on payment of what is owed.
+    // Closes the pledge on payment of what is owed, which is 0 for an account that was never drawn on.
     fn redeem(&mut self, day: Day, paid: u64) -> Result<Applied, Refusal>
         ensures step { IsApplied (unless (bars self.old day) (redeem_step self.old day paid))
             self.old result self.new }
