@@ -6,7 +6,7 @@ use crate::fault::MoveFault;
 use pawn_opening::{SCHEMA, schema_noted};
 use sqlite::{Alter, Connection};
 
-// The noted number of a schema, if it is 1 to the program's.
+// The number that a store notes, if it is that of a schema from 1 to the program's.
 fn judge(noted: Option<u64>) -> Result<u32, MoveFault>
     ensures judged { IsNumberJudged noted result }
 {

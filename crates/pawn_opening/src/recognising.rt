@@ -39,8 +39,8 @@ pub fn schema_noted<S: Alter>(conn: &mut Connection<S>) -> Result<Option<u64>, O
     }
 }
 
-// Whether a store that notes this number is of the program's schema: `OldSchema` if the number is lower, else
-// `NotOurs`.
+// Whether a store that notes this number is of the program's schema. `OldSchema` if the number is an older schema's,
+// else `NotOurs`.
 fn judge(noted: Option<u64>) -> Result<(), OpenFault>
     ensures judged { IsJudged noted result }
 {
