@@ -18,7 +18,7 @@ use crate::fault::CheckFault;
 use crate::pledges::pledges_rows;
 use pawn_book::{BookHead, Keep, MOST_PLEDGES, MOST_TERMS, Number, Terms};
 
-// Reads the keys, the name and the capacity of a book. Each read shows the proof that the value is within its limits.
+// Reads the keys, the name and the capacity of a book, so that the proof knows that they are within their limits.
 fn know_head(head: &BookHead)
     ensures key { IsWord head.now.key }
     ensures imported { IfSome head.now.imported (λ i. IsWord i.key) }

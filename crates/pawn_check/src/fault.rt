@@ -6,7 +6,7 @@ use pawn_book::{KeepError, StoreFault};
 /// Why a check does not end with counts.
 #[derive(Clone, Copy, Debug, PartialEq, Eq)]
 pub enum CheckFault {
-    /// A book is not sound; it may be that a stored row is no record.
+    /// A book is not sound, or a stored row is no record.
     Damaged,
     /// Memory was refused.
     Memory,

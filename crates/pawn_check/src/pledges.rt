@@ -23,7 +23,7 @@ pub struct Step {
     pub rows: u64,
 }
 
-// Reads the texts, the secrets and the day of a pledge. Each read shows the proof that the value is within its limits.
+// Reads the texts, the secrets and the day of a pledge, so that the proof knows that they are within their limits.
 fn know_parts(parts: &Parts)
     ensures written { HasTextsAndWords parts.now }
 {

@@ -54,7 +54,7 @@ pub record IsLaidOut (v : Version) (terms : List Rates) (pledges : List RawPledg
 abbrev pub laid_rows : Version → List Rates → List RawPledge → List Row
 laid_rows v terms pledges = Row.Book v (length terms) (length pledges) ∷ (terms_rows 1 terms ++ flat_map raw_rows pledges)
 
--- what is said of the rows of a book that are taken in turn, of those of this version, with these terms and pledges
+-- laws of the rows of a book of this version, with these terms and pledges, that are taken one after another
 
 -- rows that are laid out are taken to their end
 abbrev pub LayoutsAreTaken : Type 0

@@ -14,9 +14,9 @@ use std::alloc::Global;
 /// Fills an empty book with these terms and pledges, for the holder of the book's key `broker`. `key` is the import's
 /// own. A second import under that key gets the first one's answer, whatever rows come with it.
 ///
-/// Refused in this order: `NoSuchBook` if there is no such book or the key is another's; `BookNotEmpty` if the book has
-/// terms, pledges or another import; `Full` if the rows of all books would be above the limit. `Memory` and `Store` as
-/// the keeper answers. No refusal changes anything.
+/// The refusals come in this order. `NoSuchBook` if there is no such book or the key is another's. `BookNotEmpty` if
+/// the book has terms, pledges or another import. `Full` if the rows of all books would be above the limit. `Memory`
+/// and `Store` as the keeper answers. No refusal changes anything.
 pub fn import<K: Keep>(
     alloc: Global,
     keep: &mut K,

@@ -47,7 +47,7 @@ CrashLeavesWhole {K} k =
     (keep : K) (h : Host) (operator : ℕ) (items : List Item) (left : Host) → ((g : Host) → k.leaves keep g → g ≡ h)
     → IsLeftByRun h operator items (k.leaves keep) left → IsLeftWhole h operator items left
 
--- what a crash may leave after two runs in turn is what it may leave after both as one
+-- what a crash may leave after two runs, one after the other, is what it may leave after both as one run
 abbrev pub CrashesJoin : {K : Type 0} → Keeping K → Type 0
 CrashesJoin {K} k =
     (keep : K) (h : Host) (operator : ℕ) (a b : List Item) (left : Host)

@@ -22,8 +22,8 @@ pub fn split_ends_early()
     ensures law { SplitEndsEarly }
 {}
 
-/// Requests that a stream begins with are the first of its split. If a further request is there, the split has that
-/// place filled too.
+/// Requests that a stream begins with are the first of its split. If a further request is there, the split has at least
+/// one more.
 pub fn split_begins()
     ensures law { SplitBegins }
 {}

@@ -106,12 +106,14 @@ IsMoved n h new (Err Damaged) = HasUnsoundBook h
 IsMoved n h new (Err Store) = Unit {0}
 IsMoved n h new (Err Memory) = Unit {0}
 
--- the trees stand under the program's schema for each host that the old tables stood for, whatever their schema was
+-- the trees stand, under the program's schema, for each host without a book 0 that the old tables stood for, whatever
+-- their schema was
 abbrev pub HoldSameHost : Tables → Trees → Type 0
 HoldSameHost old trees = (n : ℕ) (h : Host) → IsSchema n → get h.books 0 ≡ None → StandsUnder n old h → HoldHost trees h
 
--- A store of schema 1, 2 or 3 is moved to 3, in one transaction: then it is open, with nothing pending, for the host that its tables
--- stood for, of which no book has the number 0. Else it is as it was. A crash leaves the old tables or the new ones.
+-- A store of schema 1, 2 or 3 is moved to 3, in one transaction. Then it is open, with nothing pending, for the host
+-- that its tables stood for, if no book of that has the number 0. Else it is as it was. A crash leaves the old tables
+-- or the new ones.
 pub record Migrates (old new : State) (result : Result (ℕ × ℕ) MoveFault) : Type 0 where
   pub found : HasCleanDisk new → IfOk result (λ told. NotesSchema old.now told.0 × IsSchema told.0 × (told.1 ≡ 3))
   pub moved : HasCleanDisk new → (n : ℕ) (h : Host) → IsSchema n → get h.books 0 ≡ None → StandsUnder n old.now h → IsMoved n h new result

@@ -23,7 +23,7 @@ use Rattle.pawn_tables.specs.Told.{totals_in}
 use Rattle.pawn_tables.specs.StandsFor.{AreBooksOrdered, AreStorable, ListDebts, StandsFor, of_pledges}
 use Rattle.pawn_move.specs.StandsUnder.{HasNoExtension, StandsUnder, listed_under}
 
--- the rows of a host, where this number of a schema is noted, these rows of totals stand, and none of extensions
+-- the rows of a host by their tree, with this number of a schema, these rows of totals, and no rows of extensions
 abbrev pub listed_with : ℕ → List Row → Host → Listed
 listed_with n owed h = with_rows (with_rows (listed_under n h) totals_tree owed) extensions_tree []
 
@@ -77,8 +77,8 @@ rows_if_any (Some x) f = f x
 abbrev pub totals_of_book : Host → ℕ → List Row
 totals_of_book h b = flat_map (totals_listed b) (pledges_of (get h.books b))
 
--- a part of the transaction inserts these rows of totals, and P holds of its answer; it reports a row that is no record
--- only if some book of the host is not sound
+-- A part of the transaction inserts these rows of totals, and P holds of its answer. It reports a row that is no record
+-- only if some book of the host is not sound.
 abbrev pub PutsTotals : {A : Type 0} → State → State → Result A KeepError → (Host → A → List Row) → (Host → A → Type 0) → Type 0
 PutsTotals old new result put P =
     HasCleanDisk new → IsTrue old.in_transaction → (n : ℕ) (owed : List Row) (h : Host) → IsMoving n owed old.now h → Finds result (λ x. P h x × IsMoving n (put h x ++ owed) new.now h) (HasUnsoundBook h)

@@ -33,8 +33,9 @@ pub record AreClosedFor {D : Type 0} (g : Ghosts D) (files : Files D) (h : Host)
   pub seen : StandsAlone (image_of g files) h
   pub left : (image : Image) → outcomes g files.log files.db image → StandsAlone image h
 
--- What is left of a store that was not closed. A crash leaves only what it could have left of the connection. On a
--- clean disk `Store` is reported only if a fault had shut the store, or a file failed meanwhile.
+-- What is left of a store that was not closed. A crash leaves only what it could have left of the connection, and
+-- always a database. On a clean disk `Store` is reported only if a fault had shut the store, or a file failed
+-- meanwhile.
 pub record IsLeftUnclosed {D : Type 0} {g : Ghosts D} (c : Held (FileStore D g)) (why : OpenFault) (it : FileStore D g) : Type 0 where
   pub fault : IsStoreFault why
   pub left : IsClosed c it

@@ -76,13 +76,14 @@ pub record IndexesStore (old new : State) (result : Result (Unit {0}) OpenFault)
 abbrev pub IsOpenable : State → State → Type 0
 IsOpenable old new = IsEmptyStore old.now ⊎ (NotesSchema old.now 3 × IsIndexed old new)
 
--- what an opening makes of the trees: the tables of the empty host where nothing stood, or further indexes of what notes the program's schema
+-- what an opening makes of the trees: the tables of the empty host if the store was empty, or further indexes if it
+-- notes the program's schema
 abbrev pub AreMadeOf : Database → ℕ → Trees → Type 0
 AreMadeOf db limit trees = (IsEmptyStore db × HoldHost trees (empty_host limit)) ⊎ (NotesSchema db 3 × HoldGained db trees)
 
--- A store is opened. An empty one is laid out for the empty host with this limit; one that notes the program's schema is opened with
--- the indexes that it lacked, for the host that it stands for, if it stands for one; any other is refused, and left as it was. A crash
--- on the way leaves the store as it was, or what the opening made of it.
+-- A store is opened. An empty one gets the tables of the empty host with this limit. One that notes the program's
+-- schema is opened with the indexes that it lacked, for its host, if it stands for one. Any other is refused, and left
+-- as it was. A crash on the way leaves the store as it was, or what the opening made of it.
 pub record Prepares (old new : State) (limit : ℕ) (result : Result (Unit {0}) OpenFault) : Type 0 where
   pub opens : HasCleanDisk new → OnOk result (IsOpenable old new)
   pub new_store : HasCleanDisk new → IsEmptyStore old.now → OnOk result (OpensAs new (empty_host limit))

@@ -48,7 +48,7 @@ IsStrangeNumber n = (n ≡ 0) ⊎ (3 < n)
 abbrev pub IsStrange : Database → Type 0
 IsStrange db = NotesNoSchema db ⊎ ((n : ℕ) × NotesSchema db n × IsStrangeNumber n)
 
--- no table, index or view stands in it
+-- the store has no table, index or view
 abbrev pub IsEmptyStore : Database → Type 0
 IsEmptyStore db = db.schema ≡ no_schema
 

@@ -29,7 +29,7 @@ fn lay_out<S: Alter>(conn: &mut Connection<S>, limit: u32) -> Result<(), OpenFau
     }
 }
 
-// Whether no table, index or view stands in the store.
+// Whether the store has no table, index or view.
 fn is_empty<S: Alter>(conn: &Connection<S>) -> bool
     ensures empty { IsTrue result ↔ IsEmptyStore (state S.Store conn.now).now }
 {

@@ -57,7 +57,7 @@ Counts old new by result =
     HasCleanDisk new → IsTrue old.in_transaction → (g : Host) (counted : ℕ) → counted ≤ g.limit → ListsHost old.now g counted
     → IfOk result (λ fits. (IsTrue fits ↔ (counted + by ≤ g.limit)) × ListsHost new.now g (counted + by))
 
--- P where the change was made, Q where the rows would be above the limit
+-- P if the change was made, Q if the rows would be above the limit; nothing is said of other errors
 abbrev pub CountJudged : {T : Type 0} → Result T SaveError → Type 0 → Type 0 → Type 0
 CountJudged (Ok done) P Q = P
 CountJudged (Err Save.Full) P Q = Q

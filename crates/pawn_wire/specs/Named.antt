@@ -1,4 +1,4 @@
--- Numbers and days by their texts.
+-- Numbers and days as texts.
 use Rattle.std.specs.Prelude.{ℕ, ◌==◌, nat_lt, nat_le, List, length, take, drop, slice_index, Bool, not, ◌&&◌, bytes_eq, if◌then◌else◌, Option, Some, None}
 use Rattle.std.specs.Char.{is_ascii_digit}
 use Rattle.std.specs.List.{list_all}

@@ -34,8 +34,8 @@ pub(crate) fn new_book(alloc: Global, body: &Value) -> Result<NewBook, WireFault
     })
 }
 
-// New terms as a body describes them: the version, the rate and what is kept before and after. `None` if a member is
-// missing or malformed.
+// New terms as a body describes them: their version, the rate, and the charges for safe keeping up to the end of the
+// period and after it. `None` if a member is missing or malformed.
 pub(crate) fn new_terms(body: &Value) -> Option<NewTerms>
     ensures value { result ≡ new_terms_of (view body.now) }
 {
@@ -96,8 +96,8 @@ fn optional_day(body: &Value, name: &str) -> Option<Option<RequestDay>>
     }
 }
 
-// A pledge to be taken as a body describes it: reference, article, kind, an agreed end if any, and whether the five
-// days apply.
+// A pledge to be taken, as a body describes it: reference, article, kind, an agreed end if any, and whether five days
+// of grace follow the period.
 pub(crate) fn opening(alloc: Global, body: &Value) -> Result<Opening, WireFault>
     ensures value { GivesPart BadBody result (opening_of (view body.now)) }
 {

@@ -31,7 +31,7 @@ use std::process::ExitCode;
 use stop::{Stop, tell};
 use store::{close, file_keep, folded_keep, is_memory, memory_keep};
 
-/// How many connections are accepted before the program ends.
+/// After so many connections, accepted or failed, the program ends.
 const CONNECTIONS: u32 = 1_000_000;
 
 fn main(rt: HostRuntime) -> ExitCode {

@@ -14,7 +14,7 @@ pub enum Stop {
     Usage,
     /// A fault of the settings, of memory or of the store: the program did not start, or did not end well.
     Fault(Fault),
-    /// Requests could not be read, replies or other output could not be written, or the port could not be listened on.
+    /// Something outside the store failed: a read, a write, the port, or the system's random numbers.
     Io,
 }
 

@@ -77,8 +77,8 @@ fn played_over<S: Alter + Drop>(
     Some((answered, store))
 }
 
-// A run over disks: how many turns were answered before the first that was not, or none if the store was not opened; whether no
-// call failed; and what a stop then leaves of the disks.
+// A run over disks. It has how many turns were answered before the first that was not, or none if the store was not
+// opened. It also has whether no call failed, and what a stop then leaves of the disks.
 #[derive(Drop)]
 struct Run {
     answered: Option<usize>,
