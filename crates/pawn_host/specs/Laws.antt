@@ -20,7 +20,7 @@ use Rattle.pawn_book.specs.Runs.{Mark, read_as, no_memory, no_store}
 use Rattle.pawn_host.specs.Run.{Item, IsMarked, input_of, events, host_after_run, replies}
 use Rattle.pawn_host.specs.Headline.{AnswerAlone, IsSettled, by_bearer}
 
--- the rest is the beginning of a head, but it can only become one with too many fields
+-- the rest is the beginning of a head, but no head with so few fields as are allowed can come of it
 abbrev pub IsOpen : List ℕ → Type 0
 IsOpen rest = IsCutHead rest × RequestOverflows max_fields rest
 
@@ -115,12 +115,12 @@ FaultIsExact =
     → (MayGoOn rest → HasNoRequest rest → (f : HeadFault) → HasFault rest f → ⊥)
     × ((MayGoOn rest → ⊥) → (length rest < max_head) → HasFault rest BadHead)
 
--- each answer to the items of a run is that of its book or slot alone
+-- each settled answer to the items of a run is that of its book or slot alone
 abbrev pub RunsAnswerAlone : Type 0
 RunsAnswerAlone = (h : Host) (operator : ℕ) (items : List Item) → All (IsMarked ⊥) items → AnswerAlone h operator items (replies h operator items)
 
 -- Take two runs under one operator's key, from hosts that have the same book of a number, or both have none. If both
--- runs leave that book the same trace, its next request is answered alike.
+-- runs leave that book the same trace, its next request gets the same settled answer.
 abbrev pub EqualBookTracesReplyAlike : Type 0
 EqualBookTracesReplyAlike =
     (h g : Host) (operator : ℕ) (items others : List Item) → All (IsMarked ⊥) items → All (IsMarked ⊥) others
@@ -134,7 +134,8 @@ EqualBookTracesReplyAlike =
     → book_trace request.book h operator (events (take i items)) ≡ book_trace request.book g operator (events (take j others))
     → answer ≡ other
 
--- take two runs under one operator's key; if both leave a slot the same trace, its next request is answered alike
+-- take two runs under one operator's key; if both leave a slot the same trace, its next request gets the same settled
+-- answer
 abbrev pub EqualTracesReplyAlike : Type 0
 EqualTracesReplyAlike =
     (h g : Host) (operator : ℕ) (items others : List Item) → All (IsMarked ⊥) items → All (IsMarked ⊥) others

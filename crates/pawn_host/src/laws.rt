@@ -59,8 +59,8 @@ pub fn fault_is_exact()
     ensures law { FaultIsExact }
 {}
 
-/// Each answer of a run is what its slot, or its book, would get if nobody else were served. Slots with equal traces
-/// are answered alike, and so are books.
+/// Each settled answer of a run is what its slot, or its book, would get if nobody else were served. Slots with equal
+/// traces are answered alike, and so are books.
 pub fn runs_answer_alone()
     ensures alone { RunsAnswerAlone }
     ensures alike { EqualTracesReplyAlike }
@@ -68,7 +68,8 @@ pub fn runs_answer_alone()
 {}
 
 /// Let each request of a stream be handed to the shard of its book. Then each settled answer is, byte for byte, that of
-/// one host that was asked everything. What a shard is handed is again a stream of whole requests, as they came.
+/// one host that was asked everything, if the book began alike in both and has the same trace. What a shard is handed
+/// is again a stream of whole requests, as they came.
 pub fn shards_answer_as_one()
     ensures placed { RequestsArePlaced }
     ensures as_one { ShardsReplyAsOne }

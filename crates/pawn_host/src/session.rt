@@ -55,7 +55,8 @@ pub enum Cause {
     Reads,
 }
 
-/// A session that was broken off: why, how many requests were acted on, and how many bytes of the replies went out.
+/// A session that was broken off: why, how many requests were acted on, and how many bytes of all replies went out,
+/// with a last one for a fault.
 #[derive(Clone, Copy, Debug, PartialEq, Eq)]
 pub struct IoFault {
     pub cause: Cause,

@@ -67,7 +67,7 @@ move_fault_of Keeper.Memory = Memory
 move_fault_of (Keeper.Store NoRecord) = Damaged
 move_fault_of (Keeper.Store Database) = Store
 
--- ---- the schema that is told
+-- ---- the schema that is reported
 
 -- for tables that stand for a host under a schema: its number is the answer, unless the store failed
 abbrev pub IsMoveTold : ℕ → Result ℕ MoveFault → Type 0

@@ -66,7 +66,7 @@ IsJudgedAt h b n stands = (stands ≡ is_some (pledge_in (get h.books b) n)) × 
 abbrev pub IsNextJudged : Host → ℕ → Option ℕ → Type 0
 IsNextJudged h above next = IsNextBook h above next × IfSome next (AreOwedIn h)
 
--- ---- totals that are put
+-- ---- totals that are inserted
 
 -- the rows of something, if there is one; else none
 abbrev pub rows_if_any : {X : Type 0} → Option X → (X → List Row) → List Row

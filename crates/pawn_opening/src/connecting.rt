@@ -11,8 +11,8 @@ use crate::finding::{files_at, options};
 use sqlite::{Connection, FileFrom, FileStore, Start};
 
 /// A connection to the database in the file at a path, for whoever moves an older store or looks into another. `start`
-/// is what is known of the file's bytes. No table is made, and the schema is not checked. If there is no file, an empty
-/// one is made. The error is `Store` or `Memory`.
+/// says what may be assumed of the file's bytes. No table is made, and the schema is not checked. If there is no file,
+/// an empty one is made. The error is `Store` or `Memory`.
 pub fn connect_path<S: Start>(
     rt: &HostRuntime,
     path: &str,

@@ -70,10 +70,10 @@ pub fn open_files<D: Disk + Drop>(
     }
 }
 
-/// Opens the store in the file at a path, which is made if there is none. `start` is what is known of the file's bytes.
-/// An empty store gets the program's tables, and this limit on counted rows, 1 to 10,000,000. One that notes the
-/// program's schema keeps its stored limit, and gets the indexes that it lacks. Whether its rows make sense is not
-/// judged. If the store is refused after its files were opened, what is left of them comes back with the reason.
+/// Opens the store in the file at a path, which is made if there is none. `start` says what may be assumed of the
+/// file's bytes. An empty store gets the program's tables, and this limit on counted rows, 1 to 10,000,000. One that
+/// notes the program's schema keeps its stored limit, and gets the indexes that it lacks. Whether its rows make sense
+/// is not judged. If the store is refused after its files were opened, what is left of them comes back with the reason.
 pub fn open_path<S: Start>(
     rt: &HostRuntime,
     path: &str,

@@ -51,8 +51,8 @@ start_at store h operator = record { Steady = ⊥; operator = operator; host = h
 abbrev pub kept_in : State → Kept
 kept_in store = record { stands = Keeps store; leaves = Leaves store }
 
--- A call did this with further items, over a store that had answered those of `before`. Each further item got the
--- answer of its book, or of its receipts, alone. The store has then answered all of them.
+-- A call did this with further items, over a store that had answered those of `before`. Each further item's answer, if
+-- settled, is that of its book, or of its receipts, alone. The store has then answered all of them.
 pub record ActsOverTables (old new : State) (h : Host) (operator : ℕ) (before : List Item) (Did : Start → Kept → List Item → Type 0) : Type 0 where
   pub items : List Item
   pub did : Did (start_at old (host_after_run h operator before) operator) (kept_in new) items

@@ -40,12 +40,12 @@ pub fn keep_in_memory(alloc: Global, limit: u32) -> Result<TableKeep<MemStore>, 
     }
 }
 
-/// Opens the store in the file at a path as a keeper. The file is made if there is none. `start` is what is known of
-/// its bytes. An empty store gets the program's tables, and this limit on counted rows, 1 to 10,000,000. One that notes
-/// the program's schema keeps its stored limit, and gets the indexes that it lacks. Whether its rows make sense is not
-/// judged. If the files hold what a crash left of a store that had answered requests, it stands for the host after all
-/// of them, or for that host with one request more. If the store is refused after its files were opened, what is left
-/// of them comes back with the reason.
+/// Opens the store in the file at a path as a keeper. The file is made if there is none. `start` says what may be
+/// assumed of its bytes. An empty store gets the program's tables, and this limit on counted rows, 1 to 10,000,000. One
+/// that notes the program's schema keeps its stored limit, and gets the indexes that it lacks. Whether its rows make
+/// sense is not judged. If the files hold what a crash left of a store that had answered requests, it stands for the
+/// host after all of them, or for that host with one request more. If the store is refused after its files were opened,
+/// what is left of them comes back with the reason.
 pub fn keep_at_path<S: Start>(
     rt: &HostRuntime,
     path: &str,

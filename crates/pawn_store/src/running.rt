@@ -16,11 +16,11 @@ use std::net::TcpListener;
 use std::time::Clock;
 
 /// Answers these requests in their order, over the tables of a store that was opened for a sound host and may have
-/// answered some since. The rest holds as long as the disk returns what was written. Each answer to a request on a
-/// book, or to a bearer of receipts, is what the book or those receipts alone would get. The tables then stand for the
-/// host after all requests. A crash leaves that host, or that host with one more request, which had been answered with
-/// refused memory or a fault of the store. If there is no memory to list the answers, the call fails before anything is
-/// done.
+/// answered some since. The rest holds as long as the disk returns what was written. Each settled answer to a request
+/// on a book, or to a bearer of receipts, is what the book or those receipts alone would get. The tables then stand for
+/// the host after all requests. A crash leaves that host, or that host with one more request, which had been answered
+/// with refused memory or a fault of the store. If there is no memory to list the answers, the call fails before
+/// anything is done.
 pub fn run_over_tables<S: Alter>(
     service: &mut Service<TableKeep<S>>,
     items: &[(Stamp, Vec<u8>)],
