@@ -1,4 +1,4 @@
--- What a check tells of a host.
+-- What the result of a check says of a host.
 use Rattle.std.specs.Prelude.{◌≡◌, ℕ, List, length, Result, Ok, Err, sum_by, IsErrOf, Some}
 use Rattle.std.specs.FinMap.{entries, get}
 use Rattle.pawn_pledge.specs.Pledge.{PledgeValue}
@@ -17,19 +17,19 @@ use Rattle.pawn_check.specs.declared.counts.BookCounts.{BookCounts}
 use Rattle.pawn_check.specs.declared.fault.CheckFault.{CheckFault}
 use Rattle.pawn_check.specs.declared.fault.CheckFault.TheVariants.{Damaged, Memory, Store}
 
--- what an error of a keeper is to a check: a row that is no record is damage
+-- a keeper's error as a fault of a check: a row that is no record is damage
 abbrev pub check_fault_of : KeepError → CheckFault
 check_fault_of Keeper.Memory = Memory
 check_fault_of (Keeper.Store NoRecord) = Damaged
 check_fault_of (Keeper.Store Database) = Store
 
--- a check that calls a store damaged says that a book of it is not sound; one that was broken off says nothing
+-- if the store is called damaged, a book of it is not sound; if the check was broken off, nothing is said
 abbrev pub Blames : Host → CheckFault → Type 0
 Blames h Damaged = HasUnsoundBook h
 Blames h Memory = Unit {0}
 Blames h Store = Unit {0}
 
--- P of what was found, or that a book is not sound
+-- P holds of what was found; or the fault is as `Blames` says
 abbrev pub FindsSound : {T : Type 0} → Host → Result T CheckFault → (T → Type 0) → Type 0
 FindsSound h (Ok found) P = P found
 FindsSound h (Err fault) P = Blames h fault
@@ -53,11 +53,11 @@ pub record AreOfBook (book : BookValue) (counts : BookCounts) : Type 0 where
   pub pledges : counts.pledges ≡ length book.pledges
   pub rows : counts.rows ≡ book_rows book
 
--- a book that stands is sound, and this is what it has; or some book of the host is not sound
+-- the book, if the host has it, is sound and these are its counts; or some book of the host is not sound
 abbrev pub JudgesBook : Host → ℕ → Result BookCounts CheckFault → Type 0
 JudgesBook h b result = (book : BookValue) → get h.books b ≡ Some book → FindsSound h result (λ counts. IsSoundAt b book × AreOfBook book counts)
 
--- a pledge that stands under a number as those of sound books do
+-- a pledge that fits at number n of a book, as the pledges of sound books do
 pub record FitsAt (book : BookValue) (n : ℕ) (p : PledgeValue) : Type 0 where
   pub number : p.agreement.number ≡ n
   pub standing : IsStanding p
@@ -65,7 +65,8 @@ pub record FitsAt (book : BookValue) (n : ℕ) (p : PledgeValue) : Type 0 where
   pub reference : number_of (Some book) p.agreement.opening.reference ≡ Some n
   pub written : HasTextsAndWords p
 
--- the first pledges of a book are those of a sound one, the last of them under this version of terms, and they have so many rows
+-- these first pledges of a book are as in a sound one; the last of them has this version of terms, and together they
+-- have this many rows
 pub record IsFront (book : BookValue) (pledges : List PledgeValue) (version rows : ℕ) : Type 0 where
   pub numbered : AreNumberedFrom 1 pledges
   pub standing : Each IsStanding pledges

@@ -18,7 +18,7 @@ use crate::fault::CheckFault;
 use crate::pledges::pledges_rows;
 use pawn_book::{BookHead, Keep, MOST_PLEDGES, MOST_TERMS, Number, Terms};
 
-// Whoever reads the keys, the name and the capacity of a book knows what they are.
+// Reads the keys, the name and the capacity of a book, so that the proof knows that they are within their limits.
 fn know_head(head: &BookHead)
     ensures key { IsWord head.now.key }
     ensures imported { IfSome head.now.imported (λ i. IsWord i.key) }
@@ -34,7 +34,7 @@ fn know_head(head: &BookHead)
     }
 }
 
-// The terms of a version.
+// The terms of a version, if the book has them.
 fn terms_under<K: Keep>(
     keep: &mut K,
     book: Number,
@@ -47,7 +47,7 @@ fn terms_under<K: Keep>(
     Ok(keep.terms(book, version)?)
 }
 
-// Finds that the terms of a book stand, each within the limits.
+// Checks that a book has its versions of terms 1 to `count`, each within the limits.
 fn find_terms<K: Keep>(keep: &mut K, book: Number, count: u64) -> Result<(), CheckFault>
     ensures reads { Reads K.keeping keep.old keep.new
         (λ h. (k : BookValue) → get h.books book ≡ Some k → count ≡ length k.terms → FindsSound h result
@@ -63,7 +63,7 @@ fn find_terms<K: Keep>(keep: &mut K, book: Number, count: u64) -> Result<(), Che
     Ok(())
 }
 
-// The head of a book that stands.
+// The head of a book that the keeper has listed. It is `Damaged` if there is none.
 fn head_of<K: Keep>(keep: &mut K, book: Number) -> Result<BookHead, CheckFault>
     ensures reads { Reads K.keeping keep.old keep.new
         (λ h. (k : BookValue) → get h.books book ≡ Some k → FindsSound h result
@@ -76,7 +76,7 @@ fn head_of<K: Keep>(keep: &mut K, book: Number) -> Result<BookHead, CheckFault>
     }
 }
 
-// What a book has, if it is sound.
+// How many pledges and rows a book has, if it is sound.
 fn book_counts<K: Keep>(keep: &mut K, book: Number) -> Result<BookCounts, CheckFault>
     ensures reads { Reads K.keeping keep.old keep.new (λ h. JudgesBook h book result) }
     ensures few { IfOk result (λ counts. counts.pledges ≤ most_pledges) }
@@ -96,7 +96,7 @@ fn book_counts<K: Keep>(keep: &mut K, book: Number) -> Result<BookCounts, CheckF
     })
 }
 
-// The next book above a number.
+// The next book with a number above `after`, if there is one.
 fn book_after<K: Keep>(keep: &mut K, after: Option<Number>) -> Result<Option<Number>, CheckFault>
     ensures reads { Reads K.keeping keep.old keep.new
         (λ h. FindsSound h result (λ next. IsNextBook h (unwrap_or after 0) next)) }
@@ -105,7 +105,7 @@ fn book_after<K: Keep>(keep: &mut K, after: Option<Number>) -> Result<Option<Num
     Ok(keep.next_book(after)?)
 }
 
-// The rows of all books.
+// How many counted rows all books have, as the keeper says.
 fn rows_of<K: Keep>(keep: &mut K) -> Result<u64, CheckFault>
     ensures reads { Reads K.keeping keep.old keep.new
         (λ h. FindsSound h result (λ count. count ≡ rows h)) }
@@ -117,8 +117,8 @@ fn rows_of<K: Keep>(keep: &mut K) -> Result<u64, CheckFault>
 /// Judges each book of a store, and counts its books, their pledges and its rows. The keeper's content
 /// stays as it is.
 ///
-/// Errors: `Damaged` only where a book is not sound, `Memory` where it is wanting, `Store` where the
-/// store fails. It reads a pledge at a time, and asks for its terms and for its reference again.
+/// Errors: `Damaged` only if a book is not sound, `Memory` if memory is refused, `Store` if the store fails. It reads
+/// one pledge at a time, and looks up its terms and its reference for each.
 pub fn check<K: Keep>(keep: &mut K) -> Result<Counts, CheckFault>
     ensures judges { Reads K.keeping keep.old keep.new (λ h. Judges h result) }
     ensures quiet { IsQuietCheck K.keeping keep.old result }

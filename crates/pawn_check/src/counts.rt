@@ -1,15 +1,15 @@
 /// What a store holds.
 #[derive(Clone, Copy, Debug, PartialEq, Eq)]
 pub struct Counts {
-    /// Its books.
+    /// How many books there are.
     pub books: u64,
-    /// Their pledges.
+    /// How many pledges all books have.
     pub pledges: u64,
-    /// Its rows: one for each book, version of terms, pledge, entry, secret and booking.
+    /// How many rows are counted: one for each book, version of terms, pledge, entry, secret and booking.
     pub rows: u64,
 }
 
-/// What a book has of them.
+/// What one book holds: its pledges and its rows, its own among them.
 #[derive(Clone, Copy)]
 pub struct BookCounts {
     pub pledges: u64,

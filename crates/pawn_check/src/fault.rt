@@ -8,7 +8,7 @@ use pawn_book::{KeepError, StoreFault};
 pub enum CheckFault {
     /// A book is not sound, or a stored row is no record.
     Damaged,
-    /// Memory was wanting.
+    /// Memory was refused.
     Memory,
     /// The store failed.
     Store,

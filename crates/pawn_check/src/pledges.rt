@@ -16,14 +16,14 @@ use crate::fault::CheckFault;
 use pawn_book::{Keep, Number, Reference};
 use pawn_pledge::Parts;
 
-// A pledge under the version of its terms, and how many rows it has.
+// What is noted of a pledge that was judged: the version of its terms, and how many rows it has.
 #[derive(Clone, Copy)]
 pub struct Step {
     pub version: u64,
     pub rows: u64,
 }
 
-// Whoever reads the texts, the secrets and the day of a pledge knows what they are.
+// Reads the texts, the secrets and the day of a pledge, so that the proof knows that they are within their limits.
 fn know_parts(parts: &Parts)
     ensures written { HasTextsAndWords parts.now }
 {
@@ -35,7 +35,7 @@ fn know_parts(parts: &Parts)
     }
 }
 
-// How many rows a pledge has.
+// How many counted rows a pledge has.
 fn rows_of(parts: &Parts) -> u64
     requires standing { IsStanding parts.now }
     ensures value { result ≡ pledge_rows parts.now }
@@ -48,7 +48,7 @@ fn rows_of(parts: &Parts) -> u64
     1 + parts.entries.len() as u64 + parts.secrets.len() as u64 + booking
 }
 
-// The parts of the pledge of a number.
+// The parts of the pledge of this number. It is `Damaged` if there is none.
 fn parts_of<K: Keep>(keep: &mut K, book: Number, number: Number) -> Result<Parts, CheckFault>
     ensures reads { Reads K.keeping keep.old keep.new
         (λ h. (k : BookValue) → get h.books book ≡ Some k → number ≤ length k.pledges
@@ -65,7 +65,7 @@ fn parts_of<K: Keep>(keep: &mut K, book: Number, number: Number) -> Result<Parts
     }
 }
 
-// Whether the terms of a pledge stand under its version.
+// Whether the book's terms of the pledge's version are those that the pledge has.
 fn is_under<K: Keep>(keep: &mut K, book: Number, parts: &Parts) -> Result<bool, CheckFault>
     ensures reads { Reads K.keeping keep.old keep.new
         (λ h. (k : BookValue) → get h.books book ≡ Some k → FindsSound h result
@@ -78,7 +78,7 @@ fn is_under<K: Keep>(keep: &mut K, book: Number, parts: &Parts) -> Result<bool, 
     }
 }
 
-// Whether the pledge of a number is the first with a reference.
+// Whether the pledge of this number is the one that the keeper finds by the reference.
 fn is_first<K: Keep>(
     keep: &mut K,
     book: Number,
@@ -96,7 +96,8 @@ fn is_first<K: Keep>(
     }
 }
 
-// The next pledge of a book, if it may stand behind one of this version.
+// Judges the next pledge of a book, whose predecessor has terms of this version. A later pledge may not have an earlier
+// version.
 fn next_step<K: Keep>(
     keep: &mut K,
     book: Number,
@@ -130,7 +131,7 @@ fn next_step<K: Keep>(
     })
 }
 
-/// The rows of the pledges of a book, if all may stand.
+/// Judges pledges 1 to `count` of a book. Returns how many counted rows they have.
 pub(crate) fn pledges_rows<K: Keep>(
     keep: &mut K,
     book: Number,

@@ -145,7 +145,7 @@ one_pledge a b ha hb e =
 first_letter : (r s : Row) → row_fields r ≡ row_fields s → get_or (get_or (row_fields r) 0 []) 0 0 ≡ get_or (get_or (row_fields s) 0 []) 0 0
 first_letter r s e = letter 0 (get_or (row_fields r) 0 []) (get_or (row_fields s) 0 []) (column 0 (row_fields r) (row_fields s) e)
 
--- two rows with the same columns are one
+-- two rows with the same columns are equal
 pub one_row : (r s : Row) → FitsColumns r → FitsColumns s → row_fields r ≡ row_fields s → r ≡ s
 one_row (Row.Book v t p) (Row.Book v2 t2 p2) hr hs same =
     let col = λ (place : ℕ). column place (row_fields (Row.Book v t p)) (row_fields (Row.Book v2 t2 p2)) same in

@@ -315,7 +315,7 @@ run_book v k replayable knows =
       (terms, (pledges, subst (λ (ts : List Rates). Each (IsUnder ts) k.pledges) (sym terms) replayable.under, are_raw k.pledges replayable.standing)),
     )
 
--- the records of a book's text are taken to their end, and make the book
+-- the records of a text that holds a book are taken to their end, and make that book
 pub texts_are_read_as : TextsAreReadAs
 texts_are_read_as text k (v, are, held) =
     let (b, ran, whole, is) = run_book v k held.0 held.1 in

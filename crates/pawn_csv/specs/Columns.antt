@@ -31,11 +31,11 @@ issue_text issue.Opening = codes "opening"
 issue_text issue.Sworn = codes "sworn"
 issue_text issue.Written = codes "written"
 
--- a column that is empty where nothing is there
+-- a column that is empty if there is no value
 abbrev pub text_if_any : (ℕ → List ℕ) → Option ℕ → List ℕ
 text_if_any text None = []
 text_if_any text (Some n) = text n
 
--- a column of which each value has its word
+-- any value will do: each has its word in the column
 abbrev pub IsAny : {A : Type 0} → A → Type 0
 IsAny value = Unit {0}

@@ -24,7 +24,7 @@ use Rattle.pawn_csv.specs.declared.writing.Sink.{Sink}
 abbrev pub secret_line : ℕ → ℕ → Issued → List ℕ
 secret_line number place issued = text_of_row (Row.Secret number place issued)
 
--- the row of a pledge's entry, wherever it stands
+-- the row of a pledge's entry, which has its own number and needs no place
 abbrev pub entry_row_text : ℕ → ℕ → Entry → List ℕ
 entry_row_text number place entry = text_of_row (Row.Entry number entry)
 
@@ -32,19 +32,19 @@ entry_row_text number place entry = text_of_row (Row.Entry number entry)
 abbrev pub extension_line : ℕ → ℕ → Extension → List ℕ
 extension_line number place extension = text_of_row (Row.Extension number place extension)
 
--- a visitor that is a writer of rows: it puts a pledge's row at its place and goes to the next, and stops once a row was not
--- written whole
+-- a row writer as a visitor: it writes a pledge's row at its place, goes to the next place, and stops once a row was
+-- not written whole
 pub record PutsAt {W T : Type 0} (contents : W → Option (List ℕ)) (line : ℕ → ℕ → T → List ℕ) (v : RowWriter W) (item : T) (flow : Flow) (w : RowWriter W) : Type 0 where
   pub puts : PutsRow contents v.sink (line v.number v.place item) w.sink
   pub number : w.number ≡ v.number
   pub place : w.place ≡ min (v.place + 1) (2 ^ 64 - 1)
   pub flow_is : flow ≡ (if has_ended w.sink then Stop else Go)
 
--- the text of a book of the host, if it stands
+-- the text of a book, if the host has it
 abbrev pub text_of : Host → ℕ → Option (List ℕ)
 text_of h book = option_map (λ at. csv_of (rows_of_book at)) (get h.books book)
 
--- how an export ends, by the keeper's last answer, by whether the writer failed, and by whether a row had no memory
+-- how an export ends: by the keeper's last answer, whether the writer failed, and whether a row had no memory
 abbrev pub ending_by : Result (Unit {0}) KeepError → Bool → Bool → Result (Unit {0}) ViewFault
 ending_by done true starved = Err fault.Write
 ending_by done false true = Err fault.Memory
@@ -54,8 +54,8 @@ ending_by (Err error) false false = Err (view_fault error)
 abbrev pub sink_ending : {W : Type 0} → Result (Unit {0}) KeepError → Sink W → Result (Unit {0}) ViewFault
 sink_ending done sink = ending_by done (write_failed sink.writer) sink.is_starved
 
--- the text went out, or why not all of it. A refusal writes nothing, and comes just where there is no such book; where the
--- writer failed, memory was wanting or the keeper failed, a front of the text went out
+-- The whole text went out, or there is a reason why not. `Unknown` writes nothing, and is the answer only if there is
+-- no such book. For any other reason the beginning of the text went out.
 abbrev pub Exports : {W U : Type 0} → (W → Option (List ℕ)) → Sink W → Option (List ℕ) → Result U ViewFault → Sink W → Type 0
 Exports contents old text (Ok u) new = (t : List ℕ) × (text ≡ Some t) × Written contents (seen old) t Whole (seen new)
 Exports contents old text (Err fault.Write) new = (t : List ℕ) × (text ≡ Some t) × PutFront contents (seen old) t (seen new) × (write_failed new.writer ≡ true)

@@ -14,11 +14,11 @@ use Rattle.pawn_csv.specs.declared.row.PledgeColumns.{PledgeColumns}
 use Rattle.pawn_csv.specs.Order.{Begun, is_whole, pledges_begun}
 use Rattle.pawn_csv.specs.Rows.{closing_amount, closing_day, closing_word, pledge_columns}
 
--- a pledge as its rows tell it
+-- a pledge as its rows give it
 abbrev pub raw_of : PledgeValue → RawPledge
 raw_of p = record { columns = pledge_columns p; secrets = p.secrets; entries = p.entries; extensions = p.extensions; booking = p.standing.booking }
 
--- columns that tell this closing
+-- the columns are those of this closing
 abbrev pub IsClosingOf : PledgeColumns → Closing → Type 0
 IsClosingOf c closing =
     (c.closing ≡ closing_word closing) × (c.closing_day ≡ closing_day closing) × (c.amount ≡ closing_amount closing)
@@ -27,7 +27,7 @@ IsClosingOf c closing =
 abbrev pub IsRawOf : List Rates → RawPledge → PledgeValue → Type 0
 IsRawOf terms raw p = (raw ≡ raw_of p) × IsUnder terms p × IsNumber p.agreement.number
 
--- the same of each pledge in turn
+-- the rows of pledges that a book with these terms can have, each in turn
 abbrev pub AreRawOf : List Rates → List RawPledge → List PledgeValue → Type 0
 AreRawOf terms raws pledges =
     (raws ≡ map raw_of pledges) × Each (IsUnder terms) pledges × Each (λ p. IsNumber p.agreement.number) pledges
@@ -36,15 +36,15 @@ AreRawOf terms raws pledges =
 abbrev pub IsBegunOf : Begun → BookRows → Type 0
 IsBegunOf b k = (b.terms ≡ k.terms) × AreRawOf b.terms (pledges_begun b) k.pledges
 
--- what was read is whole, and the book is replayable
+-- what was read is whole, and is this replayable book
 abbrev pub IsFinishedAs : Option Begun → BookRows → Type 0
 IsFinishedAs s k = (b : Begun) × (s ≡ Some b) × (is_whole s ≡ true) × IsBegunOf b k × AreReplayable k.terms k.pledges
 
--- it is whole, and of no replayable book
+-- what was read is whole, but is no replayable book
 abbrev pub IsOfNoBook : Option Begun → Type 0
 IsOfNoBook s = (b : Begun) × (s ≡ Some b) × (is_whole s ≡ true) × ((k : BookRows) → IsBegunOf b k → AreReplayable k.terms k.pledges → ⊥)
 
--- what the end of the rows makes
+-- what the end of the rows comes to: a book, or the cause why there is none
 abbrev pub Ends : Option Begun → Result BookRows Cause → Type 0
 Ends s (Ok k) = IsFinishedAs s k
 Ends s (Err cause.Order) = is_whole s ≡ false

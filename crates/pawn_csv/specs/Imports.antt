@@ -5,6 +5,6 @@ use Rattle.pawn_book.specs.declared.request.Caller.TheVariants.{Broker}
 use Rattle.pawn_book.specs.declared.request.Request.{Request}
 use Rattle.pawn_book.specs.declared.rows.BookRows.{BookRows}
 
--- by the book's key: to make these rows its terms and pledges, under a key of their own
+-- the request to fill a book with these terms and pledges, by the book's key and under the import's own key
 abbrev pub import_of : ℕ → ℕ → ℕ → BookRows → Request
 import_of book broker key rows = record { book = book; caller = Broker broker (Import key rows) }

@@ -13,39 +13,39 @@ use Rattle.pawn_csv.specs.declared.row.Version.{Version}
 use Rattle.pawn_csv.specs.Reading.{CanBeWritten, IsFirstCause, IsHeldBy, IsReadAs, IsTextOf}
 use Rattle.pawn_csv.specs.Rows.{FitsColumns, Knows, csv_of, row_fields}
 
--- a book that can be written is one that a text can hold, in each version that knows what it has
+-- a book that can be written is one that a text can hold, in each version that has rows for all that it has
 abbrev pub BooksAreHeld : Type 0
 BooksAreHeld = (version : Version) (k : BookRows) → CanBeWritten k → Knows version k → IsHeldBy version k
 
--- the text of a book is a text of that book
+-- the text that is written for a book holds that book
 abbrev pub TextsAreRead : Type 0
 TextsAreRead = (k : BookRows) → CanBeWritten k → IsTextOf (strip_bom (csv_of k)) k
 
--- so is the text of each book of a sound host
+-- the text that is written for a book of a sound host holds that book
 abbrev pub TextsOfHostsAreRead : Type 0
 TextsOfHostsAreRead =
     (h : Host) (b : ℕ) (book : BookValue) → IsSound h → get h.books b ≡ Some book
     → IsTextOf (strip_bom (csv_of (rows_of_book book))) (rows_of_book book)
 
--- the records of a book's text are taken to their end, and make the book
+-- the records of a text that holds a book are taken to their end, and make that book
 abbrev pub TextsAreReadAs : Type 0
 TextsAreReadAs = (text : List ℕ) (k : BookRows) → IsTextOf text k → IsReadAs text k
 
--- two rows with the same columns are one
+-- two rows with the same columns are equal
 abbrev pub RowsHaveOneSpelling : Type 0
 RowsHaveOneSpelling = (r s : Row) → FitsColumns r → FitsColumns s → row_fields r ≡ row_fields s → r ≡ s
 
--- two first faults of a text are one, in one row
+-- a text has only one first fault, in one row
 abbrev pub FirstFaultsAreOne : Type 0
 FirstFaultsAreOne =
     (text : List ℕ) (c d : Cause) (m n : ℕ) → c ≢ cause.Memory → d ≢ cause.Memory
     → IsFirstCause text c m → IsFirstCause text d n → (c ≡ d) × (m ≡ n)
 
--- a text with a first fault is of no book
+-- a text with a first fault holds no book
 abbrev pub FirstFaultsExcludeBooks : Type 0
 FirstFaultsExcludeBooks =
     (text : List ℕ) (c : Cause) (m : ℕ) (k : BookRows) → c ≢ cause.Memory → IsFirstCause text c m → IsTextOf text k → ⊥
 
--- no text is of two books
+-- no text holds two books
 abbrev pub TextsHoldOneBook : Type 0
 TextsHoldOneBook = (text : List ℕ) (j k : BookRows) → IsTextOf text j → IsTextOf text k → j ≡ k

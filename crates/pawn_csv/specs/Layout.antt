@@ -31,7 +31,7 @@ list_rows n secrets entries extensions booking =
 abbrev pub raw_rows : RawPledge → List Row
 raw_rows p = Row.Pledge p.columns ∷ list_rows p.columns.number p.secrets p.entries p.extensions p.booking
 
--- the lists of a pledge are within the limits, and its entries numbered 1, 2, ..; only the second version has extensions
+-- a pledge's lists are within the limits, and its entries are numbered 1, 2, ..; only the second version has extensions
 pub record IsWithin (v : Version) (p : RawPledge) : Type 0 where
   pub secrets : length p.secrets ≤ most_secrets
   pub entries : length p.entries ≤ most_entries
@@ -39,7 +39,7 @@ pub record IsWithin (v : Version) (p : RawPledge) : Type 0 where
   pub numbered : AreNumbered 1 p.entries
   pub known : v ≡ version.One → p.extensions ≡ []
 
--- pledges are numbered from here on, and each has the secret of its opening
+-- pledges are numbered from n on, and each has a secret, of which the first is that of its opening
 abbrev pub AreLaidFrom : ℕ → Version → List RawPledge → Type 0
 AreLaidFrom n v [] = Unit {0}
 AreLaidFrom n v (p ∷ ps) = (p.columns.number ≡ n) × (has_secret p ≡ true) × IsWithin v p × AreLaidFrom (n + 1) v ps
@@ -54,27 +54,27 @@ pub record IsLaidOut (v : Version) (terms : List Rates) (pledges : List RawPledg
 abbrev pub laid_rows : Version → List Rates → List RawPledge → List Row
 laid_rows v terms pledges = Row.Book v (length terms) (length pledges) ∷ (terms_rows 1 terms ++ flat_map raw_rows pledges)
 
--- what is said of the rows of a book that are taken in turn, of those of this version, with these terms and pledges
+-- laws of the rows of a book of this version, with these terms and pledges, that are taken one after another
 
--- laid out, they are taken to their end
+-- rows that are laid out are taken to their end
 abbrev pub LayoutsAreTaken : Type 0
 LayoutsAreTaken =
     (v : Version) (terms : List Rates) (pledges : List RawPledge) → IsLaidOut v terms pledges
     → (b : Begun) × (run None (laid_rows v terms pledges) ≡ Ok (Some b)) × (is_whole (Some b) ≡ true) × (b.terms ≡ terms) × (pledges_begun b ≡ pledges)
 
--- and only rows that are laid out are
+-- only rows that are laid out are taken to their end
 abbrev pub TakenAreLaidOut : Type 0
 TakenAreLaidOut =
     (rows : List Row) (b : Begun) → run None rows ≡ Ok (Some b) → is_whole (Some b) ≡ true
     → IsLaidOut b.version b.terms (pledges_begun b) × (rows ≡ laid_rows b.version b.terms (pledges_begun b))
 
--- so a row is refused only if no more rows can lay out a book with those up to it
+-- a row is refused only if no further rows can complete a book with those up to it
 abbrev pub RefusedAreNoFront : Type 0
 RefusedAreNoFront =
     (rows more : List Row) (c : Cause) (v : Version) (terms : List Rates) (pledges : List RawPledge)
     → run None rows ≡ Err c → IsLaidOut v terms pledges → rows ++ more ≡ laid_rows v terms pledges → ⊥
 
--- a row above a limit: the counts of a book, or one more of a list of the pledge at hand
+-- a row that passes a limit: a count of the book is too high, or a list of the pledge at hand is full
 abbrev pub IsAboveALimit : Option Begun → Row → Type 0
 IsAboveALimit s (Row.Book v terms pledges) = (most_terms < terms) ⊎ (most_pledges < pledges)
 IsAboveALimit s (Row.Secret number place x) = (b : Begun) × (p : RawPledge) × (s ≡ Some b) × (b.at_hand ≡ Some p) × (most_secrets ≤ length p.secrets)
@@ -84,11 +84,11 @@ IsAboveALimit s (Row.Terms v x) = ⊥
 IsAboveALimit s (Row.Pledge x) = ⊥
 IsAboveALimit s (Row.Booking number x) = ⊥
 
--- only such a row is one too many
+-- only such a row is refused with `TooMany`
 abbrev pub TooManyIsAboveALimit : Type 0
 TooManyIsAboveALimit = (s : Option Begun) (r : Row) → place s r ≡ Err cause.TooMany → IsAboveALimit s r
 
--- rows that are laid out are of no book that can have come about exactly if none has these rows
+-- rows that are laid out are refused with `NotReplayable` exactly if no book that can have come about has these rows
 abbrev pub NotReplayableIsOfNoBook : Type 0
 NotReplayableIsOfNoBook =
     (v : Version) (terms : List Rates) (pledges : List RawPledge) (s : Option Begun) → IsLaidOut v terms pledges → run None (laid_rows v terms pledges) ≡ Ok s

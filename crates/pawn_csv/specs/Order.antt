@@ -27,7 +27,7 @@ pub record Begun : Type 0 where
   pub pledges : List RawPledge
   pub at_hand : Option RawPledge
 
--- what the code keeps, as it is seen here
+-- the code's begun book, as the specs see it
 abbrev pub view_begun : BegunBook → Begun
 view_begun b = record {
   version = b.version;
@@ -45,11 +45,11 @@ view_if_any (Some b) = Some (view_begun b)
 abbrev pub begun_of : RawBook → Option Begun
 begun_of raw = view_if_any raw.begun
 
--- an answer where a test holds, else a row where it can't stand
+-- the answer if the test holds, else a row out of order
 abbrev pub in_order : {A : Type 0} → Bool → A → Result A Cause
 in_order test answer = if test then Ok answer else Err cause.Order
 
--- a list that can't grow, before anything else of its row
+-- a full list can't grow; this is judged before anything else of the row
 abbrev pub unless_full : {A : Type 0} → ℕ → ℕ → Result A Cause → Result A Cause
 unless_full count most answer = if nat_le most count then Err cause.TooMany else answer
 
@@ -57,7 +57,7 @@ unless_full count most answer = if nat_le most count then Err cause.TooMany else
 abbrev pub raw_pledge : PledgeColumns → RawPledge
 raw_pledge columns = record { columns = columns; secrets = []; entries = []; extensions = []; booking = None }
 
--- the pledge at hand, as a list
+-- the pledge at hand, if any, as a list
 abbrev pub hand : Option RawPledge → List RawPledge
 hand None = []
 hand (Some p) = p ∷ []
@@ -74,11 +74,11 @@ abbrev pub is_nil : {A : Type 0} → List A → Bool
 is_nil [] = true
 is_nil (x ∷ xs) = false
 
--- a pledge has the secret of its opening
+-- a pledge has a secret, of which the first is that of its opening
 abbrev pub has_secret : RawPledge → Bool
 has_secret p = not (is_nil p.secrets)
 
--- the rows of the pledge at hand may be over
+-- the pledge at hand, if any, may have no further rows
 abbrev pub may_end : Option RawPledge → Bool
 may_end None = true
 may_end (Some p) = has_secret p
@@ -99,7 +99,7 @@ place_terms b version rates =
     in_order ((version == length b.terms + 1) && nat_le version b.terms_due && (length (pledges_begun b) == 0))
     (record b { terms = b.terms ++ rates ∷ [] })
 
--- the next pledge, as long as some are due, where the one before it may end
+-- the next pledge, as long as some are due and the one before it may end
 abbrev pub place_pledge : Begun → PledgeColumns → Result Begun Cause
 place_pledge b columns =
     in_order ((length b.terms == b.terms_due) && may_end b.at_hand && (columns.number == length (pledges_begun b) + 1) && nat_le columns.number b.pledges_due)
@@ -140,7 +140,7 @@ abbrev pub on_hand : Begun → ℕ → Option RawPledge → (RawPledge → Resul
 on_hand b number None place = Err cause.Order
 on_hand b number (Some p) place = if p.columns.number == number then put_hand b (place p) else Err cause.Order
 
--- extensions, where the text's version knows them
+-- an extension is refused in a text of the first version
 abbrev pub on_second : Version → Result Begun Cause → Result Begun Cause
 on_second version.One answer = Err cause.BadField
 on_second version.Two answer = answer
@@ -156,17 +156,17 @@ place_after b (Row.Extension number place extension) =
     on_second b.version (on_hand b number b.at_hand (λ p. place_extension p place extension))
 place_after b (Row.Booking number booking) = on_hand b number b.at_hand (λ p. place_booking p booking)
 
--- a row where none was read
+-- the first row
 abbrev pub place_before : Row → Result Begun Cause
 place_before (Row.Book version terms pledges) = place_book None version terms pledges
 place_before other = Err cause.Order
 
--- what a row does
+-- what a row does to what was read so far
 abbrev pub place : Option Begun → Row → Result Begun Cause
 place None row = place_before row
 place (Some b) row = place_after b row
 
--- rows in turn
+-- what rows do, one after another, until one is refused
 abbrev pub then_run : Result Begun Cause → (Option Begun → Result (Option Begun) Cause) → Result (Option Begun) Cause
 then_run (Ok b) more = more (Some b)
 then_run (Err e) more = Err e

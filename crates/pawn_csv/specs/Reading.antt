@@ -44,8 +44,8 @@ IsNoRow fields = (r : Row) → FitsColumns r → fields ≡ row_fields r → ⊥
 abbrev pub IsRowRefused : List (List ℕ) → Option Begun → Cause → Type 0
 IsRowRefused fields old c = (r : Row) × IsSpelled fields r × (place old r ≡ Err c)
 
--- why a record after the header is not taken: memory is wanting, it has another number of columns, they spell no row, or the
--- row is refused there
+-- why a record after the header is not taken: memory is refused, it has another number of columns, they spell no row,
+-- or the row is refused there
 abbrev pub RefusesRow : List (List ℕ) → Option Begun → Cause → Type 0
 RefusesRow fields old c =
     (c ≡ cause.Memory)
@@ -65,14 +65,14 @@ abbrev pub AreTaken : List (List (List ℕ)) → List Row → Option Begun → T
 AreTaken [] rows s = (rows ≡ []) × (s ≡ None)
 AreTaken (h ∷ rs) rows s = (h ≡ header) × (rs ≡ map row_fields rows) × Each FitsColumns rows × (run None rows ≡ Ok s)
 
--- why the end of the records is refused: rows are wanting, or they make no book
+-- why the end of the records is refused: rows are missing, or they make no replayable book
 abbrev pub RefusesEnd : Option Begun → Cause → Type 0
 RefusesEnd s cause.Order = is_whole s ≡ false
 RefusesEnd s cause.NotReplayable = IsOfNoBook s
 RefusesEnd s cause.Memory = Unit {0}
 RefusesEnd s _ = ⊥
 
--- a text without a record wants the header
+-- a text without a record lacks the header
 abbrev pub EndsReadingAs : List (List (List ℕ)) → Option Begun → Cause → Type 0
 EndsReadingAs [] s c = c ≡ cause.Columns
 EndsReadingAs (h ∷ rs) s c = RefusesEnd s c
@@ -88,14 +88,15 @@ pub record AreTakenBefore (text : List ℕ) (row : ℕ) : Type 0 where
   pub taken : AreTaken before rows begun
   pub place : length before + 1 ≡ row
 
--- each record before this one is taken, and this one, or the end, is refused for that cause
+-- each record before this one is taken; this one, or the end of the text, is refused for this cause
 pub record IsFirstCause (text : List ℕ) (c : Cause) (row : ℕ) : Type 0 where
   pub at : AreTakenBefore text row
   pub why : ((p : Read) × (next_record default_config at.state [] [] at.rest ≡ Some p)
       × Taking (nat_eq (length at.before) 0) p.0 at.begun (let r : Result (Unit {0}) Cause = Err c in r) at.begun)
       ⊎ ((next_record default_config at.state [] [] at.rest ≡ None) × EndsReadingAs at.before at.begun c)
 
--- a fault of the memory or of the reader may come at any row, once those before it are taken; any other is the first of the text
+-- refused memory or a failed read may come at any row, once those before it are taken; any other fault is the first of
+-- the text
 abbrev pub IsFaultOf : List ℕ → Cause → ℕ → Type 0
 IsFaultOf text cause.Memory row = AreTakenBefore text row
 IsFaultOf text cause.Read row = AreTakenBefore text row
@@ -106,7 +107,8 @@ abbrev pub IsReadAs : List ℕ → BookRows → Type 0
 IsReadAs text k =
     (records : List (List (List ℕ))) × (rows : List Row) × (s : Option Begun) × AreRecords default_config st.StartRecord text records × AreTaken records rows s × IsFinishedAs s k
 
--- what an error of the library's reader is here; of one that takes any number of columns it is the reader's own or memory's
+-- the cause for an error of the CSV reader; since it takes any number of columns, the error is a failed read or refused
+-- memory
 abbrev pub CauseOf : ErrorKind → Cause → Type 0
 CauseOf (kind.Io e) c = c ≡ cause.Read
 CauseOf kind.OutOfMemory c = c ≡ cause.Memory

@@ -65,7 +65,7 @@ row_fields (Row.Booking number b) =
 abbrev pub IsShort : ℕ → Type 0
 IsShort n = n < 10 ^ 12
 
--- what the columns of a pledge's own row keep, each by itself
+-- the limits of each column of a pledge's own row, taken by itself
 pub record AreColumns (c : PledgeColumns) : Type 0 where
   pub number : IsShort c.number
   pub opening : IsOpening c.opening
@@ -78,7 +78,7 @@ pub record AreColumns (c : PledgeColumns) : Type 0 where
   pub closing_day : IfSome c.closing_day IsStampDay
   pub amount : IfSome c.amount IsShort
 
--- what the columns of a row keep, each by itself
+-- the limits of each column of a row, taken by itself
 abbrev pub FitsColumns : Row → Type 0
 FitsColumns (Row.Book version terms pledges) = IsShort terms × IsShort pledges
 FitsColumns (Row.Terms version rates) = IsShort version × IsShort rates.rate × IsShort rates.keep_before × IsShort rates.keep_after
@@ -104,7 +104,7 @@ closing_amount closed.Open = None
 closing_amount (closed.Redeemed day paid) = Some paid
 closing_amount (closed.Sold day net) = Some net
 
--- the columns of a row of what was agreed when a pledge was taken, and how it stands
+-- the columns of a pledge's own row, from what was agreed and how it stands
 abbrev pub own_columns : Agreement → Standing → PledgeColumns
 own_columns a s = record {
   number = a.number;
@@ -122,12 +122,12 @@ own_columns a s = record {
 abbrev pub pledge_columns : PledgeValue → PledgeColumns
 pledge_columns p = own_columns p.agreement p.standing
 
--- versions of terms from one on
+-- the rows of terms, for versions from this one on
 abbrev pub terms_rows : ℕ → List Rates → List Row
 terms_rows version [] = []
 terms_rows version (t ∷ ts) = Row.Terms version t ∷ terms_rows (version + 1) ts
 
--- secrets of a pledge from a place on
+-- the rows of a pledge's secrets, at places from this one on
 abbrev pub secret_rows : ℕ → ℕ → List Issued → List Row
 secret_rows number place [] = []
 secret_rows number place (i ∷ is) = Row.Secret number place i ∷ secret_rows number (place + 1) is
@@ -135,7 +135,7 @@ secret_rows number place (i ∷ is) = Row.Secret number place i ∷ secret_rows 
 abbrev pub entry_rows : ℕ → List Entry → List Row
 entry_rows number entries = map (Row.Entry number) entries
 
--- extensions of a pledge from a place on
+-- the rows of a pledge's extensions, at places from this one on
 abbrev pub extension_rows : ℕ → ℕ → List Extension → List Row
 extension_rows number place [] = []
 extension_rows number place (e ∷ es) = Row.Extension number place e ∷ extension_rows number (place + 1) es
@@ -164,7 +164,7 @@ version_rows version k = header ∷ map row_fields (rows_of_csv version k)
 abbrev pub csv_rows : BookRows → List (List (List ℕ))
 csv_rows k = version_rows version.Two k
 
--- the records of a book without extensions, as they once were
+-- the records of a book without extensions, in the first version of the form
 abbrev pub csv1_rows : BookRows → List (List (List ℕ))
 csv1_rows k = version_rows version.One k
 

@@ -1,4 +1,4 @@
--- What clauses read of a writer of rows, and what it is to have written a text.
+-- What contracts say of a writer of rows, and what it means that a text was written.
 use Rattle.std.specs.Prelude.{ℕ, Bool, true, false, List, ◌||◌, ◌≡◌, Option}
 use Rattle.pawn_book.specs.Visits.{End}
 use Rattle.pawn_view.specs.Ends.{Share, Written, end_by, write_failed}
@@ -14,16 +14,17 @@ use Rattle.pawn_csv.specs.declared.writing.Sink.{Sink}
 abbrev pub has_ended : {W : Type 0} → Sink W → Bool
 has_ended sink = write_failed sink.writer || sink.is_starved
 
--- a sink, seen as a writer that failed where a row was not written whole
+-- a sink, seen as a writer that has failed once a row was not written whole
 abbrev pub seen : {W : Type 0} → Sink W → Writing W
 seen sink = record { inner = sink.writer.inner; failed = has_ended sink }
 
--- the text went out, or a front of it where a row was not written whole; nothing is written after that
+-- the whole text went out, or only its beginning if the row was not written whole; nothing is written after that
 pub record PutsRow {W : Type 0} (contents : W → Option (List ℕ)) (old : Sink W) (text : List ℕ) (new : Sink W) : Type 0 where
   pub ended : has_ended old ≡ true → new ≡ old
   pub fine : has_ended old ≡ false → Written contents (seen old) text (end_by (has_ended new)) (seen new)
 
--- a front of the text was put, and all of it where the calls on the way succeeded and each row was written whole
+-- the beginning of the text was put; it is the whole text if the calls on the way succeeded and each row was written
+-- whole
 abbrev pub PutsRowsShare : {W : Type 0} → (W → Option (List ℕ)) → Sink W → List ℕ → End → Sink W → Type 0
 PutsRowsShare contents old text end new = Share (PutsRow contents) has_ended old text end new
 
@@ -31,6 +32,6 @@ PutsRowsShare contents old text end new = Share (PutsRow contents) has_ended old
 abbrev pub text_of_row : Row → List ℕ
 text_of_row row = row_text default_writer (row_fields row)
 
--- the columns of a pledge's own row, which none of its lists is needed for
+-- the columns of a pledge's own row, for which its lists are not needed
 abbrev pub brief_columns : BriefFields → PledgeColumns
 brief_columns b = own_columns b.agreement b.standing

@@ -1,4 +1,4 @@
--- What columns spell.
+-- What it means to read a column.
 use Rattle.std.specs.Prelude.{◌≡◌, ℕ, ◌≤◌, ◌<◌, List, [], Option, None, Some, IfSome, decimal, get_or}
 use Rattle.std.specs.Str.{IsUtf8}
 use Rattle.pawn_terms.specs.Calendar.{IsStampDay, day_text}
@@ -9,7 +9,7 @@ use Rattle.pawn_pledge.specs.declared.record.Opening.{Opening}
 use Rattle.pawn_csv.specs.Columns.{kind_text, text_if_any, yes_text}
 use Rattle.pawn_csv.specs.Rows.{IsShort}
 
--- what a spelling reads as: the value that is spelled so and keeps its rule, or none where there is no such value
+-- what a spelling reads as: the value that is spelled so and keeps its rule, or none if there is no such value
 abbrev pub ReadsAs : {A B : Type 0} → (A → B) → (A → Type 0) → B → Option A → Type 0
 ReadsAs text Keeps spelled (Some x) = Keeps x × (spelled ≡ text x)
 ReadsAs text Keeps spelled None = (x : _) → Keeps x → spelled ≡ text x → ⊥
@@ -22,7 +22,7 @@ column_at fields place = get_or fields place []
 abbrev pub AreBlankFrom : ℕ → List (List ℕ) → Type 0
 AreBlankFrom first fields = (place : ℕ) → first ≤ place → place < 15 → column_at fields place ≡ []
 
--- a text of at most so many bytes
+-- a text of 1 to so many bytes, in UTF-8
 abbrev pub IsTextColumn : ℕ → List ℕ → Type 0
 IsTextColumn most text = IsText most text × IsUtf8 text
 

@@ -1,4 +1,4 @@
--- Rows worked out: what is taken, and what each that is refused is refused for.
+-- Examples of rows, worked out: which are taken, and for which cause others are refused.
 use Rattle.std.specs.Prelude.{◌≡◌, Bool, true, false, ℕ, List, [], ◌∷◌, map, Option, None, Some, Result, Ok, Err, codes}
 use Rattle.csv.specs.Writing.{default_writer, row_text}
 use Rattle.pawn_terms.specs.Worked.{date}
@@ -27,7 +27,7 @@ ring_book = record { terms = free ∷ []; pledges = ring 10000 ∷ [] }
 abbrev pub extended_book : BookRows
 extended_book = record { terms = free ∷ []; pledges = extended_ring ∷ [] }
 
--- a ring for which a declaration was tendered, and a booking asked for
+-- a ring for which a declaration was tendered and a booking was asked for
 abbrev pub ring_tendered : PledgeValue
 ring_tendered =
     let p = ring 10000 in
@@ -47,7 +47,7 @@ abbrev pub ended : Result (Option Begun) Cause → Result Bool Cause
 ended (Ok s) = Ok (is_whole s)
 ended (Err e) = Err e
 
--- what rows come to at their end: the cause of the first that is refused, or whether they may end
+-- what rows come to: the cause of the first that is refused, or else whether they may end there
 abbrev pub comes_to : List Row → Result Bool Cause
 comes_to rows = ended (run None rows)
 
@@ -77,14 +77,14 @@ pub record WorkedRowTexts : Type 0 where
   pub unbooked : comes_to (rows_of_csv version.One (record { terms = free ∷ []; pledges = record ring_tendered { standing = record ring_tendered.standing { booking = None } } ∷ [] })) ≡ Ok true
   pub whole : comes_to (rows_of_csv version.Two ring_book) ≡ Ok true
   pub extended : comes_to (rows_of_csv version.Two extended_book) ≡ Ok true
-  -- the first version knows no extension
+  -- the first version has no extensions
   pub first_version : comes_to (rows_of_csv version.One extended_book) ≡ Err cause.BadField
-  -- no row at all, and rows that are wanting
+  -- no row at all, and rows of which one is missing
   pub empty : comes_to [] ≡ Ok false
   pub wanting : comes_to (Row.Book version.Two 1 1 ∷ Row.Terms 1 free ∷ []) ≡ Ok false
-  -- counts above the limits come before the place of the row
+  -- counts above the limits are judged before the order of the row
   pub counts : comes_to (Row.Book version.Two 0 0 ∷ Row.Book version.Two 100 0 ∷ []) ≡ Err cause.TooMany
   pub twice : comes_to (Row.Book version.Two 0 0 ∷ Row.Book version.Two 0 0 ∷ []) ≡ Err cause.Order
-  -- a gap in the versions of terms, and one more than were told
+  -- a gap in the versions of terms, and one version more than the first row says
   pub gap : comes_to (Row.Book version.Two 2 0 ∷ Row.Terms 2 free ∷ []) ≡ Err cause.Order
   pub more : comes_to (Row.Book version.Two 1 0 ∷ Row.Terms 1 free ∷ Row.Terms 2 free ∷ []) ≡ Err cause.Order

@@ -1,4 +1,4 @@
-//! One column.
+//! Reading one column.
 ghost use Rattle.std.specs.Prelude.{◌≡◌, ℕ, ◌↔◌, List, IfOk, IfNone, IfSome, IsTrue, decimal};
 ghost use Rattle.csv.specs.Records.{fields_of};
 ghost use Rattle.pawn_terms.specs.Calendar.{day_text, IsStampDay};
@@ -28,7 +28,7 @@ pub(crate) fn column(columns: &ByteRecord, place: usize) -> &[u8]
     }
 }
 
-// The number that a column spells.
+// The number that a column spells: decimal, at most 12 digits, in its only spelling.
 pub(crate) fn read_number(field: &[u8]) -> Option<u64>
     ensures value { ReadsAs decimal IsShort field.now result }
 {
@@ -49,7 +49,7 @@ pub(crate) fn read_number(field: &[u8]) -> Option<u64>
     }
 }
 
-// The day that a column spells.
+// The day that a column spells, as `2024-01-31`.
 pub(crate) fn read_day(field: &[u8]) -> Option<Day>
     ensures value { ReadsAs day_text IsStampDay field.now result }
 {
@@ -59,7 +59,7 @@ pub(crate) fn read_day(field: &[u8]) -> Option<Day>
     }
 }
 
-// The secret that a column spells.
+// The secret that a column spells, hyphenated and with small letters.
 pub(crate) fn read_secret(field: &[u8]) -> Option<Secret>
     ensures value { ReadsAs secret_text IsWord field.now result }
 {
@@ -77,7 +77,7 @@ pub(crate) fn read_secret(field: &[u8]) -> Option<Secret>
     }
 }
 
-// The version that a column spells.
+// The version of the text's form that a column spells.
 pub(crate) fn read_version(field: &[u8]) -> Option<Version>
     ensures value { ReadsAs form_text IsAny field.now result }
 {
@@ -88,7 +88,7 @@ pub(crate) fn read_version(field: &[u8]) -> Option<Version>
     }
 }
 
-// The answer that a column spells.
+// True for `yes`, false for `no`.
 pub(crate) fn read_yes(field: &[u8]) -> Option<bool>
     ensures value { ReadsAs yes_text IsAny field.now result }
 {
@@ -99,7 +99,7 @@ pub(crate) fn read_yes(field: &[u8]) -> Option<bool>
     }
 }
 
-// How a column says that a pledge was closed.
+// `open`, `redeemed` or `sold`.
 pub(crate) fn read_closing(field: &[u8]) -> Option<ClosingWord>
     ensures value { ReadsAs closing_text IsAny field.now result }
 {
@@ -111,7 +111,7 @@ pub(crate) fn read_closing(field: &[u8]) -> Option<ClosingWord>
     }
 }
 
-// How a column says that a secret was issued.
+// Why a secret was issued: `opening`, `sworn` or `written`.
 pub(crate) fn read_issue(field: &[u8]) -> Option<Issue>
     ensures value { ReadsAs issue_text IsAny field.now result }
 {
@@ -123,7 +123,7 @@ pub(crate) fn read_issue(field: &[u8]) -> Option<Issue>
     }
 }
 
-// What a column says that an entry is.
+// The sort of an entry that a column names: a drawing or a repayment.
 pub(crate) fn read_sort(field: &[u8]) -> Option<Sort>
     ensures value { ReadsAs sort_text IsAny field.now result }
 {
@@ -134,7 +134,7 @@ pub(crate) fn read_sort(field: &[u8]) -> Option<Sort>
     }
 }
 
-// Where a column says that a booking stands.
+// The state of a booking that a column names.
 pub(crate) fn read_state(field: &[u8]) -> Option<BookingState>
     ensures value { ReadsAs state_text IsAny field.now result }
 {
@@ -147,7 +147,7 @@ pub(crate) fn read_state(field: &[u8]) -> Option<BookingState>
     }
 }
 
-// The number that a column spells, if it is not empty.
+// The number that a column spells, or `Some(None)` if the column is empty. `None` if it is malformed.
 pub(crate) fn read_number_if_any(field: &[u8]) -> Option<Option<u64>>
     ensures value { ReadsAs (text_if_any decimal) IsShortIfAny field.now result }
 {
@@ -160,7 +160,7 @@ pub(crate) fn read_number_if_any(field: &[u8]) -> Option<Option<u64>>
     }
 }
 
-// The day that a column spells, if it is not empty.
+// The day that a column spells, or `Some(None)` if the column is empty. `None` if it is malformed.
 pub(crate) fn read_day_if_any(field: &[u8]) -> Option<Option<Day>>
     ensures value { ReadsAs (text_if_any day_text) IsStampDayIfAny field.now result }
 {
@@ -173,7 +173,7 @@ pub(crate) fn read_day_if_any(field: &[u8]) -> Option<Option<Day>>
     }
 }
 
-// The day of an agreed end that a column spells, if it is not empty.
+// The agreed end that a column spells, or `Some(None)` if the column is empty. `None` if it is malformed.
 pub(crate) fn read_agreed(field: &[u8]) -> Option<Option<RequestDay>>
     ensures value { ReadsAs (text_if_any day_text) IsStampDayIfAny field.now result }
 {
@@ -186,7 +186,7 @@ pub(crate) fn read_agreed(field: &[u8]) -> Option<Option<RequestDay>>
     }
 }
 
-// The text of a column, which keeps a text's limits.
+// The text in a column, if it is within the limits of a text of 1 to `MOST` bytes.
 pub(crate) fn read_text<const MOST: usize>(
     alloc: Global,
     field: &[u8],
@@ -200,7 +200,7 @@ pub(crate) fn read_text<const MOST: usize>(
     Text::of_str(alloc, text)
 }
 
-// The credit of a pledge whose kind and amount two columns spell.
+// The kind of a pledge, with its amount in pence, that two columns spell.
 pub(crate) fn read_kind(word: &[u8], amount: &[u8]) -> Option<Kind>
     ensures found { IfSome result (λ kind. (word.now ≡ kind_text kind) × IsShort (credit_of kind)
         × (amount.now ≡ decimal (credit_of kind))) }

@@ -26,17 +26,17 @@ use pawn_view::{ViewFault, visit_entries, visit_extensions};
 use std::alloc::Global;
 use std::io::Write;
 
-/// A writer of the rows of books, round any writer of bytes.
+/// Writes the rows of a book's text to any writer of bytes.
 #[derive(Drop)]
 pub struct RowWriter<W> {
     sink: Sink<W>,
-    // The pledge whose list is put, and the place of its next row.
+    // The pledge whose list is being written, and the place of its next row.
     number: u64,
     place: u64,
 }
 
 impl<W> RowWriter<W> {
-    /// One that wrote nothing. Each row takes memory while it is written.
+    /// Wraps a writer. No row has been written yet. Each row takes memory while it is written.
     pub fn new(alloc: Global, inner: W) -> RowWriter<W>
         ensures inner { writing_inner result.sink.writer ≡ inner }
         ensures ended { has_ended result.sink ≡ false }
@@ -48,14 +48,14 @@ impl<W> RowWriter<W> {
         }
     }
 
-    /// The writer inside.
+    /// Gives the inner writer back.
     pub fn into_inner(self) -> W
         ensures answer { result ≡ writing_inner self.sink.writer }
     {
         self.sink.into_inner()
     }
 
-    // One row was put: the next is one place further.
+    // Goes to the next place after a row, and stops if that row was not written whole.
     fn go_on(&mut self) -> Flow
         ensures sink { self.new.sink ≡ self.old.sink }
         ensures number { self.new.number ≡ self.old.number }
@@ -98,7 +98,7 @@ impl<W: Write> Visitor<Extension> for RowWriter<W> {
     }
 }
 
-// Puts the secrets of a pledge.
+// Writes the rows of a pledge's secrets.
 fn put_secrets<K: Keep, W: Write>(
     keep: &mut K,
     book: Number,
@@ -116,7 +116,7 @@ fn put_secrets<K: Keep, W: Write>(
     keep.secrets(book, number, rows)
 }
 
-// Puts the entries of the pledge that this brief is of.
+// Writes the rows of the entries of the pledge that this brief is of.
 fn put_entries<K: Keep, W: Write>(
     keep: &mut K,
     book: Number,
@@ -137,7 +137,7 @@ fn put_entries<K: Keep, W: Write>(
     visit_entries(keep, book, number, brief, rows)
 }
 
-// Puts the extensions of the pledge that this brief is of.
+// Writes the rows of the extensions of the pledge that this brief is of.
 fn put_extensions<K: Keep, W: Write>(
     keep: &mut K,
     book: Number,
@@ -159,7 +159,7 @@ fn put_extensions<K: Keep, W: Write>(
     visit_extensions(keep, book, number, brief, rows)
 }
 
-// Puts the booking of a pledge, if one stands.
+// Writes the row of a pledge's booking, if there is one.
 fn put_booked<W: Write>(sink: &mut Sink<W>, number: Number, booking: Option<Booking>)
     ensures puts { PutsRow W.contents sink.old
         (flat_map text_of_row (booking_csv_rows number booking)) sink.new }
@@ -170,7 +170,7 @@ fn put_booked<W: Write>(sink: &mut Sink<W>, number: Number, booking: Option<Book
     }
 }
 
-// Puts the rows of the pledge that this brief is of.
+// Writes all rows of the pledge that this brief is of.
 fn put_record<K: Keep, W: Write>(
     keep: &mut K,
     book: Number,
@@ -203,7 +203,7 @@ fn put_record<K: Keep, W: Write>(
     Ok(())
 }
 
-// Puts so many versions of the terms of a book.
+// Writes the rows of versions 1 to `count` of a book's terms.
 fn put_versions<K: Keep, W: Write>(
     keep: &mut K,
     book: Number,
@@ -227,7 +227,7 @@ fn put_versions<K: Keep, W: Write>(
     Ok(())
 }
 
-// Puts so many pledges of a book.
+// Writes all rows of pledges 1 to `count` of a book.
 fn put_pledges<K: Keep, W: Write>(
     keep: &mut K,
     book: Number,
@@ -258,7 +258,7 @@ fn put_pledges<K: Keep, W: Write>(
     Ok(())
 }
 
-// Puts the rows below the first.
+// Writes the rows below a book's first row: its terms and its pledges.
 fn put_rows<K: Keep, W: Write>(
     keep: &mut K,
     book: Number,
@@ -278,7 +278,8 @@ fn put_rows<K: Keep, W: Write>(
     }
 }
 
-// How an export ends, once its rows were put.
+// The result of an export: `Write` if the writer failed, `Memory` if a row had no memory, else the keeper's error, if
+// any.
 fn ending<W>(done: Result<(), KeepError>, sink: &Sink<W>) -> Result<(), ViewFault>
     ensures answer { result ≡ sink_ending done sink.now }
 {
@@ -293,9 +294,9 @@ fn ending<W>(done: Result<(), KeepError>, sink: &Sink<W>) -> Result<(), ViewFaul
 
 /// Writes the text of a book, row by row. The keeper's content stays as it is.
 ///
-/// The caller's condition: each row before was written whole. Errors: `Unknown` where the book
-/// does not stand; `Memory` where it is wanting; `Store` where the keeper does not answer; `Write`
-/// only where the writer failed in the call.
+/// The caller's condition: each row before was written whole. Errors: `Unknown` if there is no such book; `Memory` if
+/// memory is refused; `Store` if the keeper does not answer; `Write` only if the writer failed in the call. After any
+/// error but `Unknown`, only the beginning of the text was written, or nothing.
 pub fn export<K: Keep, W: Write>(
     keep: &mut K,
     book: Number,

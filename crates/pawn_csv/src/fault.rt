@@ -8,21 +8,21 @@ use std::fmt;
 /// Why a text is no book.
 #[derive(Clone, Copy, Debug, PartialEq, Eq)]
 pub enum Cause {
-    /// A record with another number of columns than the header's.
+    /// A record has another number of columns than the header's fifteen.
     Csv,
     /// The first record is not the header.
     Columns,
-    /// A column is not what its kind of row asks for there.
+    /// A column is malformed for its kind of row, or a text of the first version has an extension.
     BadField,
-    /// A row where it can't stand, or one that is wanting at the end.
+    /// A row comes out of order, or a row is missing at the end.
     Order,
-    /// The rows are in order, and no book can have come to them.
+    /// The rows are in order, but no book can have come to have them.
     NotReplayable,
-    /// A count above its limit.
+    /// A count in the first row, or the length of a pledge's list, is above its limit.
     TooMany,
     /// The reader failed.
     Read,
-    /// Memory was wanting.
+    /// Memory was refused.
     Memory,
 }
 

@@ -16,7 +16,7 @@ use pawn_book::{
 };
 use std::alloc::{AllocError, Global};
 
-// The terms of a version, from 1.
+// The terms of a version. Versions are numbered from 1.
 fn find_terms(terms: &[Rates], version: u64) -> Option<Rates>
     ensures value { result ≡ terms_at terms.now version }
 {
@@ -26,7 +26,7 @@ fn find_terms(terms: &[Rates], version: u64) -> Option<Rates>
     Some(terms[version as usize - 1])
 }
 
-// The closing that a pledge's columns tell, if they go together.
+// The closing in a pledge's columns, if its word, day and amount go together.
 fn closing_of(columns: &PledgeColumns) -> Option<Closing>
     ensures found { IfSome result (IsClosingOf columns.now) }
     ensures none { IfNone result ((closing : Closing) → IsClosingOf columns.now closing → ⊥) }
@@ -56,7 +56,7 @@ fn closing_of(columns: &PledgeColumns) -> Option<Closing>
     }
 }
 
-// The record of a pledge whose rows are all read, if its columns go together with the book's terms.
+// The parts of a pledge whose rows are all read, if its columns fit together and the book has its version of terms.
 fn parts_of(raw: RawPledge, terms: &[Rates]) -> Option<Parts>
     ensures found { IfSome result (IsRawOf terms.now raw) }
     ensures none { IfNone result ((p : PledgeValue) → IsRawOf terms.now raw p → ⊥) }
@@ -93,7 +93,7 @@ fn parts_of(raw: RawPledge, terms: &[Rates]) -> Option<Parts>
     })
 }
 
-// The records of all pledges, if the columns of each go together.
+// The parts of all pledges, if the columns of each fit together.
 fn all_parts(
     alloc: Global,
     raws: Vec<RawPledge>,
@@ -114,7 +114,7 @@ fn all_parts(
     Ok(Some(all))
 }
 
-// The pledges whose rows are over, and the one at hand.
+// The pledges whose rows are complete, with the one at hand added.
 fn with_hand(
     pledges: Vec<RawPledge>,
     at_hand: Option<RawPledge>,
@@ -132,7 +132,7 @@ fn with_hand(
 }
 
 impl BegunBook {
-    // The book's rows, if the columns of each pledge go together.
+    // The book's rows, if the columns of each pledge fit together.
     fn into_rows(self, alloc: Global) -> Result<Option<BookRows>, AllocError>
         ensures found { IfOk result (λ rows. IfSome rows (IsBegunOf (view_begun self))) }
         ensures none { IfOk result
@@ -155,7 +155,7 @@ impl BegunBook {
     }
 }
 
-// The same rows, if a book can have come to them.
+// These rows as replayable ones, if a book can have come to have them; else `NotReplayable`.
 fn judge(rows: Option<BookRows>) -> Result<ReplayableRows, Cause>
     ensures found { IfOk result (λ k. (rows ≡ Some k) × AreReplayable k.terms k.pledges) }
     ensures refused { IfErr result (λ e. (e ≡ Cause.NotReplayable)
@@ -167,7 +167,7 @@ fn judge(rows: Option<BookRows>) -> Result<ReplayableRows, Cause>
     match ReplayableRows::of_rows(rows) {
         Err(_) => Err(Cause::NotReplayable),
         Ok(replayable) => {
-            // Whoever reads the rows knows that they are replayable.
+            // Reading the rows lets the proof know that they are replayable.
             let _ = replayable.rows();
             Ok(replayable)
         }
@@ -175,7 +175,7 @@ fn judge(rows: Option<BookRows>) -> Result<ReplayableRows, Cause>
 }
 
 impl BegunBook {
-    // The book, where the rows may end, and one can have come to them.
+    // The book that the rows make. `Order` if rows are missing, `NotReplayable` if no book can have come to have them.
     fn finish(self, alloc: Global) -> Result<ReplayableRows, Cause>
         ensures value { Ends (Some (view_begun self)) result }
     {
@@ -190,7 +190,7 @@ impl BegunBook {
 }
 
 impl RawBook {
-    /// The book, where the rows may end, and a book can have come to them.
+    /// The book that the rows make. `Order` if rows are missing, `NotReplayable` if no book can have come to have them.
     pub(crate) fn finish(self, alloc: Global) -> Result<ReplayableRows, Cause>
         ensures value { Ends (begun_of self) result }
     {

@@ -1,4 +1,4 @@
-//! Putting rows into a book.
+//! Filling an empty book with rows.
 ghost use Rattle.std.specs.Prelude.{ℕ};
 ghost use Rattle.pawn_book.specs.HostStep.{Host};
 ghost use Rattle.pawn_book.specs.Keeping.{GoesOn, IsQuiet, Of};
@@ -11,14 +11,12 @@ use pawn_book::{
 };
 use std::alloc::Global;
 
-/// Makes rows the terms and pledges of an empty book, under a key of their own, for the holder of
-/// the book's key `broker`. The same import again is told as it was the first time, whatever rows
-/// come with it.
+/// Fills an empty book with these terms and pledges, for the holder of the book's key `broker`. `key` is the import's
+/// own. A second import under that key gets the first one's answer, whatever rows come with it.
 ///
-/// Refused in this order: `NoSuchBook` where the book does not stand or the key is another's;
-/// `BookNotEmpty` where terms, pledges or another import stand; `Full` where the rows of all books
-/// would be above the limit. `Memory` and `Store` as the keeper answers. No refusal changes
-/// anything.
+/// The refusals come in this order. `NoSuchBook` if there is no such book or the key is another's. `BookNotEmpty` if
+/// the book has terms, pledges or another import. `Full` if the rows of all books would be above the limit. `Memory`
+/// and `Store` as the keeper answers. No refusal changes anything.
 pub fn import<K: Keep>(
     alloc: Global,
     keep: &mut K,
@@ -40,6 +38,6 @@ pub fn import<K: Keep>(
 {
     let asked = BrokerRequest::Import { key, rows };
     let caller = Caller::Broker { key: broker, asked };
-    // Whoever the operator is: the book's own key is asked for.
+    // Any key will do for the operator's, since only the book's own key is checked.
     act(alloc, keep, broker, stamp, &Request { book, caller })
 }

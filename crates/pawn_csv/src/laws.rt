@@ -2,8 +2,8 @@
 ghost use Rattle.pawn_csv.specs.Layout.{LayoutsAreTaken, NotReplayableIsOfNoBook, RefusedAreNoFront, TakenAreLaidOut, TooManyIsAboveALimit};
 ghost use Rattle.pawn_csv.specs.Laws.{BooksAreHeld, FirstFaultsAreOne, FirstFaultsExcludeBooks, RowsHaveOneSpelling, TextsAreRead, TextsAreReadAs, TextsHoldOneBook, TextsOfHostsAreRead};
 
-/// The text of a book is a text of that book, so that of each book of a sound host. A text of a
-/// book is taken to its end as that book.
+/// The text that is written for a book holds that book, and so it is for each book of a sound host. A text that holds a
+/// book is read to its end as that book.
 pub fn laws_of_texts()
     ensures held { BooksAreHeld }
     ensures read { TextsAreRead }
@@ -11,20 +11,21 @@ pub fn laws_of_texts()
     ensures taken { TextsAreReadAs }
 {}
 
-/// Two rows with the same columns are one.
+/// Two rows with the same columns are equal.
 pub fn rows_have_one_spelling()
     ensures law { RowsHaveOneSpelling }
 {}
 
-/// A text has one reading: one book, or one first fault.
+/// A text can be read in one way only: as one book, or with one first fault.
 pub fn texts_have_one_reading()
     ensures faults { FirstFaultsAreOne }
     ensures books { FirstFaultsExcludeBooks }
     ensures one { TextsHoldOneBook }
 {}
 
-/// The rows of a book have one layout: rows that are laid out so are taken to their end, and no others are. A row is refused only if
-/// no rows behind it can lay out a book, as one too many only above a limit, and as of no replayable book only if none has these rows.
+/// The rows of a book have one layout. Rows in that layout are taken to their end, and no others are. A row is refused
+/// only if no rows after it can complete a book. `TooMany` means that a limit was passed, and `NotReplayable` that no
+/// replayable book has these rows.
 pub fn rows_have_one_layout()
     ensures taken { LayoutsAreTaken }
     ensures laid { TakenAreLaidOut }

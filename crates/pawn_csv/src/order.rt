@@ -13,7 +13,7 @@ use pawn_debt::MOST_ENTRIES;
 use pawn_pledge::{MOST_EXTENSIONS, MOST_SECRETS};
 use std::alloc::Global;
 
-/// A pledge as its rows so far tell it, be it one that can have come about or not.
+/// A pledge as its rows so far give it. It need not be one that can have come about.
 #[derive(Drop)]
 pub(crate) struct RawPledge {
     pub columns: PledgeColumns,
@@ -24,7 +24,7 @@ pub(crate) struct RawPledge {
 }
 
 impl RawPledge {
-    // A pledge whose own row was read.
+    // A pledge of which only its own row was read.
     fn new(alloc: Global, columns: PledgeColumns) -> RawPledge
         ensures value { result ≡ raw_pledge columns }
     {
@@ -37,7 +37,7 @@ impl RawPledge {
         }
     }
 
-    // Whether it has the secret of its opening.
+    // Whether it has a secret: the first is that of its opening.
     fn has_secret(&self) -> bool
         ensures value { result ≡ has_secret self.now }
     {
@@ -113,7 +113,7 @@ impl RawPledge {
     }
 }
 
-/// A book of which some rows were read.
+/// A book of which the first row was read, and perhaps more. `at_hand` is the pledge whose rows are being read.
 #[derive(Drop)]
 pub(crate) struct BegunBook {
     pub version: Version,
@@ -124,7 +124,7 @@ pub(crate) struct BegunBook {
     pub at_hand: Option<RawPledge>,
 }
 
-// The book that a first row begins.
+// The book that a first row begins. It is an error if the row is not that of a book.
 fn begin(alloc: Global, row: &Row) -> Result<BegunBook, Cause>
     ensures answer { GivesAs view_begun (place_before row.now) result }
 {
@@ -162,7 +162,7 @@ impl BegunBook {
         }
     }
 
-    // Whether the rows of the pledge at hand may be over.
+    // Whether the pledge at hand, if there is one, may have no further rows.
     fn may_end(&self) -> bool
         ensures value { result ≡ may_end self.now.at_hand }
     {
@@ -241,7 +241,8 @@ impl BegunBook {
         }
     }
 
-    // Takes the row of an extension of the pledge at hand, which the first version has not.
+    // Takes the row of an extension of the pledge at hand. `BadField` if the text is of the first version, which has
+    // none.
     fn place_extension(
         &mut self,
         number: u64,
@@ -311,7 +312,7 @@ impl BegunBook {
         }
     }
 
-    // Whether all is there that the first row says, and the last pledge may end.
+    // Whether there are as many terms and pledges as the first row says, and the last pledge may end.
     pub(crate) fn is_whole(&self) -> bool
         ensures value { result ≡ is_whole (Some (view_begun self.now)) }
     {
@@ -321,7 +322,7 @@ impl BegunBook {
     }
 }
 
-/// What the rows so far make: nothing before the first.
+/// What the rows so far make. There is nothing before the first row.
 #[derive(Drop)]
 pub(crate) struct RawBook {
     pub begun: Option<BegunBook>,

@@ -13,7 +13,7 @@ use pawn_book::ReplayableRows;
 use std::alloc::Global;
 use std::io::Read;
 
-// What an error of the library's reader is here.
+// The cause for an error of the CSV reader.
 fn cause_of(error: &Error) -> Cause
     ensures cause { CauseOf (error_kind error.now) result }
 {
@@ -24,7 +24,7 @@ fn cause_of(error: &Error) -> Cause
     }
 }
 
-// Takes the next record: the header, or a row.
+// Takes the next record: the header if it is the first, else a row.
 fn take(alloc: Global, raw: &mut RawBook, columns: &ByteRecord, first: bool) -> Result<(), Cause>
     ensures taking { Taking first (fields_of columns.now) (begun_of raw.old) result
         (begun_of raw.new) }
@@ -48,7 +48,7 @@ fn take(alloc: Global, raw: &mut RawBook, columns: &ByteRecord, first: bool) -> 
     }
 }
 
-// Takes the records of a text in turn, and makes the book at their end.
+// Takes the records of a text one after another, and makes the book at their end.
 fn take_all<R: Read + Drop>(alloc: Global, reader: R) -> Result<ReplayableRows, CsvFault>
     ensures found { IfOk result (λ k. IfSome (R.remaining reader)
         (λ text. IsReadAs (strip_bom text) k)) }
@@ -104,9 +104,8 @@ fn take_all<R: Read + Drop>(alloc: Global, reader: R) -> Result<ReplayableRows, 
     })
 }
 
-/// The book that a text holds, or the first fault of the text and its row. A byte order mark is
-/// passed over. The reader may fail, and memory be wanting, at any row, once those before it were
-/// taken.
+/// Reads a book from a text. A byte order mark is passed over. The error is the text's first fault, with its row.
+/// `Read` and `Memory` may come at any row, once those before it were taken.
 pub fn read_book<R: Read + Drop>(alloc: Global, reader: R) -> Result<ReplayableRows, CsvFault>
     ensures found { IfOk result (λ k. IfSome (R.remaining reader)
         (λ text. IsTextOf (strip_bom text) k)) }

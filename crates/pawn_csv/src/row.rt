@@ -2,7 +2,7 @@
 
 use pawn_book::{Booking, Day, Entry, Extension, Issued, Opening, Rates};
 
-/// The version of a text's form: the first knows no extensions.
+/// The version of a text's form. The first has no rows for extensions.
 #[derive(Clone, Copy)]
 pub enum Version {
     One,
@@ -17,7 +17,7 @@ pub enum ClosingWord {
     Sold,
 }
 
-/// The columns of a pledge's own row, whether or not they go together.
+/// The columns of a pledge's own row. They need not fit together.
 #[derive(Drop)]
 pub struct PledgeColumns {
     /// The pledge's number in its book.
@@ -32,11 +32,11 @@ pub struct PledgeColumns {
     pub last: Day,
     pub closing: ClosingWord,
     pub closing_day: Option<Day>,
-    /// The pence that were paid or got at the closing.
+    /// What was paid at a redemption, or what a sale brought, in pence.
     pub amount: Option<u64>,
 }
 
-/// A row of a book's text, its columns read one by one.
+/// A row of a book's text, with each of its columns read.
 #[derive(Drop)]
 pub enum Row {
     /// The first row: how many versions of terms and how many pledges follow.

@@ -14,7 +14,7 @@ use csv::ByteRecord;
 use pawn_book::{Booking, Entry, Extension, Issued, Opening, Rates, RequestDay};
 use std::alloc::{AllocError, Global};
 
-// The row of a book's counts.
+// The first row of a book, with its counts.
 fn read_book_row(columns: &ByteRecord) -> Option<Row>
     requires wide { length (fields_of columns.now) ≡ 15 }
     requires letter { column_at (fields_of columns.now) 0 ≡ codes "B" }
@@ -141,7 +141,7 @@ fn read_booking_row(columns: &ByteRecord) -> Option<Row>
     })
 }
 
-// The opening in the columns of a pledge's own row.
+// The opening in the columns of a pledge's own row. `None` if a column is malformed.
 fn read_opening(alloc: Global, columns: &ByteRecord) -> Result<Option<Opening>, AllocError>
     ensures found { IfOk result (λ opening. IfSome opening (IsOpeningOf (fields_of columns.now))) }
     ensures none { IfOk result
@@ -171,7 +171,7 @@ fn read_opening(alloc: Global, columns: &ByteRecord) -> Result<Option<Opening>, 
     }))
 }
 
-// The columns of a pledge's own row, whose opening is read already.
+// All columns of a pledge's own row, once its opening has been read.
 fn with_opening(columns: &ByteRecord, opening: Opening) -> Option<PledgeColumns>
     requires wide { length (fields_of columns.now) ≡ 15 }
     requires letter { column_at (fields_of columns.now) 0 ≡ codes "P" }
@@ -214,7 +214,7 @@ fn read_pledge_row(alloc: Global, columns: &ByteRecord) -> Result<Option<Row>, A
     }
 }
 
-// The row that fifteen columns spell.
+// The row that fifteen columns spell. `None` if they spell no row.
 pub(crate) fn read_row(alloc: Global, columns: &ByteRecord) -> Result<Option<Row>, AllocError>
     requires wide { length (fields_of columns.now) ≡ 15 }
     ensures value { IfOk result (λ row. ReadsAs row_fields FitsColumns (fields_of columns.now) row) }

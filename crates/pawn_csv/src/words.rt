@@ -51,7 +51,7 @@ pub(crate) fn closing_day(closing: Closing) -> Option<Day>
     }
 }
 
-// What was paid, or what a sale brought, if it was closed.
+// What was paid or what a sale brought, in pence, if the pledge was closed.
 pub(crate) fn closing_amount(closing: Closing) -> Option<u64>
     ensures value { result ≡ closing_amount closing }
 {

@@ -1,4 +1,4 @@
-//! A writer of the rows of a book's text.
+//! Writing the rows of a book's text.
 ghost use Rattle.std.specs.Prelude.{◌≡◌, ◌≤◌, ◌-◌, ◌∷◌, ◌++◌, [], IfOk, true, false, codes, decimal, length, map};
 ghost use Rattle.pawn_terms.specs.Calendar.{day_text};
 ghost use Rattle.pawn_debt.specs.Due.{credit_of};
@@ -21,7 +21,8 @@ use std::alloc::{AllocError, Global};
 use std::io::Write;
 use uuid::Uuid;
 
-/// Where rows go, and whether one of them was not written whole.
+/// Where rows go. It remembers whether one of them was not written whole: the writer failed, or there was no memory for
+/// the row.
 #[derive(Drop)]
 pub(crate) struct Sink<W> {
     alloc: Global,
@@ -30,7 +31,7 @@ pub(crate) struct Sink<W> {
 }
 
 impl<W> Sink<W> {
-    // One that took no row.
+    // Wraps a writer. No row has been written yet.
     pub(crate) fn new(alloc: Global, inner: W) -> Sink<W>
         ensures inner { writing_inner result.writer ≡ inner }
         ensures ended { has_ended result ≡ false }
@@ -56,7 +57,7 @@ impl<W> Sink<W> {
         self.writer.has_failed()
     }
 
-    // The writer inside.
+    // Gives the inner writer back.
     pub(crate) fn into_inner(self) -> W
         ensures answer { result ≡ writing_inner self.writer }
     {
@@ -64,7 +65,7 @@ impl<W> Sink<W> {
     }
 }
 
-// The text of a row of these columns.
+// The text of a row with these columns.
 fn row_text(alloc: Global, columns: &[&[u8]]) -> Result<Vec<u8>, AllocError>
     ensures value { IfOk result
         (λ text. text.items ≡ row_text default_writer (map (λ c. c.now) columns.now)) }
@@ -80,7 +81,7 @@ fn row_text(alloc: Global, columns: &[&[u8]]) -> Result<Vec<u8>, AllocError>
     }
 }
 
-/// Puts a row of these columns, unless one before it was not written whole.
+/// Writes a row with these columns, unless a row before it was not written whole.
 pub(crate) fn put_row<W: Write>(sink: &mut Sink<W>, columns: &[&[u8]])
     ensures puts { PutsRow W.contents sink.old
         (row_text default_writer (map (λ c. c.now) columns.now)) sink.new }
@@ -94,7 +95,7 @@ pub(crate) fn put_row<W: Write>(sink: &mut Sink<W>, columns: &[&[u8]])
     }
 }
 
-// Puts a row that begins with these columns; the others are empty.
+// Writes a row of fifteen columns that begins with these; the others are empty.
 fn put_short<W: Write>(sink: &mut Sink<W>, columns: &[&[u8]])
     requires few { length columns.now ≤ 15 }
     ensures puts { PutsRow W.contents sink.old (row_text default_writer
@@ -107,7 +108,7 @@ fn put_short<W: Write>(sink: &mut Sink<W>, columns: &[&[u8]])
     put_row(sink, &row);
 }
 
-/// The names of the columns.
+/// Writes the header: the names of the columns.
 pub(crate) fn put_header<W: Write>(sink: &mut Sink<W>)
     ensures puts { PutsRow W.contents sink.old (row_text default_writer header) sink.new }
 {
@@ -175,7 +176,7 @@ pub(crate) fn put_pledge<W: Write>(sink: &mut Sink<W>, brief: &BriefFields)
     );
 }
 
-// The row of a pledge with these columns beside its numbers and days.
+// Writes a pledge's row from these texts, and from the brief's numbers and days.
 fn put_columns<'a, W: Write>(
     sink: &mut Sink<W>,
     brief: &BriefFields,
@@ -221,7 +222,7 @@ fn put_columns<'a, W: Write>(
     );
 }
 
-// The agreed end among all days.
+// The agreed end as a day of the calendar.
 fn agreed_end(agreed: Option<RequestDay>) -> Option<Day>
     ensures value { result ≡ agreed }
 {

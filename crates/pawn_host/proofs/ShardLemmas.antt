@@ -37,7 +37,7 @@ next shard k x t all part i item mine same placed = record {
   before = inl (mine, (inputs (take placed.place part), (λ j. same j ∷ inputs (take placed.place part)), placed.before));
 }
 
--- each request stands in what its shard was handed
+-- each request has a place in what its shard was handed
 pub requests_are_placed : RequestsArePlaced
 requests_are_placed shard k [] part hands i item is mine = absurd_none is
 requests_are_placed shard k (x ∷ all) [] (inl (for, (more, is, hands))) i item at mine = absurd cc

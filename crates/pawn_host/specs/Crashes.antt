@@ -10,26 +10,26 @@ use Rattle.pawn_wire.specs.Request.{SaysRequest}
 use Rattle.pawn_wire.specs.declared.fault.WireFault.{WireFault}
 use Rattle.pawn_host.specs.Run.{Item, event_of, host_after_run}
 
--- the host with the request done that the bytes say
+-- the host once the request in these bytes is done
 abbrev pub IsDone : Host → ℕ → Stamp → List ℕ → Host → Type 0
 IsDone h operator stamp bytes left = (request : Request) × SaysRequest bytes (Ok request) × (left ≡ next_host h operator stamp request)
 
--- a host that a crash may leave after an item, where it might have left these before: the changed host alone, once a change was
--- made; these, where nothing was to change; else, where memory was wanting or the store failed, these or the host with the
--- request done
+-- A host that a crash may leave after an item, if it might have left those of `before` ahead of it. Once a change was
+-- made, it is the changed host alone. If nothing was to change, it is one of `before`. If memory was refused or the
+-- store failed, it is one of `before`, or the host with the request done.
 abbrev pub IsLeftByMark : Host → ℕ → Stamp → List ℕ → Mark WireFault → (Host → Type 0) → Host → Type 0
 IsLeftByMark h operator stamp bytes (read_as (Ok request)) before left = IsLeftByStep h request.book (host_step h operator stamp request) before left
 IsLeftByMark h operator stamp bytes (read_as (Err fault)) before left = before left
 IsLeftByMark h operator stamp bytes no_memory before left = before left ⊎ IsDone h operator stamp bytes left
 IsLeftByMark h operator stamp bytes no_store before left = before left ⊎ IsDone h operator stamp bytes left
 
--- .. after the items of a run
+-- a host that a crash may leave after the items of a run
 abbrev pub IsLeftByRun : Host → ℕ → List Item → (Host → Type 0) → Host → Type 0
 IsLeftByRun h operator [] before left = before left
 IsLeftByRun h operator (item ∷ items) before left =
     IsLeftByRun (host_after_event h operator (event_of item)) operator items (IsLeftByMark h operator item.stamp item.bytes item.mark before) left
 
--- the host with the request done of one of these items, which was answered by want of memory or by a fault of the store
+-- the host with one more request done: that of an item which was answered with refused memory or a fault of the store
 pub record IsOneMore (h : Host) (operator : ℕ) (items : List Item) (left : Host) : Type 0 where
   pub place : ℕ
   pub item : Item
@@ -37,17 +37,17 @@ pub record IsOneMore (h : Host) (operator : ℕ) (items : List Item) (left : Hos
   pub unwell : (item.mark ≡ no_memory) ⊎ (item.mark ≡ no_store)
   pub done : IsDone h operator item.stamp item.bytes left
 
--- a host that a crash may leave once these items were answered from the host: the one after them, or that one with one request more
+-- a host that a crash may leave after these items: the host after them, or that host with one request more
 abbrev pub IsLeftWhole : Host → ℕ → List Item → Host → Type 0
 IsLeftWhole h operator items left = (left ≡ host_after_run h operator items) ⊎ IsOneMore (host_after_run h operator items) operator items left
 
--- where a crash could have left no host but this one of a keeper before a run, it leaves no others than these
+-- if a crash before a run could leave only this host of a keeper, a crash after the run leaves only these
 abbrev pub CrashLeavesWhole : {K : Type 0} → Keeping K → Type 0
 CrashLeavesWhole {K} k =
     (keep : K) (h : Host) (operator : ℕ) (items : List Item) (left : Host) → ((g : Host) → k.leaves keep g → g ≡ h)
     → IsLeftByRun h operator items (k.leaves keep) left → IsLeftWhole h operator items left
 
--- what a crash may leave after two runs in turn is what it may leave after both as one
+-- what a crash may leave after two runs, one after the other, is what it may leave after both as one run
 abbrev pub CrashesJoin : {K : Type 0} → Keeping K → Type 0
 CrashesJoin {K} k =
     (keep : K) (h : Host) (operator : ℕ) (a b : List Item) (left : Host)

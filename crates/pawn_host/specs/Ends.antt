@@ -1,4 +1,4 @@
--- What clauses read of a `Reading`.
+-- What contracts say of a `Reading`.
 use Rattle.std.specs.Prelude.{ℕ, Bool, List, Option}
 use Rattle.pawn_host.specs.declared.reading.Reading.{Reading}
 
@@ -14,6 +14,6 @@ reads r = r.count
 abbrev pub read_failed : {R : Type 0} → Reading R → Bool
 read_failed r = r.failed
 
--- the bytes that are left to read, where the reader tells them
+-- the bytes that are left to read, if the reader's contract says which they are
 abbrev pub left_of : {R : Type 0} → (R → Option (List ℕ)) → Reading R → Option (List ℕ)
 left_of remaining r = remaining r.inner

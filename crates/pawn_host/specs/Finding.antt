@@ -14,7 +14,7 @@ use Rattle.pawn_host.specs.declared.session.Rest.TheVariants.{AtEnd, CutOff, Fau
 use Rattle.pawn_host.specs.declared.session.Cause.{Cause}
 use Rattle.pawn_host.specs.declared.session.Cause.TheVariants.{Read, Write, Reads}
 
--- what a read into the buffer did
+-- what a read did to the reader and the buffer
 abbrev pub IsFilled : Filled → Option (List ℕ) → Option (List ℕ) → List ℕ → List ℕ → Type 0
 IsFilled More a b old new = (piece : List ℕ) × (0 < length piece) × (new ≡ old ++ piece) × Consumes a b piece
 IsFilled Done a b old new = (new ≡ old) × Keeps a b × IsAtEnd b
@@ -22,7 +22,7 @@ IsFilled Failed a b old new = Keeps a b
 IsFilled OutOfReads a b old new = Keeps a b
 IsFilled NoRoom a b old new = (piece : List ℕ) × Consumes a b piece
 
--- what is there in place of a request
+-- why there is no further request in the stream
 abbrev pub FindsRest : List ℕ → Rest → Type 0
 FindsRest s AtEnd = s ≡ []
 FindsRest s CutOff = IsCut s
@@ -30,7 +30,7 @@ FindsRest s (Faulty f) = HasFault s f
 FindsRest s NoMemory = Unit {0}
 FindsRest s (Stopped cause) = Unit {0}
 
--- what the stream begins with was found
+-- the stream begins with a request of this head, or it is as `Rest` says
 abbrev pub FindsHead : List ℕ → Result HeadFacts Rest → Type 0
 FindsHead s (Ok f) = (h : RequestHead) × (rest : List ℕ) × ReadsHead s h rest × IsHead h f × (f.body ≤ length rest)
 FindsHead s (Err rest) = FindsRest s rest
@@ -39,13 +39,13 @@ FindsHead s (Err rest) = FindsRest s rest
 abbrev pub HasHead : List ℕ → HeadFacts → Type 0
 HasHead buffer f = (h : RequestHead) × (rest : List ℕ) × ReadsHead buffer h rest × IsHead h f
 
--- the cause fits the ends
+-- the cause fits what is known of the reader and the writer
 abbrev pub IsCausedBy : Cause → Bool → ℕ → Bool → Type 0
 IsCausedBy Read read_failed reads write_failed = read_failed ≡ true
 IsCausedBy Write read_failed reads write_failed = write_failed ≡ true
 IsCausedBy Reads read_failed reads write_failed = reads ≡ most_reads
 
--- no read failed, unless that is what was found
+-- no read has failed since, unless that is what was found
 abbrev pub StopsBy : Result HeadFacts Rest → Bool → Bool → ℕ → Type 0
 StopsBy (Ok head) was failed reads = failed ≡ was
 StopsBy (Err AtEnd) was failed reads = failed ≡ was
@@ -62,7 +62,7 @@ FilledBy Failed was failed old new = (new ≡ old + 1) × (failed ≡ true)
 FilledBy OutOfReads was failed old new = (new ≡ most_reads) × (new ≡ old)
 FilledBy NoRoom was failed old new = (new ≡ old + 1) × (failed ≡ was)
 
--- each read gave a piece, and was made while no whole request stood in the buffer
+-- each read gave a piece, and was made while the buffer held no whole request
 abbrev pub AreMissing : List ℕ → List (List ℕ) → Type 0
 AreMissing buffer [] = Unit {0}
 AreMissing buffer (piece ∷ pieces) = HasNoWhole buffer × AreMissing (buffer ++ piece) pieces

@@ -16,7 +16,7 @@ use Rattle.pawn_host.specs.Keeps.{Start, Kept, IsRun}
 abbrev pub reply_bytes : Out → List ℕ
 reply_bytes out = said_text (Answered out)
 
--- an answer that is none of these three: no row is left, memory was wanted, the store failed
+-- an answer that is none of these three: no row is left, memory was refused, the store failed
 abbrev pub IsSettled : List ℕ → Type 0
 IsSettled answer = (answer ≢ reply_bytes (Denied Full)) × (answer ≢ reply_bytes (Denied Memory)) × (answer ≢ reply_bytes (Denied Store))
 
@@ -38,14 +38,14 @@ SlotAnswersAlone h operator before item answer =
     → SaysRequest item.bytes (Ok (by_bearer b asked)) → is_slots slot asked ≡ true → IsSettled answer
     → answer ≡ reply_bytes (solo_reply slot (slot_trace b slot h operator (events before)) b item.stamp asked)
 
--- each answer of a run is so
+-- each settled answer of a run is that of its book alone, and that of its slot alone
 pub record AnswerAlone (h : Host) (operator : ℕ) (items : List Item) (answers : List (List ℕ)) : Type 0 where
   pub books : (i : ℕ) (item : Item) (answer : List ℕ)
       → slice_get items i ≡ Some item → slice_get answers i ≡ Some answer → BookAnswersAlone h operator (take i items) item answer
   pub slots : (i : ℕ) (item : Item) (answer : List ℕ)
       → slice_get items i ≡ Some item → slice_get answers i ≡ Some answer → SlotAnswersAlone h operator (take i items) item answer
 
--- a run of these items led to these answers, and each of them is so
+-- a run of these items led to these answers, each settled one that of its book or slot alone
 pub record IsRunOfSlots (start : Start) (given : List (Stamp × List ℕ)) (answers : List (List ℕ)) (kept : Kept) : Type 0 where
   pub run : IsRun start given answers kept
   pub alone : AnswerAlone start.host start.operator run.items answers

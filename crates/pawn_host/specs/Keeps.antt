@@ -1,4 +1,4 @@
--- What clauses read of a service and its answers.
+-- What contracts say of a service and its answers.
 use Rattle.std.specs.Prelude.{◌≡◌, ℕ, List, Some, Ok, map, All}
 use Rattle.std.specs.FinMap.{get}
 use Rattle.pawn_pledge.specs.declared.command.Stamp.{Stamp}
@@ -24,22 +24,22 @@ service_keep s = s.keep
 abbrev pub service_operator : {K : Type 0} → Service K → ℕ
 service_operator s = s.operator
 
--- the bytes that an answer stands for
+-- the bytes that are sent for an answer
 abbrev pub answer_bytes : Answer → List ℕ
 answer_bytes (Bytes v) = v.items
 answer_bytes Memory = memory_text
 
--- the key runs a book of the host
+-- the key is that of a book of the host
 abbrev pub IsKeyOf : Host → ℕ → ℕ → Type 0
 IsKeyOf h book key = (at : BookValue) × (get h.books book ≡ Some at) × (at.key ≡ key)
 
--- an answer with this text, or want of memory
+-- an answer with this text, or that memory was refused
 abbrev pub Tells : Answer → List ℕ → Type 0
 Tells (Bytes v) text = v.items ≡ text
 Tells Memory text = Unit {0}
 
--- where a call of the service starts: over a keeper that was steady or was not, for an operator, from a host, and where a crash
--- might have left these hosts
+-- where a call of the service starts: whether its keeper is steady, the operator's key, the host, and which hosts a
+-- crash may leave
 pub record Start : Type 1 where
   pub Steady : Type 0
   pub operator : ℕ
@@ -57,29 +57,31 @@ pub record Kept : Type 1 where
 abbrev pub kept_by : {K : Type 0} → Keeping K → Service K → Kept
 kept_by k s = record { stands = k.stands (service_keep s); leaves = k.leaves (service_keep s) }
 
--- the keeper goes on to a host, which is sound, and a crash leaves no other host than these
+-- the keeper now stands for this host, which is sound, and a crash leaves only these hosts
 pub record GoesTo (kept : Kept) (h : Host) (these : Host → Type 0) : Type 0 where
   pub stands_for : kept.stands h
   pub sound : IsSound h
   pub crash : (left : Host) → kept.leaves left → these left
 
--- a service goes on after a call: its keeper does, and its operator stays
+-- a service goes on after a call: its keeper does, and the operator's key stays the same
 pub record StaysOpen {K : Type 0} (k : Keeping K) (old new : Service K) : Type 0 where
   pub on : GoesOn k (service_keep old) (service_keep new)
   pub operator : service_operator new ≡ service_operator old
 
--- P of each sound host that the service's keeper stood for, if it is honest now: of where the call started and where it ends
+-- for each sound host that the service's keeper stood for, if it is honest now: P holds of where the call started and
+-- where it ends
 abbrev pub Serves : {K : Type 0} → Keeping K → Service K → Service K → (Start → Kept → Type 0) → Type 0
 Serves k old new P = Of k (service_keep old) (service_keep new) (λ h. P (start_of k old h) (kept_by k new))
 
--- one item of a run led to the reply, to a host that the keeper goes on to, and to what a crash may leave, for some mark
+-- for some mark, one item of a run led to the reply, to the host that the keeper goes on to, and to what a crash may
+-- leave
 pub record IsActed (start : Start) (stamp : Stamp) (bytes reply : List ℕ) (kept : Kept) : Type 0 where
   pub mark : Mark WireFault
   pub marked : IsMarkOf start.Steady bytes mark
   pub text : reply ≡ said_text (mark_reply start.host start.operator stamp mark)
   pub goes : GoesTo kept (host_after_mark start.host start.operator stamp mark) (IsLeftByMark start.host start.operator stamp bytes mark start.leaves)
 
--- the same of whatever bytes say the request
+-- any bytes of this request would have led to the reply, to the host and to what a crash may leave
 abbrev pub Answers : Start → Stamp → Request → List ℕ → Kept → Type 0
 Answers start stamp request reply kept = (bytes : List ℕ) → SaysRequest bytes (Ok request) → IsActed start stamp bytes reply kept
 

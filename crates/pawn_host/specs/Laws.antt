@@ -20,7 +20,7 @@ use Rattle.pawn_book.specs.Runs.{Mark, read_as, no_memory, no_store}
 use Rattle.pawn_host.specs.Run.{Item, IsMarked, input_of, events, host_after_run, replies}
 use Rattle.pawn_host.specs.Headline.{AnswerAlone, IsSettled, by_bearer}
 
--- the rest has begun with a head that may go on, and no head of so few fields can come of it
+-- the rest is the beginning of a head, but no head with so few fields as are allowed can come of it
 abbrev pub IsOpen : List ℕ → Type 0
 IsOpen rest = IsCutHead rest × RequestOverflows max_fields rest
 
@@ -28,36 +28,36 @@ IsOpen rest = IsCutHead rest × RequestOverflows max_fields rest
 abbrev pub AreCutAndFault : Ending → Ending → Type 0
 AreCutAndFault e f = ((e ≡ cut) × (f ≡ faulted BadHead)) ⊎ ((e ≡ faulted BadHead) × (f ≡ cut))
 
--- the two endings are left open by what is left after these requests
+-- the rest after these requests may count as either of the two endings
 abbrev pub IsLeftOpen : List ℕ → List (List ℕ) → Ending → Ending → Type 0
 IsLeftOpen stream requests e f = (rest : List ℕ) × PassesOver stream requests rest × IsOpen rest × AreCutAndFault e f
 
--- a stream has one split, but for the ending in a rest that is open
+-- a stream has one split; only its ending may be one of two, if the rest is open
 abbrev pub SplitIsUnique : Type 0
 SplitIsUnique =
     (stream : List ℕ) (a b : List (List ℕ)) (e f : Ending) → Splits stream a e → Splits stream b f
     → (a ≡ b) × ((e ≡ f) ⊎ IsLeftOpen stream a e f)
 
--- what is open ends in its target, or may go on as a head of too many fields alone
+-- an open rest ends inside its target, or can become a head with too many fields
 abbrev pub OpenEnds : Type 0
 OpenEnds =
     (rest : List ℕ) → IsOpen rest
     → ((more : List ℕ) × (h : RequestHead) × ReadsRequest (rest ++ more) h [] × (max_fields < length h.fields)) ⊎ EndsInTarget rest
 
--- where the split ends before the limit, no whole request is a prefix of the rest
+-- if a split ends before the limit, the rest does not begin with a whole request
 abbrev pub SplitEndsEarly : Type 0
 SplitEndsEarly =
     (e : Ending) (n : ℕ) (rest : List ℕ) → StopsAt e n rest → n < most_requests
     → (request more : List ℕ) (closes : Bool) → rest ≡ request ++ more → IsRequest request closes → ⊥
 
--- what a split begins with are its first requests, and one more where it goes on
+-- requests that a stream begins with are the first of its split; if a further request is there, the split has one more
 abbrev pub SplitBegins : Type 0
 SplitBegins =
     (stream : List ℕ) (requests all : List (List ℕ)) (e : Ending) → Splits stream all e
     → (Begins stream requests → (more : List (List ℕ)) × (all ≡ requests ++ more))
     × (BeginsAndGoesOn stream requests → (next : List ℕ) × (more : List (List ℕ)) × (all ≡ requests ++ next ∷ more))
 
--- the requests are the front of the stream, and no more than the limit
+-- the requests, joined together, are the beginning of the stream, and are no more than the limit
 abbrev pub SplitIsFront : Type 0
 SplitIsFront =
     (stream : List ℕ) (requests : List (List ℕ)) (e : Ending) → Splits stream requests e
@@ -77,18 +77,18 @@ refusal_of_mark no_store = by_store
 abbrev pub refusals : List Item → List Refusal
 refusals items = map (λ i. refusal_of_mark i.mark) items
 
--- what was handed in, and which items were refused, decide the items
+-- what was handed in, and which items were refused, determine the items
 abbrev pub ItemsAreUnique : Type 0
 ItemsAreUnique =
     (a b : List Item) → All (IsMarked ⊥) a → All (IsMarked ⊥) b → map input_of a ≡ map input_of b → refusals a ≡ refusals b → a ≡ b
 
--- items that say the same lead to the same host and the same replies, whatever their bytes
+-- items with the same stamps and marks lead to the same host and the same replies, whatever their bytes
 abbrev pub RunReadsEvents : Type 0
 RunReadsEvents =
     (h : Host) (operator : ℕ) (a b : List Item) → events a ≡ events b
     → (host_after_run h operator a ≡ host_after_run h operator b) × (replies h operator a ≡ replies h operator b)
 
--- two runs in turn are one run
+-- two runs one after the other are one run
 abbrev pub RunsJoin : Type 0
 RunsJoin =
     (h : Host) (operator : ℕ) (a b : List Item)
@@ -102,25 +102,25 @@ NothingIsWanted =
     → (ClosesAfter come requests → IsWanting come → ⊥)
     × (PassesOver come requests rest → most_requests ≤ length requests → IsWanting come → ⊥)
 
--- a head of no more fields than allowed can still come of the rest, how long it grows aside
+-- the rest can still become a head with no more fields than allowed, leaving its length aside
 abbrev pub MayGoOn : List ℕ → Type 0
 MayGoOn rest =
     (length rest < max_head)
     × ((more : List ℕ) × (h : RequestHead) × (after : List ℕ) × ReadsRequest (rest ++ more) h after × (length h.fields ≤ max_fields))
 
--- where a head can still come of the rest, and none stands in it, no fault is answered; where none can, it is that of a bad head
+-- if the rest can still become a head, and holds none yet, it has no fault; if it can't, it has the fault of a bad head
 abbrev pub FaultIsExact : Type 0
 FaultIsExact =
     (rest : List ℕ)
     → (MayGoOn rest → HasNoRequest rest → (f : HeadFault) → HasFault rest f → ⊥)
     × ((MayGoOn rest → ⊥) → (length rest < max_head) → HasFault rest BadHead)
 
--- each answer to the items of a run, and so of one conversation, is that of a machine alone
+-- each settled answer to the items of a run is that of its book or slot alone
 abbrev pub RunsAnswerAlone : Type 0
 RunsAnswerAlone = (h : Host) (operator : ℕ) (items : List Item) → All (IsMarked ⊥) items → AnswerAlone h operator items (replies h operator items)
 
--- after runs under one operator's key, from two hosts that had the same book, or none, of a number, that left it one trace, its
--- next request is answered alike
+-- Take two runs under one operator's key, from hosts that have the same book of a number, or both have none. If both
+-- runs leave that book the same trace, its next request gets the same settled answer.
 abbrev pub EqualBookTracesReplyAlike : Type 0
 EqualBookTracesReplyAlike =
     (h g : Host) (operator : ℕ) (items others : List Item) → All (IsMarked ⊥) items → All (IsMarked ⊥) others
@@ -134,7 +134,8 @@ EqualBookTracesReplyAlike =
     → book_trace request.book h operator (events (take i items)) ≡ book_trace request.book g operator (events (take j others))
     → answer ≡ other
 
--- after runs from two hosts, under one operator's key, that left a slot one trace, its next request is answered alike
+-- take two runs under one operator's key; if both leave a slot the same trace, its next request gets the same settled
+-- answer
 abbrev pub EqualTracesReplyAlike : Type 0
 EqualTracesReplyAlike =
     (h g : Host) (operator : ℕ) (items others : List Item) → All (IsMarked ⊥) items → All (IsMarked ⊥) others

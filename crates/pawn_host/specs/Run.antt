@@ -19,8 +19,8 @@ pub record Item : Type 0 where
   pub bytes : List ℕ
   pub mark : Mark WireFault
 
--- the mark tells what the bytes say, where they were answered for that; want of memory is nothing that bytes say,
--- and a fault of the store is met over a keeper alone that isn't steady
+-- The mark is one that the item can have. If the bytes were read, it says what they ask, which is never that memory was
+-- refused. A fault of the store is possible only if the keeper isn't steady.
 abbrev pub IsMarkOf : Type 0 → List ℕ → Mark WireFault → Type 0
 IsMarkOf Steady bytes (read_as said) = SaysRequest bytes said × (said ≢ Err Memory)
 IsMarkOf Steady bytes no_memory = Unit {0}
@@ -33,14 +33,14 @@ IsMarked Steady item = IsMarkOf Steady item.bytes item.mark
 abbrev pub input_of : Item → Stamp × List ℕ
 input_of item = (item.stamp, item.bytes)
 
--- what an item is to the books: its bytes no longer count
+-- an item as the books see it: its stamp and mark, without its bytes
 abbrev pub event_of : Item → Event WireFault
 event_of item = record { stamp = item.stamp; mark = item.mark }
 
 abbrev pub events : List Item → List (Event WireFault)
 events items = map event_of items
 
--- the bytes of what is told
+-- the bytes of a reply
 abbrev pub said_text : Said WireFault → List ℕ
 said_text (Answered (Told reply)) = out_text (wire.Done reply)
 said_text (Answered (Denied why)) = out_text (wire.Refused why)

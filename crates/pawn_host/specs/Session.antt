@@ -33,7 +33,7 @@ answer_text start items = concat (replies_by start items)
 abbrev pub due_text : Start → List Item → List ℕ → List ℕ
 due_text start items last = answer_text start items ++ last
 
--- how a session ended, and with which last text
+-- what is so of the stream and of the last text, by how the session ended
 abbrev pub EndsAs : How → Option (List ℕ) → List (List ℕ) → List ℕ → Type 0
 EndsAs End left requests last = (last ≡ []) × IfSome left (λ s. Splits s requests at_end)
 EndsAs Cut left requests last = (last ≡ []) × IfSome left (λ s. Splits s requests cut)
@@ -43,8 +43,9 @@ EndsAs Faulted left requests last = (f : HeadFault) × (last ≡ fault_text (wir
 EndsAs NoStamp left requests last = (last ≡ []) × IfSome left (λ s. BeginsAndGoesOn s requests)
 EndsAs Memory left requests last = (last ≡ memory_text) × IfSome left (λ s. IsUnderWay s requests)
 
--- what was due after the replies where a session was broken off. What broke a read off came before a further request was
--- found, so where the stream was still under way; a write may also have failed at a request's reply, or at the last text
+-- What was still due after the replies when a session was broken off. A failed or missing read came before a further
+-- request was found, so the stream was still under way. A write may have failed at a request's reply, or at the last
+-- text.
 abbrev pub DueAfter : Cause → Option (List ℕ) → List (List ℕ) → List ℕ → Type 0
 DueAfter Read left requests last = (last ≡ []) × IfSome left (λ s. IsUnderWay s requests)
 DueAfter Reads left requests last = (last ≡ []) × IfSome left (λ s. IsUnderWay s requests)
@@ -57,8 +58,8 @@ abbrev pub acted_count : Result Ended IoFault → ℕ
 acted_count (Ok ended) = ended.acted
 acted_count (Err fault) = fault.acted
 
--- Fewer requests than the limit were acted on where a further one was looked for; a session ends by its limit with just as
--- many, and one that was closed, or broke off over a reply, may have acted on the last of them.
+-- If a further request was looked for, fewer than the limit were acted on. A session that ended by its limit acted on
+-- exactly so many. One that was closed, or broke off over a reply, may have acted on the last of them.
 abbrev pub HasRoom : How → ℕ → Type 0
 HasRoom End acted = acted < most_requests
 HasRoom Cut acted = acted < most_requests
@@ -77,7 +78,7 @@ abbrev pub IsWithinMost : Result Ended IoFault → Type 0
 IsWithinMost (Ok ended) = HasRoom ended.how ended.acted
 IsWithinMost (Err fault) = HadRoom fault.cause fault.acted
 
--- so many reads were made, each while more was wanted, and they took their bytes from the front of what was left
+-- so many reads were made, each while more was wanted; what they read is the beginning of what was left of the stream
 pub record IsReadWhileWanted (count : ℕ) (before after : Option (List ℕ)) : Type 0 where
   pub pieces : List (List ℕ)
   pub count_is : length pieces ≡ count
@@ -85,7 +86,7 @@ pub record IsReadWhileWanted (count : ℕ) (before after : Option (List ℕ)) : 
   pub gave : Consumes before after (concat pieces)
 
 module _ {S : Type 0} (steps : S → Option Stamp → S → Type 0) where
-  -- where the stamps of a session left the iterator: past a call that gave none, where none came for a further request
+  -- the state of the stamps after a session: if it ended for want of a stamp, one further call was made, and gave none
   abbrev pub IsLeftBy : How → S → S → Type 0
   IsLeftBy NoStamp to new = steps to None new
   IsLeftBy End to new = to ≡ new
@@ -107,7 +108,7 @@ module _ {S : Type 0} (steps : S → Option Stamp → S → Type 0) where
     pub taken : Yields steps from stamps to
     pub left : IsLeft result to new
 
--- what a session is given: where the service starts, the stamps, and, where they are told, the bytes of its stream and
+-- what a session is given: where the service starts, the stamps, and, if they are known, the bytes of its stream and
 -- what was written before
 pub record Given (S : Type 0) : Type 1 where
   pub start : Start
@@ -144,19 +145,20 @@ module _ {S : Type 0} (steps : S → Option Stamp → S → Type 0) (given : Giv
     pub wrote : Appends given.written written (take fault.sent (due_text given.start items last))
     pub due : DueAfter fault.cause given.stream (requests_of items) last
 
-  -- what a session did, by the stamps that are left, what is written now, its answer, and where the keeper goes on
+  -- what a session did, seen from the stamps that are left, what is written now, its result, and where the keeper goes
+  -- on
   abbrev pub IsSession : S → Option (List ℕ) → Result Ended IoFault → Kept → Type 0
   IsSession stamps written (Ok ended) kept = HasEnded stamps written ended kept
   IsSession stamps written (Err fault) kept = IsBrokenOff stamps written fault kept
 
--- the last text was written, or a part of it
+-- the last text was written, or only a part of it because the writer failed
 abbrev pub IsFinished : How → ℕ → ℕ → List ℕ → Option (List ℕ) → Option (List ℕ) → Bool → Result Ended IoFault → Type 0
 IsFinished how acted sent text old new failed (Ok ended) =
     (ended.how ≡ how) × (ended.acted ≡ acted) × Appends old new text × (failed ≡ false)
 IsFinished how acted sent text old new failed (Err fault) =
     (n : ℕ) × (n < length text) × (fault.cause ≡ Write) × (fault.acted ≡ acted) × (fault.sent ≡ sent + n) × Appends old new (take n text) × (failed ≡ true)
 
--- a session ended to which no further request came
+-- how a session ends to which no further request came
 abbrev pub IsOver : Rest → ℕ → ℕ → Option (List ℕ) → Option (List ℕ) → Bool → Result Ended IoFault → Type 0
 IsOver AtEnd acted sent old new failed result = IsFinished End acted sent [] old new failed result
 IsOver CutOff acted sent old new failed result = IsFinished Cut acted sent [] old new failed result

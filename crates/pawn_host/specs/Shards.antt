@@ -15,7 +15,7 @@ use Rattle.pawn_host.specs.Headline.{IsSettled}
 abbrev pub IsFor : (ℕ → ℕ) → ℕ → List ℕ → Type 0
 IsFor shard k bytes = (request : Request) × SaysRequest bytes (Ok request) × (shard request.book ≡ k)
 
--- of what came, each with its stamp, shard k is handed the requests on its books, in order, with their bytes and stamps
+-- of all that came, shard k is handed the requests on its books, in order, with their bytes and stamps
 abbrev pub HandsToShards : (ℕ → ℕ) → ℕ → List (Stamp × List ℕ) → List (Stamp × List ℕ) → Type 0
 HandsToShards shard k [] part = part ≡ []
 HandsToShards shard k (came ∷ all) part =
@@ -34,7 +34,8 @@ HandedSplits =
     (shard : ℕ → ℕ) (k : ℕ) (came part : List (Stamp × List ℕ)) (stream rest : List ℕ)
     → PassesOver stream (bytes_of came) rest → HandsToShards shard k came part → PassesOver (concat (bytes_of part)) (bytes_of part) []
 
--- where a request stands in what its shard was handed: with the same bytes and stamp, behind what came for that shard before it
+-- the place of a request in what its shard was handed: it has the same bytes and stamp, and follows what came for that
+-- shard before it
 pub record IsPlaced (shard : ℕ → ℕ) (k : ℕ) (all part : List Item) (i : ℕ) (item : Item) : Type 0 where
   pub place : ℕ
   pub twin : Item
@@ -42,14 +43,14 @@ pub record IsPlaced (shard : ℕ → ℕ) (k : ℕ) (all part : List Item) (i : 
   pub same : input_of twin ≡ input_of item
   pub before : HandsToShards shard k (inputs (take i all)) (inputs (take place part))
 
--- each request stands in what its shard was handed
+-- each request has a place in what its shard was handed
 abbrev pub RequestsArePlaced : Type 0
 RequestsArePlaced =
     (shard : ℕ → ℕ) (k : ℕ) (all part : List Item) → HandsToShards shard k (inputs all) (inputs part)
     → (i : ℕ) (item : Item) → slice_get all i ≡ Some item → IsFor shard k item.bytes → IsPlaced shard k all part i item
 
--- Its settled answer there is, byte for byte, that of one host that was asked everything: whichever way the books are given
--- out, where the book began alike in both, and the same of its earlier requests were settled in both.
+-- A request's settled answer from its shard is, byte for byte, that of one host that was asked everything. This holds
+-- however the books are given out, if the book began alike in both and has the same trace in both.
 abbrev pub ShardsReplyAsOne : Type 0
 ShardsReplyAsOne =
     (shard : ℕ → ℕ) (k : ℕ) (own one : Host) (operator : ℕ) (all part : List Item)

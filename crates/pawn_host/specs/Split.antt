@@ -27,7 +27,7 @@ pub record IsRequest (bytes : List ℕ) (closes : Bool) : Type 0 where
 abbrev pub HasNoWhole : List ℕ → Type 0
 HasNoWhole rest = (request more : List ℕ) (closes : Bool) → rest ≡ request ++ more → IsRequest request closes → ⊥
 
--- the rest has begun with a head, which may still go on (how long it grows aside)
+-- the rest is the beginning of a head, which may still go on, leaving its length aside
 abbrev pub IsCutHead : List ℕ → Type 0
 IsCutHead rest = (rest ≢ []) × (length rest < max_head) × HasNoRequest rest × MayBecomeRequest rest
 
@@ -78,7 +78,7 @@ abbrev pub Begins : List ℕ → List (List ℕ) → Type 0
 Begins stream requests =
     ((rest : List ℕ) × PassesOver stream requests rest × (length requests ≤ most_requests)) ⊎ ClosesAfter stream requests
 
--- the same, and a further request is there
+-- the stream begins with these requests, none of which closes the connection, and a further request follows
 abbrev pub BeginsAndGoesOn : List ℕ → List (List ℕ) → Type 0
 BeginsAndGoesOn stream requests =
     (next : List ℕ) × (more : List ℕ) × (closes : Bool)
@@ -88,11 +88,11 @@ BeginsAndGoesOn stream requests =
 abbrev pub IsUnderWay : List ℕ → List (List ℕ) → Type 0
 IsUnderWay stream requests = (rest : List ℕ) × PassesOver stream requests rest × (length requests < most_requests)
 
--- more is wanted behind what has come: it is requests after which more may be taken, and a rest that holds no whole one
+-- more bytes are wanted: what has come is some requests, after which more may be taken, and a rest without a whole one
 abbrev pub IsWanting : List ℕ → Type 0
 IsWanting come = (requests : List (List ℕ)) × (rest : List ℕ) × PassesOver come requests rest × (length requests < most_requests) × HasNoWhole rest
 
--- each read gave a piece, and was made while more was wanted behind what had come
+-- each read gave a piece, and was made while more bytes were wanted
 abbrev pub AreWanted : List ℕ → List (List ℕ) → Type 0
 AreWanted come [] = Unit {0}
 AreWanted come (piece ∷ pieces) = IsWanting come × AreWanted (come ++ piece) pieces

@@ -1,4 +1,4 @@
--- What clauses read of what was read of a stream.
+-- What contracts say of the bytes that were read of a stream.
 use Rattle.std.specs.Prelude.{ℕ, List, drop}
 use Rattle.pawn_host.specs.declared.buffer.Buffer.{Buffer}
 

@@ -1,4 +1,4 @@
--- What the holder of a book's key may ask to see of it, and how a view is told.
+-- What the holder of a book's key may ask to see, and how it is answered.
 use Rattle.std.specs.Prelude.{◌≡◌, ℕ, List, Result, Ok, Err}
 use Rattle.pawn_book.specs.declared.request.BrokerRequest.{BrokerRequest}
 use Rattle.pawn_book.specs.declared.request.BrokerRequest.TheVariants as broker
@@ -20,8 +20,8 @@ view_asked (Pledge number) = broker.Show number
 view_asked (Sheet day) = broker.SheetOf day
 view_asked Rows = broker.Export
 
--- a view is told: the text where it was written whole; this refusal where there is nothing to show, or that the store failed;
--- else that memory was wanting. Each may be want of memory in place of it
+-- The answer to a view. It is the text if that was written whole, this refusal if there is nothing to show, or that the
+-- store failed. In all other cases, and in place of any of these, it may be that memory was refused.
 abbrev pub TellsView : {U : Type 0} → Answer → Result U ViewFault → List ℕ → Refusal → Type 0
 TellsView answer (Ok u) text unknown = Tells answer text
 TellsView answer (Err fault.Unknown) text unknown = Tells answer (out_text (wire.Refused unknown))

@@ -1,10 +1,10 @@
-//! What was read of a stream and is not answered yet.
+//! The bytes of a stream that were read and are not answered yet.
 ghost use Rattle.std.specs.Prelude.{◌≡◌, ◌≤◌, ◌++◌, [], drop, length, IfOk, vec_len};
 
 use std::alloc::{AllocError, Global};
 
-/// The bytes that were read of a stream, and how many of them are answered. Those go out of it where a piece comes in, and
-/// not at each answer, so a request is not moved once for each that came with it.
+/// The bytes that were read of a stream, and how many of them are answered. Answered bytes are dropped when a new piece
+/// is added, not at each answer. So bytes are not moved once for every request that came with them.
 #[derive(Drop)]
 pub(crate) struct Buffer {
     bytes: Vec<u8>,
@@ -41,7 +41,7 @@ impl Buffer {
         self.bytes.extend_from_slice(piece)
     }
 
-    /// The first so many bytes are answered.
+    /// Notes that the first `n` bytes are answered.
     pub fn answer(&mut self, n: usize)
         requires within { n ≤ length (unanswered self.old) }
         ensures rest { unanswered self.new ≡ drop n (unanswered self.old) }

@@ -5,73 +5,80 @@ ghost use Rattle.pawn_host.specs.Shards.{HandedSplits, RequestsArePlaced, Shards
 
 use pawn_book::Keep;
 
-/// A stream has one split, but for its ending in a head that can't be completed.
+/// A stream splits into requests in one way only. Its ending is determined too, unless the rest is a head that can't be
+/// completed: then it may count as a cut or as a bad head.
 pub fn split_is_unique()
     ensures law { SplitIsUnique }
 {}
 
-/// Where two endings stand for one stream it ends in a target, or past the last field allowed.
+/// If the rest of a stream may count both as a cut and as a bad head, it ends inside a target, or can become a head
+/// with too many fields.
 pub fn open_ends()
     ensures law { OpenEnds }
 {}
 
-/// Where a split ends before the limit, no whole request begins the rest.
+/// If a split ends before the limit of requests, the rest does not begin with a whole request.
 pub fn split_ends_early()
     ensures law { SplitEndsEarly }
 {}
 
-/// Requests that a split begins with are its first.
+/// Requests that a stream begins with are the first of its split. If a further request is there, the split has at least
+/// one more.
 pub fn split_begins()
     ensures law { SplitBegins }
 {}
 
-/// The requests of a split are the front of the stream.
+/// The requests of a split, joined together, are the beginning of the stream. There are at most 1,000.
 pub fn split_is_front()
     ensures law { SplitIsFront }
 {}
 
-/// What is handed in and the refusals decide a run's items.
+/// The stamps and bytes that are handed in, and which items memory or the store refused, determine all items of a run.
 pub fn items_are_unique()
     ensures law { ItemsAreUnique }
 {}
 
-/// The machine reads of an item its stamp and its mark.
+/// Only the stamp and the mark of each item matter. Runs that agree in these lead to the same host and the same
+/// replies.
 pub fn run_reads_events()
     ensures law { RunReadsEvents }
 {}
 
-/// Two runs in turn, the second from the host that the first left, are one run.
+/// Two runs one after the other, the second from the host that the first left, are one run.
 pub fn runs_join()
     ensures law { RunsJoin }
 {}
 
-/// Nothing is wanted behind a request that closes, nor behind as many requests as are answered.
+/// No more bytes are wanted after a request that closes the connection, nor after 1,000 requests.
 pub fn nothing_is_wanted()
     ensures law { NothingIsWanted }
 {}
 
-/// A rest that can still become a head is not faulted, and one that can't is.
+/// A rest that can still become a head within the limits is no fault. One that can't is a bad head.
 pub fn fault_is_exact()
     ensures law { FaultIsExact }
 {}
 
-/// Each answer of a run is that of one slot alone, and slots with equal traces are answered alike, and so are books.
+/// Each settled answer of a run is what its slot, or its book, would get if nobody else were served. Slots with equal
+/// traces are answered alike, and so are books.
 pub fn runs_answer_alone()
     ensures alone { RunsAnswerAlone }
     ensures alike { EqualTracesReplyAlike }
     ensures books_alike { EqualBookTracesReplyAlike }
 {}
 
-/// Where each request of a stream is handed to the shard of its book, each settled answer is, byte for byte, that of one host
-/// that was asked everything; and what a shard is handed is a stream of whole requests, as they came.
+/// Let each request of a stream be handed to the shard of its book. Then each settled answer is, byte for byte, that of
+/// one host that was asked everything, if the book began alike in both and has the same trace. What a shard is handed
+/// is again a stream of whole requests, as they came.
 pub fn shards_answer_as_one()
     ensures placed { RequestsArePlaced }
     ensures as_one { ShardsReplyAsOne }
     ensures splits { HandedSplits }
 {}
 
-/// Where a crash could have left no host but the one before a run, it leaves the host after all items, with or without one
-/// request that want of memory or the store refused; and two runs in turn leave what they leave as one.
+/// Suppose that a crash before a run could leave only the host at its start. Then a crash after the run leaves the host
+/// after all items, perhaps with one request more that memory or the store refused. Two runs one after the other leave
+/// what they would leave as one.
 pub fn crash_leaves_whole<K: Keep>()
     ensures law { CrashLeavesWhole K.keeping }
     ensures joins { CrashesJoin K.keeping }

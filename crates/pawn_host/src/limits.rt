@@ -1,7 +1,7 @@
 //! The limits of a session.
 
-/// At most so many requests are answered.
+/// The most requests that a session answers.
 pub const MOST_REQUESTS: u32 = 1_000;
 
-/// At most so many reads are made.
+/// The most reads that a session makes.
 pub const MOST_READS: u32 = 100_000;

@@ -8,7 +8,7 @@ use crate::limits::MOST_READS;
 use std::io;
 use std::io::Read;
 
-/// A reader whose reads are counted. It remembers a failed one.
+/// A reader that counts its reads, and remembers whether one failed.
 #[derive(Drop)]
 pub struct Reading<R> {
     inner: R,
@@ -21,7 +21,7 @@ pub struct Reading<R> {
 impl<R> Reading<R> {
     ghost use Rattle.pawn_host.specs.Ends.{reading_inner, reads, read_failed, left_of};
 
-    /// A reader of which nothing was read yet.
+    /// Wraps a reader. Nothing was read of it yet.
     pub fn new(inner: R) -> Self
         ensures inner { reading_inner result ≡ inner }
         ensures reads { reads result ≡ 0 }
@@ -52,7 +52,7 @@ impl<R> Reading<R> {
 impl<R: Read> Reading<R> {
     ghost use Rattle.pawn_host.specs.Ends.{reads, read_failed, left_of};
 
-    /// Hands on the answer of one read.
+    /// Makes one read of the inner reader, and counts it.
     ///
     /// The caller's condition: fewer than 100,000 reads were made.
     pub fn read(&mut self, buf: &mut [u8]) -> io::Result<usize>

@@ -18,14 +18,14 @@ use pawn_view::{ViewFault, Writing, show_day_sheet, show_presented, show_stateme
 use pawn_wire::{Out, Router, read_request, write_reply};
 use std::alloc::{AllocError, Global};
 
-/// The answer to one request: the bytes of its reply, or want of memory, which stands for the reply that says so.
+/// The answer to one request: the bytes of its reply, or `Memory`, for which `MEMORY_REPLY` is to be sent.
 #[derive(Drop)]
 pub enum Answer {
     Bytes(Vec<u8>),
     Memory,
 }
 
-// What the holder of a book's key may ask to see of it.
+// What the holder of a book's key may ask to see: a pledge, a day's sheet, or all rows.
 #[derive(Clone, Copy)]
 enum View {
     Pledge(Number),
@@ -33,7 +33,7 @@ enum View {
     Rows,
 }
 
-/// The service over a keeper of books, for the operator with a key.
+/// The service over a keeper of books. `operator` is the key that may make books.
 #[derive(Drop)]
 pub struct Service<K> {
     /// The keeper, as the requests so far left it.
@@ -43,7 +43,7 @@ pub struct Service<K> {
     pub(crate) alloc: Global,
 }
 
-// The answer that tells this.
+// The answer with these contents; `Memory` if there is no memory for its bytes.
 fn tell(alloc: Global, out: &Out) -> Answer
     ensures tells { Tells result (out_text out.now) }
 {
@@ -53,8 +53,8 @@ fn tell(alloc: Global, out: &Out) -> Answer
     }
 }
 
-// The answer of a view: its text where that was written whole, or why not. Where there is nothing to
-// show it is this refusal.
+// The answer to a view. It is the text if that was written whole, and this refusal if there is nothing to show.
+// Otherwise it says that memory was refused, or that the store failed.
 fn tell_view(alloc: Global, shown: Result<(), ViewFault>, text: &Out, unknown: Refusal) -> Answer
     ensures tells { TellsView result shown (out_text text.now) unknown }
 {
@@ -62,14 +62,14 @@ fn tell_view(alloc: Global, shown: Result<(), ViewFault>, text: &Out, unknown: R
         Ok(()) => tell(alloc, text),
         Err(ViewFault::Unknown) => tell(alloc, &Out::Refused(unknown)),
         Err(ViewFault::Store) => tell(alloc, &Out::Refused(Refusal::Store)),
-        // The text is built in memory, so a failed write is want of it.
+        // The text is built in memory, so a failed write means that memory was refused.
         Err(ViewFault::Memory) => Answer::Memory,
         Err(ViewFault::Write) => Answer::Memory,
     }
 }
 
 impl<K: Keep> Service<K> {
-    /// A service over this keeper. Refused only where memory is wanting.
+    /// Makes a service over this keeper. `operator` is the operator's key. Fails only if memory is refused.
     pub fn new(alloc: Global, keep: K, operator: Secret) -> Result<Service<K>, AllocError>
     where
         K: Drop,
@@ -87,14 +87,14 @@ impl<K: Keep> Service<K> {
         }
     }
 
-    /// The keeper, as the requests so far left it.
+    /// Gives the keeper back, as the requests so far left it.
     pub fn into_keep(self) -> K
         ensures keep { result ≡ service_keep self }
     {
         self.keep
     }
 
-    // Shows what receipts stand for.
+    // Shows a bearer the pledges of these receipts.
     fn show_receipts(&mut self, stamp: &Stamp, book: Number, receipts: &Receipts) -> Answer
         ensures stays { StaysOpen K.keeping self.old self.new }
         ensures acted { Serves K.keeping self.old self.new
@@ -254,7 +254,7 @@ impl<K: Keep> Service<K> {
         }
     }
 
-    /// Answers one whole request.
+    /// Answers bytes that should be one whole request. If they are not, the answer says which fault they have.
     pub fn answer_one(&mut self, stamp: &Stamp, bytes: &[u8]) -> Answer
         ensures stays { StaysOpen K.keeping self.old self.new }
         ensures acted { Serves K.keeping self.old self.new
@@ -271,7 +271,8 @@ impl<K: Keep> Service<K> {
         }
     }
 
-    /// Answers these items in their order. Where there is no room for the answers, nothing was done.
+    /// Answers these requests, each with its stamp, in their order. If there is no memory to list the answers, it fails
+    /// before anything is done.
     pub fn run(&mut self, items: &[(Stamp, Vec<u8>)]) -> Result<Vec<Answer>, AllocError>
         ensures stays { StaysOpen K.keeping self.old self.new }
         ensures run { IfOk result (λ answers. Serves K.keeping self.old self.new

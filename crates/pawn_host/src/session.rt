@@ -27,17 +27,17 @@ pub enum How {
     Cut,
     /// A request asked for the connection to be closed after its reply, or was one of HTTP/1.0.
     Closed,
-    /// No request can begin with the rest, and its fault was replied.
+    /// The rest can't begin a request, and its fault was sent as the last reply.
     Faulted,
     /// 1,000 requests were answered.
     Limit,
-    /// A further request is there, and no stamp for it.
+    /// A further request has come, but there is no stamp for it.
     NoStamp,
-    /// There is no memory for a further request, and that was replied.
+    /// There is no memory to read a further request, and that was sent as the last reply.
     Memory,
 }
 
-/// A session that ended: how, and after how many requests.
+/// A session that ended: how it ended, and how many requests were answered.
 #[derive(Clone, Copy, Debug, PartialEq, Eq)]
 pub struct Ended {
     pub how: How,
@@ -55,7 +55,8 @@ pub enum Cause {
     Reads,
 }
 
-/// A session that was broken off: why, after how many requests, and how many bytes of what was due went out.
+/// A session that was broken off: why, how many requests were acted on, and how many bytes of all replies went out,
+/// with a last one for a fault.
 #[derive(Clone, Copy, Debug, PartialEq, Eq)]
 pub struct IoFault {
     pub cause: Cause,
@@ -63,7 +64,8 @@ pub struct IoFault {
     pub sent: u128,
 }
 
-// What a read into the buffer did.
+// What came of one read: bytes were added, the stream is over, the read failed, no reads are left, or there is no
+// memory.
 #[derive(Clone, Copy)]
 enum Filled {
     More,
@@ -73,7 +75,8 @@ enum Filled {
     NoRoom,
 }
 
-// What is there in place of a further request.
+// Why there is no further request: the stream is over, or is cut off in a request, or has a fault; memory was refused;
+// or the session is broken off.
 #[derive(Clone, Copy)]
 enum Rest {
     AtEnd,
@@ -83,7 +86,7 @@ enum Rest {
     Stopped(Cause),
 }
 
-// One read, added to the buffer.
+// Makes one read, and adds what came to the buffer.
 fn fill<R: Read>(reader: &mut Reading<R>, buffer: &mut Buffer) -> Filled
     ensures filled { IsFilled result (left_of R.remaining reader.old)
         (left_of R.remaining reader.new) (unanswered buffer.old) (unanswered buffer.new) }
@@ -143,7 +146,7 @@ fn await_head<R: Read>(reader: &mut Reading<R>, buffer: &mut Buffer) -> Result<H
     }
 }
 
-// The length of a request with this head.
+// How many bytes a request with this head has, with its body.
 fn request_len(head: &HeadFacts) -> usize
     requires small { head.now.len + head.now.body ≤ most_request_bytes }
     ensures answer { result ≡ head.now.len + head.now.body }
@@ -208,7 +211,7 @@ fn next_request<R: Read>(reader: &mut Reading<R>, buffer: &mut Buffer) -> Result
     }
 }
 
-// What is written for an answer.
+// The bytes to be written for an answer.
 fn answer_slice(answer: &Answer) -> &[u8]
     ensures bytes { result.now ≡ answer_bytes answer.now }
 {
@@ -218,7 +221,7 @@ fn answer_slice(answer: &Answer) -> &[u8]
     }
 }
 
-// Writes the last text of a session.
+// Writes the last text of a session, and ends it so; or breaks it off if the writer fails.
 fn write_last<W: Write>(
     writer: &mut Writing<W>,
     text: &[u8],
@@ -242,7 +245,7 @@ fn write_last<W: Write>(
     Ok(Ended { how, acted })
 }
 
-// Ends a session to which no further request came.
+// Ends a session to which no further request came, with a last reply if one is due.
 fn finish<W: Write>(
     writer: &mut Writing<W>,
     rest: Rest,
@@ -264,10 +267,11 @@ fn finish<W: Write>(
 }
 
 impl<K: Keep> Service<K> {
-    /// Answers the requests of a stream in their order, and writes each reply before the next request is read. A stamp is
-    /// taken for each request once its last byte is there, and none for a fault, a cut or an end. At most 1,000 requests
-    /// are answered and 100,000 reads made, each while a further request is wanted and not whole yet; nothing is read
-    /// behind a request that closes. No failed read or write is tried again, and an ending means that neither end failed.
+    /// Answers the requests of a stream in their order, and writes each reply before the next request is read. A stamp
+    /// is taken for each request once its last byte has come, and none for a fault, a cut or an end. At most 1,000
+    /// requests are answered. At most 100,000 reads are made, each only while a further request is wanted and not
+    /// complete. After a request that closes the connection nothing more is read. No failed read or write is tried
+    /// again. If the result is `Ok`, neither the reader nor the writer has failed.
     ///
     /// The caller's conditions: the reader is new, and the writer has not failed.
     pub fn answer_all<R: Read, W: Write, I: Iterator<Item = Stamp>>(

@@ -1,4 +1,4 @@
--- What a call hands over that answers whether the visitor wants more.
+-- What a call hands to a visitor, and whether the visitor then wants more.
 use Rattle.std.specs.Prelude.{List, Result, Ok, Err}
 use Rattle.pawn_book.specs.declared.fault.KeepError.{KeepError}
 use Rattle.pawn_book.specs.declared.visit.Flow.{Flow}
@@ -7,13 +7,13 @@ use Rattle.pawn_book.specs.HostStep.{Host}
 use Rattle.pawn_book.specs.Keeping.{Errs, Keeping, Reads}
 use Rattle.pawn_book.specs.Visits.{Handed, IsShare, call_end}
 
--- what the visitor answered last; before an error it never stopped
+-- what the visitor answered last; if the call ended in an error, the visitor had not stopped
 abbrev pub flow_of : Result Flow KeepError → Flow
 flow_of (Ok flow) = flow
 flow_of (Err e) = Go
 
--- the visitor was handed the items that are listed of the host, all of them unless it stopped or the call errs, and then a
--- front; a row is no record only of a host that is unsound in this way
+-- The visitor was handed the items that are listed of the host: all of them, or the first of them if it stopped or the
+-- call failed. The call reports a row that is no record only if the host is unsound in this way.
 pub record HandsRows {K V T : Type 0} (k : Keeping K) (IsUnsound : Host → Type 0) (step : V → T → Flow → V → Type 0) (old new : K) (v w : V) (result : Result Flow KeepError) (listed : Host → List T) : Type 0 where
   pub given : List T
   pub handed : Handed step v given (flow_of result) w

@@ -1,4 +1,4 @@
--- The windows of a day that are read.
+-- The part of a day's sheet that belongs to some of its windows.
 use Rattle.std.specs.Prelude.{ℕ, ◌==◌, if◌then◌else◌, List, []}
 use Rattle.std.specs.List.{flat_map, list_any}
 use Rattle.pawn_pledge.specs.Pledge.{PledgeValue}

@@ -20,13 +20,13 @@ use pawn_tables::{
 use sqlite::{Alter, Connection, Error, ErrorCode};
 use std::alloc::Global;
 
-// What comes of a list that has more than that of a sound book.
+// The error for a list that is longer than any sound book's: the stored rows are no record.
 const TOO_MANY: KeepError = KeepError::Store(StoreFault::NoRecord);
 
-// What comes of a number that can't be counted.
+// The error for a number that 32 bits can't hold.
 const BEYOND: KeepError = KeepError::Store(StoreFault::Database);
 
-/// Books in the tables of a database.
+/// A keeper of books in the tables of a database. Between calls no transaction is under way.
 #[derive(Drop)]
 pub struct TableKeep<S: Alter> {
     alloc: Global,
@@ -35,7 +35,7 @@ pub struct TableKeep<S: Alter> {
 }
 
 impl<S: Alter> TableKeep<S> {
-    /// A keeper over a connection. It is handed back where a transaction is under way.
+    /// Makes a keeper over a connection. If a transaction is under way, the connection is handed back as the error.
     pub fn over(alloc: Global, conn: Connection<S>) -> Result<TableKeep<S>, Connection<S>>
         ensures same { IfOk result (λ k. k.conn ≡ conn) }
         ensures refused { IfErr result (λ back. (back ≡ conn) × IsTrue conn.in_transaction) }
@@ -47,7 +47,7 @@ impl<S: Alter> TableKeep<S> {
         }
     }
 
-    /// The connection that the keeper is over. No transaction is under way.
+    /// Gives the keeper's connection back. No transaction is under way on it.
     pub fn into_connection(self) -> Connection<S>
         ensures same { result ≡ self.conn }
         ensures rests { result.in_transaction ≡ false }
@@ -55,8 +55,8 @@ impl<S: Alter> TableKeep<S> {
         self.conn
     }
 
-    /// Whether a fault has shut the store, so that it answers nothing more until it is opened anew. The store is asked by
-    /// a text that says nothing, which a store that is shut refuses as any other. What it keeps stays.
+    /// Whether a fault has shut the store, so that it answers nothing more until it is opened anew. To find out, an
+    /// empty statement is prepared, which only a shut store refuses as closed. Nothing stored changes.
     pub fn is_shut(&mut self) -> bool
         ensures reads { Reads (keeping_by (λ k. state S.Store k.conn)) self.old self.new
             (λ h. Unit {0}) }
@@ -211,7 +211,7 @@ impl<S: Alter> Keep for TableKeep<S> {
     ghost whole_is_sound = { tables_whole_is_sound _ };
 }
 
-// The number above which a book is sought; 0 where there is none.
+// The number above which the next book is looked for: 0 if none is given.
 fn bound(after: Option<Number>) -> u32
     ensures value { result ≡ unwrap_or after 0 }
 {

@@ -1,4 +1,4 @@
--- Stores whose schema is told, and that are moved to the program's.
+-- What is found of a store's schema, and how a store of an older one is moved to the program's.
 use Rattle.std.specs.Prelude.{◌≡◌, ◌⊎◌, ◌<◌, false, ℕ, Option, Some, None, IsTrue, Result, Ok, Err, IfErr, IfOk, OnErr, OnOk}
 use Rattle.std.specs.FinMap.{get}
 use Rattle.sqlite.specs.Effect.{Database as Tables}
@@ -26,7 +26,7 @@ use Rattle.pawn_move.specs.StandsUnder.{IsSchema, StandsUnder}
 abbrev pub StandsForNoSound : Tables → Type 0
 StandsForNoSound db = (n : ℕ) (h : Host) → IsSchema n → StandsUnder n db h → HasUnsoundBook h
 
--- a store's schema is not told, as none of ours or as a newer one, only if it is so
+-- what is so of a store whose schema is not reported for this reason
 abbrev pub IsUntellable : Tables → MoveFault → Type 0
 IsUntellable db NotOurs = NotesNoSchema db ⊎ NotesSchema db 0
 IsUntellable db NewerSchema = (n : ℕ) × NotesSchema db n × (3 < n)
@@ -34,12 +34,13 @@ IsUntellable db Damaged = ⊥
 IsUntellable db Store = Unit {0}
 IsUntellable db Memory = Unit {0}
 
--- a store is refused as damaged only if it notes the program's schema or an older one, and stands for no sound host
+-- what is so of a store that is not moved for this reason: it is damaged only if it notes one of our schemas, and
+-- stands for no sound host
 abbrev pub IsUnmovable : Tables → MoveFault → Type 0
 IsUnmovable db Damaged = ((n : ℕ) × NotesSchema db n × IsSchema n) × StandsForNoSound db
 IsUnmovable db why = IsUntellable db why
 
--- the store failed, and nothing is said of what it holds
+-- the store failed, or memory was refused; nothing is said of what the store holds
 abbrev pub IsFailure : MoveFault → Type 0
 IsFailure NotOurs = ⊥
 IsFailure NewerSchema = ⊥
@@ -47,33 +48,33 @@ IsFailure Damaged = ⊥
 IsFailure Store = Unit {0}
 IsFailure Memory = Unit {0}
 
--- an empty store is none of ours, unless the store failed
+-- the answer for an empty store: it is none of ours, unless the store failed
 abbrev pub IsNotOurs : {A : Type 0} → Result A MoveFault → Type 0
 IsNotOurs (Ok told) = ⊥
 IsNotOurs (Err NotOurs) = Unit {0}
 IsNotOurs (Err why) = IsFailure why
 
--- what is told where a store is not opened, or not closed, or does not tell its schema
+-- a fault of opening, reading the schema or closing, as a fault of moving
 abbrev pub fault_of_opening : OpenFault → MoveFault
 fault_of_opening Opening.Memory = Memory
 fault_of_opening Opening.Store = Store
 fault_of_opening Opening.NotOurs = Store
 fault_of_opening (Opening.OldSchema n) = Store
 
--- what is told where the transaction failed
+-- an error within the transaction, as a fault of moving
 abbrev pub move_fault_of : KeepError → MoveFault
 move_fault_of Keeper.Memory = Memory
 move_fault_of (Keeper.Store NoRecord) = Damaged
 move_fault_of (Keeper.Store Database) = Store
 
--- ---- the schema that is told
+-- ---- the schema that is reported
 
--- of tables that stand for a host under a schema, its number is told, unless the store failed
+-- for tables that stand for a host under a schema: its number is the answer, unless the store failed
 abbrev pub IsMoveTold : ℕ → Result ℕ MoveFault → Type 0
 IsMoveTold n (Ok m) = m ≡ n
 IsMoveTold n (Err why) = IsFailure why
 
--- what is made of the number that a store notes
+-- how the number that a store notes is judged
 abbrev pub IsNumberJudged : Option ℕ → Result ℕ MoveFault → Type 0
 IsNumberJudged noted (Ok n) = (noted ≡ Some n) × IsSchema n
 IsNumberJudged noted (Err NotOurs) = (noted ≡ None) ⊎ (noted ≡ Some 0)
@@ -82,7 +83,7 @@ IsNumberJudged noted (Err Damaged) = ⊥
 IsNumberJudged noted (Err Store) = ⊥
 IsNumberJudged noted (Err Memory) = ⊥
 
--- a store tells the number of its schema, and is left as it was
+-- the answer is the number of a store's schema, and the store is left as it was
 pub record TellsNumber (old new : State) (result : Result ℕ MoveFault) : Type 0 where
   pub known : IfOk result IsSchema
   pub ok : HasCleanDisk new → IfOk result (λ n. NotesSchema old.now n × IsTrue new.is_open)
@@ -95,8 +96,8 @@ pub record TellsNumber (old new : State) (result : Result ℕ MoveFault) : Type 
 
 -- ---- the store that is moved
 
--- of tables that stand for a host under schema n: the store is open, with nothing pending, for the same host under the program's, and
--- n and 3 are told; or the store failed, or the host has a book that is not sound
+-- For tables that stand for a host under schema n. Either the store is open, with nothing pending, for the same host
+-- under the program's schema, and the answer is n and 3. Or the store failed, or the host has a book that is not sound.
 abbrev pub IsMoved : ℕ → Host → State → Result (ℕ × ℕ) MoveFault → Type 0
 IsMoved n h new (Ok told) = (told ≡ (n, 3)) × OpensAs new h
 IsMoved n h new (Err NotOurs) = ⊥
@@ -105,12 +106,14 @@ IsMoved n h new (Err Damaged) = HasUnsoundBook h
 IsMoved n h new (Err Store) = Unit {0}
 IsMoved n h new (Err Memory) = Unit {0}
 
--- the trees stand under the program's schema for each host that the old tables stood for, whatever their schema was
+-- the trees stand, under the program's schema, for each host without a book 0 that the old tables stood for, whatever
+-- their schema was
 abbrev pub HoldSameHost : Tables → Trees → Type 0
 HoldSameHost old trees = (n : ℕ) (h : Host) → IsSchema n → get h.books 0 ≡ None → StandsUnder n old h → HoldHost trees h
 
--- A store of schema 1, 2 or 3 is moved to 3, in one transaction: then it is open, with nothing pending, for the host that its tables
--- stood for, of which no book has the number 0. Else it is as it was. A crash leaves the old tables or the new ones.
+-- A store of schema 1, 2 or 3 is moved to 3, in one transaction. Then it is open, with nothing pending, for the host
+-- that its tables stood for, if no book of that has the number 0. Else it is as it was. A crash leaves the old tables
+-- or the new ones.
 pub record Migrates (old new : State) (result : Result (ℕ × ℕ) MoveFault) : Type 0 where
   pub found : HasCleanDisk new → IfOk result (λ told. NotesSchema old.now told.0 × IsSchema told.0 × (told.1 ≡ 3))
   pub moved : HasCleanDisk new → (n : ℕ) (h : Host) → IsSchema n → get h.books 0 ≡ None → StandsUnder n old.now h → IsMoved n h new result
@@ -122,7 +125,7 @@ pub record Migrates (old new : State) (result : Result (ℕ × ℕ) MoveFault) :
   -- a crash leaves the last commit, or tables of the program's schema for the same host
   pub crash : HasCleanDisk new → IsTrue old.is_open → (trees : Trees) → new.may_leave trees → (trees ≡ old.committed.trees) ⊎ HoldSameHost old.now trees
 
--- tables of an older schema are moved only where each debt of the host can have come about
+-- tables of an older schema are moved only if each debt of the host can have come about
 abbrev pub MigratesOwed : State → State → Result (ℕ × ℕ) MoveFault → Type 0
 MigratesOwed old new result =
     HasCleanDisk new → (n : ℕ) (h : Host) → IsSchema n → n < 3 → get h.books 0 ≡ None → StandsUnder n old.now h → IfOk result (λ told. AreAllOwed h)
@@ -141,7 +144,7 @@ pub record MovesStore (n : ℕ) (old new : State) (result : Result (Unit {0}) Ke
   pub ended : new.in_transaction ≡ false
   pub survives : Survives old new (HoldMoved n old)
 
--- a store of this schema is moved only where each debt of the host can have come about
+-- a store of this schema is moved only if each debt of the host can have come about
 abbrev pub MovesStoreOwed : ℕ → State → State → Result (Unit {0}) KeepError → Type 0
 MovesStoreOwed n old new result =
     HasCleanDisk new → (h : Host) → get h.books 0 ≡ None → StandsUnder n old.now h → OnOk result (AreAllOwed h)

@@ -23,11 +23,12 @@ use Rattle.pawn_tables.specs.Told.{totals_in}
 use Rattle.pawn_tables.specs.StandsFor.{AreBooksOrdered, AreStorable, ListDebts, StandsFor, of_pledges}
 use Rattle.pawn_move.specs.StandsUnder.{HasNoExtension, StandsUnder, listed_under}
 
--- the rows of a host, where this number of a schema is noted, these rows of totals stand, and none of extensions
+-- the rows of a host by their tree, with this number of a schema, these rows of totals, and no rows of extensions
 abbrev pub listed_with : ℕ → List Row → Host → Listed
 listed_with n owed h = with_rows (with_rows (listed_under n h) totals_tree owed) extensions_tree []
 
--- the program's tables list a host without extensions, but for its totals and the number of the schema
+-- the program's tables list a host without extensions, except that they have these totals and note this number of a
+-- schema
 pub record IsMoving (n : ℕ) (owed : List Row) (db : Tables) (h : Host) : Type 0 where
   pub lists : ListsOurs db (listed_with n owed h)
   pub ordered : AreBooksOrdered h
@@ -45,29 +46,29 @@ pub record ListFirstDebts (db : Tables) (h : Host) : Type 0 where
 abbrev pub CanBeOwed : PledgeValue → Type 0
 CanBeOwed p = IsChecked p.agreement.terms × CanStand (debt_of p)
 
--- the debts of the pledges of a book can
+-- the debts of a book's pledges can all have come about
 abbrev pub AreOwedIn : Host → ℕ → Type 0
 AreOwedIn h b = Each CanBeOwed (pledges_of (get h.books b))
 
--- the debts of all books can
+-- the debts of all pledges of all books can have come about
 abbrev pub AreAllOwed : Host → Type 0
 AreAllOwed h = (b : ℕ) (k : BookValue) → get h.books b ≡ Some k → Each CanBeOwed k.pledges
 
--- what was owed on the pledge of this number in this book, if it stands: its debt can have come about
+-- these are the totals of pledge n of book b, if there is such a pledge; then its debt can have come about
 abbrev pub AreTotalsAt : Host → ℕ → ℕ → Option Totals → Type 0
 AreTotalsAt h b n totals = (totals ≡ totals_in (pledge_in (get h.books b) n)) × IfSome (pledge_in (get h.books b) n) CanBeOwed
 
--- whether the pledge of this number stands in this book: its debt can have come about then
+-- the answer is whether there is a pledge n in book b; if so, its debt can have come about
 abbrev pub IsJudgedAt : Host → ℕ → ℕ → Bool → Type 0
 IsJudgedAt h b n stands = (stands ≡ is_some (pledge_in (get h.books b) n)) × IfSome (pledge_in (get h.books b) n) CanBeOwed
 
--- the next book above a number, if there is one: its debts can have come about
+-- this is the next book above a number, if there is one; then its debts can have come about
 abbrev pub IsNextJudged : Host → ℕ → Option ℕ → Type 0
 IsNextJudged h above next = IsNextBook h above next × IfSome next (AreOwedIn h)
 
--- ---- totals that are put
+-- ---- totals that are inserted
 
--- the rows of something, if it is there
+-- the rows of something, if there is one; else none
 abbrev pub rows_if_any : {X : Type 0} → Option X → (X → List Row) → List Row
 rows_if_any None f = []
 rows_if_any (Some x) f = f x
@@ -76,12 +77,14 @@ rows_if_any (Some x) f = f x
 abbrev pub totals_of_book : Host → ℕ → List Row
 totals_of_book h b = flat_map (totals_listed b) (pledges_of (get h.books b))
 
--- a part of the transaction puts these rows of totals, and is told P; a row is no record only of a host with a book that is not sound
+-- A part of the transaction inserts these rows of totals, and P holds of its answer. It reports a row that is no record
+-- only if some book of the host is not sound.
 abbrev pub PutsTotals : {A : Type 0} → State → State → Result A KeepError → (Host → A → List Row) → (Host → A → Type 0) → Type 0
 PutsTotals old new result put P =
     HasCleanDisk new → IsTrue old.in_transaction → (n : ℕ) (owed : List Row) (h : Host) → IsMoving n owed old.now h → Finds result (λ x. P h x × IsMoving n (put h x ++ owed) new.now h) (HasUnsoundBook h)
 
--- a part of the transaction puts the totals of each pledge of each book, where no book has the number 0: their debts can have come about
+-- a part of the transaction inserts the totals of each pledge of each book, if no book has the number 0; their debts
+-- can have come about
 abbrev pub PutsAll : State → State → Result (Unit {0}) KeepError → Type 0
 PutsAll old new result =
     HasCleanDisk new → IsTrue old.in_transaction → (n : ℕ) (owed : List Row) (h : Host) → get h.books 0 ≡ None → IsMoving n owed old.now h
@@ -92,12 +95,13 @@ abbrev pub NotesProgram : State → State → Result (Unit {0}) KeepError → Ty
 NotesProgram old new result =
     HasCleanDisk new → IsTrue old.in_transaction → (n : ℕ) (owed : List Row) (h : Host) → IsMoving n owed old.now h → OnOk result (IsMoving 3 owed new.now h)
 
--- a part of the transaction moves tables of this schema to the program's; where a row is no record, a book of the host is not sound
+-- a part of the transaction moves tables of this schema to the program's; it reports a row that is no record only if
+-- some book of the host is not sound
 abbrev pub Moves : ℕ → State → State → Result (Unit {0}) KeepError → Type 0
 Moves n old new result =
     HasCleanDisk new → IsTrue old.in_transaction → (h : Host) → get h.books 0 ≡ None → StandsUnder n old.now h → Finds result (λ done. StandsFor new.now h) (HasUnsoundBook h)
 
--- a part of the transaction moves tables of this schema only where each debt can have come about
+-- a part of the transaction moves tables of this schema only if each debt can have come about
 abbrev pub MovesOwed : ℕ → State → State → Result (Unit {0}) KeepError → Type 0
 MovesOwed n old new result =
     HasCleanDisk new → IsTrue old.in_transaction → (h : Host) → get h.books 0 ≡ None → StandsUnder n old.now h → OnOk result (AreAllOwed h)

@@ -33,13 +33,13 @@ HasNoExtension h = (b : ℕ) (k : BookValue) → get h.books b ≡ Some k → Ea
 -- The tables of the schema of this number list the host, and note that number, how many rows are counted, and the limit.
 pub record StandsUnder (n : ℕ) (db : Database) (h : Host) : Type 0 where
   pub lists : ListsBy (n == 1) (n == 2) db (listed_under n h)
-  -- what the tables of an older schema can't tell of
+  -- the tables of an older schema can't hold extensions
   pub unextended : n < 3 → HasNoExtension h
-  -- what no row tells
+  -- what the rows don't show
   pub ordered : AreBooksOrdered h
   pub storable : AreStorable h
 
--- so the tables that stand for a host stand for it under the third schema, and none else do
+-- tables stand for a host exactly if they stand for it under the third schema
 pub record ThirdIsOurs : Type 0 where
   pub ours : (db : Database) (h : Host) → StandsFor db h → StandsUnder 3 db h
   pub third : (db : Database) (h : Host) → StandsUnder 3 db h → StandsFor db h

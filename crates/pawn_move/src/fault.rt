@@ -7,20 +7,20 @@ use pawn_opening::OpenFault;
 /// Why a store is not moved to the program's schema.
 #[derive(Clone, Copy, Debug, PartialEq, Eq)]
 pub enum MoveFault {
-    /// An empty store, or another program's.
+    /// The store is empty, or notes no schema: it may be another program's.
     NotOurs,
-    /// A store of a schema that is newer than the program's.
+    /// The store notes a newer schema than the program's.
     NewerSchema,
-    /// The terms, the sum, the days or the entries of a pledge are such as can't have come about.
+    /// A stored row is no record, or the terms, the sum, the days or the entries of a pledge can't have come about.
     Damaged,
-    /// The database refused.
+    /// The database failed, or refused.
     Store,
     Memory,
 }
 
 impl MoveFault {
-    /// Why a store is not opened, does not tell its schema or is not closed, if that is not for what it holds: `Memory` exactly for
-    /// want of memory, else `Store`.
+    /// A fault of opening, reading the schema or closing, as a fault of moving: `Memory` stays, and every other becomes
+    /// `Store`.
     pub fn of_opening(why: OpenFault) -> MoveFault
         ensures failure { IsFailure result }
         ensures told { result ≡ fault_of_opening why }
@@ -32,7 +32,7 @@ impl MoveFault {
     }
 }
 
-/// Why a transaction did not move a store.
+/// A keeper's error as the reason that a store is not moved: a row that is no record makes it `Damaged`.
 pub(crate) fn unmoved(error: KeepError) -> MoveFault
     ensures told { result ≡ move_fault_of error }
 {

@@ -14,7 +14,7 @@ use pawn_tables::next_in;
 use sqlite::{Alter, Transaction};
 use std::alloc::Global;
 
-/// Judges the debt of a pledge, and tells whether the pledge stands.
+/// Checks that the debt of a pledge can have come about. Returns whether there is such a pledge.
 pub(crate) fn judge_pledge<S: Alter>(
     tx: &mut Transaction<'_, S>,
     alloc: Global,
@@ -33,7 +33,7 @@ pub(crate) fn judge_pledge<S: Alter>(
     }
 }
 
-/// Judges the debts of a book's pledges.
+/// Checks the debt of each of a book's pledges.
 pub(crate) fn judge_book<S: Alter>(
     tx: &mut Transaction<'_, S>,
     alloc: Global,
@@ -53,7 +53,7 @@ pub(crate) fn judge_book<S: Alter>(
     Err(BEYOND)
 }
 
-/// Judges the debts of the next book above a number, and tells its number, if there is such a book.
+/// Checks the debts of the next book with a number above `above`. Returns its number; `None` if there is no such book.
 pub(crate) fn judge_next<S: Alter>(
     tx: &mut Transaction<'_, S>,
     alloc: Global,
@@ -74,7 +74,8 @@ pub(crate) fn judge_next<S: Alter>(
     }
 }
 
-/// Judges the debts of all books: one that can't have come about is no record. Nothing is written.
+/// Checks the debts of all books. If one can't have come about, the error is that a row is no record. Nothing is
+/// written.
 pub(crate) fn judge_books<S: Alter>(
     tx: &mut Transaction<'_, S>,
     alloc: Global,

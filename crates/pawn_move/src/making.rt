@@ -14,7 +14,7 @@ use pawn_tables::texts::SET_SCHEMA;
 use pawn_tables::{refused, write};
 use sqlite::{Alter, Transaction, params};
 
-/// Makes the table of totals, beside those of the first schema.
+/// Adds the table of totals to those of the first schema. It has no rows.
 pub(crate) fn make_totals<S: Alter>(tx: &mut Transaction<'_, S>) -> Result<(), KeepError>
     ensures same_reference { tx.new.conn.ghost_name ≡ tx.old.conn.ghost_name }
     ensures made { AddsTable (state S.Store tx.old.conn.now)
@@ -29,7 +29,7 @@ pub(crate) fn make_totals<S: Alter>(tx: &mut Transaction<'_, S>) -> Result<(), K
     }
 }
 
-/// Makes the table of extensions, beside those of the second schema.
+/// Adds the table of extensions to those of the second schema. It has no rows.
 pub(crate) fn make_extensions<S: Alter>(tx: &mut Transaction<'_, S>) -> Result<(), KeepError>
     ensures same_reference { tx.new.conn.ghost_name ≡ tx.old.conn.ghost_name }
     ensures made { AddsTable (state S.Store tx.old.conn.now)

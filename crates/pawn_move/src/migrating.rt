@@ -14,7 +14,7 @@ use pawn_tables::refused;
 use sqlite::{Alter, Connection, Transaction};
 use std::alloc::Global;
 
-// Moves tables of an older schema to the program's.
+// Moves tables of schema 1 or 2 to the program's, within a transaction.
 fn move_tables<S: Alter>(
     tx: &mut Transaction<'_, S>,
     alloc: Global,
@@ -36,7 +36,7 @@ fn move_tables<S: Alter>(
     }
 }
 
-// Moves a store of an older schema to the program's, in one transaction.
+// Moves a store of schema 1 or 2 to the program's, in one transaction.
 fn move_store<S: Alter>(conn: &mut Connection<S>, alloc: Global, from: u32) -> Result<(), KeepError>
     requires rests { conn.old.in_transaction ≡ false }
     requires older { (from ≡ 1) ⊎ (from ≡ 2) }
@@ -56,13 +56,14 @@ fn move_store<S: Alter>(conn: &mut Connection<S>, alloc: Global, from: u32) -> R
     }
 }
 
-/// Moves the store of a connection that is at rest to the program's schema, in one transaction, and tells the number of the schema
-/// that it had and the program's. A store of the program's schema only gets the indexes that it lacks. A store that is refused stays
-/// as it was.
+/// Moves a store to the program's schema, in one transaction. No other transaction may be under way on the connection.
+/// Returns the number of the schema that the store had, and the program's. A store of the program's schema only gets
+/// the indexes that it lacks. A store that is refused stays as it was.
 ///
 /// # Errors
-/// `NotOurs` for an empty store and for one that notes no schema; `NewerSchema` if it notes a newer one; `Damaged` if it notes an older
-/// one and the debt of some pledge can't have come about; `Store` and `Memory` if the store failed, or memory was wanting.
+/// `NotOurs` for an empty store and for one that notes no schema. `NewerSchema` if it notes a newer one. `Damaged` if
+/// it notes an older one, and a stored row is no record or the debt of some pledge can't have come about. `Store` if
+/// the store failed, and `Memory` if memory was refused.
 pub fn migrate<S: Alter>(alloc: Global, conn: &mut Connection<S>) -> Result<(u32, u32), MoveFault>
     requires rests { conn.old.in_transaction ≡ false }
     ensures migrates { Migrates (state S.Store conn.old) (state S.Store conn.new) result }

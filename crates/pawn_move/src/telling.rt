@@ -6,7 +6,7 @@ use crate::fault::MoveFault;
 use pawn_opening::{SCHEMA, schema_noted};
 use sqlite::{Alter, Connection};
 
-// The number of a schema that a store notes.
+// The number that a store notes, if it is that of a schema from 1 to the program's.
 fn judge(noted: Option<u64>) -> Result<u32, MoveFault>
     ensures judged { IsNumberJudged noted result }
 {
@@ -25,8 +25,8 @@ fn judge(noted: Option<u64>) -> Result<u32, MoveFault>
 /// The number of the schema that a store notes, from 1 to the program's. The store is left as it was.
 ///
 /// # Errors
-/// `NotOurs` for an empty store and for one that notes no schema; `NewerSchema` if it notes a newer one; `Store` and `Memory` if the
-/// store failed, or memory was wanting. It is never `Damaged`.
+/// `NotOurs` for an empty store and for one that notes no schema. `NewerSchema` if it notes a newer one. `Store` if the
+/// store failed, and `Memory` if memory was refused. It is never `Damaged`.
 pub fn schema_of<S: Alter>(conn: &mut Connection<S>) -> Result<u32, MoveFault>
     requires rests { conn.old.in_transaction ≡ false }
     ensures tells { TellsNumber (state S.Store conn.old) (state S.Store conn.new) result }

@@ -29,7 +29,7 @@ pub record StandsIn (image : Image) (h : Host) : Type 0 where
 abbrev pub HoldsIn : Image → Database → Type 0
 HoldsIn image db = ∥ HoldsDatabase image db.trees ∥₁ × IsDatabase db
 
--- whatever an open may find in the bytes, nothing is listed there
+-- whatever an open may find in the bytes, its catalog is empty
 abbrev pub IsBlank : Image → Type 0
 IsBlank image = (found : Trees) → AreFoundIn image found → found catalog_tree ≡ []
 
@@ -55,7 +55,8 @@ pub record OpensFound (image : Image) (s : State) : Type 0 where
 abbrev pub IsRefusedStore : {D : Type 0} {g : Ghosts D} → Image → ℕ → OpenFault → Leftover D g → Type 0
 IsRefusedStore {D} {g} image limit why rest = (it : FileStore D g) × (rest ≡ left.Store it) × RefusesFound image limit why it
 
--- the database refused the files, and leaves them as a failed open does, or what they held is refused
+-- either the database failed to open the files, and leaves them as a failed open does, or it opened them and what they
+-- held is refused
 abbrev pub RefusesHeld : {D : Type 0} {g : Ghosts D} → Image → Files D → ℕ → OpenFault → Leftover D g → Type 0
 RefusesHeld image files limit why rest = (IsStoreFault why × LeavesFiles files rest) ⊎ IsRefusedStore image limit why rest
 

@@ -7,7 +7,7 @@ use Rattle.sqlite_catalog.specs.Change.{KeepsRows}
 use Rattle.sqlite_schema.specs.declared.schema.Index.{Index}
 use Rattle.pawn_tables.specs.Ours.{AreLoose}
 
--- The database has gained these indexes, of which none asks that rows differ. Its tables and views stand as they did, and each table
+-- The database has gained some indexes, none of them unique. Its tables and views are as they were, and each table
 -- holds the rows that it held.
 pub record GainsIndexes (old new : Database) : Type 0 where
   pub more : List Index
@@ -20,6 +20,6 @@ pub record GainsIndexes (old new : Database) : Type 0 where
 abbrev pub HoldGained : Database → Trees → Type 0
 HoldGained db trees = (after : Database) × GainsIndexes db after × (trees ≡ after.trees)
 
--- a part of a transaction adds indexes alone
+-- a part of a transaction adds indexes, and nothing else
 abbrev pub AddsIndexes : {E : Type 0} → State → State → Result (Unit {0}) E → Type 0
 AddsIndexes old new result = HasCleanDisk new → IsTrue old.in_transaction → OnOk result (GainsIndexes old.now new.now)

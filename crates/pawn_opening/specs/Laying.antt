@@ -1,4 +1,4 @@
--- Tables that are laid out, one after another.
+-- Tables that are made, one after another.
 use Rattle.std.specs.Prelude.{ℕ, [], ◌∷◌, IsTrue, Result, OnOk}
 use Rattle.sqlite.specs.Order.{Row}
 use Rattle.sqlite.specs.Schema.{Schema}
@@ -13,28 +13,29 @@ use Rattle.pawn_tables.specs.Schema.{books, terms, pledges, entries, secrets, bo
 abbrev pub no_rows : Listed
 no_rows tree = []
 
--- the tables of this schema stand, without a row
+-- the database has the tables of this schema, and they have no rows
 abbrev pub AreEmpty : Schema → Database → Type 0
 AreEmpty schema db = Lists schema db no_rows
 
--- the tables of books and of what is agreed on pledges
+-- the tables of books, terms and pledges
 abbrev pub first_three : Schema
 first_three = created (created (created no_schema books) terms) pledges
 
--- and those of what is done on them
+-- and those of entries, secrets and bookings
 abbrev pub first_six : Schema
 first_six = created (created (created first_three entries) secrets) bookings
 
--- a part of a transaction adds empty tables: of the one schema it makes the other
+-- a part of a transaction adds empty tables to empty tables, so that the first schema becomes the second
 abbrev pub Makes : {E : Type 0} → State → State → Result (Unit {0}) E → Schema → Schema → Type 0
 Makes old new result before after = HasCleanDisk new → IsTrue old.in_transaction → AreEmpty before old.now → OnOk result (AreEmpty after new.now)
 
--- a part of a transaction adds an empty table under this tree to tables that may have rows: of the one schema it makes the other
+-- a part of a transaction adds an empty table under this tree to tables that may have rows, so that the first schema
+-- becomes the second
 abbrev pub AddsTable : {E : Type 0} → State → State → Result (Unit {0}) E → Schema → Schema → ℕ → Type 0
 AddsTable old new result before after tree =
     HasCleanDisk new → IsTrue old.in_transaction → (listed : Listed) → Lists before old.now listed → OnOk result (Lists after new.now (with_rows listed tree []))
 
--- a part puts a row before the others of meta
+-- a part of a transaction adds a row in front of those of meta
 abbrev pub Notes : {E : Type 0} → State → State → Result (Unit {0}) E → Row → Type 0
 Notes old new result row =
     HasCleanDisk new → IsTrue old.in_transaction → (listed : Listed) → Lists keep_schema old.now listed → OnOk result (Lists keep_schema new.now (with_rows listed meta_tree (row ∷ listed meta_tree)))

@@ -1,4 +1,4 @@
--- Stores that are opened.
+-- What opening a store does with an empty one, with one of ours, and with any other.
 use Rattle.std.specs.Prelude.{◌≡◌, ◌⊎◌, false, ℕ, IsTrue, Option, IfSome, Result, IfErr, IfOk, OnErr, OnOk}
 use Rattle.std.specs.FinMap.{empty}
 use Rattle.sqlite.specs.Effect.{Database}
@@ -17,7 +17,7 @@ use Rattle.pawn_opening.specs.Refusing.{IsEmptyStore, IsNoted, IsRefusedFor, IsS
 abbrev pub empty_host : ℕ → Host
 empty_host limit = record { books = empty; limit = limit }
 
--- an empty store is filled with the tables of the empty host
+-- an empty store gets the tables of the empty host with this limit
 abbrev pub Fills : {E : Type 0} → State → State → ℕ → Result (Unit {0}) E → Type 0
 Fills old new limit result = HasCleanDisk new → IsTrue old.in_transaction → AreEmpty no_schema old.now → OnOk result (StandsFor new.now (empty_host limit))
 
@@ -42,17 +42,17 @@ pub record LaysOut (old new : State) (limit : ℕ) (result : Result (Unit {0}) O
   pub ended : new.in_transaction ≡ false
   pub survives : Survives old new (λ trees. IsEmptyStore old.now → HoldHost trees (empty_host limit))
 
--- a store tells what it notes of its schema, and is left as it was
+-- the answer is the number of the schema that the store notes, and the store is left as it was
 pub record TellsSchema (old new : State) (result : Result (Option ℕ) OpenFault) : Type 0 where
   pub same : HasCleanDisk new → IsAsBefore old new
   pub ok : HasCleanDisk new → IfOk result (IsNoted old.now)
-  -- only an open store tells a number
+  -- if a number is found, the store is open
   pub serves : HasCleanDisk new → IfOk result (λ noted. IfSome noted (λ n. IsTrue new.is_open))
   pub why : IfErr result IsStoreFault
   pub ended : new.in_transaction ≡ false
   pub survives : Survives old new (λ _. ⊥)
 
--- a store that is not empty is recognised, and left as it was
+-- a store that is not empty is accepted only if it notes the program's schema, and is left as it was
 pub record Recognises (old new : State) (result : Result (Unit {0}) OpenFault) : Type 0 where
   pub same : HasCleanDisk new → IsAsBefore old new
   pub ok : HasCleanDisk new → OnOk result (IsTrue new.is_open × NotesSchema old.now 3)
@@ -60,7 +60,7 @@ pub record Recognises (old new : State) (result : Result (Unit {0}) OpenFault) :
   pub ended : new.in_transaction ≡ false
   pub survives : Survives old new (λ _. ⊥)
 
--- an open store stays open, and has committed the indexes that it gained
+-- the store is open, and has committed the indexes that it gained
 abbrev pub IsIndexed : State → State → Type 0
 IsIndexed old new = IsTrue new.is_open × GainsIndexes old.now new.now × (new.now ≡ new.committed)
 
@@ -76,13 +76,14 @@ pub record IndexesStore (old new : State) (result : Result (Unit {0}) OpenFault)
 abbrev pub IsOpenable : State → State → Type 0
 IsOpenable old new = IsEmptyStore old.now ⊎ (NotesSchema old.now 3 × IsIndexed old new)
 
--- what an opening makes of the trees: the tables of the empty host where nothing stood, or further indexes of what notes the program's schema
+-- what an opening makes of the trees: the tables of the empty host if the store was empty, or further indexes if it
+-- notes the program's schema
 abbrev pub AreMadeOf : Database → ℕ → Trees → Type 0
 AreMadeOf db limit trees = (IsEmptyStore db × HoldHost trees (empty_host limit)) ⊎ (NotesSchema db 3 × HoldGained db trees)
 
--- A store is opened. An empty one is laid out for the empty host with this limit; one that notes the program's schema is opened with
--- the indexes that it lacked, for the host that it stands for, if it stands for one; any other is refused, and left as it was. A crash
--- on the way leaves the store as it was, or what the opening made of it.
+-- A store is opened. An empty one gets the tables of the empty host with this limit. One that notes the program's
+-- schema is opened with the indexes that it lacked, for its host, if it stands for one. Any other is refused, and left
+-- as it was. A crash on the way leaves the store as it was, or what the opening made of it.
 pub record Prepares (old new : State) (limit : ℕ) (result : Result (Unit {0}) OpenFault) : Type 0 where
   pub opens : HasCleanDisk new → OnOk result (IsOpenable old new)
   pub new_store : HasCleanDisk new → IsEmptyStore old.now → OnOk result (OpensAs new (empty_host limit))

@@ -11,7 +11,7 @@ use Rattle.pawn_opening.specs.declared.fault.OpenFault.{OpenFault}
 use Rattle.pawn_opening.specs.declared.fault.OpenFault.TheVariants.{NotOurs, OldSchema, Store, Memory}
 use Rattle.pawn_tables.specs.declared.texts.TheConstants.{READ_SCHEMA}
 
--- it answers with these rows
+-- the question for the schema's number has these rows as an answer
 pub record AnswersOpening (db : Database) (rows : List Row) : Type 0 where
   pub means : Compiled
   pub is_understood : understood db.schema READ_SCHEMA.now ≡ Ok means
@@ -19,7 +19,7 @@ pub record AnswersOpening (db : Database) (rows : List Row) : Type 0 where
   pub from : IsSourceOf (reads_listing db.schema READ_SCHEMA.now) db source
   pub reads : Reads means.command source [] rows
 
--- there is no table with such columns
+-- the question can't be compiled: there is no table with such columns
 abbrev pub HasNoAnswer : Database → Type 0
 HasNoAnswer db = (fault : CompileError) × (understood db.schema READ_SCHEMA.now ≡ Err fault)
 
@@ -31,7 +31,7 @@ IsOneNumber rows n = (row : Row) × (rows ≡ row ∷ []) × (column row 0 ≡ I
 abbrev pub NotesSchema : Database → ℕ → Type 0
 NotesSchema db n = (rows : List Row) × AnswersOpening db rows × IsOneNumber rows n
 
--- it notes no number
+-- the store notes no number of a schema
 abbrev pub NotesNoSchema : Database → Type 0
 NotesNoSchema db = HasNoAnswer db ⊎ ((rows : List Row) × AnswersOpening db rows × ((n : ℕ) → IsOneNumber rows n → ⊥))
 
@@ -40,39 +40,39 @@ abbrev pub IsNoted : Database → Option ℕ → Type 0
 IsNoted db None = NotesNoSchema db
 IsNoted db (Some n) = NotesSchema db n
 
--- a number of no schema, or of a newer one
+-- 0, or the number of a newer schema than the program's
 abbrev pub IsStrangeNumber : ℕ → Type 0
 IsStrangeNumber n = (n ≡ 0) ⊎ (3 < n)
 
--- it notes none, or such a number
+-- the store notes no number, or such a one
 abbrev pub IsStrange : Database → Type 0
 IsStrange db = NotesNoSchema db ⊎ ((n : ℕ) × NotesSchema db n × IsStrangeNumber n)
 
--- no table, index or view stands in it
+-- the store has no table, index or view
 abbrev pub IsEmptyStore : Database → Type 0
 IsEmptyStore db = db.schema ≡ no_schema
 
--- the store failed, and nothing is said of what it holds
+-- the store failed, or memory was refused; nothing is said of what the store holds
 abbrev pub IsStoreFault : OpenFault → Type 0
 IsStoreFault NotOurs = ⊥
 IsStoreFault (OldSchema n) = ⊥
 IsStoreFault Store = Unit {0}
 IsStoreFault Memory = Unit {0}
 
--- a store is refused as another's, or as an old one, only where it is
+-- what is so of a store that is refused for this reason
 abbrev pub IsRefusedFor : Database → OpenFault → Type 0
 IsRefusedFor db NotOurs = (IsEmptyStore db → ⊥) × IsStrange db
 IsRefusedFor db (OldSchema n) = NotesSchema db n × (0 < n) × (n < 3)
 IsRefusedFor db Store = Unit {0}
 IsRefusedFor db Memory = Unit {0}
 
--- what is read of an answer
+-- the number that is read from an answer's rows
 abbrev pub IsNumberRead : List Row → Result (Option ℕ) OpenFault → Type 0
 IsNumberRead rows (Ok None) = (n : ℕ) → IsOneNumber rows n → ⊥
 IsNumberRead rows (Ok (Some n)) = IsOneNumber rows n
 IsNumberRead rows (Err why) = IsStoreFault why
 
--- what is made of a number
+-- how the noted number is judged: only 3, the program's, is accepted
 abbrev pub IsJudged : Option ℕ → Result (Unit {0}) OpenFault → Type 0
 IsJudged noted (Ok ours) = noted ≡ Some 3
 IsJudged noted (Err NotOurs) = (noted ≡ None) ⊎ ((n : ℕ) × (noted ≡ Some n) × IsStrangeNumber n)

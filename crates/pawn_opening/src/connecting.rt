@@ -10,8 +10,9 @@ use crate::fault::{OpenFault, refused};
 use crate::finding::{files_at, options};
 use sqlite::{Connection, FileFrom, FileStore, Start};
 
-/// A connection to the database in the file at a path, over whatever `start` says of its bytes, for whoever moves an older store or
-/// looks into another. It is not asked what store it is, and no table is laid out; an empty file is made where there is none.
+/// A connection to the database in the file at a path, for whoever moves an older store or looks into another. `start`
+/// says what may be assumed of the file's bytes. No table is made, and the schema is not checked. If there is no file,
+/// an empty one is made. The error is `Store` or `Memory`.
 pub fn connect_path<S: Start>(
     rt: &HostRuntime,
     path: &str,

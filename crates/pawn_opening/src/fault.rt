@@ -10,11 +10,11 @@ use std::fmt;
 /// Why a store is not opened.
 #[derive(Clone, Copy)]
 pub enum OpenFault {
-    /// Another program's store, or one of a newer schema.
+    /// The store notes no schema, or a newer one than the program's: it is another program's, or a later version's.
     NotOurs,
-    /// A store of an older schema, which has this number.
+    /// The store notes this older schema.
     OldSchema(u32),
-    /// The database refused.
+    /// The database failed, or refused.
     Store,
     Memory,
 }
@@ -30,7 +30,7 @@ impl fmt::Display for OpenFault {
     }
 }
 
-/// Why a statement was not run.
+/// A database's error as the reason that a store is not opened: `Memory` or `Store`.
 pub(crate) fn refused(error: Error) -> OpenFault
     ensures memory { result ≡ Fault.Memory → error ≡ SqlError.SqliteFailure OutOfMemory }
     ensures told { error ≡ SqlError.SqliteFailure OutOfMemory → result ≡ Fault.Memory }

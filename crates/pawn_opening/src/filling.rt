@@ -12,7 +12,7 @@ use crate::noting::note;
 use crate::recognising::SCHEMA;
 use sqlite::{Alter, Error, Transaction};
 
-// Makes all tables.
+// Makes all tables of the program's schema, without rows.
 #[tactic(auto, using(crate::proofs::Lent::lent_then))]
 fn make_tables<S: Alter>(tx: &mut Transaction<'_, S>) -> Result<(), Error>
     ensures same_reference { tx.new.conn.ghost_name ≡ tx.old.conn.ghost_name }
@@ -26,7 +26,8 @@ fn make_tables<S: Alter>(tx: &mut Transaction<'_, S>) -> Result<(), Error>
     make_notes(tx)
 }
 
-/// Makes the tables of the empty host and their indexes, and notes the schema, the count of rows and the limit.
+/// Makes the program's tables and indexes in an empty store. Notes the number of the schema, a count of no rows, and
+/// the limit.
 #[tactic(auto, using(crate::proofs::Lent::lent_then))]
 pub(crate) fn fill<S: Alter>(tx: &mut Transaction<'_, S>, limit: u32) -> Result<(), Error>
     ensures same_reference { tx.new.conn.ghost_name ≡ tx.old.conn.ghost_name }

@@ -9,11 +9,11 @@ use sqlite_std_file::OpenError;
 use std::hash::{BuildHasher, RandomState};
 use std::io::ErrorKind;
 
-/// How many pages of 4,096 bytes of the database file the program keeps in memory, beside those that the system keeps.
+/// How many pages of 4,096 bytes of the database file the program keeps in memory, besides those that the system keeps.
 const KEPT_PAGES: usize = 1000;
 
-/// The log and the database file at a path, which are made where there are none. A name that another program would take for a
-/// store in memory or for a URI is refused.
+/// Opens the log and the database file at a path, and makes those that are missing. `Store` for `:memory:` and for a
+/// path that begins with `file:`, which another program would take for a store in memory or for a URI.
 pub(crate) fn files_at<S: Start>(
     rt: &HostRuntime,
     path: &str,
@@ -37,7 +37,7 @@ pub(crate) fn files_at<S: Start>(
     }
 }
 
-/// How a file is kept, with a seed of its log that is drawn at random.
+/// The options of a database: a seed of its log that is drawn at random, and how many pages are kept in memory.
 pub(crate) fn options(rt: &HostRuntime) -> Result<Options, OpenFault>
     ensures refuses { IfErr result IsStoreFault }
 {

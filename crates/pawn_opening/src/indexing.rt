@@ -12,19 +12,19 @@ use sqlite::{Alter, Connection, Error, Transaction};
 /// Which of the program's two indexes a store lacks.
 #[derive(Clone, Copy)]
 pub enum Lacking {
-    /// The one by which the periods that end on a day are found.
+    /// `pledges_by_end`, which finds the periods that end on a day.
     PledgesByEnd,
-    /// The one by which the bookings of a day are found.
+    /// `bookings_by_time`, which finds the bookings of a day.
     BookingsByTime,
     /// Both of them.
     Both,
 }
 
-/// Makes the indexes that are lacking, whatever tables there are. Each table holds the rows that it held.
+/// Makes the given indexes within a transaction. The rows of each table stay as they are.
 ///
 /// # Errors
-/// What the database says of an index that it doesn't make: its name is taken, a table or a column is missing, the store failed, or
-/// memory was wanting.
+/// The database's own error: the name of an index is taken, a table or a column is missing, the store failed, or memory
+/// was refused.
 #[tactic(auto, using(crate::proofs::Lent::lent_then))]
 pub fn make_indexes<S: Alter>(tx: &mut Transaction<'_, S>, lacking: Lacking) -> Result<(), Error>
     ensures same_reference { tx.new.conn.ghost_name ≡ tx.old.conn.ghost_name }
@@ -43,7 +43,7 @@ pub fn make_indexes<S: Alter>(tx: &mut Transaction<'_, S>, lacking: Lacking) -> 
     }
 }
 
-// Whether an index has this name, by which letters' cases are all one to SQL.
+// Whether there is an index of this name. As in SQL, the case of ASCII letters makes no difference.
 fn has_index<S: Alter>(conn: &Connection<S>, name: &[u8]) -> bool {
     let indexes = conn.schema().indexes.as_slice();
     indexes
@@ -51,7 +51,7 @@ fn has_index<S: Alter>(conn: &Connection<S>, name: &[u8]) -> bool {
         .any(|it| it.name.as_slice().eq_ignore_ascii_case(name))
 }
 
-// What the store lacks. An index of the name is taken for the program's, whatever it is an index of.
+// Which of the program's indexes the store lacks. They are known by their names alone, whatever they index.
 fn indexes_lacking<S: Alter>(conn: &Connection<S>) -> Option<Lacking> {
     let by_end = has_index(conn, b"pledges_by_end");
     let by_time = has_index(conn, b"bookings_by_time");
@@ -66,7 +66,7 @@ fn indexes_lacking<S: Alter>(conn: &Connection<S>) -> Option<Lacking> {
 /// Gives a store the indexes that it lacks, in one transaction that changes no row. A store that has them is not written.
 ///
 /// # Errors
-/// `Store` and `Memory` if the store failed, or memory was wanting; the store is left as it was.
+/// `Store` if the store failed, and `Memory` if memory was refused. The store is left as it was.
 pub fn add_indexes<S: Alter>(conn: &mut Connection<S>) -> Result<(), OpenFault>
     requires rests { conn.old.in_transaction ≡ false }
     ensures indexed { IndexesStore (state S.Store conn.old) (state S.Store conn.new) result }

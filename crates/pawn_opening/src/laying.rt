@@ -40,7 +40,7 @@ pub(crate) fn make_lists<S: Alter>(tx: &mut Transaction<'_, S>) -> Result<(), Er
     run(tx, MAKE_BOOKINGS, &[])
 }
 
-/// Makes the tables of what the store notes, of totals and of extensions.
+/// Makes the tables `meta`, which holds what the store notes, `totals` and `extensions`.
 #[tactic(auto, using(crate::proofs::Lent::lent_then))]
 pub(crate) fn make_notes<S: Alter>(tx: &mut Transaction<'_, S>) -> Result<(), Error>
     ensures same_reference { tx.new.conn.ghost_name ≡ tx.old.conn.ghost_name }
@@ -54,7 +54,7 @@ pub(crate) fn make_notes<S: Alter>(tx: &mut Transaction<'_, S>) -> Result<(), Er
     make_extensions(tx)
 }
 
-/// Makes the table of totals, beside those of the first schema.
+/// Adds the table of totals to those of the first schema, within a transaction. It has no rows.
 pub fn make_totals<S: Alter>(tx: &mut Transaction<'_, S>) -> Result<(), Error>
     ensures same_reference { tx.new.conn.ghost_name ≡ tx.old.conn.ghost_name }
     ensures made { AddsTable (state S.Store tx.old.conn.now)
@@ -65,7 +65,7 @@ pub fn make_totals<S: Alter>(tx: &mut Transaction<'_, S>) -> Result<(), Error>
     run(tx, MAKE_TOTALS, &[])
 }
 
-/// Makes the table of extensions, beside those of the second schema.
+/// Adds the table of extensions to those of the second schema, within a transaction. It has no rows.
 pub fn make_extensions<S: Alter>(tx: &mut Transaction<'_, S>) -> Result<(), Error>
     ensures same_reference { tx.new.conn.ghost_name ≡ tx.old.conn.ghost_name }
     ensures made { AddsTable (state S.Store tx.old.conn.now)

@@ -8,7 +8,7 @@ use one_table::run;
 use pawn_tables::texts::PUT_NOTE;
 use sqlite::{Alter, Error, Transaction, params};
 
-/// Notes a number under a name.
+/// Inserts a row in `meta`: a name, and the number that is noted under it.
 pub(crate) fn note<S: Alter>(
     tx: &mut Transaction<'_, S>,
     name: &str,

@@ -20,8 +20,8 @@ use sqlite::{Connection, FileFrom, FileStore, Files, Leftover, MemStore, Options
 use sqlite_disk::Disk;
 use std::alloc::Global;
 
-/// An empty store in memory, for the empty host with this limit. The limit on rows is 1 to 10,000,000.
-/// It is refused for a fault of the store or want of memory alone.
+/// Makes a new store in memory, without books. `limit` is the most counted rows that it may hold, 1 to 10,000,000. The
+/// error is `Store` or `Memory`.
 pub fn open_memory(alloc: Global, limit: u32) -> Result<Connection<MemStore>, OpenFault>
     requires least { 1 ≤ limit }
     requires most { limit ≤ most_rows }
@@ -37,9 +37,10 @@ pub fn open_memory(alloc: Global, limit: u32) -> Result<Connection<MemStore>, Op
     }
 }
 
-/// The store in two files. An empty one is laid out for the empty host with this limit. One that notes the program's schema is
-/// opened as it is, with the stored limit; whether it stands for a host is not judged. The limit on rows is 1 to 10,000,000. If the
-/// store is refused, what is left of the files comes back.
+/// Opens the store in two files, a log and a database. An empty one gets the program's tables, and this limit on
+/// counted rows, 1 to 10,000,000. One that notes the program's schema keeps its stored limit, and gets the indexes that
+/// it lacks. Whether its rows make sense is not judged. If the store is refused, what is left of the files comes back
+/// with the reason.
 pub fn open_files<D: Disk + Drop>(
     alloc: Global,
     files: Files<D>,
@@ -69,10 +70,10 @@ pub fn open_files<D: Disk + Drop>(
     }
 }
 
-/// The store in the file at a path, which is made if there is none, over whatever `start` says of its bytes. An empty one is laid
-/// out for the empty host with this limit. One that notes the program's schema is opened as it is, with the stored limit; whether it
-/// stands for a host is not judged. The limit on rows is 1 to 10,000,000. If the store is refused after its files were opened, what
-/// is left of them comes back: of those that were opened, nothing having been done to them.
+/// Opens the store in the file at a path, which is made if there is none. `start` says what may be assumed of the
+/// file's bytes. An empty store gets the program's tables, and this limit on counted rows, 1 to 10,000,000. One that
+/// notes the program's schema keeps its stored limit, and gets the indexes that it lacks. Whether its rows make sense
+/// is not judged. If the store is refused after its files were opened, what is left of them comes back with the reason.
 pub fn open_path<S: Start>(
     rt: &HostRuntime,
     path: &str,
@@ -108,7 +109,8 @@ pub fn open_path<S: Start>(
     }
 }
 
-/// Hands the files back, with the last commit in the database file. What is under way is rolled back.
+/// Closes the store and gives its files back. All that was committed is then in the database file, and an open
+/// transaction is rolled back. If closing fails, the store comes back with the reason.
 pub fn close_files<D: Disk + Drop>(
     conn: Connection<FileStore<D>>,
 ) -> Result<Files<D>, (OpenFault, FileStore<D>)>

@@ -11,7 +11,7 @@ use crate::recognising::recognise;
 use one_table::know_settled;
 use sqlite::{Alter, Connection};
 
-// Lays the tables of the empty host out, in one transaction.
+// Makes the program's tables in an empty store, in one transaction.
 fn lay_out<S: Alter>(conn: &mut Connection<S>, limit: u32) -> Result<(), OpenFault>
     requires rests { conn.old.in_transaction ≡ false }
     ensures laid_out { LaysOut (state S.Store conn.old) (state S.Store conn.new) limit result }
@@ -29,7 +29,7 @@ fn lay_out<S: Alter>(conn: &mut Connection<S>, limit: u32) -> Result<(), OpenFau
     }
 }
 
-// Whether no table, index or view stands in the store.
+// Whether the store has no table, index or view.
 fn is_empty<S: Alter>(conn: &Connection<S>) -> bool
     ensures empty { IsTrue result ↔ IsEmptyStore (state S.Store conn.now).now }
 {
@@ -37,13 +37,14 @@ fn is_empty<S: Alter>(conn: &Connection<S>) -> bool
     schema.tables.is_empty() && schema.indexes.is_empty() && schema.views.is_empty()
 }
 
-/// Opens the store of a connection that is at rest. An empty store is laid out for the empty host with this limit, in one
-/// transaction. One that notes the program's schema is opened as it is, with the stored limit; the indexes that it lacks are made, in
-/// one transaction that changes no row. Whether it stands for a host is not judged. The limit on rows is 1 to 10,000,000.
+/// Makes the store of a connection ready for use. No transaction may be under way. An empty store gets the program's
+/// tables, and this limit on counted rows, 1 to 10,000,000, in one transaction. One that notes the program's schema
+/// keeps its stored limit; the indexes that it lacks are made in one transaction that changes no row. Whether its rows
+/// make sense is not judged.
 ///
 /// # Errors
-/// `OldSchema` with its number if the store notes an older schema; `NotOurs` if it is not empty and notes no schema, or a newer one;
-/// `Store` and `Memory` if the store failed, or memory was wanting.
+/// `OldSchema` with its number if the store notes an older schema. `NotOurs` if it is not empty and notes no schema, or
+/// a newer one. `Store` if the store failed, and `Memory` if memory was refused.
 pub fn prepare<S: Alter>(conn: &mut Connection<S>, limit: u32) -> Result<(), OpenFault>
     requires rests { conn.old.in_transaction ≡ false }
     requires least { 1 ≤ limit }

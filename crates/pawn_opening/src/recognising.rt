@@ -11,7 +11,7 @@ use sqlite::{Alter, Connection, Error, ErrorCode, Row};
 // The number of the schema that this program reads and writes.
 pub const SCHEMA: u32 = 3;
 
-// The number that an answer tells, if it tells one.
+// The number in an answer, if the answer is one row that begins with a number.
 fn number_of(rows: &[Row]) -> Result<Option<u64>, OpenFault>
     ensures read { IsNumberRead rows.now result }
 {
@@ -25,8 +25,8 @@ fn number_of(rows: &[Row]) -> Result<Option<u64>, OpenFault>
     }
 }
 
-/// The number of its schema that a store notes, if it notes one. The store is left as it was. It is told of a fault of the store,
-/// or of want of memory, alone.
+/// The number of the schema that a store notes, if it notes one. The store is left as it was. The error is `Store` or
+/// `Memory`.
 pub fn schema_noted<S: Alter>(conn: &mut Connection<S>) -> Result<Option<u64>, OpenFault>
     requires rests { conn.old.in_transaction ≡ false }
     ensures tells { TellsSchema (state S.Store conn.old) (state S.Store conn.new) result }
@@ -39,7 +39,8 @@ pub fn schema_noted<S: Alter>(conn: &mut Connection<S>) -> Result<Option<u64>, O
     }
 }
 
-// What a store is that notes this number.
+// Whether a store that notes this number is of the program's schema. `OldSchema` if the number is an older schema's,
+// else `NotOurs`.
 fn judge(noted: Option<u64>) -> Result<(), OpenFault>
     ensures judged { IsJudged noted result }
 {
@@ -55,7 +56,7 @@ fn judge(noted: Option<u64>) -> Result<(), OpenFault>
     }
 }
 
-/// Whether a store that is not empty is ours.
+/// Checks that a store that is not empty notes the program's schema.
 pub(crate) fn recognise<S: Alter>(conn: &mut Connection<S>) -> Result<(), OpenFault>
     requires rests { conn.old.in_transaction ≡ false }
     ensures recognised { Recognises (state S.Store conn.old) (state S.Store conn.new) result }

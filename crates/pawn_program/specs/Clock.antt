@@ -1,10 +1,10 @@
--- The stamps by a clock.
+-- Stamps by a clock.
 use Rattle.std.specs.Prelude.{◌≡◌, Option, MatchOption}
 use Rattle.pawn_pledge.specs.declared.command.Stamp.{Stamp}
 use Rattle.pawn_program.specs.Word.{generator, word_of, after_word}
 use Rattle.pawn_program.specs.declared.clock.ClockStamps.{ClockStamps}
 
--- a call gave a stamp with the next word, whatever its day; or none, and the words stayed where they were
+-- a call gave a stamp with the next word, and nothing is said of its day; or it gave none, and took no word
 abbrev pub GivesDated : {C : Type 0} → ClockStamps C → Option Stamp → ClockStamps C → Type 0
 GivesDated old given new =
     MatchOption given (new.words ≡ old.words) (λ stamp. (stamp.word ≡ word_of (generator old.words)) × (generator new.words ≡ after_word (generator old.words)))

@@ -1,4 +1,4 @@
--- The connections that are served one after the other.
+-- Connections that are served one after the other.
 use Rattle.std.specs.Prelude.{◌≡◌, ℕ, ◌≤◌, All, List, [], ◌∷◌, length, Option}
 use Rattle.std.specs.List.{filter_map, flat_map}
 use Rattle.pawn_pledge.specs.declared.command.Stamp.{Stamp}
@@ -20,12 +20,13 @@ stamps_among answers = filter_map (λ answer. answer) answers
 abbrev pub items_of : List (List Item) → List Item
 items_of sessions = flat_map (λ items. items) sessions
 
--- at most as many requests are answered on a connection
+-- a connection has at most 1,000 requests answered
 abbrev pub IsSession : List Item → Type 0
 IsSession items = length items ≤ most_requests
 
--- So many connections were answered, each where the one before it left the service and the stamps. Their requests are one
--- run: the stamps that it took are those of its items, and the keeper goes on to the host after all of them.
+-- So many connections were answered, each with the service and the stamps as the one before it left them. Their
+-- requests are one run. The stamps that were taken are those of its items, and the keeper goes on to the host after all
+-- of them.
 pub record AreServed {S : Type 0} (steps : S → Option Stamp → S → Type 0) (from to : S) (start : Start) (answered : ℕ) (kept : Kept) : Type 0 where
   pub sessions : List (List Item)
   pub count : length sessions ≡ answered

@@ -1,4 +1,4 @@
--- What the command line says of the requests to come.
+-- How the words of the command line are read.
 use Rattle.std.specs.Prelude.{◌≡◌, ℕ, ◌⊎◌, ◌+◌, ◌-◌, ◌*◌, ◌≤◌, ◌==◌, nat_eq, Bool, List, [], ◌∷◌, length, take, codes, if◌then◌else◌, Option, Some, None, option_and_then, option_map, IfSome, IsSome, Result, MatchResult, decimal}
 use Rattle.std.specs.List.{ends_with}
 use Rattle.std.specs.Char.{is_digit, digit_value}
@@ -24,7 +24,7 @@ hex_bytes (high ∷ []) = None
 hex_bytes (high ∷ low ∷ digits) =
     option_and_then (λ byte. option_map (λ bytes. byte ∷ bytes) (hex_bytes digits)) (hex_byte high low)
 
--- the seed of 64 hexadecimal digits
+-- the seed that 64 hexadecimal digits write
 abbrev pub seed_of : List ℕ → Option (List ℕ)
 seed_of text = if length text == 64 then hex_bytes text else None
 
@@ -32,7 +32,7 @@ seed_of text = if length text == 64 then hex_bytes text else None
 abbrev pub ends_in : List ℕ → List ℕ → Bool
 ends_in end bytes = ends_with nat_eq bytes end
 
--- the bytes but for so many at their end
+-- the bytes without the last n
 abbrev pub all_but_last : ℕ → List ℕ → List ℕ
 all_but_last n bytes = take (length bytes - n) bytes
 
@@ -43,7 +43,7 @@ without_line_end bytes =
     else if ends_in (codes "\n") bytes then all_but_last 1 bytes
     else bytes
 
--- the key that a file's bytes say, with a line end or without
+-- the key that a file's bytes write, with a line end or without
 abbrev pub key_of_bytes : List ℕ → Option ℕ
 key_of_bytes bytes = secret_of_text (without_line_end bytes)
 
@@ -51,17 +51,17 @@ key_of_bytes bytes = secret_of_text (without_line_end bytes)
 abbrev pub SaysDay : List ℕ → ℕ → Type 0
 SaysDay text day = IsStampDay day × (text ≡ day_text day)
 
--- the settings are what the three words say; a key that the last word doesn't say stands in a file
+-- the settings are what the three words say; a key that is not in the last word itself comes from a file
 pub record AreSaid (day_word seed_word key_word : List ℕ) (settings : Settings) : Type 0 where
   pub day : SaysDay day_word settings.day
   pub seed : seed_of seed_word ≡ Some settings.seed
   pub operator : IfSome (secret_of_text key_word) (λ key. settings.operator ≡ key)
 
--- the text is no such day's
+-- the text writes no such day
 abbrev pub SaysNoDay : List ℕ → Type 0
 SaysNoDay text = (day : ℕ) → SaysDay text day → ⊥
 
--- a key that is none and no path of a file that holds one; or memory was wanting for that file
+-- the word is neither a key nor the path of a file that holds one, or memory was refused for that file
 abbrev pub IsOfKey : SettingsFault → Type 0
 IsOfKey fault = (fault ≡ BadKey) ⊎ (fault ≡ Memory)
 
@@ -81,11 +81,11 @@ AreSettings day_word seed_word key_word said =
 abbrev pub SaysPort : List ℕ → ℕ → Type 0
 SaysPort text port = (1 ≤ port) × (port ≤ 65535) × (text ≡ decimal port)
 
--- the text is no port's
+-- the text writes no port
 abbrev pub SaysNoPort : List ℕ → Type 0
 SaysNoPort text = (port : ℕ) → SaysPort text port → ⊥
 
--- the settings are what the two words say; a key that the last word doesn't say stands in a file
+-- the settings are what the two words say; a key that is not in the last word itself comes from a file
 pub record AreServeSaid (port_word key_word : List ℕ) (settings : ServeSettings) : Type 0 where
   pub port : SaysPort port_word settings.port
   pub operator : IfSome (secret_of_text key_word) (λ key. settings.operator ≡ key)

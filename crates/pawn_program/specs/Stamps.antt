@@ -1,4 +1,4 @@
--- The stamps of one connection.
+-- The stamps of one stream of requests.
 use Rattle.std.specs.Prelude.{◌≡◌, ℕ, zero, suc, ◌+◌, ◌≤◌, List, [], ◌∷◌, length, Option, None, MatchOption}
 use Rattle.std.specs.Iterator.{Yields}
 use Rattle.rand_chacha.specs.ChaCha.{ChaCha}
@@ -6,7 +6,7 @@ use Rattle.pawn_pledge.specs.declared.command.Stamp.{Stamp}
 use Rattle.pawn_program.specs.Word.{generator, word_of, after_word}
 use Rattle.pawn_program.specs.declared.stamps.Stamps.{Stamps}
 
--- a stamp was taken: it is of the stamps' day, and has the next word of their generator; one fewer is left
+-- a stamp was taken: it has the stamps' day, and the next word of their generator; one fewer is left
 pub record IsTaken (old : Stamps) (stamp : Stamp) (new : Stamps) : Type 0 where
   pub day : stamp.day ≡ old.day
   pub word : stamp.word ≡ word_of (generator old.words.now)
@@ -18,13 +18,13 @@ pub record IsTaken (old : Stamps) (stamp : Stamp) (new : Stamps) : Type 0 where
 abbrev pub GivesStamp : Stamps → Option Stamp → Stamps → Type 0
 GivesStamp old given new = MatchOption given ((old.left ≡ 0) × (new ≡ old)) (λ stamp. IsTaken old stamp new)
 
--- so many stamps of a day, with the words of a generator in order
+-- this many stamps of a day, with the words of a generator in order
 abbrev pub stamps_drawn : ℕ → ℕ → ChaCha → List Stamp
 stamps_drawn zero day g = []
 stamps_drawn (suc more) day g = record { day = day; word = word_of g } ∷ stamps_drawn more day (after_word g)
 
--- the stamps taken one after the other are those of this day and this generator; at most so many come, and none
--- comes after them only where all of them did
+-- The stamps that are taken one after the other have this day, and this generator's words. There are at most so many,
+-- and a call gives none only after all of them were taken.
 pub record AreStamps (most day : ℕ) (g : ChaCha) (from : Stamps) : Type 0 where
   pub taken : (xs : List Stamp) (to : Stamps) → Yields GivesStamp from xs to → xs ≡ stamps_drawn (length xs) day g
   pub few : (xs : List Stamp) (to : Stamps) → Yields GivesStamp from xs to → length xs ≤ most

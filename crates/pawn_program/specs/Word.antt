@@ -15,7 +15,7 @@ after_one g = (next_word 10 g).1
 abbrev pub first_word : ChaCha → ℕ
 first_word g = (next_word 10 g).0
 
--- the random word of a generator's next four words
+-- the random word that is made of a generator's next four words
 abbrev pub word_of : ChaCha → ℕ
 word_of one =
     let two = after_one one in
@@ -23,7 +23,7 @@ word_of one =
     let four = after_one three in
     wide_word (first_word one) (first_word two) (first_word three) (first_word four)
 
--- the generator after those four
+-- the generator after those four words
 abbrev pub after_word : ChaCha → ChaCha
 after_word g = after_one (after_one (after_one (after_one g)))
 

@@ -9,8 +9,8 @@ use std::time::{Clock, SystemTime, UNIX_EPOCH};
 
 const SECONDS_A_DAY: u64 = 86_400;
 
-/// Stamps without end, of the day that the clock shows in Greenwich when one is taken, each with
-/// the next word. None is given on a day that no request may have, and no word is lost by that.
+/// Stamps without end. Each has the day that the clock shows in UTC when it is taken, and the next word. On a day that
+/// no request may have, no stamp is given, and the next word is kept for a later one.
 #[derive(Drop)]
 pub struct ClockStamps<'a, C> {
     pub(crate) clock: &'a C,
@@ -18,7 +18,7 @@ pub struct ClockStamps<'a, C> {
 }
 
 impl<'a, C: Clock> ClockStamps<'a, C> {
-    /// The stamps by this clock, with these words from where they are.
+    /// Stamps by this clock. They take the next of these words.
     pub fn new(clock: &'a C, words: Words) -> Self
         ensures words { result.words ≡ words }
     {
@@ -40,14 +40,14 @@ impl<'a, C: Clock> Iterator for ClockStamps<'a, C> {
     }
 }
 
-// The day that the clock shows, where a request may have it.
+// The day that the clock shows, if a request may have it.
 fn today(clock: &impl Clock) -> Option<RequestDay> {
     let now = SystemTime::now(clock).ok()?;
     let since = now.duration_since(UNIX_EPOCH).ok()?;
     day_at(since.as_secs())
 }
 
-// The day so many seconds after the beginning of 1970, where a request may have it.
+// The day at so many seconds after the beginning of 1970, if a request may have it.
 fn day_at(seconds: u64) -> Option<RequestDay>
     ensures day { IfSome result (λ day. day ≡ seconds / SECONDS_A_DAY) }
     ensures succeeds { IsSome result ↔ IsStampDay (seconds / SECONDS_A_DAY) }

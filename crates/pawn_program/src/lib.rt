@@ -1,4 +1,4 @@
-//! What the program is made of beside its store: what its command line says, the stamps of its requests, and its
+//! What the program is made of besides its store: the settings of its command line, the stamps of its requests, and its
 //! connections.
 #![tactic(auto)]
 

@@ -13,7 +13,7 @@ use std::io::{Read, Write};
 use std::net::{TcpListener, TcpStream};
 use std::time::{Clock, Duration};
 
-/// So many seconds a read or a write waits for its peer, at most.
+/// The most seconds that a read or a write waits for its peer.
 const PATIENCE_SECONDS: u64 = 5;
 
 /// How many connections were answered, and how many could not be accepted.
@@ -23,10 +23,9 @@ pub struct Served {
     pub failed: u32,
 }
 
-/// Accepts so many connections, one after the other, and answers the requests of each as
-/// `Service::answer_all` does. A connection that can't be accepted counts as one. One that breaks
-/// off is closed, and the next is answered. The stamps of each go on where those of the one before
-/// it ended.
+/// Accepts so many connections, one after the other, and answers the requests of each as `Service::answer_all` does. A
+/// connection that can't be accepted counts as one of them. One that breaks off is closed, and the next is answered.
+/// The stamps of each connection go on where those of the one before it ended.
 pub fn serve_on<K: Keep, C: Clock>(
     listener: &TcpListener,
     service: &mut Service<K>,
@@ -57,8 +56,8 @@ pub fn serve_on<K: Keep, C: Clock>(
     served
 }
 
-// Has a connection wait for its peer no longer than our patience, and send small replies at once. Where the system does
-// not take that, the connection is answered all the same.
+// Makes a connection wait for its peer no longer than `PATIENCE_SECONDS`, and send small replies at once. If the system
+// refuses that, the connection is answered all the same.
 fn set_patience(stream: &TcpStream) {
     let patience = Duration::from_secs(PATIENCE_SECONDS);
     let _ = stream.set_read_timeout(Some(patience));
@@ -66,7 +65,7 @@ fn set_patience(stream: &TcpStream) {
     let _ = stream.set_nodelay(true);
 }
 
-// Answers the requests that a peer sends on its connection, whose two ends are new.
+// Answers the requests that a peer sends on its connection. Nothing was read or written on it yet.
 fn converse<K: Keep, R: Read, W: Write, I: Iterator<Item = Stamp>>(
     service: &mut Service<K>,
     reader: &mut Reading<R>,

@@ -12,20 +12,20 @@ use std::{fs, io};
 
 const LAST_PORT: u32 = 65_535;
 
-/// What the command line says of the requests to come.
+/// What the command line of `pawnd answer` says, besides the database.
 #[derive(Clone, Copy)]
 pub struct Settings {
     /// The day of every request.
     pub day: RequestDay,
-    /// The seed of the random words.
+    /// The seed of the stamps' random words.
     pub seed: [u8; 32],
     /// The operator's key.
     pub operator: Secret,
 }
 
 impl Settings {
-    /// The settings of a day, a seed and a key, or the first fault in this order. The key is the
-    /// text of one, or else the path of a file that holds one.
+    /// Reads the settings from a day, a seed and a key. The error is the first fault in this order. The key is a key's
+    /// text, or else the path of a file that holds one.
     pub fn read(
         rt: &(impl Files + Alloc),
         day: &str,
@@ -51,18 +51,18 @@ impl Settings {
     }
 }
 
-/// What the command line says of the connections to come.
+/// What the command line of `pawnd serve` says, besides the database.
 #[derive(Clone, Copy)]
 pub struct ServeSettings {
-    /// The port of this machine that is listened on.
+    /// The port on which the program listens, on this machine only.
     pub port: u16,
     /// The operator's key.
     pub operator: Secret,
 }
 
 impl ServeSettings {
-    /// The settings of a port and a key, or the first fault in this order. The key is the text of
-    /// one, or else the path of a file that holds one.
+    /// Reads the settings from a port and a key. The error is the first fault in this order. The key is a key's text,
+    /// or else the path of a file that holds one.
     pub fn read(
         rt: &(impl Files + Alloc),
         port: &str,
@@ -80,7 +80,7 @@ impl ServeSettings {
     }
 }
 
-// The port of a text.
+// The port that a text writes: 1 to 65535, in decimal digits.
 fn port_of(text: &[u8]) -> Option<u16>
     ensures some { IfSome result (λ port. SaysPort text.now port) }
     ensures none { IfNone result (SaysNoPort text.now) }
@@ -95,7 +95,7 @@ fn port_of(text: &[u8]) -> Option<u16>
     Some(port as u16)
 }
 
-// The day of a text.
+// The day that a text writes, as `2024-01-31`.
 fn day_of(text: &[u8]) -> Option<RequestDay>
     ensures some { IfSome result (λ day. SaysDay text.now day) }
     ensures none { IfNone result (SaysNoDay text.now) }
@@ -106,7 +106,7 @@ fn day_of(text: &[u8]) -> Option<RequestDay>
     }
 }
 
-// The value of a hexadecimal digit.
+// The value of a hexadecimal digit, of either case.
 fn hex_digit(digit: u8) -> Option<u8>
     ensures value { result ≡ hex_digit digit }
     ensures in_range { IfSome result (λ d. d < 16) }
@@ -117,14 +117,14 @@ fn hex_digit(digit: u8) -> Option<u8>
     }
 }
 
-// The byte of two hexadecimal digits.
+// The byte that two hexadecimal digits write.
 fn hex_byte(high: u8, low: u8) -> Option<u8>
     ensures value { result ≡ hex_byte high low }
 {
     Some(hex_digit(high)? * 16 + hex_digit(low)?)
 }
 
-// The seed of 64 hexadecimal digits.
+// The seed that 64 hexadecimal digits write.
 fn seed_of(text: &[u8]) -> Option<[u8; 32]>
     ensures value { result ≡ seed_of text.now }
 {
@@ -138,7 +138,7 @@ fn seed_of(text: &[u8]) -> Option<[u8; 32]>
     Some(seed)
 }
 
-// The key of this text, or of the file at this path.
+// The key that a text writes, or else the key in the file at that path.
 fn key_of(rt: &(impl Files + Alloc), text: &str) -> Result<Secret, SettingsFault>
     ensures key { IfOk result (λ key. IfSome (secret_of_text text.now) (λ said. key ≡ said)) }
     ensures fault { IfErr result (λ fault. IsOfKey fault × (secret_of_text text.now ≡ None)) }
@@ -149,7 +149,7 @@ fn key_of(rt: &(impl Files + Alloc), text: &str) -> Result<Secret, SettingsFault
     }
 }
 
-// The key that the file at this path holds.
+// The key in the file at this path.
 fn key_in_file(rt: &(impl Files + Alloc), path: &str) -> Result<Secret, SettingsFault>
     ensures fault { IfErr result IsOfKey }
 {
@@ -159,7 +159,7 @@ fn key_in_file(rt: &(impl Files + Alloc), path: &str) -> Result<Secret, Settings
     }
 }
 
-// The fault of a key's file that can't be read.
+// The fault when a key's file can't be read: `Memory` if memory was refused, else `BadKey`.
 fn unread(error: &io::Error) -> SettingsFault
     ensures memory { error_kind error.now ≡ OutOfMemory → result ≡ Memory }
     ensures key { error_kind error.now ≢ OutOfMemory → result ≡ BadKey }
@@ -170,14 +170,14 @@ fn unread(error: &io::Error) -> SettingsFault
     }
 }
 
-// The key that a file's bytes say.
+// The key that a file's bytes write, with a line end or without.
 fn key_of_bytes(bytes: &[u8]) -> Option<Secret>
     ensures value { result ≡ key_of_bytes bytes.now }
 {
     Secret::of_text(without_line_end(bytes))
 }
 
-// The bytes without the line end behind them.
+// The bytes without a line end, CR LF or LF, after them.
 fn without_line_end(bytes: &[u8]) -> &[u8]
     ensures line { result.now ≡ without_line_end bytes.now }
 {

@@ -15,7 +15,7 @@ pub struct Stamps<'a> {
 }
 
 impl<'a> Stamps<'a> {
-    /// The stamps of this day, with these words from where they are.
+    /// Up to 1,000 stamps of this day. They take the next of these words.
     pub fn new(words: &'a mut Words, day: RequestDay) -> Self
         ensures stamps { AreStamps 1000 day (generator words.old) result }
         ensures same_words { result.words.ghost_name ≡ words.entry.ghost_name }

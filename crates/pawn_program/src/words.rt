@@ -7,13 +7,13 @@ use rand_chacha::ChaCha20Rng;
 use rand_core::SeedableRng;
 use rand_core::utils::NextWord;
 
-/// A stream of random words of 128 bits, out of a generator's stream of 32-bit words.
+/// A stream of random words of 128 bits. Each is made of four 32-bit words of a generator.
 #[derive(Drop)]
 pub struct Words {
     rng: ChaCha20Rng,
 }
 
-// The bytes of four words in order.
+// The bytes of four words, joined in order.
 fn join(a: [u8; 4], b: [u8; 4], c: [u8; 4], d: [u8; 4]) -> [u8; 16]
     requires a { length a ≡ 4 }
     requires b { length b ≡ 4 }

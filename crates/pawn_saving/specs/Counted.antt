@@ -1,4 +1,4 @@
--- Tables within a change, before its rows are counted.
+-- The tables in the middle of a change: its rows are written, but not yet counted.
 use Rattle.std.specs.Prelude.{◌≡◌, ◌==◌, ◌↔◌, ℕ, ◌+◌, ◌≤◌, ◌<◌, if◌then◌else◌, [], map, Bool, IsTrue, Result, Ok, Err, IfOk}
 use Rattle.std.specs.FinMap.{entries}
 use Rattle.sqlite.specs.Effect.{Database}
@@ -17,7 +17,7 @@ use Rattle.pawn_tables.specs.Meta.{meta_rows}
 use Rattle.pawn_tables.specs.Rows.{book_row, terms_listed, pledge_listed, entries_listed, secrets_listed, booking_listed, totals_listed, extensions_listed}
 use Rattle.pawn_tables.specs.StandsFor.{StandsFor, of_books, of_pledges}
 
--- the rows of a host by their tree, where so many of them are counted
+-- the rows of a host by their tree, where meta notes the given count
 abbrev pub listed_as : Host → ℕ → Listed
 listed_as h counted t =
     if t == books_tree then map (λ (e : ℕ × BookValue). book_row e.0 e.1) (entries h.books)
@@ -40,30 +40,32 @@ pub record IsWrittenPart (h g : Host) (db : Database) (added : ℕ) : Type 0 whe
   pub lists : ListsHost db g (rows h)
   pub grown : rows g ≡ rows h + added
 
--- of each sound host that the tables stood for within the transaction, and a change that it may have: the changed host is written
+-- for each sound host that the tables stood for within the transaction, and that allows the change: the changed host is
+-- written
 abbrev pub WritesRows : {E : Type 0} → State → State → Change → Result ℕ E → Type 0
 WritesRows old new change result =
     HasCleanDisk new → IsTrue old.in_transaction → (h : Host) → IsSound h → CanSave h change → StandsFor old.now h → IfOk result (IsWrittenPart h (with_change h change) new.now)
 
--- of each such host of which P holds: the changed host is written
+-- for each such host of which P holds: the changed host is written
 abbrev pub WritesWhere : {E : Type 0} → State → State → (Host → Type 0) → Change → Result ℕ E → Type 0
 WritesWhere old new P change result =
     HasCleanDisk new → IsTrue old.in_transaction → (h : Host) → IsSound h → CanSave h change → StandsFor old.now h → P h → IfOk result (IsWrittenPart h (with_change h change) new.now)
 
--- so many rows more are counted, and it is told whether all of them are within the limit
+-- the noted count grows by this many, and the answer is whether it is still within the limit
 abbrev pub Counts : {E : Type 0} → State → State → ℕ → Result Bool E → Type 0
 Counts old new by result =
     HasCleanDisk new → IsTrue old.in_transaction → (g : Host) (counted : ℕ) → counted ≤ g.limit → ListsHost old.now g counted
     → IfOk result (λ fits. (IsTrue fits ↔ (counted + by ≤ g.limit)) × ListsHost new.now g (counted + by))
 
--- P where the change was made, Q where the rows would be above the limit
+-- P if the change was made, Q if the rows would be above the limit; nothing is said of other errors
 abbrev pub CountJudged : {T : Type 0} → Result T SaveError → Type 0 → Type 0 → Type 0
 CountJudged (Ok done) P Q = P
 CountJudged (Err Save.Full) P Q = Q
 CountJudged (Err Save.Memory) P Q = Unit {0}
 CountJudged (Err (Save.Store fault)) P Q = Unit {0}
 
--- of each sound host that an open store stood for within the transaction, and a change that it may have: the tables stand for the changed host
+-- for each sound host that an open store stood for within the transaction, and that allows the change: the tables stand
+-- for the changed host
 abbrev pub WritesChange : {T : Type 0} → State → State → Change → Result T SaveError → Type 0
 WritesChange old new change result =
     HasCleanDisk new → IsTrue old.in_transaction → (h : Host) → IsSound h → (IsTrue old.is_open → CanSave h change × StandsFor old.now h)

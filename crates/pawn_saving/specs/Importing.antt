@@ -1,4 +1,4 @@
--- What is written where a book is filled.
+-- What is written when a book is filled by an import.
 use Rattle.std.specs.Prelude.{◌≡◌, ℕ, List, [], filter, flat_map, IsTrue, Result, IfOk, sum_by}
 use Rattle.sqlite.specs.State.{State, HasCleanDisk}
 use Rattle.pawn_pledge.specs.Pledge.{PledgeValue}
@@ -15,7 +15,8 @@ use Rattle.pawn_saving.specs.Putting.{beside, whole_pledge}
 abbrev pub whole_pledges : ℕ → List PledgeValue → Listed
 whole_pledges b pledges t = flat_map (λ p. whole_pledge b (number_in_book p) p t) pledges
 
--- all rows of pledges numbered 1, 2, .. join those of their tables, where no booking of the book stands, and it is told how many of them are counted
+-- all rows of pledges numbered 1, 2, .. are added to their tables, if no booking of the book is stored; the answer is
+-- how many are counted
 abbrev pub AddsPledges : {E : Type 0} → State → State → Result ℕ E → ℕ → List PledgeValue → Type 0
 AddsPledges old new result b pledges =
     HasCleanDisk new → IsTrue old.in_transaction → (listed : Listed) → ((n : ℕ) → filter (at_pledge b n) (listed bookings_tree) ≡ []) → AreNumberedFrom 1 pledges → ListsOurs old.now listed

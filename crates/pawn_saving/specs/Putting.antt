@@ -1,4 +1,4 @@
--- What is written where a pledge is put.
+-- What is written when a pledge is saved.
 use Rattle.std.specs.Prelude.{◌≡◌, ◌==◌, if◌then◌else◌, ℕ, ◌+◌, List, [], ◌∷◌, ◌++◌, map, drop, filter, Bool, IsPermutation, IsTrue, Result, OnOk, IfOk}
 use Rattle.sqlite.specs.Order.{Row}
 use Rattle.sqlite.specs.State.{State, HasCleanDisk}
@@ -24,7 +24,7 @@ totals_under b n p = under b n (totals_cells (totals_of (debt_of p)))
 abbrev pub booking_under : ℕ → ℕ → PledgeValue → List Row
 booking_under b n p = at_most_one (λ k. under b n (booking_cells k)) p.standing.booking
 
--- those of its lists that follow so many
+-- the rows of each list that follow its first so_many
 abbrev pub entries_past : ℕ → ℕ → ℕ → PledgeValue → List Row
 entries_past so_many b n p = map (λ e. under b n (entry_cells e)) (drop so_many p.entries)
 
@@ -42,7 +42,7 @@ lists_past l b n p t =
     else if t == extensions_tree then extensions_past l.extensions b n p
     else []
 
--- those of which it has one at most, by their tree
+-- the rows of which it has at most one in a table, by their tree
 abbrev pub sides_of : ℕ → ℕ → PledgeValue → Listed
 sides_of b n p t =
     if t == pledges_tree then row_under b n p ∷ []
@@ -61,14 +61,14 @@ whole_pledge b n p t =
     else if t == extensions_tree then extensions_past 0 b n p
     else []
 
--- what the tables list beside the rows of which a pledge has one at most, none of it the pledge's
+-- the single rows of pledge n of book b are listed, beside others of which none is the pledge's
 pub record AreSidesPut (b n : ℕ) (p : PledgeValue) (listed others : Listed) : Type 0 where
   pub row : IsOnly (at_pledge b n) (listed pledges_tree) (row_under b n p) (others pledges_tree)
   pub totals : IsOnly (at_pledge b n) (listed totals_tree) (totals_under b n p) (others totals_tree)
   pub bookings : IsPermutation (listed bookings_tree) (booking_under b n p ++ others bookings_tree)
   pub no_booking : filter (at_pledge b n) (others bookings_tree) ≡ []
 
--- those rows of a pledge beside the others
+-- the single rows of a pledge, put beside the others; the lists stay
 abbrev pub with_sides : ℕ → ℕ → PledgeValue → Listed → Listed → Listed
 with_sides b n p others listed t =
     if t == pledges_tree then row_under b n p ∷ others pledges_tree
@@ -78,34 +78,35 @@ with_sides b n p others listed t =
 
 -- ---- what the parts write
 
--- rows stand beside those of each table
+-- further rows in front of those of each table
 abbrev pub beside : Listed → Listed → Listed
 beside more listed t = more t ++ listed t
 
--- the rows join those of their tables
+-- the rows are added to those of their tables
 abbrev pub AddRows : {T E : Type 0} → State → State → Result T E → Listed → Type 0
 AddRows old new result more =
     HasCleanDisk new → IsTrue old.in_transaction → (listed : Listed) → ListsOurs old.now listed → OnOk result (ListsOurs new.now (beside more listed))
 
--- the rows join those of their tables, where no booking of the pledge stands
+-- the single rows of a pledge are added to their tables, if no booking of it is stored
 abbrev pub AddSides : {T E : Type 0} → State → State → Result T E → ℕ → ℕ → PledgeValue → Type 0
 AddSides old new result b n p =
     HasCleanDisk new → IsTrue old.in_transaction → (listed : Listed) → filter (at_pledge b n) (listed bookings_tree) ≡ [] → ListsOurs old.now listed
     → OnOk result (ListsOurs new.now (beside (sides_of b n p) listed))
 
--- the rows of which a pledge has one at most take the place of those of the pledge as it was
+-- the single rows of a pledge replace those that it had before
 abbrev pub RenewSides : {T E : Type 0} → State → State → Result T E → ℕ → ℕ → PledgeValue → PledgeValue → Type 0
 RenewSides old new result b n before p =
     HasCleanDisk new → IsTrue old.in_transaction → (listed others : Listed) → AreSidesPut b n before listed others → ListsOurs old.now listed
     → OnOk result (ListsOurs new.now (with_sides b n p others listed))
 
--- all rows of the pledge join those of their tables, where no booking of it stands, and it is told how many of them are counted
+-- all rows of the pledge are added to their tables, if no booking of it is stored; the answer is how many of them are
+-- counted
 abbrev pub AddsPledge : {E : Type 0} → State → State → Result ℕ E → ℕ → ℕ → PledgeValue → Type 0
 AddsPledge old new result b n p =
     HasCleanDisk new → IsTrue old.in_transaction → (listed : Listed) → filter (at_pledge b n) (listed bookings_tree) ≡ [] → ListsOurs old.now listed
     → IfOk result (λ added. (added ≡ pledge_rows p) × ListsOurs new.now (beside (whole_pledge b n p) listed))
 
--- the rows of a table are put in place of those that pass the test
+-- in one table, these rows replace those that pass the test
 abbrev pub PutsFor : {T E : Type 0} → State → State → Result T E → ℕ → (Row → Bool) → List Row → List Row → Type 0
 PutsFor old new result tree test before after =
     HasCleanDisk new → IsTrue old.in_transaction → (listed : Listed) (others : List Row) → IsPermutation (listed tree) (before ++ others) → filter test others ≡ [] → ListsOurs old.now listed

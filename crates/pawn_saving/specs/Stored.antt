@@ -1,4 +1,4 @@
--- How much of a pledge stands in the tables.
+-- How much of a pledge the tables hold.
 use Rattle.std.specs.Prelude.{◌≡◌, ℕ, ◌≤◌, length, Option, is_some, IsTrue, Result, IfOk}
 use Rattle.sqlite.specs.State.{State, HasCleanDisk}
 use Rattle.pawn_pledge.specs.Pledge.{PledgeValue}
@@ -13,7 +13,7 @@ use Rattle.pawn_saving.specs.declared.stored.PledgeList.{PledgeList}
 use Rattle.pawn_saving.specs.declared.stored.PledgeList.TheVariants.{Entries, Secrets, Extensions}
 use Rattle.pawn_saving.specs.declared.stored.Stored.{Stored}
 
--- how long a list of a pledge is; where no pledge stands it is empty
+-- how long a list of a pledge is: 0 if there is no pledge
 abbrev pub length_in : PledgeList → Option PledgeValue → ℕ
 length_in Entries p = length (entries_of p)
 length_in Secrets p = length (secrets_of p)
@@ -31,12 +31,13 @@ pub record IsLengthWithin (p : Option PledgeValue) (l : Lengths) : Type 0 where
   pub secrets : length (secrets_of p) ≤ l.secrets
   pub extensions : length (extensions_of p) ≤ l.extensions
 
--- so much of a pledge stands
+-- this much of a pledge is stored
 pub record IsStored (s : Stored) (p : Option PledgeValue) : Type 0 where
   pub lengths : AreLengths s.lengths p
   pub booked : s.is_booked ≡ is_some (booking_of p)
 
--- of each sound host that the tables stood for within the transaction: P of what was read, and the tables rest
+-- for each sound host that the tables stood for within the transaction: P holds of what was read, and the tables are
+-- unchanged
 abbrev pub ReadsIn : {A E : Type 0} → State → State → Result A E → (Host → A → Type 0) → Type 0
 ReadsIn old new result P =
     HasCleanDisk new → IsTrue old.in_transaction → (h : Host) → IsSound h → StandsFor old.now h → IfOk result (λ x. P h x × Rests old new)

@@ -6,34 +6,35 @@ use Rattle.one_table.specs.Listing.{Listed, with_rows}
 use Rattle.pawn_tables.specs.Ours.{ListsOurs}
 use Rattle.pawn_tables.specs.Rows.{at_most_one}
 
--- the row joins those of a table
+-- the row is added to those of a table
 abbrev pub Joins : {E : Type 0} → State → State → Result (Unit {0}) E → ℕ → Row → Type 0
 Joins old new result tree row =
     HasCleanDisk new → IsTrue old.in_transaction → (listed : Listed) → ListsOurs old.now listed → OnOk result (ListsOurs new.now (with_rows listed tree (row ∷ listed tree)))
 
--- the rows of a table are this one, and others of which none passes the test
+-- the table has this row, and others of which none passes the test
 pub record IsOnly (test : Row → Bool) (rows : List Row) (row : Row) (others : List Row) : Type 0 where
   pub split : IsPermutation rows (row ∷ others)
   pub none : filter test others ≡ []
 
--- the row takes the place of the only one that passes the test
+-- the row replaces the only one that may pass the test
 abbrev pub Replaces : {E : Type 0} → State → State → Result (Unit {0}) E → ℕ → (Row → Bool) → Row → Row → Type 0
 Replaces old new result tree test row next =
     HasCleanDisk new → IsTrue old.in_transaction → (listed : Listed) (others : List Row) → IsOnly test (listed tree) row others → ListsOurs old.now listed
     → OnOk result (ListsOurs new.now (with_rows listed tree (next ∷ others)))
 
--- the row of a pledge takes the place of the one that the table has of it, if it has one
+-- the row replaces the one that the table has for the pledge, or is added if it has none
 abbrev pub PutsOver : {E : Type 0} → State → State → Result (Unit {0}) E → ℕ → (Row → Bool) → Option Row → Row → Type 0
 PutsOver old new result tree test before row =
     HasCleanDisk new → IsTrue old.in_transaction → (listed : Listed) (others : List Row) → IsPermutation (listed tree) (at_most_one (λ r. r) before ++ others) → filter test others ≡ [] → ListsOurs old.now listed
     → OnOk result (ListsOurs new.now (with_rows listed tree (row ∷ others)))
 
--- the rows join those of a table
+-- the rows are added to those of a table
 abbrev pub AllJoin : {E : Type 0} → State → State → Result (Unit {0}) E → ℕ → List Row → Type 0
 AllJoin old new result tree rows =
     HasCleanDisk new → IsTrue old.in_transaction → (listed : Listed) → ListsOurs old.now listed → OnOk result (ListsOurs new.now (with_rows listed tree (rows ++ listed tree)))
 
--- what a part of any number of statements leaves of the transaction, be it none: all but that only an open store answers
+-- what any number of statements, even none, leave of the transaction; since there may be none, success does not show
+-- that the store is open
 pub record IsCarried (old new : State) (ok : Bool) : Type 0 where
   pub kept : HasCleanDisk new → IsTrue old.in_transaction → KeepsCommit old new
   pub inside : HasCleanDisk new → IsTrue old.in_transaction → ok ≡ true → IsTrue new.in_transaction

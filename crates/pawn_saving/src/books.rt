@@ -15,7 +15,7 @@ use pawn_tables::texts::{PUT_BOOK, PUT_TERMS, SET_IMPORT, SET_PLEDGES_COUNT, SET
 use pawn_tables::{small, write};
 use sqlite::{Alter, Transaction, params};
 
-/// Puts the row of a new book.
+/// Inserts the row of a new book.
 pub(crate) fn put_book<S: Alter>(
     tx: &mut Transaction<'_, S>,
     book: u32,
@@ -33,7 +33,7 @@ pub(crate) fn put_book<S: Alter>(
     write(tx, PUT_BOOK, params![book, key.as_slice(), name, capacity])
 }
 
-/// Sets the count of the terms of a book.
+/// Updates how many versions of terms a book has.
 pub(crate) fn set_terms_count<S: Alter>(
     tx: &mut Transaction<'_, S>,
     book: u32,
@@ -49,7 +49,7 @@ pub(crate) fn set_terms_count<S: Alter>(
     write(tx, SET_TERMS_COUNT, params![book, count])
 }
 
-/// Sets the count of the pledges of a book.
+/// Updates how many pledges a book has.
 pub(crate) fn set_pledges_count<S: Alter>(
     tx: &mut Transaction<'_, S>,
     book: u32,
@@ -65,7 +65,7 @@ pub(crate) fn set_pledges_count<S: Alter>(
     write(tx, SET_PLEDGES_COUNT, params![book, count])
 }
 
-/// Notes an import: its key, and how many terms and pledges it brought.
+/// Notes an import in a book's row: its key, and how many versions of terms and pledges it brought.
 pub(crate) fn set_import<S: Alter>(
     tx: &mut Transaction<'_, S>,
     book: u32,
@@ -89,7 +89,7 @@ pub(crate) fn set_import<S: Alter>(
     )
 }
 
-/// Puts the terms of a version.
+/// Inserts one version of a book's terms.
 pub(crate) fn put_terms<S: Alter>(
     tx: &mut Transaction<'_, S>,
     book: u32,

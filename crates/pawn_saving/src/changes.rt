@@ -12,7 +12,7 @@ use pawn_book::{KeepError, NewBook, Number, Pledge, Terms};
 use pawn_tables::small;
 use sqlite::{Alter, Transaction};
 
-/// Writes a new book, and tells how many rows that are counted it adds.
+/// Writes a new book. Returns how many counted rows that adds.
 #[tactic(auto, using(crate::proofs::Lent::lent_then))]
 pub(crate) fn make_book<S: Alter>(
     tx: &mut Transaction<'_, S>,
@@ -29,7 +29,7 @@ pub(crate) fn make_book<S: Alter>(
     Ok(1)
 }
 
-/// Writes the next version of a book's terms, and tells how many rows that are counted it adds.
+/// Writes the next version of a book's terms. Returns how many counted rows that adds.
 #[tactic(auto, using(crate::proofs::Lent::lent_then))]
 pub(crate) fn add_terms<S: Alter>(
     tx: &mut Transaction<'_, S>,
@@ -49,7 +49,7 @@ pub(crate) fn add_terms<S: Alter>(
     Ok(1)
 }
 
-/// Writes a pledge, the next of its book or one that stands, and tells how many rows that are counted it adds.
+/// Writes a pledge: the next of its book, or one that is stored already. Returns how many counted rows that adds.
 #[tactic(auto, using(crate::proofs::Lent::lent_then))]
 pub(crate) fn put_pledge<S: Alter>(
     tx: &mut Transaction<'_, S>,

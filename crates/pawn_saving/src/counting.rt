@@ -14,7 +14,7 @@ use pawn_tables::texts::{ADD_ROWS, READ_LIMIT};
 use pawn_tables::{REFUSED, refused, small};
 use sqlite::{Alter, Transaction, params};
 
-/// The limit on the rows.
+/// The stored limit on counted rows.
 fn limit_in<S: Alter>(tx: &mut Transaction<'_, S>) -> Result<u32, KeepError>
     ensures same_reference { tx.new.conn.ghost_name ≡ tx.old.conn.ghost_name }
     ensures found { HasCleanDisk (state S.Store tx.new.conn.now) → IsTrue
@@ -40,7 +40,7 @@ fn limit_in<S: Alter>(tx: &mut Transaction<'_, S>) -> Result<u32, KeepError>
     }
 }
 
-/// Adds to the count of rows, and tells the new count.
+/// Adds to the stored count of rows, and returns the new count.
 fn count_up<S: Alter>(tx: &mut Transaction<'_, S>, by: u32) -> Result<u64, KeepError>
     ensures same_reference { tx.new.conn.ghost_name ≡ tx.old.conn.ghost_name }
     ensures wrote { HasCleanDisk (state S.Store tx.new.conn.now) → IsTrue
@@ -63,7 +63,7 @@ fn count_up<S: Alter>(tx: &mut Transaction<'_, S>, by: u32) -> Result<u64, KeepE
     }
 }
 
-/// Counts so many rows more, and tells whether all of them are within the limit.
+/// Adds to the stored count of rows. Returns whether the new count is within the limit.
 #[tactic(auto, using(crate::proofs::Lent::lent_then))]
 pub(crate) fn count_within<S: Alter>(
     tx: &mut Transaction<'_, S>,

@@ -10,7 +10,7 @@ use pawn_tables::texts::{PUT_ENTRY, PUT_EXTENSION, PUT_SECRET};
 use pawn_tables::{issue_number, small, sort_number, write};
 use sqlite::{Alter, Transaction, params};
 
-/// Puts an entry of a pledge.
+/// Inserts an entry of a pledge.
 pub(crate) fn put_entry<S: Alter>(
     tx: &mut Transaction<'_, S>,
     book: u32,
@@ -31,7 +31,7 @@ pub(crate) fn put_entry<S: Alter>(
     write(tx, PUT_ENTRY, params![book, number, seq, day, sort, pence])
 }
 
-/// Puts a secret of a pledge at its place.
+/// Inserts a secret of a pledge at its place in the list.
 pub(crate) fn put_secret<S: Alter>(
     tx: &mut Transaction<'_, S>,
     book: u32,
@@ -56,7 +56,7 @@ pub(crate) fn put_secret<S: Alter>(
     )
 }
 
-/// Puts an extension of a pledge's period at its place.
+/// Inserts an extension of a pledge's period at its place in the list.
 pub(crate) fn put_extension<S: Alter>(
     tx: &mut Transaction<'_, S>,
     book: u32,

@@ -17,7 +17,7 @@ use pawn_pledge::Parts;
 use pawn_tables::REFUSED;
 use sqlite::{Alter, Transaction};
 
-// The pledge of these parts.
+// The pledge that has these parts.
 fn as_pledge(parts: &Parts) -> Result<Pledge, KeepError>
     ensures value { IfOk result (λ p. p ≡ parts.now) }
 {
@@ -30,7 +30,7 @@ fn as_pledge(parts: &Parts) -> Result<Pledge, KeepError>
     }
 }
 
-// Two counts together.
+// The sum of two counts.
 fn together(one: u32, other: u32) -> Result<u32, KeepError>
     ensures value { IfOk result (λ n. n ≡ one + other) }
 {
@@ -40,7 +40,7 @@ fn together(one: u32, other: u32) -> Result<u32, KeepError>
     }
 }
 
-// Puts all rows of the pledge of these parts, and tells how many of them are counted.
+// Inserts all rows of the pledge that has these parts. Returns how many of them are counted.
 #[tactic(auto, using(crate::proofs::Lent::lent_then))]
 fn put_parts<S: Alter>(
     tx: &mut Transaction<'_, S>,
@@ -57,7 +57,7 @@ fn put_parts<S: Alter>(
     put_whole(tx, book, parts.agreement.number.get(), &pledge)
 }
 
-// Puts all rows of the pledges of a book that has none, and tells how many of them are counted.
+// Inserts all rows of the pledges of a book that has none stored. Returns how many of them are counted.
 fn put_pledges<S: Alter>(
     tx: &mut Transaction<'_, S>,
     book: u32,
@@ -77,8 +77,8 @@ fn put_pledges<S: Alter>(
     Ok(counted)
 }
 
-/// Fills a book that has neither terms nor pledges, under the key of the import, and tells how many
-/// rows that are counted it adds.
+/// Fills a book that has neither terms nor pledges, and notes the import's key. Returns how many counted rows that
+/// adds.
 #[tactic(auto, using(crate::proofs::Lent::lent_then, crate::proofs::Tailing::lent_carried, crate::proofs::Tailing::both_carried))]
 pub(crate) fn import_book<S: Alter>(
     tx: &mut Transaction<'_, S>,

@@ -4,7 +4,7 @@ ghost use Rattle.pawn_saving.specs.Stored.{AreLengths};
 use pawn_book::{KeepError, Pledge};
 use pawn_tables::REFUSED;
 
-/// How long the lists of a pledge are.
+/// How many entries, secrets and extensions a pledge has.
 #[derive(Clone, Copy)]
 pub(crate) struct Lengths {
     pub(crate) entries: u32,
@@ -12,7 +12,7 @@ pub(crate) struct Lengths {
     pub(crate) extensions: u32,
 }
 
-/// A length as a statement takes it.
+/// A length as the 32-bit number that a statement binds.
 pub(crate) fn short(length: usize) -> Result<u32, KeepError>
     ensures value { IfOk result (λ n. n ≡ length) }
 {

@@ -18,7 +18,7 @@ use pawn_tables::{
 };
 use sqlite::{Alter, Transaction, params};
 
-/// Puts the row of a new pledge.
+/// Inserts the row of a new pledge in `pledges`.
 pub(crate) fn put_row<S: Alter>(
     tx: &mut Transaction<'_, S>,
     book: u32,
@@ -58,8 +58,8 @@ pub(crate) fn put_row<S: Alter>(
     )
 }
 
-/// Sets what changes in the row of a pledge: its end, how it is held, the day of its last change,
-/// and its closing. A row that has all of it already is not written.
+/// Updates what can change in a pledge's row: its end, how it is held, the day of its last change, and its closing. A
+/// row that has all of it already is not written.
 pub(crate) fn set_row<S: Alter>(
     tx: &mut Transaction<'_, S>,
     book: u32,
@@ -88,7 +88,7 @@ pub(crate) fn set_row<S: Alter>(
     )
 }
 
-/// Puts the booking of a pledge in place of the one that stands, if one does.
+/// Writes the booking of a pledge over the stored one, if there is one.
 pub(crate) fn put_booking<S: Alter>(
     tx: &mut Transaction<'_, S>,
     book: u32,
@@ -109,7 +109,7 @@ pub(crate) fn put_booking<S: Alter>(
     write(tx, PUT_BOOKING, params![book, number, day, window, state])
 }
 
-// The charges as a statement takes them.
+// The charges, in millionths of a penny, as the signed number that a statement binds.
 fn charges_of(millionths: u64) -> Result<i64, KeepError>
     ensures value { IfOk result (λ n. n ≡ pos millionths) }
 {
@@ -119,7 +119,8 @@ fn charges_of(millionths: u64) -> Result<i64, KeepError>
     }
 }
 
-/// Puts the totals of a new pledge.
+/// Inserts the totals of a pledge that has none stored: the day, the principal in pence and the charges in millionths
+/// of a penny.
 pub fn put_totals<S: Alter>(
     tx: &mut Transaction<'_, S>,
     book: u32,
@@ -143,7 +144,7 @@ pub fn put_totals<S: Alter>(
     )
 }
 
-/// Sets the totals of a pledge that stands. A row that has them already is not written.
+/// Updates the totals of a stored pledge. A row that has them already is not written.
 pub(crate) fn set_totals<S: Alter>(
     tx: &mut Transaction<'_, S>,
     book: u32,

@@ -16,7 +16,7 @@ use pawn_book::{Booking, KeepError, Pledge};
 use pawn_tables::small;
 use sqlite::{Alter, Transaction};
 
-// What follows so many elements.
+// The elements after the first `so_many`; none if there are no more.
 fn past<T>(items: &[T], so_many: u32) -> &[T]
     ensures value { result.now ≡ drop so_many items.now }
 {
@@ -26,7 +26,8 @@ fn past<T>(items: &[T], so_many: u32) -> &[T]
     }
 }
 
-/// How many rows are counted of a pledge with lists so long.
+/// How many counted rows a pledge has: its own, its entries, its secrets and its booking. Extensions and totals are not
+/// counted.
 pub(crate) fn rows_within(lengths: Lengths, is_booked: bool) -> Result<u32, KeepError>
     ensures value { IfOk result (λ n. n ≡ 1 + lengths.entries + lengths.secrets
         + (if is_booked then 1 else 0)) }
@@ -35,7 +36,7 @@ pub(crate) fn rows_within(lengths: Lengths, is_booked: bool) -> Result<u32, Keep
     small(1 + lengths.entries as u64 + lengths.secrets as u64 + bookings)
 }
 
-/// How many rows of a pledge are counted.
+/// How many counted rows this pledge has.
 pub(crate) fn rows_of(pledge: &Pledge) -> Result<u32, KeepError>
     ensures value { IfOk result (λ n. n ≡ pledge_rows pledge.now) }
 {
@@ -43,7 +44,7 @@ pub(crate) fn rows_of(pledge: &Pledge) -> Result<u32, KeepError>
     rows_within(lengths, pledge.standing().booking.is_some())
 }
 
-/// Puts the rows of a pledge's lists past these lengths.
+/// Inserts those rows of a pledge's lists that come after the first `lengths` of each list.
 #[tactic(auto, using(crate::proofs::Lent::lent_then, crate::proofs::Tailing::lent_carried, crate::proofs::Tailing::both_carried))]
 pub(crate) fn put_lists<S: Alter>(
     tx: &mut Transaction<'_, S>,
@@ -77,7 +78,7 @@ pub(crate) fn put_lists<S: Alter>(
     )
 }
 
-/// Puts the booking of a pledge, if it has one, in place of the one that stands, if one does.
+/// Writes the booking of a pledge, if it has one, over any stored booking. Without one nothing is written.
 pub(crate) fn put_any_booking<S: Alter>(
     tx: &mut Transaction<'_, S>,
     book: u32,
@@ -99,7 +100,7 @@ pub(crate) fn put_any_booking<S: Alter>(
     }
 }
 
-/// Puts the rows of which a new pledge has one at most.
+/// Inserts the single rows of a new pledge: its own, its totals and its booking, if it has one.
 #[tactic(auto, using(crate::proofs::Lent::lent_then, crate::proofs::Tailing::lent_carried, crate::proofs::Tailing::both_carried))]
 pub(crate) fn put_sides<S: Alter>(
     tx: &mut Transaction<'_, S>,
@@ -118,7 +119,7 @@ pub(crate) fn put_sides<S: Alter>(
     put_any_booking(tx, book, number, pledge.standing().booking)
 }
 
-/// Puts all rows of a pledge that has none, and tells how many of them are counted.
+/// Inserts all rows of a pledge that has none stored. Returns how many of them are counted.
 #[tactic(auto, using(crate::proofs::Lent::lent_then, crate::proofs::Tailing::lent_carried, crate::proofs::Tailing::both_carried))]
 pub(crate) fn put_whole<S: Alter>(
     tx: &mut Transaction<'_, S>,

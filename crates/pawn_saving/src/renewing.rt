@@ -18,7 +18,7 @@ use pawn_book::{KeepError, Number, Pledge};
 use pawn_tables::REFUSED;
 use sqlite::{Alter, Transaction};
 
-/// Writes the next pledge of a book, and tells how many rows that are counted it adds.
+/// Writes the next pledge of a book. Returns how many counted rows that adds.
 #[tactic(auto, using(crate::proofs::Lent::lent_then))]
 pub(crate) fn add_pledge<S: Alter>(
     tx: &mut Transaction<'_, S>,
@@ -38,7 +38,7 @@ pub(crate) fn add_pledge<S: Alter>(
     Ok(added)
 }
 
-/// Sets the rows of which a pledge that stands has one at most.
+/// Updates the single rows of a stored pledge: its own, its totals and its booking.
 #[tactic(auto, using(crate::proofs::Lent::lent_then, crate::proofs::Tailing::lent_carried))]
 fn set_sides<S: Alter>(
     tx: &mut Transaction<'_, S>,
@@ -59,7 +59,8 @@ fn set_sides<S: Alter>(
     put_any_booking(tx, book, number, pledge.standing().booking)
 }
 
-/// How many rows that are counted a pledge has more than before. It keeps a booking that it had.
+/// How many more counted rows a pledge has than are stored of it. It is an error if it has fewer, or if its booking is
+/// gone.
 fn rows_added(stored: Stored, pledge: &Pledge) -> Result<u32, KeepError>
     ensures value { IfOk result (λ added. (before : PledgeValue) → IsStored stored (Some before)
         → pledge_rows pledge.now ≡ pledge_rows before + added) }
@@ -76,7 +77,7 @@ fn rows_added(stored: Stored, pledge: &Pledge) -> Result<u32, KeepError>
     }
 }
 
-/// Writes a pledge that stands as it is now, and tells how many rows that are counted it adds.
+/// Writes a stored pledge as it is now. Returns how many counted rows that adds.
 #[tactic(auto, using(crate::proofs::Lent::lent_then, crate::proofs::Tailing::lent_carried))]
 pub(crate) fn renew_pledge<S: Alter>(
     tx: &mut Transaction<'_, S>,

@@ -14,7 +14,7 @@ use pawn_book::{Change, KeepError, SaveError, StoreFault};
 use pawn_tables::refused;
 use sqlite::{Alter, Connection, Transaction};
 
-// Why a change is not saved, where its rows are within the limit.
+// A keeper's error as the reason that a change is not saved. It is never `Full`.
 fn unsaved(error: KeepError) -> SaveError
     ensures not_full { result ≢ Save.Full }
 {
@@ -24,7 +24,7 @@ fn unsaved(error: KeepError) -> SaveError
     }
 }
 
-// Writes a change, and tells how many rows that are counted it adds.
+// Writes a change. Returns how many counted rows that adds.
 fn write_rows<S: Alter>(tx: &mut Transaction<'_, S>, change: &Change) -> Result<u32, KeepError>
     ensures same_reference { tx.new.conn.ghost_name ≡ tx.old.conn.ghost_name }
     ensures wrote { WritesRows (state S.Store tx.old.conn.now)
@@ -48,7 +48,8 @@ fn write_rows<S: Alter>(tx: &mut Transaction<'_, S>, change: &Change) -> Result<
     }
 }
 
-/// Writes a change and counts its rows, unless they would be above the limit.
+/// Writes a change within the transaction and counts its rows. If the count is then above the limit, the result is
+/// `Full`, and the caller rolls back.
 #[tactic(auto, using(crate::proofs::Lent::lent_then))]
 pub(crate) fn write_change<S: Alter>(
     tx: &mut Transaction<'_, S>,
@@ -71,7 +72,9 @@ pub(crate) fn write_change<S: Alter>(
     }
 }
 
-/// Makes a change, in one transaction, unless the rows would be above the limit.
+/// Saves a change in one transaction, which has ended when the call returns. The error is `Full` if the store would
+/// then have more counted rows than its limit, and `Memory` or `Store` if the database failed. It is also `Store` if a
+/// transaction is under way already.
 pub fn save<S: Alter>(conn: &mut Connection<S>, change: &Change) -> Result<(), SaveError>
     requires can_save { (keeping_by (λ c. state S.Store c)).serves conn.old → Of
         (keeping_by (λ c. state S.Store c)) conn.old conn.old (λ h. CanSave h change.now) }

@@ -1,4 +1,4 @@
-//! How much of a pledge stands in the tables before it is put.
+//! How much of a pledge is stored before it is written.
 ghost use Rattle.std.specs.Prelude.{◌≡◌, ◌≤◌, ◌↔◌, IsTrue, is_ok};
 ghost use Rattle.std.specs.FinMap.{get};
 ghost use Rattle.sqlite.specs.Held.{state};
@@ -12,7 +12,7 @@ use pawn_book::KeepError;
 use pawn_tables::{booking_in, entry_in, extension_in, secret_in};
 use sqlite::{Alter, Transaction};
 
-/// A list of a pledge, which grows at its end alone.
+/// A list of a pledge. It only ever grows, at its end.
 #[derive(Clone, Copy)]
 pub(crate) enum PledgeList {
     Entries,
@@ -20,14 +20,15 @@ pub(crate) enum PledgeList {
     Extensions,
 }
 
-/// How much of a pledge stands: how long its lists are, and whether it has a booking. A pledge that stands has a secret.
+/// How much of a pledge is stored: how long its lists are, and whether it has a booking. A stored pledge has at least
+/// one secret, so one without is not stored.
 #[derive(Clone, Copy)]
 pub(crate) struct Stored {
     pub(crate) lengths: Lengths,
     pub(crate) is_booked: bool,
 }
 
-/// Whether an element stands at a place of a pledge's list. The first place is 1.
+/// Whether an element is stored at a place of a pledge's list. The first place is 1.
 fn stands_at<S: Alter>(
     tx: &mut Transaction<'_, S>,
     list: PledgeList,
@@ -49,7 +50,7 @@ fn stands_at<S: Alter>(
     }
 }
 
-/// How long a pledge's list is that stands, where it is no longer than this. Only its last places are looked at.
+/// How long the stored list of a pledge is, if it is at most `most` long. It is looked for from `most` downwards.
 fn length_within<S: Alter>(
     tx: &mut Transaction<'_, S>,
     list: PledgeList,
@@ -74,7 +75,7 @@ fn length_within<S: Alter>(
     Ok(0)
 }
 
-/// How long the lists of a pledge are that stand, where they are no longer than these.
+/// How long the stored lists of a pledge are, if none is longer than `most` says.
 #[tactic(auto, using(crate::proofs::Tailing::both_carried))]
 fn lengths_within<S: Alter>(
     tx: &mut Transaction<'_, S>,
@@ -99,7 +100,7 @@ fn lengths_within<S: Alter>(
     })
 }
 
-/// How much of a pledge stands, where its lists are no longer than these.
+/// How much of a pledge is stored, if none of its stored lists is longer than `most` says.
 #[tactic(auto, using(crate::proofs::Lent::lent_then, crate::proofs::Tailing::lent_carried))]
 pub(crate) fn stored_within<S: Alter>(
     tx: &mut Transaction<'_, S>,

@@ -10,7 +10,7 @@ use pawn_book::{Entry, Extension, Issued, KeepError, Rates};
 use pawn_tables::REFUSED;
 use sqlite::{Alter, Transaction};
 
-/// Puts entries of a pledge.
+/// Inserts entries of a pledge.
 pub(crate) fn put_entries<S: Alter>(
     tx: &mut Transaction<'_, S>,
     book: u32,
@@ -30,7 +30,7 @@ pub(crate) fn put_entries<S: Alter>(
     Ok(())
 }
 
-/// The place after this one.
+/// The next place of a list. It is an error if 32 bits can't hold it.
 pub(crate) fn next_place(place: u32) -> Result<u32, KeepError>
     ensures value { IfOk result (λ next. next ≡ place + 1) }
 {
@@ -40,7 +40,7 @@ pub(crate) fn next_place(place: u32) -> Result<u32, KeepError>
     }
 }
 
-/// Puts secrets of a pledge, the first of them at a place.
+/// Inserts secrets of a pledge at the places from `from` on.
 pub(crate) fn put_secrets<S: Alter>(
     tx: &mut Transaction<'_, S>,
     book: u32,
@@ -63,7 +63,7 @@ pub(crate) fn put_secrets<S: Alter>(
     Ok(())
 }
 
-/// Puts extensions of a pledge's period, the first of them at a place.
+/// Inserts extensions of a pledge's period at the places from `from` on.
 pub(crate) fn put_extensions<S: Alter>(
     tx: &mut Transaction<'_, S>,
     book: u32,
@@ -86,7 +86,7 @@ pub(crate) fn put_extensions<S: Alter>(
     Ok(())
 }
 
-/// Puts the terms of a book, version 1 first.
+/// Inserts the versions of a book's terms, from version 1 on.
 pub(crate) fn put_versions<S: Alter>(
     tx: &mut Transaction<'_, S>,
     book: u32,

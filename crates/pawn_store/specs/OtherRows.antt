@@ -1,4 +1,4 @@
--- The rows of one book, which no request on another book changes.
+-- The rows of one book: no request on another book changes them.
 use Rattle.std.specs.Prelude.{ℕ, ◌≡◌, ◌≢◌, All, List, [], ◌∷◌, filter, map, Option, None, Some, IsPermutation}
 use Rattle.std.specs.List.{AllByRecursion}
 use Rattle.sqlite.specs.Order.{Row}
@@ -15,7 +15,7 @@ use Rattle.pawn_tables.specs.At.{at_book}
 use Rattle.pawn_tables.specs.Schema.{books, terms, pledges, entries, secrets, bookings, totals, extensions, bookings_tree, books_tree, entries_tree, extensions_tree, pledges_tree, secrets_tree, terms_tree, totals_tree}
 use Rattle.pawn_tables.specs.StandsFor.{StandsFor}
 
--- the tables that tell of books: all but the one of notes
+-- the tables with rows of books: all but meta
 abbrev pub book_tables : List Table
 book_tables =
     record books { tree = books_tree } ∷ record terms { tree = terms_tree } ∷ record pledges { tree = pledges_tree } ∷ record entries { tree = entries_tree } ∷ record secrets { tree = secrets_tree }
@@ -36,7 +36,7 @@ OtherRowsStay =
     → StandsFor old h → StandsFor new (next_host h operator stamp request)
     → request.book ≢ b → HaveSameRows b old.trees new.trees
 
--- what was read, if anything, is no request on the book
+-- if a request was read, it is not on this book
 abbrev pub IsElsewhere : ℕ → Option Request → Type 0
 IsElsewhere b None = Unit {0}
 IsElsewhere b (Some request) = request.book ≢ b
@@ -44,7 +44,7 @@ IsElsewhere b (Some request) = request.book ≢ b
 abbrev pub AreElsewhere : {F : Type 0} → ℕ → List (Event F) → Type 0
 AreElsewhere b events = AllByRecursion (λ event. IsElsewhere b (request_in event.mark)) events
 
--- nor does a run of requests on other books
+-- no run of requests on other books changes a row of this one
 abbrev pub OtherRowsStayInRuns : Type 0 → Type 0
 OtherRowsStayInRuns F =
     (old new : Database) (h : Host) (operator b : ℕ) (events : List (Event F))

@@ -1,5 +1,5 @@
-//! The service over the tables of a store: a keeper over a store that is opened, and what is promised of requests that are
-//! answered over it.
+//! The service over the tables of a store: opening a store as a keeper, and answering requests over it, with what is
+//! promised of them.
 #![tactic(auto)]
 
 mod laws;

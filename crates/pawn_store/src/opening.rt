@@ -1,4 +1,4 @@
-//! Stores that are opened as keepers, and closed.
+//! Opening stores as keepers, and closing them.
 ghost use Rattle.std.specs.Prelude.{◌≡◌, ◌≤◌, None, false, true, IfErr, IfOk, IfSome, IsTrue};
 ghost use Rattle.sqlite.specs.Files.{IsCleanLeft, file_state};
 ghost use Rattle.sqlite.specs.Held.{state};
@@ -22,8 +22,8 @@ use sqlite::{FileFrom, FileStore, Files, Leftover, MemStore, Start};
 use sqlite_disk::Disk;
 use std::alloc::Global;
 
-/// A keeper over an empty store in memory, for the empty host with this limit. The limit on rows is 1 to 10,000,000.
-/// It is refused for a fault of the store or want of memory alone.
+/// Makes a keeper over a new store in memory, without books. `limit` is the most counted rows that it may hold, 1 to
+/// 10,000,000. The error is `Store` or `Memory`.
 pub fn keep_in_memory(alloc: Global, limit: u32) -> Result<TableKeep<MemStore>, OpenFault>
     requires least { 1 ≤ limit }
     requires most { limit ≤ most_rows }
@@ -40,12 +40,12 @@ pub fn keep_in_memory(alloc: Global, limit: u32) -> Result<TableKeep<MemStore>, 
     }
 }
 
-/// A keeper over the store in the file at a path, which is made if there is none, over whatever `start` says of its bytes.
-/// An empty one is laid out for the empty host with this limit. One that notes the program's schema is opened as it is, with the
-/// stored limit; whether it stands for a host is not judged. The limit on rows is 1 to 10,000,000. If the files hold what a crash
-/// left of a store that had answered requests, it is opened for the host of all of them, or for that one with one request more. If
-/// the store is refused after its files were opened, what is left of them comes back: of those that were opened, nothing having been
-/// done to them.
+/// Opens the store in the file at a path as a keeper. The file is made if there is none. `start` says what may be
+/// assumed of its bytes. An empty store gets the program's tables, and this limit on counted rows, 1 to 10,000,000. One
+/// that notes the program's schema keeps its stored limit, and gets the indexes that it lacks. Whether its rows make
+/// sense is not judged. If the files hold what a crash left of a store that had answered requests, it stands for the
+/// host after all of them, or for that host with one request more. If the store is refused after its files were opened,
+/// what is left of them comes back with the reason.
 pub fn keep_at_path<S: Start>(
     rt: &HostRuntime,
     path: &str,
@@ -78,7 +78,8 @@ pub fn keep_at_path<S: Start>(
     }
 }
 
-/// Closes the files of a keeper, with the last commit in the database file.
+/// Closes the files of a keeper and gives them back. All that was committed is then in the database file. If closing
+/// fails, the store comes back with the reason.
 pub fn close_keep<D: Disk + Drop>(
     keep: TableKeep<FileStore<D>>,
 ) -> Result<Files<D>, (OpenFault, FileStore<D>)>

@@ -1,4 +1,4 @@
-//! Requests that are answered over the tables of a store: a list of them, a stream, or connections.
+//! Answering requests over the tables of a store: a list of them, a stream, or connections.
 ghost use Rattle.std.specs.Prelude.{◌≡◌, ◌+◌, ◌≤◌, false, IfOk, IsTrue, OnErr, map};
 ghost use Rattle.pawn_host.specs.Ends.{left_of, reads};
 ghost use Rattle.pawn_host.specs.Keeps.{answer_bytes, service_operator};
@@ -15,11 +15,12 @@ use std::io::{Read, Write};
 use std::net::TcpListener;
 use std::time::Clock;
 
-/// Answers these items in their order, over the tables of a store that was opened for a sound host and has answered some
-/// items since. While the disk returns what was written, each answer to a request on a book, or to who presents receipts, is
-/// that of the book or of those receipts alone; the tables then stand for the host after all items, and whatever a crash leaves
-/// holds that host, or it with one request more that was answered by want of memory or by a fault of the store. Where there is
-/// no room for the answers, nothing was done.
+/// Answers these requests in their order, over the tables of a store that was opened for a sound host and may have
+/// answered some since. The rest holds as long as the disk returns what was written. Each settled answer to a request
+/// on a book, or to a bearer of receipts, is what the book or those receipts alone would get. The tables then stand for
+/// the host after all requests. A crash leaves that host, or that host with one more request, which had been answered
+/// with refused memory or a fault of the store. If there is no memory to list the answers, the call fails before
+/// anything is done.
 pub fn run_over_tables<S: Alter>(
     service: &mut Service<TableKeep<S>>,
     items: &[(Stamp, Vec<u8>)],
@@ -33,8 +34,8 @@ pub fn run_over_tables<S: Alter>(
     service.run(items)
 }
 
-/// Answers the requests of a stream as `Service::answer_all` does, over the tables of such a store. What is said of a run is so
-/// of its requests, however the session ended or was broken off.
+/// Answers the requests of a stream as `Service::answer_all` does, over the tables of such a store. What
+/// `run_over_tables` promises holds for its requests, however the session ended or was broken off.
 pub fn answer_over_tables<S: Alter, R: Read, W: Write, I: Iterator<Item = Stamp>>(
     service: &mut Service<TableKeep<S>>,
     reader: &mut Reading<R>,
@@ -54,16 +55,17 @@ pub fn answer_over_tables<S: Alter, R: Read, W: Write, I: Iterator<Item = Stamp>
     service.answer_all(reader, writer, stamps)
 }
 
-/// How connections were served over tables: how many, and whether a fault has shut the store since.
+/// How connections were served over tables: how many, and whether a fault has shut the store.
 #[derive(Clone, Copy)]
 pub struct ServedTables {
     pub served: Served,
     pub is_shut: bool,
 }
 
-/// Answers the requests of so many connections as `serve_on` does, over the tables of such a store. What is said of a run is so
-/// of the requests of all connections. Behind each the store is asked whether a fault has shut it, and where one has no further
-/// connection is accepted: each request on it would be answered by a fault of the store.
+/// Answers the requests of so many connections as `serve_on` does, over the tables of such a store. What
+/// `run_over_tables` promises holds for the requests of all connections. After each connection the store is asked
+/// whether a fault has shut it. If so, no further connection is accepted, since each of its requests would only get a
+/// fault of the store.
 pub fn serve_over_tables<S: Alter, C: Clock>(
     listener: &TcpListener,
     service: &mut Service<TableKeep<S>>,

@@ -11,7 +11,7 @@ pub type Disks = Files<Fuse<Memory>>;
 // More calls than a test makes.
 const NEVER: u64 = 1_000_000;
 
-// How a small store is kept, so that its log is folded in while it is used.
+// The options of a small store, so that its log is copied into the database file while it is used.
 const SMALL: Options = Options {
     cache_pages: 40,
     spill_pages: 40,
@@ -49,15 +49,15 @@ pub fn go_on(disks: &mut Disks) -> bool {
     disks.log.len().is_ok() && disks.db.len().is_ok()
 }
 
-/// The disks as a stop leaves them: what was synced, and they answer again.
+/// The disks after a stop: they hold what was synced, and answer again.
 pub fn crashed(mut disks: Disks) -> Disks {
     disks.log.crash();
     disks.db.crash();
     disks
 }
 
-/// The store on the disks, made with room for a hundred rows if there is none; or what a stop leaves of the disks, if it is not
-/// opened.
+/// The store on the disks. If there is none, it is made with room for a hundred rows. If it is not opened, the error is
+/// what a stop leaves of the disks.
 pub fn store_on(alloc: Global, disks: Disks) -> Result<Connection<FileStore<Fuse<Memory>>>, Disks> {
     if !disks.log.may_be_used() {
         return Err(disks);
@@ -71,8 +71,8 @@ pub fn store_on(alloc: Global, disks: Disks) -> Result<Connection<FileStore<Fuse
     }
 }
 
-/// A store that these statements made of a new one, closed and opened again: whether it is opened, and the disks that are left. None if
-/// the disks stop before that.
+/// Makes a store, runs these statements on it, closes it and opens it again. Returns whether it is opened, and the
+/// disks that are left. None if the disks stop before that.
 pub fn bare_store_opened(alloc: Global, disks: Disks, statements: &str) -> Option<(bool, Disks)> {
     let mut conn = store_on(alloc, disks).ok()?;
     let made = conn.execute_batch(statements).is_ok();

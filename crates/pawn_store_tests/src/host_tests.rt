@@ -29,7 +29,7 @@ const BAD_HEAD: &[u8] =
 // A request after which its connection closes.
 const CLOSING: &[u8] = b"GET /books/7/held HTTP/1.0\r\n\r\n";
 
-// One whose field closes it, and a byte behind it.
+// A request with a field that closes its connection, and a byte after it.
 const CLOSING_FIELD: &[u8] = b"GET /books/7/held HTTP/1.1\r\nConnection: CLOSE\r\n\r\n}";
 
 // A head, and half of its body.
@@ -64,7 +64,7 @@ fn stamp(rt: &impl Abort, word: u128) -> Stamp {
     stamp_on(rt, DAY, word)
 }
 
-// The bytes of an answer. It has none where memory was wanting.
+// The bytes of an answer. There are none if memory was refused.
 fn bytes_of(answer: &Answer) -> &[u8] {
     match answer {
         Answer::Bytes(bytes) => bytes.as_slice(),
@@ -72,7 +72,7 @@ fn bytes_of(answer: &Answer) -> &[u8] {
     }
 }
 
-// Compares the answers of a run with the replies to the turns.
+// Checks that the answers of a run are the replies to the turns.
 fn tells_each(rt: &impl Abort, answers: &[Answer]) {
     assert_eq!(rt; answers.len(), TURNS.len());
     let mut place = 1usize;
@@ -110,7 +110,7 @@ fn run_in_memory(
     Ok(run_over_tables(&mut service_over(rt, alloc, keep), items)?)
 }
 
-// Compares what both keepers answer with the replies to the turns.
+// Checks that both keepers answer with the replies to the turns.
 fn both_tell(rt: &impl Abort, alloc: Global, items: &[(Stamp, Vec<u8>)]) -> Result<(), Fail> {
     tells_each(rt, run_over_list(rt, alloc, items)?.as_slice());
     tells_each(rt, run_in_memory(rt, alloc, items)?.as_slice());
@@ -123,7 +123,8 @@ fn the_turns_are_answered_over_lists_and_over_tables(rt: HostRuntime) -> Result<
     both_tell(&rt, rt.alloc(), items.as_slice())
 }
 
-// How the ends of a stream behave: whether a call moves one byte alone, and at which call each fails, if at any.
+// How the reader and the writer of a stream behave: whether a call moves only one byte, and at which call each fails,
+// if at any.
 #[derive(Clone, Copy)]
 struct Behaviour {
     slow: bool,
@@ -144,7 +145,8 @@ const SLOW: Behaviour = Behaviour {
     ..SOUND
 };
 
-// What came of a stream, what was written, what its reader still holds, and how its ends were called.
+// What came of a stream, what was written, what its reader still holds, and in which order reader, stamps and writer
+// were called.
 #[derive(Drop)]
 struct Came {
     came: Result<Ended, IoFault>,
@@ -155,7 +157,7 @@ struct Came {
     calls: u64,
 }
 
-// What comes of a stream over lists, with a stamp for each of these.
+// Answers a stream over lists, with these stamps.
 fn answered(
     rt: &impl Abort,
     alloc: Global,
@@ -196,7 +198,7 @@ fn answered(
     }
 }
 
-// These bytes so many times, and others behind them.
+// These bytes so many times, and others after them.
 fn repeated(alloc: Global, bytes: &[u8], times: u32, rest: &[u8]) -> Result<Vec<u8>, Fail> {
     let mut all = Vec::new(alloc);
     for _ in 0..times {
@@ -206,7 +208,8 @@ fn repeated(alloc: Global, bytes: &[u8], times: u32, rest: &[u8]) -> Result<Vec<
     Ok(all)
 }
 
-// A stream of so many requests and a rest: how it is to end, how many are acted on, and what is told behind their replies.
+// A stream of so many requests and a rest: how it should end, how many are acted on, and what is written after their
+// replies.
 #[derive(Clone, Copy)]
 struct Stream {
     requests: u32,
@@ -216,7 +219,7 @@ struct Stream {
     last: &'static [u8],
 }
 
-// A stream behind whose replies nothing is told.
+// A stream after whose replies nothing is written.
 fn ending(requests: u32, rest: &'static [u8], how: How, acted: u32) -> Stream {
     Stream {
         requests,
@@ -227,7 +230,7 @@ fn ending(requests: u32, rest: &'static [u8], how: How, acted: u32) -> Stream {
     }
 }
 
-// Compares what comes of a stream with how it is to end.
+// Checks that a stream ends as it should.
 fn ends_as(rt: &impl Abort, alloc: Global, stamps: &[Stamp], wanted: Stream) -> Result<(), Fail> {
     let stream = repeated(alloc, ASKED, wanted.requests, wanted.rest)?;
     let replies = repeated(alloc, NO_RECEIPT, wanted.acted, wanted.last)?;

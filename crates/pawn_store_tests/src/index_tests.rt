@@ -1,5 +1,6 @@
-//! A store without the indexes by which a day is read, of which a file stops at some call while it is opened: the indexes are there
-//! then, or neither of them is, and every row is. Each call of either file is such a stop, until an opening meets none.
+//! A store without the two indexes is opened, and one of its files stops at some call. After that both indexes are
+//! there, or neither is, and every row is there. Each call of either file is such a stop in turn, until an opening
+//! meets none.
 use crate::disks::{Disks, Failing, bare_store_opened, connected, crashed, disks, go_on};
 use crate::move_tests::{BARE, COUNTS, INDEXES, counts_in};
 use pawn_check::{CheckFault, Counts};
@@ -34,7 +35,7 @@ fn found(alloc: Global, disks: Disks) -> Option<(usize, Result<Counts, CheckFaul
     Some((indexes, counts_in(alloc, conn)?))
 }
 
-// Lets a file stop at that call. Tells whether no call failed.
+// Makes a file stop at that call. Returns whether no call failed.
 fn stops(rt: &impl Abort, alloc: Global, failing: Failing, calls: u64) -> Result<bool, Fail> {
     let Some(run) = run_on(alloc, disks(alloc, failing, calls)) else {
         return Ok(false);
@@ -52,7 +53,7 @@ fn stops(rt: &impl Abort, alloc: Global, failing: Failing, calls: u64) -> Result
     Ok(run.is_whole)
 }
 
-// Lets a file stop at its first call, at its second, and so on, until an opening meets no stop.
+// Makes a file stop at its first call, at its second, and so on, until an opening meets no stop.
 fn stops_at_each_call(rt: &impl Abort, alloc: Global, failing: Failing) -> Result<(), Fail> {
     let mut is_whole = false;
     for calls in 0..10_000u64 {

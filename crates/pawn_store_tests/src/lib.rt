@@ -1,6 +1,7 @@
-//! The tests of the service over both keepers, and of the crates that open, move and run stores: turns over lists and over tables,
-//! and what no script of `tests/` can show, as ends that fail at one call, counts of calls, and a disk that loses what was not
-//! synced. They stand in a crate of their own, as those of `pawn_tests` do, and beside it, so that the two are proved at one time.
+//! The tests of the service over both keepers, and of the crates that open, move and run stores. They run turns over
+//! lists and over tables. They also show what no script of `tests/` can: readers and writers that fail at one call, the
+//! order of calls, and a disk that loses what was not synced. They are in a crate of their own beside `pawn_tests`, so
+//! that the two can be proved at the same time.
 #![tactic(auto)]
 
 #[cfg(test)]

@@ -1,6 +1,6 @@
-//! A store of an older schema, or of the program's without its indexes, of which a file stops at some call while it is moved: what is
-//! there when it is opened again. Each call of either file is such a stop, until a migration meets none. The script
-//! `tests/migration.py` shows it by kills over files, and each total by value.
+//! A store of an older schema, or of the program's without its indexes, is moved, and one of its files stops at some
+//! call. The tests check what is there when it is opened again. Each call of either file is such a stop in turn, until
+//! a migration meets none. The script `tests/migration.py` shows it by kills over files, and checks each total.
 use crate::disks::{Disks, Failing, connected, crashed, disks, go_on, store_on};
 use pawn_check::{CheckFault, Counts, check};
 use pawn_keeper::TableKeep;
@@ -10,15 +10,15 @@ use std::alloc::Global;
 use std::process::Abort;
 use std::test::Fail;
 
-// Of an empty store of the program's schema, one of the first, with a book whose one pledge has an entry.
+// Makes an empty store of the program's schema into one of the first, with a book whose one pledge has an entry.
 const FIRST: &str =
     "INSERT INTO books VALUES (7, X'00000000000000000000000000000001', 'High Street', 2, 1, 1, NULL, NULL); INSERT INTO terms VALUES (7, 1, 2667, 0, 0); INSERT INTO pledges VALUES (7, 1, 'A1', 'Gold ring', 0, 10000, 19723, NULL, 0, 1, 19905, 0, 19753, 0, NULL, NULL); INSERT INTO entries VALUES (7, 1, 1, 19753, 1, 1000); INSERT INTO secrets VALUES (7, 1, 1, 19723, 0, X'00000000000000000000000000000003'); UPDATE meta SET value = 5 WHERE name = 'rows'; DROP INDEX bookings_by_time; DROP INDEX pledges_by_end; DROP TABLE extensions; DROP TABLE totals; UPDATE meta SET value = 1 WHERE name = 'schema'";
 
-// The same of the second, which has the totals of the pledge on the day of its entry.
+// Makes it into one of the second schema, which has the totals of the pledge on the day of its entry.
 const SECOND: &str =
     "INSERT INTO books VALUES (7, X'00000000000000000000000000000001', 'High Street', 2, 1, 1, NULL, NULL); INSERT INTO terms VALUES (7, 1, 2667, 0, 0); INSERT INTO pledges VALUES (7, 1, 'A1', 'Gold ring', 0, 10000, 19723, NULL, 0, 1, 19905, 0, 19753, 0, NULL, NULL); INSERT INTO entries VALUES (7, 1, 1, 19753, 1, 1000); INSERT INTO secrets VALUES (7, 1, 1, 19723, 0, X'00000000000000000000000000000003'); INSERT INTO totals VALUES (7, 1, 19753, 9800, 100000); UPDATE meta SET value = 5 WHERE name = 'rows'; DROP INDEX bookings_by_time; DROP INDEX pledges_by_end; DROP TABLE extensions; UPDATE meta SET value = 2 WHERE name = 'schema'";
 
-// The same of the program's, without its indexes, as releases before them made it.
+// Makes it into one of the program's schema without its indexes, as earlier releases made it.
 pub const BARE: &str =
     "INSERT INTO books VALUES (7, X'00000000000000000000000000000001', 'High Street', 2, 1, 1, NULL, NULL); INSERT INTO terms VALUES (7, 1, 2667, 0, 0); INSERT INTO pledges VALUES (7, 1, 'A1', 'Gold ring', 0, 10000, 19723, NULL, 0, 1, 19905, 0, 19753, 0, NULL, NULL); INSERT INTO entries VALUES (7, 1, 1, 19753, 1, 1000); INSERT INTO secrets VALUES (7, 1, 1, 19723, 0, X'00000000000000000000000000000003'); INSERT INTO totals VALUES (7, 1, 19753, 9800, 100000); UPDATE meta SET value = 5 WHERE name = 'rows'; DROP INDEX bookings_by_time; DROP INDEX pledges_by_end";
 
@@ -44,7 +44,7 @@ const OLDER: [Older; 3] = [
     },
 ];
 
-/// What each of them holds.
+/// What each of these stores holds.
 pub const COUNTS: Counts = Counts {
     books: 1,
     pledges: 1,
@@ -54,7 +54,7 @@ pub const COUNTS: Counts = Counts {
 // The numbers of the schemas from which and to which a store is moved.
 type Moved = Result<(u32, u32), MoveFault>;
 
-// How a migration of a store ends that is made one of an older schema. None if it stops before.
+// Makes a store one of an older schema, and moves it. Returns how the migration ended. None if it stops before that.
 fn moved_from<S: Alter>(alloc: Global, conn: &mut Connection<S>, older: Older) -> Option<Moved> {
     conn.execute_batch(older.made).ok()?;
     if !conn.is_autocommit() {
@@ -97,7 +97,7 @@ fn moved_again<S: Alter>(alloc: Global, conn: &mut Connection<S>) -> Option<(u32
     Some((number, migrate(alloc, conn)))
 }
 
-/// The counts of a store, as it is judged.
+/// What a check of a store finds.
 pub fn counts_in<S: Alter + Drop>(
     alloc: Global,
     conn: Connection<S>,
@@ -132,8 +132,8 @@ fn found_on(alloc: Global, disks: Disks) -> Option<Found> {
     })
 }
 
-// Lets a file stop at that call. The old tables are there then, or the new ones, and they are moved and judged. Tells whether no call
-// failed.
+// Makes a file stop at that call. Then the old tables are there, or the new ones, and they are moved and judged.
+// Returns whether no call failed.
 fn stops(
     rt: &impl Abort,
     alloc: Global,
@@ -169,7 +169,7 @@ fn stops(
     Ok(run.is_whole)
 }
 
-// Lets a file stop at its first call, at its second, and so on, until a migration meets no stop.
+// Makes a file stop at its first call, at its second, and so on, until a migration meets no stop.
 fn stops_at_each_call(rt: &impl Abort, alloc: Global, failing: Failing) -> Result<(), Fail> {
     for older in OLDER {
         let mut is_whole = false;

@@ -1,5 +1,5 @@
-//! What the command line says, the words of a seed, and stamps by a clock. What is refused of a command line, and a key in a file,
-//! are shown by the script `tests/faults.py`; connections by `tests/serve.py` and `tests/connections.py`.
+//! The settings of a command line, the words of a seed, and stamps by a clock. The script `tests/faults.py` shows what
+//! is refused of a command line, and a key in a file. `tests/serve.py` and `tests/connections.py` show connections.
 
 use pawn_host::{RequestDay, Stamp};
 use pawn_program::{ClockStamps, ServeSettings, Settings, Words};

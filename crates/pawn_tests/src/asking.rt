@@ -1,4 +1,4 @@
-//! What comes of a request that changes something.
+//! Asking a keeper for something that may change it.
 use pawn_book::{Refusal, Reply, Request, Secret, Stamp, act};
 use pawn_list::ListKeep;
 use std::alloc::Global;

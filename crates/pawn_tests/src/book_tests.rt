@@ -1,5 +1,5 @@
-//! Books kept in lists: each call of `ListKeep`, and what is asked of a book, once. All requests and their replies are shown by
-//! the script `tests/turns.py`, over tables.
+//! Books kept in lists. Each call of `ListKeep`, and each kind of request on a book, is run once. The script
+//! `tests/turns.py` shows all requests and their replies over tables.
 use crate::asking::acted;
 use pawn_book::{
     Article, BearerCommand, BearerRequest, Booking, BookingState, BrokerCommand, BrokerRequest,
@@ -21,7 +21,7 @@ const OPERATOR: u128 = 11;
 
 const KEY: u128 = 22;
 
-// What is asked of book 7, which confirms one booking of a window.
+// A request on book 7, which takes one booking in a window.
 #[derive(Clone, Copy)]
 enum Ask {
     // The book, by this key and with this capacity.
@@ -51,7 +51,7 @@ enum Ask {
     },
 }
 
-// What is asked with a word, and what is to be answered.
+// A request, the word of its stamp, and the answer that it should get.
 #[derive(Clone, Copy)]
 struct Turn {
     word: u128,
@@ -166,7 +166,7 @@ fn answer_to(
     Ok(acted(alloc, keep, operator, &stamp, &request))
 }
 
-// Compares what it answers to each turn with what the turn is to be answered. A turn that fails is told by its place.
+// Checks that a keeper answers each turn as it should. A turn that fails is reported by its place.
 fn plays(rt: &impl Abort, alloc: Global, keep: &mut ListKeep, turns: &[Turn]) -> Result<(), Fail> {
     let mut place = 1usize;
     for turn in turns {
@@ -274,7 +274,7 @@ fn a_store_is_judged_and_counted(rt: HostRuntime) -> Result<(), Fail> {
     Ok(())
 }
 
-// What a repayment of pledge 1 is told.
+// The answer that a repayment of pledge 1 should get.
 fn repaid() -> Result<Result<Reply, Refusal>, Fail> {
     told(
         1,
@@ -287,7 +287,8 @@ fn repaid() -> Result<Result<Reply, Refusal>, Fail> {
     )
 }
 
-// An opening and a repayment are told again to whoever passes, and by a receipt that was replaced to nobody.
+// Whoever may ask gets the same answer again to a repeated opening or repayment. A bearer of a replaced receipt gets
+// none.
 #[test]
 fn a_repeat_is_told_to_whoever_passes(rt: HostRuntime) -> Result<(), Fail> {
     let amount = Err(Refusal::Pledge(PledgeRefusal::Debt(DebtFault::BadAmount)));
@@ -305,7 +306,7 @@ fn a_repeat_is_told_to_whoever_passes(rt: HostRuntime) -> Result<(), Fail> {
     plays(&rt, rt.alloc(), &mut keep, &turns)
 }
 
-// Adds up the numbers of the pledges that it is handed, and stops after so many.
+// A visitor that adds up the numbers of pledges, and stops after so many.
 #[derive(Drop)]
 struct Sum {
     total: u32,
@@ -371,7 +372,7 @@ fn a_window_is_counted_over_all_pledges(rt: HostRuntime) -> Result<(), Fail> {
     Ok(())
 }
 
-// What comes of a request that is planned and then made. Nothing does where the plan is refused.
+// The answer to a request that is planned and then committed. `None` if the plan is refused.
 fn made_of(
     alloc: Global,
     keep: &mut ListKeep,
@@ -390,7 +391,7 @@ fn made_of(
     }
 }
 
-// Compares how a turn's plan is committed with what the turn is to be answered.
+// Checks that a turn's plan, once committed, gets the answer that the turn should get.
 fn commits(rt: &impl Abort, alloc: Global, keep: &mut ListKeep, turn: &Turn) -> Result<(), Fail> {
     let stamp = Stamp {
         day: day()?,
@@ -401,7 +402,7 @@ fn commits(rt: &impl Abort, alloc: Global, keep: &mut ListKeep, turn: &Turn) -> 
     Ok(())
 }
 
-// The last row is a repayment's, and what is planned and finds no row is not made.
+// The last free row goes to a repayment. A plan for which no row is left is not committed.
 #[test]
 fn the_row_limit_comes_last(rt: HostRuntime) -> Result<(), Fail> {
     let alloc = rt.alloc();
@@ -422,7 +423,7 @@ fn is_live(keep: &mut ListKeep, book: u64, word: u128) -> Result<bool, Fail> {
     }
 }
 
-// Whether the book has its name and two pledges for who has its key.
+// Whether this key opens the book, with its name and two pledges.
 fn opens(keep: &mut ListKeep, key: u128) -> Result<bool, Fail> {
     match gate(keep, number(7)?, Secret::of_word(key)) {
         Ok(head) => Ok(head.pledges == 2 && head.name.as_str() == "High Street"),

@@ -1,5 +1,5 @@
-//! What takes memory is run once, and its answer compared. What the rules answer is proved, and worked out in
-//! `specs/Worked.antt`.
+//! Each call that takes memory is run once, and its answer is checked. What the rules answer is proved, and worked out
+//! in `specs/Worked.antt`.
 use pawn_debt::{Debt, Entries, Kind};
 use pawn_terms::{Day, RequestDay, Terms, last_day};
 use std::alloc::Global;
@@ -38,7 +38,7 @@ fn a_copy_has_the_same_entries(rt: HostRuntime) -> Result<(), Fail> {
     Ok(())
 }
 
-// The account again, of its entries.
+// The account again, made of its entries.
 fn account_of(entries: Entries) -> Result<Debt, Fail> {
     let taken = RequestDay::of_text(b"2024-01-31")?.day();
     let terms = Terms::check(2667, 0, 0)?;

@@ -1,6 +1,6 @@
-//! The tests of the crates below that know of no store: each public call that takes memory is run once with ample memory, and
-//! its answer is compared. They stand in a crate of their own, a file for each crate, so that no crate is proved again for its
-//! tests; those of the other crates are in `pawn_store_tests`.
+//! The tests of the crates that know of no store. Each public call that takes memory is run once with ample memory, and
+//! its answer is checked. They are in a crate of their own, a file for each crate, so that no crate is proved again for
+//! its tests. Those of the other crates are in `pawn_store_tests`.
 #![tactic(auto)]
 
 #[cfg(test)]

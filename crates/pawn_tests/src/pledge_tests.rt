@@ -1,5 +1,5 @@
-//! What takes memory is run once, and its answer compared. What the rules answer is proved, and worked out in
-//! `specs/Worked.antt`; each limit is met once by the script `tests/limits.py`.
+//! Each call that takes memory is run once, and its answer is checked. What the rules answer is proved, and worked out
+//! in `specs/Worked.antt`. The script `tests/limits.py` reaches each limit once.
 use pawn_pledge::{
     Article, Command, Day, Done, Kind, Number, Opening, Paper, Pledge, Receipt, Reference,
     RequestDay, Secret, Stamp, Terms,
@@ -40,7 +40,7 @@ fn answer(pledge: &mut Pledge, text: &[u8], command: Command) -> Result<Done, Fa
     Ok(pledge.apply(&Stamp { day, word: 2 }, &command)?)
 }
 
-// A declaration, a longer period and a repayment.
+// Tenders a declaration, extends the period and makes a repayment.
 fn uses(pledge: &mut Pledge) -> Result<(), Fail> {
     let until = request_day(b"2024-09-30")?;
     let repay = Command::Repay {
@@ -104,7 +104,7 @@ fn a_brief_tells_of_its_pledge(rt: HostRuntime) -> Result<(), Fail> {
     Ok(())
 }
 
-// Whether a copy, a brief, and the pledge of the parts are the pledge again.
+// Whether a copy, a brief, and a pledge made of the parts are like the pledge.
 fn is_same_again(pledge: &Pledge, day: Day) -> Result<bool, Fail> {
     let status = pledge.status(day);
     if pledge.copy()?.status(day) != status || pledge.brief()?.status(day) != status {

@@ -1,11 +1,11 @@
--- How a text ends.
+-- How writing a text ends: whole, or with which fault.
 use Rattle.std.specs.Prelude.{Bool, true, false, Result, Ok, Err}
 use Rattle.pawn_book.specs.declared.fault.KeepError.{KeepError}
 use Rattle.pawn_book.specs.declared.fault.KeepError.TheVariants as error
 use Rattle.pawn_view.specs.declared.fault.ViewFault.{ViewFault}
 use Rattle.pawn_view.specs.declared.fault.ViewFault.TheVariants as fault
 
--- the fault of a text whose keeper did not answer
+-- the fault when the keeper does not answer
 abbrev pub view_fault : KeepError → ViewFault
 view_fault error.Memory = fault.Memory
 view_fault (error.Store why) = fault.Store

@@ -1,4 +1,4 @@
--- The text of a day's sheet, and what puts it.
+-- The text of a day's sheet, and the visitor that writes it.
 use Rattle.std.specs.Prelude.{ℕ, List, ◌++◌, Option, ◌≡◌, codes, decimal, option_map}
 use Rattle.std.specs.List.{flat_map}
 use Rattle.std.specs.FinMap.{get}
@@ -39,15 +39,15 @@ sheet_text day capacity items = day_line (codes "Day sheet ") day ++ flat_map (s
 abbrev pub day_lines : ℕ → ℕ → List PledgeValue → List ℕ
 day_lines capacity day pledges = flat_map (sheet_line capacity) (day_sheet pledges day)
 
--- the sheet of a book's day
+-- a book's sheet for a day
 abbrev pub book_sheet : ℕ → BookValue → List ℕ
 book_sheet day book = sheet_text day book.capacity (day_sheet book.pledges day)
 
--- the same, if the book stands
+-- the same, if the host has the book
 abbrev pub sheet_of : Host → ℕ → ℕ → Option (List ℕ)
 sheet_of h book day = option_map (book_sheet day) (get h.books book)
 
--- a visitor that puts a line for each item to the writer that it holds, and holds it still
+-- a visitor that writes a line for each item to the writer that it borrows; the writer and the capacity stay the same
 pub record PutsItem {W : Type 0} (contents : W → Option (List ℕ)) (v : SheetLines W) (item : SheetItem) (flow : Flow) (w : SheetLines W) : Type 0 where
   pub puts : PutsLine contents (sheet_line v.capacity) v.writer.now item flow w.writer.now
   pub same_capacity : w.capacity ≡ v.capacity

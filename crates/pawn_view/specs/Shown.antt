@@ -1,4 +1,4 @@
--- What a call that writes a text answers.
+-- What a call that writes a text has written, and what it answers.
 use Rattle.std.specs.Prelude.{ℕ, false, max, List, [], Option, Some, None, Result, Ok, Err, ◌≡◌, map, option_map, unwrap_or, if◌then◌else◌}
 use Rattle.std.specs.FinMap.{get}
 use Rattle.pawn_pledge.specs.declared.receipt.Receipt.{Receipt}
@@ -17,17 +17,18 @@ use Rattle.pawn_view.specs.declared.fault.ViewFault.TheVariants as fault
 use Rattle.pawn_view.specs.Ends.{PutFront, Written, Puts, Share, write_failed}
 use Rattle.pawn_view.specs.Text.{statement_text, presented_text}
 
--- a visitor that is a writer: it puts a line for each item, and stops once it failed
+-- a writer as a visitor: it writes a line for each item, and stops once it has failed
 abbrev pub PutsLine : {W T : Type 0} → (W → Option (List ℕ)) → (T → List ℕ) → Writing W → T → Flow → Writing W → Type 0
 PutsLine contents line v x flow w = Puts contents v (line x) w × (flow ≡ (if write_failed w then Stop else Go))
 
--- the day that is shown, where a closed pledge was closed by its last change
+-- the day for which a statement is given, if a closed pledge's last change was its closing
 abbrev pub open_or_last : Closing → ℕ → ℕ → ℕ
 open_or_last Open last day = max day last
 open_or_last (Redeemed closed paid) last day = last
 open_or_last (Sold closed net) last day = last
 
--- a front of the text was put, and all of it where the calls on the way succeeded and the writer has not failed
+-- the beginning of the text was put; it is the whole text if the calls on the way succeeded and the writer has not
+-- failed
 abbrev pub PutsShare : {W : Type 0} → (W → Option (List ℕ)) → Writing W → List ℕ → End → Writing W → Type 0
 PutsShare contents old text end new = Share (Puts contents) write_failed old text end new
 
@@ -35,11 +36,11 @@ PutsShare contents old text end new = Share (Puts contents) write_failed old tex
 abbrev pub pledge_at : Host → ℕ → ℕ → Option PledgeValue
 pledge_at h book number = pledge_in (get h.books book) number
 
--- the pledges of these receipts, as far as the receipts are live in the book
+-- for each receipt its pledge, or none if the receipt is not live in the book
 abbrev pub live_pledges : Host → ℕ → List Receipt → List (Option PledgeValue)
 live_pledges h book receipts = map (live_at (pledge_in (get h.books book))) receipts
 
--- the statement of a pledge, if it stands
+-- the statement of a pledge, if the book has it
 abbrev pub statement_of : Host → ℕ → ℕ → ℕ → Option (List ℕ)
 statement_of h book number day = option_map (statement_text day) (pledge_at h book number)
 
@@ -51,8 +52,8 @@ shown_of day pledges = if are_unknown pledges then None else Some (presented_tex
 abbrev pub presentation_of : Host → ℕ → List Receipt → ℕ → Option (List ℕ)
 presentation_of h book receipts day = shown_of day (live_pledges h book receipts)
 
--- the text went out, or why not all of it. A refusal writes nothing, and comes just where there is nothing to show;
--- where the writer failed, or the keeper wanted memory or failed, a front of the text went out
+-- The whole text went out, or there is a reason why not. `Unknown` writes nothing, and is the answer only if there is
+-- nothing to show. For any other reason the beginning of the text went out.
 abbrev pub Shows : {W U : Type 0} → (W → Option (List ℕ)) → Writing W → Option (List ℕ) → Result U ViewFault → Writing W → Type 0
 Shows contents old text (Ok u) new = (t : List ℕ) × (text ≡ Some t) × Written contents old t Whole new
 Shows contents old text (Err fault.Write) new = (t : List ℕ) × (text ≡ Some t) × Written contents old t Front new

@@ -28,7 +28,7 @@ money pence = decimal (pence / 100) ++ (codes "." ++ (digit (pence / 10) ∷ dig
 unfoldable pub date_text : ℕ → List ℕ
 date_text day = day_text day
 
--- a line: what it is of, and a text, a number, a day or an amount
+-- a line: a label, and then a text, a number, a day or an amount
 abbrev pub text_line : List ℕ → List ℕ → List ℕ
 text_line label text = label ++ (text ++ codes "\n")
 
@@ -41,7 +41,7 @@ day_line label day = text_line label (date_text day)
 abbrev pub amount_line : List ℕ → ℕ → List ℕ
 amount_line label pence = text_line label (money pence)
 
--- the sum, or the limit
+-- the kind of a pledge: fixed, with its sum, or running, with its limit
 abbrev pub kind_line : Kind → List ℕ
 kind_line (Fixed sum) = amount_line (codes "Kind fixed ") sum
 kind_line (Running limit) = amount_line (codes "Kind running ") limit
@@ -57,7 +57,7 @@ status_line status.Passed = codes "Status passed\n"
 status_line status.Redeemed = codes "Status redeemed\n"
 status_line status.Sold = codes "Status sold\n"
 
--- what is owed, absent where the property passed
+-- the lines of what is owed; none if the article has passed to the broker
 abbrev pub owed_lines : Status → Owing → List ℕ
 owed_lines status.Passed owing = []
 owed_lines _ owing =
@@ -90,7 +90,8 @@ abbrev pub entry_line : Entry → List ℕ
 entry_line e = codes "Entry " ++ (decimal e.seq ++ (codes " " ++ (date_text e.day ++ (codes " " ++ (sort_text e.sort
     ++ (codes " " ++ (money e.pence ++ codes "\n")))))))
 
--- the day of which a statement speaks: the closing day of a closed pledge, else the day given, or the last change where that is later
+-- the day for which a statement is given: the closing day of a closed pledge, else the later of the day asked for and
+-- the day of the last change
 abbrev pub shown_day : Closing → ℕ → ℕ → ℕ
 shown_day Open last day = max day last
 shown_day (Redeemed closed paid) last day = closed
@@ -127,7 +128,7 @@ abbrev pub shown_text : ℕ → Option PledgeValue → List ℕ
 shown_text day None = codes "Unknown receipt\n"
 shown_text day (Some p) = statement_text day p
 
--- a blank line above each
+-- what is shown for further receipts, with a blank line above each
 abbrev pub further_texts : ℕ → List (Option PledgeValue) → List ℕ
 further_texts day pledges = flat_map (λ p. codes "\n" ++ shown_text day p) pledges
 

@@ -1,4 +1,4 @@
--- Texts, worked out.
+-- Examples of texts, worked out.
 use Rattle.std.specs.Prelude.{◌≡◌, false, true, [], ◌∷◌, Some, None, codes}
 use Rattle.pawn_terms.specs.Worked.{date}
 use Rattle.pawn_debt.specs.declared.entry.Kind.TheVariants.{Fixed, Running}
@@ -47,7 +47,7 @@ WorkedBookings =
     × (booking_line (Some (record { day = date 2024 3 4; window = 3; state = state.Refused })) ≡ codes "Booking 2024-03-04 3 refused\n")
     × (booking_line (Some (record { day = date 2024 3 4; window = 3; state = state.Cancelled })) ≡ codes "Booking 2024-03-04 3 cancelled\n")
 
--- how a pledge was closed; 100 pounds were owed
+-- the line of a closed pledge, of which 100 pounds were owed
 abbrev pub WorkedClosings : Type 0
 WorkedClosings =
     (closing_line Open 10000 ≡ [])
@@ -59,7 +59,7 @@ WorkedClosings =
 abbrev pub ring_at_interest : PledgeValue
 ring_at_interest = ring_pledge (Fixed 10000) false None (rates_of 2667 0 0)
 
--- a statement, from the day taken on; without amounts once the ring passed
+-- statements from the day taken on; without amounts once the ring has passed to the broker
 abbrev pub WorkedStatements : Type 0
 WorkedStatements =
     let inside = codes "Pledge 1\nArticle Gold ring\nKind fixed 100.00\nTaken 2024-01-31\nEnds 2024-07-31\nStatus inside\nPrincipal 100.00\nCharges 0.00\nOwing 100.00\nHeld no\nBooking none\n" in

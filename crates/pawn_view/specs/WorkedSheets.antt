@@ -1,4 +1,4 @@
--- Sheets of days, worked out.
+-- Examples of day's sheets, worked out.
 use Rattle.std.specs.Prelude.{◌≡◌, ℕ, [], ◌∷◌, codes}
 use Rattle.pawn_terms.specs.Worked.{date}
 use Rattle.pawn_pledge.specs.declared.command.Command.{Command}
@@ -39,13 +39,14 @@ WorkedSheets =
     ≡ codes "Day sheet 2024-03-04\nWindow 3 confirmed 1 of 1\nPledge 1\nAsked 1\nPledge 2 window 3\nEnds 0\n")
     × (sheet_text (date 2024 3 5) 1 (day_sheet pledges (date 2024 3 5)) ≡ codes "Day sheet 2024-03-05\nAsked 0\nEnds 0\n")
 
--- windows in their order, and in each the pledges in theirs
+-- windows come in order, and in each window its pledges in order of number
 abbrev pub WorkedWindows : Type 0
 WorkedWindows =
     day_sheet (confirmed_for 15 ∷ numbered 2 (confirmed_for 0) ∷ numbered 3 (confirmed_for 15) ∷ numbered 4 (asked_for 15) ∷ numbered 5 (asked_for 0) ∷ []) (date 2024 3 4)
     ≡ Window 0 1 ∷ Confirmed 2 ∷ Window 15 2 ∷ Confirmed 1 ∷ Confirmed 3 ∷ AskedHead 2 ∷ Asked 4 15 ∷ Asked 5 0 ∷ EndsHead 0 ∷ []
 
--- whose period ends: a ring that passes then, and one that was extended, by its later end alone; none that was redeemed or sold
+-- pledges whose period ends on the day: a ring that then passes, and one that was extended, at its later end only; none
+-- that was redeemed or sold
 abbrev pub WorkedSheetEnds : Type 0
 WorkedSheetEnds =
     let redeemed = after_telling (ring 10000) (date 2024 7 31) (Command.Redeem 10000) in

@@ -8,11 +8,11 @@ use pawn_book::KeepError;
 pub enum ViewFault {
     /// There is no such book or pledge, or none of the receipts is live; nothing was written.
     Unknown,
-    /// Memory was wanting; a front of the text was written.
+    /// Memory was refused. Only the beginning of the text was written, or nothing.
     Memory,
-    /// The keeper's store failed; a front of the text was written.
+    /// The keeper's store failed. Only the beginning of the text was written, or nothing.
     Store,
-    /// The writer failed; a front of the text was written.
+    /// The writer failed. Only the beginning of the text was written, or nothing.
     Write,
 }
 

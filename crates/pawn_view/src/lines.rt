@@ -1,6 +1,6 @@
 //! The lines of a statement: one function for each kind of line.
 //!
-//! Each puts its line, and takes no memory.
+//! Each writes its line, and takes no memory.
 ghost use Rattle.std.specs.Prelude.{◌≡◌, ◌++◌, codes};
 ghost use Rattle.pawn_view.specs.Ends.{Puts};
 ghost use Rattle.pawn_view.specs.Text.{text_line, number_line, day_line, amount_line, kind_line, extended_line, status_line, owed_lines, held_line, booking_line, redeemed_line, sold_line, closing_line, entry_line, date_text};
@@ -11,7 +11,7 @@ use itoa::Buffer;
 use pawn_book::{Booking, Closing, Day, Entry, Extension, Kind, Owing, Status};
 use std::io::Write;
 
-// `2024-01-31`.
+// A day as `2024-01-31`.
 #[tactic(auto, unfolding(crate::specs::Text::date_text))]
 fn date_text(day: Day) -> [u8; 10]
     ensures answer { result ≡ date_text day }
@@ -19,14 +19,14 @@ fn date_text(day: Day) -> [u8; 10]
     day.text()
 }
 
-/// What a line is of, and a text.
+/// Writes a line: a label and a text.
 pub(crate) fn put_text<W: Write>(writer: &mut Writing<W>, label: &[u8], text: &str)
     ensures puts { Puts W.contents writer.old (text_line label.now text.now) writer.new }
 {
     put_all(writer, &[label, text.as_bytes(), b"\n"]);
 }
 
-/// What a line is of, and a number.
+/// Writes a line: a label and a number.
 pub(crate) fn put_number<W: Write>(writer: &mut Writing<W>, label: &[u8], number: u32)
     ensures puts { Puts W.contents writer.old (number_line label.now number) writer.new }
 {
@@ -36,14 +36,14 @@ pub(crate) fn put_number<W: Write>(writer: &mut Writing<W>, label: &[u8], number
     );
 }
 
-/// What a line is of, and a day.
+/// Writes a line: a label and a day.
 pub(crate) fn put_day<W: Write>(writer: &mut Writing<W>, label: &[u8], day: Day)
     ensures puts { Puts W.contents writer.old (day_line label.now day) writer.new }
 {
     put_all(writer, &[label, &date_text(day), b"\n"]);
 }
 
-/// What a line is of, and an amount in pence.
+/// Writes a line: a label, and an amount that is given in pence and written in pounds, as `100.00`.
 pub(crate) fn put_amount<W: Write>(writer: &mut Writing<W>, label: &[u8], pence: u64)
     ensures puts { Puts W.contents writer.old (amount_line label.now pence) writer.new }
 {
@@ -84,7 +84,7 @@ pub(crate) fn put_extended<W: Write>(writer: &mut Writing<W>, extension: &Extens
     );
 }
 
-// The line of a status.
+// The line for a status.
 fn status_line(status: Status) -> &'static [u8]
     ensures answer { result.now ≡ status_line status }
 {
@@ -117,7 +117,7 @@ fn put_owing<W: Write>(writer: &mut Writing<W>, owing: &Owing)
     put_amount(writer, b"Owing ", owing.total);
 }
 
-/// The three lines of what is owed, or none where the property passed.
+/// The three lines of what is owed. There are none if the article has passed to the broker.
 pub(crate) fn put_owed<W: Write>(writer: &mut Writing<W>, status: Status, owing: &Owing)
     ensures puts { Puts W.contents writer.old (owed_lines status owing.now) writer.new }
 {
@@ -127,7 +127,7 @@ pub(crate) fn put_owed<W: Write>(writer: &mut Writing<W>, status: Status, owing:
     }
 }
 
-// The line of a hold.
+// The line that says whether a pledge is held.
 fn held_line(held: bool) -> &'static [u8]
     ensures answer { result.now ≡ held_line held }
 {

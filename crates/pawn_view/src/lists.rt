@@ -1,4 +1,4 @@
-//! The lists of a pledge, asked for only where its brief says that they have something.
+//! The lists of a pledge. The keeper is asked for one only if the pledge's brief says that it is not empty.
 ghost use Rattle.std.specs.Prelude.{◌≡◌, Some};
 ghost use Rattle.std.specs.FinMap.{get};
 ghost use Rattle.pawn_pledge.specs.Brief.{brief_of};

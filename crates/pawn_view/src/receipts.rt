@@ -19,7 +19,7 @@ use std::io::Write;
 
 const UNKNOWN: &[u8] = b"Unknown receipt\n";
 
-// The pledge of a receipt, if the receipt is live.
+// The brief of a receipt's pledge, if the receipt is live.
 fn live_brief<K: Keep>(
     keep: &mut K,
     book: Number,
@@ -126,7 +126,8 @@ fn put_from<K: Keep, W: Write>(
     }
 }
 
-// Writes the line of a receipt that is not live, and what is shown for these receipts, if one of them is live.
+// Writes the line for a receipt that is not live, and then what is shown for these other receipts. If none of them is
+// live, nothing is written, and the error is `Unknown`.
 fn show_others<K: Keep, W: Write>(
     keep: &mut K,
     book: Number,
@@ -151,12 +152,12 @@ fn show_others<K: Keep, W: Write>(
     ending(done, writer)
 }
 
-/// Writes what is shown for each of these receipts of a book, in their order and asked for on a day: the statement of
-/// its pledge, or a line where the receipt is not live; a blank line stands between two. The keeper's content stays as
-/// it is.
+/// Writes what a bearer sees on a day for each of these receipts of a book, in their order. It is the statement of the
+/// receipt's pledge, or the line `Unknown receipt` if the receipt is not live. A blank line separates two of them. The
+/// keeper's content stays as it is.
 ///
-/// The caller's condition: the writer has not failed. Errors: `Unknown` where none of the receipts is live;
-/// `Memory` and `Store` where the keeper does not answer; `Write` only where the writer failed in the call.
+/// The caller's condition: the writer has not failed. Errors: `Unknown` if none of the receipts is live; `Memory` and
+/// `Store` if the keeper does not answer; `Write` only if the writer failed in the call.
 pub fn show_presented<K: Keep, W: Write>(
     keep: &mut K,
     book: Number,

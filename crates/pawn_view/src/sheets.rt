@@ -16,7 +16,7 @@ use itoa::Buffer;
 use pawn_book::{Capacity, Day, Flow, Keep, KeepError, Number, SheetItem, Visitor};
 use std::io::Write;
 
-// What a line is of, and how many.
+// Writes a line: a label and a count.
 fn put_count<W: Write>(writer: &mut Writing<W>, label: &[u8], count: u64)
     ensures puts { Puts W.contents writer.old (number_line label.now count) writer.new }
 {
@@ -60,7 +60,7 @@ fn put_asked<W: Write>(writer: &mut Writing<W>, number: Number, window: u64)
     );
 }
 
-// The line of an item.
+// Writes the line for an item of a day's sheet.
 fn put_item<W: Write>(writer: &mut Writing<W>, capacity: Capacity, item: &SheetItem)
     ensures puts { Puts W.contents writer.old (sheet_line capacity item.now) writer.new }
 {
@@ -74,7 +74,7 @@ fn put_item<W: Write>(writer: &mut Writing<W>, capacity: Capacity, item: &SheetI
     }
 }
 
-// What puts the lines of a sheet to the writer, in a book whose windows have this capacity.
+// A visitor that writes a line for each item of a day's sheet. The capacity is how many a window of the book takes.
 #[derive(Drop)]
 struct SheetLines<'a, W> {
     writer: &'a mut Writing<W>,
@@ -91,7 +91,7 @@ impl<'a, W: Write> Visitor<SheetItem> for SheetLines<'a, W> {
 }
 
 impl<'a, W: Write> SheetLines<'a, W> {
-    // Puts the lines of a day below the heading.
+    // Writes the lines of a day's sheet below its heading.
     fn put_day<K: Keep>(&mut self, keep: &mut K, book: Number, day: Day) -> Result<(), KeepError>
         ensures shares { Reads K.keeping keep.old keep.new (λ h.
             PutsShare W.contents self.old.writer.now
@@ -104,10 +104,11 @@ impl<'a, W: Write> SheetLines<'a, W> {
     }
 }
 
-/// Writes the sheet of a book's day. The keeper's content stays as it is.
+/// Writes a book's sheet for a day: the day's visits, window by window, who asked to come, and whose period ends. The
+/// keeper's content stays as it is.
 ///
-/// The caller's condition: the writer has not failed. Errors: `Unknown` where the book does not stand; `Memory` and `Store` where the
-/// keeper does not answer; `Write` only where the writer failed in the call.
+/// The caller's condition: the writer has not failed. Errors: `Unknown` if there is no such book; `Memory` and `Store`
+/// if the keeper does not answer; `Write` only if the writer failed in the call.
 pub fn show_day_sheet<K: Keep, W: Write>(
     keep: &mut K,
     book: Number,

@@ -38,7 +38,7 @@ impl<W: Write> Visitor<Extension> for Writing<W> {
     }
 }
 
-// The lines above the extensions.
+// Writes the lines above the extensions: the number, the article, the kind, the day taken and the end of the period.
 fn put_first<W: Write>(writer: &mut Writing<W>, brief: &Brief)
     ensures puts { Puts W.contents writer.old
         (first_lines brief.now.agreement brief.now.ends) writer.new }
@@ -52,7 +52,7 @@ fn put_first<W: Write>(writer: &mut Writing<W>, brief: &Brief)
     put_day(writer, b"Ends ", fields.ends);
 }
 
-// The lines between the extensions and the entries.
+// Writes the lines between the extensions and the entries: how the pledge stands on the day.
 fn put_state<W: Write>(writer: &mut Writing<W>, brief: &Brief, day: Day)
     requires later { brief.now.totals.day ≤ day }
     ensures puts { Puts W.contents writer.old
@@ -69,8 +69,8 @@ fn put_state<W: Write>(writer: &mut Writing<W>, brief: &Brief, day: Day)
     put_closing(writer, standing.closing, owing.total);
 }
 
-// The day of which the statement speaks. What is owed is known from the day of the last entry on, which is never past
-// the day of the last change.
+// The day for which the statement is given. It is never before the day of the last entry, since what was owed earlier
+// is not in the brief.
 fn shown_day(brief: &Brief, day: Day) -> Day
     ensures answer { result ≡ max
         (open_or_last brief.now.standing.closing brief.now.standing.last day) brief.now.totals.day }
@@ -83,7 +83,7 @@ fn shown_day(brief: &Brief, day: Day) -> Day
     shown.max(fields.totals.day)
 }
 
-// Puts the statement of the pledge that this brief is of.
+// Writes the statement of the pledge that this brief is of.
 pub(crate) fn put_statement<K: Keep, W: Write>(
     keep: &mut K,
     book: Number,
@@ -107,10 +107,10 @@ pub(crate) fn put_statement<K: Keep, W: Write>(
     visit_entries(keep, book, number, brief, writer)
 }
 
-/// Writes the statement of a pledge, asked for on a day. The keeper's content stays as it is.
+/// Writes the statement of a pledge, asked for on this day. The keeper's content stays as it is.
 ///
-/// The caller's condition: the writer has not failed. Errors: `Unknown` where it does not stand; `Memory` and `Store` where the keeper
-/// does not answer; `Write` only where the writer failed in the call.
+/// The caller's condition: the writer has not failed. Errors: `Unknown` if there is no such pledge; `Memory` and
+/// `Store` if the keeper does not answer; `Write` only if the writer failed in the call.
 pub fn show_statement<K: Keep, W: Write>(
     keep: &mut K,
     book: Number,
@@ -132,7 +132,7 @@ pub fn show_statement<K: Keep, W: Write>(
     ending(done, writer)
 }
 
-// What a text ends with, once its lines were put.
+// The result of writing a text, once its lines were put: `Write` if the writer failed, else the keeper's error, if any.
 pub(crate) fn ending<W>(done: Result<(), KeepError>, writer: &Writing<W>) -> Result<(), ViewFault>
     ensures answer { result ≡ ending_of done (write_failed writer.now) }
 {

@@ -1,20 +1,20 @@
 ghost use Rattle.pawn_view.specs.Worked.{WorkedAmounts, WorkedDays, WorkedLines, WorkedBookings, WorkedClosings, WorkedStatements, WorkedCharges, WorkedEndings, WorkedPresented};
 ghost use Rattle.pawn_view.specs.WorkedSheets.{WorkedSheetLines, WorkedSheets, WorkedWindows, WorkedSheetEnds};
 
-/// Amounts and days as they are written.
+/// Examples of amounts and days as text.
 pub fn worked_words()
     ensures amounts { WorkedAmounts }
     ensures days { WorkedDays }
 {}
 
-/// Lines of statements.
+/// Examples of lines of statements.
 pub fn worked_lines()
     ensures lines { WorkedLines }
     ensures bookings { WorkedBookings }
     ensures closings { WorkedClosings }
 {}
 
-/// Statements of pledges, and what is shown for receipts.
+/// Examples of statements, and of what is shown for receipts.
 pub fn worked_statements()
     ensures statements { WorkedStatements }
     ensures charges { WorkedCharges }
@@ -22,7 +22,7 @@ pub fn worked_statements()
     ensures receipts { WorkedPresented }
 {}
 
-/// Sheets of days, and which pledges they name.
+/// Examples of day's sheets, and of which pledges they name.
 pub fn worked_sheets()
     ensures lines { WorkedSheetLines }
     ensures sheets { WorkedSheets }

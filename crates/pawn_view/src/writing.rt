@@ -1,4 +1,4 @@
-//! A writer that remembers that it failed, and what is put into one.
+//! A writer that remembers whether it failed, and calls that write to one.
 ghost use Rattle.std.specs.Prelude.{◌≡◌, ◌+◌, ◌<◌, ◌≤◌, true, false, ◌||◌, length, take, if◌then◌else◌};
 ghost use Rattle.std.specs.List.{flat_map};
 ghost use Rattle.std.specs.Io.{WritesAtMost};
@@ -10,7 +10,7 @@ use pawn_book::Flow;
 use std::io;
 use std::io::Write;
 
-/// A writer that remembers that it failed.
+/// A writer that remembers whether a write to it has failed.
 #[derive(Drop)]
 pub struct Writing<W> {
     inner: W,
@@ -18,7 +18,7 @@ pub struct Writing<W> {
 }
 
 impl<W> Writing<W> {
-    /// A writer that has not failed.
+    /// Wraps a writer. It has not failed yet.
     pub fn new(inner: W) -> Self
         ensures inner { writing_inner result ≡ inner }
         ensures failed { write_failed result ≡ false }
@@ -29,21 +29,21 @@ impl<W> Writing<W> {
         }
     }
 
-    /// Whether a write gave an error, or took none of some bytes.
+    /// Whether a write has failed: it gave an error, or took no byte of some.
     pub fn has_failed(&self) -> bool
         ensures answer { result ≡ write_failed self.now }
     {
         self.failed
     }
 
-    // What a visitor answers that is this writer: it stops once it failed.
+    // What this writer answers as a visitor: it stops once it has failed.
     pub(crate) fn flow(&self) -> Flow
         ensures answer { result ≡ (if write_failed self.now then Stop else Go) }
     {
         if self.failed { Flow::Stop } else { Flow::Go }
     }
 
-    /// The writer inside.
+    /// Gives the inner writer back.
     pub fn into_inner(self) -> W
         ensures answer { result ≡ writing_inner self }
     {
@@ -54,9 +54,9 @@ impl<W> Writing<W> {
 impl<W: Write> Writing<W> {
     /// One write: it hands on the inner writer's answer, and remembers a failure.
     ///
-    /// By contract what was written is as many bytes as the answer says, and nothing where it is an
-    /// error [`bytes`], and a failure stays [`failed`]. That it calls the inner writer once, and
-    /// once alone after a failure too, no contract of a writer can say: so much is tested.
+    /// By contract as many bytes were written as the answer says, and none on an error [`bytes`], and a failure is
+    /// remembered [`failed`]. No contract of a writer can say that the inner writer is called exactly once, even after
+    /// a failure. That much is tested.
     pub fn write(&mut self, bytes: &[u8]) -> io::Result<usize>
         ensures bound { WritesAtMost result bytes.now }
         ensures bytes { WriteAppends (written_bytes W.contents self.old)
@@ -77,9 +77,8 @@ impl<W: Write> Writing<W> {
     }
 }
 
-/// Writes these bytes, as many as the writer takes in each write, until all are written or the writer fails.
-/// The answer is how many were written. After a failed write no other is made: so much is tested, and no contract of a
-/// writer can say it.
+/// Writes these bytes, in as many writes as the writer needs, until all are written or the writer fails. Returns how
+/// many were written. After a failed write no other is made. No contract of a writer can say so; that much is tested.
 ///
 /// The caller's condition: the writer has not failed.
 pub fn send<W: Write>(writer: &mut Writing<W>, bytes: &[u8]) -> usize
@@ -101,7 +100,7 @@ pub fn send<W: Write>(writer: &mut Writing<W>, bytes: &[u8]) -> usize
     sent
 }
 
-/// Writes these bytes, unless the writer failed before. `has_failed` tells afterwards whether all that was put went out.
+/// Writes these bytes, unless the writer has failed before. If `has_failed` is false afterwards, all of them went out.
 /// Takes no memory.
 pub fn put<W: Write>(writer: &mut Writing<W>, bytes: &[u8])
     ensures puts { Puts W.contents writer.old bytes.now writer.new }
@@ -111,7 +110,7 @@ pub fn put<W: Write>(writer: &mut Writing<W>, bytes: &[u8])
     }
 }
 
-/// Puts these pieces in turn. Takes no memory.
+/// Writes these pieces one after another, as `put` does. Takes no memory.
 pub fn put_all<W: Write>(writer: &mut Writing<W>, pieces: &[&[u8]])
     ensures puts { Puts W.contents writer.old (flat_map (λ p. p.now) pieces.now) writer.new }
 {

@@ -124,7 +124,7 @@ outlined_once : (body : List ℕ) (said : Result Outline WireFault) (a b : Resul
 outlined_once body (Ok outline) a b x y = asked_once body outline.book outline.asks a b x y
 outlined_once body (Err fault) a b x y = x ∙ sym y
 
--- bytes say one thing
+-- bytes can be read in one way only
 pub reads_unique : (s : List ℕ) (a b : Result Request WireFault) → SaysRequest s a → SaysRequest s b → a ≡ b
 reads_unique s a b (inl x) (inl y) =
     let same = request_unique s x.0 y.0 x.1 y.1 x.2.0 y.2.0 in

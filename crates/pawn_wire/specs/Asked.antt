@@ -3,6 +3,6 @@ use Rattle.std.specs.Prelude.{option_copied}
 use Rattle.pawn_wire.specs.declared.router.Asked.{Asked}
 use Rattle.pawn_wire.specs.Route.{AskedFor}
 
--- an answer's endpoint and its texts
+-- the router's answer, with its texts as bytes
 abbrev pub endpoint_and_texts : Asked → AskedFor
 endpoint_and_texts a = record { endpoint = a.endpoint; book = option_copied a.book; item = option_copied a.item }

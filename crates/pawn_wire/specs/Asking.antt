@@ -21,7 +21,7 @@ use Rattle.pawn_wire.specs.declared.place.Item.{Item}
 use Rattle.pawn_wire.specs.declared.route.Endpoint.{Endpoint}
 use Rattle.pawn_wire.specs.declared.route.Endpoint.TheVariants.{Create, PutTerms, TakePledge, Show, OnPledge, ShowDay, Export, Import, Present, OnReceipt}
 
--- the one key of these values
+-- the key in these values, if there is exactly one value
 abbrev pub key_said : List (List ℕ) → Option ℕ
 key_said [] = None
 key_said (value ∷ []) = secret_of_text value
@@ -31,7 +31,7 @@ key_said (value ∷ other ∷ values) = None
 abbrev pub key_given : List ℕ → List Pair → Result ℕ WireFault
 key_given name fields = or_fault BadKey (key_said (values_of name fields))
 
--- the key of who asks
+-- the key in the field `Pledge-Key`
 abbrev pub key_of : List Pair → Result ℕ WireFault
 key_of fields = key_given (codes "pledge-key") fields
 
@@ -39,7 +39,8 @@ key_of fields = key_given (codes "pledge-key") fields
 abbrev pub if_sent_by : (Command → Bool) → Command → Option Command
 if_sent_by may command = if may command then Some command else None
 
--- Who asks at an endpoint, and what for: by its key or its receipts, and then by what its body says. An import has two keys.
+-- Who asks at an endpoint, and what for. The key or the receipts are read first, and then the body. An import has two
+-- keys.
 abbrev pub asks_said : Endpoint → Item → List Pair → List ℕ → Result Asks WireFault
 asks_said Create item fields body =
     after (key_of fields) (λ key. or_fault BadBody (option_map (λ new_book. asks.Whole (Operator key new_book)) (body_said new_book_of body)))

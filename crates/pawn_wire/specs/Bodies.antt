@@ -3,24 +3,24 @@ use Rattle.std.specs.Prelude.{ℕ, List, ◌++◌, codes, decimal, Option, Some,
 use Rattle.pawn_wire.specs.declared.detail.Detail.{Detail}
 use Rattle.pawn_wire.specs.declared.detail.Detail.TheVariants.{Row, Total}
 
--- a book stands
+-- which book was made
 abbrev pub book_text : ℕ → List ℕ
 book_text book = codes "{\"book\":" ++ (decimal book ++ codes "}")
 
--- terms stand under a version
+-- under which version terms were put
 abbrev pub version_text : ℕ → List ℕ
 version_text version = codes "{\"version\":" ++ (decimal version ++ codes "}")
 
--- so many pledges were imported
+-- how many pledges were imported
 abbrev pub filled_text : ℕ → List ℕ
 filled_text pledges = codes "{\"imported\":" ++ (decimal pledges ++ codes "}")
 
--- a pledge stands, with its first receipt
+-- the number of a new pledge, and its first receipt
 abbrev pub opened_text : ℕ → List ℕ → List ℕ
 opened_text number receipt =
     codes "{\"number\":" ++ (decimal number ++ (codes ",\"receipt\":\"" ++ (receipt ++ codes "\"}")))
 
--- a refusal or a fault, with what it tells beside
+-- a refusal or a fault: its number and name, and the total owing or the row of a text, if it has one
 abbrev pub refusal_text : ℕ → List ℕ → Option Detail → List ℕ
 refusal_text code name None =
     codes "{\"code\":" ++ (decimal code ++ (codes ",\"name\":\"" ++ (name ++ codes "\"}")))

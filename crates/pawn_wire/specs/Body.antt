@@ -11,7 +11,7 @@ use Rattle.pawn_wire.specs.Chain.{and_then}
 use Rattle.pawn_wire.specs.Member.{in_range, number_at, string_at, flag_at, text_at, key_at}
 use Rattle.pawn_wire.specs.Named.{day_said}
 
--- what makes a book
+-- a new book: its capacity, its key and its name
 abbrev pub new_book_of : Data → Option NewBook
 new_book_of d =
     and_then (and_then (number_at (codes "capacity") d) (in_range 1 1000))
@@ -19,7 +19,7 @@ new_book_of d =
     (λ key. and_then (text_at 60 (codes "name") d)
     (λ name. Some (record { key = key; name = name; capacity = capacity }))))
 
--- terms, and their version
+-- new terms with their version
 abbrev pub new_terms_of : Data → Option NewTerms
 new_terms_of d =
     and_then (number_at (codes "keep_after") d)
@@ -41,11 +41,11 @@ kind_of d =
     (λ word. and_then (number_at (codes "pence") d)
     (λ pence. kind_named word pence))
 
--- the day that a member says; null says none
+-- the day in a member that may be null
 abbrev pub day_or_null : Data → Option (Option ℕ)
 day_or_null member = if is_some (as_null member) then Some None else option_map Some (and_then (as_str member) day_said)
 
--- the same, and so does a missing member
+-- the day in a member that may be missing or null
 abbrev pub day_if_any : Option Data → Option (Option ℕ)
 day_if_any None = Some None
 day_if_any (Some member) = day_or_null member
@@ -53,7 +53,7 @@ day_if_any (Some member) = day_or_null member
 abbrev pub optional_day_at : List ℕ → Data → Option (Option ℕ)
 optional_day_at name d = day_if_any (get name d)
 
--- what opens a pledge
+-- a pledge to be taken
 abbrev pub opening_of : Data → Option Opening
 opening_of d =
     and_then (optional_day_at (codes "agreed") d)

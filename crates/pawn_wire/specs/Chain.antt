@@ -9,25 +9,25 @@ abbrev pub after : {A B : Type 0} → Result A WireFault → (A → Result B Wir
 after (Ok a) next = next a
 after (Err fault) next = Err fault
 
--- one part, and then what it gives the next; nothing where it is missing
+-- one part, and then what it gives the next; nothing if the part is missing
 abbrev pub and_then : {A B : Type 0} → Option A → (A → Option B) → Option B
 and_then None next = None
 and_then (Some a) next = next a
 
--- a part, or a fault where it is missing
+-- a part, or this fault if it is missing
 abbrev pub or_fault : {A : Type 0} → WireFault → Option A → Result A WireFault
 or_fault fault None = Err fault
 or_fault fault (Some a) = Ok a
 
--- the answer is what is said, or memory was wanting
+-- the answer is what is said, or memory was refused
 abbrev pub Says : {A : Type 0} → Result A WireFault → Result A WireFault → Type 0
 Says answer said = IsSaid (λ fault. fault ≡ Memory) said answer
 
--- the answer is the part, or this fault where it is missing, or memory was wanting
+-- the answer is the part, or this fault if it is missing, or memory was refused
 abbrev pub GivesPart : {A : Type 0} → WireFault → Result A WireFault → Option A → Type 0
 GivesPart missing answer part =
     MatchResult answer (λ a. part ≡ Some a) (λ fault. (fault ≡ Memory) ⊎ ((fault ≡ missing) × (part ≡ None)))
 
--- the answer is one that may be said, or memory was wanting
+-- the answer is one of those allowed, or memory was refused
 abbrev pub OrMemory : {A : Type 0} → (Result A WireFault → Type 0) → Result A WireFault → Type 0
 OrMemory May answer = MatchResult answer (λ a. May (Ok a)) (λ fault. (fault ≡ Memory) ⊎ May (Err fault))

@@ -12,14 +12,14 @@ use Rattle.pawn_wire.specs.declared.commands.NewEntry.{NewEntry}
 use Rattle.pawn_wire.specs.declared.route.Action.{Action}
 use Rattle.pawn_wire.specs.declared.route.Action.TheVariants.{Draw, Repay, Hold, Release, Declare, Ask, Cancel, Decide, Redeem, Sell, Extend}
 
--- the number of an entry, and its sum
+-- an entry to be made: its number and its sum in pence
 abbrev pub asked_entry : Data → Option NewEntry
 asked_entry d =
     and_then (number_at (codes "pence") d)
     (λ pence. and_then (number_at (codes "seq") d)
     (λ seq. Some (record { seq = seq; pence = pence })))
 
--- the paper that a claimant tenders
+-- the kind of declaration, sworn or written
 abbrev pub paper_named : List ℕ → Option Paper
 paper_named word =
     if bytes_eq word (codes "sworn") then Some Sworn
@@ -43,7 +43,7 @@ asked_booking d =
     (λ day. and_then (number_at (codes "window") d)
     (λ window. Some (Command.AskBooking day window)))
 
--- the command of an action: what its body says, where it takes one
+-- the command for an action, with what its body says if it takes one
 abbrev pub command_said : Action → List ℕ → Option Command
 command_said Draw body = option_map (λ entry. Command.Draw entry.seq entry.pence) (body_said asked_entry body)
 command_said Repay body = option_map (λ entry. Command.Repay entry.seq entry.pence) (body_said asked_entry body)

@@ -21,7 +21,7 @@ held_text held = if held then codes "{\"held\":true}" else codes "{\"held\":fals
 abbrev pub declared_text : List ℕ → List ℕ
 declared_text receipt = codes "{\"receipt\":\"" ++ (receipt ++ codes "\"}")
 
--- where a booking stands
+-- a booking's state, day and window
 abbrev pub booked_text : List ℕ → List ℕ → ℕ → List ℕ
 booked_text state day window =
     codes "{\"booking\":\"" ++ (state ++ (codes "\",\"day\":\"" ++ (day

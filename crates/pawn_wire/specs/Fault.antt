@@ -43,7 +43,7 @@ wire_fault_name NoReceipt = codes "NoReceipt"
 wire_fault_name (Csv fault) = csv.cause_name fault.cause
 wire_fault_name Memory = codes "Memory"
 
--- what a fault tells beside its number and its name: the row of a text
+-- what a reply gives besides the fault's number and name: the row, for a fault of a text
 abbrev pub detail_of : WireFault → Option Detail
 detail_of (Csv fault) = Some (Row fault.row)
 detail_of other = None
@@ -55,7 +55,7 @@ wire_fault head.Transfer = Transfer
 wire_fault head.BadLength = BadLength
 wire_fault head.BodyTooLong = BodyTooLong
 
--- a fault of a text, by its cause: bytes that are there can be read, so that beside the text's own faults memory alone is wanting
+-- a fault of a text, by its cause; bytes in memory can always be read, so a read fault counts as refused memory
 abbrev pub fault_by : Cause → CsvFault → WireFault
 fault_by cause.Memory fault = Memory
 fault_by cause.Read fault = Memory

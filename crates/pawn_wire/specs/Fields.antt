@@ -23,7 +23,7 @@ value_under name field = if str_eq_ignore_ascii_case field.0 name then Some fiel
 abbrev pub values_of : List ℕ → List Pair → List (List ℕ)
 values_of name fields = filter_map (value_under name) fields
 
--- what a search for one value found among these
+-- what a search found, if these are the values of the fields that match
 abbrev pub IsFound : List (List ℕ) → Found → Type 0
 IsFound values Missing = values ≡ []
 IsFound values (One value) = values ≡ value.now ∷ []

@@ -18,7 +18,7 @@ use Rattle.pawn_wire.specs.declared.head.HeadFacts.{HeadFacts}
 abbrev pub fields_of : RequestHead → List Pair
 fields_of h = map name_and_value h.fields
 
--- the stream is this head, in the limits, and then rest
+-- the stream is this head, within the limits, and then rest
 abbrev pub ReadsHead : List ℕ → RequestHead → List ℕ → Type 0
 ReadsHead stream h rest =
     ReadsRequest stream h rest × (length h.fields ≤ max_fields) × (length (print_request h) ≤ max_head)
@@ -27,11 +27,11 @@ ReadsHead stream h rest =
 abbrev pub NeverHasHead : List ℕ → Type 0
 NeverHasHead stream = (more : List ℕ) (h : RequestHead) (rest : List ℕ) → ReadsHead (stream ++ more) h rest → ⊥
 
--- no head: whatever follows, one would have too many fields; or none ends in the limit, which has come
+-- no head can come: it would have too many fields, or 8,192 bytes have come and none has ended
 abbrev pub IsBadHead : List ℕ → Type 0
 IsBadHead stream = RequestOverflows max_fields stream ⊎ ((max_head ≤ length stream) × NeverHasHead stream)
 
--- the length that the values of `Content-Length` say, in 1 to 19 digits; where there is none, no body follows
+-- the body's length by the values of `Content-Length`, of 1 to 19 digits; 0 if there is no such field
 abbrev pub length_said : List (List ℕ) → Option ℕ
 length_said [] = Some 0
 length_said (v ∷ []) = decimal_of v
@@ -63,13 +63,13 @@ pub record IsHead (h : RequestHead) (f : HeadFacts) : Type 0 where
   pub body : body_length (fields_of h) ≡ Ok f.body
   pub closes : f.closes ≡ closes_by h.minor (fields_of h)
 
--- a fact of the head that was found whole
+-- P holds of the facts, if the head is whole
 abbrev pub IfWhole : HeadRead → (HeadFacts → Type 0) → Type 0
 IfWhole (Whole f) P = P f
 IfWhole Partial P = Unit {0}
 IfWhole (Fault e) P = Unit {0}
 
--- what the bytes begin with: a whole head with these facts, one that may still go on, or a fault
+-- what the bytes begin with: a whole head with these facts, one that is not complete yet, or a fault
 abbrev pub IsHeadRead : List ℕ → HeadRead → Type 0
 IsHeadRead stream (Whole f) = (h : RequestHead) × (rest : List ℕ) × ReadsHead stream h rest × IsHead h f
 IsHeadRead stream Partial = (length stream < max_head) × HasNoRequest stream × MayBecomeRequest stream

@@ -93,7 +93,7 @@ pub record BodiesAreJson : Type 0 where
 abbrev pub IsBodyNumber : ℕ → Type 0
 IsBodyNumber n = n ≤ max_number
 
--- the numbers of a command are short, and its day is one that a request may name
+-- the numbers of a command have at most 12 digits, and its day is one that a request may name
 abbrev pub IsCommandWithin : Command → Type 0
 IsCommandWithin (Command.Draw seq pence) = IsBodyNumber seq × IsBodyNumber pence
 IsCommandWithin (Command.Repay seq pence) = IsBodyNumber seq × IsBodyNumber pence
@@ -107,7 +107,7 @@ IsCommandWithin (Command.Redeem paid) = IsBodyNumber paid
 IsCommandWithin (Command.Sell net) = IsBodyNumber net
 IsCommandWithin (Command.Extend until) = IsStampDay until
 
--- what a caller asks is within the limits of its parts
+-- each part of what a caller asks is within its limits
 abbrev pub IsCallerWithin : Caller → Type 0
 IsCallerWithin (Operator key new_book) = IsText most_name_bytes new_book.name × IsCapacity new_book.capacity
 IsCallerWithin (Broker key (PutTerms terms)) = Unit {0}
@@ -120,38 +120,38 @@ IsCallerWithin (Broker key Export) = Unit {0}
 IsCallerWithin (Bearer (Present receipts)) = AreFew receipts
 IsCallerWithin (Bearer (bearer.OnPledge receipt command)) = IsNumber receipt.number × IsCommandWithin command
 
--- a request that bytes say is of a book's number, and within the limits of its parts
+-- a request that is read has a valid book number, and each of its parts is within its limits
 abbrev pub RequestsAreWithin : Type 0
 RequestsAreWithin = (bytes : List ℕ) (request : Request) → SaysRequest bytes (Ok request) → IsNumber request.book × IsCallerWithin request.caller
 
--- bytes say one thing
+-- bytes can be read in one way only
 abbrev pub ReadingIsUnique : Type 0
 ReadingIsUnique = (bytes : List ℕ) (one other : Result Request WireFault) → SaysRequest bytes one → SaysRequest bytes other → one ≡ other
 
 -- ---- targets
 
--- the numbers of books and pledges are said by their one spelling
+-- the number of a book or a pledge has exactly one spelling
 pub record NumbersAreSaid : Type 0 where
   pub said : (n : ℕ) → IsNumber n → number_said (decimal n) ≡ Some n
   pub is : (n : ℕ) (text : List ℕ) → number_said text ≡ Some n → IsNumber n × (text ≡ decimal n)
   pub leading_zero : (rest : List ℕ) → number_said (48 ∷ rest) ≡ None
 
--- and days by theirs
+-- a day has exactly one spelling
 pub record DaysAreSaid : Type 0 where
   pub said : (day : ℕ) → IsStampDay day → day_said (day_text day) ≡ Some day
   pub is : (day : ℕ) (text : List ℕ) → day_said text ≡ Some day → IsStampDay day × (text ≡ day_text day)
 
--- what stands for a name in braces: 7 for the book, 12 for a pledge, 2024-03-04 for a day
+-- an example for a name in braces: 7 for the book, 12 for a pledge, 2024-03-04 for a day
 abbrev pub filling : ℕ → List ℕ
 filling name = if name == 98 then codes "7" else (if name == 100 then codes "2024-03-04" else codes "12")
 
--- the form of a target, filled
+-- the form of a target, with examples in place of its names in braces
 abbrev pub fill : Bool → List ℕ → List ℕ
 fill in_braces [] = []
 fill true (c ∷ form) = if c == 125 then fill false form else filling c ++ fill true form
 fill false (c ∷ form) = if c == 123 then fill true form else c ∷ fill false form
 
--- what a target for the endpoint names beside its book
+-- the example that a target for the endpoint has besides its book
 abbrev pub item_for : Endpoint → Option (List ℕ)
 item_for e.Create = None
 item_for e.PutTerms = None

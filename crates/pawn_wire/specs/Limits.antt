@@ -1,15 +1,15 @@
 -- How much a request may hold.
 use Rattle.std.specs.Prelude.{ℕ}
 
--- the bytes of a head, with the empty line at its end
+-- the most bytes of a head, with the empty line at its end
 abbrev pub max_head : ℕ
 max_head = 8192
 
--- the fields of a head
+-- the most fields of a head
 abbrev pub max_fields : ℕ
 max_fields = 64
 
--- the bytes of a body
+-- the most bytes of a body
 abbrev pub max_body : ℕ
 max_body = 1048576
 

@@ -14,16 +14,16 @@ use Rattle.pawn_wire.specs.Named.{day_said}
 use Rattle.pawn_wire.specs.declared.fault.WireFault.{WireFault}
 use Rattle.pawn_wire.specs.declared.fault.WireFault.TheVariants.{BadBody, Memory}
 
--- the JSON value that the bytes are
+-- the JSON value that the bytes write
 abbrev pub json_of : List ℕ → Option Data
 json_of bytes = if is_utf8 bytes then read bytes else None
 
--- the answer is that value, or that the bytes are none, or memory was wanting
+-- the answer is that value, or that the bytes are not JSON, or memory was refused
 abbrev pub JsonOf : List ℕ → Result Value WireFault → Type 0
 JsonOf bytes r =
     MatchResult r (λ v. json_of bytes ≡ Some (view v)) (λ e. (e ≡ Memory) ⊎ ((e ≡ BadBody) × (json_of bytes ≡ None)))
 
--- a number between two
+-- a number, if it is between the two
 abbrev pub in_range : ℕ → ℕ → ℕ → Option ℕ
 in_range least most n = if nat_le least n && nat_le n most then Some n else None
 

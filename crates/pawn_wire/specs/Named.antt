@@ -1,4 +1,4 @@
--- Numbers and days by their texts.
+-- Numbers and days as texts.
 use Rattle.std.specs.Prelude.{ℕ, ◌==◌, nat_lt, nat_le, List, length, take, drop, slice_index, Bool, not, ◌&&◌, bytes_eq, if◌then◌else◌, Option, Some, None}
 use Rattle.std.specs.Char.{is_ascii_digit}
 use Rattle.std.specs.List.{list_all}
@@ -10,7 +10,7 @@ abbrev pub is_numeral : List ℕ → Bool
 is_numeral text =
     nat_lt 0 (length text) && nat_le (length text) 9 && list_all is_ascii_digit text && not (slice_index text 0 == 48)
 
--- the number of a book or of a pledge, from 1 to 999,999,999, in its one spelling
+-- the number of a book or a pledge that a text writes, from 1 to 999,999,999, in its only spelling
 unfoldable pub number_said : List ℕ → Option ℕ
 number_said text = if is_numeral text then Some (digits_value 10 text) else None
 

@@ -8,6 +8,6 @@ use Rattle.std.specs.Str.Parse.{digits_value}
 abbrev pub is_short_numeral : List ℕ → Bool
 is_short_numeral v = nat_lt 0 (length v) && nat_le (length v) 19 && list_all is_ascii_digit v
 
--- the number that 1 to 19 digits write
+-- the number that a text writes, if it is 1 to 19 digits
 abbrev pub decimal_of : List ℕ → Option ℕ
 decimal_of v = if is_short_numeral v then Some (digits_value 10 v) else None

@@ -13,7 +13,7 @@ use Rattle.pawn_wire.specs.declared.route.Endpoint.TheVariants.{ShowDay}
 abbrev pub is_ascii_text : List ℕ → Bool
 is_ascii_text text = list_all (λ b. nat_lt b 128) text
 
--- the day or the number of a pledge, where a target for the endpoint has a part for it
+-- what the second part of a target names: a day for the endpoint of a day's sheet, else a pledge
 abbrev pub item_said : Endpoint → Option (List ℕ) → Option Item
 item_said endpoint None = Some Nothing
 item_said ShowDay (Some text) = option_map Day (day_said text)
@@ -35,6 +35,6 @@ place_asked asked =
     and_then (and_then asked.book number_said)
     (λ book. option_map (λ item. record { endpoint = asked.endpoint; book = book; item = item }) (item_said asked.endpoint asked.item))
 
--- what a target asks for; one beyond ASCII asks for nothing
+-- what a target asks for; one that is not ASCII asks for nothing
 abbrev pub place_of : List ℕ → Option Place
 place_of target = if is_ascii_text target then and_then (route_of target) place_asked else None

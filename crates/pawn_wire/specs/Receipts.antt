@@ -1,4 +1,4 @@
--- Receipts that fields name.
+-- Receipts that fields present.
 use Rattle.std.specs.Prelude.{ℕ, ◌==◌, Bool, List, [], ◌∷◌, length, nat_lt, slice_get, codes, Option, Some, option_map, Result}
 use Rattle.std.specs.List.{before_first, after_first}
 use Rattle.pawn_pledge.specs.Secret.{secret_of_text}
@@ -15,7 +15,7 @@ use Rattle.pawn_wire.specs.declared.fault.WireFault.TheVariants.{NoReceipt, TooM
 abbrev pub is_hyphen : ℕ → Bool
 is_hyphen byte = byte == 45
 
--- the receipt of a text: a number, a hyphen and a secret
+-- the receipt that a text writes: a number, a hyphen and a secret
 abbrev pub receipt_said : List ℕ → Option Receipt
 receipt_said text =
     and_then (number_said (before_first is_hyphen text))
@@ -32,7 +32,7 @@ all_said (value ∷ values) =
 abbrev pub receipt_values : List Pair → List (List ℕ)
 receipt_values fields = values_of (codes "pledge-receipt") fields
 
--- no receipt is presented, or more than so many
+-- no receipt is presented, or more than allowed
 abbrev pub receipt_faults : ℕ → List (List ℕ) → List (Bool × WireFault)
 receipt_faults most values =
     (length values == 0, NoReceipt)

@@ -30,7 +30,7 @@ reply_text status kind body = head_text status (length body) kind ++ body
 abbrev pub json_text : ℕ → List ℕ → List ℕ
 json_text status body = reply_text status (codes "application/json") body
 
--- the reply to a refusal or a fault, with what it tells beside
+-- the reply to a refusal or a fault: its number and name, and the total owing or the row of a text, if it has one
 abbrev pub refused_text : ℕ → List ℕ → Option Detail → List ℕ
 refused_text code name detail = json_text (reply_status code) (refusal_text code name detail)
 
@@ -38,7 +38,7 @@ refused_text code name detail = json_text (reply_status code) (refusal_text code
 abbrev pub fault_text : WireFault → List ℕ
 fault_text fault = refused_text (wire_fault_code fault) (wire_fault_name fault) (detail_of fault)
 
--- the reply where memory is wanting
+-- the reply when memory is refused
 abbrev pub memory_text : List ℕ
 memory_text = fault_text Memory
 
@@ -50,7 +50,7 @@ done_text (BookFilled pledges) = filled_text pledges
 done_text (Opened receipt) = opened_text receipt.number (receipt_text receipt)
 done_text (Commanded number done) = commanded_text number done
 
--- what is told of a request
+-- the whole reply
 abbrev pub out_text : Out → List ℕ
 out_text (Done reply) = json_text 200 (done_text reply)
 out_text (Refused why) = refused_text (book.book_refusal_code why) (book.book_refusal_name why) (option_map Total (book.total_told why))

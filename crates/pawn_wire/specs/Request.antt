@@ -23,15 +23,15 @@ use Rattle.pawn_wire.specs.declared.fault.WireFault.{WireFault}
 use Rattle.pawn_wire.specs.declared.fault.WireFault.TheVariants.{BadHead, BadLength, NoRoute, WrongMethod, Csv}
 use Rattle.pawn_wire.specs.declared.request.Outline.{Outline}
 
--- the faults by which a head and its body can't be parted from what follows, in their order
+-- the faults of a head's fields and of the body's length, in their order
 abbrev pub framing_faults : List Pair → List ℕ → List (Bool × WireFault)
 framing_faults fields body =
     map (λ row. (row.0, wire_fault row.1)) (field_faults fields)
     ++ (not (unwrap_or (length_by fields) 0 == length body), BadLength)
     ∷ []
 
--- What the parts of a head and a body say, or the first fault that applies: of the framing, of the target, of the method,
--- and then of who asks and what for. The rows of an import are not looked at.
+-- What the parts of a head and a body ask, or the first fault that applies. The framing is judged first, then the
+-- target, the method, and then who asks and what for. The rows of an import are not looked at.
 abbrev pub outline_by : List ℕ → List ℕ → List Pair → List ℕ → Result Outline WireFault
 outline_by method target fields body =
     first_of (framing_faults fields body)
@@ -40,30 +40,30 @@ outline_by method target fields body =
     (after (asks_said place.endpoint place.item fields body)
     (λ asks. Ok (record { book = place.book; asks = asks })))))
 
--- the book that a body holds as a text, with or without a byte order mark, or its first fault as one
+-- the book that a body holds as a text, with or without a byte order mark, or the text's first fault
 abbrev pub HoldsRows : List ℕ → Result BookRows WireFault → Type 0
 HoldsRows body (Ok rows) = IsTextOf (strip_bom body) rows
 HoldsRows body (Err fault) =
     (csv : CsvFault) × (fault ≡ Csv csv) × (csv.cause ≢ cause.Memory) × IsFirstCause (strip_bom body) csv.cause csv.row
 
--- what is asked of a book is said: an import with the rows that its body holds
+-- the request that results; an import has the rows that its body holds, or the fault of its text
 abbrev pub IsAsked : List ℕ → ℕ → Asks → Result Request WireFault → Type 0
 IsAsked body book (asks.Whole caller) said = said ≡ Ok (record { book = book; caller = caller })
 IsAsked body book (asks.Import key importing) said =
     (held : Result BookRows WireFault) × HoldsRows body held
     × (said ≡ after held (λ rows. Ok (record { book = book; caller = Broker key (Import importing rows) })))
 
--- an outline is said, or its fault
+-- the request that results from an outline, or the outline's fault
 abbrev pub IsOutlined : List ℕ → Result Outline WireFault → Result Request WireFault → Type 0
 IsOutlined body (Ok outline) said = IsAsked body outline.book outline.asks said
 IsOutlined body (Err fault) said = said ≡ Err fault
 
--- what bytes say, by the head that they begin with
+-- what bytes ask: by the head that they begin with, or `BadHead` if there is none
 abbrev pub SaysRequest : List ℕ → Result Request WireFault → Type 0
 SaysRequest bytes said =
     ((h : RequestHead) × (body : List ℕ) × ReadsHead bytes h body × IsOutlined body (outline_by h.method h.target (fields_of h) body) said)
     ⊎ (((h : RequestHead) (body : List ℕ) → ReadsHead bytes h body → ⊥) × (said ≡ Err BadHead))
 
--- the answer is the request that the bytes say, or their fault, or memory was wanting
+-- the answer is the request in the bytes, or their fault, or memory was refused
 abbrev pub IsRequestRead : List ℕ → Result Request WireFault → Type 0
 IsRequestRead bytes answer = OrMemory (SaysRequest bytes) answer

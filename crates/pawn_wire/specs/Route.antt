@@ -37,7 +37,7 @@ table =
     ∷ (codes "/books/{b}/held/redeem", OnReceipt Redeem)
     ∷ []
 
--- the method that asks for an endpoint
+-- the one method that an endpoint takes
 abbrev pub method_of : Endpoint → List ℕ
 method_of Create = codes "POST"
 method_of PutTerms = codes "POST"
@@ -54,7 +54,7 @@ method_of (OnReceipt action) = codes "POST"
 abbrev pub Rows : Type 0
 Rows = RowsOf (RouteOf Endpoint)
 
--- the rows with one route more, as it reads
+-- the rows with one more route, if its text could be parsed
 abbrev pub with_route : Result Scan InsertError → Endpoint → Rows → Rows
 with_route (Ok s) endpoint rows = placed (s.pattern, route_from s endpoint) rows
 with_route (Err x) endpoint rows = rows
@@ -68,11 +68,11 @@ with_routes (r ∷ rest) rows = with_routes rest (with_route (parse_route r.0) r
 unfoldable pub table_rows : Rows
 table_rows = with_routes table []
 
--- the parts of the target that the names in braces took, in order
+-- the texts in the target for the names in braces, in order
 abbrev pub captures : RouteOf Endpoint → List ℕ → List (List ℕ)
 captures r target = map (λ p. p.1) (walk r.pattern r.text target r.names 0 0)
 
--- an endpoint, and what the first two names took
+-- an endpoint, and the texts for the first two names in braces
 pub record AskedFor : Type 0 where
   pub endpoint : Endpoint
   pub book : Option (List ℕ)

@@ -1,7 +1,7 @@
 -- The statuses of replies.
 use Rattle.std.specs.Prelude.{ℕ, List, [], ◌∷◌, ◌&&◌, nat_le, if◌then◌else◌}
 
--- a status, for the numbers from one to another
+-- a status for the numbers from first to last
 pub record Row : Type 0 where
   pub first : ℕ
   pub last : ℕ
@@ -22,7 +22,7 @@ statuses =
     ∷ record { first = 490; last = 492; status = 503 }
     ∷ []
 
--- the status of a number: that of its row, and a conflict where it has none
+-- the status for a number: that of its row, or 409 if it is in none
 abbrev pub status_in : List Row → ℕ → ℕ
 status_in [] code = 409
 status_in (row ∷ rows) code =

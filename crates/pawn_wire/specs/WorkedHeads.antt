@@ -1,4 +1,4 @@
--- Heads of requests, worked out.
+-- Examples of heads of requests, worked out.
 use Rattle.std.specs.Prelude.{◌≡◌, ℕ, List, [], ◌∷◌, codes, false, true, Ok, Err}
 use Rattle.httparse.specs.Grammar.{Field, RequestHead, crlf, print_request}
 use Rattle.pawn_wire.specs.Fields.{Pair}
@@ -34,15 +34,16 @@ WorkedHeads =
     × (print_request terms_head ≡ codes "POST /books/7/terms HTTP/1.0\r\nCONTENT-LENGTH:53\r\n\r\n")
     × IsHead terms_head (record { len = 51; body = 53; closes = true })
 
--- a field that tells the body's length
+-- a field that gives the body's length
 abbrev pub tells_length : List ℕ → Pair
 tells_length value = (codes "Content-Length", value)
 
--- a field that tells another coding of the body
+-- a field that says that the body is in another coding
 abbrev pub chunked_coding : Pair
 chunked_coding = (codes "Transfer-Encoding", codes "chunked")
 
--- a length of 1 to 19 digits, up to 1,048,576 bytes; one that is malformed or stands twice; and a body in another coding
+-- lengths of 1 to 19 digits, up to 1,048,576 bytes; a length that is malformed or given twice; and a body in another
+-- coding
 abbrev pub WorkedLengths : Type 0
 WorkedLengths =
     (body_length [] ≡ Ok 0)
@@ -59,11 +60,11 @@ WorkedLengths =
     × (body_length (chunked_coding ∷ []) ≡ Err Transfer)
     × (body_length (tells_length (codes "+5") ∷ chunked_coding ∷ []) ≡ Err Transfer)
 
--- a field that tells whether the connection closes
+-- a field that says whether the connection closes
 abbrev pub tells_connection : List ℕ → Pair
 tells_connection value = (codes "Connection", value)
 
--- a connection of HTTP/1.0 closes, and one of a field whose whole value is `close`
+-- a connection closes under HTTP/1.0, and if a field's whole value is `close`
 abbrev pub WorkedConnections : Type 0
 WorkedConnections =
     (closes_by 1 [] ≡ false)

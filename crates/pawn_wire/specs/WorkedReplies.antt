@@ -1,4 +1,4 @@
--- Replies, worked out.
+-- Examples of replies, worked out.
 use Rattle.std.specs.Prelude.{◌≡◌, codes}
 use Rattle.pawn_pledge.specs.declared.receipt.Receipt.{Receipt}
 use Rattle.pawn_book.specs.declared.refusal.Refusal.TheVariants.{NoSuchReceipt, NotOperator, BookTaken, Full}
@@ -20,7 +20,7 @@ WorkedReplyStatuses =
     × (reply_status 601 ≡ 400) × (reply_status 607 ≡ 400)
     × (reply_status 701 ≡ 400) × (reply_status 705 ≡ 400) × (reply_status 706 ≡ 404) × (reply_status 707 ≡ 400) × (reply_status 712 ≡ 400)
 
--- the whole replies to refusals, one of each status
+-- whole replies to refusals, with the statuses 404, 403, 409 and 503
 abbrev pub WorkedRefusals : Type 0
 WorkedRefusals =
     (out_text (Refused NoSuchReceipt)
@@ -32,7 +32,7 @@ WorkedRefusals =
     × (out_text (Refused Full)
     ≡ codes "HTTP/1.1 503 Service Unavailable\r\nContent-Length: 26\r\nContent-Type: application/json\r\n\r\n{\"code\":490,\"name\":\"Full\"}")
 
--- the whole replies to bytes that are no request, and the one where memory is wanting
+-- whole replies to bytes that are no request, and the one when memory is refused
 abbrev pub WorkedFaults : Type 0
 WorkedFaults =
     (out_text (Fault BadHead)
@@ -50,7 +50,7 @@ WorkedFaults =
 abbrev pub first_receipt_of_ring : Receipt
 first_receipt_of_ring = record { number = 1; secret = 0xda41597c_5157_488d_7724_e03fb8d84a37 }
 
--- the whole replies to what was done
+-- whole replies to requests that were done
 abbrev pub WorkedAnswers : Type 0
 WorkedAnswers =
     (out_text (Done (BookMade 7))

@@ -1,4 +1,4 @@
--- Requests, worked out.
+-- Examples of requests, worked out.
 use Rattle.std.specs.Prelude.{◌≡◌, ℕ, List, [], ◌∷◌, codes, replicate, false, true, Option, Some, None, Ok, Err}
 use Rattle.pawn_debt.specs.declared.entry.Kind.TheVariants.{Fixed, Running}
 use Rattle.pawn_terms.specs.Worked.{date}
@@ -55,7 +55,7 @@ WorkedTargets =
     × (place_of (codes "/books/7/held") ≡ of_book 7 Present)
     × (place_of (codes "/books/7/held/redeem") ≡ of_book 7 (OnReceipt Redeem))
 
--- what is no target: another number or day, one in another spelling, and anything more or less
+-- what is no target: a number or day that is malformed or in another spelling, and anything more or less
 abbrev pub WorkedNoTargets : Type 0
 WorkedNoTargets =
     (place_of (codes "/books/07/held") ≡ None)
@@ -133,7 +133,7 @@ some_receipt_text = codes "1-da41597c-5157-488d-7724-e03fb8d84a37"
 abbrev pub presents : List ℕ → Pair
 presents value = (codes "Pledge-Receipt", value)
 
--- one receipt, or 1 to 32: too many are told before malformed ones
+-- one receipt, or 1 to 32; too many are reported before malformed ones
 abbrev pub WorkedReceiptLists : Type 0
 WorkedReceiptLists =
     (receipt_said some_receipt_text ≡ Some some_receipt)
@@ -183,7 +183,7 @@ WorkedCommands =
     × (command_said Redeem (codes "{\"paid\":10000}") ≡ Some (Command.Redeem 10000))
     × (command_said Redeem (codes "{\"paid\":\"10000\"}") ≡ None)
 
--- each fault is told before those that come after it
+-- each fault is reported before those that come after it
 abbrev pub WorkedOrder : Type 0
 WorkedOrder =
     (outline_by (codes "PUT") (codes "/nowhere") (tells_length (codes "x") ∷ chunked_coding ∷ []) (codes "{}") ≡ Err Transfer)

@@ -14,21 +14,21 @@ use crate::{body, commands, member, receipts};
 use pawn_book::{BearerCommand, BearerRequest, BrokerCommand, BrokerRequest, Caller, Secret};
 use std::alloc::Global;
 
-/// What is sent beside a target.
+/// What a request has besides its method and target.
 #[derive(Drop)]
 pub(crate) struct Sent<'a> {
     pub fields: Fields<'a>,
     pub body: &'a [u8],
 }
 
-/// Who asks, and what for; of an import its two keys, since its rows are still to be read.
+/// Who asks, and what for. For an import it is only the two keys, since its rows are still to be read.
 #[derive(Drop)]
 pub(crate) enum Asks {
     Whole(Caller),
     Import { key: Secret, importing: Secret },
 }
 
-// The key that fields of one name give.
+// The key in the one field of this name. `BadKey` if there is none, more than one, or a malformed one.
 fn key_under(name: &[u8], fields: &Fields<'_>) -> Result<Secret, WireFault>
     ensures value { result ≡ key_given name.now (pairs_of fields.now) }
 {
@@ -39,14 +39,14 @@ fn key_under(name: &[u8], fields: &Fields<'_>) -> Result<Secret, WireFault>
     }
 }
 
-// The key of who asks.
+// The key in the field `Pledge-Key`.
 fn key(fields: &Fields<'_>) -> Result<Secret, WireFault>
     ensures value { result ≡ key_given (codes "pledge-key") (pairs_of fields.now) }
 {
     key_under(b"pledge-key", fields)
 }
 
-// Who makes a book.
+// The operator, who makes a book.
 fn create(alloc: Global, sent: &Sent<'_>) -> Result<Asks, WireFault>
     ensures value { Says result (asks_said Create Nothing
         (pairs_of sent.now.fields) sent.now.body.now) }
@@ -57,7 +57,7 @@ fn create(alloc: Global, sent: &Sent<'_>) -> Result<Asks, WireFault>
     Ok(Asks::Whole(Caller::Operator { key, new_book }))
 }
 
-// Who puts terms.
+// A broker, who puts terms.
 fn put_terms(alloc: Global, sent: &Sent<'_>) -> Result<Asks, WireFault>
     ensures value { Says result (asks_said PutTerms Nothing
         (pairs_of sent.now.fields) sent.now.body.now) }
@@ -71,7 +71,7 @@ fn put_terms(alloc: Global, sent: &Sent<'_>) -> Result<Asks, WireFault>
     }))
 }
 
-// Who takes a pledge.
+// A broker, who takes a pledge.
 fn take_pledge(alloc: Global, sent: &Sent<'_>) -> Result<Asks, WireFault>
     ensures value { Says result (asks_said TakePledge Nothing
         (pairs_of sent.now.fields) sent.now.body.now) }
@@ -85,7 +85,7 @@ fn take_pledge(alloc: Global, sent: &Sent<'_>) -> Result<Asks, WireFault>
     }))
 }
 
-// Who sees the pledge of a number.
+// A broker, who sees the pledge of this number.
 fn show(item: Item, sent: &Sent<'_>) -> Result<Asks, WireFault>
     ensures value { Says result (asks_said Show item (pairs_of sent.now.fields) sent.now.body.now) }
 {
@@ -97,7 +97,7 @@ fn show(item: Item, sent: &Sent<'_>) -> Result<Asks, WireFault>
     }))
 }
 
-// Who commands the pledge of a number.
+// A broker, with a command for the pledge of this number.
 fn command_pledge(
     alloc: Global,
     item: Item,
@@ -119,7 +119,7 @@ fn command_pledge(
     }))
 }
 
-// Who sees the sheet of a day.
+// A broker, who sees a day's sheet.
 fn show_day(item: Item, sent: &Sent<'_>) -> Result<Asks, WireFault>
     ensures value { Says result (asks_said ShowDay item
         (pairs_of sent.now.fields) sent.now.body.now) }
@@ -132,7 +132,7 @@ fn show_day(item: Item, sent: &Sent<'_>) -> Result<Asks, WireFault>
     }))
 }
 
-// Who has the rows of the book as a text.
+// A broker, who exports the book as a text.
 fn export(sent: &Sent<'_>) -> Result<Asks, WireFault>
     ensures value { Says result (asks_said Export Nothing
         (pairs_of sent.now.fields) sent.now.body.now) }
@@ -144,7 +144,7 @@ fn export(sent: &Sent<'_>) -> Result<Asks, WireFault>
     }))
 }
 
-// Who fills the book with rows.
+// A broker, who fills the book with the rows of an import: the broker's key and the import's.
 fn import(sent: &Sent<'_>) -> Result<Asks, WireFault>
     ensures value { Says result (asks_said Import Nothing
         (pairs_of sent.now.fields) sent.now.body.now) }
@@ -154,7 +154,7 @@ fn import(sent: &Sent<'_>) -> Result<Asks, WireFault>
     Ok(Asks::Import { key, importing })
 }
 
-// Who sees what receipts stand for.
+// A bearer, who sees the pledges of receipts.
 fn present(alloc: Global, sent: &Sent<'_>) -> Result<Asks, WireFault>
     ensures value { Says result (asks_said Present Nothing
         (pairs_of sent.now.fields) sent.now.body.now) }
@@ -163,7 +163,7 @@ fn present(alloc: Global, sent: &Sent<'_>) -> Result<Asks, WireFault>
     Ok(Asks::Whole(Caller::Bearer(BearerRequest::Present(receipts))))
 }
 
-// Who commands the pledge of a receipt.
+// A bearer, with a command for the pledge of a receipt.
 fn command_receipt(alloc: Global, action: Action, sent: &Sent<'_>) -> Result<Asks, WireFault>
     ensures value { Says result (asks_said (OnReceipt action) Nothing
         (pairs_of sent.now.fields) sent.now.body.now) }
@@ -176,7 +176,7 @@ fn command_receipt(alloc: Global, action: Action, sent: &Sent<'_>) -> Result<Ask
     Ok(Asks::Whole(Caller::Bearer(BearerRequest::OnPledge { receipt, command })))
 }
 
-// Who asks at an endpoint, and what for.
+// Reads who asks at an endpoint, and what for: first the key or the receipts, then the body.
 pub(crate) fn who_asks(alloc: Global, place: Place, sent: &Sent<'_>) -> Result<Asks, WireFault>
     ensures value { Says result (asks_said place.endpoint place.item
         (pairs_of sent.now.fields) sent.now.body.now) }

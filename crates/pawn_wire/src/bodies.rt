@@ -6,35 +6,35 @@ ghost use Rattle.pawn_wire.specs.Bodies.{book_text, version_text, filled_text, o
 use crate::detail::Detail;
 use std::alloc::{AllocError, Global};
 
-// A book stands.
+// The body that says which book was made.
 pub(crate) fn book(alloc: Global, book: u32) -> Result<String, AllocError>
     ensures text { IfOk result (λ s. string_bytes s ≡ book_text book) }
 {
     format!(in alloc; "{{\"book\":{book}}}")
 }
 
-// Terms stand under a version.
+// The body that says under which version terms were put.
 pub(crate) fn version(alloc: Global, version: u64) -> Result<String, AllocError>
     ensures text { IfOk result (λ s. string_bytes s ≡ version_text version) }
 {
     format!(in alloc; "{{\"version\":{version}}}")
 }
 
-// So many pledges were imported.
+// The body that says how many pledges were imported.
 pub(crate) fn filled(alloc: Global, pledges: u64) -> Result<String, AllocError>
     ensures text { IfOk result (λ s. string_bytes s ≡ filled_text pledges) }
 {
     format!(in alloc; "{{\"imported\":{pledges}}}")
 }
 
-// A pledge stands, with its first receipt.
+// The body for a new pledge: its number and its first receipt.
 pub(crate) fn opening(alloc: Global, number: u32, receipt: &str) -> Result<String, AllocError>
     ensures text { IfOk result (λ s. string_bytes s ≡ opened_text number receipt.now) }
 {
     format!(in alloc; "{{\"number\":{number},\"receipt\":\"{receipt}\"}}")
 }
 
-// A refusal or a fault, with what it tells beside.
+// The body for a refusal or a fault: its number and name, and the total owing or the row of a text, if it has one.
 pub(crate) fn refusal(
     alloc: Global,
     code: u16,

@@ -12,14 +12,14 @@ use pawn_book::{Capacity, Kind, NewBook, NewTerms, Opening, Rates, RequestDay};
 use serde_json::Value;
 use std::alloc::Global;
 
-// The capacity of that many bookings.
+// A capacity of so many bookings in a window, if it is within the limits.
 fn capacity_of(bookings: u64) -> Option<Capacity>
     ensures value { result ≡ in_range 1 1000 bookings }
 {
     Capacity::new(bookings)
 }
 
-// What makes a book.
+// A new book as a body describes it: its capacity, its key and its name.
 pub(crate) fn new_book(alloc: Global, body: &Value) -> Result<NewBook, WireFault>
     ensures value { GivesPart BadBody result (new_book_of (view body.now)) }
 {
@@ -34,7 +34,8 @@ pub(crate) fn new_book(alloc: Global, body: &Value) -> Result<NewBook, WireFault
     })
 }
 
-// Terms, and their version.
+// New terms as a body describes them: their version, the rate, and the charges for safe keeping up to the end of the
+// period and after it. `None` if a member is missing or malformed.
 pub(crate) fn new_terms(body: &Value) -> Option<NewTerms>
     ensures value { result ≡ new_terms_of (view body.now) }
 {
@@ -60,7 +61,7 @@ fn kind_named(word: &str, pence: u64) -> Option<Kind>
     }
 }
 
-// A fixed sum or a running account, with its sum or its limit.
+// The kind of a pledge: fixed with its sum, or running with its limit, in pence.
 fn kind(body: &Value) -> Option<Kind>
     ensures value { result ≡ kind_of (view body.now) }
 {
@@ -69,7 +70,7 @@ fn kind(body: &Value) -> Option<Kind>
     kind_named(word, pence)
 }
 
-// The day that a member says; null says none.
+// The day in a member: `Some(None)` if it is null, and `None` if it is neither null nor a day.
 fn day_or_null(member: &Value) -> Option<Option<RequestDay>>
     ensures value { result ≡ day_or_null (view member.now) }
 {
@@ -85,7 +86,7 @@ fn day_or_null(member: &Value) -> Option<Option<RequestDay>>
     }
 }
 
-// The day of a member, or none where it is missing or null.
+// The day in a member that may be missing or null. `None` if it is there and malformed.
 fn optional_day(body: &Value, name: &str) -> Option<Option<RequestDay>>
     ensures value { result ≡ optional_day_at name.now (view body.now) }
 {
@@ -95,7 +96,8 @@ fn optional_day(body: &Value, name: &str) -> Option<Option<RequestDay>>
     }
 }
 
-// What opens a pledge.
+// A pledge to be taken, as a body describes it: reference, article, kind, an agreed end if any, and whether five days
+// of grace follow the period.
 pub(crate) fn opening(alloc: Global, body: &Value) -> Result<Opening, WireFault>
     ensures value { GivesPart BadBody result (opening_of (view body.now)) }
 {

@@ -11,14 +11,14 @@ use crate::route::Action;
 use pawn_book::{Command, Decision, Paper, RequestDay};
 use std::alloc::Global;
 
-/// An entry to be made: its number, and its pence.
+/// An entry to be made: its number in the pledge, and its sum in pence.
 #[derive(Clone, Copy)]
 pub(crate) struct NewEntry {
     pub seq: u64,
     pub pence: u64,
 }
 
-// The entry of a body.
+// The entry that a body asks for.
 fn entry(alloc: Global, body: &[u8]) -> Result<NewEntry, WireFault>
     ensures value { GivesPart BadBody result (body_said asked_entry body.now) }
 {
@@ -28,7 +28,7 @@ fn entry(alloc: Global, body: &[u8]) -> Result<NewEntry, WireFault>
     Ok(NewEntry { seq, pence })
 }
 
-// The whole number of a body's one member.
+// The whole number in a body's member of this name.
 fn number(alloc: Global, body: &[u8], name: &str) -> Result<u64, WireFault>
     ensures value { GivesPart BadBody result (body_said (number_at name.now) body.now) }
 {
@@ -36,7 +36,7 @@ fn number(alloc: Global, body: &[u8], name: &str) -> Result<u64, WireFault>
     member::number(&value, name).ok_or(WireFault::BadBody)
 }
 
-// The day of a body's one member.
+// The day in a body's member of this name.
 fn day(alloc: Global, body: &[u8], name: &str) -> Result<RequestDay, WireFault>
     ensures value { GivesPart BadBody result (body_said (day_at name.now) body.now) }
 {
@@ -54,7 +54,7 @@ fn paper_named(word: &str) -> Option<Paper>
     }
 }
 
-// The paper that a claimant tenders.
+// The kind of declaration that a body names, `sworn` or `written`.
 fn paper(alloc: Global, body: &[u8]) -> Result<Paper, WireFault>
     ensures value { GivesPart BadBody result (body_said paper_of body.now) }
 {
@@ -75,7 +75,7 @@ fn decision_by(yes: bool) -> Decision
     }
 }
 
-// What a broker makes of a booking.
+// The broker's decision on a booking: `yes` is true to confirm it.
 fn decision(alloc: Global, body: &[u8]) -> Result<Decision, WireFault>
     ensures value { GivesPart BadBody result (body_said decision_of body.now) }
 {
@@ -84,7 +84,7 @@ fn decision(alloc: Global, body: &[u8]) -> Result<Decision, WireFault>
     Ok(decision_by(yes))
 }
 
-// The booking that is asked for.
+// The command that asks for a booking, with its day and window.
 fn booking(alloc: Global, body: &[u8]) -> Result<Command, WireFault>
     ensures value { GivesPart BadBody result (body_said asked_booking body.now) }
 {
@@ -94,7 +94,7 @@ fn booking(alloc: Global, body: &[u8]) -> Result<Command, WireFault>
     Ok(Command::AskBooking { day, window })
 }
 
-// The command of an action. To hold, to release and to cancel take no body.
+// The command for an action, with what its body says. `Hold`, `Release` and `Cancel` do not look at the body.
 pub(crate) fn command(alloc: Global, action: Action, body: &[u8]) -> Result<Command, WireFault>
     ensures value { GivesPart BadBody result (command_said action body.now) }
 {

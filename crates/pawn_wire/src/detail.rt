@@ -1,6 +1,6 @@
-//! What a refusal or a fault tells beside its number and its name.
+//! What the reply to a refusal or a fault gives besides its number and name.
 
-/// What a refusal or a fault tells beside its number and its name.
+/// What the reply to a refusal or a fault gives besides its number and name.
 #[derive(Clone, Copy)]
 pub enum Detail {
     /// The total owing, in pence.

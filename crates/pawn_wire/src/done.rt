@@ -30,7 +30,7 @@ fn entered_text(
     format!(in alloc; "{{\"day\":\"{day}\",\"pence\":{pence},\"seq\":{seq},\"sort\":\"{sort}\"}}")
 }
 
-// An entry was made.
+// The body for an entry that was made.
 fn tell_entry(alloc: Global, entry: Entry) -> Result<String, AllocError>
     ensures text { IfOk result (λ s. string_bytes s
         ≡ entered_text (day_text entry.day) entry.pence entry.seq (sort_text entry.sort)) }
@@ -45,7 +45,7 @@ fn tell_entry(alloc: Global, entry: Entry) -> Result<String, AllocError>
     )
 }
 
-// Redemption is barred, or is not.
+// The body that says whether redemption is barred.
 fn tell_bar(alloc: Global, barred: bool) -> Result<String, AllocError>
     ensures text { IfOk result (λ s. string_bytes s ≡ held_text barred) }
 {
@@ -63,7 +63,7 @@ fn declared_text(alloc: Global, receipt: &str) -> Result<String, AllocError>
     format!(in alloc; "{{\"receipt\":\"{receipt}\"}}")
 }
 
-// A new receipt.
+// The body for a new receipt.
 fn tell_receipt(alloc: Global, receipt: Receipt) -> Result<String, AllocError>
     ensures text { IfOk result (λ s. string_bytes s ≡ declared_text (receipt_text receipt)) }
 {
@@ -77,7 +77,7 @@ fn booked_text(alloc: Global, state: &str, day: &str, window: u64) -> Result<Str
     format!(in alloc; "{{\"booking\":\"{state}\",\"day\":\"{day}\",\"window\":{window}}}")
 }
 
-// Where a booking stands.
+// The body for a booking: its state, its day and its window.
 fn tell_booking(alloc: Global, booking: Booking) -> Result<String, AllocError>
     ensures text { IfOk result (λ s. string_bytes s
         ≡ booked_text (state_text booking.state) (day_text booking.day) booking.window) }
@@ -92,7 +92,7 @@ fn redeemed_text(alloc: Global, paid: u64, day: &str) -> Result<String, AllocErr
     format!(in alloc; "{{\"paid\":{paid},\"redeemed\":\"{day}\"}}")
 }
 
-// The pledge is redeemed.
+// The body for a redemption: what was paid, in pence, and the day.
 fn tell_redemption(alloc: Global, day: Day, paid: u64) -> Result<String, AllocError>
     ensures text { IfOk result (λ s. string_bytes s ≡ redeemed_text paid (day_text day)) }
 {
@@ -100,7 +100,7 @@ fn tell_redemption(alloc: Global, day: Day, paid: u64) -> Result<String, AllocEr
     redeemed_text(alloc, paid, day.as_str())
 }
 
-// The article is sold.
+// The body for a sale: the net proceeds, the shortfall and the surplus, in pence.
 fn tell_sale(alloc: Global, net: u64, shortfall: u64, surplus: u64) -> Result<String, AllocError>
     ensures text { IfOk result (λ s. string_bytes s ≡ sold_text net shortfall surplus) }
 {
@@ -113,7 +113,7 @@ fn extended_text(alloc: Global, until: &str) -> Result<String, AllocError>
     format!(in alloc; "{{\"ends\":\"{until}\"}}")
 }
 
-// The period ends on this day.
+// The body for an extension: the day on which the period now ends.
 fn tell_extension(alloc: Global, until: Day) -> Result<String, AllocError>
     ensures text { IfOk result (λ s. string_bytes s ≡ extended_text (day_text until)) }
 {
@@ -121,7 +121,7 @@ fn tell_extension(alloc: Global, until: Day) -> Result<String, AllocError>
     extended_text(alloc, day.as_str())
 }
 
-// What a command did to the pledge of this number.
+// The body that says what a command did to the pledge of this number.
 pub(crate) fn tell_done(alloc: Global, number: Number, done: Done) -> Result<String, AllocError>
     ensures text { IfOk result (λ s. string_bytes s ≡ commanded_text number done) }
 {

@@ -12,9 +12,9 @@ use std::fmt;
 /// Why a head can't begin a request, in the order in which the faults are looked for.
 #[derive(Clone, Copy)]
 pub enum HeadFault {
-    /// There is no head: not by the grammar, or not within the limits.
+    /// The bytes don't begin with a head: they break the grammar, or a limit.
     BadHead,
-    /// A `Transfer-Encoding` field is there.
+    /// The head has a `Transfer-Encoding` field.
     Transfer,
     /// Two `Content-Length` fields, or one that is not 1 to 19 digits.
     BadLength,
@@ -22,25 +22,25 @@ pub enum HeadFault {
     BodyTooLong,
 }
 
-/// Why bytes are no request, in the order in which the faults are looked for. `BadReceipt`,
-/// `TooManyReceipts` and `NoReceipt` stand in place of `BadKey` where receipts are presented.
+/// Why bytes are no request. The head and the body's length are judged first, then the target, the method, the key or
+/// the receipts, and last the body. Of receipts, `NoReceipt` comes first, then `TooManyReceipts`, then `BadReceipt`.
 #[derive(Clone, Copy, Debug, PartialEq, Eq)]
 pub enum WireFault {
-    /// There is no head: not by the grammar, or not within the limits.
+    /// The bytes don't begin with a head: they break the grammar, or a limit.
     BadHead,
-    /// A `Transfer-Encoding` field is there.
+    /// The head has a `Transfer-Encoding` field.
     Transfer,
     /// Two `Content-Length` fields, one that is not 1 to 19 digits, or a body of another length.
     BadLength,
     /// The body is longer than the limit.
     BodyTooLong,
-    /// The target is none of the service's.
+    /// The service has no such target, or a number or a day in it is malformed or out of range.
     NoRoute,
-    /// The target has another method.
+    /// The target is there, but it takes another method.
     WrongMethod,
-    /// The body is not the JSON that the request wants.
+    /// The body is not JSON, or not with the members that the request needs.
     BadBody,
-    /// There is not exactly one key, or it is none.
+    /// There is not exactly one key, or it is malformed.
     BadKey,
     /// A receipt is malformed.
     BadReceipt,
@@ -50,7 +50,7 @@ pub enum WireFault {
     NoReceipt,
     /// The body is not the text of a book.
     Csv(CsvFault),
-    /// Memory was wanting.
+    /// Memory was refused.
     Memory,
 }
 
@@ -76,7 +76,7 @@ impl WireFault {
         }
     }
 
-    /// What replies tell of the fault beside its number and its name: the row of a text.
+    /// What replies give besides the fault's number and name: the row, for a fault of a text; else nothing.
     pub fn detail(self) -> Option<Detail>
         ensures value { result ≡ detail_of self }
     {

@@ -4,7 +4,7 @@ ghost use Rattle.httparse.specs.Spans.{IsHeaderWithin};
 
 use httparse::spans::HeaderSpan;
 
-/// The fields of a head: its bytes, and where the names and values stand among them.
+/// The fields of a head: the head's bytes, and where each name and value is among them.
 #[derive(Drop)]
 pub(crate) struct Fields<'a> {
     pub(crate) bytes: &'a [u8],
@@ -12,7 +12,7 @@ pub(crate) struct Fields<'a> {
     ghost within: { All (IsHeaderWithin (length bytes.now)) spans.now },
 }
 
-/// The values of the fields with one name.
+/// What a search for the fields of one name found: none, the value of the only one, or several.
 #[derive(Clone, Copy, Drop)]
 pub(crate) enum Found<'a> {
     Missing,
@@ -27,7 +27,7 @@ impl<'a> Fields<'a> {
     ghost use Rattle.httparse.specs.Spans.{IsHeaderWithin, header_bytes};
     ghost use Rattle.pawn_wire.specs.Fields.{pairs_of, values_of, IsFound};
 
-    /// The fields at these places among the bytes of a head.
+    /// The fields of a head with these bytes, at these places among them.
     pub(crate) fn new(bytes: &'a [u8], spans: &'a [HeaderSpan]) -> Fields<'a>
         requires within { All (IsHeaderWithin (length bytes.now)) spans.now }
         ensures pairs { pairs_of result ≡ map (header_bytes bytes.now) spans.now }
@@ -44,7 +44,7 @@ impl<'a> Fields<'a> {
         field.name.of(self.bytes).eq_ignore_ascii_case(name)
     }
 
-    // The fields with this name.
+    // Looks for the fields with this name, whatever the case of its letters.
     pub(crate) fn find(&self, name: &[u8]) -> Found<'a>
         ensures found { IsFound (values_of name.now (pairs_of self.now)) result }
     {

@@ -11,30 +11,30 @@ use crate::numeral::decimal;
 use httparse::Status;
 use httparse::spans::{EMPTY_HEADER_SPAN, RequestSpans, parse_request};
 
-/// What a whole head says of itself and of its request.
+/// What is known of a request from its whole head.
 #[derive(Clone, Copy)]
 pub struct HeadFacts {
-    /// The bytes of the head: where the body begins.
+    /// How many bytes the head has. The body begins after them.
     pub len: usize,
-    /// The bytes of the body.
+    /// How many bytes the body has.
     pub body: usize,
     /// Whether the connection closes after the reply.
     pub closes: bool,
 }
 
-/// What the bytes that came so far begin with.
+/// What was found at the beginning of the bytes that have come so far.
 #[derive(Clone, Copy)]
 pub enum HeadRead {
     /// A whole head.
     Whole(HeadFacts),
-    /// A head that may still go on.
+    /// A head that is not complete yet.
     Partial,
     /// No head, or one that can't begin a request.
     Fault(HeadFault),
 }
 
-/// Reads the head that bytes begin with: of HTTP/1.0 or 1.1, of at most 64 fields, and within the
-/// first 8,192 bytes. A head's faults are judged on these bytes alone, however many came.
+/// Reads the head that bytes begin with. It is of HTTP/1.0 or 1.1, has at most 64 fields, and ends within the first
+/// 8,192 bytes. Whether a head is at fault depends on these bytes alone, however many have come.
 pub fn read_head(bytes: &[u8]) -> HeadRead
     ensures head { IsHeadRead bytes.now result }
     ensures small { IfWhole result (λ f. f.len + f.body ≤ max_head + max_body) }
@@ -58,7 +58,7 @@ pub fn read_head(bytes: &[u8]) -> HeadRead
     }
 }
 
-// The length of the body, by the fields.
+// The length of the body in bytes, as the fields give it.
 pub(crate) fn body_length(fields: &Fields<'_>) -> Result<usize, HeadFault>
     ensures value { result ≡ body_length (pairs_of fields.now) }
 {

@@ -6,13 +6,13 @@ pub fn bodies_are_json()
     ensures law { BodiesAreJson }
 {}
 
-/// Bytes say one request or one fault, and a request is within the limits of its parts.
+/// Bytes can be read in one way only, as one request or one fault, and each part of a request is within its limits.
 pub fn laws_of_readings()
     ensures unique { ReadingIsUnique }
     ensures within { RequestsAreWithin }
 {}
 
-/// A number or a day in a target has one spelling, and what some targets ask for.
+/// A number or a day in a target has exactly one spelling, and each target of the service's table is found.
 pub fn laws_of_targets()
     ensures numbers { NumbersAreSaid }
     ensures days { DaysAreSaid }

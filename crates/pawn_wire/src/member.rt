@@ -12,7 +12,7 @@ use pawn_book::{Day, RequestDay, Secret, Text};
 use serde_json::Value;
 use std::alloc::Global;
 
-// The JSON value of a body.
+// Reads a body as JSON. `BadBody` if it is not.
 pub(crate) fn json(alloc: Global, body: &[u8]) -> Result<Value, WireFault>
     ensures value { JsonOf body.now result }
 {
@@ -28,7 +28,7 @@ pub(crate) fn json(alloc: Global, body: &[u8]) -> Result<Value, WireFault>
     }
 }
 
-// The whole number of a member.
+// The member of this name as a whole number of at most 12 digits.
 pub(crate) fn number(body: &Value, name: &str) -> Option<u64>
     ensures value { result ≡ number_at name.now (view body.now) }
 {
@@ -38,21 +38,21 @@ pub(crate) fn number(body: &Value, name: &str) -> Option<u64>
     }
 }
 
-// The text of a member, of any length.
+// The member of this name as a text of any length.
 pub(crate) fn string<'v>(body: &'v Value, name: &str) -> Option<&'v str>
     ensures value { option_copied result ≡ string_at name.now (view body.now) }
 {
     body.get(name).and_then(Value::as_str)
 }
 
-// The truth value of a member.
+// The member of this name as true or false.
 pub(crate) fn flag(body: &Value, name: &str) -> Option<bool>
     ensures value { result ≡ flag_at name.now (view body.now) }
 {
     body.get(name).and_then(Value::as_bool)
 }
 
-// The text of a member, within the limits of its type.
+// The member of this name as a text of 1 to `MOST` bytes, none of them a control character.
 pub(crate) fn text<const MOST: usize>(
     alloc: Global,
     body: &Value,
@@ -66,7 +66,7 @@ pub(crate) fn text<const MOST: usize>(
     Text::of_str(alloc, text)?.ok_or(WireFault::BadBody)
 }
 
-// The key of a member.
+// The member of this name as a key.
 pub(crate) fn key(body: &Value, name: &str) -> Option<Secret>
     ensures value { result ≡ key_at name.now (view body.now) }
 {
@@ -76,7 +76,7 @@ pub(crate) fn key(body: &Value, name: &str) -> Option<Secret>
     }
 }
 
-// The day of a text.
+// The day that a text as `2024-01-31` names, if a request may name it.
 pub(crate) fn day_said(text: &str) -> Option<RequestDay>
     ensures value { result ≡ day_said text.now }
 {
@@ -86,7 +86,7 @@ pub(crate) fn day_said(text: &str) -> Option<RequestDay>
     }
 }
 
-// The day of a member.
+// The member of this name as a day.
 pub(crate) fn day(body: &Value, name: &str) -> Option<RequestDay>
     ensures value { result ≡ day_at name.now (view body.now) }
 {

@@ -30,7 +30,7 @@ fn number(text: &[u8]) -> u64
     number
 }
 
-// The number that 1 to 19 digits write.
+// The number that a text of 1 to 19 digits writes. `None` for any other text.
 pub(crate) fn decimal(text: &[u8]) -> Option<u64>
     ensures value { result ≡ decimal_of text.now }
 {

@@ -9,7 +9,7 @@ use crate::router::Router;
 use pawn_book::{Number, RequestDay};
 use std::str::from_utf8;
 
-/// What a target names beside its book.
+/// What a target names besides its book.
 #[derive(Clone, Copy)]
 pub(crate) enum Item {
     Nothing,
@@ -18,7 +18,7 @@ pub(crate) enum Item {
 }
 
 impl Item {
-    // The number of the pledge that it is.
+    // The pledge's number, if it is a pledge.
     pub(crate) fn number(self) -> Option<Number>
         ensures value { result ≡ number_in self }
     {
@@ -28,7 +28,7 @@ impl Item {
         }
     }
 
-    // The day that it is.
+    // The day, if it is a day.
     pub(crate) fn day(self) -> Option<RequestDay>
         ensures value { result ≡ day_in self }
     {
@@ -53,14 +53,15 @@ fn is_ascii_text(text: &[u8]) -> bool
     text.iter().all(|b| *b < 128)
 }
 
-// The number of a text, in its one spelling.
+// The number of a book or a pledge that a text writes, in its only spelling: no sign, no leading zero.
 fn number_said(text: &str) -> Option<Number>
     ensures value { result ≡ number_said text.now }
 {
     Number::of_text(text.as_bytes())
 }
 
-// What a target for the endpoint names beside its book.
+// What the second part of a target names: a day for the endpoint of a day's sheet, else a pledge. Without a second part
+// it is `Nothing`.
 fn item_said(endpoint: Endpoint, text: Option<&str>) -> Option<Item>
     ensures value { result ≡ item_said endpoint (option_copied text.entry) }
 {
@@ -73,7 +74,7 @@ fn item_said(endpoint: Endpoint, text: Option<&str>) -> Option<Item>
     }
 }
 
-// What a target asks for.
+// What a target asks for. `None` if the service has no such target.
 pub(crate) fn place_of(router: &Router, target: &[u8]) -> Option<Place>
     ensures value { result ≡ place_of target.now }
 {

@@ -12,7 +12,7 @@ use std::alloc::Global;
 
 const FIELD: &[u8] = b"pledge-receipt";
 
-// The receipt of a text.
+// The receipt that a text writes: a number, a hyphen and a secret.
 fn receipt_of(text: &[u8]) -> Option<Receipt>
     ensures value { result ≡ receipt_said text.now }
 {
@@ -22,7 +22,7 @@ fn receipt_of(text: &[u8]) -> Option<Receipt>
     }
 }
 
-// The receipts that fields present, if each is one.
+// The receipts in the fields `Pledge-Receipt`. `BadReceipt` if one is malformed.
 fn collect(alloc: Global, fields: &Fields<'_>) -> Result<Vec<Receipt>, WireFault>
     ensures all { MatchResult result
         (λ v. all_said (receipt_values (pairs_of fields.now)) ≡ Some v.items)
@@ -41,7 +41,7 @@ fn collect(alloc: Global, fields: &Fields<'_>) -> Result<Vec<Receipt>, WireFault
     Ok(receipts)
 }
 
-// The receipts that fields present, as many as there may be.
+// The 1 to 32 receipts that the fields present. `NoReceipt` if there is none, and `TooManyReceipts` if there are more.
 pub(crate) fn receipts(alloc: Global, fields: &Fields<'_>) -> Result<Receipts, WireFault>
     ensures value { Says result (receipts_said (receipt_values (pairs_of fields.now))) }
 {
@@ -56,7 +56,7 @@ pub(crate) fn receipts(alloc: Global, fields: &Fields<'_>) -> Result<Receipts, W
     Receipts::new(receipts).ok_or(WireFault::BadReceipt)
 }
 
-// The one receipt that fields present.
+// The one receipt that the fields present. `NoReceipt` if there is none, and `TooManyReceipts` if there are several.
 pub(crate) fn one(fields: &Fields<'_>) -> Result<Receipt, WireFault>
     ensures value { result ≡ one_said (receipt_values (pairs_of fields.now)) }
 {

@@ -14,22 +14,23 @@ use http::StatusCode;
 use pawn_book::{Done, Number, Receipt, Refusal, Reply};
 use std::alloc::{AllocError, Global};
 
-/// What is told of a request.
+/// What a reply is to say.
 #[derive(Drop)]
 pub enum Out {
-    /// What was done.
+    /// The request was done, and this is the reply to it.
     Done(Reply),
-    /// That it was refused.
+    /// The request was refused.
     Refused(Refusal),
-    /// That its bytes are no request.
+    /// The bytes are no request.
     Fault(WireFault),
-    /// Lines of text.
+    /// Lines of text, as `text/plain`.
     Plain(Vec<u8>),
-    /// The rows of a book as comma-separated columns.
+    /// The rows of a book as comma-separated columns, as `text/csv`.
     Csv(Vec<u8>),
 }
 
-/// The reply where memory is wanting, which takes no memory.
+/// The bytes of the reply when memory is refused: status 503, with the number 491. Being a constant, it takes no
+/// memory.
 pub const MEMORY_REPLY: &[u8] =
     b"HTTP/1.1 503 Service Unavailable\r\nContent-Length: 28\r\nContent-Type: application/json\r\n\r\n{\"code\":491,\"name\":\"Memory\"}";
 
@@ -45,14 +46,14 @@ const BAD_LENGTH_REPLY: &[u8] =
 const BODY_TOO_LONG_REPLY: &[u8] =
     b"HTTP/1.1 400 Bad Request\r\nContent-Length: 33\r\nContent-Type: application/json\r\n\r\n{\"code\":705,\"name\":\"BodyTooLong\"}";
 
-/// The reply where memory is wanting, `MEMORY_REPLY`.
+/// The reply when memory is refused: `MEMORY_REPLY`.
 pub fn memory_reply() -> &'static [u8]
     ensures text { result.now ≡ memory_text }
 {
     MEMORY_REPLY
 }
 
-/// The reply to a head that can't begin a request, which takes no memory.
+/// The reply to a head that can't begin a request. It takes no memory.
 pub fn fault_reply(fault: HeadFault) -> &'static [u8]
     ensures text { result.now ≡ fault_text (wire_fault fault) }
 {
@@ -149,7 +150,8 @@ fn done_reply(alloc: Global, reply: Reply) -> Result<Vec<u8>, AllocError>
     }
 }
 
-/// The bytes of a reply: its status, the length and the type of its body, and its body.
+/// The bytes of a reply: a head with its status and its body's length and type, and then the body. Fails only if memory
+/// is refused.
 pub fn write_reply(alloc: Global, out: &Out) -> Result<Vec<u8>, AllocError>
     ensures text { IfOk result (λ v. v.items ≡ out_text out.now) }
 {

@@ -19,14 +19,14 @@ use pawn_book::{BrokerRequest, Caller, Number, Request, Secret};
 use pawn_csv::{ReplayableRows, read_book};
 use std::alloc::Global;
 
-/// What is asked of a book.
+/// A request as read so far: its book, and who asks what. The rows of an import are still to be read.
 #[derive(Drop)]
 struct Outline {
     book: Number,
     asks: Asks,
 }
 
-// What the parts of a head and a body say, but for the rows of an import.
+// Reads a request from the parts of a head and a body, except for the rows of an import.
 fn outline_by(
     alloc: Global,
     router: &Router,
@@ -52,7 +52,7 @@ fn outline_by(
     Ok(Outline { book, asks })
 }
 
-// The book that a body holds as a text. Bytes that are there can be read.
+// The rows of the book that a body holds as a text.
 fn rows(alloc: Global, body: &[u8]) -> Result<ReplayableRows, WireFault>
     ensures rows { OrMemory (HoldsRows body.now) result }
 {
@@ -62,7 +62,7 @@ fn rows(alloc: Global, body: &[u8]) -> Result<ReplayableRows, WireFault>
     }
 }
 
-// Who fills a book with rows.
+// A broker, who fills a book with these rows.
 fn filling(key: Secret, importing: Secret, rows: ReplayableRows) -> Caller
     ensures value { result ≡ Broker key (Import importing rows) }
 {
@@ -73,7 +73,7 @@ fn filling(key: Secret, importing: Secret, rows: ReplayableRows) -> Caller
     Caller::Broker { key, asked }
 }
 
-// The request of an outline: an import has the rows that the body holds.
+// Completes an outline to a request. An import gets the rows that the body holds.
 fn request_of(alloc: Global, outline: Outline, body: &[u8]) -> Result<Request, WireFault>
     ensures value { OrMemory (IsAsked body.now outline.book outline.asks) result }
 {
@@ -85,7 +85,7 @@ fn request_of(alloc: Global, outline: Outline, body: &[u8]) -> Result<Request, W
     Ok(Request { book, caller })
 }
 
-// The request that is sent.
+// Reads a whole request from the parts of a head and a body.
 fn request_by(
     alloc: Global,
     router: &Router,
@@ -100,8 +100,8 @@ fn request_by(
     request_of(alloc, outline, sent.body)
 }
 
-/// The request that bytes are, one whole request and nothing after it, or the first fault that
-/// applies. A body of a request that takes none is not looked at.
+/// Reads bytes as one whole request, with nothing after it. The error is the first fault that applies, as `WireFault`
+/// says, or `Memory`. If the request takes no body, a body's content is not looked at.
 pub fn read_request(alloc: Global, router: &Router, bytes: &[u8]) -> Result<Request, WireFault>
     ensures read { IsRequestRead bytes.now result }
 {

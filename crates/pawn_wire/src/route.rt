@@ -1,10 +1,10 @@
-//! What targets ask for.
+//! The targets of the service, and what they ask for.
 ghost use Rattle.std.specs.Prelude.{◌≡◌, bytes_eq};
 ghost use Rattle.pawn_wire.specs.Route.{method_of};
 
 use http::Method;
 
-/// What a target and its method ask for.
+/// What a target asks for.
 #[derive(Clone, Copy, Debug, PartialEq, Eq)]
 pub enum Endpoint {
     /// To make a book.
@@ -23,7 +23,7 @@ pub enum Endpoint {
     Export,
     /// To fill a book with the rows of a text.
     Import,
-    /// To show what receipts stand for.
+    /// To show the pledges of receipts.
     Present,
     /// To command the pledge of a receipt.
     OnReceipt(Action),
@@ -45,8 +45,8 @@ pub enum Action {
     Extend,
 }
 
-/// The targets, each with its endpoint; a name in braces stands for a number, or for a day. An action stands here
-/// under those who may send its command, and under no other.
+/// The targets, each with its endpoint. A name in braces is a number or a day. An action is listed only under those who
+/// may send its command, brokers or bearers.
 pub(crate) const ROUTES: [(&str, Endpoint); 20] = [
     ("/books/{b}", Endpoint::Create),
     ("/books/{b}/terms", Endpoint::PutTerms),
@@ -101,7 +101,7 @@ pub(crate) const ROUTES: [(&str, Endpoint); 20] = [
 ];
 
 impl Endpoint {
-    // The method that asks for the endpoint.
+    // The one method that the endpoint takes.
     fn method(self) -> Method
         ensures value { result ≡ method_of self }
     {
@@ -119,7 +119,7 @@ impl Endpoint {
         }
     }
 
-    // Whether the endpoint is asked for by this method.
+    // Whether this is the method that the endpoint takes.
     pub(crate) fn takes(self, method: &[u8]) -> bool
         ensures value { result ≡ bytes_eq (method_of self) method.now }
     {

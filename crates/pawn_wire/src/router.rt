@@ -9,7 +9,7 @@ use matchit::{InsertError, Params, Router as Matcher};
 use std::alloc::{AllocError, Global};
 use std::marker::Model;
 
-/// An endpoint, and the texts of the numbers in a target.
+/// An endpoint, and the texts in a target for its book and for its pledge or day.
 #[derive(Clone, Copy, Drop)]
 pub(crate) struct Asked<'p> {
     pub endpoint: Endpoint,
@@ -17,8 +17,8 @@ pub(crate) struct Asked<'p> {
     pub item: Option<&'p str>,
 }
 
-/// The service's routes, made once and asked for each request. A contract sees the rows of a
-/// router, which are always those of the service's table.
+/// The service's routes, made once and used for each request. To a contract a router is its rows, which are always
+/// those of the service's table.
 #[derive(Drop)]
 pub struct Router {
     routes: Matcher<Endpoint>,
@@ -40,7 +40,7 @@ impl Router {
     ghost use Rattle.pawn_wire.specs.Route.{table_rows, route_of};
     ghost use Rattle.pawn_wire.specs.Asked.{endpoint_and_texts};
 
-    /// The routes of the service's table. It refuses only where memory is wanting.
+    /// Makes the routes of the service's table. Fails only if memory is refused.
     pub fn new(alloc: Global) -> Result<Router, AllocError>
         ensures table { IfOk result (λ r. r ≡ table_rows) }
     {
@@ -51,7 +51,7 @@ impl Router {
         }
     }
 
-    // What a target asks for.
+    // The endpoint of a target, and the texts that it has for its book and for its pledge or day.
     pub(crate) fn find<'p>(&self, target: &'p str) -> Option<Asked<'p>>
         requires ascii { IsAscii target.now }
         ensures value { option_map endpoint_and_texts result ≡ route_of target.now }
@@ -70,7 +70,7 @@ impl Router {
     }
 }
 
-// The first two parts of a target that parameters took.
+// The texts of the first two names in braces.
 fn first_two<'v>(params: &Params<'_, 'v>) -> (Option<&'v str>, Option<&'v str>)
     requires ascii { IsAscii params.now.path.now }
     ensures first { option_copied result.0 ≡ slice_get
@@ -90,7 +90,7 @@ fn first_two<'v>(params: &Params<'_, 'v>) -> (Option<&'v str>, Option<&'v str>)
     (Some(first), Some(second))
 }
 
-// Adds routes in order.
+// Adds the routes of a table, in order.
 fn add_all(routes: &mut Matcher<Endpoint>, table: &[(&str, Endpoint)]) -> Result<(), InsertError>
     ensures rows { OnOk result (routes.new ≡ with_routes (map plain table.now) routes.old) }
 {

@@ -4,7 +4,7 @@ ghost use Rattle.pawn_wire.specs.Status.{reply_status};
 
 use http::StatusCode;
 
-// The status of a refusal's or a fault's number.
+// The HTTP status for the number of a refusal or a fault: 409 unless another is listed.
 pub(crate) fn status_of(code: u16) -> StatusCode
     ensures value { result ≡ reply_status code }
 {

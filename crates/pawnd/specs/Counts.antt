@@ -1,4 +1,4 @@
--- How a check's counts are told.
+-- How a check's counts are printed.
 use Rattle.std.specs.Prelude.{ℕ, List, ◌++◌, codes, decimal}
 use Rattle.pawn_check.specs.declared.counts.Counts.{Counts}
 

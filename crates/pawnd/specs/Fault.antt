@@ -1,4 +1,4 @@
--- Why the program does not do what it was asked.
+-- How the program prints why it did not do what it was asked.
 use Rattle.std.specs.Prelude.{ℕ, List, codes}
 use Rattle.pawn_opening.specs.declared.fault.OpenFault.{OpenFault}
 use Rattle.pawn_opening.specs.declared.fault.OpenFault.TheVariants as Open
@@ -11,7 +11,7 @@ use Rattle.pawn_program.specs.declared.fault.SettingsFault.TheVariants as Said
 use Rattle.pawnd.specs.declared.fault.Fault.{Fault}
 use Rattle.pawnd.specs.declared.fault.Fault.TheVariants.{Settings, Memory, Opening, Checking, Moving}
 
--- the number and the name of why the words of the command line say nothing that can be done
+-- the number and name of a fault in a word of the command line
 abbrev pub settings_line : SettingsFault → List ℕ
 settings_line Said.BadDay = codes "101 BadDay"
 settings_line Said.Memory = codes "491 Memory"
@@ -19,20 +19,20 @@ settings_line Said.BadSeed = codes "801 BadSeed"
 settings_line Said.BadPort = codes "802 BadPort"
 settings_line Said.BadKey = codes "803 BadKey"
 
--- .. of why a database is not opened
+-- the number and name of why a database is not opened
 abbrev pub opening_line : OpenFault → List ℕ
 opening_line (Open.OldSchema schema) = codes "501 OldSchema"
 opening_line Open.NotOurs = codes "502 NotOurs"
 opening_line Open.Store = codes "503 Store"
 opening_line Open.Memory = codes "504 Memory"
 
--- .. of why a check does not end with counts
+-- the number and name of why a check does not end with counts
 abbrev pub checking_line : CheckFault → List ℕ
 checking_line Check.Memory = codes "491 Memory"
 checking_line Check.Store = codes "492 Store"
 checking_line Check.Damaged = codes "513 Damaged"
 
--- .. of why a database is not moved to the program's schema
+-- the number and name of why a database is not moved to the program's schema
 abbrev pub moving_line : MoveFault → List ℕ
 moving_line Move.NewerSchema = codes "511 NewerSchema"
 moving_line Move.NotOurs = codes "512 NotOurs"

@@ -1,4 +1,4 @@
--- How the schemas of a store that was moved are told.
+-- How the schemas of a store that was moved are printed.
 use Rattle.std.specs.Prelude.{ℕ, List, ◌++◌, codes, decimal}
 use Rattle.pawnd.specs.declared.moving.Schemas.{Schemas}
 

@@ -1,4 +1,4 @@
--- How the program tells that it did not do what it was asked.
+-- How the program says that it did not do what it was asked.
 use Rattle.std.specs.Prelude.{ℕ, List, ◌++◌, codes}
 use Rattle.pawnd.specs.Fault as fault
 use Rattle.pawnd.specs.declared.stop.Stop.{Stop}

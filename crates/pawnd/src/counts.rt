@@ -1,7 +1,7 @@
 use pawn_check::Counts;
 use std::fmt;
 
-/// The line that tells what a checked store holds.
+/// The line that says what a checked store holds.
 #[derive(Clone, Copy)]
 pub struct CountsLine(pub Counts);
 

@@ -7,15 +7,15 @@ use std::fmt;
 /// Why the program does not do what it was asked.
 #[derive(Clone, Copy)]
 pub enum Fault {
-    /// The words of the command line say nothing that can be done.
+    /// A word of the command line is at fault.
     Settings(SettingsFault),
-    /// Memory was wanted, and not for the database.
+    /// Memory was refused, outside the database.
     Memory,
-    /// The database is not opened, or not closed, or a fault has shut it.
+    /// The database could not be opened or closed, or a fault has shut it.
     Opening(OpenFault),
-    /// A check of the database does not end with counts.
+    /// A check of the database found damage, or failed.
     Checking(CheckFault),
-    /// The database is not moved to the program's schema.
+    /// The database could not be moved to the program's schema.
     Moving(MoveFault),
 }
 

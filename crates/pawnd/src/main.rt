@@ -1,6 +1,6 @@
-//! The program. `pawnd answer DB DAY SEED KEY` answers requests from standard input to standard output, `pawnd serve DB PORT KEY`
-//! those of its connections, `pawnd migrate DB` moves an older store to the program's schema, and `pawnd check DB` judges and counts
-//! what a store holds.
+//! The program. `pawnd answer DB DAY SEED KEY` answers the requests on standard input, and `pawnd serve DB PORT KEY`
+//! those of its connections. `pawnd migrate DB` moves an older store to the program's schema, and `pawnd check DB`
+//! judges and counts what a store holds.
 #![tactic(auto)]
 
 ghost use Rattle.std.specs.Prelude.{◌≡◌, ◌+◌, Err, IfOk, false};
@@ -31,7 +31,7 @@ use std::process::ExitCode;
 use stop::{Stop, tell};
 use store::{close, file_keep, folded_keep, is_memory, memory_keep};
 
-/// At most as many connections are served.
+/// After so many connections, accepted or failed, the program ends.
 const CONNECTIONS: u32 = 1_000_000;
 
 fn main(rt: HostRuntime) -> ExitCode {
@@ -56,7 +56,7 @@ fn obey(rt: &HostRuntime) -> Result<(), Stop> {
     }
 }
 
-// The stop for words that say nothing that can be done.
+// The stop for a word of the command line that is at fault.
 fn unsaid(why: SettingsFault) -> Stop {
     Stop::Fault(Fault::Settings(why))
 }
@@ -81,7 +81,7 @@ fn answer(rt: &HostRuntime, mut args: Args) -> Result<(), Stop> {
     }
 }
 
-// Answers them over the tables of a store, and hands the keeper back, with how that ended.
+// Answers the requests of standard input over a keeper. Gives the keeper back, with how that ended.
 fn answer_over<S: Alter + Drop>(
     rt: &HostRuntime,
     keep: TableKeep<S>,
@@ -99,7 +99,7 @@ fn answer_over<S: Alter + Drop>(
     Ok((service.into_keep(), end))
 }
 
-// Answers the requests of connections to a port of this machine, one connection after the other.
+// Answers the requests of connections to a port of this machine, one connection after the other. This is `pawnd serve`.
 fn serve(rt: &HostRuntime, mut args: Args) -> Result<(), Stop> {
     let (Some(database), Some(port), Some(key), None) = (
         args.next(),
@@ -118,7 +118,7 @@ fn serve(rt: &HostRuntime, mut args: Args) -> Result<(), Stop> {
     }
 }
 
-// Answers them over the tables of a store, and hands the keeper back, with how that ended.
+// Answers the requests of connections over a keeper. Gives the keeper back, with how that ended.
 fn serve_over<S: Alter + Drop>(
     rt: &HostRuntime,
     keep: TableKeep<S>,
@@ -132,8 +132,8 @@ fn serve_over<S: Alter + Drop>(
     Ok((service.into_keep(), end))
 }
 
-// Listens on a port, and answers by a service until so many connections were accepted, or could not be. It stops for a fault of the
-// store only if one has shut it.
+// Listens on a port, and answers by a service until `CONNECTIONS` connections were accepted or failed to be. It reports
+// a fault of the store only if one has shut it, and then it stops early.
 fn listen<S: Alter + Drop>(
     rt: &HostRuntime,
     service: &mut Service<TableKeep<S>>,
@@ -160,7 +160,7 @@ fn listen<S: Alter + Drop>(
     Ok(served.served)
 }
 
-// Moves a store to the program's schema, and tells which it had.
+// Moves a store to the program's schema, and prints which it had.
 fn migrate(rt: &HostRuntime, mut args: Args) -> Result<(), Stop> {
     let (Some(database), None) = (args.next(), args.next()) else {
         return Err(Stop::Usage);
@@ -172,7 +172,7 @@ fn migrate(rt: &HostRuntime, mut args: Args) -> Result<(), Stop> {
     }
 }
 
-// Judges a store, and tells what it holds.
+// Judges a store, and prints what it holds.
 fn judge(rt: &HostRuntime, mut args: Args) -> Result<(), Stop> {
     let (Some(database), None) = (args.next(), args.next()) else {
         return Err(Stop::Usage);
@@ -187,7 +187,7 @@ fn judge(rt: &HostRuntime, mut args: Args) -> Result<(), Stop> {
     }
 }
 
-// Judges what a keeper holds, and tells it.
+// Judges what a keeper holds, and prints the counts.
 fn judge_over<S: Alter>(rt: &HostRuntime, keep: &mut TableKeep<S>) -> Result<(), Stop> {
     match check(keep) {
         Ok(counts) => match println!(rt; "{}", CountsLine(counts)) {

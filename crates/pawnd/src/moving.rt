@@ -1,4 +1,4 @@
-//! A store of an older schema that is moved to the program's.
+//! Moving the store in a file to the program's schema.
 ghost use Rattle.std.specs.Prelude.{◌≡◌, false};
 
 use crate::fault::Fault;
@@ -29,17 +29,17 @@ impl fmt::Display for Schemas {
     }
 }
 
-// The stop of a store that is not moved.
+// The stop when a store is not moved.
 fn unmoved(why: MoveFault) -> Stop {
     Stop::Fault(Fault::Moving(why))
 }
 
-// The stop of a store that is not opened or closed.
+// The stop when a store to be moved is not opened or closed.
 fn refused(why: OpenFault) -> Stop {
     unmoved(MoveFault::of_opening(why))
 }
 
-// Whether there is something at a path that is no empty file.
+// Whether there is anything at a path but an empty file.
 fn is_there(rt: &HostRuntime, path: &str) -> Result<bool, Stop> {
     match fs::metadata(rt, path) {
         Ok(found) => Ok(!found.is_file() || found.len() > 0),
@@ -49,10 +49,10 @@ fn is_there(rt: &HostRuntime, path: &str) -> Result<bool, Stop> {
     }
 }
 
-// A connection to a file. Nothing is supposed of its first bytes, nor of what a write leaves that a crash tears.
+// A connection to a file. Nothing is assumed of its first bytes, nor of what a crash leaves of an unfinished write.
 type FileConnection = Connection<FileStore<FileFrom<Wary>>>;
 
-// Closes the file of a store that was moved, with the last commit in the database file.
+// Closes the file of a store that was moved. All that was committed is then in the database file.
 fn close(conn: FileConnection) -> Result<(), Stop> {
     match close_files(conn) {
         Ok(_) => Ok(()),
@@ -60,7 +60,7 @@ fn close(conn: FileConnection) -> Result<(), Stop> {
     }
 }
 
-// Lets go of a store that was not moved, whose file stays as it was.
+// Lets go of a store that was not moved. Its file stays as it was.
 fn leave(conn: FileConnection, why: MoveFault) -> Stop {
     let _store = conn.into_store();
     unmoved(why)
@@ -79,8 +79,8 @@ fn move_over(rt: &HostRuntime, mut conn: FileConnection) -> Result<Schemas, Stop
     }
 }
 
-/// Moves the store in the file at a path to the program's schema, and closes it. Where there is no file none is made, and an empty
-/// one is left so: it is refused as an empty store is, and so is a store in memory.
+/// Moves the store in the file at a path to the program's schema, and closes it. If there is no file, none is made, and
+/// an empty file is left empty. Both are refused as `NotOurs`, and so is a store in memory.
 pub fn move_file(rt: &HostRuntime, path: &str) -> Result<Schemas, Stop> {
     if is_memory(path) || !is_there(rt, path)? {
         return Err(unmoved(MoveFault::NotOurs));

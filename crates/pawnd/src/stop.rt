@@ -1,4 +1,4 @@
-//! How the program tells that it did not do what it was asked.
+//! How the program says that it did not do what it was asked.
 ghost use Rattle.std.specs.Prelude.{◌≡◌};
 ghost use Rattle.std.specs.Process.{exit_status};
 ghost use Rattle.pawnd.specs.Stop.{stop_status};
@@ -10,16 +10,16 @@ use std::process::ExitCode;
 /// Why the program ends without having done what it was asked.
 #[derive(Clone, Copy)]
 pub enum Stop {
-    /// The words of the command line are those of no command.
+    /// The command line names no command, or has too few or too many words for it.
     Usage,
-    /// It does not start.
+    /// A fault of the settings, of memory or of the store: the program did not start, or did not end well.
     Fault(Fault),
-    /// Its requests could not be read, or its replies not be written.
+    /// Something outside the store failed: a read, a write, the port, or the system's random numbers.
     Io,
 }
 
 impl Stop {
-    /// The program's exit status.
+    /// The program's exit status: 2 for `Usage`, 1 for a fault, 3 for `Io`.
     pub fn status(self) -> u8
         ensures status { result ≡ stop_status self }
     {
@@ -46,7 +46,7 @@ impl fmt::Display for Stop {
     }
 }
 
-/// Writes the line of a stop to the standard error, and gives the exit status.
+/// Writes a line for the stop to standard error. Returns the exit status.
 pub fn tell(rt: &impl Eprint, stop: Stop) -> ExitCode
     ensures status { exit_status result ≡ stop_status stop }
 {

@@ -12,16 +12,16 @@ use pawn_store::{
 use sqlite_disk::Wary;
 use std::fs;
 
-/// At most as many rows are kept in a store that is made here.
+/// The limit on counted rows of a store that is made here.
 const ROWS: u32 = 5_000_000;
 
-/// The bytes of a page of the database, of which each change puts some into the log.
+/// The bytes of a page of the database. Each change writes some pages to the log.
 const PAGE: u64 = 4_096;
 
-/// The keeper over a file. Nothing is supposed of its first bytes, nor of what a write leaves that a crash tears.
+/// A keeper over a file. Nothing is assumed of its first bytes, nor of what a crash leaves of an unfinished write.
 pub type FileKeep = TableKeep<FileStore<FileFrom<Wary>>>;
 
-/// Whether a store in memory is named, which ends with the program.
+/// Whether the command line names `:memory:`, a store in memory that ends with the program.
 pub fn is_memory(database: &str) -> bool
     ensures named { IsTrue result ↔ (database.now ≡ codes ":memory:") }
 {
@@ -39,7 +39,7 @@ pub fn memory_keep(rt: &HostRuntime) -> Result<TableKeep<MemStore>, Stop>
     }
 }
 
-/// A keeper over the file at a path, which is made where there is none.
+/// A keeper over the store in the file at a path, which is made if there is none.
 pub fn file_keep(rt: &HostRuntime, path: &str) -> Result<FileKeep, Stop> {
     match keep_at_path(rt, path, Wary, ROWS) {
         Ok(keep) => Ok(keep),
@@ -47,7 +47,7 @@ pub fn file_keep(rt: &HostRuntime, path: &str) -> Result<FileKeep, Stop> {
     }
 }
 
-// The length of the file at a path, 0 where it can't be told.
+// The length of the file at a path: 0 if it can't be found out.
 fn length_at(rt: &HostRuntime, path: &str) -> u64 {
     match fs::metadata(rt, path) {
         Ok(found) => found.len(),
@@ -55,7 +55,7 @@ fn length_at(rt: &HostRuntime, path: &str) -> u64 {
     }
 }
 
-// Whether a store's log holds a page, which may stand nowhere else.
+// Whether a store's log holds a page, which may be nowhere else.
 fn hangs_on_its_log(rt: &HostRuntime, path: &str) -> bool {
     match format!(in rt.alloc(); "{path}-wal") {
         Ok(log) => length_at(rt, log.as_str()) > PAGE,
@@ -63,8 +63,9 @@ fn hangs_on_its_log(rt: &HostRuntime, path: &str) -> bool {
     }
 }
 
-/// A keeper over the file at a path, as `file_keep`, for a long run. What stands in the store's log alone, since the program was
-/// killed, is copied into the file first, so that nothing hangs on the log. Where it can't be copied it stays as it is.
+/// A keeper over the file at a path, as `file_keep`, for a long run. If the program was killed, some changes may be in
+/// the store's log only. They are copied into the file first, so that nothing depends on the log. If that fails, they
+/// stay in the log.
 pub fn folded_keep(rt: &HostRuntime, path: &str) -> Result<FileKeep, Stop> {
     if hangs_on_its_log(rt, path) {
         let _ = close(file_keep(rt, path)?, Ok(()));
@@ -72,8 +73,8 @@ pub fn folded_keep(rt: &HostRuntime, path: &str) -> Result<FileKeep, Stop> {
     file_keep(rt, path)
 }
 
-/// Closes the file of a keeper, with the last commit in the database file. The program ends as it did before, or else by
-/// what closing is refused for.
+/// Closes the file of a keeper, with all that was committed in the database file. The program ends as `end` says. If
+/// that is well but closing fails, it ends with that fault.
 pub fn close(keep: FileKeep, end: Result<(), Stop>) -> Result<(), Stop>
     ensures first { IfErr end (λ stop. result ≡ Err stop) }
 {

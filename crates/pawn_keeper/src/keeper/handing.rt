@@ -33,7 +33,8 @@ pub(super) fn hand_lines<V: Visitor<SheetItem>>(part: Part, lines: &[Line], visi
     Flow::Go
 }
 
-// The same with their number above them, where the part has no others.
+// Hands the part's heading, which gives how many lines there are, and then the lines' items. The lines must be all that
+// the part has.
 pub(super) fn hand_whole<V: Visitor<SheetItem>>(part: Part, lines: &[Line], visitor: &mut V) -> Flow
     ensures hands { HandsOver V.step visitor.old
         (with_head part (map (item_of part) lines.now)) result visitor.new }

@@ -21,11 +21,11 @@ use pawn_pledge::{Extensions, MOST_EXTENSIONS, MOST_SECRETS, Secrets};
 use pawn_tables::{PAGE_ROWS, entries_page, extensions_page, secrets_page};
 use sqlite::Alter;
 
-// How many places a page has.
+// How many elements a full page has, as a 32-bit number.
 const PLACES: u32 = PAGE_ROWS as u32;
 
 impl<S: Alter> TableKeep<S> {
-    // A page of the entries of a pledge, from a number on.
+    // A page of a pledge's entries: those numbered `from` or more.
     fn entries_from(
         &mut self,
         book: Number,
@@ -45,8 +45,8 @@ impl<S: Alter> TableKeep<S> {
         page
     }
 
-    // Hands the entries of a pledge to the visitor until it wants no more. Each page is looked for behind the
-    // number of the last entry before it, so a number that is left out ends nothing.
+    // Hands the entries of a pledge to the visitor until it wants no more. Each page begins after the number of the
+    // last entry before it, so a gap in the numbers does not end the walk.
     pub(super) fn hand_entries<V: Visitor<Entry>>(
         &mut self,
         book: Number,
@@ -72,7 +72,7 @@ impl<S: Alter> TableKeep<S> {
         Err(TOO_MANY)
     }
 
-    // A page of the secrets of a pledge, behind a place.
+    // A page of a pledge's secrets: those at places after `behind`.
     fn secrets_behind(
         &mut self,
         book: Number,
@@ -117,7 +117,7 @@ impl<S: Alter> TableKeep<S> {
         Err(TOO_MANY)
     }
 
-    // A page of the extensions of a pledge, behind a place.
+    // A page of a pledge's extensions: those at places after `behind`.
     fn extensions_behind(
         &mut self,
         book: Number,
@@ -163,7 +163,8 @@ impl<S: Alter> TableKeep<S> {
     }
 }
 
-// The number behind a page of entries from a number on. There is none where 32 bits can't hold it.
+// The number from which the next page of entries begins: one more than the last entry's. It is an error if 32 bits
+// can't hold it.
 fn behind_entries(from: u32, page: &[Entry]) -> Result<u32, KeepError>
     ensures value { IfOk result (λ n. n ≡ page_end behind from page.now) }
     ensures beyond { IfErr result (λ e. e ≡ Keeper.Store Database) }

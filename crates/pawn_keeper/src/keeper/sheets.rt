@@ -35,7 +35,7 @@ impl<S: Alter> TableKeep<S> {
         count
     }
 
-    // A page of a part's lines, of the pledges above a number.
+    // A page of a part's lines: those of the pledges with numbers above `above`.
     fn lines_above(
         &mut self,
         book: Number,
@@ -83,7 +83,7 @@ impl<S: Alter> TableKeep<S> {
         Err(TOO_MANY)
     }
 
-    // The same, with so many above them.
+    // Hands a part's heading, which gives `count`, and then the part's items, until the visitor wants no more.
     fn hand_under<V: Visitor<SheetItem>>(
         &mut self,
         book: Number,
@@ -103,7 +103,8 @@ impl<S: Alter> TableKeep<S> {
         }
     }
 
-    // The same, with their number above them, which the tables count.
+    // Hands a part's heading and then its items, until the visitor wants no more. The tables are asked how many items
+    // there are.
     fn hand_counted<V: Visitor<SheetItem>>(
         &mut self,
         book: Number,
@@ -119,8 +120,8 @@ impl<S: Alter> TableKeep<S> {
         self.hand_under(book, day, part, count, visitor)
     }
 
-    // Hands a part's items to the visitor until it wants no more, with their number above them. Where they are one page, it tells how
-    // many they are.
+    // Hands a part's heading and then its items, until the visitor wants no more. If they fit on one page, the page
+    // gives how many there are, and the tables are not asked to count.
     fn hand_headed<V: Visitor<SheetItem>>(
         &mut self,
         book: Number,
@@ -139,7 +140,7 @@ impl<S: Alter> TableKeep<S> {
         self.hand_counted(book, day, part, visitor)
     }
 
-    // Hands a window's items to the visitor until it wants no more; none where nobody comes.
+    // Hands a window's heading and items to the visitor until it wants no more; nothing if nobody comes in that window.
     fn hand_window<V: Visitor<SheetItem>>(
         &mut self,
         book: Number,
@@ -256,7 +257,7 @@ impl<S: Alter> TableKeep<S> {
     }
 }
 
-// Above which number the next page of lines begins.
+// The number above which the next page of lines begins: that of the last line.
 fn behind_lines(above: u32, page: &[Line]) -> u32
     ensures value { result ≡ page_end (λ l. l.number) above page.now }
 {

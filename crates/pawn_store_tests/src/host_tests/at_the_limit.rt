@@ -8,7 +8,7 @@ use std::alloc::Global;
 use std::process::Abort;
 use std::test::Fail;
 
-// Who asks, by the fields that say so; what is asked; and the body of the reply.
+// A request and its reply: the fields that say who asks, the target, the body, and the body of the reply.
 #[derive(Clone, Copy)]
 struct Line {
     by: &'static str,
@@ -156,7 +156,7 @@ const ADDING: [Line; 10] = [
     },
 ];
 
-// Each that adds none: repeats, the booking in the place of the one that stands, and views.
+// Each request that adds none: repeats, a booking that replaces one, and views.
 const OTHERS: [Line; 19] = [
     Line {
         by: OPERATOR,
@@ -274,7 +274,7 @@ const OTHERS: [Line; 19] = [
     },
 ];
 
-// A sale is for a day when the period is over.
+// A sale, which is possible only once the period is over.
 const LATER: [Line; 1] = [Line {
     by: BROKER,
     target: "POST /books/7/pledges/3/sell",
@@ -289,7 +289,7 @@ fn request_of(alloc: Global, line: &Line) -> Result<String, Fail> {
     Ok(format!(in alloc; "{target} HTTP/1.1\r\n{by}\r\nContent-Length: {length}\r\n\r\n{body}")?)
 }
 
-// Asks for each line on a day, its place from 0 being its word, and compares the reply.
+// Asks for each line on a day, with its place from 0 as the word, and checks the reply.
 fn plays(
     rt: &impl Abort,
     service: &mut Service<ListKeep>,
@@ -310,7 +310,7 @@ fn plays(
     Ok(())
 }
 
-// Fills a service that has room for twelve rows, and asks it for all else.
+// Fills a service that has room for twelve rows, and then asks it for everything else.
 fn fills_up(rt: &impl Abort, service: &mut Service<ListKeep>, alloc: Global) -> Result<(), Fail> {
     plays(rt, service, alloc, "2024-01-31", &FILLING, DONE)?;
     plays(rt, service, alloc, "2024-01-31", &ADDING, REFUSED)?;

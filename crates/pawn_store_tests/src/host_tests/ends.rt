@@ -1,4 +1,4 @@
-//! A reader, a writer and stamps that note how they are called.
+//! A reader, a writer and stamps that note when they are called.
 ghost use Rattle.std.specs.Prelude.{Some};
 
 use pawn_book::Stamp;
@@ -6,8 +6,8 @@ use std::cell::Cell;
 use std::io;
 use std::io::{ErrorKind, Read, Write};
 
-/// The calls of a session in their order, a digit each, and one for several of a sort in a row: 1 is a read, 2 a stamp, and
-/// 3 a write.
+/// The calls of a session in order, as hexadecimal digits: 1 is a read, 2 a stamp, and 3 a write. Several of a sort in
+/// a row are one digit.
 #[derive(Drop)]
 pub struct Log {
     calls: Cell<u64>,
@@ -32,7 +32,7 @@ impl Log {
     }
 }
 
-/// A reader that gives one byte a read where it is slow, and fails at one read alone: the first is 1.
+/// A reader. If it is slow, it gives one byte a read. Only the read numbered `fails_at` fails; the first is 1.
 #[derive(Drop)]
 pub struct Source<'a> {
     pub bytes: &'a [u8],
@@ -58,7 +58,7 @@ impl Read for Source<'_> {
     }
 }
 
-/// A writer that takes one byte a write where it is slow, but for one write, of which it takes nothing or which fails.
+/// A writer. If it is slow, it takes one byte a write. One write fails, or takes nothing.
 #[derive(Drop)]
 pub struct Sink<'a> {
     pub taken: Vec<u8>,

@@ -1,4 +1,4 @@
-//! Statements into writers that fail at one call alone, over a list and over tables.
+//! Statements written to writers that fail at one call only, over a list and over tables.
 ghost use Rattle.std.specs.Prelude.{Some};
 
 use super::turns::TURNS;
@@ -20,14 +20,14 @@ const REPAY: &str = "POST /books/7/pledges/1/repay HTTP/1.1";
 
 const BROKER: &str = "Pledge-Key: 22222222-2222-2222-2222-222222222222";
 
-// How a call fails: with an error, or by taking none of some bytes.
+// How a call fails: with an error, or by taking no byte of some.
 #[derive(Clone, Copy)]
 enum Failure {
     Error,
     Nothing,
 }
 
-// A writer that takes so many bytes a call, fails at one call alone, and counts its calls.
+// A writer that takes so many bytes a call, fails at one call only, and counts its calls.
 #[derive(Drop)]
 struct Flaky {
     taken: Vec<u8>,
@@ -98,7 +98,7 @@ fn whole_of<K: Keep>(rt: &impl Abort, alloc: Global, keep: &mut K) -> Result<Fla
     Ok(writer.into_inner())
 }
 
-// Lets that call fail: the statement ends with it, and a front of it went out.
+// Makes that call fail, and checks that the statement ends there, with its beginning written.
 fn stops_at<K: Keep>(
     rt: &impl Abort,
     alloc: Global,
@@ -117,7 +117,7 @@ fn stops_at<K: Keep>(
     Ok(())
 }
 
-// Lets each call fail in turn, in both ways.
+// Makes each call fail in turn, in both ways.
 fn stops_at_each<K: Keep>(rt: &impl Abort, alloc: Global, keep: &mut K) -> Result<(), Fail> {
     let whole = whole_of(rt, alloc, keep)?;
     assert_eq!(rt; whole.taken.as_slice(), STATEMENT);
@@ -156,8 +156,8 @@ fn repays<K: Keep>(
     Ok(())
 }
 
-// Lets a write fail among the last lines of a statement, which stand in the second page of its entries. The same statement is
-// written then, and a change is made.
+// Makes a write fail among the last lines of a statement, which come from the second page of its entries. After that
+// the same statement is written whole, and a change is made.
 fn goes_on<K: Keep>(rt: &impl Abort, alloc: Global, service: &mut Service<K>) -> Result<(), Fail> {
     takes_ring(rt, service);
     repays(rt, alloc, service, 70)?;

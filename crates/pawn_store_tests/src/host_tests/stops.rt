@@ -1,6 +1,6 @@
-//! A file that fails at some call of a run, as at a stop of the machine which takes what was not synced: what is there when the store
-//! is opened again. Each call of either file is such a stop, from the first, at which the empty store is opened, until a run meets
-//! none. The script `tests/disk.py` shows it over files of the system.
+//! A file fails at some call of a run, as when the machine stops and what was not synced is lost. The tests check what
+//! is there when the store is opened again. Each call of either file is such a stop in turn, from the first, at which
+//! the empty store is opened, until a run meets none. The script `tests/disk.py` shows it over files of the system.
 
 use super::turns::{EXPORT, EXPORT_OTHER, TURNS};
 use super::{ROWS, bytes_of, service_of, service_over, stamp};
@@ -77,8 +77,8 @@ fn played_over<S: Alter + Drop>(
     Some((answered, store))
 }
 
-// A run over disks: how many turns were answered before the first that was not, or none if the store was not opened; whether no
-// call failed; and what a stop then leaves of the disks.
+// A run over disks. It has how many turns were answered before the first that was not, or none if the store was not
+// opened. It also has whether no call failed, and what a stop then leaves of the disks.
 #[derive(Drop)]
 struct Run {
     answered: Option<usize>,
@@ -122,8 +122,8 @@ fn shown_on(rt: &impl Abort, alloc: Global, disks: Disks) -> Option<Shown> {
     shown_over(rt, alloc, conn)
 }
 
-// Lets a file stop at that call. What was answered is there then, with or without the turn in hand; or no book, if the stop came
-// before the store was opened. Tells whether no call failed.
+// Makes a file stop at that call. Then what was answered is there, with or without the turn in hand, or no book if the
+// stop came before the store was opened. Returns whether no call failed.
 fn stops(
     rt: &impl Abort,
     alloc: Global,
@@ -148,7 +148,7 @@ fn stops(
     Ok(run.is_whole)
 }
 
-// Lets a file stop at its first call, at its second, and so on, until a run meets no stop.
+// Makes a file stop at its first call, at its second, and so on, until a run meets no stop.
 fn stops_at_each_call(rt: &impl Abort, alloc: Global, failing: Failing) -> Result<(), Fail> {
     let wanted = shown_after_each(rt, alloc)?;
     for calls in 0..10_000u64 {

@@ -11,8 +11,8 @@ pub struct Turn {
 /// The day of all turns.
 pub const DAY: &str = "2024-01-31";
 
-/// A ring is pawned, seen by its receipt, declared lost, its bearer asks to come, and redeems it, which cancels that. Another
-/// book is filled by an import.
+/// A ring is pawned and seen by its receipt, and the receipt is declared lost. The bearer asks to come, and redeems the
+/// ring, which cancels the booking. Another book is filled by an import.
 pub const TURNS: [Turn; 9] = [
     Turn {
         word: 0,
@@ -61,10 +61,10 @@ pub const TURNS: [Turn; 9] = [
     },
 ];
 
-/// What shows book 7.
+/// The request that exports book 7.
 pub const EXPORT: &[u8] =
     b"GET /books/7/export HTTP/1.1\r\nPledge-Key: 22222222-2222-2222-2222-222222222222\r\nContent-Length: 0\r\n\r\n";
 
-/// What shows book 8.
+/// The request that exports book 8.
 pub const EXPORT_OTHER: &[u8] =
     b"GET /books/8/export HTTP/1.1\r\nPledge-Key: 22222222-2222-2222-2222-222222222222\r\nContent-Length: 0\r\n\r\n";

@@ -39,7 +39,7 @@ fn number(n: u64) -> Result<Number, Fail> {
     Ok(Number::new(n).ok_or("no number")?)
 }
 
-// That book 7 be made, by the operator's key.
+// The request to make book 7, by the operator's key.
 fn making(alloc: Global, key: Secret) -> Result<Request, Fail> {
     let (book, capacity) = (number(7)?, Capacity::new(1).ok_or("no capacity")?);
     let new_book = NewBook {

@@ -25,7 +25,7 @@ impl Read for Torn<'_> {
     }
 }
 
-// Whether it is told of the reader at that row.
+// Whether reading the text fails with `Read` at that row.
 fn is_torn(alloc: Global, bytes: &[u8], row: u64) -> bool {
     match read_book(alloc, Torn { bytes }) {
         Ok(_) => false,
