@@ -105,7 +105,8 @@ fn take_all<R: Read + Drop>(alloc: Global, reader: R) -> Result<ReplayableRows, 
 }
 
 /// Reads a book from a text. A byte order mark is passed over. The error is the text's first fault, with its row.
-/// `Read` and `Memory` may come at any row, once those before it were taken.
+/// `Read` and `Memory` may come at any row, once those before it were taken; they have the row that would have come
+/// next.
 pub fn read_book<R: Read + Drop>(alloc: Global, reader: R) -> Result<ReplayableRows, CsvFault>
     ensures found { IfOk result (λ k. IfSome (R.remaining reader)
         (λ text. IsTextOf (strip_bom text) k)) }

@@ -65,7 +65,8 @@ impl<W> Sink<W> {
     }
 }
 
-// The text of a row with these columns.
+// The text of a row with these columns. It is made in memory before it is written, since csv's writer does not say what
+// went out before it failed. Each row has a writer of its own, since one gives back what it wrote only at its end.
 fn row_text(alloc: Global, columns: &[&[u8]]) -> Result<Vec<u8>, AllocError>
     ensures value { IfOk result
         (λ text. text.items ≡ row_text default_writer (map (λ c. c.now) columns.now)) }

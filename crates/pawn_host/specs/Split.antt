@@ -1,4 +1,4 @@
--- A stream as whole requests and a rest.
+-- A stream as whole requests and a rest: a relation, since the grammar of heads is one.
 pub use Rattle.pawn_host.specs.Limits.{most_requests}
 use Rattle.std.specs.Prelude.{◌≡◌, ◌≢◌, ℕ, ◌<◌, ◌≤◌, ◌⊎◌, Bool, true, false, List, [], ◌∷◌, ◌++◌, length, Ok, Err}
 use Rattle.httparse.specs.Grammar.{RequestHead, HasNoRequest, MayBecomeRequest}

@@ -94,7 +94,7 @@ impl<K: Keep> Service<K> {
         self.keep
     }
 
-    // Shows a bearer the pledges of these receipts.
+    // Shows a bearer the pledges of these receipts. The text goes into memory first, because its length is in the head.
     fn show_receipts(&mut self, stamp: &Stamp, book: Number, receipts: &Receipts) -> Answer
         ensures stays { StaysOpen K.keeping self.old self.new }
         ensures acted { Serves K.keeping self.old self.new

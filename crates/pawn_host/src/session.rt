@@ -86,7 +86,8 @@ enum Rest {
     Stopped(Cause),
 }
 
-// Makes one read, and adds what came to the buffer.
+// Makes one read, and adds what came to the buffer. After the last read that is allowed none is made to see whether
+// the stream has ended: only one more would show it.
 fn fill<R: Read>(reader: &mut Reading<R>, buffer: &mut Buffer) -> Filled
     ensures filled { IsFilled result (left_of R.remaining reader.old)
         (left_of R.remaining reader.new) (unanswered buffer.old) (unanswered buffer.new) }

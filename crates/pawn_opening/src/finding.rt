@@ -9,7 +9,8 @@ use sqlite_std_file::OpenError;
 use std::hash::{BuildHasher, RandomState};
 use std::io::ErrorKind;
 
-/// How many pages of 4,096 bytes of the database file the program keeps in memory, besides those that the system keeps.
+/// How many pages of 4,096 bytes of the database file the program keeps in memory: half of what the library would. The
+/// system keeps them too, and a page that is read again has its checksum computed.
 const KEPT_PAGES: usize = 1000;
 
 /// Opens the log and the database file at a path, and makes those that are missing. `Store` for `:memory:` and for a

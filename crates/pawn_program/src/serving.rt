@@ -25,7 +25,8 @@ pub struct Served {
 
 /// Accepts so many connections, one after the other, and answers the requests of each as `Service::answer_all` does. A
 /// connection that can't be accepted counts as one of them. One that breaks off is closed, and the next is answered.
-/// The stamps of each connection go on where those of the one before it ended.
+/// The stamps of each connection go on where those of the one before it ended. What a peer sends behind its last
+/// request is not read, so it may see a reset after its reply.
 pub fn serve_on<K: Keep, C: Clock>(
     listener: &TcpListener,
     service: &mut Service<K>,

@@ -14,7 +14,7 @@ use pawn_tables::texts::{ADD_ROWS, READ_LIMIT};
 use pawn_tables::{REFUSED, refused, small};
 use sqlite::{Alter, Transaction, params};
 
-/// The stored limit on counted rows.
+/// The stored limit on counted rows. One of 2^32 or more is a fault of the store.
 fn limit_in<S: Alter>(tx: &mut Transaction<'_, S>) -> Result<u32, KeepError>
     ensures same_reference { tx.new.conn.ghost_name ≡ tx.old.conn.ghost_name }
     ensures found { HasCleanDisk (state S.Store tx.new.conn.now) → IsTrue

@@ -60,7 +60,7 @@ fn set_sides<S: Alter>(
 }
 
 /// How many more counted rows a pledge has than are stored of it. It is an error if it has fewer, or if its booking is
-/// gone.
+/// gone: no command takes one away.
 fn rows_added(stored: Stored, pledge: &Pledge) -> Result<u32, KeepError>
     ensures value { IfOk result (λ added. (before : PledgeValue) → IsStored stored (Some before)
         → pledge_rows pledge.now ≡ pledge_rows before + added) }

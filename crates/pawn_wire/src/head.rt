@@ -27,7 +27,7 @@ pub struct HeadFacts {
 pub enum HeadRead {
     /// A whole head.
     Whole(HeadFacts),
-    /// A head that is not complete yet.
+    /// A head that is not complete yet. A rest of line ends alone is one too, since the parser has begun to read.
     Partial,
     /// No head, or one that can't begin a request.
     Fault(HeadFault),
