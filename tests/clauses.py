@@ -22,7 +22,7 @@ def the_page_is_that_of_the_sources():
 
 def it_lists_calls_of_each_kind():
     with open(PAGE, encoding="utf-8") as it:
-        lines = it.read().split("\n")
+        lines = re.sub("\n {4,}", " ", it.read()).split("\n")
     for name, said in LISTED.items():
         found = any(re.match(f"  {name} .*{re.escape(said)}", line) for line in lines)
         expect(f"a line on {name} with {said}", found, True)
