@@ -1,7 +1,6 @@
-#!/usr/bin/env python3
 """Prints what requests over a file take, through `pawnd answer` and `pawnd serve`, beside a bare durable insert.
 
-usage: bench/files.py [--small] [PROGRAM]     (default: build/pawnd)
+usage: python3 -m bench.files [--small] [PROGRAM]     (default: build/pawnd)
 
 The files are made by the program and filled by Python's sqlite3, row by row as the program would. A request's time is
 that from the first reply of a stream to the last, over a fresh copy of the file each time; the best of some runs. A
@@ -20,12 +19,11 @@ import time
 
 SMALL = "--small" in sys.argv
 NAMED = [word for word in sys.argv[1:] if not word.startswith("--")]
-sys.path.insert(0, os.path.join(os.path.dirname(os.path.abspath(__file__)), "../tests"))
 if NAMED:
     os.environ["PAWND"] = NAMED[0]
 
-from service import BROKER, OPERATOR, PROGRAM, SEED, free_port, request  # noqa: E402
-from stores import fill, receipt  # noqa: E402
+from tests.library.service import BROKER, OPERATOR, PROGRAM, SEED, free_port, request  # noqa: E402
+from tests.library.stores import fill, receipt  # noqa: E402
 
 RUNS = 1 if SMALL else 5
 TURNS = 1 if SMALL else 15        # the runs of a stream beside bare inserts

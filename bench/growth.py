@@ -1,8 +1,7 @@
-#!/usr/bin/env python3
 """Prints how the processor time of each request grows: with the pledges of a book and their bookings, with those that
 are asked for one day, with the entries of a pledge, and with the books of a store.
 
-usage: bench/growth.py [--peer PEER] [PROGRAM]     (default: build/pawnd)
+usage: python3 -m bench.growth [--peer PEER] [PROGRAM]     (default: build/pawnd)
 
 PEER is a program as bench/beside.py has it; its times stand beside. Each store is filled by Python's sqlite3. A time is
 that of a process that answers a stream, less that of one that answers none, for each request: the best of some runs.
@@ -20,12 +19,11 @@ if "--peer" in WORDS:
     at = WORDS.index("--peer")
     PEER = os.path.abspath(WORDS[at + 1])
     del WORDS[at:at + 2]
-sys.path.insert(0, os.path.join(os.path.dirname(os.path.abspath(__file__)), "../tests"))
 if WORDS:
     os.environ["PAWND"] = WORDS[0]
 
-from beside import DAY, ENDS, TODAY, receipt, spent, word  # noqa: E402
-from service import BROKER, OPERATOR, PROGRAM, SEED, request  # noqa: E402
+from bench.beside import DAY, ENDS, TODAY, receipt, spent, word  # noqa: E402
+from tests.library.service import BROKER, OPERATOR, PROGRAM, SEED, request  # noqa: E402
 
 RUNS = 7
 # A stream has at most a thousand requests.
