@@ -23,7 +23,9 @@ NAMED = [word for word in WORDS if not word.startswith("--")]
 if len(NAMED) > 1:
     os.environ["PAWND"] = NAMED[1]
 
-from tests.library.service import BROKER, OPERATOR, PROGRAM, SEED, request  # noqa: E402
+from tests.library.keys import BROKER, OPERATOR, SEED  # noqa: E402
+from tests.library.paths import PROGRAM  # noqa: E402
+from tests.library.requests import request  # noqa: E402
 
 RUNS = 30
 TODAY, ENDS, DAY = 19753, 19935, "2024-01-31"  # 2024-01-31 and 2024-07-31, as days since 1970-01-01

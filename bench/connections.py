@@ -18,7 +18,9 @@ import time
 if len(sys.argv) > 1:
     os.environ["PAWND"] = sys.argv[1]
 
-from tests.library.service import OPERATOR, PROGRAM, SEED, Server  # noqa: E402
+from tests.library.keys import OPERATOR, SEED  # noqa: E402
+from tests.library.paths import PROGRAM  # noqa: E402
+from tests.library.program import Server  # noqa: E402
 from bench import requests  # noqa: E402
 
 COUNT = 499

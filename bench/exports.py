@@ -10,7 +10,8 @@ import time
 if len(sys.argv) > 1:
     os.environ["PAWND"] = sys.argv[1]
 
-from tests.library.service import PROGRAM, Server  # noqa: E402
+from tests.library.paths import PROGRAM  # noqa: E402
+from tests.library.program import Server  # noqa: E402
 
 PLEDGES = 10_000
 RUNS = 5

@@ -22,8 +22,11 @@ NAMED = [word for word in sys.argv[1:] if not word.startswith("--")]
 if NAMED:
     os.environ["PAWND"] = NAMED[0]
 
-from tests.library.service import BROKER, OPERATOR, PROGRAM, SEED, free_port, request  # noqa: E402
-from tests.library.stores import fill, receipt  # noqa: E402
+from tests.library.filled_stores import fill, receipt  # noqa: E402
+from tests.library.keys import BROKER, OPERATOR, SEED  # noqa: E402
+from tests.library.paths import PROGRAM  # noqa: E402
+from tests.library.program import free_port  # noqa: E402
+from tests.library.requests import request  # noqa: E402
 
 RUNS = 1 if SMALL else 5
 TURNS = 1 if SMALL else 15        # the runs of a stream beside bare inserts

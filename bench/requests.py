@@ -20,7 +20,9 @@ import time
 if len(sys.argv) > 1:
     os.environ["PAWND"] = sys.argv[1]
 
-from tests.library.service import BROKER, OPERATOR, PROGRAM, SEED, request  # noqa: E402
+from tests.library.keys import BROKER, OPERATOR, SEED  # noqa: E402
+from tests.library.paths import PROGRAM  # noqa: E402
+from tests.library.requests import request  # noqa: E402
 
 RUNS = 9
 

@@ -5,7 +5,12 @@ import os
 import subprocess
 import tempfile
 
-from tests.library.service import BROKER, COLUMNS, OPERATOR, PROGRAM, SEED, check, expect, main, request
+from tests.library.book_texts import COLUMNS
+from tests.library.checks import expect, main
+from tests.library.keys import BROKER, OPERATOR, SEED
+from tests.library.paths import PROGRAM
+from tests.library.program import check
+from tests.library.requests import request
 
 IMPORT = "44444444-4444-4444-4444-444444444444"
 TERMS = [(0, 0, 0), (0, 1, 1), (20_000, 10_000_000, 10_000_000)]

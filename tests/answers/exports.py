@@ -4,7 +4,11 @@ import random
 import subprocess
 import tempfile
 
-from tests.library.service import BROKER, COLUMNS, OPERATOR, Server, expect, main, refusal, request, row
+from tests.library.book_texts import COLUMNS, row
+from tests.library.checks import expect, main
+from tests.library.keys import BROKER, OPERATOR
+from tests.library.program import Server
+from tests.library.requests import refusal, request
 
 IMPORT = "44444444-4444-4444-4444-444444444444"
 

@@ -2,9 +2,13 @@
 import datetime
 import subprocess
 
-from tests.library.service import (
-    BROKER, OPERATOR, PROGRAM, SEED, Server, expect, main, read_all, refusal, request, six_months_after, today,
-)
+from tests.library.checks import expect, main
+from tests.library.dates import six_months_after, today
+from tests.library.keys import BROKER, OPERATOR, SEED
+from tests.library.paths import PROGRAM
+from tests.library.program import Server
+from tests.library.requests import refusal, request
+from tests.library.sessions import read_all
 
 
 def money(pence):

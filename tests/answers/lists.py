@@ -6,7 +6,11 @@ import random
 import subprocess
 import tempfile
 
-from tests.library.service import BROKER, COLUMNS, OPERATOR, PROGRAM, SEED, expect, main, request, row
+from tests.library.book_texts import COLUMNS, row
+from tests.library.checks import expect, main
+from tests.library.keys import BROKER, OPERATOR, SEED
+from tests.library.paths import PROGRAM
+from tests.library.requests import request
 
 # A page has 64 rows.
 SIZES = (0, 1, 63, 64, 65, 128)

@@ -10,7 +10,11 @@ import re
 import subprocess
 import tempfile
 
-from tests.library.service import BROKER, OPERATOR, PROGRAM, check, expect, main, request
+from tests.library.checks import expect, main
+from tests.library.keys import BROKER, OPERATOR
+from tests.library.paths import PROGRAM
+from tests.library.program import check
+from tests.library.requests import request
 
 BOOKS, DAYS, STEPS, SEED = 60, 10, 10, 2024
 REFERENCES = ["A,1", '"', "A 3 ", ' \u00e9,""', "-", "row"]

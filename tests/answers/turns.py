@@ -18,7 +18,11 @@ import subprocess
 import tempfile
 from typing import NamedTuple
 
-from tests.library.service import OPERATOR, PROGRAM, TOP, check, expect, main, opened
+from tests.library.checks import expect, main
+from tests.library.keys import OPERATOR
+from tests.library.paths import PROGRAM, TOP
+from tests.library.program import check
+from tests.library.tables import opened
 
 KEYS = {
     "operator": OPERATOR, "broker": "22222222-2222-2222-2222-222222222222",

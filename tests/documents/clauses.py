@@ -3,7 +3,8 @@ import os
 import re
 import subprocess
 
-from tests.library.service import TOP, expect, main
+from tests.library.checks import expect, main
+from tests.library.paths import TOP
 
 PAGE = os.path.join(TOP, "docs/clauses.txt")
 # A call of a type, one of a trait, a law, a function of the program, and a definition: what each line has.

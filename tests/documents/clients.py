@@ -13,11 +13,13 @@ import subprocess
 import tempfile
 import time
 
-from tests.library.pages.browser import provide
-from tests.library.service import (
-    BROKER, OPERATOR, PATIENCE, PROGRAM, SEED, TOP, Server, Session, expect, free_port, main, read_all, refusal,
-    request,
-)
+from tests.library.checks import expect, main, not_tried
+from tests.library.keys import BROKER, OPERATOR, SEED
+from tests.library.packages import provide
+from tests.library.paths import PROGRAM, TOP
+from tests.library.program import Server, free_port
+from tests.library.requests import refusal, request
+from tests.library.sessions import PATIENCE, Session, read_all
 
 BODY_BYTES = 1_048_576
 KEY, IMPORT, CLOSE = f"Pledge-Key: {BROKER}", f"Import-Key: {BROKER}", "Connection: close"
@@ -65,10 +67,6 @@ const ways = {
 for (let turn = 0; turn < 5; turn += 1) console.log((await ways[how]()).split("Pledge ").length, how);
 """
 RUNS = {"node": "nodejs", "nginx": "nginx-light"}
-
-
-def not_tried(what, why):
-    print(f"not tried: {what}, since {why}", flush=True)
 
 
 def has(program):

@@ -12,10 +12,14 @@ import subprocess
 import sys
 import tempfile
 
+from tests.library.book_texts import COLUMNS, row
+from tests.library.checks import Failed, expect, main, not_tried
 from tests.library.described import (
     CODES, DAY, DESCRIPTION, NOBODY, OPERATIONS, PATH, VALIDATORS, Run, Schema, chosen, compact, resolved,
 )
-from tests.library.service import BROKER, COLUMNS, TOP, Failed, expect, main, opened, row
+from tests.library.keys import BROKER
+from tests.library.paths import TOP
+from tests.library.tables import opened
 
 STRANGER = [["Pledge-Key", "99999999-9999-9999-9999-999999999999"]]
 LATE = "2025-06-01"
@@ -55,10 +59,6 @@ def turn_to(name):
 
 def text(*rows):
     return "\n".join([COLUMNS, *rows, ""]).encode()
-
-
-def not_tried(what, why):
-    print(f"not tried: {what}, since {why}", flush=True)
 
 
 def it_is_valid_and_what_its_generator_writes():

@@ -11,7 +11,8 @@ import re
 import subprocess
 import sys
 
-from tests.library.service import TOP, Failed, expect, main
+from tests.library.checks import Failed, expect, main
+from tests.library.paths import TOP
 
 MADE = ("build/", "data/", "dist/")
 DOCUMENTS = sorted(

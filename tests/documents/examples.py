@@ -9,8 +9,13 @@ import subprocess
 import sys
 import threading
 
-from tests.library.pages.browser import provide
-from tests.library.service import BROKER, OPERATOR, TOP, WAIT, Server, expect, main, read_all, six_months_after, today
+from tests.library.checks import expect, main
+from tests.library.dates import six_months_after, today
+from tests.library.keys import BROKER, OPERATOR
+from tests.library.packages import provide
+from tests.library.paths import TOP
+from tests.library.program import Server
+from tests.library.sessions import WAIT, read_all
 
 RECEIPT = re.compile(r"\d+-[0-9a-f]{8}(?:-[0-9a-f]{4}){3}-[0-9a-f]{12}")
 STARTS = {"py": [sys.executable], "sh": ["bash"], "mjs": ["node"]}

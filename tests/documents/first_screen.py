@@ -13,7 +13,10 @@ import subprocess
 import tempfile
 import time
 
-from tests.library.service import PROGRAM, TOP, Failed, expect, free_port, main, six_months_after, today
+from tests.library.checks import Failed, expect, main
+from tests.library.dates import six_months_after, today
+from tests.library.paths import PROGRAM, TOP
+from tests.library.program import free_port
 
 PORT = "localhost:8080"
 RECEIPT = re.compile(r"1-[0-9a-f]{8}(?:-[0-9a-f]{4}){3}-[0-9a-f]{12}")

@@ -8,7 +8,9 @@ import shutil
 import subprocess
 from collections import defaultdict
 
-from tests.library.service import BROKER, OPERATOR, PROGRAM, TOP, Failed, expect
+from tests.library.checks import Failed, expect
+from tests.library.keys import BROKER, OPERATOR
+from tests.library.paths import PROGRAM, TOP
 
 PATH = os.path.join(TOP, "docs/openapi.json")
 IMPORT = "33333333-3333-3333-3333-333333333333"

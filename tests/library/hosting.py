@@ -14,8 +14,15 @@ import tempfile
 import threading
 import time
 
-from tests.library.pages.browser import PATHS, Once, wait_for
-from tests.library.service import BROKER, COLUMNS, OPERATOR, PROGRAM, TOP, WAIT, Failed, expect, request, today
+from tests.library.book_texts import COLUMNS
+from tests.library.checks import Failed, expect
+from tests.library.dates import today
+from tests.library.keys import BROKER, OPERATOR
+from tests.library.packages import PATHS
+from tests.library.paths import PROGRAM, TOP
+from tests.library.requests import request
+from tests.library.sessions import WAIT, Once
+from tests.library.waiting import wait_for
 
 NAME = "books.example.org"
 # What each program comes in, as a package of Debian.

@@ -13,8 +13,13 @@ import shutil
 import subprocess
 import tempfile
 
-from tests.library.service import BROKER, OPERATOR, PROGRAM, SEED, TOP, Failed, check, expect, request
-from tests.library.stores import TO_FIRST, TO_SECOND, WITHOUT_INDEXES, bent_back, fill, migrated, moved
+from tests.library.checks import Failed, expect
+from tests.library.filled_stores import fill
+from tests.library.keys import BROKER, OPERATOR, SEED
+from tests.library.older_stores import TO_FIRST, TO_SECOND, WITHOUT_INDEXES, bent_back, migrated, moved
+from tests.library.paths import PROGRAM, TOP
+from tests.library.program import check
+from tests.library.requests import request
 
 DAY = "2024-01-31"
 REFUSED = (b'{"code":491,"name":"Memory"}', b'{"code":492,"name":"Store"}')

@@ -11,11 +11,12 @@ import subprocess
 import tempfile
 import time
 
+from tests.library.checks import Failed, expect, main, not_tried
 from tests.library.operator.machines import commands, pack_release
-from tests.library.pages.browser import provide
-from tests.library.service import TOP, Failed, expect, main
+from tests.library.packages import provide
+from tests.library.paths import TOP
 from tests.library.stores import NO_PAGE
-from tests.operator.days import PAGE, ask, enter, first_day, not_tried, with_terms
+from tests.operator.days import PAGE, ask, enter, first_day, with_terms
 
 NEEDED = {"debootstrap": "debootstrap", "systemd-nspawn": "systemd-container"}
 # What the page installs but certbot, and what makes the Debian one that boots.

@@ -13,9 +13,13 @@ import tempfile
 import threading
 import time
 
-from tests.library.hosting import MEMORY, PACKAGES, TOP, Shard, run_shards, steady_port
-from tests.library.pages.browser import PATHS, missing, provide, wait_for
-from tests.library.service import OPERATOR, PROGRAM, check, expect, main
+from tests.library.checks import expect, main, not_tried
+from tests.library.hosting import MEMORY, PACKAGES, Shard, run_shards, steady_port
+from tests.library.keys import OPERATOR
+from tests.library.packages import PATHS, missing, provide
+from tests.library.paths import PROGRAM, TOP
+from tests.library.program import check
+from tests.library.waiting import wait_for
 
 # The calls by which a command changes what another can see.
 CALLS = (
@@ -39,10 +43,6 @@ CALLS = (
 QUIET = ("flock", "connect", "chown", "fchmod", "rmdir", "unlink", "unlinkat", "kill")
 CHANCE = random.Random(48)
 NEEDED = {**PACKAGES, "strace": "strace", "age": "age", "rsync": "rsync"}
-
-
-def not_tried(what, why):
-    print(f"not tried: {what}, since {why}", flush=True)
 
 
 def traced(words, *rules, environment=None):

@@ -5,18 +5,16 @@ import os
 import re
 import tempfile
 
+from tests.library.checks import expect, main, not_tried
 from tests.library.hosting import PACKAGES
+from tests.library.keys import BROKER, OPERATOR
 from tests.library.operator.machines import Machine, can_be_made, commands, pack_release
-from tests.library.pages.browser import missing, provide
-from tests.library.service import BROKER, OPERATOR, PROGRAM, TOP, expect, main
+from tests.library.packages import missing, provide
+from tests.library.paths import PROGRAM, TOP
 
 PAGE = "docs/DEPLOYING.md"
 NEEDED = {**PACKAGES, "age": "age", "rsync": "rsync", "sshd": "openssh-server", "ip": "iproute2"}
 VERSION = "pawnd-VERSION-x86_64-linux"
-
-
-def not_tried(what, why):
-    print(f"not tried: {what}, since {why}", flush=True)
 
 
 def unpack(machine, block, archive):

@@ -12,12 +12,17 @@ import tempfile
 import threading
 import time
 
+from tests.library.checks import expect, main, not_tried
 from tests.library.hosting import (
-    MEMORY, PACKAGES, TOP, Hosted, Recorder, Shard, open_text, proxys, read_reply, status, writers,
+    MEMORY, PACKAGES, Hosted, Recorder, Shard, open_text, proxys, read_reply, status, writers,
 )
-from tests.library.pages.browser import PATHS, missing, provide, wait_for
-from tests.library.service import BROKER, OPERATOR, PROGRAM, check, expect, main, request
-from tests.operator.cut_off import QUIET, each_cut, not_tried, traced, two_at_once
+from tests.library.keys import BROKER, OPERATOR
+from tests.library.packages import PATHS, missing, provide
+from tests.library.paths import PROGRAM, TOP
+from tests.library.program import check
+from tests.library.requests import request
+from tests.library.waiting import wait_for
+from tests.operator.cut_off import QUIET, each_cut, traced, two_at_once
 from tests.operator.shards import mapped, shut_at
 
 NEEDED = {**PACKAGES, "strace": "strace"}

@@ -8,7 +8,9 @@ import subprocess
 import tarfile
 import tempfile
 
-from tests.library.service import TOP, Failed, expect, free_port, main
+from tests.library.checks import Failed, expect, main
+from tests.library.paths import TOP
+from tests.library.program import free_port
 
 LIBRARIES = "libc.so.6"
 

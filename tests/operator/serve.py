@@ -11,7 +11,10 @@ import subprocess
 import tempfile
 import time
 
-from tests.library.service import BROKER, PROGRAM, TOP, Failed, check, expect, free_port, main
+from tests.library.checks import Failed, expect, main
+from tests.library.keys import BROKER
+from tests.library.paths import PROGRAM, TOP
+from tests.library.program import check, free_port
 
 UUID = re.compile(r"[0-9a-f]{8}(-[0-9a-f]{4}){3}-[0-9a-f]{12}\n")
 

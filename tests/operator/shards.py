@@ -10,17 +10,17 @@ import tempfile
 import threading
 import time
 
+from tests.library.checks import expect, main, not_tried
 from tests.library.hosting import (
-    PACKAGES, TOP, Hosted, long_book, open_pledge, open_text, proxys, run_shards, status, writers,
+    PACKAGES, Hosted, long_book, open_pledge, open_text, proxys, run_shards, status, writers,
 )
-from tests.library.pages.browser import missing, provide
-from tests.library.service import BROKER, OPERATOR, PROGRAM, Server, check, copied, expect, main
+from tests.library.keys import BROKER, OPERATOR
+from tests.library.packages import missing, provide
+from tests.library.paths import PROGRAM, TOP
+from tests.library.program import Server, check
+from tests.library.tables import copied
 
 KEY = f"Pledge-Key: {BROKER}"
-
-
-def not_tried(what, why):
-    print(f"not tried: {what}, since {why}", flush=True)
 
 
 def stands_in(path, book):

@@ -7,11 +7,13 @@ import sys
 import tempfile
 import time
 
+from tests.library.checks import expect, main, not_tried
+from tests.library.filled_stores import fill
 from tests.library.hosting import MEMORY, Shard, run_shards
-from tests.library.pages.browser import provide
-from tests.library.service import OPERATOR, check, expect, main
-from tests.library.stores import fill
-from tests.operator.shards import btrfs, not_tried
+from tests.library.keys import OPERATOR
+from tests.library.packages import provide
+from tests.library.program import check
+from tests.operator.shards import btrfs
 
 PLEDGES = next((int(word) for word in sys.argv[1:] if word.isdigit()), 2_000)
 

@@ -7,12 +7,12 @@ import signal
 import subprocess
 import tempfile
 
-from tests.library.pages.browser import provide
-from tests.library.service import OPERATOR, PROGRAM, TOP, Server, Session, expect, free_port, main
-
-
-def not_tried(what, why):
-    print(f"not tried: {what}, since {why}", flush=True)
+from tests.library.checks import expect, main, not_tried
+from tests.library.keys import OPERATOR
+from tests.library.packages import provide
+from tests.library.paths import PROGRAM, TOP
+from tests.library.program import Server, free_port
+from tests.library.sessions import Session
 
 
 def the_units_are_as_systemd_reads_them():

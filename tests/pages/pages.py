@@ -5,12 +5,14 @@ import http.client
 import os
 import subprocess
 
+from tests.library.checks import Failed, expect
+from tests.library.keys import BROKER, OPERATOR
 from tests.library.pages.browser import Pages
 from tests.library.pages.steps import (
     ago, book_text, browser, command, fill_book, find, main, make_book, no_faults, open_book, part, read,
     show_receipt, take_a_ring, the_book_is_read,
 )
-from tests.library.service import BROKER, OPERATOR, TOP, Failed, expect
+from tests.library.paths import TOP
 
 TAB, ENTER, SPACE, DOWN = "\ue004", "\ue007", " ", "\ue015"
 

@@ -2,12 +2,13 @@
 the program."""
 import os
 
+from tests.library.checks import expect
+from tests.library.dates import six_months_after, today
 from tests.library.pages.browser import Pages
 from tests.library.pages.steps import (
     ago, agree, book_text, browser, command, entries, fill_book, find, in_short, in_words, main, make_book,
     no_faults, open_book, part, receipts_made, secret_of, send_taking, take_a_ring, the_book_is_read, unfold,
 )
-from tests.library.service import expect, six_months_after, today
 
 
 ENTER = "\ue007"

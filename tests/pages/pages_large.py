@@ -6,10 +6,14 @@ import random
 import time
 import uuid
 
+from tests.library.checks import Failed, expect
+from tests.library.dates import six_months_after, today
+from tests.library.keys import BROKER, OPERATOR
 from tests.library.pages.browser import Pages
 from tests.library.pages.steps import browser, find, main, no_faults, part
-from tests.library.service import BROKER, OPERATOR, Failed, Server, expect, opened, six_months_after, today
-from tests.library.stores import answer, keyed
+from tests.library.program import Server, answer
+from tests.library.requests import keyed
+from tests.library.tables import opened
 
 EPOCH = datetime.date(1970, 1, 1)
 ARTICLES = (

@@ -3,12 +3,15 @@ in build/pages/."""
 import datetime
 import os
 
-from tests.library.pages.browser import Pages, wait_for
+from tests.library.checks import expect
+from tests.library.dates import six_months_after, today
+from tests.library.keys import BROKER
+from tests.library.pages.browser import Pages
 from tests.library.pages.steps import (
     WRONG_SECRET, ago, book_text, browser, command, entries, find, in_words, main, make_book, no_faults, open_book,
     part, receipts_made, show_receipt, take_a_ring,
 )
-from tests.library.service import BROKER, expect, six_months_after, today
+from tests.library.waiting import wait_for
 
 EVIL = "<img src=x onerror=document.title='ran'>"
 

@@ -6,10 +6,13 @@ import shutil
 import subprocess
 import tempfile
 
+from tests.library.book_texts import row
+from tests.library.checks import expect
+from tests.library.dates import six_months_after, today
+from tests.library.keys import BROKER, OPERATOR
 from tests.library.pages.browser import Pages
 from tests.library.pages.square_code import text_of_code
 from tests.library.pages.steps import ago, book_text, browser, files, fill_book, in_words, main, no_faults, read
-from tests.library.service import BROKER, OPERATOR, expect, row, six_months_after, today
 
 # Texts that broke others' pages: a line that only some call a line, quotes, commas, markup, from right to left, a mark
 # that turns the direction round.

@@ -4,13 +4,15 @@ import re
 import subprocess
 import tempfile
 
-from tests.library.pages.browser import PACKAGES, Pages, missing, provide
+from tests.library.checks import expect
+from tests.library.dates import six_months_after, today
+from tests.library.packages import PACKAGES, missing, provide
+from tests.library.pages.browser import Pages
 from tests.library.pages.square_code import text_of_code
 from tests.library.pages.steps import (
     ago, book_text, browser, command, fill_book, find, in_short, in_words, main, make_book, no_faults, open_book,
     part, show_receipt, take_a_ring, the_book_is_read,
 )
-from tests.library.service import expect, six_months_after, today
 
 READER = {"pdftotext": "poppler-utils"}
 A4, A5 = [210, 297], [148, 210]

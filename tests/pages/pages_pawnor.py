@@ -2,12 +2,14 @@
 nginx, in front of the program."""
 import re
 
-from tests.library.pages.browser import Pages, wait_for
+from tests.library.checks import expect
+from tests.library.dates import six_months_after, today
+from tests.library.pages.browser import Pages
 from tests.library.pages.steps import (
     ago, agree, browser, command, entries, in_short, in_words, main, make_book, no_faults, open_book, show_receipt,
     take_a_ring,
 )
-from tests.library.service import expect, six_months_after, today
+from tests.library.waiting import wait_for
 
 
 def type_receipts(pages, receipts, book=""):

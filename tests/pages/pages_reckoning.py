@@ -5,10 +5,13 @@ import os
 import random
 import tempfile
 
+from tests.library.checks import Failed, expect
+from tests.library.dates import six_months_after
+from tests.library.keys import BROKER, OPERATOR
 from tests.library.pages.browser import Pages
 from tests.library.pages.steps import browser, main
-from tests.library.service import BROKER, OPERATOR, Failed, expect, six_months_after
-from tests.library.stores import answer, keyed, statement
+from tests.library.program import answer
+from tests.library.requests import keyed, statement
 
 DRAWN, WANTED = 1000, 1000
 BEGIN = datetime.date(2023, 8, 26)

@@ -5,7 +5,10 @@ import socket
 import struct
 import time
 
-from tests.library.service import WAIT, Server, expect, main, read_all, refusal, request
+from tests.library.checks import expect, main
+from tests.library.program import Server
+from tests.library.requests import refusal, request
+from tests.library.sessions import WAIT, read_all
 
 NONE = refusal(712, "NoReceipt", "400 Bad Request")
 ASKED = request("GET", "/books/7/held")

@@ -5,8 +5,10 @@ import errno
 import sys
 
 from tests.library import refusing
+from tests.library.checks import expect, main
+from tests.library.keys import BROKER, OPERATOR
 from tests.library.refusing import Ran, each_refused, refusing as refused
-from tests.library.service import BROKER, OPERATOR, expect, main, request
+from tests.library.requests import request
 from tests.library.stories import a_book_that_moves, a_first_pledge
 
 ENDS = ((3, "fault io\n"),)

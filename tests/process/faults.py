@@ -5,10 +5,13 @@ import socket
 import subprocess
 import tempfile
 
-from tests.library.service import (
-    OPERATOR, PROGRAM, SEED, TOP, Server, a_sound_check, check, counted, expect, free_port, main, opened, request,
-)
-from tests.library.stores import database_of, ends, fault, file_of, files_and_log, stays, with_its_log
+from tests.library.checks import expect, main
+from tests.library.keys import OPERATOR, SEED
+from tests.library.paths import PROGRAM, TOP
+from tests.library.program import Server, a_sound_check, check, ends, fault, free_port
+from tests.library.requests import request
+from tests.library.stores import database_of, file_of, files_and_log, stays, with_its_log
+from tests.library.tables import counted, opened
 
 DAY = "2024-01-31"
 USAGE = (2, "usage: pawnd answer|serve|migrate|check\n")

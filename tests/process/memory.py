@@ -10,8 +10,9 @@ import sys
 import tempfile
 
 from tests.library import refusing
+from tests.library.checks import expect, main
+from tests.library.program import Server
 from tests.library.refusing import each_refused, each_refused_in_a_migration
-from tests.library.service import Server, expect, main
 from tests.library.stories import a_book_that_moves, a_first_pledge, a_lost_receipt, two_for_a_window
 
 EVERY = bool(os.environ.get("EVERY"))

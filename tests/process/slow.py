@@ -8,8 +8,13 @@ import sys
 import tempfile
 import time
 
-from tests.library.service import BROKER, COLUMNS, OPERATOR, Server, expect, main, read_all, refusal, request
-from tests.library.stores import fill, keyed, receipt
+from tests.library.book_texts import COLUMNS
+from tests.library.checks import expect, main
+from tests.library.filled_stores import fill, receipt
+from tests.library.keys import BROKER, OPERATOR
+from tests.library.program import Server
+from tests.library.requests import keyed, refusal, request
+from tests.library.sessions import read_all
 
 PLEDGES = int(sys.argv[1]) if len(sys.argv) > 1 else 20_000
 IMPORT = "44444444-4444-4444-4444-444444444444"

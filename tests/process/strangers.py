@@ -12,7 +12,11 @@ import subprocess
 import sys
 import tempfile
 
-from tests.library.service import BROKER, OPERATOR, PROGRAM, SEED, Failed, Server, check, expect, main, request
+from tests.library.checks import Failed, expect, main
+from tests.library.keys import BROKER, OPERATOR, SEED
+from tests.library.paths import PROGRAM
+from tests.library.program import Server, check
+from tests.library.requests import request
 from tests.library.stories import STORIES
 
 STREAMS = int(sys.argv[1]) if len(sys.argv) > 1 else 400

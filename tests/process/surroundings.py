@@ -14,10 +14,12 @@ import tempfile
 import time
 
 from tests.library import refusing
-from tests.library.service import (
-    OPERATOR, PROGRAM, SEED, TOP, Failed, Server, check, expect, free_port, main, read_all, refusal, request,
-)
-from tests.library.stores import DAY, ends, fault
+from tests.library.checks import Failed, expect, main
+from tests.library.keys import OPERATOR, SEED
+from tests.library.paths import PROGRAM, TOP
+from tests.library.program import DAY, Server, check, ends, fault, free_port
+from tests.library.requests import refusal, request
+from tests.library.sessions import read_all
 
 NONE = refusal(712, "NoReceipt", "400 Bad Request")
 LAST = request("GET", "/books/7/held", "Connection: close")
@@ -204,7 +206,7 @@ def output_that_nobody_reads():
 
 def what_tests_start_ignores_no_signal():
     """A script that ignores signals, as in the background of a shell or under nohup, starts programs that do not."""
-    asks = "import subprocess, tests.library.service; subprocess.run(['grep', 'SigIgn', '/proc/self/status'])"
+    asks = "import subprocess, tests.library.checks; subprocess.run(['grep', 'SigIgn', '/proc/self/status'])"
     ignored = (signal.SIGHUP, signal.SIGINT, signal.SIGQUIT)
     ran = subprocess.run(
         [sys.executable, "-c", asks], cwd=TOP, stdout=subprocess.PIPE,

@@ -11,20 +11,23 @@ import socket
 import subprocess
 import tempfile
 
+from tests.library.checks import Failed, expect, main, not_tried
+from tests.library.dates import today
 from tests.library.described import IMPORT
 from tests.library.hosting import BOOKS, NAME, PACKAGES, Caller, Hosted, Recorder, proxys, put, status
-from tests.library.pages.browser import answers, missing, provide, wait_for
-from tests.library.service import BROKER, OPERATOR, TOP, Failed, expect, free_port, main, read_all, request, today
+from tests.library.keys import BROKER, OPERATOR
+from tests.library.packages import missing, provide
+from tests.library.paths import TOP
+from tests.library.program import free_port
+from tests.library.requests import request
+from tests.library.sessions import read_all
+from tests.library.waiting import answers, wait_for
 
 KEY = f"Pledge-Key: {BROKER}"
 SECRET = re.compile(r"[0-9a-f]{8}(?:-[0-9a-f]{4}){3}-[0-9a-f]{12}")
 NOT_HANDED_ON = b'{"proxy":%d,"handed_on":false}'
 # The program reads a target whole, and its book so.
 READ = re.compile(r"/books/([1-9][0-9]{0,8})(/.*)?")
-
-
-def not_tried(what, why):
-    print(f"not tried: {what}, since {why}", flush=True)
 
 
 # ---- a pledge's life, by curl

@@ -14,14 +14,20 @@ import subprocess
 import tempfile
 import time
 
+from tests.library.checks import expect, main, not_tried
+from tests.library.dates import today
 from tests.library.described import IMPORT, OPERATIONS, chosen, compact
 from tests.library.hosting import (
     BOOKS, LENGTH, NAME, PACKAGES, Caller, Hosted, Recorder, long_book, open_pledge, proxys, put, read_reply,
     status, writers,
 )
-from tests.library.pages.browser import PATHS, missing, provide, wait_for
-from tests.library.service import BROKER, OPERATOR, TOP, Server, expect, free_port, main, request, today
-from tests.proxy.deploy import KEY, SECRET, not_tried
+from tests.library.keys import BROKER, OPERATOR
+from tests.library.packages import PATHS, missing, provide
+from tests.library.paths import TOP
+from tests.library.program import Server, free_port
+from tests.library.requests import request
+from tests.library.waiting import wait_for
+from tests.proxy.deploy import KEY, SECRET
 
 
 # ---- the same bytes

@@ -5,10 +5,12 @@ import os
 import shutil
 import tempfile
 
-from tests.library.service import (
-    BROKER, OPERATOR, Server, a_sound_check, by_python, by_the_shell, check, counted, expect, main, opened, request,
-)
-from tests.library.stores import answer, bent_by, keyed, loosened, opening, shown, statement
+from tests.library.checks import expect, main
+from tests.library.keys import BROKER, OPERATOR
+from tests.library.program import Server, a_sound_check, answer, check
+from tests.library.requests import keyed, opening, request, shown, statement
+from tests.library.stores import bent_by, loosened
+from tests.library.tables import by_python, by_the_shell, counted, opened
 
 DAMAGED = (1, "", "fault 513 Damaged\n")
 STORE = (503, {"code": 492, "name": "Store"})

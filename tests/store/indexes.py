@@ -7,8 +7,13 @@ import subprocess
 import tempfile
 import time
 
-from tests.library.service import PROGRAM, TOP, Server, by_python, check, copied, expect, main, opened, request
-from tests.library.stores import ENDS, WITHOUT_INDEXES, answer, bent_back, fill, keyed, migrated, moved, receipt
+from tests.library.checks import expect, main
+from tests.library.filled_stores import ENDS, fill, receipt
+from tests.library.older_stores import WITHOUT_INDEXES, bent_back, migrated, moved
+from tests.library.paths import PROGRAM, TOP
+from tests.library.program import Server, answer, check
+from tests.library.requests import keyed, request
+from tests.library.tables import by_python, copied, opened
 
 TEXTS = {
     "bookings_by_time": "CREATE INDEX bookings_by_time ON bookings (book, day, state, number, slot)",

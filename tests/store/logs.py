@@ -6,8 +6,10 @@ import random
 import shutil
 import tempfile
 
-from tests.library.service import BROKER, OPERATOR, Server, check, expect, main
-from tests.library.stores import answer, keyed
+from tests.library.checks import expect, main
+from tests.library.keys import BROKER, OPERATOR
+from tests.library.program import Server, answer, check
+from tests.library.requests import keyed
 
 CHANCE = random.Random(33)
 EXPORT = keyed("GET", "/books/7/export")

@@ -9,14 +9,15 @@ import tempfile
 import threading
 import time
 
-from tests.library.service import (
-    BROKER, COLUMNS, OPERATOR, PROGRAM, Server, a_sound_check, by_python, check, copied, expect, main, opened,
-    request,
-)
-from tests.library.stores import (
-    TO_FIRST, TO_SECOND, WITHOUT_INDEXES, answer, bent_back, bent_by, database_of, ends, fault, file_of, keyed,
-    migrated, moved, opening, shown, statement, stays, with_its_log,
-)
+from tests.library.book_texts import COLUMNS
+from tests.library.checks import expect, main
+from tests.library.keys import BROKER, OPERATOR
+from tests.library.older_stores import TO_FIRST, TO_SECOND, WITHOUT_INDEXES, bent_back, migrated, moved
+from tests.library.paths import PROGRAM
+from tests.library.program import Server, a_sound_check, answer, check, ends, fault
+from tests.library.requests import keyed, opening, request, shown, statement
+from tests.library.stores import bent_by, database_of, file_of, stays, with_its_log
+from tests.library.tables import by_python, copied, opened
 
 DAMAGED = fault(513, "Damaged")
 

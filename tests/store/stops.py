@@ -12,9 +12,12 @@ import tempfile
 import threading
 import time
 
-from tests.library.service import (
-    OPERATOR, PROGRAM, Failed, Server, a_sound_check, check, counted, expect, free_port, main, today,
-)
+from tests.library.checks import Failed, expect, main
+from tests.library.dates import today
+from tests.library.keys import OPERATOR
+from tests.library.paths import PROGRAM
+from tests.library.program import Server, a_sound_check, check, free_port
+from tests.library.tables import counted
 
 # So many stops at most, and so many at least: fewer than the most where they take more than SPAN seconds, and the least
 # within LIMIT seconds.

@@ -9,7 +9,8 @@ import subprocess
 import tempfile
 import time
 
-from tests.library.service import PROGRAM, TOP, Failed
+from tests.library.checks import Failed
+from tests.library.paths import PROGRAM, TOP
 
 FOLDERS = ("/etc", "/opt", "/root", "/run", "/usr/local", "/var")
 STAND_INS = ("systemctl", "apt-get", "certbot")

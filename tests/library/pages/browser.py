@@ -14,34 +14,16 @@ import time
 import urllib.error
 import urllib.request
 
-from tests.library.service import TOP, Failed, Server, Session, expect, free_port
+from tests.library.checks import Failed, expect
+from tests.library.paths import TOP
+from tests.library.program import Server, free_port
+from tests.library.sessions import Once
+from tests.library.waiting import answers, wait_for
 
-# What each program comes in, as a package of Debian.
-PACKAGES = {"nginx": "nginx-light", "chromium": "chromium", "chromedriver": "chromium-driver"}
-PATHS = os.environ.get("PATH", "") + ":/usr/sbin"
+
 SHOTS = os.path.join(TOP, "build/pages")
 WIDTHS = (390, 1280)
 PATIENCE = 10
-
-
-def missing(packages=PACKAGES):
-    return [name for name in packages if shutil.which(name, path=PATHS) is None]
-
-
-def provide(packages=PACKAGES):
-    """Installs the packages of what is missing, if this is root on a Debian; gives what is missing then."""
-    if missing(packages) and os.geteuid() == 0 and shutil.which("apt-get"):
-        # The run level keeps the package of nginx from starting a server of its own.
-        quiet = {**os.environ, "DEBIAN_FRONTEND": "noninteractive", "RUNLEVEL": "1"}
-        for words in (
-            ["update"], ["install", "-y", "--no-install-recommends", *(packages[name] for name in missing(packages))],
-        ):
-            with contextlib.suppress(subprocess.SubprocessError):
-                subprocess.run(
-                    ["apt-get", *words], env=quiet, stdin=subprocess.DEVNULL, stdout=subprocess.DEVNULL,
-                    stderr=subprocess.DEVNULL, timeout=300,
-                )
-    return missing(packages)
 
 
 class Relay:
@@ -100,17 +82,6 @@ class Relay:
         return head + b"\r\n\r\n" + body
 
 
-class Once(Session):
-    """Requests on a connection each: one that is kept holds the service, which answers one connection after the
-    other."""
-
-    def ask(self, *words, **fields):
-        try:
-            return super().ask(*words, **fields)
-        finally:
-            self.close()
-
-
 class Pages:
     """The pages by `tools/pages`, in front of a service; of a store in memory, where no other is made in the room."""
 
@@ -144,22 +115,6 @@ class Pages:
     def end_nginx(self):
         os.killpg(self.nginx.pid, signal.SIGTERM)
         self.nginx.wait(timeout=20)
-
-
-def answers(address):
-    with contextlib.suppress(OSError):
-        return urllib.request.urlopen(address, timeout=5).status == 200
-    return False
-
-
-def wait_for(found, what, patience=PATIENCE):
-    """What the function gives once it is something."""
-    end = time.monotonic() + patience
-    while time.monotonic() < end:
-        if it := found():
-            return it
-        time.sleep(0.03)
-    raise Failed(f"{what}: not there after {patience} seconds")
 
 
 class Browser:

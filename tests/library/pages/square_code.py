@@ -1,5 +1,5 @@
 """A reader of the square codes of receipts: versions 6 to 15, mask 0, bytes alone, and no repair of what is spoilt."""
-from tests.library.service import expect
+from tests.library.checks import expect
 
 GENERATOR = [1]
 for _ in range(254):

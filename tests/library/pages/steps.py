@@ -5,8 +5,13 @@ import os
 import signal
 import time
 
-from tests.library.pages.browser import Browser, missing, provide
-from tests.library.service import BROKER, COLUMNS, OPERATOR, TOP, Failed, expect, main as run_tests, row, today
+from tests.library.book_texts import COLUMNS, row
+from tests.library.checks import Failed, expect, main as run_tests
+from tests.library.dates import today
+from tests.library.keys import BROKER, OPERATOR
+from tests.library.packages import missing, provide
+from tests.library.pages.browser import Browser
+from tests.library.paths import TOP
 
 WEB = os.path.join(TOP, "web")
 WRONG_SECRET = "00000000-0000-4000-8000-000000000000"

@@ -1,0 +1,32 @@
+"""Requests and refusals, as the bytes that are sent."""
+import json
+
+from tests.library.keys import BROKER
+
+
+def request(method, target, *fields, body="", version="HTTP/1.1"):
+    """The bytes of a request."""
+    length = [f"Content-Length: {len(body.encode())}"] if body else []
+    return "\r\n".join([f"{method} {target} {version}", *fields, *length, "", body]).encode()
+
+
+def keyed(method, target, body=None, key=BROKER):
+    return request(method, target, f"Pledge-Key: {key}", body="" if body is None else json.dumps(body))
+
+
+def shown(receipt, book):
+    return request("GET", f"/books/{book}/held", f"Pledge-Receipt: {receipt}")
+
+
+def statement(number, book=7):
+    return keyed("GET", f"/books/{book}/pledges/{number}")
+
+
+def opening(number, kind="fixed"):
+    return {"article": "Gold ring", "five_days": False, "kind": kind, "pence": 10000, "ref": f"A{number}"}
+
+
+def refusal(code, name, status="404 Not Found", **more):
+    """The bytes of a reply that refuses."""
+    said = json.dumps({"code": code, "name": name, **more}, separators=(",", ":"))
+    return f"HTTP/1.1 {status}\r\nContent-Length: {len(said)}\r\nContent-Type: application/json\r\n\r\n{said}".encode()
