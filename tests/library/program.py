@@ -75,11 +75,12 @@ def answer(path, *requests, seed=SEED, day=DAY):
     return replies
 
 
-def ends(*words, stdin=subprocess.DEVNULL, stdout=subprocess.DEVNULL):
+def how_it_ends(*words, stdin=subprocess.DEVNULL, stdout=subprocess.DEVNULL):
     """The status and what went to the standard error."""
     ran = subprocess.run([PROGRAM, *words], stdin=stdin, stdout=stdout, stderr=subprocess.PIPE, timeout=30)
     return ran.returncode, ran.stderr.decode()
 
 
 def fault(number, name):
+    """How a run ends that a fault ends."""
     return 1, f"fault {number} {name}\n"

@@ -14,9 +14,11 @@ import subprocess
 import tempfile
 
 from tests.library.checks import Failed, expect
-from tests.library.filled_stores import fill
+from tests.library.filled_stores import fill_store
 from tests.library.keys import BROKER, OPERATOR, SEED
-from tests.library.older_stores import TO_FIRST, TO_SECOND, WITHOUT_INDEXES, bent_back, migrated, moved
+from tests.library.older_stores import (
+    BACK_TO_FIRST, BACK_TO_SECOND, WITHOUT_INDEXES, a_sound_migration, migrate, older_copy,
+)
 from tests.library.paths import PROGRAM, TOP
 from tests.library.program import check
 from tests.library.requests import request
@@ -198,13 +200,13 @@ def each_refused_in_a_migration(calls, ends, step=1, first=lambda: 1, books=8, *
     indexes. Each run does it or ends as one of ends, and leaves the store for another try, which leads to the same
     books. Gives how many calls there were for each schema."""
     told = []
-    for number, statements in ((1, TO_FIRST), (2, TO_SECOND), (3, WITHOUT_INDEXES)):
+    for number, statements in ((1, BACK_TO_FIRST), (2, BACK_TO_SECOND), (3, WITHOUT_INDEXES)):
         with tempfile.TemporaryDirectory() as room:
             made, count = os.path.join(room, "made"), os.path.join(room, "count")
-            fill(made, books, 1, entries=2, bookings=True)
-            old = bent_back(made, os.path.join(room, "old"), *statements)
-            whole = bent_back(old, os.path.join(room, "whole"))
-            expect("a migration", migrated(whole, refusing(calls, count=count)), moved(number))
+            fill_store(made, books, 1, entries=2, bookings=True)
+            old = older_copy(made, os.path.join(room, "old"), *statements)
+            whole = older_copy(old, os.path.join(room, "whole"))
+            expect("a migration", migrate(whole, refusing(calls, count=count)), a_sound_migration(number))
             with open(count) as it:
                 told.append(int(it.read()))
             wanted = texts_of(whole)
@@ -227,9 +229,9 @@ def each_refused_in_a_migration(calls, ends, step=1, first=lambda: 1, books=8, *
 
 def one_of_a_migration(old, path, number, ends, wanted, step, environment):
     """Moves a copy of an old store with something refused, and moves it again: it holds the same books."""
-    bent_back(old, path)
-    ended = migrated(path, environment)
-    if ended != moved(number) and ended not in ends:
+    older_copy(old, path)
+    ended = migrate(path, environment)
+    if ended != a_sound_migration(number) and ended not in ends:
         raise Failed(f"a migration from {number}, {step}: {ended}")
-    expect(f"it is moved then, {step}", migrated(path) in (moved(number), moved(3)), True)
+    expect(f"it is moved then, {step}", migrate(path) in (a_sound_migration(number), a_sound_migration(3)), True)
     expect(f"what it holds, {step}", texts_of(path), wanted)

@@ -10,19 +10,23 @@ def request(method, target, *fields, body="", version="HTTP/1.1"):
     return "\r\n".join([f"{method} {target} {version}", *fields, *length, "", body]).encode()
 
 
-def keyed(method, target, body=None, key=BROKER):
+def keyed_request(method, target, body=None, key=BROKER):
+    """The bytes of a request with a key: the broker's, where no other is given."""
     return request(method, target, f"Pledge-Key: {key}", body="" if body is None else json.dumps(body))
 
 
-def shown(receipt, book):
+def held_request(receipt, book):
+    """A bearer's request for what the receipt holds."""
     return request("GET", f"/books/{book}/held", f"Pledge-Receipt: {receipt}")
 
 
-def statement(number, book=7):
-    return keyed("GET", f"/books/{book}/pledges/{number}")
+def statement_request(number, book=7):
+    """A broker's request for a pledge's statement."""
+    return keyed_request("GET", f"/books/{book}/pledges/{number}")
 
 
-def opening(number, kind="fixed"):
+def opening_body(number, kind="fixed"):
+    """The body of a request that opens a pledge."""
     return {"article": "Gold ring", "five_days": False, "kind": kind, "pence": 10000, "ref": f"A{number}"}
 
 

@@ -20,7 +20,7 @@ def bent_by(statement, *values):
     return bend
 
 
-def loosened(table, old, new, *statements):
+def table_remade(table, old, new, *statements):
     """The table made anew by another text, with the rows that it had, and then these statements."""
 
     def bend(tables):

@@ -31,7 +31,7 @@ def copied(path):
         yield copy
 
 
-def by_python(path):
+def rows_by_python(path):
     """How many rows each counted table of the file holds, which is sound to Python's sqlite3."""
     with opened(path) as tables:
         expect("its integrity", tables.execute("PRAGMA integrity_check").fetchall(), [("ok",)])
@@ -43,7 +43,7 @@ def by_python(path):
     return rows
 
 
-def by_the_shell(path, rows):
+def the_shell_agrees(path, rows):
     """The file is sound to the shell sqlite3 too, and holds so many rows there, if the shell is installed."""
     if shutil.which("sqlite3"):
         asked = [
@@ -60,7 +60,7 @@ def by_the_shell(path, rows):
 def counted(path):
     """How many rows each counted table holds, by others that open the file with its log, each a copy of its own."""
     with copied(path) as copy:
-        rows = by_python(copy)
+        rows = rows_by_python(copy)
     with copied(path) as copy:
-        by_the_shell(copy, rows)
+        the_shell_agrees(copy, rows)
     return rows

@@ -8,7 +8,7 @@ import tempfile
 import time
 
 from tests.library.checks import expect, main, not_tried
-from tests.library.filled_stores import fill
+from tests.library.filled_stores import fill_store
 from tests.library.hosting import MEMORY, Shard, run_shards
 from tests.library.keys import OPERATOR
 from tests.library.packages import provide
@@ -82,7 +82,7 @@ def the_log_is_folded_in_after_a_stop():
     """All is there as it was, and the start reads the file once."""
     with tempfile.TemporaryDirectory(dir=MEMORY) as room:
         shard = Shard(os.path.join(room, "1"), OPERATOR)
-        fill(shard.path, 1, PLEDGES, entries=1)
+        fill_store(shard.path, 1, PLEDGES, entries=1)
         rewritten(shard.path)
         shutil.copytree(os.path.join(room, "1"), os.path.join(room, "pattern"))
         by_itself = timed(shard)

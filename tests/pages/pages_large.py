@@ -12,7 +12,7 @@ from tests.library.keys import BROKER, OPERATOR
 from tests.library.pages.browser import Pages
 from tests.library.pages.steps import browser, find, main, no_faults, part
 from tests.library.program import Server, answer
-from tests.library.requests import keyed
+from tests.library.requests import keyed_request
 from tests.library.tables import opened
 
 EPOCH = datetime.date(1970, 1, 1)
@@ -32,8 +32,8 @@ def number_of(day):
 def filled(path, count):
     """A file with book 7, whose pledges are put in by SQL, as the program stores them: a third are closed, some wait
     for an answer."""
-    book = keyed("POST", "/books/7", {"capacity": 2, "key": BROKER, "name": "High Street"}, OPERATOR)
-    terms = keyed("POST", "/books/7/terms", {"keep_after": 0, "keep_before": 0, "rate": 0, "version": 1})
+    book = keyed_request("POST", "/books/7", {"capacity": 2, "key": BROKER, "name": "High Street"}, OPERATOR)
+    terms = keyed_request("POST", "/books/7/terms", {"keep_after": 0, "keep_before": 0, "rate": 0, "version": 1})
     expect("the book", [status for status, _ in answer(path, book, terms)], [200, 200])
     draw, now = random.Random(count), today()
     pledges, secrets, totals, bookings = [], [], [], []

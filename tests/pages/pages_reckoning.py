@@ -11,7 +11,7 @@ from tests.library.keys import BROKER, OPERATOR
 from tests.library.pages.browser import Pages
 from tests.library.pages.steps import browser, main
 from tests.library.program import answer
-from tests.library.requests import keyed, statement
+from tests.library.requests import keyed_request, statement_request
 
 DRAWN, WANTED = 1000, 1000
 BEGIN = datetime.date(2023, 8, 26)
@@ -52,9 +52,9 @@ def drawn_command(draw, book, day):
     ) if pledge["kind"] == "fixed" else draw.choice(("draw", "draw", "repay", "repay", "extend"))
     target = f"/books/7/pledges/{pledge['number']}/{sort}"
     if sort == "extend":
-        return pledge, keyed("POST", target, {"until": str(day + datetime.timedelta(days=draw.randrange(400)))})
+        return pledge, keyed_request("POST", target, {"until": str(day + datetime.timedelta(days=draw.randrange(400)))})
     most = pledge["pence"] if draw.random() < 0.5 else min(pledge["pence"], draw.choice((1, 10, 1000)))
-    return pledge, keyed("POST", target, {"pence": draw.randrange(1, most + 1), "seq": pledge["seq"]})
+    return pledge, keyed_request("POST", target, {"pence": draw.randrange(1, most + 1), "seq": pledge["seq"]})
 
 
 def work(path, draw, day, book, each):
@@ -64,7 +64,7 @@ def work(path, draw, day, book, each):
     if version < len(TERMS) and (not book or draw.random() < 0.4):
         rate, before, after = TERMS[version]
         asked.append(
-            keyed(
+            keyed_request(
                 "POST", "/books/7/terms",
                 {"keep_after": after, "keep_before": before, "rate": rate, "version": version + 1},
             )
@@ -74,7 +74,7 @@ def work(path, draw, day, book, each):
     )
     openings = [drawn_opening(draw, len(book) + place, day) for place in range(1, each + 1)]
     replies = answer(
-        path, *(keyed("POST", "/books/7/pledges", opening) for opening in openings), day=str(day),
+        path, *(keyed_request("POST", "/books/7/pledges", opening) for opening in openings), day=str(day),
         seed=f"{day.toordinal():064x}",
     )
     expect("the openings", [status for status, _ in replies], [200] * len(openings))
@@ -113,7 +113,7 @@ def look(path, draw, days, book):
         ending = [pledge for pledge in book if abs((six_months_after(pledge["day"]) - day).days) < 7]
         asked = (draw.sample(ending, min(len(ending), each // 2)) + draw.sample(book, each))[:each]
         for pledge, (status, text) in zip(
-            asked, answer(path, *(statement(pledge["number"]) for pledge in asked), day=str(day)),
+            asked, answer(path, *(statement_request(pledge["number"]) for pledge in asked), day=str(day)),
         ):
             expect("a statement", status, 200)
             lines = dict(line.split(" ", 1) for line in text.splitlines() if not line.startswith(("Entry", "Extended")))
@@ -153,14 +153,14 @@ def what_will_be_owed_is_what_the_program_says():
     with tempfile.TemporaryDirectory() as room:
         path = os.path.join(room, "books.db")
         made = answer(
-            path, keyed("POST", "/books/7", {"capacity": 2, "key": BROKER, "name": "High Street"}, OPERATOR),
+            path, keyed_request("POST", "/books/7", {"capacity": 2, "key": BROKER, "name": "High Street"}, OPERATOR),
             day=str(BEGIN),
         )
         expect("the book", made[0][0], 200)
         for place, day in enumerate(days):
             work(path, draw, day, book, DRAWN * (place + 1) // len(days) - DRAWN * place // len(days))
         told = look(path, draw, days_to_look(draw, days[-1], book), book)
-        (_, text), = answer(path, keyed("GET", "/books/7/export"), day=str(days[-1]))
+        (_, text), = answer(path, keyed_request("GET", "/books/7/export"), day=str(days[-1]))
     rows = {kind: text.count(f"\n{kind},") for kind in "TPEX"}
     if rows["T"] != len(TERMS) or rows["P"] != DRAWN or rows["E"] < 500 or rows["X"] < 100:
         raise Failed(f"the drawn book is too poor: {rows}")

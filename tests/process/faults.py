@@ -8,7 +8,7 @@ import tempfile
 from tests.library.checks import expect, main
 from tests.library.keys import OPERATOR, SEED
 from tests.library.paths import PROGRAM, TOP
-from tests.library.program import Server, a_sound_check, check, ends, fault, free_port
+from tests.library.program import Server, a_sound_check, check, fault, free_port, how_it_ends
 from tests.library.requests import request
 from tests.library.stores import database_of, file_of, files_and_log, stays, with_its_log
 from tests.library.tables import counted, opened
@@ -24,7 +24,7 @@ def the_words_are_those_of_no_command():
         ("answer", ":memory:", DAY, SEED, OPERATOR, "x"), ("serve", ":memory:", "8080"),
         ("serve", ":memory:", "8080", OPERATOR, "x"), ("migrate",), ("check",), ("check", "books", "x"),
     ]:
-        expect(f"{words}", ends(*words), USAGE)
+        expect(f"{words}", how_it_ends(*words), USAGE)
 
 
 def the_first_fault_of_answer_is_told():
@@ -37,7 +37,7 @@ def the_first_fault_of_answer_is_told():
             (("books", DAY, SEED, "no/such/file"), fault(803, "BadKey")),
             (("books", DAY, SEED, "/"), fault(803, "BadKey")),
             (("no/such/books", DAY, SEED, OPERATOR), fault(503, "Store"))]:
-        expect(f"answer {words}", ends("answer", *words), wanted)
+        expect(f"answer {words}", how_it_ends("answer", *words), wanted)
 
 
 def the_first_fault_of_serve_is_told():
@@ -49,7 +49,7 @@ def the_first_fault_of_serve_is_told():
             (("books", "", "x"), fault(802, "BadPort")),
             (("books", "8080", "no/such/file"), fault(803, "BadKey")),
             (("no/such/books", "8080", OPERATOR), fault(503, "Store"))]:
-        expect(f"serve {words}", ends("serve", *words), wanted)
+        expect(f"serve {words}", how_it_ends("serve", *words), wanted)
 
 
 def a_key_may_stand_in_a_file():
@@ -58,7 +58,7 @@ def a_key_may_stand_in_a_file():
             path = os.path.join(room, "key")
             with open(path, "w", newline="") as it:
                 it.write(OPERATOR + end)
-            expect(f"a line end {end!r}", ends("answer", ":memory:", DAY, SEED, path), wanted)
+            expect(f"a line end {end!r}", how_it_ends("answer", ":memory:", DAY, SEED, path), wanted)
 
 
 def stored(name):
@@ -130,9 +130,9 @@ def against_its_own_text(table, old, new, *statements):
 
 
 def is_refused(path, wanted, step):
-    expect(f"answer, {step}", ends("answer", path, DAY, SEED, OPERATOR), wanted)
-    expect(f"serve, {step}", ends("serve", path, str(free_port()), OPERATOR), wanted)
-    expect(f"check, {step}", ends("check", path), wanted)
+    expect(f"answer, {step}", how_it_ends("answer", path, DAY, SEED, OPERATOR), wanted)
+    expect(f"serve, {step}", how_it_ends("serve", path, str(free_port()), OPERATOR), wanted)
+    expect(f"check, {step}", how_it_ends("check", path), wanted)
 
 
 def is_refused_and_stays(path, wanted, step):
@@ -216,14 +216,14 @@ def a_port_that_is_taken_is_not_listened_on():
     with socket.socket() as taken:
         taken.bind(("127.0.0.1", port))
         taken.listen()
-        expect("serve", ends("serve", ":memory:", str(port), OPERATOR), IO)
-        expect("serve, over no store", ends("serve", "/", str(port), OPERATOR), fault(503, "Store"))
+        expect("serve", how_it_ends("serve", ":memory:", str(port), OPERATOR), IO)
+        expect("serve, over no store", how_it_ends("serve", "/", str(port), OPERATOR), fault(503, "Store"))
 
 
 def input_that_cannot_be_read_breaks_off():
     folder = os.open("/", os.O_RDONLY)
     try:
-        expect("answer", ends("answer", ":memory:", DAY, SEED, OPERATOR, stdin=folder), IO)
+        expect("answer", how_it_ends("answer", ":memory:", DAY, SEED, OPERATOR, stdin=folder), IO)
     finally:
         os.close(folder)
 
@@ -232,8 +232,8 @@ def output_that_cannot_be_written_breaks_off():
     with open("/dev/full", "wb") as full, tempfile.TemporaryFile() as asked:
         asked.write(request("GET", "/books/7/held"))
         asked.seek(0)
-        expect("answer", ends("answer", ":memory:", DAY, SEED, OPERATOR, stdin=asked, stdout=full), IO)
-        expect("serve", ends("serve", ":memory:", str(free_port()), OPERATOR, stdout=full), IO)
+        expect("answer", how_it_ends("answer", ":memory:", DAY, SEED, OPERATOR, stdin=asked, stdout=full), IO)
+        expect("serve", how_it_ends("serve", ":memory:", str(free_port()), OPERATOR, stdout=full), IO)
 
 
 main(

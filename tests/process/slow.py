@@ -10,10 +10,10 @@ import time
 
 from tests.library.book_texts import COLUMNS
 from tests.library.checks import expect, main
-from tests.library.filled_stores import fill, receipt
+from tests.library.filled_stores import fill_store, receipt_of
 from tests.library.keys import BROKER, OPERATOR
 from tests.library.program import Server
-from tests.library.requests import keyed, refusal, request
+from tests.library.requests import keyed_request, refusal, request
 from tests.library.sessions import read_all
 
 PLEDGES = int(sys.argv[1]) if len(sys.argv) > 1 else 20_000
@@ -40,14 +40,14 @@ def takes(server, step, asked, ceiling):
 def a_receipt_with_thousands_of_entries():
     with tempfile.TemporaryDirectory() as room:
         path = os.path.join(room, "books")
-        fill(path, 1, 2, long=9_000)
+        fill_store(path, 1, 2, long=9_000)
         with Server(path) as server:
-            once = request("GET", "/books/1/held", f"Pledge-Receipt: {receipt(1, 1)}")
+            once = request("GET", "/books/1/held", f"Pledge-Receipt: {receipt_of(1, 1)}")
             said = takes(server, "a receipt of 9,000 entries", once, 5)
             expect("the entries", said.count(b"\nEntry "), 9_000)
             said = takes(
                 server, "the same presented 32 times",
-                request("GET", "/books/1/held", *[f"Pledge-Receipt: {receipt(1, 1)}"] * 32), 30,
+                request("GET", "/books/1/held", *[f"Pledge-Receipt: {receipt_of(1, 1)}"] * 32), 30,
             )
             expect("the entries of all", said.count(b"\nEntry "), 32 * 9_000)
 
@@ -55,15 +55,18 @@ def a_receipt_with_thousands_of_entries():
 def a_large_book():
     with tempfile.TemporaryDirectory() as room:
         path = os.path.join(room, "books")
-        fill(path, 1, PLEDGES, entries=1, bookings=True)
+        fill_store(path, 1, PLEDGES, entries=1, bookings=True)
         with Server(path) as server:
-            said = takes(server, f"an export of {PLEDGES} pledges", keyed("GET", "/books/1/export"), PLEDGES / 2_000)
+            said = takes(
+                server, f"an export of {PLEDGES} pledges", keyed_request("GET", "/books/1/export"), PLEDGES / 2_000,
+            )
             expect("its rows", said.count(b"\nP,"), PLEDGES)
             said = takes(
-                server, f"a sheet of {PLEDGES} ends", keyed("GET", "/books/1/days/2024-07-31"), 2 + PLEDGES / 5_000,
+                server, f"a sheet of {PLEDGES} ends", keyed_request("GET", "/books/1/days/2024-07-31"),
+                2 + PLEDGES / 5_000,
             )
             expect("its ends", f"Ends {PLEDGES}\n".encode() in said, True)
-            takes(server, "a view beside them", keyed("GET", "/books/1/pledges/1"), 2)
+            takes(server, "a view beside them", keyed_request("GET", "/books/1/pledges/1"), 2)
 
 
 def text_of(pledges):

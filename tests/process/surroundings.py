@@ -17,7 +17,7 @@ from tests.library import refusing
 from tests.library.checks import Failed, expect, main
 from tests.library.keys import OPERATOR, SEED
 from tests.library.paths import PROGRAM, TOP
-from tests.library.program import DAY, Server, check, ends, fault, free_port
+from tests.library.program import DAY, Server, check, fault, free_port, how_it_ends
 from tests.library.requests import refusal, request
 from tests.library.sessions import read_all
 
@@ -187,12 +187,13 @@ def output_that_nobody_reads():
         os.close(out)
     out, into = os.pipe()
     os.close(out)
-    expect("serve, to nobody", ends("serve", ":memory:", str(free_port()), OPERATOR, stdout=into), IO)
+    expect("serve, to nobody", how_it_ends("serve", ":memory:", str(free_port()), OPERATOR, stdout=into), IO)
     with tempfile.TemporaryFile() as asked:
         asked.write(LAST)
         asked.seek(0)
-        expect("answer, to nobody", ends("answer", ":memory:", DAY, SEED, OPERATOR, stdin=asked, stdout=into), IO)
-    expect("check, to nobody", ends("check", ":memory:", stdout=into), IO)
+        ended = how_it_ends("answer", ":memory:", DAY, SEED, OPERATOR, stdin=asked, stdout=into)
+        expect("answer, to nobody", ended, IO)
+    expect("check, to nobody", how_it_ends("check", ":memory:", stdout=into), IO)
     os.close(into)
     with Server() as server:
         server.program.stdout.close()
@@ -414,7 +415,7 @@ def paths_that_are_no_plain_file():
                 for words in (
                     ("check", path), ("answer", path, DAY, SEED, OPERATOR), ("serve", path, str(free_port()), OPERATOR),
                 ):
-                    expect(f"{words[0]} {path[-30:]}", ends(*words), fault(503, "Store"))
+                    expect(f"{words[0]} {path[-30:]}", how_it_ends(*words), fault(503, "Store"))
         expect(
             "what lies there", sorted(os.listdir(room)),
             sorted(["fifo", "full", "null", "random", "socket", "tty", "waiting", "waiting-wal", "x" * 253, "zero"]),
@@ -490,8 +491,8 @@ def a_disk_that_can_only_be_read():
             with Server(path) as server:
                 receipts = make_books(server)
             subprocess.run(["mount", "-o", "remount,ro", room], check=True)
-            expect("check", ends("check", path), fault(503, "Store"))
-            expect("serve", ends("serve", path, str(free_port()), OPERATOR), fault(503, "Store"))
+            expect("check", how_it_ends("check", path), fault(503, "Store"))
+            expect("serve", how_it_ends("serve", path, str(free_port()), OPERATOR), fault(503, "Store"))
             subprocess.run(["mount", "-o", "remount,rw", room], check=True)
             is_all_there(path, receipts)
         finally:

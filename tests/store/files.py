@@ -8,9 +8,9 @@ import tempfile
 from tests.library.checks import expect, main
 from tests.library.keys import BROKER, OPERATOR
 from tests.library.program import Server, a_sound_check, answer, check
-from tests.library.requests import keyed, opening, request, shown, statement
-from tests.library.stores import bent_by, loosened
-from tests.library.tables import by_python, by_the_shell, counted, opened
+from tests.library.requests import held_request, keyed_request, opening_body, request, statement_request
+from tests.library.stores import bent_by, table_remade
+from tests.library.tables import counted, opened, rows_by_python, the_shell_agrees
 
 DAMAGED = (1, "", "fault 513 Damaged\n")
 STORE = (503, {"code": 492, "name": "Store"})
@@ -24,14 +24,16 @@ def fill(path, *books):
         seed = f"{book:064x}"
         made = answer(
             path,
-            keyed("POST", f"/books/{book}", {"capacity": 2, "key": BROKER, "name": "High Street"}, OPERATOR),
-            keyed("POST", f"/books/{book}/terms", {"keep_after": 0, "keep_before": 0, "rate": 2667, "version": 1}),
-            keyed("POST", f"/books/{book}/pledges", opening(1, "running")),
-            keyed("POST", f"/books/{book}/pledges", opening(2)),
-            keyed("POST", f"/books/{book}/pledges/1/draw", {"pence": 3000, "seq": 1}),
-            keyed("POST", f"/books/{book}/pledges/1/repay", {"pence": 500, "seq": 2}),
-            keyed("POST", f"/books/{book}/pledges/1/declare", {"paper": "sworn"}),
-            keyed("POST", f"/books/{book}/pledges/1/extend", {"until": "2024-12-31"}),
+            keyed_request("POST", f"/books/{book}", {"capacity": 2, "key": BROKER, "name": "High Street"}, OPERATOR),
+            keyed_request(
+                "POST", f"/books/{book}/terms", {"keep_after": 0, "keep_before": 0, "rate": 2667, "version": 1},
+            ),
+            keyed_request("POST", f"/books/{book}/pledges", opening_body(1, "running")),
+            keyed_request("POST", f"/books/{book}/pledges", opening_body(2)),
+            keyed_request("POST", f"/books/{book}/pledges/1/draw", {"pence": 3000, "seq": 1}),
+            keyed_request("POST", f"/books/{book}/pledges/1/repay", {"pence": 500, "seq": 2}),
+            keyed_request("POST", f"/books/{book}/pledges/1/declare", {"paper": "sworn"}),
+            keyed_request("POST", f"/books/{book}/pledges/1/extend", {"until": "2024-12-31"}),
             seed=seed)
         expect(f"what was made in book {book}", [status for status, _ in made], [200] * len(made))
         receipts[book] = made[6][1]["receipt"], made[3][1]["receipt"]
@@ -47,9 +49,9 @@ def others_open_the_file():
     with tempfile.TemporaryDirectory() as room:
         path = os.path.join(room, "books")
         fill(path, 7, 8, 999999999)
-        told, rows = check(path), by_python(path)
+        told, rows = check(path), rows_by_python(path)
         expect("its counts", told, a_sound_check(rows))
-        by_the_shell(path, rows)
+        the_shell_agrees(path, rows)
         with opened(path) as tables:
             expect("its limit", tables.execute("SELECT value FROM meta WHERE name = 'limit'").fetchone(), (5000000,))
             expect(
@@ -64,9 +66,9 @@ def a_closed_file_is_whole_without_its_log():
         path, copy = os.path.join(room, "books"), os.path.join(room, "copy")
         receipts = fill(path, 7)
         shutil.copyfile(path, copy)
-        told, said = check(path), answer(path, shown(receipts[7][0], 7))
+        told, said = check(path), answer(path, held_request(receipts[7][0], 7))
         expect("its check", check(copy), told)
-        expect("its replies", answer(copy, shown(receipts[7][0], 7)), said)
+        expect("its replies", answer(copy, held_request(receipts[7][0], 7)), said)
         expect("its counts", told, a_sound_check(counted(copy)))
 
 
@@ -114,14 +116,14 @@ BENT = [
     ("terms out of their limits", bent_by("UPDATE terms SET rate = 20001 WHERE book = 7")),
     (
         "a sum that is NULL",
-        loosened(
+        table_remade(
             "entries", "pence INTEGER NOT NULL", "pence INTEGER",
             "UPDATE entries SET pence = NULL WHERE book = 7 AND seq = 2",
         ),
     ),
     (
         "a text in place of a sum",
-        loosened("entries", ") STRICT", ")", "UPDATE entries SET pence = 'many' WHERE book = 7 AND seq = 2"),
+        table_remade("entries", ") STRICT", ")", "UPDATE entries SET pence = 'many' WHERE book = 7 AND seq = 2"),
     ),
 ]
 
@@ -131,8 +133,8 @@ def bent_rows_are_told_and_touch_no_other_book():
         path, bent = os.path.join(room, "books"), os.path.join(room, "bent")
         receipts = fill(path, 7, 8)
         others = [
-            statement(1, 8), statement(2, 8), keyed("GET", "/books/8/export"), shown(receipts[8][0], 8),
-            keyed("GET", "/books/8/days/2024-03-04"),
+            statement_request(1, 8), statement_request(2, 8), keyed_request("GET", "/books/8/export"),
+            held_request(receipts[8][0], 8), keyed_request("GET", "/books/8/days/2024-03-04"),
         ]
         before = answer(path, *others)
         expect("book 8", [status for status, _ in before], [200] * len(others))
@@ -141,7 +143,8 @@ def bent_rows_are_told_and_touch_no_other_book():
             with opened(bent) as tables:
                 bend(tables)
             expect(f"a check, {step}", check(bent), DAMAGED)
-            expect(f"the requests, {step}", answer(bent, statement(1), *others, statement(1)), [STORE, *before, STORE])
+            replies = answer(bent, statement_request(1), *others, statement_request(1))
+            expect(f"the requests, {step}", replies, [STORE, *before, STORE])
 
 
 def falling_versions(tables):
@@ -166,7 +169,7 @@ MISFITS = [
     ("an extension into the past", bent_by("UPDATE extensions SET until_day = day WHERE book = 7")),
     (
         "an entry's number twice",
-        loosened("entries", ", PRIMARY KEY (book, number, seq)", "", "UPDATE entries SET seq = 1 WHERE book = 7"),
+        table_remade("entries", ", PRIMARY KEY (book, number, seq)", "", "UPDATE entries SET seq = 1 WHERE book = 7"),
     ),
 ]
 
@@ -180,7 +183,7 @@ def rows_that_do_not_fit_each_other_are_damage():
             with opened(bent) as tables:
                 bend(tables)
             expect(f"a check, {step}", check(bent), DAMAGED)
-            expect(f"a statement, {step}", answer(bent, statement(1))[0][0], 200)
+            expect(f"a statement, {step}", answer(bent, statement_request(1))[0][0], 200)
 
 
 def the_first_limit_stands():
@@ -192,10 +195,10 @@ def the_first_limit_stands():
             bent_by("UPDATE meta SET value = 4 WHERE name = 'limit'")(tables)
         made = answer(
             path,
-            keyed("POST", "/books/7", {"capacity": 2, "key": BROKER, "name": "High Street"}, OPERATOR),
-            keyed("POST", "/books/7/terms", {"keep_after": 0, "keep_before": 0, "rate": 0, "version": 1}),
-            keyed("POST", "/books/7/pledges", opening(1)),
-            keyed("POST", "/books/7/pledges", opening(2)),
+            keyed_request("POST", "/books/7", {"capacity": 2, "key": BROKER, "name": "High Street"}, OPERATOR),
+            keyed_request("POST", "/books/7/terms", {"keep_after": 0, "keep_before": 0, "rate": 0, "version": 1}),
+            keyed_request("POST", "/books/7/pledges", opening_body(1)),
+            keyed_request("POST", "/books/7/pledges", opening_body(2)),
         )
         expect("what there is room for", [status for status, _ in made], [200, 200, 200, 503])
         expect("what there is none for", made[3][1], {"code": 490, "name": "Full"})
@@ -208,9 +211,9 @@ def what_was_paid_is_kept_however_much():
         path = os.path.join(room, "books")
         made = answer(
             path,
-            keyed("POST", "/books/7", {"capacity": 2, "key": BROKER, "name": "High Street"}, OPERATOR),
-            keyed("POST", "/books/7/terms", {"keep_after": 0, "keep_before": 0, "rate": 20000, "version": 1}),
-            keyed("POST", "/books/7/pledges", {**opening(1), "pence": 100_000_000}),
+            keyed_request("POST", "/books/7", {"capacity": 2, "key": BROKER, "name": "High Street"}, OPERATOR),
+            keyed_request("POST", "/books/7/terms", {"keep_after": 0, "keep_before": 0, "rate": 20000, "version": 1}),
+            keyed_request("POST", "/books/7/pledges", {**opening_body(1), "pence": 100_000_000}),
             day="2000-01-01",
         )
         redeem = request(
@@ -219,7 +222,8 @@ def what_was_paid_is_kept_however_much():
         expect(
             "a redemption", answer(path, redeem, day="2010-01-01"), [(200, {"paid": paid, "redeemed": "2010-01-01"})],
         )
-        expect("a statement", answer(path, statement(1))[0][1].splitlines()[-1], "Redeemed 2010-01-01 paid 74060000.00")
+        last_line = answer(path, statement_request(1))[0][1].splitlines()[-1]
+        expect("a statement", last_line, "Redeemed 2010-01-01 paid 74060000.00")
         expect("a check", check(path), (0, "books 1 pledges 1 rows 4\n", ""))
 
 

@@ -8,12 +8,12 @@ import tempfile
 import time
 
 from tests.library.checks import expect, main
-from tests.library.filled_stores import ENDS, fill, receipt
-from tests.library.older_stores import WITHOUT_INDEXES, bent_back, migrated, moved
+from tests.library.filled_stores import DAY_OF_END, fill_store, receipt_of
+from tests.library.older_stores import WITHOUT_INDEXES, a_sound_migration, migrate, older_copy
 from tests.library.paths import PROGRAM, TOP
 from tests.library.program import Server, answer, check
-from tests.library.requests import keyed, request
-from tests.library.tables import by_python, copied, opened
+from tests.library.requests import keyed_request, request
+from tests.library.tables import copied, opened, rows_by_python
 
 TEXTS = {
     "bookings_by_time": "CREATE INDEX bookings_by_time ON bookings (book, day, state, number, slot)",
@@ -33,7 +33,7 @@ def indexes(path):
 def rows(path):
     """All rows of all tables, as others read the file and its log, which is sound to them."""
     with copied(path) as copy:
-        by_python(copy)
+        rows_by_python(copy)
         with opened(copy) as tables:
             names = [name for name, in tables.execute("SELECT name FROM sqlite_schema WHERE type = 'table'")]
             return {name: sorted(tables.execute(f"SELECT * FROM {name}").fetchall(), key=repr) for name in names}
@@ -42,16 +42,16 @@ def rows(path):
 def made(room, books=2, each=40, bent=WITHOUT_INDEXES):
     """A sound store with bookings of some days in each state, bent by these statements."""
     path, chance = os.path.join(room, "made"), random.Random(46)
-    fill(path, books, each, entries=1, bookings=True)
+    fill_store(path, books, each, entries=1, bookings=True)
     with opened(path) as tables:
         for book, number in tables.execute("SELECT book, number FROM bookings").fetchall():
             tables.execute("UPDATE bookings SET day = ?, slot = ?, state = ? WHERE book = ? AND number = ?",
-                           (ENDS - chance.randrange(4), chance.randrange(16), chance.randrange(4), book, number))
-    return bent_back(path, os.path.join(room, "books"), *bent)
+                           (DAY_OF_END - chance.randrange(4), chance.randrange(16), chance.randrange(4), book, number))
+    return older_copy(path, os.path.join(room, "books"), *bent)
 
 
 def by_answer(path):
-    answer(path, keyed("GET", "/books/1/pledges/1"))
+    answer(path, keyed_request("GET", "/books/1/pledges/1"))
 
 
 def by_check(path):
@@ -59,7 +59,7 @@ def by_check(path):
 
 
 def by_migrate(path):
-    expect("a migration", migrated(path), moved(3))
+    expect("a migration", migrate(path), a_sound_migration(3))
 
 
 def by_serve(path):
@@ -112,10 +112,11 @@ def day_of(number):
 
 
 def a_sheet_is_what_the_rows_tell():
-    days = range(ENDS - 4, ENDS + 2)
+    days = range(DAY_OF_END - 4, DAY_OF_END + 2)
     with tempfile.TemporaryDirectory() as room:
         path = made(room, each=900)
-        shown = [body for _, body in answer(path, *(keyed("GET", f"/books/1/days/{day_of(day)}") for day in days))]
+        asked = [keyed_request("GET", f"/books/1/days/{day_of(day)}") for day in days]
+        shown = [body for _, body in answer(path, *asked)]
         with copied(path) as copy, opened(copy) as tables:
             for day, sheet in zip(days, shown):
                 expect(f"the sheet of {day_of(day)}", sheet, sheet_in(tables, day_of(day), day))
@@ -133,9 +134,9 @@ def what_others_put_there():
             wanted = {**{name: said for name, said in TEXTS.items() if name != taken}, text.split()[2]: text}
             expect(f"the indexes beside {text}", indexes(path), wanted)
             expect(f"the rows beside {text}", rows(path) == before, True)
-            said = answer(path, keyed("GET", f"/books/1/days/{day_of(ENDS)}"))
+            said = answer(path, keyed_request("GET", f"/books/1/days/{day_of(DAY_OF_END)}"))
             with copied(path) as copy, opened(copy) as tables:
-                expect(f"a sheet beside {text}", said, [(200, sheet_in(tables, day_of(ENDS), ENDS))])
+                expect(f"a sheet beside {text}", said, [(200, sheet_in(tables, day_of(DAY_OF_END), DAY_OF_END))])
 
 
 def ask(held):
@@ -146,9 +147,9 @@ def one_that_asks_that_rows_differ():
     """A UNIQUE index refuses the rows that break it: who would put one is answered 492, and nothing changes."""
     with tempfile.TemporaryDirectory() as room:
         path = os.path.join(room, "books")
-        fill(path, 1, 2)
-        bent = bent_back(path, os.path.join(room, "bent"), "CREATE UNIQUE INDEX one_a_day ON bookings (book, day)")
-        (asked, _), (again, said) = answer(bent, *(ask(receipt(1, number)) for number in (1, 2)))
+        fill_store(path, 1, 2)
+        bent = older_copy(path, os.path.join(room, "bent"), "CREATE UNIQUE INDEX one_a_day ON bookings (book, day)")
+        (asked, _), (again, said) = answer(bent, *(ask(receipt_of(1, number)) for number in (1, 2)))
         expect("bookings of one day", (asked, again, said), (200, 503, {"code": 492, "name": "Store"}))
         expect("the bookings", len(rows(bent)["bookings"]), 1)
 
@@ -159,7 +160,7 @@ def a_kill_leaves_both_or_none():
         path = made(room, each=2000)
         before, whole = rows(path), 0.0
         for at in range(KILLS):
-            killed = bent_back(path, os.path.join(room, f"killed{at}"))
+            killed = older_copy(path, os.path.join(room, f"killed{at}"))
             begun = time.monotonic()
             with subprocess.Popen([PROGRAM, "check", killed], stdout=subprocess.DEVNULL) as ran:
                 if whole:

@@ -9,10 +9,10 @@ import tempfile
 from tests.library.checks import expect, main
 from tests.library.keys import BROKER, OPERATOR
 from tests.library.program import Server, answer, check
-from tests.library.requests import keyed
+from tests.library.requests import keyed_request
 
 CHANCE = random.Random(33)
-EXPORT = keyed("GET", "/books/7/export")
+EXPORT = keyed_request("GET", "/books/7/export")
 
 
 def lengths(path):

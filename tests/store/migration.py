@@ -12,12 +12,14 @@ import time
 from tests.library.book_texts import COLUMNS
 from tests.library.checks import expect, main
 from tests.library.keys import BROKER, OPERATOR
-from tests.library.older_stores import TO_FIRST, TO_SECOND, WITHOUT_INDEXES, bent_back, migrated, moved
+from tests.library.older_stores import (
+    BACK_TO_FIRST, BACK_TO_SECOND, WITHOUT_INDEXES, a_sound_migration, migrate, older_copy,
+)
 from tests.library.paths import PROGRAM
-from tests.library.program import Server, a_sound_check, answer, check, ends, fault
-from tests.library.requests import keyed, opening, request, shown, statement
+from tests.library.program import Server, a_sound_check, answer, check, fault, how_it_ends
+from tests.library.requests import held_request, keyed_request, opening_body, request, statement_request
 from tests.library.stores import bent_by, database_of, file_of, stays, with_its_log
-from tests.library.tables import by_python, copied, opened
+from tests.library.tables import copied, opened, rows_by_python
 
 DAMAGED = fault(513, "Damaged")
 
@@ -41,8 +43,8 @@ def content(path):
 def book(number, rate=2667):
     terms = {"keep_after": 0, "keep_before": 0, "rate": rate, "version": 1}
     return [
-        keyed("POST", f"/books/{number}", {"capacity": 2, "key": BROKER, "name": "High Street"}, OPERATOR),
-        keyed("POST", f"/books/{number}/terms", terms),
+        keyed_request("POST", f"/books/{number}", {"capacity": 2, "key": BROKER, "name": "High Street"}, OPERATOR),
+        keyed_request("POST", f"/books/{number}/terms", terms),
     ]
 
 
@@ -60,43 +62,45 @@ def fill(path):
     and one sold. The requests that show all of it."""
     made = all_done("what was made", answer(
         path, *book(7),
-        keyed("POST", "/books/7/pledges", opening(1)),
-        keyed("POST", "/books/7/pledges", opening(2, "running")),
-        keyed("POST", "/books/7/pledges", {**opening(3), "agreed": "2025-03-01", "five_days": True}),
-        keyed("POST", "/books/7/pledges", opening(4)),
-        keyed("POST", "/books/7/pledges", opening(5)),
+        keyed_request("POST", "/books/7/pledges", opening_body(1)),
+        keyed_request("POST", "/books/7/pledges", opening_body(2, "running")),
+        keyed_request("POST", "/books/7/pledges", {**opening_body(3), "agreed": "2025-03-01", "five_days": True}),
+        keyed_request("POST", "/books/7/pledges", opening_body(4)),
+        keyed_request("POST", "/books/7/pledges", opening_body(5)),
         *book(999999999, 20000),
-        keyed("POST", "/books/999999999/pledges", opening(1)), day="2024-01-01"))
+        keyed_request("POST", "/books/999999999/pledges", opening_body(1)), day="2024-01-01"))
     receipts = [said["receipt"] for _, said in made if "receipt" in said]
     later = all_done("what was done", answer(
         path,
-        keyed("POST", "/books/7/pledges/1/repay", {"pence": 1000, "seq": 1}),
-        keyed("POST", "/books/7/pledges/2/draw", {"pence": 3000, "seq": 1}),
-        keyed("POST", "/books/7/pledges/2/repay", {"pence": 500, "seq": 2}),
-        keyed("POST", "/books/7/pledges/2/declare", {"paper": "sworn"}),
-        keyed("POST", "/books/7/terms", {"keep_after": 0, "keep_before": 5, "rate": 0, "version": 2}),
-        keyed("POST", "/books/7/pledges", opening(6)),
+        keyed_request("POST", "/books/7/pledges/1/repay", {"pence": 1000, "seq": 1}),
+        keyed_request("POST", "/books/7/pledges/2/draw", {"pence": 3000, "seq": 1}),
+        keyed_request("POST", "/books/7/pledges/2/repay", {"pence": 500, "seq": 2}),
+        keyed_request("POST", "/books/7/pledges/2/declare", {"paper": "sworn"}),
+        keyed_request("POST", "/books/7/terms", {"keep_after": 0, "keep_before": 5, "rate": 0, "version": 2}),
+        keyed_request("POST", "/books/7/pledges", opening_body(6)),
         bearer(receipts[2], "ask", {"day": "2024-03-04", "window": 3}),
-        keyed("POST", "/books/7/pledges/3/decide", {"yes": True}),
-        keyed("POST", "/books/7/pledges/3/hold"),
+        keyed_request("POST", "/books/7/pledges/3/decide", {"yes": True}),
+        keyed_request("POST", "/books/7/pledges/3/hold"),
         bearer(receipts[3], "redeem", {"paid": 10800}), day="2024-01-31", seed="1" * 64))
     receipts += [said["receipt"] for _, said in later if "receipt" in said]
-    all_done("what was sold", answer(path, keyed("POST", "/books/7/pledges/5/sell", {"net": 9000}), day="2024-09-01"))
+    sale = keyed_request("POST", "/books/7/pledges/5/sell", {"net": 9000})
+    all_done("what was sold", answer(path, sale, day="2024-09-01"))
     return [
-        *(statement(number) for number in range(1, 8)), *(shown(receipt, 7) for receipt in receipts),
-        statement(1, 999999999), shown(receipts[5], 999999999), keyed("GET", "/books/7/export"),
-        keyed("GET", "/books/999999999/export"), keyed("GET", "/books/7/days/2024-03-04"),
-        keyed("GET", "/books/7/days/2025-03-01"),
+        *(statement_request(number) for number in range(1, 8)), *(held_request(receipt, 7) for receipt in receipts),
+        statement_request(1, 999999999), held_request(receipts[5], 999999999), keyed_request("GET", "/books/7/export"),
+        keyed_request("GET", "/books/999999999/export"), keyed_request("GET", "/books/7/days/2024-03-04"),
+        keyed_request("GET", "/books/7/days/2025-03-01"),
     ]
 
 
 def goes_on(path):
     """Replies to requests that change what a store holds."""
     return answer(
-        path, keyed("POST", "/books/7/pledges/1/repay", {"pence": 500, "seq": 2}),
-        keyed("POST", "/books/7/pledges/2/draw", {"pence": 100, "seq": 3}),
-        keyed("POST", "/books/7/pledges/1/extend", {"until": "2024-09-30"}),
-        keyed("POST", "/books/7/pledges", opening(8)), statement(1), statement(2), day="2024-06-01",
+        path, keyed_request("POST", "/books/7/pledges/1/repay", {"pence": 500, "seq": 2}),
+        keyed_request("POST", "/books/7/pledges/2/draw", {"pence": 100, "seq": 3}),
+        keyed_request("POST", "/books/7/pledges/1/extend", {"until": "2024-09-30"}),
+        keyed_request("POST", "/books/7/pledges", opening_body(8)), statement_request(1), statement_request(2),
+        day="2024-06-01",
     )
 
 
@@ -106,25 +110,27 @@ def a_pledge_gets_what_it_owed_on_the_day_of_its_last_entry():
         all_done(
             "two pledges",
             answer(
-                path, *book(7), keyed("POST", "/books/7/pledges", opening(1)),
-                keyed("POST", "/books/7/pledges", opening(2)), day="2024-01-01",
+                path, *book(7), keyed_request("POST", "/books/7/pledges", opening_body(1)),
+                keyed_request("POST", "/books/7/pledges", opening_body(2)), day="2024-01-01",
             ),
         )
         all_done(
             "a repayment",
-            answer(path, keyed("POST", "/books/7/pledges/1/repay", {"pence": 1000, "seq": 1}), day="2024-01-31"),
+            answer(
+                path, keyed_request("POST", "/books/7/pledges/1/repay", {"pence": 1000, "seq": 1}), day="2024-01-31",
+            ),
         )
-        before = answer(path, statement(1), statement(2))
+        before = answer(path, statement_request(1), statement_request(2))
         expect(
             "the statement of pledge 1", before[0][1].splitlines()[6:9],
             ["Principal 98.00", "Charges 7.84", "Owing 105.84"],
         )
-        old = bent_back(path, os.path.join(room, "old"), *TO_FIRST)
-        expect("a migration", migrated(old), moved(1))
+        old = older_copy(path, os.path.join(room, "old"), *BACK_TO_FIRST)
+        expect("a migration", migrate(old), a_sound_migration(1))
         with opened(old) as tables:
             rows = tables.execute("SELECT book, number, day, principal, charges FROM totals ORDER BY number").fetchall()
         expect("the totals", rows, [(7, 1, 19753, 9800, 100000), (7, 2, 19723, 10000, 0)])
-        expect("the statements", answer(old, statement(1), statement(2)), before)
+        expect("the statements", answer(old, statement_request(1), statement_request(2)), before)
 
 
 def every_reply_is_as_it_was():
@@ -132,21 +138,22 @@ def every_reply_is_as_it_was():
         path, new = os.path.join(room, "books"), os.path.join(room, "new")
         asked = fill(path)
         before, told, tables = answer(path, *asked), check(path), content(path)
-        expect("its counts", told, a_sound_check(by_python(path)))
+        expect("its counts", told, a_sound_check(rows_by_python(path)))
         shutil.copyfile(path, new)
         after = goes_on(new)
-        for number, statements in [(1, TO_FIRST), (2, TO_SECOND), (3, WITHOUT_INDEXES), (3, ())]:
-            old = bent_back(path, os.path.join(room, f"old{number}-{len(statements)}"), *statements)
+        for number, statements in [(1, BACK_TO_FIRST), (2, BACK_TO_SECOND), (3, WITHOUT_INDEXES), (3, ())]:
+            old = older_copy(path, os.path.join(room, f"old{number}-{len(statements)}"), *statements)
             if number < 3:
                 expect(f"a check, schema {number}", check(old), (1, "", "fault 501 OldSchema\n"))
                 stays(
                     old, f"schema {number}",
                     lambda: expect(
-                        "an answer", ends("answer", old, "2024-03-01", "0" * 64, OPERATOR), fault(501, "OldSchema"),
+                        "an answer", how_it_ends("answer", old, "2024-03-01", "0" * 64, OPERATOR),
+                        fault(501, "OldSchema"),
                     ),
                 )
-            expect(f"a migration, schema {number}", migrated(old), moved(number))
-            expect(f"again, schema {number}", migrated(old), moved(3))
+            expect(f"a migration, schema {number}", migrate(old), a_sound_migration(number))
+            expect(f"again, schema {number}", migrate(old), a_sound_migration(3))
             expect(f"the tables, schema {number}", content(old), tables)
             expect(f"a check, schema {number}", check(old), told)
             expect(f"the replies, schema {number}", answer(old, *asked), before)
@@ -174,8 +181,8 @@ def imported(path, books, count, entries):
         key = f"Import-Key: 44444444-4444-4444-4444-{number:012x}"
         text = request("POST", f"/books/{number}/import", f"Pledge-Key: {BROKER}", key, body=text_of(count, entries))
         all_done(f"book {number}", answer(path, book(number)[0], text))
-    exports = [keyed("GET", f"/books/{number}/export") for number in range(1, books + 1)]
-    return exports + [statement(number, 1) for number in (1, 3, 7, count)]
+    exports = [keyed_request("GET", f"/books/{number}/export") for number in range(1, books + 1)]
+    return exports + [statement_request(number, 1) for number in (1, 3, 7, count)]
 
 
 def thousands_of_pledges_are_moved():
@@ -183,10 +190,10 @@ def thousands_of_pledges_are_moved():
         path = os.path.join(room, "books")
         asked = imported(path, 4, 3000, 4) + imported_long(path)
         before, told, tables = answer(path, *asked, day="2024-05-01"), check(path), content(path)
-        for number, statements in [(1, TO_FIRST), (2, TO_SECOND)]:
-            old = bent_back(path, os.path.join(room, f"old{number}-{len(statements)}"), *statements)
+        for number, statements in [(1, BACK_TO_FIRST), (2, BACK_TO_SECOND)]:
+            old = older_copy(path, os.path.join(room, f"old{number}-{len(statements)}"), *statements)
             begun = time.monotonic()
-            expect(f"a migration, schema {number}", migrated(old), moved(number))
+            expect(f"a migration, schema {number}", migrate(old), a_sound_migration(number))
             print(f"        schema {number}: 12,001 pledges in {time.monotonic() - begun:.1f} s")
             expect(f"the tables, schema {number}", content(old) == tables, True)
             expect(f"a check, schema {number}", check(old), told)
@@ -213,7 +220,7 @@ def imported_long(path):
             ),
         ),
     )
-    return [keyed("GET", "/books/77/export"), statement(1, 77)]
+    return [keyed_request("GET", "/books/77/export"), statement_request(1, 77)]
 
 
 # What no pledge can have come to, of book 7 in a store of an older schema: the debt's rules or its terms' refuse it.
@@ -259,23 +266,23 @@ def a_debt_that_cannot_be_is_refused_and_stays():
     with tempfile.TemporaryDirectory() as room:
         path = os.path.join(room, "books")
         fill(path)
-        for number, statements in [(1, TO_FIRST), (2, TO_SECOND)]:
-            old = bent_back(path, os.path.join(room, f"old{number}-{len(statements)}"), *statements)
+        for number, statements in [(1, BACK_TO_FIRST), (2, BACK_TO_SECOND)]:
+            old = older_copy(path, os.path.join(room, f"old{number}-{len(statements)}"), *statements)
             for what, bend in IMPOSSIBLE:
                 step = f"{what}, schema {number}"
                 with tempfile.TemporaryDirectory() as folder:
-                    bent = bent_back(old, os.path.join(folder, "bent"))
+                    bent = older_copy(old, os.path.join(folder, "bent"))
                     with opened(bent) as tables:
                         bend(tables)
                     before = content(bent)
-                    stays(bent, step, lambda: expect(step, ends("migrate", bent), DAMAGED))
+                    stays(bent, step, lambda: expect(step, how_it_ends("migrate", bent), DAMAGED))
                     expect(f"its tables, {step}", (content(bent), schema_of(bent)), (before, number))
             for what, bend in UNSEEN:
                 step = f"{what}, schema {number}"
-                bent = bent_back(old, os.path.join(room, "bent"))
+                bent = older_copy(old, os.path.join(room, "bent"))
                 with opened(bent) as tables:
                     bend(tables)
-                expect(step, migrated(bent), moved(number))
+                expect(step, migrate(bent), a_sound_migration(number))
                 expect(f"a check, {step}", check(bent), (1, "", "fault 513 Damaged\n"))
 
 
@@ -311,28 +318,28 @@ def what_is_no_older_store_is_refused_and_stays():
         with tempfile.TemporaryDirectory() as room:
             path = os.path.join(room, "books")
             make(path)
-            stays(path, step, lambda: expect(step, ends("migrate", path), wanted))
+            stays(path, step, lambda: expect(step, how_it_ends("migrate", path), wanted))
 
 
 def a_newer_store_stays_whole():
     with tempfile.TemporaryDirectory() as room:
         path = os.path.join(room, "books")
         fill(path)
-        newer = bent_back(path, os.path.join(room, "newer"), "UPDATE meta SET value = 4 WHERE name = 'schema'")
+        newer = older_copy(path, os.path.join(room, "newer"), "UPDATE meta SET value = 4 WHERE name = 'schema'")
         before = content(newer)
-        stays(newer, "schema 4", lambda: expect("schema 4", ends("migrate", newer), fault(511, "NewerSchema")))
+        stays(newer, "schema 4", lambda: expect("schema 4", how_it_ends("migrate", newer), fault(511, "NewerSchema")))
         expect("its tables", content(newer), before)
 
 
 def where_there_is_no_file_none_is_made():
     with tempfile.TemporaryDirectory() as room:
-        expect("no file", ends("migrate", os.path.join(room, "books")), fault(512, "NotOurs"))
-        expect("no such folder", ends("migrate", os.path.join(room, "no", "books")), fault(512, "NotOurs"))
+        expect("no file", how_it_ends("migrate", os.path.join(room, "books")), fault(512, "NotOurs"))
+        expect("no such folder", how_it_ends("migrate", os.path.join(room, "no", "books")), fault(512, "NotOurs"))
         expect("the folder", os.listdir(room), [])
-        expect("a folder", ends("migrate", room), fault(514, "Store"))
-        expect("a store in memory", ends("migrate", ":memory:"), fault(512, "NotOurs"))
-        expect("no word", ends("migrate")[0], 2)
-        expect("two words", ends("migrate", "a", "b")[0], 2)
+        expect("a folder", how_it_ends("migrate", room), fault(514, "Store"))
+        expect("a store in memory", how_it_ends("migrate", ":memory:"), fault(512, "NotOurs"))
+        expect("no word", how_it_ends("migrate")[0], 2)
+        expect("two words", how_it_ends("migrate", "a", "b")[0], 2)
 
 
 def a_store_that_is_open_is_refused():
@@ -342,7 +349,7 @@ def a_store_that_is_open_is_refused():
             client = server.session()
             client.open_book()
             client.close()
-            expect("a migration", ends("migrate", path), fault(514, "Store"))
+            expect("a migration", how_it_ends("migrate", path), fault(514, "Store"))
 
 
 def a_kill_leaves_the_old_tables_or_the_new():
@@ -351,15 +358,15 @@ def a_kill_leaves_the_old_tables_or_the_new():
         path = os.path.join(room, "books")
         asked = imported(path, 2, 3000, 4)
         before, told, tables = answer(path, *asked), check(path), content(path)
-        old = bent_back(path, os.path.join(room, "old"), *TO_FIRST)
+        old = older_copy(path, os.path.join(room, "old"), *BACK_TO_FIRST)
         first, begun = content(old), time.monotonic()
-        expect("a migration", migrated(bent_back(old, os.path.join(room, "whole"))), moved(1))
+        expect("a migration", migrate(older_copy(old, os.path.join(room, "whole"))), a_sound_migration(1))
         span, begun = time.monotonic() - begun, time.monotonic()
         for kill in range(KILLS):
             if time.monotonic() - begun > SPAN and kill >= 8:
                 break
             with tempfile.TemporaryDirectory() as folder:
-                cut = bent_back(old, os.path.join(folder, "books"))
+                cut = older_copy(old, os.path.join(folder, "books"))
                 ran = subprocess.Popen(
                     [PROGRAM, "migrate", cut], stdin=subprocess.DEVNULL, stdout=subprocess.PIPE, stderr=subprocess.PIPE,
                 )
@@ -372,7 +379,7 @@ def a_kill_leaves_the_old_tables_or_the_new():
                 expect(f"kill {kill}, schema {number}", content(cut) == (first if number == 1 else tables), True)
                 if said[0]:
                     expect(f"kill {kill}, once it was told", (said[0], number), (b"schema 1 to 3\n", 3))
-                expect(f"kill {kill}, again", migrated(cut), moved(number))
+                expect(f"kill {kill}, again", migrate(cut), a_sound_migration(number))
                 expect(f"kill {kill}, its check", check(cut), told)
                 expect(f"kill {kill}, its replies", answer(cut, *asked) == before, True)
         print(f"        {sum(seen.values())} kills, {seen[1]} of them left the old tables")
