@@ -22,14 +22,13 @@ if WORDS:
     os.environ["PAWND"] = WORDS[0]
 
 from bench.beside import DAY, ENDS, TODAY, receipt, spent, word  # noqa: E402
-from tests.library.keys import BROKER, OPERATOR, SEED  # noqa: E402
+from tests.library.keys import BROKER, KEY, OPERATOR, SEED  # noqa: E402
 from tests.library.paths import PROGRAM  # noqa: E402
 from tests.library.requests import request  # noqa: E402
 
 RUNS = 7
 # A stream has at most a thousand requests.
 MANY = 900
-KEY = f"Pledge-Key: {BROKER}"
 # So many bookings, and so many ends of periods, fall on each day, however many there are.
 EACH_DAY = 20
 

@@ -19,16 +19,12 @@ import tempfile
 from typing import NamedTuple
 
 from tests.library.checks import expect, main
-from tests.library.keys import OPERATOR
+from tests.library.keys import OPERATOR, SECRET
 from tests.library.paths import PROGRAM, TOP
 from tests.library.program import check
 from tests.library.tables import opened
+from tests.library.turns import Words, asked, reply
 
-KEYS = {
-    "operator": OPERATOR, "broker": "22222222-2222-2222-2222-222222222222",
-    "stranger": "33333333-3333-3333-3333-333333333333",
-}
-SECRET = re.compile(r"[0-9a-f]{8}(?:-[0-9a-f]{4}){3}-[0-9a-f]{12}")
 FILES = sorted(os.path.basename(path)[:-len(".txt")] for path in glob.glob(os.path.join(TOP, "tests/turns/*.txt")))
 # The files that are played where a file has room for so many rows. All others have the program's own limit.
 ROWS = {"two_lives": 12, "full": 12, "at_the_limit": 12}
@@ -52,54 +48,6 @@ def turns_in(name):
     ]
 
 
-class Words:
-    """The secrets that stand for the words of turns, as the program drew them."""
-
-    def __init__(self):
-        self.secrets = {}
-
-    def of(self, word):
-        return self.secrets.get(word, f"00000000-0000-0000-0000-{word:012x}")
-
-    def in_text(self, text):
-        """The text with each such secret in the place of its word."""
-        return SECRET.sub(lambda it: self.of(int(it[0].replace("-", ""), 16)), text) if "-0000-" in text else text
-
-    def learn(self, word, wanted, told):
-        """Takes the secret that a reply tells first, where it is to tell that of this word."""
-        tells = '"receipt":"' in wanted and wanted.endswith(f'-00000000-0000-0000-0000-{word:012x}"}}')
-        if tells and word not in self.secrets:
-            self.secrets[word] = SECRET.findall(told)[-1]
-
-
-def fields(caller, words):
-    """The fields that make a caller known, and the key of an import, which is named by its first digits after a
-    slash."""
-    caller, _, digits = caller.partition("/")
-    importing = f"Import-Key: {digits}-0000-0000-0000-000000000000\r\n" if digits else ""
-    if caller in KEYS:
-        return f"Pledge-Key: {KEYS[caller]}\r\n{importing}"
-    named = [receipt.split("-") for receipt in caller.split("+")]
-    return "".join(f"Pledge-Receipt: {number}-{words.of(int(word))}\r\n" for number, word in named)
-
-
-def asked(line, words):
-    """The day of a request's line, the word of its stamp, and its bytes."""
-    day, word, caller, target, body = line.split("|", 4)
-    body = words.in_text(body.replace("|", "\n")).encode()
-    head = f"{target} HTTP/1.1\r\n{fields(caller, words)}Content-Length: {len(body)}\r\n\r\n"
-    return day, int(word), head.encode() + body
-
-
-def reply(line, words):
-    """The bytes of a reply's line."""
-    status, body = line.split("|", 1)
-    text = "text/csv; charset=utf-8" if body.startswith("row,") else "text/plain; charset=utf-8"
-    kind = "application/json" if body.startswith("{") else text
-    body = words.in_text(body.replace("|", "\n")).encode()
-    return f"HTTP/1.1 {status}\r\nContent-Length: {len(body)}\r\nContent-Type: {kind}\r\n\r\n".encode() + body
-
-
 def answers(database, day, seed, stream, step="a run"):
     ran = subprocess.run(
         [PROGRAM, "answer", database, day, f"{seed:064x}", OPERATOR], input=stream, capture_output=True, timeout=60,
@@ -119,8 +67,8 @@ def split(stream):
 
 def compared(step, turns, replies, wanted):
     """Compares the reply to each turn with what is wanted, and how many there are."""
-    for turn, reply, want in zip(turns, replies, wanted):
-        expect(f"{turn.place}, {turn.asked:.120}", reply.decode(), want.decode())
+    for turn, told, want in zip(turns, replies, wanted):
+        expect(f"{turn.place}, {turn.asked:.120}", told.decode(), want.decode())
     expect(f"how many replies {step}, from {turns[0].place} on", len(replies), len(turns))
 
 

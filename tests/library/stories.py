@@ -1,10 +1,9 @@
 """Stories that the scripts tell which refuse calls of the machine: requests of one day, each with what it shows."""
 from tests.library.checks import Failed, expect
-from tests.library.keys import BROKER, OPERATOR
+from tests.library.keys import BROKER, KEY, OPERATOR
 from tests.library.refusing import Story, body_of
 from tests.library.requests import request
 
-KEY = f"Pledge-Key: {BROKER}"
 IMPORT = "Import-Key: 44444444-4444-4444-4444-444444444444"
 
 

@@ -12,11 +12,11 @@ import tempfile
 import time
 
 from tests.library.checks import Failed, expect, main, not_tried
+from tests.library.operator.first_day import PAGE, ask, enter, first_day, with_terms
 from tests.library.operator.machines import commands, pack_release
 from tests.library.packages import provide
 from tests.library.paths import TOP
 from tests.library.stores import NO_PAGE
-from tests.operator.days import PAGE, ask, enter, first_day, with_terms
 
 NEEDED = {"debootstrap": "debootstrap", "systemd-nspawn": "systemd-container"}
 # What the page installs but certbot, and what makes the Debian one that boots.

@@ -16,77 +16,14 @@ import time
 from tests.library.checks import expect, main, not_tried
 from tests.library.hosting import MEMORY, PACKAGES, Shard, run_shards, steady_port
 from tests.library.keys import OPERATOR
+from tests.library.operator.cutting import QUIET, each_cut, traced, two_at_once
 from tests.library.packages import PATHS, missing, provide
 from tests.library.paths import PROGRAM, TOP
 from tests.library.program import check
 from tests.library.waiting import wait_for
 
-# The calls by which a command changes what another can see.
-CALLS = (
-    "mkdir",
-    "rename",
-    "link",
-    "symlink",
-    "unlink",
-    "unlinkat",
-    "rmdir",
-    "fsync",
-    "ioctl",
-    "chown",
-    "fchmod",
-    "pidfd_send_signal",
-    "kill",
-    "flock",
-    "connect",
-)
-# Those that leave no other files than the call before them.
-QUIET = ("flock", "connect", "chown", "fchmod", "rmdir", "unlink", "unlinkat", "kill")
 CHANCE = random.Random(48)
 NEEDED = {**PACKAGES, "strace": "strace", "age": "age", "rsync": "rsync"}
-
-
-def traced(words, *rules, environment=None):
-    """`deploy/shards` under strace, with these rules: the run, and the calls that it made."""
-    with tempfile.NamedTemporaryFile() as trace:
-        ran = subprocess.run(
-            [
-                "strace",
-                "-qq",
-                "-o",
-                trace.name,
-                "-e",
-                f"trace={','.join(CALLS)}",
-                *(it for rule in rules for it in ("-e", rule)),
-                sys.executable,
-                os.path.join(TOP, "deploy/shards"),
-                *map(str, words),
-            ],
-            capture_output=True,
-            text=True,
-            timeout=120,
-            stdin=subprocess.DEVNULL,
-            env={**os.environ, "PATH": PATHS, "PAWND": PROGRAM, **(environment or {})},
-        )
-        calls = collections.Counter(re.findall(r"^(\w+)\(", trace.read().decode(errors="replace"), re.M))
-    return ran, calls
-
-
-def each_cut(words, prepare, judge, environment=None, skip=(), most=20):
-    """The command is killed at each of its calls in turn, each time over files that were made anew, and what it left
-    is judged."""
-    prepare()
-    ran, calls = traced(words(), environment=environment)
-    expect(f"{words()[0]} when it is let run", (ran.returncode, ran.stderr), (0, ""))
-    judge(None)
-    count = 0
-    for name, often in sorted(calls.items()):
-        # Of a call that is made very often, some are taken.
-        for number in range(1, often + 1, max(1, often // most)) if name not in skip else ():
-            prepare()
-            ran, _ = traced(words(), f"inject={name}:signal=KILL:when={number}", environment=environment)
-            judge(f"{name} {number}")
-            count += 1
-    return count
 
 
 class Stores:
@@ -298,22 +235,6 @@ class Repayer(threading.Thread):
                 == 200
             ):
                 self.done += 1
-
-
-def two_at_once(first, second, **environment):
-    """Both commands, begun together: how they ended, and what they said."""
-    begun = [
-        subprocess.Popen(
-            [sys.executable, os.path.join(TOP, "deploy/shards"), *map(str, words)],
-            stdin=subprocess.DEVNULL,
-            stdout=subprocess.PIPE,
-            stderr=subprocess.STDOUT,
-            text=True,
-            env={**os.environ, "PATH": PATHS, "PAWND": PROGRAM, **environment},
-        )
-        for words in (first, second)
-    ]
-    return [(it.communicate(timeout=120)[0], it.returncode) for it in begun]
 
 
 def two_copies_at_once():

@@ -17,13 +17,13 @@ from tests.library.hosting import (
     MEMORY, PACKAGES, Hosted, Recorder, Shard, open_text, proxys, read_reply, status, writers,
 )
 from tests.library.keys import BROKER, OPERATOR
+from tests.library.operator.cutting import QUIET, each_cut, traced, two_at_once
+from tests.library.operator.shards import mapped, shut_at
 from tests.library.packages import PATHS, missing, provide
 from tests.library.paths import PROGRAM, TOP
 from tests.library.program import check
 from tests.library.requests import request
 from tests.library.waiting import wait_for
-from tests.operator.cut_off import QUIET, each_cut, traced, two_at_once
-from tests.operator.shards import mapped, shut_at
 
 NEEDED = {**PACKAGES, "strace": "strace"}
 CHANCE = random.Random(6)

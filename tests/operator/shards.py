@@ -1,6 +1,5 @@
 """`deploy/shards`, in front of which the real nginx stands: copies that are made while a shard is served and copies
 that are not, which are put back; one shard that becomes three, and a book that moves."""
-import contextlib
 import json
 import os
 import shutil
@@ -14,13 +13,12 @@ from tests.library.checks import expect, main, not_tried
 from tests.library.hosting import (
     PACKAGES, Hosted, long_book, open_pledge, open_text, proxys, run_shards, status, writers,
 )
-from tests.library.keys import BROKER, OPERATOR
+from tests.library.keys import BROKER, KEY, OPERATOR
+from tests.library.operator.shards import btrfs, mapped, shut_at
 from tests.library.packages import missing, provide
 from tests.library.paths import PROGRAM, TOP
 from tests.library.program import Server, check
 from tests.library.tables import copied
-
-KEY = f"Pledge-Key: {BROKER}"
 
 
 def stands_in(path, book):
@@ -138,22 +136,6 @@ def a_lost_log_is_found(shard, kept):
         expect("and holds less", "held more" in run_shards("backup", alone, kept, wanted=1), True)
 
 
-@contextlib.contextmanager
-def btrfs():
-    """A folder on a file system that makes snapshots."""
-    with tempfile.TemporaryDirectory() as room:
-        image, folder = os.path.join(room, "image"), os.path.join(room, "disk")
-        os.mkdir(folder)
-        with open(image, "wb") as it:
-            it.truncate(200 << 20)
-        subprocess.run(["mkfs.btrfs", "-q", image], check=True, capture_output=True, timeout=60)
-        subprocess.run(["mount", "-o", "loop", image, folder], check=True, capture_output=True, timeout=60)
-        try:
-            yield folder
-        finally:
-            subprocess.run(["umount", "-l", folder], check=True, capture_output=True, timeout=60)
-
-
 def a_snapshot_of_a_file_system():
     """Both files at one moment, while they are written; the copy is made of the snapshot, which nobody serves."""
     if provide({"mkfs.btrfs": "btrfs-progs"}) or os.geteuid():
@@ -224,11 +206,6 @@ def sent_by_btrfs(disk, stands):
 # ---- one shard becomes three, and a book moves
 
 
-def mapped(hosted):
-    with open(os.path.join(hosted.settings, "books.map")) as it:
-        return {int(book): shard for book, shard in (line.rstrip(";\n").split() for line in it if line[0].isdigit())}
-
-
 class Watcher(threading.Thread):
     """Asks for a view again and again, at addresses of its own, and keeps how it was answered: a status, or what the
     proxy said in the service's place."""
@@ -249,20 +226,6 @@ class Watcher(threading.Thread):
         self.ended.set()
         self.join(30)
         return self.told
-
-
-def shut_at(shard, book, receipts):
-    """Neither the book's key nor a receipt of it opens anything at this shard."""
-    expect(
-        f"the key of book {book}",
-        shard.session.broker("GET", f"/books/{book}/export"),
-        (404, {"code": 401, "name": "NoSuchBook"}),
-    )
-    expect(
-        f"the receipts of book {book}",
-        {shard.session.bearer(receipt, "GET", f"/books/{book}/held")[0] for receipt in receipts},
-        {404},
-    )
 
 
 def without_stores(it):

@@ -11,9 +11,9 @@ from tests.library.checks import expect, main, not_tried
 from tests.library.filled_stores import fill_store
 from tests.library.hosting import MEMORY, Shard, run_shards
 from tests.library.keys import OPERATOR
+from tests.library.operator.shards import btrfs
 from tests.library.packages import provide
 from tests.library.program import check
-from tests.operator.shards import btrfs
 
 PLEDGES = next((int(word) for word in sys.argv[1:] if word.isdigit()), 2_000)
 

@@ -13,18 +13,15 @@ import tempfile
 
 from tests.library.checks import Failed, expect, main, not_tried
 from tests.library.dates import today
-from tests.library.described import IMPORT
 from tests.library.hosting import BOOKS, NAME, PACKAGES, Caller, Hosted, Recorder, proxys, put, status
-from tests.library.keys import BROKER, OPERATOR
+from tests.library.keys import BROKER, KEY, OPERATOR
 from tests.library.packages import missing, provide
 from tests.library.paths import TOP
 from tests.library.program import free_port
+from tests.library.proxy.checks import no_secret_in_a_log, plainly
 from tests.library.requests import request
-from tests.library.sessions import read_all
 from tests.library.waiting import answers, wait_for
 
-KEY = f"Pledge-Key: {BROKER}"
-SECRET = re.compile(r"[0-9a-f]{8}(?:-[0-9a-f]{4}){3}-[0-9a-f]{12}")
 NOT_HANDED_ON = b'{"proxy":%d,"handed_on":false}'
 # The program reads a target whole, and its book so.
 READ = re.compile(r"/books/([1-9][0-9]{0,8})(/.*)?")
@@ -99,17 +96,6 @@ def what_is_not_for_everybody(it):
             )
         )
         expect("without TLS", peer.recv(65536).split(b"\r\n")[0], b"HTTP/1.1 403 Forbidden")
-
-
-def no_secret_in_a_log(it, receipts):
-    secrets = [BROKER, OPERATOR, IMPORT, *receipts, *(receipt.split("-", 1)[-1] for receipt in receipts)]
-    for name in ("access", "error"):
-        text = it.log(name)
-        expect(
-            f"secrets in {name}.log",
-            [secret for secret in secrets if secret in text or secret.replace("-", "%2d") in text],
-            [],
-        )
 
 
 def nothing_secret_is_noted():
@@ -325,13 +311,6 @@ def each_target_by_caddy():
             caddy.wait()
             for shard in shards:
                 shard.kill()
-
-
-def plainly(port, sent):
-    """What comes back of these bytes without TLS, up to the end of the connection."""
-    with socket.create_connection(("127.0.0.1", port), timeout=20) as peer:
-        peer.sendall(sent.replace(b"\r\n\r\n", b"\r\nConnection: close\r\n\r\n", 1))
-        return read_all(peer)
 
 
 def comes_to_its_book(port, target, shards):

@@ -21,14 +21,12 @@ from tests.library.hosting import (
     BOOKS, LENGTH, NAME, PACKAGES, Caller, Hosted, Recorder, long_book, open_pledge, proxys, put, read_reply,
     status, writers,
 )
-from tests.library.keys import BROKER, OPERATOR
+from tests.library.keys import BROKER, KEY, OPERATOR, SECRET
 from tests.library.packages import PATHS, missing, provide
 from tests.library.paths import TOP
 from tests.library.program import Server, free_port
 from tests.library.requests import request
 from tests.library.waiting import wait_for
-from tests.proxy.deploy import KEY, SECRET
-
 
 # ---- the same bytes
 

@@ -11,8 +11,8 @@ import time
 from tests.library.checks import Failed, expect, main, not_tried
 from tests.library.hosting import BOOKS, NAME, PACKAGES, Hosted, Recorder, proxys, read_reply, status
 from tests.library.packages import missing, provide
+from tests.library.proxy.checks import no_secret_in_a_log, plainly
 from tests.library.requests import request
-from tests.proxy.deploy import no_secret_in_a_log, plainly
 
 
 def a_hundred_forms(receipt):

@@ -20,7 +20,6 @@ from tests.library.program import Server, free_port
 from tests.library.sessions import Once
 from tests.library.waiting import answers, wait_for
 
-
 SHOTS = os.path.join(TOP, "build/pages")
 WIDTHS = (390, 1280)
 PATIENCE = 10
