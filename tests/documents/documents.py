@@ -45,7 +45,7 @@ NOT_HERE = re.compile(
     r"|before-|copy\.json$|settings\.example$"
 )
 FOLDERS = ("crates", "tests", "tools", "deploy", "deploy/nginx", "deploy/nginx/pawnd", "deploy/systemd",
-           "deploy/examples", "docs", "web")
+           "deploy/examples", "docs", "web", *sorted(glob.glob("tests/*/", root_dir=TOP)))
 
 
 def read(path):

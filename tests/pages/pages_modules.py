@@ -282,7 +282,7 @@ def receipts_references_and_terms(_):
 
 @on_a_page
 def codes_of_links(_):
-    """Each version of the code, by this folder's own reader; and by zbar, where it is installed."""
+    """Each version of the code, by the library's own reader; and by zbar, where it is installed."""
     script = "const { modulesOf } = await import('/shared/qr.js'); return modulesOf(given[0])"
     for length in (1, 106, 107, 122, 123, 134, 152, 180, 192, 200, 230, 271, 272, 321, 367, 425, 458, 520):
         text = ("https://shop.example/pawn/#book=7&receipt=3-" + "da41597c" * 80)[:length]

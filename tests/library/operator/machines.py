@@ -40,7 +40,7 @@ def can_be_made():
 
 
 def pack_release(room, version=VERSION):
-    """A release of this folder's files and of the program that is tried."""
+    """A release of this repository's files and of the program that is tried."""
     name = f"pawnd-{version}-x86_64-linux"
     folder = os.path.join(room, name)
     os.makedirs(folder)

@@ -1,7 +1,6 @@
 #!/usr/bin/env python3
 """In systemctl's place on a machine of machines.py: it runs the steps of a unit as the unit says them, without
-systemd's walls round them. It also stands for
-programs that reach the world (apt-get, certbot), which do nothing."""
+systemd's walls round them. It also stands for programs that reach the world (apt-get, certbot), which do nothing."""
 import glob
 import os
 import re
