@@ -4,7 +4,7 @@ import os
 import shutil
 import subprocess
 
-# What each program comes in, as a package of Debian.
+# What the scripts of the pages need, each program with its package.
 PACKAGES = {"nginx": "nginx-light", "chromium": "chromium", "chromedriver": "chromium-driver"}
 PATHS = os.environ.get("PATH", "") + ":/usr/sbin"
 

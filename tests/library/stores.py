@@ -12,6 +12,8 @@ NO_PAGE = 32 + len(MARK)
 
 
 def bent_by(statement, *values):
+    """A change of rows by a statement, which changes one at least."""
+
     def bend(tables):
         changed = tables.execute(statement, values).rowcount
         if changed < 1:
@@ -38,6 +40,8 @@ def table_remade(table, old, new, *statements):
 
 
 def database_of(*statements):
+    """A database in which these statements were run."""
+
     def make(path):
         with opened(path) as tables:
             for statement in statements:
