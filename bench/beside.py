@@ -1,7 +1,6 @@
-#!/usr/bin/env python3
 """Prints the processor time of a request over a file, beside that of another program that answers the same bytes.
 
-usage: bench/beside.py [--pledges N] PEER [PROGRAM]     (default: 10,000 pledges, build/pawnd)
+usage: python3 -m bench.beside [--pledges N] PEER [PROGRAM]     (default: 10,000 pledges, build/pawnd)
 
 PEER is a program of the form `PEER answer DATABASE DAY SEED KEY` that keeps its books in tables of the same names and
 columns, but for those that it leaves out. Each makes its own tables, and Python's sqlite3 fills both with the same
@@ -21,11 +20,12 @@ import tempfile
 WORDS = sys.argv[1:]
 PLEDGES = int(WORDS.pop(WORDS.index("--pledges") + 1)) if "--pledges" in WORDS else 10_000
 NAMED = [word for word in WORDS if not word.startswith("--")]
-sys.path.insert(0, os.path.join(os.path.dirname(os.path.abspath(__file__)), "../tests"))
 if len(NAMED) > 1:
     os.environ["PAWND"] = NAMED[1]
 
-from service import BROKER, OPERATOR, PROGRAM, SEED, request  # noqa: E402
+from tests.library.keys import BROKER, OPERATOR, SEED  # noqa: E402
+from tests.library.paths import PROGRAM  # noqa: E402
+from tests.library.requests import request  # noqa: E402
 
 RUNS = 30
 TODAY, ENDS, DAY = 19753, 19935, "2024-01-31"  # 2024-01-31 and 2024-07-31, as days since 1970-01-01

@@ -1,8 +1,7 @@
-#!/usr/bin/env python3
 """Prints microseconds a request over connections of `pawnd serve :memory:`, beside the same bytes through `pawnd
 answer`.
 
-usage: bench/connections.py [PROGRAM]     (default: build/pawnd)
+usage: python3 -m bench.connections [PROGRAM]     (default: build/pawnd)
 
 Openings and views of one book of 499 pledges, each request sent when the reply before it has come: over one connection,
 and over a connection for each. Beside them a bare round trip over the loopback, of as many bytes, by a thread that
@@ -16,12 +15,13 @@ import sys
 import threading
 import time
 
-sys.path.insert(0, os.path.join(os.path.dirname(os.path.abspath(__file__)), "../tests"))
 if len(sys.argv) > 1:
     os.environ["PAWND"] = sys.argv[1]
 
-from service import OPERATOR, PROGRAM, SEED, Server  # noqa: E402
-import requests  # noqa: E402  (the other script of this folder)
+from tests.library.keys import OPERATOR, SEED  # noqa: E402
+from tests.library.paths import PROGRAM  # noqa: E402
+from tests.library.program import Server  # noqa: E402
+from bench import requests  # noqa: E402
 
 COUNT = 499
 START = list(requests.start())

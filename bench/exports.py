@@ -1,18 +1,17 @@
-#!/usr/bin/env python3
 """Prints what an export of a book of 10,000 pledges takes through `pawnd serve`, for each pledge, and how far it lifts
 the server's peak memory, beside the bytes of its text.
 
-usage: bench/exports.py [PROGRAM]     (default: build/pawnd)
+usage: python3 -m bench.exports [PROGRAM]     (default: build/pawnd)
 """
 import os
 import sys
 import time
 
-sys.path.insert(0, os.path.join(os.path.dirname(os.path.abspath(__file__)), "../tests"))
 if len(sys.argv) > 1:
     os.environ["PAWND"] = sys.argv[1]
 
-from service import PROGRAM, Server  # noqa: E402
+from tests.library.paths import PROGRAM  # noqa: E402
+from tests.library.program import Server  # noqa: E402
 
 PLEDGES = 10_000
 RUNS = 5

@@ -1,7 +1,6 @@
-#!/usr/bin/env python3
 """Prints what requests over a file take, through `pawnd answer` and `pawnd serve`, beside a bare durable insert.
 
-usage: bench/files.py [--small] [PROGRAM]     (default: build/pawnd)
+usage: python3 -m bench.files [--small] [PROGRAM]     (default: build/pawnd)
 
 The files are made by the program and filled by Python's sqlite3, row by row as the program would. A request's time is
 that from the first reply of a stream to the last, over a fresh copy of the file each time; the best of some runs. A
@@ -20,12 +19,14 @@ import time
 
 SMALL = "--small" in sys.argv
 NAMED = [word for word in sys.argv[1:] if not word.startswith("--")]
-sys.path.insert(0, os.path.join(os.path.dirname(os.path.abspath(__file__)), "../tests"))
 if NAMED:
     os.environ["PAWND"] = NAMED[0]
 
-from service import BROKER, OPERATOR, PROGRAM, SEED, free_port, request  # noqa: E402
-from stores import fill, receipt  # noqa: E402
+from tests.library.filled_stores import fill_store, receipt_of  # noqa: E402
+from tests.library.keys import BROKER, OPERATOR, SEED  # noqa: E402
+from tests.library.paths import PROGRAM  # noqa: E402
+from tests.library.program import free_port  # noqa: E402
+from tests.library.requests import request  # noqa: E402
 
 RUNS = 1 if SMALL else 5
 TURNS = 1 if SMALL else 15        # the runs of a stream beside bare inserts
@@ -95,12 +96,13 @@ def beside_bare(path, stream, wanted):
 
 
 def view(name):
-    return request("GET", f"/books/{name[0]}/held", f"Pledge-Receipt: {receipt(*name)}")
+    return request("GET", f"/books/{name[0]}/held", f"Pledge-Receipt: {receipt_of(*name)}")
 
 
 def repayment(name, seq=1):
     return request(
-        "POST", f"/books/{name[0]}/held/repay", f"Pledge-Receipt: {receipt(*name)}", body=f'{{"pence":1,"seq":{seq}}}',
+        "POST", f"/books/{name[0]}/held/repay", f"Pledge-Receipt: {receipt_of(*name)}",
+        body=f'{{"pence":1,"seq":{seq}}}',
     )
 
 
@@ -133,7 +135,7 @@ def among_others(folder):
     )
     for books in (1, 10, 100):
         path = os.path.join(folder, f"{books}.db")
-        fill(path, books, EACH)
+        fill_store(path, books, EACH)
         chosen = chosen_among(books)
         numbers = (
             each(path, [view(name) for name in chosen], b"Status inside"),
@@ -155,7 +157,7 @@ def in_memory(folder):
 
 def one_list(folder):
     path = os.path.join(folder, "lists.db")
-    fill(path, 1, EACH, entries=1, long=LONG - 1)
+    fill_store(path, 1, EACH, entries=1, long=LONG - 1)
     few, few_repaid = [(1, number) for number in range(2, EACH + 1)][:ASKED], min(ASKED, 200)
     print(f"{'microseconds a request, by entries of a pledge':46}{1:>12}{LONG:>12}")
     line(
@@ -168,7 +170,7 @@ def one_list(folder):
 
 def one_book(folder):
     path = os.path.join(folder, "whole.db")
-    fill(path, 1, WHOLE)
+    fill_store(path, 1, WHOLE)
     print(f"milliseconds a request, a book of {WHOLE} pledges:")
     line("sheet of a day without any", each(path, [broker("days/2024-03-04")] * 3, b"Ends 0") / 1e3)
     line("sheet of a day with all", each(path, [broker("days/2024-07-31")] * 3, f"Ends {WHOLE}".encode()) / 1e3)
@@ -206,7 +208,7 @@ def moves(folder):
     spent = {1: [], 2: []}
     for books in (10, 100):
         path = os.path.join(folder, f"old{books}.db")
-        fill(path, books, EACH, entries=1)
+        fill_store(path, books, EACH, entries=1)
         for schema, times in spent.items():
             old = shutil.copy(path, os.path.join(folder, "moved.db"))
             base = sqlite3.connect(old)

@@ -1,14 +1,12 @@
-#!/usr/bin/env python3
 """Prints how the processor time of each request grows: with the pledges of a book and their bookings, with those that
 are asked for one day, with the entries of a pledge, and with the books of a store.
 
-usage: bench/growth.py [--peer PEER] [PROGRAM]     (default: build/pawnd)
+usage: python3 -m bench.growth [--peer PEER] [PROGRAM]     (default: build/pawnd)
 
 PEER is a program as bench/beside.py has it; its times stand beside. Each store is filled by Python's sqlite3. A time is
 that of a process that answers a stream, less that of one that answers none, for each request: the best of some runs.
 """
 import os
-import shutil
 import sqlite3
 import subprocess
 import sys
@@ -20,17 +18,17 @@ if "--peer" in WORDS:
     at = WORDS.index("--peer")
     PEER = os.path.abspath(WORDS[at + 1])
     del WORDS[at:at + 2]
-sys.path.insert(0, os.path.join(os.path.dirname(os.path.abspath(__file__)), "../tests"))
 if WORDS:
     os.environ["PAWND"] = WORDS[0]
 
-from beside import DAY, ENDS, TODAY, receipt, spent, word  # noqa: E402
-from service import BROKER, OPERATOR, PROGRAM, SEED, request  # noqa: E402
+from bench.beside import DAY, ENDS, TODAY, receipt, spent, word  # noqa: E402
+from tests.library.keys import BROKER, KEY, OPERATOR, SEED  # noqa: E402
+from tests.library.paths import PROGRAM  # noqa: E402
+from tests.library.requests import request  # noqa: E402
 
 RUNS = 7
 # A stream has at most a thousand requests.
 MANY = 900
-KEY = f"Pledge-Key: {BROKER}"
 # So many bookings, and so many ends of periods, fall on each day, however many there are.
 EACH_DAY = 20
 
@@ -59,7 +57,8 @@ def fill(program, path, books=1, pledges=1, entries=0, asked=0):
                [(book, key, "High Street", 1000, 1, pledges) for book in range(1, books + 1)])
     rows += put(base, "terms", "book version rate keep_before keep_after",
                 [(book, 1, 2667, 0, 0) for book in range(1, books + 1)])
-    rows += put(base, "pledges", "book number ref article kind credit taken agreed five version ends held last_day closed",
+    columns = "book number ref article kind credit taken agreed five version ends held last_day closed"
+    rows += put(base, "pledges", columns,
                 [(*name, f"R{name[1]}", "Ring, 9 ct gold", 0, 900000, TODAY, end, 0, 1, end, 0, TODAY, 0)
                  for name in every for end in [ENDS + name[1] % days]])
     rows += put(base, "entries", "book number seq day sort pence",

@@ -1,8 +1,8 @@
-#!/usr/bin/env python3
 """Prints views and repayments a second for one, two and three shards: asked directly, and over TLS through nginx by the
 files of deploy/nginx.
 
-usage: bench/proxy.py [PROGRAM [RUNS]]     (default: build/pawnd, and the best of 5 runs of a second for each figure)
+usage: python3 -m bench.proxy [PROGRAM [RUNS]]     (default: build/pawnd, and the best of 5 runs of a second for each
+figure)
 
 Directly a shard has one client, since it answers one connection after the other: on one connection that is kept for
 1,000 requests, and on a connection for each request. Through nginx there are one client or six, each a process with a
@@ -18,13 +18,12 @@ import socket
 import sys
 import time
 
-sys.path.insert(0, os.path.join(os.path.dirname(os.path.abspath(__file__)), "../tests"))
 if len(sys.argv) > 1:
     os.environ["PAWND"] = sys.argv[1]
 
-from browser import missing  # noqa: E402
-from hosting import NAME, PACKAGES, Hosted  # noqa: E402
-from service import request  # noqa: E402
+from tests.library.hosting import NAME, PACKAGES, Hosted  # noqa: E402
+from tests.library.packages import missing  # noqa: E402
+from tests.library.requests import request  # noqa: E402
 
 SECONDS, RUNS = 1, int(sys.argv[2]) if len(sys.argv) > 2 else 5
 LIFTED = (("rate=5r/s", "rate=100000r/s"), ("rate=50r/s", "rate=100000r/s"))

@@ -1,8 +1,7 @@
-#!/usr/bin/env python3
 """Prints requests a second and peak memory of openings, views, day sheets, exports and repayments
 through `pawnd answer :memory:`.
 
-usage: bench/requests.py [PROGRAM]     (default: build/pawnd)
+usage: python3 -m bench.requests [PROGRAM]     (default: build/pawnd)
 
 A stream has at most 1,000 requests, so a run is one book, its terms, and up to 998 openings, views
 or repayments. What a view costs is the time of 499 openings and 499 views less that of 499 openings,
@@ -18,11 +17,12 @@ import subprocess
 import sys
 import time
 
-sys.path.insert(0, os.path.join(os.path.dirname(os.path.abspath(__file__)), "../tests"))
 if len(sys.argv) > 1:
     os.environ["PAWND"] = sys.argv[1]
 
-from service import BROKER, OPERATOR, PROGRAM, SEED, request  # noqa: E402
+from tests.library.keys import BROKER, OPERATOR, SEED  # noqa: E402
+from tests.library.paths import PROGRAM  # noqa: E402
+from tests.library.requests import request  # noqa: E402
 
 RUNS = 9
 

@@ -11,22 +11,22 @@ from .locks import Stop, alone, at_rest, ends_with_us, folder_of, not_served, sa
 from .stores import (
     check,
     copy_store,
+    fold_into_one_file,
     folder_for,
     in_words,
     name_by_time,
     program,
     put_in_place,
     room_in,
-    sum_of,
-    swept,
+    sha256_of,
+    sweep,
     sync,
-    whole,
 )
 
 STORES = os.environ.get("STORES", "/var/lib/pawnd")
 KEEP = int(os.environ.get("KEEP", "30"))
 NOTE = "copy.json"
-NAME = re.compile(r"\d{8}T\d{6}Z")
+COPY_NAME = re.compile(r"\d{8}T\d{6}Z")
 
 
 def copies(folder):
@@ -35,7 +35,7 @@ def copies(folder):
     return sorted(
         name
         for name in os.listdir(folder)
-        if NAME.fullmatch(name) and os.path.exists(os.path.join(folder, name, NOTE))
+        if COPY_NAME.fullmatch(name) and os.path.exists(os.path.join(folder, name, NOTE))
     )
 
 
@@ -66,12 +66,12 @@ def backup(path, folder):
         sync(folder)
         say(f"{copy}: {in_words(counts)}, copied within {paused * 1000:.1f} ms")
         forget_oldest(folder)
-        compare(folder, before, counts)
+        stop_if_less(folder, before, counts)
 
 
 def note_down(part, note):
     files = sorted(os.listdir(part))
-    note["sha256"] = {name: sum_of(os.path.join(part, name)) for name in files}
+    note["sha256"] = {name: sha256_of(os.path.join(part, name)) for name in files}
     with open(os.path.join(part, NOTE), "x") as it:
         json.dump(note, it, indent=1)
     sync(*(os.path.join(part, name) for name in os.listdir(part)), part)
@@ -80,10 +80,11 @@ def note_down(part, note):
 def forget_oldest(folder):
     for old in copies(folder)[: -max(KEEP, 1)]:
         os.rename(os.path.join(folder, old), os.path.join(folder, "part-" + old))
-    swept(folder, "part")
+    sweep(folder, "part")
 
 
-def compare(folder, before, counts):
+def stop_if_less(folder, before, counts):
+    """A copy holds no less than the one before it."""
     if before:
         earlier = note_of(os.path.join(folder, before[-1]))["counts"]
         if any(counts[name] < earlier[name] for name in counts):
@@ -97,23 +98,23 @@ def as_it_was_made(copy):
     """What was written down of a copy, which is still as it was made."""
     note = note_of(copy)
     for name, wanted in note["sha256"].items():
-        if sum_of(os.path.join(copy, name)) != wanted:
+        if sha256_of(os.path.join(copy, name)) != wanted:
             raise Stop(f"{copy}: {name} is not as it was when the copy was made")
     return note
 
 
-def taken_from(copy, note, room):
+def judged_database(copy, note, room):
     """The database of a copy in another folder, once it was judged."""
     new = os.path.join(room, "books.db")
     copy_store(os.path.join(copy, os.path.basename(note["of"])), new)
-    counts = whole(new)
+    counts = fold_into_one_file(new)
     if counts != note["counts"]:
         raise Stop(f"{copy}: it holds {in_words(counts)}, and {in_words(note['counts'])} when it was made")
     return new, counts
 
 
-def is_for(note, copy, path, said):
-    """Whether a copy is put where its own shard was, or where no shard is, or somebody said whose copy it is."""
+def stop_if_another_shards(note, copy, path, said):
+    """A copy is put where its own shard was, or where no shard is, or somebody said whose copy it is."""
     above = os.path.dirname(os.path.dirname(os.path.abspath(path)))
     is_shards = os.path.exists(path) or above == os.path.abspath(STORES)
     if is_shards and shard_of(note["of"]) != shard_of(path) and said != (note["of"],):
@@ -126,11 +127,11 @@ def is_for(note, copy, path, said):
 def restore(copy, path, *said):
     """Puts a copy in the place of a store, once it was seen to be the copy that was made, and one of this shard."""
     note = note_of(copy)
-    is_for(note, copy, path, said)
+    stop_if_another_shards(note, copy, path, said)
     folder = folder_for(path)
     with alone(folder), alone(folder_of(copy)), not_served(path), room_in(folder, "restoring") as room:
         note = as_it_was_made(copy)
-        new, counts = taken_from(copy, note, room)
+        new, counts = judged_database(copy, note, room)
         kept = put_in_place(new, path)
     say(
         f"{path}: {in_words(counts)}, as they were at {note['made']}."
@@ -145,7 +146,7 @@ def drill(folder, port):
         raise Stop(f"{folder} has no copy")
     copy = os.path.join(folder, names[-1])
     with alone(folder), room_in(folder, "part") as room:
-        new, counts = taken_from(copy, as_it_was_made(copy), room)
+        new, counts = judged_database(copy, as_it_was_made(copy), room)
         key = os.path.join(room, "key")
         with open(key, "w") as it:
             it.write("00000000-0000-0000-0000-00000000d711")
@@ -159,14 +160,14 @@ def drill(folder, port):
         try:
             if served.stdout.readline() != f"listening {port}\n".encode():
                 raise Stop(f"{copy} is not served: {served.stderr.read().decode().strip()}")
-            answered(int(port))
+            stop_unless_answered(int(port))
         finally:
             served.kill()
             served.communicate()
     say(f"{copy}: {in_words(counts)}, and it was served on port {port}")
 
 
-def packed(folder, names, target, recipients):
+def pack(folder, names, target, recipients):
     """An encrypted archive, which is there as a whole or not at all. Each attempt writes a file of its own, since what
     an earlier one began may not have ended yet."""
     handle, part = tempfile.mkstemp(prefix=os.path.basename(target) + ".part-", dir=os.path.dirname(target))
@@ -193,8 +194,8 @@ def send(folder, target):
         wanted = copies(folder)
         for name in wanted:
             if not os.path.exists(os.path.join(sent, name + ".tar.age")):
-                packed(folder, [name], os.path.join(sent, name + ".tar.age"), recipients)
-        packed(
+                pack(folder, [name], os.path.join(sent, name + ".tar.age"), recipients)
+        pack(
             os.path.dirname(settings), [os.path.basename(settings)], os.path.join(sent, "settings.tar.age"), recipients
         )
         for name in os.listdir(sent):
@@ -207,8 +208,8 @@ def send(folder, target):
     say(f"{target}: {len(wanted)} copies, the newest {wanted[-1] if wanted else 'none'}")
 
 
-def answered(port, book=1, patience=60):
-    """Whether a service on this machine answers as it does without a receipt."""
+def stop_unless_answered(port, book=1, patience=60):
+    """A service on this machine answers as it does without a receipt."""
     with socket.create_connection(("127.0.0.1", port), timeout=patience) as peer:
         peer.sendall(f"GET /books/{book}/held HTTP/1.1\r\nConnection: close\r\n\r\n".encode())
         said = b""

@@ -11,7 +11,7 @@ import time
 # The bytes of a database that SQLite locks, and the program with it: the first, and how many.
 LOCK_BYTES = 0x40000000, 512
 PATIENCE = int(os.environ.get("WAIT", "600"))
-HELD = set()
+HELD_FOLDERS = set()
 
 
 class Stop(Exception):
@@ -34,7 +34,7 @@ def wait_for(reached, what, patience):
         time.sleep(0.001)
 
 
-def take(handle, folder):
+def take_lock(handle, folder):
     """Waits for the lock of a folder, and says that it waits."""
     told, end = False, time.monotonic() + PATIENCE
     while True:
@@ -57,21 +57,21 @@ def alone(folder):
     """No other command works in this folder within the block. The folder itself is locked, so that no file has to be
     made for it."""
     folder = os.path.realpath(folder)
-    if folder in HELD:
+    if folder in HELD_FOLDERS:
         yield
         return
     handle = os.open(folder, os.O_RDONLY | os.O_DIRECTORY)
     try:
-        take(handle, folder)
-        HELD.add(folder)
+        take_lock(handle, folder)
+        HELD_FOLDERS.add(folder)
         yield
     finally:
-        HELD.discard(folder)
+        HELD_FOLDERS.discard(folder)
         os.close(handle)
 
 
 @contextlib.contextmanager
-def locked(path):
+def lock_if_free(path):
     """Whether nobody has the store open; then nobody can open it within the block."""
     with open(path, "rb") as file:
         try:
@@ -85,7 +85,7 @@ def locked(path):
 @contextlib.contextmanager
 def not_served(path):
     """Nobody serves the store within the block, or there is none."""
-    with locked(path) if os.path.exists(path) else contextlib.nullcontext(True) as free:
+    with lock_if_free(path) if os.path.exists(path) else contextlib.nullcontext(True) as free:
         if not free:
             raise Stop(f"{path} is served: stop its service first")
         yield
@@ -131,7 +131,7 @@ def is_stopped(pid):
     return all(state(thread) == "T" for thread in threads(pid))
 
 
-def turns(pid):
+def times_run(pid):
     """How often each thread has been given a processor: it stays as it is while the process stands still."""
     told = {}
     for thread in threads(pid):
@@ -163,7 +163,7 @@ def await_a_pause(pids):
 def settled(pid):
     """The turns of a process that is stopped, once the last of them is counted."""
     before = None
-    while (now := turns(pid)) != before:
+    while (now := times_run(pid)) != before:
         before = now
         time.sleep(0.001)
     return now
@@ -181,20 +181,20 @@ def ends_with_us():
 
     parent, prctl = os.getpid(), ctypes.CDLL(None).prctl
 
-    def tie():
+    def end_with_parent():
         prctl(PR_SET_PDEATHSIG, signal.SIGKILL)
         if os.getppid() != parent:
             os._exit(1)
 
-    return tie
+    return end_with_parent
 
 
 # ---- a process that stands still, and goes on whatever becomes of this one
 
-SIGNALS = (signal.SIGTERM, signal.SIGINT, signal.SIGHUP, signal.SIGQUIT)
+ENDING_SIGNALS = (signal.SIGTERM, signal.SIGINT, signal.SIGHUP, signal.SIGQUIT)
 
 
-def guard(handles):
+def start_guard(handles):
     """A process that waits for the end of this one, and then has those of these handles go on."""
     reads, writes = os.pipe()
     child = os.fork()
@@ -203,16 +203,16 @@ def guard(handles):
         return child, writes
     try:
         os.setsid()
-        for number in SIGNALS:
+        for number in ENDING_SIGNALS:
             signal.signal(number, signal.SIG_IGN)
         os.close(writes)
         os.read(reads, 1)
-        let_go(handles)
+        let_go_on(handles)
     finally:
         os._exit(0)
 
 
-def let_go(handles):
+def let_go_on(handles):
     for handle in handles:
         with contextlib.suppress(OSError):
             signal.pidfd_send_signal(handle, signal.SIGCONT)
@@ -223,7 +223,7 @@ def frozen(pids):
     """The processes stand still within the block, between two calls of the system. So their files are what a kill at
     this moment would leave."""
     handles = [os.pidfd_open(pid) for pid in pids]
-    child, writes = guard(handles)
+    child, writes = start_guard(handles)
     try:
         await_a_pause(pids)
         for handle in handles:
@@ -232,11 +232,11 @@ def frozen(pids):
             wait_for(lambda: is_stopped(pid), f"process {pid} stands still", 10)
         before = {pid: settled(pid) for pid in pids}
         yield
-        if any(not is_stopped(pid) or turns(pid) != before[pid] for pid in pids):
+        if any(not is_stopped(pid) or times_run(pid) != before[pid] for pid in pids):
             raise Stop("the service did not stand still meanwhile: somebody let it go on. What was copied is no copy")
     finally:
         os.close(writes)
-        let_go(handles)
+        let_go_on(handles)
         with contextlib.suppress(ChildProcessError):
             os.waitpid(child, 0)
         for handle in handles:
@@ -249,7 +249,7 @@ def at_rest(path):
     with contextlib.ExitStack() as stack:
         for _ in range(5):
             attempt = stack.enter_context(contextlib.ExitStack())
-            if attempt.enter_context(locked(path)):
+            if attempt.enter_context(lock_if_free(path)):
                 break
             pids = holders(path)
             with contextlib.suppress(ProcessLookupError):
@@ -266,7 +266,7 @@ def at_rest(path):
 
 def thaw(path):
     """Lets a service go on that another process stopped, once no command reads its files."""
-    with contextlib.suppress(FileNotFoundError), alone(folder_of(path)), locked(path) as free:
+    with contextlib.suppress(FileNotFoundError), alone(folder_of(path)), lock_if_free(path) as free:
         for pid in [] if free else holders(path):
             with contextlib.suppress(ProcessLookupError):
                 os.kill(pid, signal.SIGCONT)

@@ -9,7 +9,7 @@ import subprocess
 
 from .copies import STORES
 from .locks import Stop, alone, wait_for
-from .places import Places, all_turned, children, drained, worker
+from .places import Places, await_last_requests, await_turns, children, worker_at
 from .stores import books_in, write_whole
 
 SETTINGS = os.environ.get("SETTINGS", "/etc/pawnd")
@@ -17,7 +17,7 @@ CONF = os.environ.get("CONF", "/etc/nginx/nginx.conf")
 PATIENCE = 90
 # Where nginx's workers say who they are.
 WORKERS = re.compile(r"^\s*listen (\S+) reuseport;", re.M)
-LINE = re.compile(
+MAP_LINE = re.compile(
     r"""\s*(?:\#.*|(?P<key>"[^"]*"|[^\s;"]+)\s+(?P<shard>\w+)\s*;\s*(?:\#\s*(?:from\ (?P<old>\w+))?.*)?)?""", re.X
 )
 
@@ -30,7 +30,7 @@ class Map:
         with open(path) as it:
             self.lines = it.read().splitlines()
         for number, line in enumerate(self.lines, 1):
-            found = LINE.fullmatch(line)
+            found = MAP_LINE.fullmatch(line)
             if not found or found["key"] == "default":
                 raise Stop(f"{path}, line {number}: {line!r} is no line of a book or of a range")
             if found["key"]:
@@ -58,14 +58,14 @@ class Map:
         return self.old.get(book) if shard == "moving" else shard
 
     def range_lines(self):
-        return [line for line in self.lines if LINE.fullmatch(line)["key"] and "~" in LINE.fullmatch(line)["key"]]
+        return [line for line in self.lines if "~" in (MAP_LINE.fullmatch(line)["key"] or "")]
 
     def put(self, turned):
         """Writes lines of their own for these books: a shard's name, or `moving; # from SHARD`. All other lines
         stay."""
 
         def is_of(line):
-            found = LINE.fullmatch(line)
+            found = MAP_LINE.fullmatch(line)
             return found["key"] and found["key"].strip('"').isdigit() and int(found["key"].strip('"')) in turned
 
         kept = [line for line in self.lines if not is_of(line)]
@@ -111,7 +111,7 @@ class Proxy:
             raise Stop(f"shards.conf has no {shard}")
         return self.addresses[shard]
 
-    def standing(self):
+    def books_at_shards(self):
         """The books of each shard that is on this machine."""
         paths = {shard: self.store(shard) for shard in sorted(self.addresses)}
         return {shard: set(books_in(path)) if os.path.exists(path) else set() for shard, path in paths.items() if path}
@@ -127,17 +127,17 @@ class Proxy:
         place by a range gets a link of its own first, so that the next look finds the fence."""
         if not os.path.islink(self.places.path(book)):
             self.places.put({book: old})
-            all_turned(*self.running())
+            await_turns(*self.master_and_workers())
         self.turn(book, f"moving; # from {old}")
-        master, workers = self.running()
-        drained(master, workers, self.numbers(old))
+        master, workers = self.master_and_workers()
+        await_last_requests(master, workers, self.numeric_address(old))
 
-    def numbers(self, shard):
+    def numeric_address(self, shard):
         """The address of a shard as numbers."""
         host, _, port = self.address(shard).rpartition(":")
         return f"{socket.gethostbyname(host)}:{port}"
 
-    def running(self):
+    def master_and_workers(self):
         """nginx's first process, and where its workers say who they are."""
         with open(CONF) as it:
             text = it.read()
@@ -147,14 +147,14 @@ class Proxy:
             raise Stop(f"{CONF} is not the file of this release: its workers do not say who they are")
         return master, found[1]
 
-    def prepared(self, *shards):
+    def ensure_taken_up(self, *shards):
         """nginx looks at the places, and has taken up these shards."""
-        if not all(map(self.places.has, shards)) or worker(self.running()[1]) is None:
+        if not all(map(self.places.has, shards)) or worker_at(self.master_and_workers()[1]) is None:
             self.reload()
 
-    def settled(self, book):
+    def settle(self, book):
         """The link of a book is what its line says. What was turned and cut off is ended by this."""
-        self.prepared()
+        self.ensure_taken_up()
         if book in self.map.own:
             self.places.put({book: self.map.own[book]})
 
@@ -163,8 +163,8 @@ class Proxy:
         ran = subprocess.run(["nginx", "-q", "-t", "-c", CONF], capture_output=True, text=True)
         if ran.returncode:
             raise Stop(f"nginx refuses its configuration: {ran.stderr.strip()}")
-        master, workers = self.running()
-        looks, wanted = worker(workers) is not None, dict(self.map.own)
+        master, workers = self.master_and_workers()
+        looks, wanted = worker_at(workers) is not None, dict(self.map.own)
         there = self.places.all() if looks else {}
         # A shard may be new to nginx. It has its place when nginx has taken it up, and books are turned to it then.
         self.places.prepare(() if looks else self.addresses, self.map.range_lines())
@@ -172,12 +172,12 @@ class Proxy:
         before = set(children(master))
         os.kill(master, signal.SIGHUP)
         wait_for(lambda: set(children(master)) - before, "nginx begins anew", PATIENCE)
-        wait_for(lambda: worker(workers) not in {None, 0, *before}, "nginx answers by its new files", PATIENCE)
+        wait_for(lambda: worker_at(workers) not in {None, 0, *before}, "nginx answers by its new files", PATIENCE)
         self.places.prepare(self.addresses, self.map.range_lines())
         self.places.put({book: place for book, place in wanted.items() if there.get(book, place) != place})
         self.places.forget(self.addresses, wanted)
         wait_for(lambda: not before & set(children(master)), "nginx works by the new map alone", PATIENCE)
-        all_turned(master, workers)
+        await_turns(master, workers)
 
 
 # ---- whether the map and the shards fit
@@ -185,7 +185,8 @@ class Proxy:
 
 def faults(proxy):
     """What is wrong with the map, and what is only worth knowing."""
-    standing, links, wrong, noted = proxy.standing(), proxy.places.all() if proxy.places.has(".") else None, [], []
+    standing, wrong, noted = proxy.books_at_shards(), [], []
+    links = proxy.places.all() if proxy.places.has(".") else None
     for book, shard in sorted(proxy.map.own.items()):
         owner = proxy.map.owner(book)
         if links is not None and links.get(book) != shard:

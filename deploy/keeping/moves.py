@@ -14,25 +14,25 @@ from .maps import SETTINGS, Map, Proxy, Twins, verified
 from .stores import (
     books_in,
     copy_store,
+    delete_books,
+    fold_into_one_file,
     folder_for,
     has_pages,
     in_words,
-    judged_by_eye,
     keep_pair,
     looked_into,
     place_for,
     put_in_place,
     room_in,
-    swept,
+    stop_unless_store,
+    sweep,
     take_out,
-    whole,
-    without,
 )
 
 KEY = os.environ.get("KEY", os.path.join(SETTINGS, "operator.key"))
-LARGEST = 1_048_576
+LARGEST_IMPORT = 1_048_576
 # What a command that was killed may have left beside a store.
-ROOMS = ("looking", "taking", "keeping", "making", "restoring", "splitting")
+KINDS_OF_ROOMS = ("looking", "taking", "keeping", "making", "restoring", "splitting")
 
 
 def ask(address, method, target, body=None, **fields):
@@ -81,8 +81,8 @@ def make_book(number, shard, source):
         if owner is None:
             proxy.map.put({book: f"{shard};"})
         verified(proxy)
-        proxy.prepared(shard)
-        proxy.settled(book)
+        proxy.ensure_taken_up(shard)
+        proxy.settle(book)
     say(f"book {book} is at {shard}")
 
 
@@ -106,10 +106,10 @@ def made_with(book, source):
 def carry(book, made, old, new):
     """Takes a book out of one shard and puts it into another, where it is then byte for byte the same."""
     rows = ask(old, "GET", f"/books/{book}/export", Pledge_Key=made["key"])
-    if len(rows) > LARGEST:
+    if len(rows) > LARGEST_IMPORT:
         raise Stop(
-            f"book {book} has {len(rows)} bytes as a text, and an import takes {LARGEST}: move the shard's files "
-            "instead, by `shards split`"
+            f"book {book} has {len(rows)} bytes as a text, and an import takes {LARGEST_IMPORT}: move the shard's "
+            "files instead, by `shards split`"
         )
     ask(new, "POST", f"/books/{book}", json.dumps(made), Pledge_Key=operators_key())
     ask(new, "POST", f"/books/{book}/import", rows, Pledge_Key=made["key"], Import_Key=str(uuid.uuid4()))
@@ -127,7 +127,7 @@ def restarted(shard):
     return subprocess.run(["systemctl", "restart", unit]).returncode == 0
 
 
-def room_at(proxy, book, shard):
+def make_way(proxy, book, shard):
     """The shard has no book of this number: what an earlier move left there is taken out."""
     path = proxy.store(shard)
     if path and os.path.exists(path) and book in books_in(path):
@@ -151,30 +151,30 @@ def move(number, shard, *source):
         addresses = proxy.address(old), proxy.address(shard)
         if old == shard and not fenced:
             verified(proxy)
-            proxy.settled(book)
+            proxy.settle(book)
             raise Stop(f"book {book} is at {shard} already")
         if old == shard:
-            return stay(proxy, book, old)
+            return stay_at(proxy, book, old)
         verified(proxy)
-        proxy.prepared(old, shard)
+        proxy.ensure_taken_up(old, shard)
         path = source[0] if source else proxy.store(old)
         if not path:
             raise Stop(f"{old} is on another machine: name a file with the JSON that book {book} was made with")
         made = made_with(book, path)
-        room_at(proxy, book, shard)
-        said = turn(proxy, book, old, shard, made, addresses)
+        make_way(proxy, book, shard)
+        said = carry_and_turn(proxy, book, old, shard, made, addresses)
     say(said)
-    finish(book, old, proxy)
+    end_old_twin(book, old, proxy)
 
 
-def stay(proxy, book, old):
+def stay_at(proxy, book, old):
     verified(proxy)
-    proxy.prepared(old)
+    proxy.ensure_taken_up(old)
     proxy.turn(book, f"{old};")
     say(f"book {book} stays at {old}")
 
 
-def turn(proxy, book, old, shard, made, addresses):
+def carry_and_turn(proxy, book, old, shard, made, addresses):
     """The move itself. The map alone decides: until its line is turned the new shard's is the twin, and from then on
     the old one's."""
     begun = time.monotonic()
@@ -197,7 +197,7 @@ def turn(proxy, book, old, shard, made, addresses):
     )
 
 
-def finish(book, old, proxy):
+def end_old_twin(book, old, proxy):
     """The old twin goes, at a start of its shard."""
     if not proxy.store(old):
         say(f"On the machine of {old}, stop that shard, run `shards drop` for book {book}, and start it")
@@ -225,9 +225,9 @@ def begin(path):
     """Before a shard is started: there is a store, and it has no book that was given to another shard."""
     folder = folder_of(path)
     with alone(folder):
-        judged_by_eye(path)
-        for kind in ROOMS:
-            swept(*place_for(folder, kind))
+        stop_unless_store(path)
+        for kind in KINDS_OF_ROOMS:
+            sweep(*place_for(folder, kind))
         with not_served(path):
             pass
         if has_pages(path):
@@ -264,7 +264,7 @@ def split(first, *others):
         for shard in (first, *others):
             proxy.address(shard)
         stack.enter_context(alone(folder_of(path)))
-        judged_by_eye(path)
+        stop_unless_store(path)
         stack.enter_context(not_served(path))
         books = {
             book: count
@@ -277,7 +277,7 @@ def split(first, *others):
         divided = share_out(books, (first, *others))
         proxy.twins.change(add=[(book, shard) for book, shard in divided.items() if shard != first])
         for shard in others:
-            part_of(proxy, path, shard, [book for book in divided if divided[book] != shard])
+            make_part(proxy, path, shard, [book for book in divided if divided[book] != shard])
         proxy.twins.change(add=[(book, first) for book, shard in divided.items() if shard != first])
         proxy.map.put({book: f"{shard};" for book, shard in divided.items()})
         proxy.twins.change(remove=[(book, shard) for book, shard in divided.items() if shard != first])
@@ -295,7 +295,7 @@ def share_out(books, shards):
     return divided
 
 
-def part_of(proxy, path, shard, out):
+def make_part(proxy, path, shard, out):
     """A store for a further shard, which has its own books alone."""
     target = os.path.join(os.path.dirname(os.path.dirname(path)), shard.removeprefix("shard"), "books.db")
     folder = folder_for(target)
@@ -306,6 +306,6 @@ def part_of(proxy, path, shard, out):
             raise Stop(f"{target} has books already: {', '.join(map(str, left))}")
         new = os.path.join(room, "books.db")
         copy_store(path, new)
-        counts = without(new, out) if out else whole(new)
+        counts = delete_books(new, out) if out else fold_into_one_file(new)
         put_in_place(new, target)
     say(f"{target}: {in_words(counts)}")

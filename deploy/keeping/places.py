@@ -11,7 +11,7 @@ from .stores import sync, write_whole
 
 PLACES = os.environ.get("PLACES", "/var/lib/pawnd-places")
 # A book that is fenced, and one that has no line.
-SHUT = ("moving", "none")
+NOT_SERVED = ("moving", "none")
 PATIENCE = 90
 
 
@@ -50,7 +50,7 @@ class Places:
         for folder in (self.folder, *map(self.path, shards)):
             os.makedirs(folder, exist_ok=True)
             os.chmod(folder, 0o711)
-        for name in SHUT:
+        for name in NOT_SERVED:
             with open(self.path(name), "a"):
                 pass
         write_whole(self.path("ranges.map"), "".join(line + "\n" for line in ranges))
@@ -77,7 +77,7 @@ def children(parent):
     return found
 
 
-def worker(address):
+def worker_at(address):
     """The worker that answers at this address, 0 if its answer does not come, or None where nginx does not work by
     these files."""
     connection = http.client.HTTPConnection(address, timeout=10)
@@ -93,12 +93,12 @@ def worker(address):
         connection.close()
 
 
-def all_turned(master, address):
+def await_turns(master, address):
     """Each worker has ended what it had in hand when this began. It looks up a place and connects to the shard in one
     go, and answers here before or after that. One that serves no more after a reload has to end."""
     left, asked, end = set(children(master)), 0, time.monotonic() + PATIENCE
     while left:
-        pid, asked = worker(address), asked + 1
+        pid, asked = worker_at(address), asked + 1
         if pid is None:
             raise Stop("nginx does not look at the places of books: `shards reload` has it begin")
         left.discard(pid)
@@ -119,8 +119,8 @@ def sockets_to(address):
     return {(line[1], line[9]) for line in lines if line[2] == wanted and line[9] != "0"}
 
 
-def drained(master, address, shard):
+def await_last_requests(master, address, shard):
     """No request is under way to this shard that was looked up before this began."""
-    all_turned(master, address)
+    await_turns(master, address)
     there = sockets_to(shard) if re.fullmatch(r"[0-9.]+:[0-9]+", shard) else set()
     wait_for(lambda: not there & sockets_to(shard), f"the requests that {shard} has in hand are answered", PATIENCE)

@@ -12,7 +12,7 @@ UNITS = "/etc/systemd/system"
 EXAMPLES = ("site.conf", "shards.conf")
 
 
-def read(path):
+def lines_of(path):
     with open(path) as it:
         return it.readlines()
 
@@ -28,7 +28,7 @@ def installed(release):
         yield os.path.join(UNITS, os.path.basename(path)), path
 
 
-def how(place, path):
+def how_it_compares(place, path):
     if not os.path.exists(place):
         return "is not there"
     if os.path.islink(place):
@@ -45,16 +45,16 @@ def how(place, path):
 def differ(release=None):
     """Says what of /etc is not the release's, and what another release changes."""
     for place, path in installed(TOP):
-        print(f"{place} {how(place, path)}")
+        print(f"{place} {how_it_compares(place, path)}")
     if release:
         if not os.path.isdir(os.path.join(release, "deploy")):
             raise Stop(f"{release} is no release")
-        changed(os.path.realpath(release))
+        print_changes(os.path.realpath(release))
         for path in sorted(glob.glob(os.path.join(STORES, "*/books.db"))):
             print(f"{path} {opened_by(os.path.join(release, 'pawnd'), path)}")
 
 
-def changed(release):
+def print_changes(release):
     """The release's own files that are others, and how the examples of the operator's files differ."""
     for place, path in installed(release):
         own = os.path.join(TOP, os.path.relpath(path, release))
@@ -65,7 +65,7 @@ def changed(release):
                 print(f"{other} is another than {one}")
     for name in EXAMPLES:
         one, other = (os.path.join(it, "deploy/examples", name) for it in (TOP, release))
-        print("".join(difflib.unified_diff(read(one), read(other), one, other)), end="")
+        print("".join(difflib.unified_diff(lines_of(one), lines_of(other), one, other)), end="")
 
 
 def opened_by(program, path):

@@ -89,12 +89,12 @@ def sync(*paths):
         os.close(handle)
 
 
-def sum_of(path):
+def sha256_of(path):
     with open_plain(path) as it:
         return hashlib.file_digest(it, "sha256").hexdigest()
 
 
-def own_as(folder, *paths):
+def give_to_owner(folder, *paths):
     """Whoever owns the folder is to own these."""
     owner = os.stat(folder)
     if os.geteuid() == 0:
@@ -130,7 +130,7 @@ def name_by_time(folder, before=""):
         time.sleep(0.1)
 
 
-def swept(folder, kind):
+def sweep(folder, kind):
     """What an earlier command left behind when it was killed is removed. The folder is held."""
     for name in os.listdir(folder):
         if name.startswith(kind + "-"):
@@ -150,7 +150,7 @@ def place_for(folder, kind):
 def room_in(folder, kind):
     """A folder for files that are being made, in a folder that is held: root's alone, and gone afterwards."""
     place, kind = place_for(folder, kind)
-    swept(place, kind)
+    sweep(place, kind)
     room = tempfile.mkdtemp(prefix=kind + "-", dir=place)
     try:
         yield room
@@ -161,7 +161,7 @@ def room_in(folder, kind):
 # ---- one store in another's place
 
 
-def undone(path):
+def undo_replacement(path):
     """A replacement that was cut off before its last step: the old pair has its own names again, and no others."""
     folder, name = folder_of(path), os.path.basename(path)
     if not os.path.exists(path) or os.stat(path).st_nlink == 1:
@@ -182,9 +182,9 @@ def put_in_place(new, path):
     database has two names the program does not open it. So there is no moment at which a start finds no store, or a
     log beside a database that is not its own."""
     folder = folder_of(path)
-    undone(path)
+    undo_replacement(path)
     sync(new)
-    own_as(folder, new)
+    give_to_owner(folder, new)
     kept = os.path.join(folder, "before-" + name_by_time(folder, "before-"))
     if parts(path):
         os.mkdir(kept, 0o700)
@@ -199,19 +199,19 @@ def put_in_place(new, path):
     return kept if os.path.exists(kept) else None
 
 
-def folded(path):
+def fold_log(path):
     """Brings the log into the database, by SQLite. The store is not served, and held."""
     with contextlib.closing(sqlite3.connect(path, isolation_level=None, timeout=0)) as tables:
         busy, *_ = tables.execute("PRAGMA wal_checkpoint(TRUNCATE)").fetchone()
     if busy:
         raise Stop(f"{path} is open in another program")
-    own_as(folder_of(path), *parts(path))
+    give_to_owner(folder_of(path), *parts(path))
 
 
-def whole(path):
-    """A store of one file, for one that was judged."""
+def fold_into_one_file(path):
+    """Judges a store and makes one file of it: what it counts."""
     counts = check(path)
-    folded(path)
+    fold_log(path)
     with contextlib.suppress(FileNotFoundError):
         os.remove(path + LOG)
     return counts
@@ -266,10 +266,10 @@ def rows_of(tables, where="1"):
 # ---- books that are another shard's
 
 
-def without(path, books):
+def delete_books(path, books):
     """Takes books out of a store that nobody else sees, with all that belongs to them, and judges what is left."""
     named = ",".join(str(int(book)) for book in books)
-    before = whole(path)
+    before = fold_into_one_file(path)
     with contextlib.closing(sqlite3.connect(path, isolation_level=None)) as tables:
         tables.execute("PRAGMA foreign_keys = ON")
         tables.execute("BEGIN IMMEDIATE")
@@ -281,7 +281,7 @@ def without(path, books):
         tables.execute("COMMIT")
         # Anew without free pages, so that no key and no receipt of theirs is left in the file.
         tables.execute("VACUUM")
-    after = whole(path)
+    after = fold_into_one_file(path)
     if any(after[name] != before[name] - gone[name] for name in before):
         raise Stop(
             f"{path}: it held {in_words(before)}, and {in_words(after)} without books {named}: that does not fit"
@@ -295,7 +295,7 @@ def take_out(path, books):
     with alone(folder), not_served(path), room_in(folder, "taking") as room:
         new = os.path.join(room, "books.db")
         copy_store(path, new)
-        counts = without(new, books)
+        counts = delete_books(new, books)
         kept = put_in_place(new, path)
     say(
         f"{path}: without books {', '.join(map(str, sorted(books)))}, which another shard has, it holds "
@@ -323,11 +323,11 @@ def has_pages(path):
     return os.path.exists(path + LOG) and os.path.getsize(path + LOG) > NO_PAGE
 
 
-def judged_by_eye(path):
-    """Whether a start would find a store there, and not make an empty one."""
+def stop_unless_store(path):
+    """A start would find a store there, and not make an empty one."""
     if os.path.islink(path):
         raise Stop(f"{path} is a link, and no store")
-    undone(path)
+    undo_replacement(path)
     if not os.path.exists(path) or os.path.getsize(path) == 0:
         raise Stop(
             f"there is no store at {path}. Is its disk there? Put a copy back by `shards restore`. A new shard is "
@@ -341,12 +341,12 @@ def fold(path):
     """After a stop: the log goes into the database, so that the next start reads the file once."""
     folder = folder_of(path)
     with alone(folder):
-        judged_by_eye(path)
+        stop_unless_store(path)
         if has_pages(path):
             keep_pair(path)
             with not_served(path):
                 pass
-            folded(path)
+            fold_log(path)
 
 
 def owner_for(folder):
@@ -357,10 +357,10 @@ def owner_for(folder):
     return os.geteuid(), os.getegid()
 
 
-def passable(folder):
+def make_passable(folder):
     """A folder through which every user comes to their own, also where what is made here is its owner's alone."""
     if not os.path.isdir(folder):
-        passable(os.path.dirname(folder))
+        make_passable(os.path.dirname(folder))
         os.mkdir(folder)
         os.chmod(folder, 0o755)
 
@@ -369,7 +369,7 @@ def folder_for(path):
     """The folder of a shard's store, which is made where it is not there."""
     folder = os.path.dirname(os.path.abspath(path))
     if not os.path.isdir(folder):
-        passable(os.path.dirname(folder))
+        make_passable(os.path.dirname(folder))
         os.mkdir(folder, 0o700)
         if os.geteuid() == 0:
             os.chown(folder, *owner_for(folder))
@@ -383,6 +383,6 @@ def new_store(path):
         if parts(path):
             raise Stop(f"{path} is there already")
         new = os.path.join(room, "books.db")
-        whole(new)
+        fold_into_one_file(new)
         put_in_place(new, path)
     say(f"{path}: an empty store")

@@ -1,0 +1,387 @@
+"""What docs/CLIENTS.md tells a writer of clients, shown by the clients themselves: five requests by each that the
+machine has, with the times; how connections end; several receipts; two senders of one entry; what the proxy says by
+itself; and the two ways to try."""
+import contextlib
+import http.client
+import json
+import os
+import re
+import shutil
+import signal
+import socket
+import subprocess
+import tempfile
+import time
+
+from tests.library.checks import expect, main, not_tried
+from tests.library.keys import BROKER, OPERATOR, SEED
+from tests.library.packages import provide
+from tests.library.paths import PROGRAM, TOP
+from tests.library.program import Server, free_port
+from tests.library.requests import refusal, request
+from tests.library.sessions import PATIENCE, Session, read_all
+
+BODY_BYTES = 1_048_576
+KEY, IMPORT, CLOSE = f"Pledge-Key: {BROKER}", f"Import-Key: {BROKER}", "Connection: close"
+JAVA = """
+import java.net.URI;
+import java.net.http.HttpClient;
+import java.net.http.HttpRequest;
+import java.net.http.HttpResponse.BodyHandlers;
+public class Five {
+    public static void main(String[] words) throws Exception {
+        for (var version : HttpClient.Version.values()) {
+            var client = HttpClient.newBuilder().version(version).build();
+            for (int turn = 0; turn < 5; turn++) {
+                var asked = HttpRequest.newBuilder(URI.create(words[0]));
+                for (int at = 1; at < words.length; at++) asked.header("Pledge-Receipt", words[at]);
+                long begun = System.nanoTime();
+                var reply = client.send(asked.build(), BodyHandlers.ofString());
+                var waited = System.nanoTime() - begun > 4_000_000_000L ? " waited" : "";
+                System.out.println(reply.statusCode() + " " + reply.body().split("Pledge ").length + waited);
+            }
+        }
+    }
+}
+"""
+NODE = """
+import http from "node:http";
+const [, , how, url, ...receipts] = process.argv;
+const field = { "Pledge-Receipt": receipts[0] };
+const ways = {
+  "fetch kept": async () => (await fetch(url, { headers: field })).text(),
+  "fetch closed": async () => (await fetch(url, { headers: { ...field, Connection: "close" } })).text(),
+  "fetch appended": async () => {
+    const headers = new Headers({ Connection: "close" });
+    for (const it of receipts) headers.append("Pledge-Receipt", it);
+    return (await fetch(url, { headers })).text();
+  },
+  "http": () => new Promise((done) => {
+    http.get(url, { agent: false, headers: { "Pledge-Receipt": receipts } }, (reply) => {
+      let said = "";
+      reply.on("data", (piece) => { said += piece; });
+      reply.on("end", () => done(said));
+    });
+  }),
+};
+for (let turn = 0; turn < 5; turn += 1) console.log((await ways[how]()).split("Pledge ").length, how);
+"""
+RUNS = {"node": "nodejs", "nginx": "nginx-light"}
+
+
+def has(program):
+    """Whether a program is there, which is installed where that may be done."""
+    return not provide({program: RUNS[program]})
+
+
+@contextlib.contextmanager
+def two_pledges():
+    """A service with a book of two pledges: the port and the receipts."""
+    with Server() as server:
+        session = server.session()
+        session.open_book()
+        receipts = [session.open_pledge(number) for number in (1, 2)]
+        session.close()
+        yield server, receipts
+
+
+def held(server):
+    return f"http://127.0.0.1:{server.port}/books/7/held"
+
+
+def timed(who, asked):
+    """What comes of it, and the seconds that it takes, which are printed."""
+    begun = time.monotonic()
+    said = asked()
+    taken = time.monotonic() - begun
+    print(f"        {taken:6.2f} s  {who}", flush=True)
+    return said, taken
+
+
+def waits(who, asked):
+    """What comes of it, and whether it waited for a connection of its own, as it mostly does: it has three turns."""
+    for _ in range(3):
+        said, taken = timed(who, asked)
+        if taken > PATIENCE - 1:
+            break
+    return said, taken > PATIENCE - 1
+
+
+def output(*words, **how):
+    ran = subprocess.run(words, stdin=subprocess.DEVNULL, capture_output=True, text=True, timeout=120, **how)
+    expect(f"how {words[0]} ended", (ran.returncode, ran.stderr[-300:]), (0, ""))
+    return ran.stdout
+
+
+def by_http_client(server, receipt, closes):
+    connection, statuses = http.client.HTTPConnection("127.0.0.1", server.port, timeout=60), []
+    fields = {"Pledge-Receipt": receipt, **({"Connection": "close"} if closes else {})}
+    for _ in range(5):
+        connection.request("GET", "/books/7/held", headers=fields)
+        reply = connection.getresponse()
+        statuses.append((reply.status, len(reply.read()) > 0))
+        if closes:
+            connection.close()
+    connection.close()
+    return statuses
+
+
+def five_requests_by_each_client():
+    """All are answered. Those that keep a connection and open another wait for its end. Those that close each do
+    not."""
+    with two_pledges() as (server, receipts):
+        by_curl(server, ["curl", "-sS", "-H", f"Pledge-Receipt: {receipts[0]}"])
+        for closes in (False, True):
+            who = f"http.client, {'closed' if closes else 'kept'}"
+            said, taken = timed(who, lambda: by_http_client(server, receipts[0], closes))
+            expect(f"the replies to {who}", (said, taken < PATIENCE), ([(200, True)] * 5, True))
+        by_node(server, receipts)
+        by_java(server, receipts)
+
+
+def by_curl(server, curl):
+    five, together = [held(server)] * 5, ["-Z", "--no-progress-meter"]
+    said, waited = waits("curl -Z, kept", lambda: output(*curl, *together, *five))
+    expect("the replies to curl -Z, and whether it waits for itself", (said.count("Pledge 1"), waited), (5, True))
+    for who, words in (("curl, one process", five), ("curl -Z, closed", [*together, "-H", CLOSE, *five])):
+        said, taken = timed(who, lambda: output(*curl, *words))
+        expect(f"the replies to {who}", (said.count("Pledge 1"), taken < PATIENCE - 1), (5, True))
+    said, taken = timed("curl, five times", lambda: "".join(output(*curl, held(server)) for _ in range(5)))
+    expect("the replies to curl, five times", (said.count("Pledge 1"), taken < PATIENCE - 1), (5, True))
+
+
+def node(*words):
+    """What the program for node prints. It begins with what a script's path is else."""
+    return output("node", "--input-type=module", "-e", f"process.argv.splice(1, 0, '');{NODE}", *words)
+
+
+def by_node(server, receipts):
+    if not has("node"):
+        return not_tried("the clients of node", "node is not installed")
+    said, waited = waits("node, fetch kept", lambda: node("fetch kept", held(server), receipts[0]))
+    expect("the replies to fetch, and whether it waits for itself", (said, waited), ("2 fetch kept\n" * 5, True))
+    for how, asked in (("fetch closed", receipts[:1]), ("http", receipts)):
+        said, taken = timed(f"node, {how}", lambda: node(how, held(server), *asked))
+        expect(f"the replies to {how}", (said, taken < PATIENCE - 1), (f"{len(asked) + 1} {how}\n" * 5, True))
+    said = node("fetch appended", held(server), *receipts)
+    expect("fetch joins receipts by a comma", said.split("\n")[0], "1 fetch appended")
+
+
+def by_java(server, receipts):
+    if not shutil.which("java") or not shutil.which("javac"):
+        return not_tried("the client of Java", "its kit is not installed")
+    with tempfile.TemporaryDirectory() as room:
+        path = os.path.join(room, "Five.java")
+        with open(path, "w") as it:
+            it.write(JAVA)
+        output("javac", "-d", room, path)
+        java = ["java", "-Djdk.httpclient.keepalive.timeout=0", "-cp", room, "Five"]
+        said, _ = timed("Java, twice five by two clients", lambda: output(*java, held(server), *receipts))
+        expect("the replies to Java, of which none waited", said.split("\n")[:-1], ["200 3"] * 10)
+
+
+def an_idle_connection_bars_the_others():
+    with two_pledges() as (server, _), server.connect() as idle:
+        idle.sendall(request("GET", "/books/7/held"))
+        idle.recv(4096)
+        for waits in (True, False):
+            begun = time.monotonic()
+            with server.connect() as peer:
+                peer.sendall(request("GET", "/books/7/held", CLOSE))
+                expect("a reply", read_all(peer), refusal(712, "NoReceipt", "400 Bad Request"))
+            expect("it waited", time.monotonic() - begun > PATIENCE - 1, waits)
+        expect("the idle one is ended", idle.recv(10), b"")
+
+
+def how_connections_end():
+    with two_pledges() as (server, _):
+        none = refusal(712, "NoReceipt", "400 Bad Request")
+        for field, replies in ((CLOSE, 1), ("Connection: CLOSE", 1), ("Connection: keep-alive, close", 2)):
+            with server.connect() as peer:
+                peer.sendall(request("GET", "/books/7/held", field) + request("GET", "/books/7/held", CLOSE))
+                expect(field, read_all(peer), none * replies)
+        with server.connect() as peer:
+            peer.sendall(request("GET", "/books/7/held") * 1001)
+            said = read_all(peer)
+        told = (said.count(b"HTTP/1.1 "), b"connection" in said.lower(), b"date:" in said.lower())
+        expect("a thousand replies, and no word of the end", told, (1000, False, False))
+        for method in ("HEAD", "OPTIONS"):
+            with server.connect() as peer:
+                peer.sendall(request(method, "/books/7/held", CLOSE))
+                expect(method, read_all(peer), refusal(707, "WrongMethod", "400 Bad Request"))
+        with server.connect() as peer:
+            body = '{"keep_after":0,"keep_before":0,"rate":0,"version":1}'
+            peer.sendall(request("POST", "/books/7/terms", KEY, "Expect: 100-continue", CLOSE, body=body)[:-len(body)])
+            peer.settimeout(1)
+            with contextlib.suppress(TimeoutError):
+                expect("nothing comes to Expect", peer.recv(100), "nothing")
+            peer.sendall(body.encode())
+            expect("the reply then", read_all(peer).endswith(b'{"version":1}'), True)
+
+
+def a_body_that_is_too_long():
+    """It is refused while it is written: the reply is seen, or that the connection is broken. One byte less is read."""
+    with two_pledges() as (server, _):
+        seen, fields = {}, {"Pledge-Key": BROKER, "Import-Key": BROKER, "Connection": "close"}
+        for _ in range(20):
+            connection = http.client.HTTPConnection("127.0.0.1", server.port, timeout=60)
+            try:
+                connection.request("POST", "/books/7/import", b"x" * 2 * BODY_BYTES, fields)
+                said = json.loads(connection.getresponse().read())["code"]
+            except OSError as why:
+                said = type(why).__name__
+            connection.close()
+            seen[said] = seen.get(said, 0) + 1
+        print(f"        http.client saw {seen}", flush=True)
+        expect("what was seen", set(seen) <= {705, "BrokenPipeError", "ConnectionResetError"}, True)
+        with server.connect() as peer:
+            peer.sendall(request("POST", "/books/7/import", KEY, IMPORT, CLOSE, body="x" * BODY_BYTES))
+            expect("the longest body", read_all(peer).endswith(b'{"code":602,"name":"Columns","row":1}'), True)
+
+
+def several_receipts():
+    with two_pledges() as (server, receipts):
+        fields = [word for it in receipts for word in ("-H", f"Pledge-Receipt: {it}")]
+        shown = output("curl", "-sS", *fields, held(server))
+        expect("by curl", re.findall(r"Pledge \d", shown), ["Pledge 1", "Pledge 2"])
+        joined = output("curl", "-sS", "-H", f"Pledge-Receipt: {', '.join(receipts)}", held(server))
+        expect("joined by a comma", json.loads(joined)["code"], 710)
+        connection = http.client.HTTPConnection("127.0.0.1", server.port, timeout=60)
+        connection.putrequest("GET", "/books/7/held")
+        for it in receipts:
+            connection.putheader("Pledge-Receipt", it)
+        connection.putheader("Connection", "close")
+        connection.endheaders()
+        expect("by putheader", re.findall(rb"Pledge \d", connection.getresponse().read()), [b"Pledge 1", b"Pledge 2"])
+        connection.close()
+
+
+def two_senders_of_one_entry():
+    """Both are told that it stands, and it stands once."""
+    with two_pledges() as (server, receipts):
+        session, entry, at = server.session(), {"pence": 1000, "seq": 1}, "/books/7/pledges/1/repay"
+        one = session.bearer(receipts[0], "POST", "/books/7/held/repay", entry)
+        expect("both are told the same", (session.broker("POST", at, entry), one[0]), (one, 200))
+        shown = session.broker("GET", "/books/7/pledges/1")[1]
+        expect("it stands once", (shown.count("Entry "), "Owing 90.00\n" in shown), (1, True))
+        expect("another sum", session.broker("POST", at, {"pence": 999, "seq": 1})[1]["code"], 301)
+        session.close()
+
+
+@contextlib.contextmanager
+def proxied(port):
+    """The port of nginx in front of a service, as `make pages` starts it."""
+    with tempfile.TemporaryDirectory() as room:
+        here = free_port()
+        environment = {**os.environ, "PORT": str(port), "PAGES_PORT": str(here), "ROOM": os.path.join(room, "pages")}
+        os.chmod(room, 0o755)
+        how = dict.fromkeys(("stdin", "stdout", "stderr"), subprocess.DEVNULL)
+        proxy = subprocess.Popen([os.path.join(TOP, "tools/pages")], env=environment, **how)
+        try:
+            for _ in range(100):
+                with contextlib.suppress(OSError), socket.create_connection(("127.0.0.1", here), timeout=10):
+                    break
+                time.sleep(0.1)
+            yield here
+        finally:
+            proxy.send_signal(signal.SIGTERM)
+            proxy.wait(timeout=30)
+
+
+def what_the_proxy_says_by_itself():
+    """JSON with `handed_on` and without `code`, and how long to wait."""
+    if not has("nginx"):
+        return not_tried("the proxy's own replies", "nginx is not installed")
+    with open(os.path.join(TOP, "docs/openapi.json"), encoding="utf-8") as it:
+        told = json.load(it)["components"]
+    with two_pledges() as (server, receipts), proxied(server.port) as port:
+        view = {"Pledge-Receipt": receipts[0]}
+        statuses = [by_proxy(port, "/books/7/held", **it)[0] for it in (view, {"Pledge-Receipt": "x"})]
+        expect("what the service says", statuses, [200, 400])
+        with socket.create_connection(("127.0.0.1", port), timeout=60) as idle:
+            idle.sendall(request("GET", "/books/7/held", "Host: x", f"Pledge-Receipt: {receipts[0]}"))
+            expect("a reply to one that stays", idle.recv(12), b"HTTP/1.1 200")
+            begun = time.monotonic()
+            expect("a reply to another", by_proxy(port, "/books/7/held", **view)[0], 200)
+            expect("it did not wait", time.monotonic() - begun < PATIENCE - 1, True)
+        expect("a target of another shape", by_proxy(port, "/books/7/held?x=1"), (404, not_handed_on(404), "2"))
+        expect("a long body", by_proxy(port, "/books/7/import", b"x" * (BODY_BYTES + 1))[:2], (413, not_handed_on(413)))
+        expect("a long head", by_proxy(port, "/books/7/held", X="x" * 40_000)[:2], (400, not_handed_on(400)))
+        seen = [by_proxy(port, "/books/7/held", **view) for _ in range(40)]
+        expect("many", {(it[0], it[2]) for it in seen}, {(200, None), (429, "2")})
+        expect("what they are told", next(it[1] for it in seen if it[0] == 429), not_handed_on(429))
+        time.sleep(2)
+        expect("after as long as it said", by_proxy(port, "/books/7/held", **view)[0], 200)
+        server.program.kill()
+        server.program.wait()
+        away = by_proxy(port, "/books/7/pledges/1", **{"Pledge-Key": BROKER})
+        expect("a service that is not there", away, (502, not_handed_on(502), "2"))
+        expect("its schema", sorted(told["schemas"]["ProxyRefusal"]["required"]), ["handed_on", "proxy"])
+
+
+def not_handed_on(status):
+    return {"proxy": status, "handed_on": False}
+
+
+def by_proxy(port, target, body=None, **fields):
+    """The status of a reply, what it says, and how long it asks to wait."""
+    connection = http.client.HTTPConnection("127.0.0.1", port, timeout=60)
+    connection.request("GET" if body is None else "POST", target, body, fields)
+    reply = connection.getresponse()
+    said = reply.read()
+    connection.close()
+    if reply.getheader("Content-Type").startswith("application/json"):
+        said = json.loads(said)
+    return reply.status, said, reply.getheader("Retry-After")
+
+
+def answered(stream):
+    """What the program answers to a stream on a day of long ago."""
+    words = [PROGRAM, "answer", ":memory:", "2024-01-31", SEED, OPERATOR]
+    return subprocess.run(words, input=stream, capture_output=True, timeout=60, check=True).stdout
+
+
+def a_pledge_of_long_ago():
+    """The requests that take it."""
+    book = {"capacity": 1, "key": BROKER, "name": "High Street"}
+    terms = {"version": 1, "rate": 2667, "keep_before": 0, "keep_after": 0}
+    opening = {"ref": "A1", "article": "Ring", "kind": "fixed", "pence": 10000, "five_days": False}
+    return b"".join([request("POST", "/books/7", f"Pledge-Key: {OPERATOR}", body=json.dumps(book)),
+                     request("POST", "/books/7/terms", KEY, body=json.dumps(terms)),
+                     request("POST", "/books/7/pledges", KEY, body=json.dumps(opening))])
+
+
+def two_ways_to_try():
+    """A store in memory ends with the program; the same day, seed and requests give the same replies."""
+    with two_pledges() as (_, receipts):
+        pass
+    with Server() as server:
+        session = server.session()
+        expect("another sandbox", session.bearer(receipts[0], "GET", "/books/7/held")[1]["code"], 402)
+        session.close()
+    stream = a_pledge_of_long_ago() + request("GET", "/books/7/pledges/1", KEY)
+    said = [answered(stream) for _ in range(2)]
+    expect("the same replies", (said[0], b"Taken 2024-01-31\n" in said[0]), (said[1], True))
+
+
+def old_days_by_an_import():
+    """A pledge that was taken long ago comes in by an import, and its period is over."""
+    exported = answered(a_pledge_of_long_ago() + request("GET", "/books/7/export", KEY))
+    rows = "row,c1" + exported.decode().split("row,c1", 1)[1]
+    with Server() as server:
+        session = server.session()
+        session.ask("POST", "/books/8", {"capacity": 1, "key": BROKER, "name": "x"}, Pledge_Key=OPERATOR)
+        session.close()
+        with server.connect() as peer:
+            peer.sendall(request("POST", "/books/8/import", KEY, IMPORT, CLOSE, body=rows))
+            expect("the import", read_all(peer).endswith(b'{"imported":1}'), True)
+        session = Session(server.port)
+        shown = session.broker("GET", "/books/8/pledges/1")[1]
+        expect("its statement", ("Taken 2024-01-31\n" in shown, "Status realisable\n" in shown), (True, True))
+        session.close()
+
+
+if __name__ == "__main__":
+    main(five_requests_by_each_client, an_idle_connection_bars_the_others, how_connections_end, a_body_that_is_too_long,
+         several_receipts, two_senders_of_one_entry, what_the_proxy_says_by_itself, two_ways_to_try,
+         old_days_by_an_import)

@@ -1,0 +1,292 @@
+"""The documents: each path that one names is there, each link leads to a file and to a heading of it, each definition
+that the glossary names stands in the file that it names, each clause of docs/PROVED.md in the contract of its call,
+each definition of specs has a name of its own, each definition that is quoted stands in the file that it is quoted
+from. They are short, and so are their sentences. A measured figure stands in one of them, and docs/BENCH.md is what
+its script writes.
+"""
+import csv
+import glob
+import os
+import re
+import subprocess
+import sys
+
+from tests.library.checks import Failed, expect, main
+from tests.library.paths import TOP
+
+MADE = ("build/", "data/", "dist/")
+DOCUMENTS = sorted(
+    path for pattern in ("*.md", "*/*.md") for path in glob.glob(pattern, root_dir=TOP) if not path.startswith(MADE)
+)
+README_WORDS = 900
+# All prose together, in words as `wc -w` counts them. What a script writes is no prose: these pages whole, and what
+# stands in others between `<!-- By PATH .. -->` and `<!-- until here -->`.
+PROSE_WORDS = 26_000
+WRITTEN = ("docs/CLAUSES.md",)
+WRITTEN_PART = re.compile(r"<!-- By [^>]*-->.*?<!-- until here -->", re.S)
+# No sentence is longer in the documents that are read in need.
+SENTENCE_WORDS = 32
+READ_IN_NEED = ("README.md", "docs/RULES.md", "docs/OPERATING.md", "docs/DEPLOYING.md")
+# A figure is a number with one of these units. Two documents may have the same one only if each says another thing.
+UNITS = {"ms": "ms", "s": "s", "second": "s", "seconds": "s", "minute": "min", "minutes": "min", "hour": "h",
+         "hours": "h", "kB": "kB", "KiB": "KiB", "MB": "MB", "MiB": "MiB", "GB": "GB", "rows": "rows"}
+NUMBER = r"\d[\d,]*(?:\.\d+)?"
+FIGURE = re.compile(rf"(?<![\w.,:/-])({NUMBER}) (?:to ({NUMBER}) )?({'|'.join(UNITS)})\b")
+COINCIDENCES = {"10 MB": "the length of a log, and that of a reply"}
+CRATES = sorted(os.listdir(os.path.join(TOP, "crates")))
+ENDS = "md|rt|antt|py|sh|json|yaml|conf|map|edit|html|js|css|txt|svg|service|target|timer|sysusers|toml"
+# What looks like a path, within backticks or after a prompt: words with slashes between them, or a name with an end
+# that files here have.
+WITH_SLASHES = re.compile(r"[\w.@*-]+(?:/[\w.@*-]+)+/?")
+WITH_AN_END = re.compile(rf"[\w@*-]+(?:\.[\w@*-]+)*\.(?:{ENDS})")
+# What is made by a command, or stands elsewhere, or is no path: media types, and names that stand for any.
+NOT_HERE = re.compile(
+    r"(application|text|x)/|.*\b(NAME|VERSION|BACKUP|ROOM|COPY|PATH|FOLDER|N)\b|(build|dist|data|out)/"
+    r"|before-|copy\.json$|settings\.example$"
+)
+FOLDERS = ("crates", "tests", "tools", "deploy", "deploy/nginx", "deploy/nginx/pawnd", "deploy/systemd",
+           "deploy/examples", "docs", "web", *sorted(glob.glob("tests/*/", root_dir=TOP)))
+
+
+def read(path):
+    with open(os.path.join(TOP, path), encoding="utf-8") as it:
+        return it.read()
+
+
+def sections(text):
+    """A document's prose by its headings, without blocks of code."""
+    prose = re.sub(r"^```.*?^```", "", text, flags=re.M | re.S)
+    prose = re.sub(r"^(?: {4,}|\t)(?! *[-*0-9]).*$", "", prose, flags=re.M)
+    return re.split(r"^#+ ", prose, flags=re.M)
+
+
+def named(section):
+    """The paths that a section names in backticks."""
+    spans = re.findall(r"`([^`\n]+)`", section)
+    paths = {span for span in spans if WITH_SLASHES.fullmatch(span) or WITH_AN_END.fullmatch(span)}
+    return {path for path in paths if not NOT_HERE.match(path)}
+
+
+def places(document, section, path):
+    """Where a path may stand: from the top, from the document's folder, in a folder of scripts, or in a crate that the
+    section names (in any, if it names none)."""
+    yield path
+    yield os.path.join(os.path.dirname(document), path)
+    for inside in FOLDERS:
+        yield os.path.join(inside, path)
+    of_section = [crate for crate in CRATES if re.search(rf"\b{crate}\b", section)]
+    for crate in of_section or CRATES:
+        yield os.path.join("crates", crate, path)
+        yield os.path.join("crates", crate, "src", path)
+
+
+def stands(document, section, path):
+    return any(
+        glob.glob(os.path.join(TOP, place) + end)
+        for place in places(document, section, path) for end in ("", ".antt", ".rt")
+    )
+
+
+def each_path_is_there():
+    count = 0
+    for document in DOCUMENTS:
+        for section in sections(read(document)):
+            paths = named(section)
+            count += len(paths)
+            missing = sorted(path for path in paths if not stands(document, section, path))
+            heading = section.splitlines()[0] if section else ""
+            expect(f"what {document} names below {heading!r} and is not there", missing, [])
+    print(f"        {count} paths in {len(DOCUMENTS)} documents", flush=True)
+
+
+def anchors(text):
+    """The headings of a document, as links name them."""
+    headings = re.findall(r"^#+ (.*)$", text, re.M)
+    return {re.sub(r"[^\w\s-]", "", heading.lower()).strip().replace(" ", "-") for heading in headings}
+
+
+def each_link_leads_somewhere():
+    for document in DOCUMENTS:
+        for target in re.findall(r"\]\(([^)\s]+)\)", read(document)):
+            if re.match(r"[a-z]+:", target):
+                continue
+            path, _, anchor = target.partition("#")
+            place = os.path.normpath(os.path.join(os.path.dirname(document), path)) if path else document
+            if not os.path.exists(os.path.join(TOP, place)):
+                raise Failed(f"{document} links to {target}, which is not there")
+            if anchor and place.endswith(".md") and anchor not in anchors(read(place)):
+                raise Failed(f"{document} links to {target}, and {place} has no such heading")
+
+
+def each_installed_path_is_in_the_release():
+    """What docs/DEPLOYING.md copies from /opt/pawnd stands in the repository under the same path."""
+    for path in set(re.findall(r"/opt/pawnd/([\w./@*-]+)", read("docs/DEPLOYING.md"))) - {"pawnd"}:
+        expect(f"/opt/pawnd/{path}", bool(glob.glob(os.path.join(TOP, path.rstrip(".")))), True)
+
+
+def each_word_is_defined_where_the_glossary_says():
+    rows = re.findall(r"^\| ([^|]+) \|[^|]+\| `(\w+)` in `([\w/.]+)` \|$", read("docs/GLOSSARY.md"), re.M)
+    for word, name, path in rows:
+        text = read(os.path.join("crates", path))
+        form = (
+            r"^\s*(?:pub(?:\(crate\))? )?(?:abbrev |record |data |fn |struct |enum |trait |type |opaque )*"
+            rf"(?:pub )?(?:record |data |fn |struct |enum |trait )?{name}\b"
+        )
+        expect(f"{word}: {name} in {path}", bool(re.search(form, text, re.M)), True)
+    expect("its words", len(rows) > 50, True)
+    print(f"        {len(rows)} words", flush=True)
+
+
+def contracts_of(crate):
+    """The clauses of each function and of each method of a crate, by their names."""
+    found = {}
+    for path in glob.glob(os.path.join(TOP, "crates", crate, "src/**/*.rt"), recursive=True):
+        called = None
+        for line in read(path).split("\n"):
+            begins = re.match(r"\s*(?:pub )?(?:const )?fn (\w+)", line)
+            if begins:
+                called = found.setdefault(begins[1], set())
+            clause = re.match(r"\s*(?:ensures|requires)\*? (\w+) ?\{", line)
+            if clause and called is not None:
+                called.add(clause[1])
+    return found
+
+
+CITED = re.compile(r"((?:`[\w:]+`(?:,| and) )*`[\w:]+`) \[((?:`\w+`,? ?)+)\]")
+
+
+def cited_clauses(text):
+    """What stands behind calls in brackets: the crate of the section, if it names one, the calls and the clauses."""
+    for section in re.split(r"(?m)^## ", text):
+        crate = re.match(r"`(\w+)`", section)
+        for calls, clauses in CITED.findall(section):
+            yield crate and crate[1], re.findall(r"`([\w:]+)`", calls), re.findall(r"`(\w+)`", clauses)
+
+
+def each_clause_stands_in_its_contract():
+    contracts = {crate: contracts_of(crate) for crate in CRATES}
+    count = 0
+    for document in DOCUMENTS:
+        for crate, calls, clauses in cited_clauses(read(document)):
+            for call in calls:
+                said = [contracts[name].get(call.split("::")[-1]) for name in ([crate] if crate else CRATES)]
+                step = f"that {call}{f' of {crate}' if crate else ''} ensures {clauses}, as {document} says"
+                expect(step, any(found is not None and set(clauses) <= found for found in said), True)
+            count += len(calls)
+    expect("how many there are", count > 80, True)
+    print(f"        {count} calls", flush=True)
+
+
+def each_definition_has_one_name():
+    places, form = {}, re.compile(r"(?m)^(?:abbrev )?pub (?!use )(?:abbrev |record |data )?([^\s(:{]+)")
+    for path in sorted(glob.glob(os.path.join(TOP, "crates/*/specs/**/*.antt"), recursive=True)):
+        for name in form.findall(read(os.path.relpath(path, TOP))):
+            places.setdefault(name, []).append(os.path.relpath(path, TOP))
+    twice = {name: stand for name, stand in places.items() if len(stand) > 1 and name != "mod"}
+    expect("definitions of specs that share a name", twice, {})
+    expect("how many there are", len(places) > 500, True)
+    print(f"        {len(places)} definitions", flush=True)
+
+
+def each_quotation_is_true():
+    form = re.compile(r"(?ms)^```\w+ from (\S+)\n(.*?)^```$")
+    quoted = [(document, *found) for document in DOCUMENTS for found in form.findall(read(document))]
+    for document, path, block in quoted:
+        expect(f"what {document} quotes stands in {path}: {block}", block in read(path), True)
+    expect("how many there are", len(quoted) > 5, True)
+
+
+def prose(document, text):
+    """What a person wrote of a document."""
+    return "" if document in WRITTEN else WRITTEN_PART.sub("", text)
+
+
+def the_prose_is_short():
+    expect(f"README.md has at most {README_WORDS} words", len(read("README.md").split()) <= README_WORDS, True)
+    words = {document: len(prose(document, read(document)).split()) for document in DOCUMENTS}
+    print(f"        {sum(words.values()):,} words in {len(DOCUMENTS)} documents", flush=True)
+    if sum(words.values()) > PROSE_WORDS:
+        longest = sorted(words.items(), key=lambda it: -it[1])
+        raise Failed(f"{sum(words.values()):,} words of prose, and at most {PROSE_WORDS:,} are wanted: {longest}")
+
+
+def sentences(text):
+    """The sentences of prose. A line is a text of its own, and so is each cell of a table."""
+    for section in sections(text):
+        for line in section.split("\n"):
+            cells = line.strip().strip("|").split(" | ") if line.startswith("|") else [line]
+            for cell in cells:
+                yield from re.split(r"(?<=[^.][.!?])\**\s+", re.sub(r"^ *(?:[-*]|\d+\.) +", "", cell))
+
+
+def too_long(text):
+    return [sentence for sentence in sentences(text) if len(sentence.split()) > SENTENCE_WORDS]
+
+
+def no_sentence_is_too_long():
+    for document in READ_IN_NEED:
+        found = too_long(prose(document, read(document)))
+        expect(f"sentences of {document} with more than {SENTENCE_WORDS} words", found, [])
+
+
+def figures(text):
+    """The numbers of a text that have a unit, as `0.3 ms`."""
+    found = FIGURE.findall(text)
+    return {f"{number.replace(',', '')} {UNITS[unit]}" for *both, unit in found for number in both if number}
+
+
+def said_twice(texts):
+    """The figures that stand in more than one of these texts, each with the names of its texts."""
+    places = {}
+    for name, text in texts.items():
+        for figure in figures(text):
+            places.setdefault(figure, []).append(name)
+    return {figure: names for figure, names in places.items() if len(names) > 1 and figure not in COINCIDENCES}
+
+
+def measured_things():
+    """What was measured, as the rows of bench/results/ name it, if the name alone says what it is."""
+    rows = []
+    for path in glob.glob(os.path.join(TOP, "bench/results/*.csv")):
+        with open(path, encoding="utf-8", newline="") as it:
+            rows += csv.DictReader(it)
+    things = {row["what"].rpartition(": ")[0] or row["what"] for row in rows}
+    return {thing for thing in things if len(thing.split()) > 4}
+
+
+def each_figure_stands_in_one_document():
+    texts = {document: read(document) for document in DOCUMENTS}
+    twice = said_twice(texts)
+    for thing in measured_things():
+        others = [name for name, text in texts.items() if name != "docs/BENCH.md" and thing in text]
+        twice.update({thing: others} if others else {})
+    if twice:
+        raise Failed(f"{len(twice)} figures stand in two documents: {dict(sorted(twice.items()))}")
+
+
+def the_page_of_figures_is_what_its_script_writes():
+    made = subprocess.run([sys.executable, os.path.join(TOP, "bench/page.py"), "--print"], capture_output=True)
+    expect("bench/page.py --print", (made.returncode, made.stderr), (0, b""))
+    same = made.stdout.decode() == read("docs/BENCH.md")
+    expect("docs/BENCH.md is what bench/page.py writes: run it, when a row was added", same, True)
+
+
+def these_checks_can_fail():
+    """What they look for is found in texts that are made for it."""
+    long = " ".join(["word"] * (SENTENCE_WORDS + 1))
+    expect("a long sentence", len(too_long(f"# Title\n\nShort. {long}. Short.\n- {long}\n| a | {long} |\n")), 3)
+    expect("one that is not", too_long(f"{long[:-5]}.\n\n    {long}\n"), [])
+    made = "One.\n<!-- By bench/page.py: gate -->\n1 2 3\n<!-- until here -->\ntwo\n"
+    expect("prose beside what a script writes", prose("README.md", made).split(), ["One.", "two"])
+    expect("a page that a script writes", prose(WRITTEN[0], made), "")
+    texts = {"a": "It takes 1,200 ms, and 3 to 5 minutes.", "b": "1200 ms", "c": "5 minutes, 7 s", "d": "v1.7 s"}
+    expect("figures that stand twice", said_twice(texts), {"1200 ms": ["a", "b"], "5 min": ["a", "c"]})
+    expect("what was measured", len(measured_things()) > 20, True)
+
+
+main(
+    each_path_is_there, each_link_leads_somewhere, each_word_is_defined_where_the_glossary_says,
+    each_installed_path_is_in_the_release, each_clause_stands_in_its_contract, each_definition_has_one_name,
+    each_quotation_is_true, these_checks_can_fail, the_prose_is_short, no_sentence_is_too_long,
+    each_figure_stands_in_one_document, the_page_of_figures_is_what_its_script_writes,
+)

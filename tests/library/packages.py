@@ -1,0 +1,29 @@
+"""Programs that scripts need beside the one that is tried, and the packages of Debian that they come in."""
+import contextlib
+import os
+import shutil
+import subprocess
+
+# What the scripts of the pages need, each program with its package.
+PACKAGES = {"nginx": "nginx-light", "chromium": "chromium", "chromedriver": "chromium-driver"}
+PATHS = os.environ.get("PATH", "") + ":/usr/sbin"
+
+
+def missing(packages=PACKAGES):
+    return [name for name in packages if shutil.which(name, path=PATHS) is None]
+
+
+def provide(packages=PACKAGES):
+    """Installs the packages of what is missing, if this is root on a Debian; gives what is missing then."""
+    if missing(packages) and os.geteuid() == 0 and shutil.which("apt-get"):
+        # The run level keeps the package of nginx from starting a server of its own.
+        quiet = {**os.environ, "DEBIAN_FRONTEND": "noninteractive", "RUNLEVEL": "1"}
+        for words in (
+            ["update"], ["install", "-y", "--no-install-recommends", *(packages[name] for name in missing(packages))],
+        ):
+            with contextlib.suppress(subprocess.SubprocessError):
+                subprocess.run(
+                    ["apt-get", *words], env=quiet, stdin=subprocess.DEVNULL, stdout=subprocess.DEVNULL,
+                    stderr=subprocess.DEVNULL, timeout=300,
+                )
+    return missing(packages)

@@ -1,0 +1,24 @@
+"""Waits for what another process does."""
+import contextlib
+import time
+import urllib.request
+
+from tests.library.checks import Failed
+
+PATIENCE = 10
+
+
+def wait_for(found, what, patience=PATIENCE):
+    """What the function gives once it is something."""
+    end = time.monotonic() + patience
+    while time.monotonic() < end:
+        if it := found():
+            return it
+        time.sleep(0.03)
+    raise Failed(f"{what}: not there after {patience} seconds")
+
+
+def answers(address):
+    with contextlib.suppress(OSError):
+        return urllib.request.urlopen(address, timeout=5).status == 200
+    return False

@@ -1,0 +1,135 @@
+"""The units of deploy/systemd: that systemd reads them, and that the program makes no call of the system that they
+bar."""
+import os
+import re
+import shutil
+import signal
+import subprocess
+import tempfile
+
+from tests.library.checks import expect, main, not_tried
+from tests.library.keys import OPERATOR
+from tests.library.packages import provide
+from tests.library.paths import PROGRAM, TOP
+from tests.library.program import Server, free_port
+from tests.library.sessions import Session
+
+
+def the_units_are_as_systemd_reads_them():
+    if not shutil.which("systemd-analyze"):
+        not_tried("the units by systemd-analyze verify", "systemd is not installed")
+        return
+    with tempfile.TemporaryDirectory() as room:
+        for name in os.listdir(os.path.join(TOP, "deploy/systemd")):
+            with open(os.path.join(TOP, "deploy/systemd", name)) as it:
+                text = (
+                    it.read()
+                    .replace("/opt/pawnd/pawnd", PROGRAM)
+                    .replace("/opt/pawnd/deploy", os.path.join(TOP, "deploy"))
+                    .replace("/etc/pawnd/on-failure", "/bin/true")
+                )
+            with open(os.path.join(room, name), "w") as it:
+                it.write(text)
+        units = [
+            "pawnd@1.service",
+            "pawnd.target",
+            "pawnd-failed@pawnd-1.service",
+            "pawnd-status.service",
+            "pawnd-status.timer",
+            *(f"pawnd-{it}@1.{end}" for it in ("backup", "send") for end in ("service", "timer")),
+        ]
+        ran = subprocess.run(
+            ["systemd-analyze", "verify", "--man=no", *(os.path.join(room, it) for it in units)],
+            capture_output=True,
+            text=True,
+            timeout=60,
+        )
+        expect("systemd-analyze verify", (ran.returncode, ran.stdout, ran.stderr), (0, "", ""))
+
+
+def allowed_calls(unit):
+    """The calls of the system that a unit lets through."""
+    sets, name = {}, None
+    for line in subprocess.run(
+        ["systemd-analyze", "--no-pager", "syscall-filter"], capture_output=True, text=True, check=True, timeout=60
+    ).stdout.splitlines():
+        if line.startswith("@"):
+            name = line.strip()
+            sets[name] = set()
+        elif name and line.startswith("    ") and not line.strip().startswith("#"):
+            sets[name].add(line.strip())
+
+    def whole(name):
+        return set().union(*(whole(it) if it.startswith("@") else {it} for it in sets[name]))
+
+    allowed = set()
+    with open(os.path.join(TOP, "deploy/systemd", unit)) as it:
+        for barred, names in re.findall(r"^SystemCallFilter=(~?)(.*)$", it.read(), re.M):
+            named = set().union(*(whole(name) if name.startswith("@") else {name} for name in names.split()))
+            allowed = allowed - named if barred else allowed | named
+    return allowed
+
+
+def the_program_makes_no_call_that_its_unit_bars():
+    """A shard that is opened, written to, read and opened again, and what it asked of the system."""
+    if not shutil.which("systemd-analyze") or provide({"strace": "strace"}):
+        not_tried("the calls of the system against the unit's filter", "there is no systemd or no strace")
+        return
+    with tempfile.TemporaryDirectory() as room:
+        path, port, trace = os.path.join(room, "books.db"), free_port(), os.path.join(room, "trace")
+        for number in range(2):
+            traced = subprocess.Popen(
+                ["strace", "-f", "-qq", "-o", f"{trace}{number}", PROGRAM, "serve", path, str(port), OPERATOR],
+                stdin=subprocess.DEVNULL,
+                stdout=subprocess.PIPE,
+                stderr=subprocess.DEVNULL,
+            )
+            expect("it listens", traced.stdout.readline(), f"listening {port}\n".encode())
+            if number == 0:
+                session = Session(port)
+                session.open_book()
+                receipt = session.open_pledge(1)
+                session.bearer(receipt, "POST", "/books/7/held/repay", {"pence": 1, "seq": 1})
+                expect("a view", session.bearer(receipt, "GET", "/books/7/held")[0], 200)
+                session.close()
+            with open(f"/proc/{traced.pid}/task/{traced.pid}/children") as it:
+                os.kill(int(it.read().split()[0]), signal.SIGTERM)
+            traced.communicate(timeout=30)
+        made = set()
+        for number in range(2):
+            with open(f"{trace}{number}") as it:
+                made |= {found[1] for line in it if (found := re.match(r"(?:\d+ +)?(\w+)\(", line))}
+    # The program is started by execve, which systemd does before the filter holds.
+    expect("calls that the unit bars", sorted(made - allowed_calls("pawnd@.service") - {"execve"}), [])
+    expect("it was seen at work", {"accept4", "flock"} & made != set() and "read" in made, True)
+
+
+def a_copy_makes_no_call_that_its_unit_bars():
+    """The same of a copy of a shard that is served, with its guard and its check."""
+    if not shutil.which("systemd-analyze") or provide({"strace": "strace"}):
+        not_tried("the calls of a copy against the unit's filter", "there is no systemd or no strace")
+        return
+    with tempfile.TemporaryDirectory() as room, Server(os.path.join(room, "books.db")):
+        trace = os.path.join(room, "trace")
+        words = [
+            os.path.join(TOP, "deploy/shards"),
+            "backup",
+            os.path.join(room, "books.db"),
+            os.path.join(room, "copies"),
+        ]
+        by_debians = ["strace", "-f", "-qq", "-o", trace, "/usr/bin/python3"]
+        ran = subprocess.run(
+            [*by_debians, *words], capture_output=True, text=True, timeout=60, env={**os.environ, "PAWND": PROGRAM}
+        )
+        expect(f"the copy {ran.stderr}", ran.returncode, 0)
+        with open(trace) as it:
+            made = {found[1] for line in it if (found := re.match(r"(?:\d+ +)?(\w+)\(", line))}
+        expect("calls that the unit bars", sorted(made - allowed_calls("pawnd-backup@.service") - {"execve"}), [])
+        expect("it was seen at work", {"flock", "pidfd_send_signal", "setsid"} <= made, True)
+
+
+main(
+    the_units_are_as_systemd_reads_them,
+    the_program_makes_no_call_that_its_unit_bars,
+    a_copy_makes_no_call_that_its_unit_bars,
+)

@@ -1,0 +1,591 @@
+"""What the broker's page once said at the counter that was not so, each as it was found; in a real browser, in front of
+the program."""
+import os
+
+from tests.library.checks import expect
+from tests.library.dates import six_months_after, today
+from tests.library.pages.browser import Pages
+from tests.library.pages.steps import (
+    ago, agree, book_text, browser, command, entries, fill_book, find, in_short, in_words, main, make_book,
+    no_faults, open_book, part, receipts_made, secret_of, send_taking, take_a_ring, the_book_is_read, unfold,
+)
+
+
+ENTER = "\ue007"
+
+
+def there_is_no_paper():
+    expect("no receipt is shown", browser.run("return document.querySelectorAll('.paper').length"), 0)
+
+
+def redeem_by(pages, receipt, pence=10000):
+    expect("redeemed", pages.session.bearer(receipt, "POST", "/books/7/held/redeem", {"paid": pence})[0], 200)
+
+
+def a_dead_receipt_is_not_printed_as_new():
+    with Pages() as pages:
+        make_book(pages)
+        open_book(pages)
+        receipt, _ = take_a_ring()
+        redeem_by(pages, receipt)
+        part("take")
+        send_taking(article="Gold ring", ref="A1", amount="100")
+        browser.says(f"Pledge 1 has this reference since {in_short(today())}.", "#taking")
+        browser.says("Redeemed on", "#taken-receipt")
+        there_is_no_paper()
+        expect(
+            "and the field is marked",
+            browser.run("return document.activeElement.name + document.activeElement.ariaInvalid"), "reftrue",
+        )
+        second = pages.session.open_pledge(2)
+        pages.session.broker("POST", "/books/7/pledges/2/declare", {"paper": "sworn"})
+        send_taking(article="Gold ring", ref="A2", amount="100")
+        browser.says("Pledge 2 has this reference since", "#taking")
+        there_is_no_paper()
+        expect("nothing was taken", pages.session.broker("GET", "/books/7/pledges/3")[0], 404)
+        expect("its receipt is dead", pages.session.bearer(second, "GET", "/books/7/held")[0], 404)
+        no_faults()
+
+
+# Another till takes the same pledge, and declares its receipt lost, after this page has looked and before it sends.
+MEANWHILE = """
+const real = window.fetch;
+window.fetch = async (path, how) => {
+  if (how.method === "POST" && path.endsWith("/pledges")) {
+    window.fetch = real;
+    await real(path, how);
+    await real(path + "/1/declare", { ...how, body: '{"paper":"sworn"}' });
+  }
+  return real(path, how);
+};"""
+
+
+def a_receipt_that_dies_while_it_is_taken_is_not_printed():
+    with Pages() as pages:
+        make_book(pages)
+        open_book(pages)
+        the_book_is_read()
+        browser.run(MEANWHILE)
+        part("take")
+        send_taking(article="Gold ring", ref="A1", amount="100")
+        browser.says("Pledge 1 has this reference since", "#taking")
+        there_is_no_paper()
+
+
+def a_receipt_has_the_terms_of_its_pledge():
+    """Newer terms that another till put are those of the pledge; and a receipt that is printed again keeps its own."""
+    with Pages() as pages:
+        make_book(pages)
+        open_book(pages)
+        the_book_is_read()
+        put = {"keep_after": 0, "keep_before": 1000000, "rate": 1000, "version": 2}
+        expect("newer terms", pages.session.broker("POST", "/books/7/terms", put), (200, {"version": 2}))
+        take_a_ring()
+        browser.says("£3.00 in 30 days on £100", ".paper")
+        browser.says("30p in 30 days, after the end nothing", ".paper")
+        put = {**put, "rate": 0, "version": 3}
+        expect("newer terms again", pages.session.broker("POST", "/books/7/terms", put), (200, {"version": 3}))
+        browser.ask("POST", "/refresh", {})
+        find("1")
+        command("Print the receipt again", "Print the receipt again")
+        agree()
+        browser.says("£3.00 in 30 days on £100", ".paper")
+        _, text = pages.session.broker("GET", "/books/7/export")
+        expect("no terms were put by the page", text.count("\nT,"), 3)
+        no_faults()
+
+
+def a_new_receipt_that_another_replaced_is_not_printed():
+    with Pages() as pages:
+        make_book(pages)
+        pages.session.open_pledge(1)
+        open_book(pages)
+        find("1")
+        browser.says("£100.00 owed today", "#statement")
+        browser.run(DECLARED_TWICE)
+        command("Replace a lost receipt", "Make a new receipt")
+        agree()
+        browser.says("another one took its place at the same time", "#commands")
+        there_is_no_paper()
+        expect("three receipts were made", len(receipts_made(pages, 1)), 3)
+
+
+# Another till declares the same receipt lost once this page's declaration was answered.
+DECLARED_TWICE = """
+const real = window.fetch;
+window.fetch = async (path, how) => {
+  const reply = await real(path, how);
+  if (path.endsWith("/declare")) {
+    window.fetch = real;
+    await real(path, how);
+  }
+  return reply;
+};"""
+
+
+# Once a command was answered, nothing can be looked at any more.
+THEN_NO_LINE = """
+const [real, command] = [window.fetch, arguments[0]];
+let answered = false;
+window.fetch = async (path, how) => {
+  if (answered) throw new TypeError("no line");
+  const reply = await real(path, how);
+  answered ||= how.method === "POST" && path.endsWith(command);
+  return reply;
+};"""
+
+
+def what_was_done_is_told_where_it_can_no_longer_be_looked_at():
+    with Pages() as pages:
+        make_book(pages)
+        pages.session.open_pledge(1)
+        for action, title, button, says in (
+            ("/repay", "Repayment", "Record the repayment", "It is recorded, but the pledge can’t be read just now."),
+            (
+                "/declare", "Replace a lost receipt", "Make a new receipt",
+                "A new receipt was made, but could not be looked",
+            ),
+        ):
+            open_book(pages)
+            find("1")
+            browser.says("owed today", "#statement")
+            browser.run(THEN_NO_LINE, action)
+            command(title, button, **({"amount": "10"} if action == "/repay" else {}))
+            agree(1)
+            browser.says(says, "#commands", patience=20)
+        there_is_no_paper()
+        open_book(pages)
+        the_book_is_read()
+        browser.run(THEN_NO_LINE, "/pledges")
+        part("take")
+        send_taking(article="Spoon", ref="B1", amount="5")
+        browser.says("Pledge 2 has this reference. It could not be looked at just now", "#taking", patience=20)
+        there_is_no_paper()
+
+
+def two_equal_payments_are_two():
+    with Pages() as pages:
+        make_book(pages)
+        pages.session.open_pledge(1)
+        open_book(pages)
+        find("1")
+        browser.says("£100.00 owed today", "#statement")
+        pages.session.broker("POST", "/books/7/pledges/1/repay", {"pence": 1000, "seq": 1})
+        command("Repayment", "Record the repayment", amount="10")
+        browser.says("Something came in between", "dialog")
+        browser.says(f"Repaid: £10.00, on {in_short(today())}.", "dialog")
+        browser.says("£90.00 is owed now.", "dialog")
+        expect(
+            "the dialog has the name of its heading",
+            browser.run(
+                "const one = document.querySelector('dialog'); "
+                "return document.getElementById(one.getAttribute('aria-labelledby')).textContent"
+            ),
+            "Something came in between",
+        )
+        browser.shoot("broker-between")
+        browser.press("dialog button", "No, record nothing")
+        browser.says("Nothing was recorded.", "#commands")
+        expect(
+            "not told as done", browser.run("return document.querySelector('.action[open] .notice').className"),
+            "notice quiet",
+        )
+        expect("one entry", len(entries(pages, 1)), 1)
+        pages.session.broker("POST", "/books/7/pledges/1/repay", {"pence": 1000, "seq": 2})
+        browser.press(".action[open] button", "Record the repayment")
+        browser.press("dialog button", "Yes, record £10.00 as well")
+        browser.says("Repaid: £10.00", "#commands")
+        browser.says("£70.00 is owed now.", "#commands")
+        expect("three entries", len(entries(pages, 1)), 3)
+        no_faults()
+
+
+def redemption_by_the_paper():
+    with Pages() as pages:
+        make_book(pages)
+        open_book(pages)
+        receipt, link = take_a_ring()
+        find(link.upper().replace("HTTP", "http").replace("#BOOK", "#book").replace("RECEIPT=", "receipt="))
+        browser.says("This receipt is live. £100.00 is owed today.", "#commands")
+        expect("the address names the pledge and no receipt", browser.run("return location.hash"), "#pledge=1")
+        browser.fill(".action[open] form", amount="99.99")
+        browser.press(".action[open] button", "Redeem")
+        browser.says("£100.00 is owed today, and redeeming wants all of it.", "#commands")
+        browser.shoot("broker-redeem")
+        command("Repayment", "Record the repayment", amount="100")
+        browser.says("£0.00 is owed now.", "#commands")
+        expect("the pledge stands open", "Status inside" in pages.session.broker("GET", "/books/7/pledges/1")[1], True)
+        part("today")
+        find(receipt.upper().replace("-", "–"))
+        browser.says("This receipt is live. £0.00 is owed today.", "#commands")
+        browser.fill(".action[open] form", amount="0")
+        browser.press(".action[open] button", "Redeem")
+        browser.says("It can’t be taken back.", "dialog")
+        browser.press("dialog button", "Redeem for £0.00")
+        browser.says(f"Redeemed on {in_words(today())}: £0.00 was paid. Hand out the article", "#commands")
+        expect("it is redeemed", "Status redeemed" in pages.session.broker("GET", "/books/7/pledges/1")[1], True)
+        find(receipt)
+        browser.says("This receipt is not live: pledge 1 was redeemed with it", "#commands")
+        part("all")
+        browser.fill("#searching", text=receipt)
+        browser.says("1 of 1 pledges", "#all")
+        part("due")
+        browser.until("return document.activeElement.matches('#due h1')", "the focus in no field")
+        browser.keys(link + ENTER)
+        browser.until("return location.hash === '#pledge=1'", "the pledge of a link that was scanned anywhere")
+        browser.says("This receipt is not live: pledge 1 was redeemed with it", "#commands")
+        part("take")
+        browser.fill("#taking", article="x", ref=link, amount="1")
+        browser.press("#taking button", "Take the pledge")
+        browser.says("This receipt is not live: pledge 1 was redeemed with it", "#commands")
+        no_faults()
+
+
+def a_receipt_is_printed_again():
+    with Pages() as pages:
+        make_book(pages)
+        open_book(pages)
+        receipt, _ = take_a_ring(five="yes")
+        browser.ask("POST", "/refresh", {})
+        find("A1")
+        browser.says("£100.00 owed today", "#statement")
+        for title, button, says in (
+            ("Put on hold", "Hold", "The pledge is on hold"), ("Release the hold", "Release", "The hold is released."),
+        ):
+            command("Print the receipt again", "Print the receipt again")
+            browser.says("whoever has either can redeem it", "dialog")
+            browser.press("dialog button", "Print it again")
+            browser.says("it is live. The pledge has had one receipt.", "#commands")
+            expect("the same receipt", browser.text(".paper .secret").strip(), receipt)
+            command(title, button)
+            browser.says(says, "#commands")
+        expect("no new receipt was made", len(receipts_made(pages, 1)), 1)
+        no_faults()
+
+
+def who_waits_for_another_day():
+    with Pages() as pages:
+        make_book(pages)
+        receipts = [pages.session.open_pledge(number) for number in (1, 2, 3)]
+        for receipt, days, window in zip(receipts, (9, 3, 3), (1, 7, 2)):
+            pages.session.bearer(receipt, "POST", "/books/7/held/ask", {"day": str(ago(-days)), "window": window})
+        open_book(pages)
+        browser.says("12:30 to 13:00", "#sheet")
+        lines = browser.run("return [...document.querySelectorAll('#sheet .card')][1].innerText")
+        order = [lines.index(f"Pledge {number}") for number in (3, 2, 1)]
+        expect("by day and time", order == sorted(order), True)
+        browser.says(f"{in_short(ago(-9))}, in 9 days, 09:30 to 10:00", "#sheet")
+        expect("and nobody is overlooked", "Nobody waits" in browser.text("#sheet"), False)
+        browser.shoot("broker-waiting")
+
+
+def what_is_due():
+    """In grace, within 7, 14 and 30 days whatever the month, to be sold, and passed; and the first day of a sale."""
+    long_ago = ago(400)
+    pledges = [
+        ("Clock", "G1", 9000, long_ago, ago(2), "yes"), ("Small clock", "G2", 5000, long_ago, ago(1), "yes"),
+        ("Ring", "G3", 9000, long_ago, ago(-7), "no"), ("Brooch", "G4", 9000, long_ago, ago(-8), "yes"),
+        ("Lamp", "G5", 9000, long_ago, ago(-30), "no"), ("Violin", "G6", 9000, long_ago, ago(-31), "no"),
+        ("Vase", "G7", 9000, long_ago, "", "no"), ("Watch", "G8", 5000, long_ago, "", "no"),
+    ]
+    with Pages() as pages:
+        make_book(pages, terms=False)
+        fill_book(pages, book_text(pledges))
+        open_book(pages)
+        the_book_is_read()
+        part("due")
+        browser.says("Small clock", "#due-lists")
+        lists = browser.run(
+            "return [...document.querySelectorAll('#due-lists .card')].map((card) => "
+            "[card.querySelector('h2').firstChild.textContent, ...[...card.querySelectorAll('tbody tr')].map((row) "
+            "=> row.innerText.replace(/\\s+/g, ' '))])"
+        )
+        expect(
+            "the sections", [(one[0], len(one) - 1) for one in lists],
+            [
+                ("In their days of grace", 2), ("Ends within 7 days", 1), ("Ends within 14 days, after those", 1),
+                ("Ends within 30 days, after those", 1), ("Can be sold now", 1), ("Passed to you", 1),
+            ],
+        )
+        expect("in grace", lists[0][1], f"1 Clock G1 £90.00 can be sold on {in_short(ago(-4))}")
+        expect("with the day of the other", f"can be sold on {in_short(ago(-5))}" in lists[0][2], True)
+        find("G4")
+        unfold("Sale")
+        browser.says(
+            f"It can be sold on {in_words(ago(-14))} first, if it is not redeemed or extended before.", "#commands",
+        )
+        no_faults()
+
+
+def a_visit_that_was_changed_is_not_confirmed_unseen():
+    with Pages() as pages:
+        make_book(pages)
+        receipt = pages.session.open_pledge(1)
+        first, second = ago(-3), ago(-4)
+        pages.session.bearer(receipt, "POST", "/books/7/held/ask", {"day": str(first), "window": 3})
+        open_book(pages)
+        find("1")
+        browser.says(f"{in_words(first)}, 10:30 to 11:00: asked for", "#statement")
+        pages.session.bearer(receipt, "POST", "/books/7/held/ask", {"day": str(second), "window": 4})
+        command("Visit", "Confirm")
+        browser.says("The visit was changed since it was shown, so nothing was decided.", "#commands")
+        browser.says(f"{in_words(second)}, 11:00 to 11:30: asked for", "#statement")
+        expect(
+            "it stands as asked", f"Booking {second} 4 asked" in pages.session.broker("GET", "/books/7/pledges/1")[1],
+            True,
+        )
+        browser.press(".action[open] button", "Confirm")
+        browser.says(f"The visit on {in_words(second)}, 11:00 to 11:30 is confirmed.", "#commands")
+        no_faults()
+
+
+EXPORTS = "return performance.getEntriesByType('resource').filter(({ name }) => name.endsWith('/export')).length"
+
+# The page's clock goes on by so many seconds, and the page is looked at again.
+LATER = """
+const real = Object.getPrototypeOf(Date.prototype).constructor === Object ? Date : Object.getPrototypeOf(Date);
+const more = arguments[0] * 1000;
+window.Date = class Later extends real {
+  constructor(...given) { if (given.length) super(...given); else super(real.now() + more); }
+  static now() { return real.now() + more; }
+};
+document.dispatchEvent(new Event("visibilitychange"));
+"""
+
+
+def the_book_is_read_anew():
+    """Where another changed it, and after ten minutes; and by the button."""
+    with Pages() as pages:
+        make_book(pages)
+        pages.session.open_pledge(1)
+        open_book(pages)
+        the_book_is_read()
+        pages.session.open_pledge(2)
+        pages.session.broker("POST", "/books/7/pledges/1/repay", {"pence": 1000, "seq": 1})
+        find("1")
+        browser.says("£90.00 owed today", "#statement")
+        expect("not at once", browser.run(EXPORTS), 1)
+        browser.run(LATER, 31)
+        browser.until(EXPORTS.replace("length", "length === 2"), "the book after another's change")
+        part("all")
+        browser.says("2 of 2 pledges", "#all")
+        pages.session.open_pledge(3)
+        browser.run(LATER, 500)
+        browser.says("The book was read 7 minutes ago", "#book-line")
+        expect("not before ten minutes", browser.run(EXPORTS), 2)
+        browser.run(LATER, 700)
+        browser.says("3 of 3 pledges", "#all")
+        pages.session.open_pledge(4)
+        browser.press("#read-book")
+        browser.says("4 of 4 pledges", "#all")
+        expect("four times in all", browser.run(EXPORTS), 4)
+        no_faults()
+
+
+def references_are_found():
+    with Pages() as pages:
+        make_book(pages)
+        for number, reference in enumerate(("A1", "X", "2", "J1 "), 1):
+            pages.session.open_pledge(number, ref=reference, article=f"Ring {number}")
+        open_book(pages)
+        find("j1")
+        browser.says("Ring 4", "#statement")
+        find(" J1 ")
+        browser.says("Ring 4", "#statement")
+        find("2")
+        browser.says("More than one pledge can be meant.", "#finding")
+        expect(
+            "the one of the reference first",
+            browser.run("return [...document.querySelectorAll('#choices a')].map((one) => one.textContent)"),
+            ["Pledge 3", "Pledge 2"],
+        )
+        browser.press("#choices a", "Pledge 3")
+        browser.says("Ring 3", "#statement")
+        find("3")
+        browser.says("Ring 3", "#statement")
+        take_a_ring(article="  Silver   spoon ", reference=" B1 ")
+        expect(
+            "trimmed when it is taken", ",B1,Silver spoon," in pages.session.broker("GET", "/books/7/export")[1], True,
+        )
+        part("take")
+        browser.fill("#taking", ref="b1")
+        browser.says("Pledge 5 has this reference: Silver spoon.", "#reference-stands")
+        browser.run("document.querySelector('#taking').reset()")
+        take_a_ring(article="Fork", reference="B2")
+        browser.press("#next-reference")
+        expect("the next of a series", browser.run("return document.querySelector('#take-ref').value"), "B3")
+        no_faults()
+
+
+def all_entries_can_be_seen():
+    with Pages() as pages:
+        make_book(pages)
+        pages.session.open_pledge(1)
+        for seq in range(1, 131):
+            pages.session.broker("POST", "/books/7/pledges/1/repay", {"pence": seq, "seq": seq})
+        open_book(pages)
+        find("1")
+        browser.says("The last 12 of 130 payments and drawings", "#statement")
+        browser.press("#statement button", "Show 100 earlier ones")
+        browser.says("The last 112 of 130 payments and drawings", "#statement")
+        browser.press("#statement button", "Show 18 earlier ones")
+        expect("all of them", browser.run("return document.querySelectorAll('#statement .entries tr').length"), 130)
+
+
+def back_reload_and_today():
+    with Pages() as pages:
+        make_book(pages)
+        pages.session.open_pledge(1)
+        pages.session.open_pledge(2, article="Silver spoon")
+        open_book(pages)
+        the_book_is_read()
+        later = ago(-5)
+        browser.fill("#sheet-day", day=str(later))
+        browser.press("#sheet-day button", "Show")
+        browser.says(f"{in_words(later)}, in 5 days", "#today")
+        browser.ask("POST", "/refresh", {})
+        browser.says(f"{in_words(later)}, in 5 days", "#today")
+        find("1")
+        browser.says("Gold ring", "#statement")
+        find("2")
+        browser.says("Silver spoon", "#statement")
+        expect("the title", browser.run("return document.title"), "Pledge 2, book 7")
+        browser.ask("POST", "/refresh", {})
+        browser.says("Silver spoon", "#statement")
+        browser.ask("POST", "/back", {})
+        browser.says("Gold ring", "#statement")
+        part("today")
+        browser.says(f"Today, {in_words(today())}", "#today")
+        expect("the heading has the focus", browser.run("return document.activeElement.id"), "sheet-title")
+        tomorrow = ago(-1)
+        browser.run(
+            "const real = Date; window.Date = class extends real { constructor(...given) { if (given.length) "
+            "super(...given); else super(real.now() + 86400000); } }; "
+            "document.dispatchEvent(new Event('visibilitychange'))"
+        )
+        browser.says(f"Today, {in_words(tomorrow)}", "#today")
+
+
+def what_is_typed_is_looked_at():
+    with Pages() as pages:
+        make_book(pages)
+        open_book(pages)
+        part("take")
+        for fields, says in (
+            ({"article": "   ", "ref": "A1", "amount": "1"}, "The article is empty."),
+            ({"article": "é" * 41, "ref": "A1", "amount": "1"}, "The article is too long by 2"),
+            ({"article": "Ring", "ref": "£" * 21, "amount": "1"}, "The reference is too long by 2"),
+            (
+                {"article": "Ring", "ref": "A1", "amount": "1", "agreed": str(today())},
+                "The agreed end is not after today",
+            ),
+        ):
+            browser.fill("#taking", **fields)
+            browser.press("#taking button", "Take the pledge")
+            browser.says(says, "#taking")
+            expect("its field is marked", browser.run("return document.activeElement.ariaInvalid"), "true")
+        browser.fill("#taking", article="Ring", ref="A1", amount="1,000,000", agreed=str(ago(-3)))
+        browser.press("#taking button", "Take the pledge")
+        for says in (
+            "Take this pledge for £1,000,000.00?", "counts for nothing", "That is a large sum",
+            f"The period ends on {in_words(six_months_after(today()))}"
+        ):
+            browser.says(says, "dialog")
+        browser.shoot("broker-large")
+        browser.press("dialog button", "Not now")
+        browser.says("Nothing was done.", "#taking")
+        expect(
+            "and is not told as done", browser.run("return document.querySelector('#taking .notice').className"),
+            "notice quiet",
+        )
+        expect("nothing was taken", pages.session.broker("GET", "/books/7/pledges/1")[0], 404)
+        no_faults()
+
+
+def the_same_file_is_one_import():
+    with Pages() as pages:
+        make_book(pages, terms=False)
+        path = os.path.join(pages.room, "book.csv")
+        with open(path, "w") as it:
+            it.write(book_text([("Ring", "J9", 9000, ago(3), "", "no")]))
+        for _ in range(2):
+            open_book(pages)
+            part("files")
+            browser.fill("#importing", file=path)
+            browser.press("#importing button")
+            browser.says("The book is filled: 1 pledge came.", "#files")
+
+
+def a_shops_day():
+    """From opening to the till's sum: taken, drawn, repaid at the counter and by the pawnor, redeemed, sold."""
+    with Pages() as pages:
+        make_book(pages, terms=False)
+        fill_book(
+            pages,
+            book_text(
+                [("Old clock", "O1", 9000, ago(220), "", "no"), ("Old ring", "O2", 20000, ago(30), "", "no")],
+                rates=(0, 0, 0),
+            ),
+        )
+        open_book(pages)
+        the_book_is_read()
+        part("shop")
+        browser.fill("#shop-form", address="1 High Street, Leeds", till="Till 2")
+        browser.press("#shop-form button", "Keep these")
+        browser.says("Till 2", "#whose-book")
+        receipt, _ = take_a_ring(amount="100")
+        browser.says("1 High Street, Leeds", ".paper")
+        take_a_ring(article="Teapot", reference="A2", amount="500", kind="running")
+        find("A2")
+        command("Drawing", "Record the drawing", amount="200.50")
+        browser.says("Drawn: £200.50", "#commands")
+        find("A1")
+        command("Repayment", "Record the repayment", amount="30")
+        browser.says("Repaid: £30.00", "#commands")
+        pages.session.bearer(receipt, "POST", "/books/7/held/repay", {"pence": 500, "seq": 2})
+        find(f"2-{secret_of(2)}")
+        browser.says("This receipt is live.", "#commands")
+        browser.fill(".action[open] form", amount="200")
+        browser.press(".action[open] button", "Redeem")
+        agree()
+        browser.says("Redeemed on", "#commands")
+        find("O1")
+        command("Sale", "Record the sale", amount="120.25")
+        agree()
+        browser.says("Sold for £120.25", "#commands")
+        the_till_tells_it()
+
+
+def the_till_tells_it():
+    part("till")
+    browser.press("#read-book")
+    browser.says("Repaid2: £35.00", "#till-lists")
+    sums = browser.run(
+        "return Object.fromEntries([...document.querySelectorAll('.sums .facts > div')].map((one) => "
+        "[one.firstChild.textContent, one.lastChild.textContent]))"
+    )
+    expect(
+        "the sums", sums,
+        {
+            "Taken: lent on fixed sums": "£100.00", "Drawn": "£200.50", "Paid out": "£300.50", "Repaid": "£35.00",
+            "Redeemed": "£200.00", "Sold, net": "£120.25", "Received": "£355.25",
+        },
+    )
+    browser.says("The drawer has £54.75 more than at the day’s beginning", "#till-lists")
+    browser.shoot("broker-till")
+    browser.ask("POST", "/refresh", {})
+    browser.says("The drawer has £54.75 more", "#till-lists")
+    no_faults()
+
+
+main(
+    115, (),
+    (
+        a_dead_receipt_is_not_printed_as_new, a_receipt_that_dies_while_it_is_taken_is_not_printed,
+        what_was_done_is_told_where_it_can_no_longer_be_looked_at, a_receipt_has_the_terms_of_its_pledge,
+        a_new_receipt_that_another_replaced_is_not_printed, two_equal_payments_are_two, redemption_by_the_paper,
+        a_receipt_is_printed_again, who_waits_for_another_day, what_is_due, the_book_is_read_anew,
+        a_visit_that_was_changed_is_not_confirmed_unseen, references_are_found, all_entries_can_be_seen,
+        back_reload_and_today, what_is_typed_is_looked_at, the_same_file_is_one_import, a_shops_day,
+    ),
+)

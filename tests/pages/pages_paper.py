@@ -1,0 +1,162 @@
+"""What the pages put on paper: a receipt on one A5, and all else on A4 with all that it has; in a real browser, in
+front of the program."""
+import re
+import subprocess
+import tempfile
+
+from tests.library.checks import expect
+from tests.library.dates import six_months_after, today
+from tests.library.packages import PACKAGES, missing, provide
+from tests.library.pages.browser import Pages
+from tests.library.pages.square_code import text_of_code
+from tests.library.pages.steps import (
+    ago, book_text, browser, command, fill_book, find, in_short, in_words, main, make_book, no_faults, open_book,
+    part, show_receipt, take_a_ring, the_book_is_read,
+)
+
+READER = {"pdftotext": "poppler-utils"}
+A4, A5 = [210, 297], [148, 210]
+
+
+def pages_of(pdf):
+    """How many pages there are, and the sizes that they have, in millimetres."""
+    boxes = re.findall(rb"/MediaBox\s*\[([^\]]*)\]", pdf)
+    sizes = {tuple(round(float(side) / 72 * 25.4) for side in box.split()[2:]) for box in boxes}
+    return len(re.findall(rb"/Type\s*/Page\b", pdf)), sorted(map(list, sizes))
+
+
+def text_of(pdf):
+    """What stands on the paper; nothing where there is no reader of it."""
+    if missing(READER):
+        return None
+    with tempfile.NamedTemporaryFile(suffix=".pdf") as it:
+        it.write(pdf)
+        it.flush()
+        ran = subprocess.run(["pdftotext", "-raw", it.name, "-"], capture_output=True, text=True, timeout=30)
+    return " ".join(ran.stdout.split())
+
+
+def is_printed(name, size, *says, never=()):
+    pdf = browser.print(name)
+    count, sizes = pages_of(pdf)
+    expect(f"{name}: the size of its pages", sizes, [size])
+    text = text_of(pdf)
+    if text is not None:
+        expect(f"{name}: what is missing on paper", [part_said for part_said in says if part_said not in text], [])
+        expect(f"{name}: what paper does not want", [said for said in never if said in text], [])
+    return count
+
+
+def a_receipt_is_one_a5():
+    with Pages() as pages:
+        make_book(pages)
+        open_book(pages)
+        part("shop")
+        browser.fill(
+            "#shop-form", name="High Street Pawnbrokers and Jewellers of Leeds, since 1884",
+            address="123 Upper High Street, Headingley, Leeds LS6 1AA, telephone 0113 496 0000", till="Till 2",
+        )
+        browser.press("#shop-form button", "Keep these")
+        browser.says("Kept in this browser.", "#shop")
+        receipt, link = take_a_ring(
+            article="Eighteen-carat gold ring with a sapphire and two small diamonds, in a red case",
+            reference="GR-2026/0001", five="yes", agreed=str(ago(-300)),
+        )
+        path = browser.run("return document.querySelector('.paper svg path').getAttribute('d')")
+        size = int(browser.run("return document.querySelector('.paper svg').getAttribute('viewBox').split(' ')[2]")) - 8
+        expect(
+            "the code",
+            text_of_code(
+                {(int(column), int(line)) for column, line in re.findall(r"M(\d+) (\d+)h1v1h-1z", path)}, size,
+            ),
+            link,
+        )
+        says = (
+            "High Street Pawnbrokers", "123 Upper High Street", "reference GR-2026/0001", "Lent £100.00",
+            in_words(ago(-300)), "Days of grace after it Five", f"Agreed end {in_short(ago(-300))}",
+            "£8.00 in 30 days on £100", "Safe keeping no charge", receipt, "Customer’s name",
+            "For the shop, Till 2", "Received by", "Keep this paper safe",
+        )
+        expect("one page", is_printed("receipt", A5, *says, never=("Take the pledge", "The book was read")), 1)
+        browser.shoot("broker-receipt-full")
+        find("1")
+        command("Print the receipt again", "Print the receipt again")
+        browser.press("dialog button", "Print it again")
+        browser.says("it is live", "#commands")
+        expect(
+            "one page again",
+            is_printed("receipt-again", A5, receipt, "Agreed end", never=("owed today", "Redeem by the paper")), 1,
+        )
+        no_faults()
+
+
+def a_receipt_without_more():
+    """No agreed end, no days of grace, no shop: it says so."""
+    with Pages() as pages:
+        make_book(pages)
+        open_book(pages)
+        part("shop")
+        browser.fill("#shop-form", name="", address="", till="")
+        browser.press("#shop-form button", "Keep these")
+        browser.says("Kept in this browser.", "#shop")
+        take_a_ring()
+        expect(
+            "one page",
+            is_printed(
+                "receipt-plain", A5, "Pawnbroker", "Days of grace after it None", "Agreed end None: six months",
+                in_words(six_months_after(today())),
+            ),
+            1,
+        )
+
+
+def all_else_goes_on_a4():
+    with Pages() as pages:
+        make_book(pages, terms=False)
+        pledges = [
+            (f"Article {number}", f"J{number}", 9000 + number, ago(220), ago(-5) if number < 60 else "", "no")
+            for number in range(1, 121)
+        ]
+        fill_book(pages, book_text(pledges, rates=(0, 0, 0)))
+        for seq in range(1, 31):
+            pages.session.broker("POST", "/books/7/pledges/1/repay", {"pence": 100 + seq, "seq": seq})
+        open_book(pages)
+        the_book_is_read()
+        never = ("Read the book again", "What you can do now", "Record the repayment", "Close the book")
+        browser.says("No visit is confirmed", "#sheet")
+        is_printed("paper-today", A4, f"Today, {in_words(today())}", "No visit is confirmed", never=never)
+        find("1")
+        browser.says("The last 12 of 30", "#statement")
+        is_printed(
+            "paper-statement", A4, "Article 1", "reference J1", f"owed on {in_short(today())}",
+            "High Street Pawnbrokers", "£1.01", "£1.30", "Payments and drawings",
+            never=(*never, "The last 12", "owed today", "Find a pledge"),
+        )
+        browser.says("The last 12 of 30", "#statement")
+        part("due")
+        browser.says("Can be sold now", "#due")
+        is_printed(
+            "paper-due", A4, "Can be sold now", "Article 59", "Article 120", "Ends within 7 days",
+            never=(*never, "Show 31 more"),
+        )
+        part("till")
+        is_printed("paper-till", A4, "Sums of today", "Repaid", "£34.65", never=never[1:])
+        part("all")
+        browser.says("120 of 120 pledges", "#all")
+        is_printed("paper-all", A4, "Article 1 ", "Article 60", "Article 120", never=never)
+        expect(
+            "the screen has its few rows again", browser.run("return document.querySelectorAll('.row').length") < 40,
+            True,
+        )
+        show_receipt(pages, "1-00000001-0000-4000-8000-000000000000")
+        browser.says("owed today", "#cards")
+        is_printed(
+            "paper-pawnor", A4, "Article 1", f"owed on {in_short(today())}", "£1.01", "£1.30",
+            never=("What you can do now", "Print this page"),
+        )
+        no_faults()
+
+
+if provide({**PACKAGES, **READER}) and missing(READER):
+    print("not tried: what stands on the paper, since there is no pdftotext", flush=True)
+main(115, (), (a_receipt_is_one_a5, a_receipt_without_more, all_else_goes_on_a4))

@@ -1,0 +1,209 @@
+"""What the pawnor's page once said that was not so, each as it was found, and its words; in a real browser, by the real
+nginx, in front of the program."""
+import re
+
+from tests.library.checks import expect
+from tests.library.dates import six_months_after, today
+from tests.library.pages.browser import Pages
+from tests.library.pages.steps import (
+    ago, agree, browser, command, entries, in_short, in_words, main, make_book, no_faults, open_book, show_receipt,
+    take_a_ring,
+)
+from tests.library.waiting import wait_for
+
+
+def type_receipts(pages, receipts, book=""):
+    browser.forget()
+    browser.go(pages.address + "/pawn/")
+    browser.fill("#find", receipts=receipts, book=book)
+    browser.press("#find button")
+
+
+def two_equal_payments_are_two():
+    with Pages() as pages:
+        make_book(pages)
+        receipt = pages.session.open_pledge(1)
+        show_receipt(pages, receipt)
+        browser.says("£100.00 owed today", "#cards")
+        pages.session.broker("POST", "/books/7/pledges/1/repay", {"pence": 1000, "seq": 1})
+        command("Record a part payment", "Record the payment", amount="10")
+        browser.press("dialog button", "Yes, £10.00 was received")
+        browser.says(f"Repaid: £10.00, on {in_short(today())}.", "dialog")
+        browser.press("dialog button", "Yes, record £10.00 as well")
+        browser.says("£80.00 is owed now.", "#cards")
+        expect("two entries", len(entries(pages, 1)), 2)
+        pages.session.broker("POST", "/books/7/pledges/1/repay", {"pence": 1000, "seq": 3})
+        command("Record a part payment", "Record the payment", amount="10")
+        browser.press("dialog button", "Yes, £10.00 was received")
+        browser.says("Something came in between", "dialog")
+        browser.press("dialog button", "No, record nothing")
+        browser.says("Nothing was recorded.", "#cards")
+        browser.says("£70.00 owed today", "#cards")
+        expect("three entries", len(entries(pages, 1)), 3)
+        no_faults()
+
+
+def what_the_page_says_of_links():
+    with Pages() as pages:
+        make_book(pages)
+        receipt = pages.session.open_pledge(1)
+        show_receipt(pages, receipt)
+        browser.says("Gold ring", "#cards")
+        browser.says("And a link that you opened may stay in the browser’s history, with the receipt.")
+        browser.says("open the link in a private window")
+        expect("what is not so", "keeps it in this tab alone" in browser.text(), False)
+
+
+def without_a_line():
+    with Pages() as pages:
+        make_book(pages)
+        receipt = pages.session.open_pledge(1)
+        show_receipt(pages, receipt)
+        browser.says("£100.00 owed today", "#cards")
+        with browser.without_a_line():
+            command("Record a part payment", "Record the payment", amount="10")
+            browser.press("dialog button", "Yes, £10.00 was received")
+            browser.says("The pledge can’t be shown just now", "#cards", patience=20)
+            words = ("Nothing was done", "was not done", "was not sent")
+            said = [one for one in words if one in browser.text("#cards")]
+        expect("no word that nothing was done", said, [])
+        browser.press("button", "Try again")
+        browser.says("£100.00 owed today", "#cards")
+        command("Redeem", "Redeem for £100.00")
+        browser.press("dialog button", "Not yet")
+        browser.says("Nothing was done.", "#cards")
+        expect(
+            "and is not told as done",
+            browser.run("return [...document.querySelectorAll('.notice')].find((one) => one.textContent).className"),
+            "notice quiet",
+        )
+
+
+def a_payment_whose_reply_is_lost_for_good():
+    with Pages() as pages:
+        make_book(pages)
+        receipt = pages.session.open_pledge(1)
+        show_receipt(pages, receipt)
+        browser.says("£100.00 owed today", "#cards")
+        with pages.relay.loses("/repay", times=10):
+            command("Record a part payment", "Record the payment", amount="10")
+            browser.press("dialog button", "Yes, £10.00 was received")
+            browser.says("The reply was lost, but the pledge, read again, has the entry.", "#cards", patience=20)
+        browser.says("£90.00 owed today", "#cards")
+        expect("one entry", len(entries(pages, 1)), 1)
+
+
+def a_visit_after_the_end():
+    with Pages() as pages:
+        make_book(pages)
+        receipt = pages.session.open_pledge(1)
+        show_receipt(pages, receipt)
+        end = six_months_after(today())
+        late = ago(-200)
+        command("Ask for a time to come", "Ask for this time", day=str(late), window="3")
+        browser.says(f"The time of this pledge is over after {in_words(end)}.", "dialog")
+        browser.press("dialog button", "Choose another day")
+        browser.says("Nothing was done.", "#cards")
+        browser.press(".action[open] button", "Ask for this time")
+        agree()
+        browser.says(f"Asked for {in_words(late)}, 10:30 to 11:00.", "#cards")
+
+
+def receipts_as_people_write_them():
+    with Pages() as pages:
+        make_book(pages)
+        receipt = pages.session.open_pledge(1)
+        link = f"{pages.address}/pawn/#book=7&receipt={receipt}"
+        number, secret = receipt.split("-", 1)
+        spelled = (
+            receipt.upper(), receipt.replace("-", "–"), f" {number} - {secret.replace('-', ' ')} ",
+            secret and f"{number}-{secret.replace('-', '')}", f"{number}—{{{secret}}}", f"{number}-urn:uuid:{secret}",
+        )
+        for typed in spelled:
+            type_receipts(pages, typed, "7")
+            browser.says("Gold ring", "#cards")
+        for typed in (link, f"See {link}", link.replace("-", "%E2%80%93")):
+            type_receipts(pages, typed)
+            browser.says("Gold ring", "#cards")
+        type_receipts(pages, receipt)
+        browser.says("Type the number of the shop’s book too", "#find")
+        expect(
+            "its field is marked",
+            browser.run("return document.activeElement.name + document.activeElement.ariaInvalid"), "booktrue",
+        )
+        no_faults()
+
+
+def forty_receipts_at_once():
+    with Pages() as pages:
+        make_book(pages)
+        receipts = [pages.session.open_pledge(number, article=f"Ring {number}") for number in range(1, 41)]
+        joined = browser_joins(pages, receipts[:2])
+        expect("a browser joins equal fields, and two receipts in one are none", joined, 710)
+        type_receipts(pages, "\n".join(receipts), "7")
+        wait_for(
+            lambda: browser.run("return document.querySelectorAll('.card.pledge .amount').length") == 40,
+            "forty pledges", 40,
+        )
+        browser.says("Ring 40", "#cards")
+        expect("none was refused", browser.text("#cards").count("can’t be shown"), 0)
+        expect("nor met the proxy’s limit", browser.run(STATUSES), [200])
+
+
+STATUSES = """
+const asked = performance.getEntriesByType("resource").filter(({ name }) => name.endsWith("/held"));
+return [...new Set(asked.map(({ responseStatus }) => responseStatus))];
+"""
+
+
+def browser_joins(pages, receipts):
+    browser.go(pages.address + "/")
+    return browser.run_later("""
+        const fields = new Headers();
+        for (const receipt of given[0]) fields.append("Pledge-Receipt", receipt);
+        return (await (await fetch("/books/7/held", { headers: fields })).json()).code;""", receipts)
+
+
+def the_link_names_the_shop():
+    with Pages() as pages:
+        make_book(pages)
+        open_book(pages)
+        receipt, link = take_a_ring()
+        expect(
+            "the link", re.sub(r"^.*#", "", link),
+            f"book=7&receipt={receipt}&shop=High+Street+Pawnbrokers&rate=%C2%A38.00+in+30+days+on+%C2%A3100",
+        )
+        browser.forget()
+        browser.go(link)
+        browser.says("Pledge 1 at High Street Pawnbrokers", "#cards")
+        browser.says("Interest, as the receipt’s link says: £8.00 in 30 days on £100.", "#cards")
+        browser.ask("POST", "/refresh", {})
+        browser.says("Pledge 1 at High Street Pawnbrokers", "#cards")
+        browser.shoot("pawn-shop")
+        browser.forget()
+        browser.go(
+            f"{pages.address}/pawn/#book=7&receipt={receipt}&"
+            f"shop=%3Cimg%20src%3Dx%20onerror%3D%22document.title%3D'ran'%22%3E"
+        )
+        browser.says("at <img src=x", "#cards")
+        expect(
+            "a shop of markup stays a text", browser.run("return [document.images.length, document.title]"),
+            [0, "Your pledge"],
+        )
+        browser.forget()
+        browser.go(f"{pages.address}/pawn/#book=7&receipt={receipt}")
+        browser.says("Gold ring", "#cards")
+        expect(
+            "an older link, and no word of clerks",
+            [word for word in ("book 7", "not live", "Running") if word in browser.text("#cards")], [],
+        )
+        no_faults()
+
+
+main(
+    115, (),
+    (
+        two_equal_payments_are_two, what_the_page_says_of_links, without_a_line, a_payment_whose_reply_is_lost_for_good,
+        a_visit_after_the_end, receipts_as_people_write_them, forty_receipts_at_once, the_link_names_the_shop,
+    ),
+)
