@@ -452,6 +452,52 @@ def what_is_looked_at_goes_on():
         expect("the copies", len(os.listdir(os.path.join(it.room, "copies/1"))), 1)
 
 
+# Looks into a store so many times, as `shards` does, and prints of each look what it found: what is unsound, whether as
+# many rows as are noted are there, how many entries, and the salt of the log.
+LOOKS = """
+import json, sys
+from keeping.stores import head_of_log, looked_into, rows_of
+path, times = sys.argv[1:]
+for _ in range(int(times)):
+    with looked_into(path) as tables:
+        asked = ("PRAGMA integrity_check", "PRAGMA foreign_key_check", "SELECT value FROM meta WHERE name = 'rows'")
+        whole, lacking, (noted,) = (tables.execute(text).fetchall() for text in asked)
+        entries, = tables.execute("SELECT count(*) FROM entries").fetchone()
+        unsound = [row for row in whole + lacking if row != ("ok",)]
+        print(json.dumps([unsound, rows_of(tables) == noted[0], entries, head_of_log(path)[16:24].hex()]))
+"""
+
+
+def a_look_is_of_one_moment():
+    """What a look finds is a state of the store, while repayments are entered and the log is begun anew."""
+    with Hosted() as it:
+        it.open_books(8)
+        shard, ended, entered = it.shards[0], threading.Event(), [0]
+
+        def repay():
+            while not ended.is_set() and entered[0] < 40_000:
+                number, seq = entered[0] % 8 + 1, entered[0] // 8 + 1
+                shard.session.broker("POST", f"/books/7/pledges/{number}/repay", {"pence": 1, "seq": seq})
+                entered[0] += 1
+
+        writer = threading.Thread(target=repay)
+        writer.start()
+        looks = subprocess.run(
+            [sys.executable, "-c", LOOKS, shard.path, "150"], capture_output=True, text=True, timeout=300,
+            env={**os.environ, "PYTHONPATH": os.path.join(TOP, "deploy"), "PYTHONDONTWRITEBYTECODE": "1"},
+        )
+        ended.set()
+        writer.join()
+        found = [json.loads(line) for line in looks.stdout.splitlines()]
+        expect(f"how many looks there were ({looks.stderr[-300:]})", len(found), 150)
+        expect("what was found", [it for it in found if it[:2] != [[], True]], [])
+        counts = [entries for _, _, entries, _ in found]
+        expect("entries only come", counts == sorted(counts) and counts[-1] <= entered[0], True)
+        expect("something was entered meanwhile, and the log begun anew", len(set(counts)) > 20, True)
+        salts = {salt for _, _, _, salt in found}
+        print(f"        {counts[-1]} entries, {len(salts)} logs", flush=True)
+
+
 def places_that_are_lost():
     """What nginx looks at is emptied, or one link of it is gone: nobody is handed anything by an older state, and
     `reload` or the next move brings all back."""
@@ -492,6 +538,7 @@ TESTS = (
     a_move_waits_for_what_was_handed_on,
     kept_connections_outlast_a_hundred_moves,
     what_is_looked_at_goes_on,
+    a_look_is_of_one_moment,
     places_that_are_lost,
 )
 

@@ -1,6 +1,6 @@
 //! A store of an older schema, or of the program's without its indexes, is moved, and one of its files stops at some
 //! call. The tests check what is there when it is opened again. Each call of either file is such a stop in turn, until
-//! a migration meets none. The script `tests/migration.py` shows it by kills over files, and checks each total.
+//! a migration meets none. The script `tests/store/migration.py` shows it by kills over files, and checks each total.
 use crate::disks::{Disks, Failing, connected, crashed, disks, go_on, store_on};
 use pawn_check::{CheckFault, Counts, check};
 use pawn_keeper::TableKeep;

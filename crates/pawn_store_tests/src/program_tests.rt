@@ -1,5 +1,6 @@
-//! The settings of a command line, the words of a seed, and stamps by a clock. The script `tests/faults.py` shows what
-//! is refused of a command line, and a key in a file. `tests/serve.py` and `tests/connections.py` show connections.
+//! The settings of a command line, the words of a seed, and stamps by a clock. The script `tests/process/faults.py`
+//! shows what is refused of a command line, and a key in a file. `tests/operator/serve.py` and
+//! `tests/process/connections.py` show connections.
 
 use pawn_host::{RequestDay, Stamp};
 use pawn_program::{ClockStamps, ServeSettings, Settings, Words};

@@ -1,5 +1,5 @@
 //! Books kept in lists. Each call of `ListKeep`, and each kind of request on a book, is run once. The script
-//! `tests/turns.py` shows all requests and their replies over tables.
+//! `tests/answers/turns.py` shows all requests and their replies over tables.
 use crate::asking::acted;
 use pawn_book::{
     Article, BearerCommand, BearerRequest, Booking, BookingState, BrokerCommand, BrokerRequest,

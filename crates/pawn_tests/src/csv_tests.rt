@@ -1,5 +1,5 @@
-//! A text that is read, readers that fail, and the text of a book. Which texts are of a book, and which fault another has, is
-//! shown by the scripts `tests/exports.py`, `tests/borders.py` and `tests/rounds.py`.
+//! A text that is read, readers that fail, and the text of a book. Which texts are of a book, and which fault another
+//! has, is shown by the scripts `tests/answers/exports.py`, `tests/answers/borders.py` and `tests/answers/rounds.py`.
 use pawn_csv::read_book;
 use std::test::Fail;
 

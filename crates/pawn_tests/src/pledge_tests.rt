@@ -1,5 +1,5 @@
 //! Each call that takes memory is run once, and its answer is checked. What the rules answer is proved, and worked out
-//! in `specs/Worked.antt`. The script `tests/limits.py` reaches each limit once.
+//! in `specs/Worked.antt`. The script `tests/answers/limits.py` reaches each limit once.
 use pawn_pledge::{
     Article, Command, Day, Done, Kind, Number, Opening, Paper, Pledge, Receipt, Reference,
     RequestDay, Secret, Stamp, Terms,

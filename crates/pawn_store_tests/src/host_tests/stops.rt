@@ -1,6 +1,7 @@
 //! A file fails at some call of a run, as when the machine stops and what was not synced is lost. The tests check what
 //! is there when the store is opened again. Each call of either file is such a stop in turn, from the first, at which
-//! the empty store is opened, until a run meets none. The script `tests/disk.py` shows it over files of the system.
+//! the empty store is opened, until a run meets none. The script `tests/store/disk.py` shows it over files of the
+//! system.
 
 use super::turns::{EXPORT, EXPORT_OTHER, TURNS};
 use super::{ROWS, bytes_of, service_of, service_over, stamp};

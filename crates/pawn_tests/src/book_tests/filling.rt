@@ -1,4 +1,4 @@
-//! Imports into a book that is kept in lists. Which rows make a book is shown by the script `tests/borders.py`.
+//! Imports into a book that is kept in lists. Which rows make a book is shown by the script `tests/answers/borders.py`.
 use super::{KEY, OPERATOR, answer_to, asked, day, make, number};
 use crate::asking::acted;
 use pawn_book::{
