@@ -160,7 +160,7 @@ def await_a_pause(pids):
         wait_for(lambda: all(map(between_connections, pids)), "a pause", 1)
 
 
-def settled(pid):
+def times_run_at_rest(pid):
     """The turns of a process that is stopped, once the last of them is counted."""
     before = None
     while (now := times_run(pid)) != before:
@@ -230,7 +230,7 @@ def frozen(pids):
             signal.pidfd_send_signal(handle, signal.SIGSTOP)
         for pid in pids:
             wait_for(lambda: is_stopped(pid), f"process {pid} stands still", 10)
-        before = {pid: settled(pid) for pid in pids}
+        before = {pid: times_run_at_rest(pid) for pid in pids}
         yield
         if any(not is_stopped(pid) or times_run(pid) != before[pid] for pid in pids):
             raise Stop("the service did not stand still meanwhile: somebody let it go on. What was copied is no copy")

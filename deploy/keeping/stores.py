@@ -18,7 +18,7 @@ from .locks import Stop, alone, folder_of, not_served, say
 TOP = os.path.dirname(os.path.dirname(os.path.dirname(os.path.realpath(__file__))))
 LOG = "-wal"
 # A log of at most so many bytes has no page in it. Its first bytes are its head.
-NO_PAGE = 41
+EMPTY_LOG = 41
 HEAD = 32
 # How often a store is looked into whose log is begun anew meanwhile.
 TRIES = 20
@@ -73,13 +73,13 @@ def copy_file(source, target, whole=True):
     return True
 
 
-def parts(path):
+def files_of_store(path):
     """Those of the two files that are there."""
     return [path + end for end in ("", LOG) if os.path.lexists(path + end)]
 
 
 def copy_store(source, target, whole=True):
-    return all([copy_file(path, target + path.removeprefix(source), whole) for path in parts(source)])
+    return all([copy_file(path, target + path.removeprefix(source), whole) for path in files_of_store(source)])
 
 
 def sync(*paths):
@@ -186,7 +186,7 @@ def put_in_place(new, path):
     sync(new)
     give_to_owner(folder, new)
     kept = os.path.join(folder, "before-" + name_by_time(folder, "before-"))
-    if parts(path):
+    if files_of_store(path):
         os.mkdir(kept, 0o700)
         if os.path.exists(path):
             os.link(path, os.path.join(kept, os.path.basename(path)), follow_symlinks=False)
@@ -205,7 +205,7 @@ def fold_log(path):
         busy, *_ = tables.execute("PRAGMA wal_checkpoint(TRUNCATE)").fetchone()
     if busy:
         raise Stop(f"{path} is open in another program")
-    give_to_owner(folder_of(path), *parts(path))
+    give_to_owner(folder_of(path), *files_of_store(path))
 
 
 def fold_into_one_file(path):
@@ -233,7 +233,7 @@ def copied_as_served(path, copy):
     database was read goes with that database. What is written behind it meanwhile is taken up to the last whole
     commit, as after a stop."""
     head = head_of_log(path)
-    for part in parts(copy):
+    for part in files_of_store(copy):
         os.remove(part)
     copy_store(path, copy)
     return head_of_log(copy) == head
@@ -315,12 +315,12 @@ def keep_pair(path):
             if os.path.exists(last):
                 os.rename(last, os.path.join(room, "older"))
             os.mkdir(last, 0o700)
-            for part in parts(os.path.join(room, "books.db")):
+            for part in files_of_store(os.path.join(room, "books.db")):
                 os.rename(part, os.path.join(last, os.path.basename(part)))
 
 
 def has_pages(path):
-    return os.path.exists(path + LOG) and os.path.getsize(path + LOG) > NO_PAGE
+    return os.path.exists(path + LOG) and os.path.getsize(path + LOG) > EMPTY_LOG
 
 
 def stop_unless_store(path):
@@ -380,7 +380,7 @@ def new_store(path):
     """Makes the empty store of a new shard. A service makes none."""
     folder = folder_for(path)
     with alone(folder), room_in(folder, "making") as room:
-        if parts(path):
+        if files_of_store(path):
             raise Stop(f"{path} is there already")
         new = os.path.join(room, "books.db")
         fold_into_one_file(new)

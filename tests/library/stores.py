@@ -7,7 +7,7 @@ from tests.library.tables import opened
 
 # Where the salt begins in a log's head, and the length of a log that is a head and the mark of its end alone.
 SALT = 16
-NO_PAGE = 32 + 9
+EMPTY_LOG = 32 + 9
 
 
 def bent_by(statement, *values):
@@ -78,6 +78,8 @@ def end_mark(log):
 
 
 def file_of(said):
+    """A file of these bytes."""
+
     def make(path):
         with open(path, "wb") as it:
             it.write(said)
@@ -96,7 +98,7 @@ def files_and_log(path):
     return files, log
 
 
-def stays(path, step, do):
+def expect_files_stay(path, step, do):
     """What this does keeps the bytes of each file. A log that holds pages keeps its own, with the mark of their end
     behind them; one that holds none may be made, or begun anew."""
     files, log = files_and_log(path)
@@ -105,5 +107,5 @@ def stays(path, step, do):
     expect(
         f"the files that changed, {step}", [name for name in files | after if files.get(name) != after.get(name)], []
     )
-    kept = log_after in (log, log + end_mark(log)) or max(len(log), len(log_after)) <= NO_PAGE
+    kept = log_after in (log, log + end_mark(log)) or max(len(log), len(log_after)) <= EMPTY_LOG
     expect(f"the log stays, of {len(log)} bytes and now of {len(log_after)}, {step}", kept, True)

@@ -16,7 +16,7 @@ from tests.library.operator.first_day import PAGE, ask, enter, first_day, with_t
 from tests.library.operator.machines import commands, pack_release
 from tests.library.packages import provide
 from tests.library.paths import TOP
-from tests.library.stores import NO_PAGE
+from tests.library.stores import EMPTY_LOG
 
 NEEDED = {"debootstrap": "debootstrap", "systemd-nspawn": "systemd-container"}
 # What the page installs but certbot, and what makes the Debian one that boots.
@@ -215,7 +215,7 @@ def killed_and_stopped(one):
     one.run("systemctl stop pawnd.target; while [ $(systemctl is-active pawnd@1) = deactivating ]; do sleep 0.1; done")
     expect("all are stopped together", one.state("pawnd@1", "ActiveState"), ("inactive",))
     size = one.run("stat -c %s /var/lib/pawnd/1/books.db-wal 2>/dev/null || echo 0").strip()
-    expect(f"the log, of {size} bytes, has no page", int(size) <= NO_PAGE, True)
+    expect(f"the log, of {size} bytes, has no page", int(size) <= EMPTY_LOG, True)
     one.run("systemctl start pawnd.target")
     answers_again(one)
 

@@ -10,7 +10,7 @@ from tests.library.keys import OPERATOR, SEED
 from tests.library.paths import PROGRAM, TOP
 from tests.library.program import Server, a_sound_check, check, fault, free_port, how_it_ends
 from tests.library.requests import request
-from tests.library.stores import database_of, file_of, files_and_log, stays, with_its_log
+from tests.library.stores import database_of, expect_files_stay, file_of, files_and_log, with_its_log
 from tests.library.tables import counted, opened
 
 DAY = "2024-01-31"
@@ -136,7 +136,7 @@ def is_refused(path, wanted, step):
 
 
 def is_refused_and_stays(path, wanted, step):
-    stays(path, step, lambda: is_refused(path, wanted, step))
+    expect_files_stay(path, step, lambda: is_refused(path, wanted, step))
 
 
 def files_that_are_no_store_of_ours_are_refused_and_stay():

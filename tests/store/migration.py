@@ -18,7 +18,7 @@ from tests.library.older_stores import (
 from tests.library.paths import PROGRAM
 from tests.library.program import Server, a_sound_check, answer, check, fault, how_it_ends
 from tests.library.requests import held_request, keyed_request, opening_body, request, statement_request
-from tests.library.stores import bent_by, database_of, file_of, stays, with_its_log
+from tests.library.stores import bent_by, database_of, expect_files_stay, file_of, with_its_log
 from tests.library.tables import copied, opened, rows_by_python
 
 DAMAGED = fault(513, "Damaged")
@@ -145,7 +145,7 @@ def every_reply_is_as_it_was():
             old = older_copy(path, os.path.join(room, f"old{number}-{len(statements)}"), *statements)
             if number < 3:
                 expect(f"a check, schema {number}", check(old), (1, "", "fault 501 OldSchema\n"))
-                stays(
+                expect_files_stay(
                     old, f"schema {number}",
                     lambda: expect(
                         "an answer", how_it_ends("answer", old, "2024-03-01", "0" * 64, OPERATOR),
@@ -275,7 +275,7 @@ def a_debt_that_cannot_be_is_refused_and_stays():
                     with opened(bent) as tables:
                         bend(tables)
                     before = content(bent)
-                    stays(bent, step, lambda: expect(step, how_it_ends("migrate", bent), DAMAGED))
+                    expect_files_stay(bent, step, lambda: expect(step, how_it_ends("migrate", bent), DAMAGED))
                     expect(f"its tables, {step}", (content(bent), schema_of(bent)), (before, number))
             for what, bend in UNSEEN:
                 step = f"{what}, schema {number}"
@@ -322,7 +322,7 @@ def what_is_no_older_store_is_refused_and_stays():
         with tempfile.TemporaryDirectory() as room:
             path = os.path.join(room, "books")
             make(path)
-            stays(path, step, lambda: expect(step, how_it_ends("migrate", path), wanted))
+            expect_files_stay(path, step, lambda: expect(step, how_it_ends("migrate", path), wanted))
 
 
 def a_newer_store_stays_whole():
@@ -331,7 +331,8 @@ def a_newer_store_stays_whole():
         fill(path)
         newer = older_copy(path, os.path.join(room, "newer"), "UPDATE meta SET value = 4 WHERE name = 'schema'")
         before = content(newer)
-        stays(newer, "schema 4", lambda: expect("schema 4", how_it_ends("migrate", newer), fault(511, "NewerSchema")))
+        refused = fault(511, "NewerSchema")
+        expect_files_stay(newer, "schema 4", lambda: expect("schema 4", how_it_ends("migrate", newer), refused))
         expect("its tables", content(newer), before)
 
 
