@@ -24,7 +24,8 @@ pub(crate) const READ_HEAD: &str = "\
     FROM books WHERE book = ?1";
 
 /// The next book number above another.
-pub(crate) const FIND_NEXT_BOOK: &str = "SELECT book FROM books WHERE book > ?1 ORDER BY book LIMIT 1";
+pub(crate) const FIND_NEXT_BOOK: &str =
+    "SELECT book FROM books WHERE book > ?1 ORDER BY book LIMIT 1";
 
 /// Puts a new book.
 pub const PUT_BOOK: &str = "INSERT INTO books VALUES (?1, ?2, ?3, ?4, 0, 0, NULL, NULL)";
@@ -151,7 +152,8 @@ pub(crate) const READ_ENTRY: &str =
     "SELECT seq, day, sort, pence FROM entries WHERE book = ?1 AND number = ?2 AND seq = ?3";
 
 /// How many entries a pledge has.
-pub(crate) const COUNT_ENTRIES: &str = "SELECT count(*) FROM entries WHERE book = ?1 AND number = ?2";
+pub(crate) const COUNT_ENTRIES: &str =
+    "SELECT count(*) FROM entries WHERE book = ?1 AND number = ?2";
 
 /// Puts an entry of a pledge.
 pub const PUT_ENTRY: &str = "INSERT INTO entries VALUES (?1, ?2, ?3, ?4, ?5, ?6)";
