@@ -435,9 +435,9 @@ def what_is_looked_at_goes_on():
     """A service that is asked just now is not stopped by a look at its books, and a copy lets it end first."""
     with Hosted() as it:
         receipt, shard = it.open_books(1)[7][0], it.shards[0]
-        for words in (("verify",), ("status",), ("reload",), ("move", 8, "shard3")):
+        for words in (("verify",), ("reload",), ("move", 8, "shard3")):
             caller, rest = half_asked(shard, receipt)
-            it.run_shards(*words, wanted=None)
+            it.run_shards(*words)
             with caller:
                 caller.sendall(rest)
                 expect(f"a request during {words[0]}", status(read_reply(caller)), 200)
